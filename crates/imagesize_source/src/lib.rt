@@ -1,0 +1,8 @@
+//! How `imagesize` reads an input: what a reader tells, readings by place, numbers, and refusals.
+#![tactic(auto)]
+
+pub mod error;
+pub mod span;
+
+pub use error::{ImageError, ImageResult, Reason};
+pub use span::Span;
