@@ -3,6 +3,8 @@
 
 pub mod error;
 pub mod span;
+pub mod told;
 
 pub use error::{ImageError, ImageResult, Reason};
 pub use span::Span;
+pub use told::{Stop, Told};
