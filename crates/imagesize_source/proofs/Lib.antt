@@ -1,1 +1,3 @@
 mod Cursors
+pub mod Runs
+pub mod Slices

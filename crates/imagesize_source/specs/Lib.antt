@@ -1,3 +1,8 @@
 pub mod Input
-pub mod Telling
+pub mod Layout
+pub mod Numbers
+pub mod Reading
+pub mod State
 pub mod StopOf
+pub mod Telling
+pub mod Trial

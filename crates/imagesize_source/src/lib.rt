@@ -2,8 +2,11 @@
 #![tactic(auto)]
 
 pub mod error;
+pub mod source;
 pub mod span;
 pub mod told;
+pub mod trial;
+pub mod util;
 
 pub use error::{ImageError, ImageResult, Reason};
 pub use span::Span;

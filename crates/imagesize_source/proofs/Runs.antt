@@ -1,0 +1,115 @@
+-- How a call's readings follow from those of the calls that it makes.
+use Rattle.std.proofs.Common.{◌≡◌, ℕ, ◌+◌, ◌-◌, ◌*◌, ◌^◌, ◌<◌, ◌≤◌, min, zero, suc, Bool, true, false, cond, List, [], ◌∷◌, ◌++◌, length, take, drop, leb, Result, Ok, Err, zero-add, add_assoc, refl, sym, ap, ◌∙◌, subst, arith, IfErr}
+use Rattle.std.proofs.lemmas.List.{length-take, length-drop, take_all, append-nil}
+use Rattle.std.proofs.lemmas.Bool.Decides.{nat_tests}
+use Rattle.std.specs.Int.{w16, w32, w64, from_le_bytes, from_be_bytes}
+use Rattle.imagesize_source.specs.declared.error.ImageError.{ImageError}
+use Rattle.imagesize_source.specs.declared.span.Span.{Span}
+use Rattle.imagesize_source.specs.declared.util.Endian.{Endian}
+use Rattle.imagesize_source.specs.declared.util.Endian.TheVariants.{Little, Big}
+use Rattle.imagesize_source.specs.Input.{part, span_of}
+use Rattle.imagesize_source.specs.Numbers.{number}
+use Rattle.imagesize_source.specs.Reading.{Reads, bytes_at, number_at, part_read, bytes_read, number_read, seen, stopped, faulted, is_fault, is_spent, is_memory, spent, end_of_input}
+use Rattle.imagesize_source.specs.State.{State, Runs, EndedBy, total, past, step}
+
+-- the same readings, answered otherwise where nothing stopped them
+pub answered : {X Y : Type 0} {a b : State} {x : X} {reads : Reads X} (r : Result Y ImageError) (other : Reads Y) → Runs a b (Ok x) reads → other.marks ≡ reads.marks → (reads.answer ≡ Ok x → other.answer ≡ r) → stopped r ≡ false → faulted r ≡ false → IfErr r (EndedBy b) → Runs a b r other
+answered {a} {b} {x} {reads} r other h marks answer goes_on no_fault ended = record {
+  sound = h.sound;
+  sound_after = h.sound_after;
+  frame = h.frame;
+  taken = h.taken;
+  within = λ honest. subst (λ m. b.taken ≤ a.taken + total m) (sym marks) (h.within honest);
+  answer = λ honest _. answer (h.answer honest refl);
+  state = λ honest _. h.state honest refl ∙ ap (past a) (sym marks);
+  fault = λ honest faults. absurd cc;
+  ended = ended }
+
+part_is : {xs ys : List ℕ} → ◌≡◌ {A = Result (List ℕ) ImageError} (Ok xs) (Ok ys) → xs ≡ ys
+part_is e = cc
+
+-- how many of k bytes there are
+part_length : (d : List ℕ) (place k : ℕ) → length (part d place k) ≡ min k (length d - place)
+unfolding part
+part_length d place k = length-take k (drop place d) ∙ ap (min k) (length-drop place d)
+
+-- all of k bytes are there, or not
+all_there : (d : List ℕ) (place k : ℕ) → k ≤ length (part d place k) → leb k (length d - place) ≡ true
+all_there d place k all = let n = part_length d place k in grind (arith, nat_tests)
+
+not_there : (d : List ℕ) (place k : ℕ) → length (part d place k) < k → leb k (length d - place) ≡ false
+not_there d place k short = let n = part_length d place k in grind (arith, nat_tests)
+
+-- a reading that gave all of its bytes
+pub bytes_there : {a b : State} (d room : List ℕ) (place k n : ℕ) → Runs a b (Ok (take n room)) (part_read d place (length room)) → length room ≡ k → k ≤ n → Runs a b (Ok room) (bytes_read d place k)
+unfolding bytes_at
+bytes_there {a} {b} d room place k n h long all =
+    let same : take n room ≡ room = take_all n room (omega arith) in
+    answered (Ok room) (bytes_read d place k) h (ap (span_of d place) (sym long))
+    (λ is.
+        let got : part d place (length room) ≡ room = part_is is ∙ same in
+        let enough : leb k (length d - place) ≡ true = all_there d place k (rw (← long) (omega (arith, ap length got))) in
+        rw enough (ap Ok (rw (← long) got)))
+    refl refl tt
+
+-- a reading that gave too few
+pub bytes_missing : {a b : State} (d room : List ℕ) (place k n : ℕ) → Runs a b (Ok (take n room)) (part_read d place (length room)) → length room ≡ k → n < k → Runs a b (Err end_of_input) (bytes_read d place k)
+unfolding bytes_at
+bytes_missing {a} {b} d room place k n h long short =
+    answered (Err end_of_input) (bytes_read d place k) h (ap (span_of d place) (sym long))
+    (λ is.
+        let got : length (part d place (length room)) ≡ min n (length room) = ap length (part_is is) ∙ length-take n room in
+        let too_few : leb k (length d - place) ≡ false = not_there d place k (rw (← long) (omega arith)) in
+        rw too_few refl)
+    refl refl (record { budget = tt; memory = λ e. absurd cc })
+
+-- the number of bytes that were read
+pub number_there : {a b : State} (d bs : List ℕ) (order : Endian) (place k v : ℕ) → Runs a b (Ok bs) (bytes_read d place k) → v ≡ number order bs → Runs a b (Ok v) (number_read d order place k)
+unfolding number_at
+number_there {a} {b} d bs order place k v h is =
+    answered (Ok v) (number_read d order place k) h refl (λ read. ap (seen (number order)) read ∙ ap Ok (sym is)) refl refl tt
+
+-- a refused reading has no number
+pub number_missing : {a b : State} (d : List ℕ) (order : Endian) (place k : ℕ) (e : ImageError) → Runs a b (Err e) (bytes_read d place k) → Runs a b (Err e) (number_read d order place k)
+unfolding number_at
+number_missing {a} {b} d order place k e h = record {
+  sound = h.sound;
+  sound_after = h.sound_after;
+  frame = h.frame;
+  taken = h.taken;
+  within = h.within;
+  answer = λ honest goes_on. ap (seen (number order)) (h.answer honest goes_on);
+  state = h.state;
+  fault = h.fault;
+  ended = h.ended }
+
+-- the number of two bytes, as std has it
+pub little_two : (bs : List ℕ) → length bs ≡ 2 → from_le_bytes w16 bs ≡ number Little bs
+unfolding number
+little_two (x ∷ y ∷ []) two = omega arith
+little_two [] two = absurd cc
+little_two (x ∷ []) two = absurd (omega (arith, two))
+little_two (x ∷ y ∷ z ∷ bs) two = absurd (omega (arith, two))
+
+pub big_two : (bs : List ℕ) → length bs ≡ 2 → from_be_bytes w16 bs ≡ number Big bs
+unfolding number
+big_two (x ∷ y ∷ []) two = omega arith
+big_two [] two = absurd cc
+big_two (x ∷ []) two = absurd (omega (arith, two))
+big_two (x ∷ y ∷ z ∷ bs) two = absurd (omega (arith, two))
+
+pub past-past : (a : State) (s t : List Span) → past (past a s) t ≡ past a (s ++ t)
+unfolding past
+past-past a [] t = refl
+past-past a (x ∷ s) t = past-past (step a x) s t
+
+pub total-append : (s t : List Span) → total (s ++ t) ≡ total s + total t
+total-append [] t = sym (zero-add (total t))
+total-append (x ∷ s) t = ap (λ n. x.len + n) (total-append s t) ∙ sym (add_assoc x.len (total s) (total t))
+
+pub past-held : (a : State) (s : List Span) → (past a s).held ≡ a.held
+unfolding past
+past-held a [] = refl
+past-held a (x ∷ s) = past-held (step a x) s
+
+pub ruleset steps = (past-past, total-append, append-nil, past-held)

@@ -1,0 +1,21 @@
+-- A layout: which readings an answer rests on, as a tree.
+use Rattle.std.specs.Prelude.{ℕ, List}
+use Rattle.imagesize_source.specs.declared.error.ImageError.{ImageError}
+use Rattle.imagesize_source.specs.declared.util.Endian.{Endian}
+use Rattle.imagesize_source.specs.Reading.{Reads, gives, refuses, and_then, number_read, bytes_read, part_read}
+
+-- It sees the input by its readings alone: a number of k bytes at a place, k bytes, or what is there of them.
+pub data Layout (X : Type 0) : Type 0 where
+  done : X → Layout X
+  refuse : ImageError → Layout X
+  field : Endian → ℕ → ℕ → (ℕ → Layout X) → Layout X
+  bytes : ℕ → ℕ → (List ℕ → Layout X) → Layout X
+  there : ℕ → ℕ → (List ℕ → Layout X) → Layout X
+
+-- what a layout says of an input
+abbrev pub over : {X : Type 0} → List ℕ → Layout X → Reads X
+over d (done x) = gives x
+over d (refuse e) = refuses e
+over d (field order place k f) = and_then (number_read d order place k) (λ v. over d (f v))
+over d (bytes place k f) = and_then (bytes_read d place k) (λ bs. over d (f bs))
+over d (there place k f) = and_then (part_read d place k) (λ bs. over d (f bs))

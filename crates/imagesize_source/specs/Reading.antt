@@ -1,0 +1,98 @@
+-- What readings answer, and the spans that they saw.
+use Rattle.std.specs.Prelude.{ℕ, ◌-◌, Bool, true, false, ◌||◌, List, [], ◌++◌, length, nat_le, if◌then◌else◌, Result, Ok, Err, Option, None, Some}
+use Rattle.imagesize_source.specs.declared.error.ImageError.{ImageError}
+use Rattle.imagesize_source.specs.declared.error.ImageError.TheVariants.{NotSupported, CorruptedImage, IoError}
+use Rattle.imagesize_source.specs.declared.error.Reason.{Reason}
+use Rattle.imagesize_source.specs.declared.error.Reason.TheVariants.{EndOfInput, Fault, BudgetSpent, Memory}
+use Rattle.imagesize_source.specs.declared.span.Span.{Span}
+use Rattle.imagesize_source.specs.declared.util.Endian.{Endian}
+use Rattle.imagesize_source.specs.Input.{part, span_of}
+use Rattle.imagesize_source.specs.Numbers.{number}
+
+-- an answer, with the spans of the readings that it rests on, in their order
+pub record Reads (X : Type 0) : Type 0 where
+  pub answer : Result X ImageError
+  pub marks : List Span
+
+-- an answer that rests on no reading of its own
+abbrev pub gives : {X : Type 0} → X → Reads X
+gives x = record { answer = Ok x; marks = [] }
+
+abbrev pub refuses : {X : Type 0} → ImageError → Reads X
+refuses e = record { answer = Err e; marks = [] }
+
+-- readings behind some spans
+abbrev pub behind : {X : Type 0} → List Span → Reads X → Reads X
+behind marks r = record { answer = r.answer; marks = marks ++ r.marks }
+
+-- what goes on from an answer, behind the spans of its readings; a refusal ends it
+abbrev pub onward : {X Y : Type 0} → List Span → Result X ImageError → (X → Reads Y) → Reads Y
+onward marks (Ok x) f = behind marks (f x)
+onward marks (Err e) f = record { answer = Err e; marks = marks }
+
+abbrev pub and_then : {X Y : Type 0} → Reads X → (X → Reads Y) → Reads Y
+and_then r f = onward r.marks r.answer f
+
+-- the same answer, its value seen through a function
+abbrev pub seen : {X Y : Type 0} → (X → Y) → Result X ImageError → Result Y ImageError
+seen f (Ok x) = Ok (f x)
+seen f (Err e) = Err e
+
+-- the end of the input, as a refusal
+abbrev pub end_of_input : ImageError
+end_of_input = IoError EndOfInput
+
+-- k bytes from a place on, where all are there
+unfoldable pub bytes_at : List ℕ → ℕ → ℕ → Result (List ℕ) ImageError
+bytes_at d place k = if nat_le k (length d - place) then Ok (part d place k) else Err end_of_input
+
+-- the number of k bytes from a place on, where all are there
+unfoldable pub number_at : List ℕ → Endian → ℕ → ℕ → Result ℕ ImageError
+number_at d order place k = seen (number order) (bytes_at d place k)
+
+-- the reading of what is there of k bytes from a place on
+abbrev pub part_read : List ℕ → ℕ → ℕ → Reads (List ℕ)
+part_read d place k = record { answer = Ok (part d place k); marks = span_of d place k }
+
+-- the reading of k bytes
+abbrev pub bytes_read : List ℕ → ℕ → ℕ → Reads (List ℕ)
+bytes_read d place k = record { answer = bytes_at d place k; marks = span_of d place k }
+
+-- the reading of a number of k bytes
+abbrev pub number_read : List ℕ → Endian → ℕ → ℕ → Reads ℕ
+number_read d order place k = record { answer = number_at d order place k; marks = span_of d place k }
+
+-- a failure of the reader, a spent budget and refused memory end a call at once, whatever a layout says
+abbrev pub is_fault : ImageError → Bool
+is_fault NotSupported = false
+is_fault CorruptedImage = false
+is_fault (IoError (Fault _)) = true
+is_fault (IoError _) = false
+
+abbrev pub is_spent : ImageError → Bool
+is_spent NotSupported = false
+is_spent CorruptedImage = false
+is_spent (IoError (BudgetSpent _)) = true
+is_spent (IoError _) = false
+
+abbrev pub is_memory : ImageError → Bool
+is_memory NotSupported = false
+is_memory CorruptedImage = false
+is_memory (IoError Memory) = true
+is_memory (IoError _) = false
+
+-- the budget that was spent
+abbrev pub spent : ImageError → Option ℕ
+spent NotSupported = None
+spent CorruptedImage = None
+spent (IoError (BudgetSpent n)) = Some n
+spent (IoError _) = None
+
+-- an answer that ends a call at once, and one by a failure of the reader
+abbrev pub stopped : {X : Type 0} → Result X ImageError → Bool
+stopped (Ok _) = false
+stopped (Err e) = is_fault e || is_spent e || is_memory e
+
+abbrev pub faulted : {X : Type 0} → Result X ImageError → Bool
+faulted (Ok _) = false
+faulted (Err e) = is_fault e

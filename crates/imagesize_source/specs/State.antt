@@ -1,0 +1,89 @@
+-- What stands behind a source of bytes, and what readings do to it.
+use Rattle.std.specs.Prelude.{◌≡◌, ℕ, ◌+◌, ◌-◌, ◌^◌, ◌<◌, ◌≤◌, min, max, Bool, true, false, List, [], ◌∷◌, ◌++◌, length, nat_le, if◌then◌else◌, Option, None, Some, Result, Ok, Err, IfErr, IfSome, option_map}
+use Rattle.imagesize_source.specs.declared.error.ImageError.{ImageError}
+use Rattle.imagesize_source.specs.declared.span.Span.{Span}
+use Rattle.imagesize_source.specs.Reading.{Reads, stopped, faulted, is_memory, spent}
+
+-- What never changes: the told length and the budget, whether bytes taken are counted and spans recorded,
+-- the name of the borrow behind the source, and by how much what the reader itself counts is above what
+-- was taken, and below it.
+pub record Frame : Type 0 where
+  pub told : ℕ
+  pub budget : ℕ
+  pub counts : Bool
+  pub records : Bool
+  pub home : ℕ
+  pub since : Option (ℕ × ℕ)
+
+-- The bytes that the source claims to read, while it is honest, and whether a call on it can fail.
+pub record Held : Type 0 where
+  pub honest : Bool
+  pub input : List ℕ
+  pub can_fail : Bool
+
+-- A source as a whole: how many of its first bytes it holds, how many bytes it has taken, and the spans
+-- that it has recorded.
+pub record State : Type 0 where
+  pub frame : Frame
+  pub held : Held
+  pub front : ℕ
+  pub taken : ℕ
+  pub recorded : Option (List Span)
+
+-- how many of n bytes from a place on lie behind the first `front`
+abbrev pub fresh : ℕ → ℕ → ℕ → ℕ
+fresh front place n = (place + n) - max place front
+
+-- how many of its first bytes a source holds after such a reading: those that join on, 32 at the most
+abbrev pub front_after : ℕ → ℕ → ℕ → ℕ
+front_after front place n = if nat_le place front then max front (min 32 (place + n)) else front
+
+-- the state after the reading of a span
+abbrev pub step : State → Span → State
+step a s = record a {
+  front = if a.frame.counts then front_after a.front s.start s.len else a.front;
+  taken = if a.frame.counts then a.taken + fresh a.front s.start s.len else a.taken;
+  recorded = option_map (λ spans. spans ++ s ∷ []) a.recorded }
+
+-- the state after the readings of these spans
+unfoldable pub past : State → List Span → State
+past a [] = a
+past a (s ∷ spans) = past (step a s) spans
+
+-- how many bytes the spans have together, repeats counted
+abbrev pub total : List Span → ℕ
+total [] = 0
+total (s ∷ spans) = s.len + total spans
+
+-- an honest source tells the true length, which is below 2^63
+abbrev pub Sound : State → Type 0
+Sound a = a.held.honest ≡ true → (a.frame.told ≡ length a.held.input) × (length a.held.input < 2 ^ 63)
+
+-- A spent budget is only answered by a source that counts, and names the bytes taken; refused memory only
+-- by one that records.
+pub record EndedBy (b : State) (e : ImageError) : Type 0 where
+  pub budget : IfSome (spent e) (λ n. (b.frame.counts ≡ true) × (n ≡ b.frame.budget) × (n ≡ b.taken))
+  pub memory : is_memory e ≡ true → b.frame.records ≡ true
+
+-- A call led from one state to another and gave this answer, as these readings say. Where the source is
+-- honest, it has taken no more than the readings' spans; where nothing stopped it, the answer is theirs, and
+-- the state the one past their spans; a failure comes only from a source that can fail.
+pub record Runs {X : Type 0} (a b : State) (r : Result X ImageError) (reads : Reads X) : Type 0 where
+  pub sound : Sound a
+  pub sound_after : Sound b
+  pub frame : b.frame ≡ a.frame
+  pub taken : a.taken ≤ b.taken
+  pub within : a.held.honest ≡ true → b.taken ≤ a.taken + total reads.marks
+  pub answer : a.held.honest ≡ true → stopped r ≡ false → reads.answer ≡ r
+  pub state : a.held.honest ≡ true → stopped r ≡ false → b ≡ past a reads.marks
+  pub fault : a.held.honest ≡ true → faulted r ≡ true → a.held.can_fail ≡ true
+  pub ended : IfErr r (EndedBy b)
+
+-- a slice as a source: it counts nothing, records nothing and cannot fail
+abbrev pub slice_state : List ℕ → State
+slice_state d = record {
+  frame = record { told = length d; budget = 0; counts = false; records = false; home = 0; since = None };
+  held = record { honest = true; input = d; can_fail = false };
+  front = 0;
+  taken = 0;
+  recorded = None }

@@ -1,0 +1,27 @@
+//! A source: the bytes of an input, read by place.
+ghost use Rattle.std.specs.Prelude.{◌≡◌, ◌<◌, ◌≤◌, max, take, length, IfOk};
+ghost use Rattle.imagesize_source.specs.Reading.{seen, part_read};
+ghost use Rattle.imagesize_source.specs.State.{State, Runs};
+
+use crate::ImageResult;
+
+pub mod slice;
+
+/// An input that is read by place. A place counts bytes from 0.
+pub trait Source {
+    /// The input, what was taken and what was recorded.
+    ghost state: { Self → State };
+
+    /// The length of the input, as it was told.
+    fn told(&self) -> u64
+        ensures { result ≡ (state self.now).frame.told };
+
+    /// Reads what is there from a place on into the room, and answers how many bytes that is.
+    fn read_at(&mut self, place: u64, room: &mut [u8]) -> ImageResult<usize>
+        ensures bound { IfOk result (λ n. n ≤ length room.new) }
+
+        // Above the told length and the bytes held, what comes is paid for.
+        ensures pays { IfOk result (λ n. 0 < n → max (state self.old).frame.told 32 < place → (state self.old).taken < (state self.new).taken) }
+        ensures runs { Runs (state self.old) (state self.new) (seen (λ n. take n room.new) result)
+            (part_read (state self.old).held.input place (length room.new)) };
+}

@@ -1,0 +1,46 @@
+//! The bytes of a slice as a source. It takes nothing, and no reading of it fails.
+ghost use Rattle.std.specs.Prelude.{◌≡◌, min, ◌-◌, ◌++◌, take, drop, length};
+ghost use Rattle.imagesize_source.specs.Input.{part};
+ghost use Rattle.imagesize_source.specs.State.{slice_state};
+
+use super::Source;
+use crate::ImageResult;
+
+/// A slice that is read by place.
+#[derive(Clone, Copy, Debug)]
+pub struct SliceSource<'a> {
+    pub bytes: &'a [u8],
+}
+
+impl Source for SliceSource<'_> {
+    ghost state = { λ s. slice_state s.bytes.now };
+
+    #[inline(always)]
+    fn told(&self) -> u64 {
+        self.bytes.len() as u64
+    }
+
+    #[inline(always)]
+    fn read_at(&mut self, place: u64, room: &mut [u8]) -> ImageResult<usize> {
+        // The proof needs that the length is below 2^63.
+        let _length = self.bytes.len();
+        Ok(copy_part(self.bytes, place, room))
+    }
+}
+
+/// Copies what is there of the bytes from a place on into the room, and answers how many that is.
+#[inline(always)]
+#[tactic(auto, unfolding(crate::specs::Input::part))]
+pub(crate) fn copy_part(bytes: &[u8], place: u64, room: &mut [u8]) -> usize
+    ensures count { result ≡ min (length room.old) (length bytes.now - place) }
+    ensures copied { room.new ≡ part bytes.now place (length room.old) ++ drop result room.old }
+{
+    let start = (place as usize).min(bytes.len());
+    let rest = &bytes[start..];
+    if let Some(front) = rest.get(..room.len()) {
+        room.copy_from_slice(front);
+        return room.len();
+    }
+    room[..rest.len()].copy_from_slice(rest);
+    rest.len()
+}
