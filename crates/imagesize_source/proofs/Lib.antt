@@ -1,3 +1,4 @@
 mod Cursors
 pub mod Runs
 pub mod Slices
+pub mod Numbers

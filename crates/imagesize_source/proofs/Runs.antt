@@ -83,21 +83,6 @@ number_missing {a} {b} d order place k e h = record {
   fault = h.fault;
   ended = h.ended }
 
--- the number of two bytes, as std has it
-pub little_two : (bs : List ℕ) → length bs ≡ 2 → from_le_bytes w16 bs ≡ number Little bs
-unfolding number
-little_two (x ∷ y ∷ []) two = omega arith
-little_two [] two = absurd cc
-little_two (x ∷ []) two = absurd (omega (arith, two))
-little_two (x ∷ y ∷ z ∷ bs) two = absurd (omega (arith, two))
-
-pub big_two : (bs : List ℕ) → length bs ≡ 2 → from_be_bytes w16 bs ≡ number Big bs
-unfolding number
-big_two (x ∷ y ∷ []) two = omega arith
-big_two [] two = absurd cc
-big_two (x ∷ []) two = absurd (omega (arith, two))
-big_two (x ∷ y ∷ z ∷ bs) two = absurd (omega (arith, two))
-
 pub past-past : (a : State) (s t : List Span) → past (past a s) t ≡ past a (s ++ t)
 unfolding past
 past-past a [] t = refl

@@ -5,4 +5,3 @@ pub mod Reading
 pub mod State
 pub mod StopOf
 pub mod Telling
-pub mod Trial

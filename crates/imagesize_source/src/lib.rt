@@ -5,7 +5,6 @@ pub mod error;
 pub mod source;
 pub mod span;
 pub mod told;
-pub mod trial;
 pub mod util;
 
 pub use error::{ImageError, ImageResult, Reason};

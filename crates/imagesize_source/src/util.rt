@@ -1,6 +1,6 @@
 //! Bytes and numbers of both byte orders.
-ghost use Rattle.std.specs.Prelude.{◌≡◌, length};
-ghost use Rattle.imagesize_source.specs.Reading.{bytes_read, number_read};
+ghost use Rattle.std.specs.Prelude.{◌≤◌, take, IfOk};
+ghost use Rattle.imagesize_source.specs.Reading.{bytes_read, number_read, part_read, seen};
 ghost use Rattle.imagesize_source.specs.State.{Runs};
 
 use crate::source::Source;
@@ -26,8 +26,28 @@ pub fn read_bytes<S: Source, const N: usize>(source: &mut S, place: u64) -> Imag
     Ok(room)
 }
 
+/// What is there of the `N` bytes from a place on: the room, and how many of its bytes are the input's.
+pub fn read_part<S: Source, const N: usize>(source: &mut S, place: u64) -> ImageResult<([u8; N], usize)>
+    ensures bound { IfOk result (λ (room, count). count ≤ N) }
+    ensures runs { Runs (S.state source.old) (S.state source.new) (seen (λ (room, count). take count room) result)
+        (part_read (S.state source.old).held.input place N) }
+{
+    let mut room = [0u8; N];
+    let count = source.read_at(place, &mut room)?;
+    Ok((room, count))
+}
+
+/// The byte at a place, as a number.
+#[tactic(auto, using(crate::proofs::Runs::number_there, crate::proofs::Runs::number_missing, crate::proofs::Numbers::little_1))]
+pub fn read_u8<S: Source>(source: &mut S, place: u64) -> ImageResult<u8>
+    ensures { Runs (S.state source.old) (S.state source.new) result (number_read (S.state source.old).held.input Endian.Little place 1) }
+{
+    let [byte] = read_bytes::<S, 1>(source, place)?;
+    Ok(byte)
+}
+
 /// The number of the two bytes from a place on.
-#[tactic(auto, using(crate::proofs::Runs::number_there, crate::proofs::Runs::number_missing, crate::proofs::Runs::little_two, crate::proofs::Runs::big_two))]
+#[tactic(auto, using(crate::proofs::Runs::number_there, crate::proofs::Runs::number_missing, crate::proofs::Numbers::little_2, crate::proofs::Numbers::big_2))]
 pub fn read_u16<S: Source>(source: &mut S, place: u64, endian: Endian) -> ImageResult<u16>
     ensures { Runs (S.state source.old) (S.state source.new) result (number_read (S.state source.old).held.input endian place 2) }
 {
@@ -35,5 +55,41 @@ pub fn read_u16<S: Source>(source: &mut S, place: u64, endian: Endian) -> ImageR
     Ok(match endian {
         Endian::Little => u16::from_le_bytes(bytes),
         Endian::Big => u16::from_be_bytes(bytes),
+    })
+}
+
+/// The number of the three bytes from a place on.
+#[tactic(auto, using(crate::proofs::Runs::number_there, crate::proofs::Runs::number_missing, crate::proofs::Numbers::little_3, crate::proofs::Numbers::big_3))]
+pub fn read_u24<S: Source>(source: &mut S, place: u64, endian: Endian) -> ImageResult<u32>
+    ensures { Runs (S.state source.old) (S.state source.new) result (number_read (S.state source.old).held.input endian place 3) }
+{
+    let [a, b, c] = read_bytes::<S, 3>(source, place)?;
+    Ok(match endian {
+        Endian::Little => u32::from_le_bytes([a, b, c, 0]),
+        Endian::Big => u32::from_be_bytes([0, a, b, c]),
+    })
+}
+
+/// The number of the four bytes from a place on.
+#[tactic(auto, using(crate::proofs::Runs::number_there, crate::proofs::Runs::number_missing, crate::proofs::Numbers::little_4, crate::proofs::Numbers::big_4))]
+pub fn read_u32<S: Source>(source: &mut S, place: u64, endian: Endian) -> ImageResult<u32>
+    ensures { Runs (S.state source.old) (S.state source.new) result (number_read (S.state source.old).held.input endian place 4) }
+{
+    let bytes = read_bytes::<S, 4>(source, place)?;
+    Ok(match endian {
+        Endian::Little => u32::from_le_bytes(bytes),
+        Endian::Big => u32::from_be_bytes(bytes),
+    })
+}
+
+/// The number of the eight bytes from a place on.
+#[tactic(auto, using(crate::proofs::Runs::number_there, crate::proofs::Runs::number_missing, crate::proofs::Numbers::little_8, crate::proofs::Numbers::big_8))]
+pub fn read_u64<S: Source>(source: &mut S, place: u64, endian: Endian) -> ImageResult<u64>
+    ensures { Runs (S.state source.old) (S.state source.new) result (number_read (S.state source.old).held.input endian place 8) }
+{
+    let bytes = read_bytes::<S, 8>(source, place)?;
+    Ok(match endian {
+        Endian::Little => u64::from_le_bytes(bytes),
+        Endian::Big => u64::from_be_bytes(bytes),
     })
 }
