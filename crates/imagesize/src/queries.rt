@@ -108,3 +108,6 @@ fn pvrtc_family(compression: PvrtcCompression) -> Option<CompressionFamily>
         PvrtcCompression::Unknown => None,
     }
 }
+
+#[cfg(test)]
+mod tests;

@@ -1,5 +1,5 @@
 //! The types of images, how their pixels are stored, and sizes.
-ghost use Rattle.std.specs.Prelude.{◌≡◌};
+ghost use Rattle.std.specs.Prelude.{◌≡◌, ◌<◌};
 ghost use Rattle.std.proofs.Common.{rules};
 ghost use Rattle.std.specs.Cmp.{partial_order_from_own_ties};
 ghost use Rattle.std.specs.Cmp.Rules.{comparing};
@@ -203,7 +203,8 @@ impl ImageSize {
 }
 
 impl Ord for ImageSize {
-    ghost use Rattle.imagesize.specs.Order.{size_cmp};
+    ghost use Rattle.std.specs.Ordering.{MatchOrdering};
+    ghost use Rattle.imagesize.specs.Order.{IsBelow, size_cmp};
 
     ghost cmp = { size_cmp };
 
@@ -213,7 +214,14 @@ impl Ord for ImageSize {
 
     ghost matches_eq = { Prim.search (comparing, rules) };
 
-    fn cmp(&self, other: &ImageSize) -> Ordering {
+    fn cmp(&self, other: &ImageSize) -> Ordering
+        ensures value { result ≡ size_cmp self.now other.now }
+
+        // Less and Greater say which size is below the other, and Equal that they are one size.
+        ensures order { MatchOrdering result
+            (IsBelow self.now other.now) (self.now ≡ other.now) (IsBelow other.now self.now) }
+        ensures greater_area { area_of other.now < area_of self.now → result ≡ Ordering.Greater }
+    {
         self.area()
             .cmp(&other.area())
             .then(self.width.cmp(&other.width))
@@ -233,3 +241,6 @@ impl PartialOrd for ImageSize {
         Some(self.cmp(other))
     }
 }
+
+#[cfg(test)]
+mod tests;
