@@ -1,6 +1,9 @@
 //! Why an input has no answer.
+ghost use Rattle.std.specs.Prelude.{◌≡◌, [], ◌∷◌, encode_utf8};
+ghost use Rattle.imagesize_source.specs.Reason.{shown_byte};
 
-use std::io;
+use std::error::Error;
+use std::{fmt, io};
 
 /// Why the reading of an input, or a layout, gave no answer.
 #[derive(Debug, Drop)]
@@ -68,3 +71,102 @@ pub enum ImageError {
 
 /// What a call answers.
 pub type ImageResult<T> = Result<T, ImageError>;
+
+impl fmt::Display for Reason {
+    ghost use Rattle.imagesize_source.specs.Reason.{reason_text};
+
+    ghost output = { reason_text };
+
+    fn fmt<W: fmt::Write>(&self, f: &mut fmt::Formatter<W>) -> fmt::Result {
+        match self {
+            Reason::Fault(error) => error.fmt(f),
+            Reason::EndOfInput => f.write_str("failed to fill whole buffer"),
+            Reason::NotEnoughData => f.write_str("Not enough data"),
+            Reason::BudgetSpent { budget } => write!(f, "Read budget of {budget} bytes is spent"),
+            Reason::Memory => f.write_str("Out of memory"),
+            Reason::NoDelimiter { max_size } => {
+                write!(f, "Delimiter not found within {max_size} bytes")
+            }
+            Reason::NotUtf8 => f.write_str("invalid utf-8"),
+            Reason::InvalidHeifBoxSize { size } => write!(f, "Invalid heif box size: {size}"),
+            Reason::InvalidJxlBoxSize { tag, size } => {
+                let tag = Tag(*tag);
+                write!(f, "Invalid size for {tag} box: {size}")
+            }
+            Reason::InvalidJxlSignature => f.write_str("Invalid JXL signature"),
+            Reason::InvalidTiffHeader => f.write_str("Invalid TIFF header"),
+            Reason::BigTiffOffsetSize => f.write_str("Unrecognised BigTiff offset size"),
+            Reason::InvalidBigTiffHeader => f.write_str("Invalid BigTiff header"),
+            Reason::InvalidIfdOffset => f.write_str("Invalid IFD offset"),
+            Reason::IfdTypeForStandardTiff => f.write_str("Invalid IFD type for standard TIFF"),
+            Reason::InvalidIfdType => f.write_str("Invalid IFD type"),
+            Reason::InvalidIfdValueLength => f.write_str("Invalid IFD value length"),
+            Reason::NoDimensionsInIfd => f.write_str("No dimensions in IFD tags"),
+            Reason::InvalidVp8Tag => f.write_str("Invalid VP8 Tag"),
+            Reason::DataWindowNotFound => f.write_str("Data window not found"),
+            Reason::InvalidHdrIdentifier => f.write_str("Invalid HDR format identifier"),
+            Reason::InvalidHdrDimensionsLine => f.write_str("Invalid HDR dimensions line"),
+            Reason::HdrDimensionsNotFound => f.write_str("HDR dimensions not found"),
+            Reason::PnmDimensionsNotFound => f.write_str("PNM dimensions not found"),
+        }
+    }
+}
+
+// The four bytes that name a box. Prints those that ASCII can show, and `?` for each other.
+#[derive(Clone, Copy)]
+struct Tag([u8; 4]);
+
+impl fmt::Display for Tag {
+    ghost use Rattle.std.specs.Prelude.{Some};
+    ghost use Rattle.imagesize_source.specs.Reason.{tag_text};
+
+    ghost output = { λ tag. Some (tag_text tag.0) };
+
+    fn fmt<W: fmt::Write>(&self, f: &mut fmt::Formatter<W>) -> fmt::Result {
+        for &byte in &self.0 {
+            f.write_char(shown(byte))?;
+        }
+        Ok(())
+    }
+}
+
+// The character that stands for a byte of a tag.
+fn shown(byte: u8) -> char
+    ensures { encode_utf8 result ≡ shown_byte byte ∷ [] }
+{
+    match byte {
+        b' '..=b'~' => char::from(byte),
+        _ => '?',
+    }
+}
+
+impl fmt::Display for ImageError {
+    ghost use Rattle.imagesize_source.specs.Reason.{error_text};
+
+    ghost output = { error_text };
+
+    fn fmt<W: fmt::Write>(&self, f: &mut fmt::Formatter<W>) -> fmt::Result {
+        match self {
+            ImageError::NotSupported => f.write_str("Could not decode image"),
+            ImageError::CorruptedImage => f.write_str("Hit end of file before finding size"),
+            ImageError::IoError(reason) => reason.fmt(f),
+        }
+    }
+}
+
+impl Error for ImageError {}
+
+impl From<io::Error> for ImageError {
+    ghost use Rattle.std.specs.Prelude.{◌≡◌};
+    ghost use Rattle.imagesize_source.specs.declared.error.ImageError.TheVariants.{IoError};
+    ghost use Rattle.imagesize_source.specs.declared.error.Reason.TheVariants.{Fault};
+
+    ghost from_gives = { λ error refusal. refusal ≡ IoError (Fault error) };
+
+    fn from(error: io::Error) -> ImageError {
+        ImageError::IoError(Reason::Fault(error))
+    }
+}
+
+#[cfg(test)]
+mod tests;

@@ -1,0 +1,11 @@
+//! The type of an image and its size in pixels, by the few bytes that tell them.
+#![tactic(auto)]
+
+mod queries;
+mod types;
+
+pub use imagesize_source::{ImageError, ImageResult, Reason, Span};
+pub use types::{
+    AtcCompression, Compression, CompressionFamily, DdsCompression, ImageSize, ImageType,
+    PkmCompression, PvrtcCompression,
+};
