@@ -3,6 +3,7 @@ pub mod Layout
 pub mod Numbers
 pub mod Reading
 pub mod Reason
+pub mod Standing
 pub mod State
 pub mod StopOf
 pub mod Telling

@@ -5,6 +5,8 @@ ghost use Rattle.imagesize_source.specs.State.{State, Runs};
 
 use crate::ImageResult;
 
+pub mod progress;
+pub mod reader;
 pub mod slice;
 
 /// An input that is read by place. A place counts bytes from 0.

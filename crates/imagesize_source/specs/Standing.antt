@@ -1,0 +1,63 @@
+-- What a reader claims, as far as the numbers kept beside it agree with what it tells.
+use Rattle.std.specs.Prelude.{◌≡◌, ℕ, ◌+◌, ◌-◌, ◌^◌, ◌<◌, ◌≤◌, min, Bool, true, false, ◌||◌, ◌&&◌, List, [], ◌++◌, length, take, drop, nat_le, nat_lt, ◌==◌, if◌then◌else◌, Option, None, Some, Result, Ok, Err, IfErr, IfSome, option_and_then, option_map, ⊤}
+use Rattle.imagesize_source.specs.declared.error.ImageError.{ImageError}
+use Rattle.imagesize_source.specs.declared.source.progress.Progress.{Progress}
+use Rattle.imagesize_source.specs.Input.{part}
+use Rattle.imagesize_source.specs.Reading.{is_fault, is_memory, spent, stopped}
+use Rattle.imagesize_source.specs.Telling.{Telling}
+
+-- the bytes behind a reader, where it stands, and whether a call may fail
+pub record Standing : Type 0 where
+  pub bytes : List ℕ
+  pub place : ℕ
+  pub can_fail : Bool
+
+-- n bytes further on
+abbrev pub onto : Standing → ℕ → Standing
+onto s n = record s { place = s.place + n }
+
+-- Interruptions hidden, of which so many were tried again: a reader that cannot fail has at most 64 in all.
+abbrev pub steady : Option Telling → ℕ → Option Standing
+steady None retries = None
+steady (Some t) retries =
+    if t.can_fail || nat_le (t.interruptions + retries) 64
+    then Some (record { bytes = t.bytes; place = t.place; can_fail = t.can_fail }) else None
+
+-- the numbers beside the reader agree with where it stands
+abbrev pub in_step : Progress → Standing → Bool
+in_step p s = nat_lt (length s.bytes) (2 ^ 63) && (p.told == length s.bytes) && (p.place == s.place)
+
+-- where a reader stands, if the numbers beside it agree
+abbrev pub stand : Option Telling → Progress → Option Standing
+stand telling p = option_and_then (λ s. if in_step p s then Some s else None) (steady telling p.retries)
+
+-- what a read did that went on from where a reader stands: as much as it gave was the next of the bytes, at
+-- least one where there is one and there is room; a failure comes only from a reader that can fail
+abbrev pub GivesSome : Option Standing → Option Standing → List ℕ → Result ℕ ImageError → Type 0
+GivesSome None new room r = ⊤
+GivesSome (Some s) new room (Ok n) =
+    (new ≡ Some (onto s n)) × (take n room ≡ part s.bytes s.place n) × (n ≤ length s.bytes - s.place)
+    × (0 < length room → s.place < length s.bytes → 0 < n)
+GivesSome (Some s) new room (Err e) = is_fault e ≡ true → s.can_fail ≡ true
+
+-- the same of a read that goes on until the room is full or the bytes end
+abbrev pub GivesAll : Option Standing → Option Standing → List ℕ → Result ℕ ImageError → Type 0
+GivesAll None new room r = ⊤
+GivesAll (Some s) new room (Ok n) =
+    (new ≡ Some (onto s n)) × (take n room ≡ part s.bytes s.place n) × (n ≡ min (length room) (length s.bytes - s.place))
+GivesAll (Some s) new room (Err e) = is_fault e ≡ true → s.can_fail ≡ true
+
+-- by how much a count is above a number, and below it
+abbrev pub since : Option ℕ → ℕ → Option (ℕ × ℕ)
+since count taken = option_map (λ c. (c - taken, taken - c)) count
+
+-- Only a failure or a spent budget stops a read: the budget that is named is the one that was taken.
+pub record StopsBy (p : Progress) (e : ImageError) : Type 0 where
+  pub stops : is_memory e ≡ false
+  pub budget : IfSome (spent e) (λ n. (n ≡ p.budget) × (n ≡ p.taken))
+
+-- what a call leaves of the numbers beside the reader
+pub record Keeps (old new : Progress) : Type 0 where
+  pub told : new.told ≡ old.told
+  pub budget : new.budget ≡ old.budget
+  pub taken : old.taken ≤ new.taken

@@ -1,0 +1,77 @@
+//! A reader as a source.
+ghost use Rattle.std.specs.Prelude.{◌≡◌, ◌+◌, ◌-◌, ◌<◌, ◌≤◌, min, take, length, IfOk, IfErr, OnOk, IfSome, true};
+ghost use Rattle.imagesize_source.specs.Reading.{is_fault};
+ghost use Rattle.imagesize_source.specs.Telling.{counted, given};
+ghost use Rattle.imagesize_source.specs.Standing.{Standing, steady, stand, GivesSome, GivesAll, StopsBy, Keeps, since};
+
+use super::progress::Progress;
+use crate::{ImageError, ImageResult, Reason, Stop, Told};
+
+// How many interruptions of reads are tried again in one call.
+const MAX_RETRIES: u64 = 64;
+
+// One read, tried again where it is interrupted.
+fn read_retrying<R: Told>(reader: &mut R, retries: &mut u64, room: &mut [u8]) -> ImageResult<usize>
+    ensures bound { IfOk result (λ n. n ≤ length room.new) }
+    ensures steady { GivesSome (steady (R.telling reader.old) retries.old) (steady (R.telling reader.new) retries.new) room.new result }
+    ensures counts { R.count reader.new ≡ counted (R.count reader.old) result }
+    ensures fault { IfErr result (λ e. is_fault e ≡ true) }
+{
+    loop {
+        match reader.read_told(room) {
+            Ok(count) => return Ok(count),
+            Err(Stop::Fault(error)) => return Err(ImageError::IoError(Reason::Fault(error))),
+            Err(Stop::Interrupted(error)) => {
+                if *retries >= MAX_RETRIES {
+                    return Err(ImageError::IoError(Reason::Fault(error)));
+                }
+                *retries += 1;
+            }
+        }
+    }
+}
+
+// One read of at most what the budget leaves. It is counted, and moves the place on.
+fn read_some<R: Told>(reader: &mut R, progress: &mut Progress, room: &mut [u8]) -> ImageResult<usize>
+    ensures bound { IfOk result (λ n. n ≤ length room.new) }
+    ensures stand { 0 < length room.new → GivesSome (stand (R.telling reader.old) progress.old)
+        (stand (R.telling reader.new) progress.new) room.new result }
+    ensures taken { progress.new.taken ≡ progress.old.taken + given result }
+    ensures since { since (R.count reader.new) progress.new.taken ≡ since (R.count reader.old) progress.old.taken }
+    ensures keeps { Keeps progress.old progress.new }
+    ensures stops { IfErr result (StopsBy progress.new) }
+{
+    let left = progress.budget - progress.taken;
+    if left == 0 {
+        let budget = progress.budget;
+        return Err(ImageError::IoError(Reason::BudgetSpent { budget }));
+    }
+    let most = room.len().min(left as usize);
+    let count = read_retrying(reader, &mut progress.retries, &mut room[..most])?;
+    progress.taken += count as u64;
+    progress.place = progress.place.saturating_add(count as u64);
+    Ok(count)
+}
+
+// Reads until the room is full or the bytes end.
+fn fill<R: Told>(reader: &mut R, progress: &mut Progress, room: &mut [u8]) -> ImageResult<usize>
+    ensures bound { IfOk result (λ n. n ≤ length room.new) }
+    ensures stand { GivesAll (stand (R.telling reader.old) progress.old)
+        (stand (R.telling reader.new) progress.new) room.new result }
+    ensures taken { IfOk result (λ n. progress.new.taken ≡ progress.old.taken + n) }
+    ensures within { IfSome (stand (R.telling reader.old) progress.old)
+        (λ s. progress.new.taken ≤ progress.old.taken + min (length room.new) (length s.bytes - s.place)) }
+    ensures since { since (R.count reader.new) progress.new.taken ≡ since (R.count reader.old) progress.old.taken }
+    ensures keeps { Keeps progress.old progress.new }
+    ensures stops { IfErr result (StopsBy progress.new) }
+{
+    let mut filled = 0;
+    while filled < room.len() {
+        let count = read_some(reader, progress, &mut room[filled..])?;
+        if count == 0 {
+            break;
+        }
+        filled += count;
+    }
+    Ok(filled)
+}
