@@ -3,3 +3,4 @@ pub mod Runs
 pub mod Slices
 pub mod Numbers
 pub mod Filling
+pub mod Standings

@@ -1,5 +1,5 @@
 -- What a reader claims, as far as the numbers kept beside it agree with what it tells.
-use Rattle.std.specs.Prelude.{◌≡◌, ℕ, ◌+◌, ◌-◌, ◌^◌, ◌<◌, ◌≤◌, min, Bool, true, false, ◌||◌, ◌&&◌, List, [], ◌++◌, length, take, drop, nat_le, nat_lt, ◌==◌, if◌then◌else◌, Option, None, Some, Result, Ok, Err, IfErr, IfSome, option_and_then, option_map, ⊤}
+use Rattle.std.specs.Prelude.{◌≡◌, ℕ, ◌+◌, ◌-◌, ◌^◌, ◌<◌, ◌≤◌, min, Bool, true, false, ◌||◌, ◌&&◌, List, [], ◌++◌, length, take, drop, nat_le, nat_lt, ◌==◌, if◌then◌else◌, Option, None, Some, Result, Ok, Err, IfErr, IfSome, option_map, ⊤}
 use Rattle.imagesize_source.specs.declared.error.ImageError.{ImageError}
 use Rattle.imagesize_source.specs.declared.source.progress.Progress.{Progress}
 use Rattle.imagesize_source.specs.Input.{part}
@@ -28,8 +28,12 @@ abbrev pub in_step : Progress → Standing → Bool
 in_step p s = nat_lt (length s.bytes) (2 ^ 63) && (p.told == length s.bytes) && (p.place == s.place)
 
 -- where a reader stands, if the numbers beside it agree
+abbrev pub stand_of : Progress → Option Standing → Option Standing
+stand_of p None = None
+stand_of p (Some s) = if in_step p s then Some s else None
+
 abbrev pub stand : Option Telling → Progress → Option Standing
-stand telling p = option_and_then (λ s. if in_step p s then Some s else None) (steady telling p.retries)
+stand telling p = stand_of p (steady telling p.retries)
 
 -- what a read did that went on from where a reader stands: as much as it gave was the next of the bytes, at
 -- least one where there is one and there is room; a failure comes only from a reader that can fail
@@ -46,6 +50,20 @@ GivesAll None new room r = ⊤
 GivesAll (Some s) new room (Ok n) =
     (new ≡ Some (onto s n)) × (take n room ≡ part s.bytes s.place n) × (n ≡ min (length room) (length s.bytes - s.place))
 GivesAll (Some s) new room (Err e) = is_fault e ≡ true → s.can_fail ≡ true
+
+-- what a seek did from where a reader stands: it stands at the place now, or the place is behind its bytes
+abbrev pub GoesTo : Option Standing → Option Standing → ℕ → ℕ → Result Bool ImageError → Type 0
+GoesTo None new place now r = ⊤
+GoesTo (Some s) new place now (Ok true) = (new ≡ Some (record s { place = place })) × (now ≡ place)
+GoesTo (Some s) new place now (Ok false) = (new ≡ Some s) × (length s.bytes < place) × (now ≡ s.place)
+GoesTo (Some s) new place now (Err e) = is_fault e ≡ true → s.can_fail ≡ true
+
+-- what a read from a place on did, until the room is full or the bytes end
+abbrev pub GivesFrom : Option Standing → Option Standing → ℕ → ℕ → List ℕ → Result ℕ ImageError → Type 0
+GivesFrom None new place now room r = ⊤
+GivesFrom (Some s) new place now room (Ok n) =
+    (new ≡ Some (record s { place = now })) × (take n room ≡ part s.bytes place n) × (n ≡ min (length room) (length s.bytes - place))
+GivesFrom (Some s) new place now room (Err e) = is_fault e ≡ true → s.can_fail ≡ true
 
 -- by how much a count is above a number, and below it
 abbrev pub since : Option ℕ → ℕ → Option (ℕ × ℕ)

@@ -2,10 +2,12 @@
 ghost use Rattle.std.specs.Prelude.{◌≡◌, ◌+◌, ◌-◌, ◌<◌, ◌≤◌, min, take, length, IfOk, IfErr, OnOk, IfSome, true};
 ghost use Rattle.imagesize_source.specs.Reading.{is_fault};
 ghost use Rattle.imagesize_source.specs.Telling.{counted, given};
-ghost use Rattle.imagesize_source.specs.Standing.{Standing, steady, stand, GivesSome, GivesAll, StopsBy, Keeps, since};
+ghost use Rattle.imagesize_source.specs.Standing.{Standing, steady, stand, GivesSome, GivesAll, StopsBy, Keeps, since, GoesTo, GivesFrom};
 
 use super::progress::Progress;
 use crate::{ImageError, ImageResult, Reason, Stop, Told};
+
+use std::io::SeekFrom;
 
 // How many interruptions of reads are tried again in one call.
 const MAX_RETRIES: u64 = 64;
@@ -74,4 +76,48 @@ fn fill<R: Told>(reader: &mut R, progress: &mut Progress, room: &mut [u8]) -> Im
         filled += count;
     }
     Ok(filled)
+}
+
+// Goes to a place, and answers whether the reader stands there: it does not go above the told length.
+fn go_to<R: Told>(reader: &mut R, progress: &mut Progress, place: u64) -> ImageResult<bool>
+    ensures stand { GoesTo (stand (R.telling reader.old) progress.old) (stand (R.telling reader.new) progress.new) place progress.new.place result }
+    ensures since { since (R.count reader.new) progress.new.taken ≡ since (R.count reader.old) progress.old.taken }
+    ensures taken { progress.new.taken ≡ progress.old.taken }
+    ensures keeps { Keeps progress.old progress.new }
+    ensures stops { IfErr result (StopsBy progress.new) }
+{
+    if progress.place == place {
+        return Ok(true);
+    }
+    if place > progress.told {
+        return Ok(false);
+    }
+    match reader.seek_told(SeekFrom::Start(place)) {
+        Ok(_) => {
+            progress.place = place;
+            Ok(true)
+        }
+        Err(error) => Err(ImageError::IoError(Reason::Fault(error))),
+    }
+}
+
+// Reads from a place on until the room is full or the bytes end.
+#[tactic(auto, using(crate::proofs::Standings::not_reached, crate::proofs::Standings::from_there, crate::proofs::Standings::fails_there, crate::proofs::Standings::within_reached))]
+fn read_from<R: Told>(reader: &mut R, progress: &mut Progress, place: u64, room: &mut [u8]) -> ImageResult<usize>
+    ensures bound { IfOk result (λ n. n ≤ length room.new) }
+    ensures stand { GivesFrom (stand (R.telling reader.old) progress.old)
+        (stand (R.telling reader.new) progress.new) place progress.new.place room.new result }
+    ensures taken { IfOk result (λ n. progress.new.taken ≡ progress.old.taken + n) }
+    ensures within { IfSome (stand (R.telling reader.old) progress.old)
+        (λ s. progress.new.taken ≤ progress.old.taken + min (length room.new) (length s.bytes - place)) }
+    ensures pays { IfOk result (λ n. progress.old.told < place → 0 < n → progress.old.taken < progress.new.taken) }
+    ensures since { since (R.count reader.new) progress.new.taken ≡ since (R.count reader.old) progress.old.taken }
+    ensures keeps { Keeps progress.old progress.new }
+    ensures stops { IfErr result (StopsBy progress.new) }
+{
+    if !go_to(reader, progress, place)? {
+        return Ok(0);
+    }
+    let count = fill(reader, progress, room)?;
+    Ok(count)
 }
