@@ -1,5 +1,5 @@
 -- How the laws of a type follow from what its comparisons state.
-use Rattle.std.proofs.Common.{ℕ, List, Bool, true, Option, Some, ◌≡◌, ◌∙◌, sym, ap}
+use Rattle.std.proofs.Common.{ℕ, List, Bool, Option, Some, ◌≡◌, ◌∙◌, sym, ap}
 use Rattle.std.specs.Prelude.{IsTrue, ◌↔◌}
 use Rattle.std.specs.declared.cmp.Ordering.{Ordering}
 use Rattle.std.specs.Cmp.{IsTotalOrder, Equal-is}
