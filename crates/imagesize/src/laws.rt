@@ -15,33 +15,44 @@ fn image_type_laws()
 {}
 
 fn compression_family_laws()
-    ensures hash { IsLawfulHash ⟦<CompressionFamily as PartialEq>⟧.eq ⟦<CompressionFamily as Hash>⟧.hash_input }
-    ensures order { IsLawfulOrder ⟦<CompressionFamily as Ord>⟧.cmp ⟦<CompressionFamily as PartialOrd>⟧.partial_cmp }
+    ensures hash { IsLawfulHash
+        ⟦<CompressionFamily as PartialEq>⟧.eq ⟦<CompressionFamily as Hash>⟧.hash_input }
+    ensures order { IsLawfulOrder
+        ⟦<CompressionFamily as Ord>⟧.cmp ⟦<CompressionFamily as PartialOrd>⟧.partial_cmp }
 {}
 
 fn atc_compression_laws()
-    ensures hash { IsLawfulHash ⟦<AtcCompression as PartialEq>⟧.eq ⟦<AtcCompression as Hash>⟧.hash_input }
-    ensures order { IsLawfulOrder ⟦<AtcCompression as Ord>⟧.cmp ⟦<AtcCompression as PartialOrd>⟧.partial_cmp }
+    ensures hash { IsLawfulHash
+        ⟦<AtcCompression as PartialEq>⟧.eq ⟦<AtcCompression as Hash>⟧.hash_input }
+    ensures order { IsLawfulOrder
+        ⟦<AtcCompression as Ord>⟧.cmp ⟦<AtcCompression as PartialOrd>⟧.partial_cmp }
 {}
 
 fn dds_compression_laws()
-    ensures hash { IsLawfulHash ⟦<DdsCompression as PartialEq>⟧.eq ⟦<DdsCompression as Hash>⟧.hash_input }
-    ensures order { IsLawfulOrder ⟦<DdsCompression as Ord>⟧.cmp ⟦<DdsCompression as PartialOrd>⟧.partial_cmp }
+    ensures hash { IsLawfulHash
+        ⟦<DdsCompression as PartialEq>⟧.eq ⟦<DdsCompression as Hash>⟧.hash_input }
+    ensures order { IsLawfulOrder
+        ⟦<DdsCompression as Ord>⟧.cmp ⟦<DdsCompression as PartialOrd>⟧.partial_cmp }
 {}
 
 fn compression_laws()
     ensures hash { IsLawfulHash ⟦<Compression as PartialEq>⟧.eq ⟦<Compression as Hash>⟧.hash_input }
-    ensures order { IsLawfulOrder ⟦<Compression as Ord>⟧.cmp ⟦<Compression as PartialOrd>⟧.partial_cmp }
+    ensures order { IsLawfulOrder
+        ⟦<Compression as Ord>⟧.cmp ⟦<Compression as PartialOrd>⟧.partial_cmp }
 {}
 
 fn pkm_compression_laws()
-    ensures hash { IsLawfulHash ⟦<PkmCompression as PartialEq>⟧.eq ⟦<PkmCompression as Hash>⟧.hash_input }
-    ensures order { IsLawfulOrder ⟦<PkmCompression as Ord>⟧.cmp ⟦<PkmCompression as PartialOrd>⟧.partial_cmp }
+    ensures hash { IsLawfulHash
+        ⟦<PkmCompression as PartialEq>⟧.eq ⟦<PkmCompression as Hash>⟧.hash_input }
+    ensures order { IsLawfulOrder
+        ⟦<PkmCompression as Ord>⟧.cmp ⟦<PkmCompression as PartialOrd>⟧.partial_cmp }
 {}
 
 fn pvrtc_compression_laws()
-    ensures hash { IsLawfulHash ⟦<PvrtcCompression as PartialEq>⟧.eq ⟦<PvrtcCompression as Hash>⟧.hash_input }
-    ensures order { IsLawfulOrder ⟦<PvrtcCompression as Ord>⟧.cmp ⟦<PvrtcCompression as PartialOrd>⟧.partial_cmp }
+    ensures hash { IsLawfulHash
+        ⟦<PvrtcCompression as PartialEq>⟧.eq ⟦<PvrtcCompression as Hash>⟧.hash_input }
+    ensures order { IsLawfulOrder
+        ⟦<PvrtcCompression as Ord>⟧.cmp ⟦<PvrtcCompression as PartialOrd>⟧.partial_cmp }
 {}
 
 fn image_size_laws()
