@@ -32,14 +32,14 @@ pub filled_none : (first : Option Standing) (count : Option ℕ) (p : Progress) 
 filled_none first count p room = record { fits = omega arith; reached = none_reached first room; taken = omega arith; counts = refl; keeps = record { told = refl; budget = refl; taken = omega arith } }
 
 -- the bytes of one more read stand behind those before
-take_more : (room more : List ℕ) (filled n : ℕ) → filled ≤ length room → n ≤ length more → take (filled + n) (put_mid filled (length room - filled) room more) ≡ take filled room ++ take n more
+pub take_more : (room more : List ℕ) (filled n : ℕ) → filled ≤ length room → n ≤ length more → take (filled + n) (put_mid filled (length room - filled) room more) ≡ take filled room ++ take n more
 take_more room more filled n fits enough =
     let front : length (take filled room) ≡ filled = length-take-le filled room fits in
     ap (λ k. take (k + n) (put_mid filled (length room - filled) room more)) (sym front)
     ∙ take-append-add (take filled room) (more ++ drop (length room - filled) (drop filled room)) n
     ∙ ap (λ l. take filled room ++ l) (take-append-le n more (drop (length room - filled) (drop filled room)) enough)
 
-length-put : (room more : List ℕ) (filled : ℕ) → filled ≤ length room → length more ≡ length room - filled → length (put_mid filled (length room - filled) room more) ≡ length room
+pub length-put : (room more : List ℕ) (filled : ℕ) → filled ≤ length room → length more ≡ length room - filled → length (put_mid filled (length room - filled) room more) ≡ length room
 length-put room more filled fits long =
     simp (length-append, length-take, length-drop) (omega (arith, fits, long))
 

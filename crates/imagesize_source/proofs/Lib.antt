@@ -4,3 +4,4 @@ pub mod Slices
 pub mod Numbers
 pub mod Filling
 pub mod Standings
+pub mod Windows

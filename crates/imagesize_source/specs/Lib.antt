@@ -1,6 +1,7 @@
 pub mod Input
 pub mod Layout
 pub mod Numbers
+pub mod ReaderState
 pub mod Reading
 pub mod Reason
 pub mod Standing

@@ -3,7 +3,7 @@ use Rattle.std.specs.Prelude.{◌≡◌, ℕ, ◌+◌, ◌-◌, ◌^◌, ◌<◌
 use Rattle.imagesize_source.specs.declared.error.ImageError.{ImageError}
 use Rattle.imagesize_source.specs.declared.source.progress.Progress.{Progress}
 use Rattle.imagesize_source.specs.Input.{part}
-use Rattle.imagesize_source.specs.Reading.{is_fault, is_memory, spent, stopped}
+use Rattle.imagesize_source.specs.Reading.{is_fault, is_memory, is_stop, spent}
 use Rattle.imagesize_source.specs.Telling.{Telling}
 
 -- the bytes behind a reader, where it stands, and whether a call may fail
@@ -71,7 +71,8 @@ since count taken = option_map (λ c. (c - taken, taken - c)) count
 
 -- Only a failure or a spent budget stops a read: the budget that is named is the one that was taken.
 pub record StopsBy (p : Progress) (e : ImageError) : Type 0 where
-  pub stops : is_memory e ≡ false
+  pub stops : is_stop e ≡ true
+  pub memory : is_memory e ≡ false
   pub budget : IfSome (spent e) (λ n. (n ≡ p.budget) × (n ≡ p.taken))
 
 -- what a call leaves of the numbers beside the reader

@@ -8,6 +8,7 @@ use crate::ImageResult;
 pub mod progress;
 pub mod reader;
 pub mod slice;
+mod window;
 
 /// An input that is read by place. A place counts bytes from 0.
 pub trait Source {

@@ -1,13 +1,45 @@
 //! A reader as a source.
-ghost use Rattle.std.specs.Prelude.{◌≡◌, ◌+◌, ◌-◌, ◌<◌, ◌≤◌, min, take, length, IfOk, IfErr, OnOk, IfSome, true};
-ghost use Rattle.imagesize_source.specs.Reading.{is_fault};
+ghost use Rattle.std.specs.Prelude.{◌≡◌, ℕ, max, ◌+◌, ◌-◌, ◌<◌, ◌≤◌, min, take, length, IfOk, IfErr, OnOk, OnErr, IfSome, true};
+ghost use Rattle.imagesize_source.specs.Reading.{is_fault, seen, part_read};
+ghost use Rattle.imagesize_source.specs.ReaderState.{held_at, reader_state, kept_window};
+ghost use Rattle.imagesize_source.specs.State.{Runs};
 ghost use Rattle.imagesize_source.specs.Telling.{counted, given};
 ghost use Rattle.imagesize_source.specs.Standing.{Standing, steady, stand, GivesSome, GivesAll, StopsBy, Keeps, since, GoesTo, GivesFrom};
 
 use super::progress::Progress;
+use super::window::{Window, copy_kept, keep};
+use super::Source;
 use crate::{ImageError, ImageResult, Reason, Stop, Told};
 
 use std::io::SeekFrom;
+
+/// A reader that is read by place. It takes bytes within a budget, and keeps the first 32 of the input.
+#[derive(Drop)]
+pub struct ReaderSource<'a, R: Told> {
+    reader: &'a mut R,
+    progress: Progress,
+    window: Window,
+    // The end of the last reading.
+    present: u64,
+}
+
+impl<R: Told> Source for ReaderSource<'_, R> {
+    ghost state = { λ s. reader_state (R.telling s.reader.now) (R.count s.reader.now) s.reader.ghost_name s.progress s.window.items };
+
+    #[inline]
+    fn told(&self) -> u64 {
+        self.progress.told
+    }
+
+    fn read_at(&mut self, place: u64, room: &mut [u8]) -> ImageResult<usize> {
+        if place != self.present && place > self.progress.told {
+            return Ok(0);
+        }
+        let count = read_windowed(self.reader, &mut self.progress, &mut self.window, place, room)?;
+        self.present = place.saturating_add(count as u64);
+        Ok(count)
+    }
+}
 
 // How many interruptions of reads are tried again in one call.
 const MAX_RETRIES: u64 = 64;
@@ -120,4 +152,54 @@ fn read_from<R: Told>(reader: &mut R, progress: &mut Progress, place: u64, room:
     }
     let count = fill(reader, progress, room)?;
     Ok(count)
+}
+
+// Reads from a place on that the window does not hold, and keeps what follows the window.
+fn read_behind<R: Told>(
+    reader: &mut R,
+    progress: &mut Progress,
+    window: &mut Window,
+    place: u64,
+    room: &mut [u8],
+) -> ImageResult<usize>
+    ensures bound { IfOk result (λ n. n ≤ length room.new) }
+    ensures stand { GivesFrom (stand (R.telling reader.old) progress.old)
+        (stand (R.telling reader.new) progress.new) place progress.new.place room.new result }
+    ensures taken { IfOk result (λ n. progress.new.taken ≡ progress.old.taken + n) }
+    ensures within { IfSome (stand (R.telling reader.old) progress.old)
+        (λ s. progress.new.taken ≤ progress.old.taken + min (length room.new) (length s.bytes - place)) }
+    ensures since { since (R.count reader.new) progress.new.taken ≡ since (R.count reader.old) progress.old.taken }
+    ensures keeps { Keeps progress.old progress.new }
+    ensures stops { IfErr result (StopsBy progress.new) }
+    ensures window { IfOk result (λ n. window.new.items ≡ kept_window window.old.items place (take n room.new)) }
+    ensures unkept { OnErr result (window.new.items ≡ window.old.items) }
+{
+    let count = read_from(reader, progress, place, room)?;
+    keep(window, place, &room[..count]);
+    Ok(count)
+}
+
+// Reads from a place on: what the window has of it, and what follows from the reader.
+fn read_windowed<R: Told>(
+    reader: &mut R,
+    progress: &mut Progress,
+    window: &mut Window,
+    place: u64,
+    room: &mut [u8],
+) -> ImageResult<usize>
+    ensures bound { IfOk result (λ n. n ≤ length room.new) }
+    ensures pays { IfOk result (λ n. 0 < n → max progress.old.told 32 < place → progress.old.taken < progress.new.taken) }
+    ensures runs { (home : ℕ) → Runs
+        (reader_state (R.telling reader.old) (R.count reader.old) home progress.old window.old.items)
+        (reader_state (R.telling reader.new) (R.count reader.new) home progress.new window.new.items)
+        (seen (λ n. take n room.new) result)
+        (part_read (held_at (stand (R.telling reader.old) progress.old) window.old.items).input place (length room.new)) }
+{
+    let copied = copy_kept(window, place, room);
+    if copied == room.len() {
+        return Ok(copied);
+    }
+    let next = place + copied as u64;
+    let count = read_behind(reader, progress, window, next, &mut room[copied..])?;
+    Ok(copied + count)
 }
