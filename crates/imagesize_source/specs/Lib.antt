@@ -1,3 +1,4 @@
+pub mod Agreement
 pub mod Input
 pub mod Layout
 pub mod Numbers
