@@ -3,3 +3,5 @@ pub mod Runs
 pub mod Slices
 pub mod Numbers
 pub mod Local
+pub mod Layouts
+pub mod Count

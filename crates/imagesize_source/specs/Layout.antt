@@ -19,3 +19,11 @@ over d (refuse e) = refuses e
 over d (field order place k f) = and_then (number_read d order place k) (λ v. over d (f v))
 over d (bytes place k f) = and_then (bytes_read d place k) (λ bs. over d (f bs))
 over d (there place k f) = and_then (part_read d place k) (λ bs. over d (f bs))
+
+-- a layout, and behind it the one that its answer leads to
+abbrev pub bind : {X Y : Type 0} → Layout X → (X → Layout Y) → Layout Y
+bind (done x) g = g x
+bind (refuse e) g = refuse e
+bind (field order place k f) g = field order place k (λ v. bind (f v) g)
+bind (bytes place k f) g = bytes place k (λ bs. bind (f bs) g)
+bind (there place k f) g = there place k (λ bs. bind (f bs) g)

@@ -1,4 +1,5 @@
 pub mod Agreement
+pub mod Counts
 pub mod Input
 pub mod Layout
 pub mod Numbers
