@@ -5,3 +5,4 @@ pub mod Numbers
 pub mod Local
 pub mod Layouts
 pub mod Count
+pub mod More

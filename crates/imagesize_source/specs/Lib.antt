@@ -3,6 +3,7 @@ pub mod Counts
 pub mod Input
 pub mod Layout
 pub mod Numbers
+pub mod Plain
 pub mod Reading
 pub mod Reason
 pub mod State
