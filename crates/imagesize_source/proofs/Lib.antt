@@ -2,7 +2,8 @@ mod Cursors
 pub mod Runs
 pub mod Slices
 pub mod Numbers
-pub mod Local
 pub mod Layouts
+pub mod Onward
+pub mod Local
 pub mod Count
 pub mod More
