@@ -7,3 +7,4 @@ pub mod Onward
 pub mod Local
 pub mod Count
 pub mod More
+pub mod Chains

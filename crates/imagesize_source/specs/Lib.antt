@@ -1,4 +1,5 @@
 pub mod Agreement
+pub mod Chain
 pub mod Counts
 pub mod Input
 pub mod Layout
