@@ -8,3 +8,4 @@ pub mod Local
 pub mod Count
 pub mod More
 pub mod Chains
+pub mod Reached
