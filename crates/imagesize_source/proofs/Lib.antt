@@ -9,3 +9,5 @@ pub mod Count
 pub mod More
 pub mod Chains
 pub mod Reached
+pub mod ChainLaws
+pub mod Advances

@@ -5,11 +5,11 @@ use Rattle.std.proofs.lemmas.Bool.Decides.{nat_tests}
 use Rattle.imagesize_source.specs.declared.error.ImageError.{ImageError}
 use Rattle.imagesize_source.specs.declared.span.Span.{Span}
 use Rattle.imagesize_source.specs.declared.util.Endian.{Endian}
-use Rattle.imagesize_source.specs.Agreement.{Agrees, has_place, covered}
+use Rattle.imagesize_source.specs.Agreement.{Agrees, Local, has_place, covered}
 use Rattle.imagesize_source.specs.Input.{part, span_at, span_of}
 use Rattle.imagesize_source.specs.Layout.{Layout, done, refuse, field, bytes, there, over}
 use Rattle.imagesize_source.specs.Numbers.{number}
-use Rattle.imagesize_source.specs.Reading.{Reads, onward, behind, bytes_at, number_at, seen}
+use Rattle.imagesize_source.specs.Reading.{Reads, onward, behind, and_then, bytes_at, number_at, seen}
 
 covered-left : (s t : List Span) (place : ℕ) → covered s place ≡ true → covered (s ++ t) place ≡ true
 covered-left [] t place h = absurd cc
@@ -91,6 +91,18 @@ local d e (there place k f) a =
     rw (same_span d e place k here.as_long, same_part d e place k here)
     (ap (behind (span_of d place k)) (local d e (f (part d place k)) (agrees-right (span_of d place k) (over d (f (part d place k))).marks a)))
 
--- the same where the layout takes the length of the input
+pub local_layout : {X : Type 0} (t : Layout X) → Local (λ d. over d t)
+local_layout t d e a = local d e t a
+
+-- readings behind readings
+pub local_then : {X Y : Type 0} (r : List ℕ → Reads X) (f : X → List ℕ → Reads Y) → Local r → ((x : X) → Local (f x)) → Local (λ d. and_then (r d) (λ x. f x d))
+local_then r f first rest d e a =
+    let same : r e ≡ r d = first d e (agrees_first (r d).marks (r d).answer (λ x. f x d) a) in
+    ap (λ w. and_then w (λ x. f x e)) same ∙ onward_local (r d).marks (r d).answer (λ x. f x d) (λ x. f x e) a (λ x. rest x d e)
+
+-- readings that take the length of the input
+pub local_length : {X : Type 0} (f : ℕ → List ℕ → Reads X) → ((n : ℕ) → Local (f n)) → Local (λ d. f (length d) d)
+local_length f each d e a = ap (λ n. f n e) a.as_long ∙ each (length d) d e a
+
 pub local_by_length : {X : Type 0} (d e : List ℕ) (f : ℕ → Layout X) → Agrees d e (over d (f (length d))).marks → over e (f (length e)) ≡ over d (f (length d))
-local_by_length d e f a = rw a.as_long (local d e (f (length d)) a)
+local_by_length d e f a = local_length (λ n d. over d (f n)) (λ n. local_layout (f n)) d e a

@@ -1,10 +1,10 @@
 pub mod Agreement
 pub mod Chain
 pub mod Counts
+pub mod Extension
 pub mod Input
 pub mod Layout
 pub mod Numbers
-pub mod Plain
 pub mod Reading
 pub mod Reason
 pub mod State
