@@ -5,3 +5,12 @@ pub mod Numbers
 pub mod Filling
 pub mod Standings
 pub mod Windows
+pub mod Layouts
+pub mod Onward
+pub mod Local
+pub mod Count
+pub mod More
+pub mod Chains
+pub mod Reached
+pub mod ChainLaws
+pub mod Advances

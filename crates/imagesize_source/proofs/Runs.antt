@@ -25,11 +25,11 @@ answered {a} {b} {x} {reads} r other h marks answer goes_on no_fault ended = rec
   fault = λ honest faults. absurd cc;
   ended = ended }
 
-part_is : {xs ys : List ℕ} → ◌≡◌ {A = Result (List ℕ) ImageError} (Ok xs) (Ok ys) → xs ≡ ys
+pub part_is : {xs ys : List ℕ} → ◌≡◌ {A = Result (List ℕ) ImageError} (Ok xs) (Ok ys) → xs ≡ ys
 part_is e = cc
 
 -- how many of k bytes there are
-part_length : (d : List ℕ) (place k : ℕ) → length (part d place k) ≡ min k (length d - place)
+pub part_length : (d : List ℕ) (place k : ℕ) → length (part d place k) ≡ min k (length d - place)
 unfolding part
 part_length d place k = length-take k (drop place d) ∙ ap (min k) (length-drop place d)
 

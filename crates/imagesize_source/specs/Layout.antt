@@ -1,5 +1,5 @@
 -- A layout: which readings an answer rests on, as a tree.
-use Rattle.std.specs.Prelude.{ℕ, List}
+use Rattle.std.specs.Prelude.{ℕ, List, length, nat_le, if◌then◌else◌, Option, None, Some}
 use Rattle.imagesize_source.specs.declared.error.ImageError.{ImageError}
 use Rattle.imagesize_source.specs.declared.util.Endian.{Endian}
 use Rattle.imagesize_source.specs.Reading.{Reads, gives, refuses, and_then, number_read, bytes_read, part_read}
@@ -19,3 +19,19 @@ over d (refuse e) = refuses e
 over d (field order place k f) = and_then (number_read d order place k) (λ v. over d (f v))
 over d (bytes place k f) = and_then (bytes_read d place k) (λ bs. over d (f bs))
 over d (there place k f) = and_then (part_read d place k) (λ bs. over d (f bs))
+
+-- a layout, and what goes on from its answer
+abbrev pub bind : {X Y : Type 0} → Layout X → (X → Layout Y) → Layout Y
+bind (done x) g = g x
+bind (refuse e) g = refuse e
+bind (field order place k f) g = field order place k (λ v. bind (f v) g)
+bind (bytes place k f) g = bytes place k (λ bs. bind (f bs) g)
+bind (there place k f) g = there place k (λ bs. bind (f bs) g)
+
+-- all of k bytes, or none where some are missing
+abbrev pub whole : ℕ → List ℕ → Option (List ℕ)
+whole k bs = if nat_le k (length bs) then Some bs else None
+
+-- k bytes, or none where the input ends before the last of them
+abbrev pub if_there : {X : Type 0} → ℕ → ℕ → (Option (List ℕ) → Layout X) → Layout X
+if_there place k f = there place k (λ bs. f (whole k bs))

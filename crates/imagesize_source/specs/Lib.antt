@@ -1,3 +1,7 @@
+pub mod Agreement
+pub mod Chain
+pub mod Counts
+pub mod Extension
 pub mod Input
 pub mod Layout
 pub mod Numbers

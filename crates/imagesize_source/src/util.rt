@@ -1,6 +1,8 @@
 //! Bytes and numbers of both byte orders.
 ghost use Rattle.std.specs.Prelude.{◌≤◌, take, IfOk};
 ghost use Rattle.imagesize_source.specs.Reading.{bytes_read, number_read, part_read, seen};
+ghost use Rattle.imagesize_source.specs.Layout.{Layout, over, if_there};
+ghost use Rattle.imagesize_source.specs.Layout.Layout.{«done»};
 ghost use Rattle.imagesize_source.specs.State.{Runs};
 
 use crate::source::Source;
@@ -35,6 +37,18 @@ pub fn read_part<S: Source, const N: usize>(source: &mut S, place: u64) -> Image
     let mut room = [0u8; N];
     let count = source.read_at(place, &mut room)?;
     Ok((room, count))
+}
+
+/// The `N` bytes from a place on, or none where the input ends before the last of them.
+#[inline]
+pub fn read_if_there<S: Source, const N: usize>(source: &mut S, place: u64) -> ImageResult<Option<[u8; N]>>
+    ensures { Runs (S.state source.old) (S.state source.new) result (over (S.state source.old).held.input (if_there place N done)) }
+{
+    let mut room = [0u8; N];
+    if source.read_at(place, &mut room)? < N {
+        return Ok(None);
+    }
+    Ok(Some(room))
 }
 
 /// The byte at a place, as a number.
