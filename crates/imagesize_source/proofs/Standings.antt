@@ -12,13 +12,13 @@ kept_if : (b : Bool) (s t : Standing) → cond b (Some s) None ≡ Some t → (b
 kept_if true s t e = (refl, cc)
 kept_if false s t e = absurd cc
 
-in_step_of : (p : Progress) (told : Option Standing) (s : Standing) → stand_of p told ≡ Some s → in_step p s ≡ true
-in_step_of p None s e = absurd cc
-in_step_of p (Some t) s e = let k = kept_if (in_step p t) t s e in ap (in_step p) (sym k.1) ∙ k.0
+in_step_of : (told place : ℕ) (st : Option Standing) (s : Standing) → stand_of told place st ≡ Some s → in_step told place s ≡ true
+in_step_of told place None s e = absurd cc
+in_step_of told place (Some t) s e = let k = kept_if (in_step told place t) t s e in ap (in_step told place) (sym k.1) ∙ k.0
 
 -- the numbers agree with a reader that stands somewhere
-pub in_step_at : (telling : Option Telling) (p : Progress) (s : Standing) → stand telling p ≡ Some s → in_step p s ≡ true
-in_step_at telling p s e = in_step_of p (steady telling p.retries) s e
+pub in_step_at : (telling : Option Telling) (p : Progress) (s : Standing) → stand telling p ≡ Some s → in_step p.told p.place s ≡ true
+in_step_at telling p s e = in_step_of p.told p.place (steady telling p.retries) s e
 
 pub place_at : (telling : Option Telling) (p : Progress) (s : Standing) → stand telling p ≡ Some s → p.place ≡ s.place
 place_at telling p s e = let k = in_step_at telling p s e in grind (arith, nat_tests)

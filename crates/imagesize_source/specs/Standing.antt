@@ -23,17 +23,17 @@ steady (Some t) retries =
     if t.can_fail || nat_le (t.interruptions + retries) 64
     then Some (record { bytes = t.bytes; place = t.place; can_fail = t.can_fail }) else None
 
--- the numbers beside the reader agree with where it stands
-abbrev pub in_step : Progress → Standing → Bool
-in_step p s = nat_lt (length s.bytes) (2 ^ 63) && (p.told == length s.bytes) && (p.place == s.place)
+-- the told length and the place kept beside a reader agree with where it stands
+abbrev pub in_step : ℕ → ℕ → Standing → Bool
+in_step told place s = nat_lt (length s.bytes) (2 ^ 63) && (told == length s.bytes) && (place == s.place)
 
--- where a reader stands, if the numbers beside it agree
-abbrev pub stand_of : Progress → Option Standing → Option Standing
-stand_of p None = None
-stand_of p (Some s) = if in_step p s then Some s else None
+-- where a reader stands, if these numbers agree
+abbrev pub stand_of : ℕ → ℕ → Option Standing → Option Standing
+stand_of told place None = None
+stand_of told place (Some s) = if in_step told place s then Some s else None
 
 abbrev pub stand : Option Telling → Progress → Option Standing
-stand telling p = stand_of p (steady telling p.retries)
+stand telling p = stand_of p.told p.place (steady telling p.retries)
 
 -- what a read did that went on from where a reader stands: as much as it gave was the next of the bytes, at
 -- least one where there is one and there is room; a failure comes only from a reader that can fail

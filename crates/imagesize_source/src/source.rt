@@ -19,6 +19,10 @@ pub trait Source {
     fn told(&self) -> u64
         ensures { result ≡ (state self.now).frame.told };
 
+    /// How many bytes were taken from a reader.
+    fn taken(&self) -> u64
+        ensures { result ≡ (state self.now).taken };
+
     /// Reads what is there from a place on into the room, and answers how many bytes that is.
     fn read_at(&mut self, place: u64, room: &mut [u8]) -> ImageResult<usize>
         ensures bound { IfOk result (λ n. n ≤ length room.new) }

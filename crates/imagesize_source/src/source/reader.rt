@@ -1,9 +1,9 @@
 //! A reader as a source.
 ghost use Rattle.std.specs.Prelude.{◌≡◌, ℕ, max, ◌+◌, ◌-◌, ◌<◌, ◌≤◌, min, take, length, IfOk, IfErr, OnOk, OnErr, IfSome, true};
 ghost use Rattle.imagesize_source.specs.Reading.{is_fault, seen, part_read};
-ghost use Rattle.imagesize_source.specs.ReaderState.{held_at, reader_state, kept_window};
+ghost use Rattle.imagesize_source.specs.ReaderState.{held_at, reader_state, start_state, Opens, kept_window};
 ghost use Rattle.imagesize_source.specs.State.{Runs};
-ghost use Rattle.imagesize_source.specs.Telling.{counted, given};
+ghost use Rattle.imagesize_source.specs.Telling.{counted, given, SeekTells};
 ghost use Rattle.imagesize_source.specs.Standing.{Standing, steady, stand, GivesSome, GivesAll, StopsBy, Keeps, since, GoesTo, GivesFrom};
 
 use super::progress::Progress;
@@ -23,12 +23,41 @@ pub struct ReaderSource<'a, R: Told> {
     present: u64,
 }
 
+impl<'a, R: Told> ReaderSource<'a, R> {
+    /// The reader of an input of this told length. It stands at the end.
+    pub fn new(reader: &'a mut R, told: u64) -> Self
+        ensures same_reference { result.reader.ghost_name ≡ reader.entry.ghost_name }
+        ensures state { reader_state (R.telling result.reader.now) (R.count result.reader.now) result.reader.ghost_name
+            result.progress result.window.items
+            ≡ start_state (R.telling reader.old) (R.count reader.old) reader.entry.ghost_name told }
+    {
+        let progress = Progress {
+            told,
+            budget: told.saturating_add(ALLOWANCE),
+            taken: 0,
+            place: told,
+            retries: 0,
+        };
+        ReaderSource {
+            reader,
+            progress,
+            window: Window::new(),
+            present: told,
+        }
+    }
+}
+
 impl<R: Told> Source for ReaderSource<'_, R> {
     ghost state = { λ s. reader_state (R.telling s.reader.now) (R.count s.reader.now) s.reader.ghost_name s.progress s.window.items };
 
     #[inline]
     fn told(&self) -> u64 {
         self.progress.told
+    }
+
+    #[inline]
+    fn taken(&self) -> u64 {
+        self.progress.taken
     }
 
     fn read_at(&mut self, place: u64, room: &mut [u8]) -> ImageResult<usize> {
@@ -38,6 +67,41 @@ impl<R: Told> Source for ReaderSource<'_, R> {
         let count = read_windowed(self.reader, &mut self.progress, &mut self.window, place, room)?;
         self.present = place.saturating_add(count as u64);
         Ok(count)
+    }
+}
+
+// How many bytes more than the told length a call may take.
+const ALLOWANCE: u64 = 64;
+
+/// What a reader told as a call began.
+#[derive(Clone, Copy, Debug)]
+pub struct Opened {
+    /// Where it stood.
+    pub place: u64,
+    /// The length of its input.
+    pub told: u64,
+}
+
+/// Asks a reader where it stands, and for its length. It stands at the end then.
+pub fn open<R: Told>(reader: &mut R) -> ImageResult<Opened>
+    ensures told { Opens (R.telling reader.old) (R.telling reader.new) result }
+    ensures counts { R.count reader.new ≡ R.count reader.old }
+    ensures fault { IfErr result (λ e. is_fault e ≡ true) }
+{
+    let place = seek(reader, SeekFrom::Current(0))?;
+    let told = seek(reader, SeekFrom::End(0))?;
+    Ok(Opened { place, told })
+}
+
+// A seek, whose error is a fault.
+fn seek<R: Told>(reader: &mut R, to: SeekFrom) -> ImageResult<u64>
+    ensures told { SeekTells (R.telling reader.old) (R.telling reader.new) to result }
+    ensures counts { R.count reader.new ≡ R.count reader.old }
+    ensures fault { IfErr result (λ e. is_fault e ≡ true) }
+{
+    match reader.seek_told(to) {
+        Ok(place) => Ok(place),
+        Err(error) => Err(ImageError::IoError(Reason::Fault(error))),
     }
 }
 
