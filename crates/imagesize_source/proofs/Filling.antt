@@ -51,10 +51,11 @@ part-add d place k n = ap (λ l. take k (drop place d) ++ take n l) (sym (drop-d
 reached_more : (first now next : Option Standing) (room more : List ℕ) (filled n : ℕ) → filled ≤ length room → n ≤ length more → Filled first now filled room → GivesSome now next more (Ok n) → Filled first next (filled + n) (put_mid filled (length room - filled) room more)
 reached_more None now next room more filled n fits enough reached gave = tt
 reached_more (Some s) now next room more filled n fits enough reached gave =
-    let gives : GivesSome (Some (onto s filled)) next more (Ok n) = subst (λ w. GivesSome w next more (Ok n)) reached.0 gave in
-    (gives.0 ∙ ap (λ p. Some (record s { place = p })) (omega arith),
-    take_more room more filled n fits enough ∙ ap (λ l. l ++ take n more) reached.1 ∙ ap (λ l. part s.bytes s.place filled ++ l) gives.1 ∙ part-add s.bytes s.place filled n,
-    omega (arith, gives.2, reached.2))
+    let gives : GivesSome (Some (onto s filled)) next more (Ok n) = subst (λ w. GivesSome w next more (Ok n)) reached.0 gave in (
+      gives.0 ∙ ap (λ p. Some (record s { place = p })) (omega arith),
+      take_more room more filled n fits enough ∙ ap (λ l. l ++ take n more) reached.1 ∙ ap (λ l. part s.bytes s.place filled ++ l) gives.1 ∙ part-add s.bytes s.place filled n,
+      omega (arith, gives.2, reached.2),
+    )
 
 -- one more read
 pub filling_more : {first now next : Option Standing} {count before after : Option ℕ} {old new newer : Progress} {filled : ℕ} {room : List ℕ} (more : List ℕ) (n : ℕ) → Filling first now count before old new filled room → n ≤ length more → length more ≡ length room - filled → GivesSome now next more (Ok n) → newer.taken ≡ new.taken + n → since after newer.taken ≡ since before new.taken → Keeps new newer → Filling first next count after old newer (filled + n) (put_mid filled (length room - filled) room more)
@@ -63,17 +64,19 @@ filling_more {first} {now} {next} {filled = filled} {room = room} more n h enoug
   reached = reached_more first now next room more filled n h.fits enough h.reached gave;
   taken = omega (arith, h.taken);
   counts = same ∙ h.counts;
-  keeps = record { told = keeps.told ∙ h.keeps.told; budget = keeps.budget ∙ h.keeps.budget; taken = omega (arith, keeps.taken, h.keeps.taken) } }
+  keeps = record { told = keeps.told ∙ h.keeps.told; budget = keeps.budget ∙ h.keeps.budget; taken = omega (arith, keeps.taken, h.keeps.taken) };
+}
 
 ends : (first now next : Option Standing) (room more : List ℕ) (filled : ℕ) → filled ≤ length room → Filled first now filled room → filled < length room → length more ≡ length room - filled → GivesSome now next more (Ok 0) → GivesAll first next (put_mid filled (length room - filled) room more) (Ok filled)
 ends None now next room more filled fits reached left long gave = tt
 ends (Some s) now next room more filled fits reached left long gave =
     let all = reached_more (Some s) now next room more filled 0 fits (omega arith) reached gave in
     let at_end : GivesSome (Some (onto s filled)) next more (Ok 0) = subst (λ w. GivesSome w next more (Ok 0)) reached.0 gave in
-    let same : filled + 0 ≡ filled = omega arith in
-    ( all.0 ∙ ap (λ k. Some (onto s k)) same,
+    let same : filled + 0 ≡ filled = omega arith in (
+      all.0 ∙ ap (λ k. Some (onto s k)) same,
       ap (λ k. take k (put_mid filled (length room - filled) room more)) (sym same) ∙ all.1 ∙ ap (part s.bytes s.place) same,
-      rw (length-put room more filled fits long) (grind (arith, at_end.3, reached.2)) )
+      rw (length-put room more filled fits long) (grind (arith, at_end.3, reached.2)),
+    )
 
 -- a read that gave nothing where there was room: the bytes end there
 pub filling_ends : {first now : Option Standing} (next : Option Standing) {count before : Option ℕ} {old new : Progress} {filled : ℕ} {room : List ℕ} (more : List ℕ) (n : ℕ) → Filling first now count before old new filled room → filled < length room → length more ≡ length room - filled → GivesSome now next more (Ok n) → n ≡ 0 → GivesAll first next (put_mid filled (length room - filled) room more) (Ok filled)

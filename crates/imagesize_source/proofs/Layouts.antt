@@ -40,8 +40,8 @@ whole_there {a} {b} d room place k n h long all =
     let same : take n room ≡ room = take_all n room (omega arith) in
     answered (Ok (Some room)) (over d (if_there place k done)) h (append-nil _ ∙ ap (span_of d place) (sym long))
     (λ is.
-        let got : part d place k ≡ room = ap (part d place) (sym long) ∙ part_is is ∙ same in
-        ap (λ bs. Ok (whole k bs)) got ∙ ap Ok (whole-all k room (omega (arith, long))))
+    let got : part d place k ≡ room = ap (part d place) (sym long) ∙ part_is is ∙ same in
+    ap (λ bs. Ok (whole k bs)) got ∙ ap Ok (whole-all k room (omega (arith, long))))
     refl refl tt
 
 -- some are missing
@@ -62,7 +62,8 @@ by_told {X} {a} {b} {r} f h = record {
   answer = λ honest goes_on. subst (λ n. (f n).answer ≡ r) (h.sound honest).0 (h.answer honest goes_on);
   state = λ honest goes_on. subst (λ n. b ≡ past a (f n).marks) (h.sound honest).0 (h.state honest goes_on);
   fault = h.fault;
-  ended = h.ended }
+  ended = h.ended;
+}
 
 -- bytes that came are there
 came : (d bs : List ℕ) (place k : ℕ) → bytes_at d place k ≡ Ok bs → k ≤ length d - place
@@ -89,4 +90,5 @@ beyond {X} {a} {b} r reads place k bs h some far no_fault ended = record {
   answer = λ honest _. absurd (never_beyond place k bs h some far honest);
   state = λ honest _. absurd (never_beyond place k bs h some far honest);
   fault = λ honest faults. absurd cc;
-  ended = ended }
+  ended = ended;
+}

@@ -14,3 +14,4 @@ pub mod Chains
 pub mod Reached
 pub mod ChainLaws
 pub mod Advances
+pub mod Openings

@@ -33,4 +33,5 @@ slice_reads d room old place n short count copied kept = record {
   answer = λ honest goes_on. ap Ok (sym (front_is d room old place n count copied kept));
   state = λ honest goes_on. sym (past-slice d (span_of d place (length room)));
   fault = λ honest faults. absurd cc;
-  ended = tt }
+  ended = tt;
+}

@@ -157,7 +157,8 @@ in_window f st w room old taken place n told counts count copied all kept = reco
   answer = λ honest goes_on. ap Ok (in_window_answer st w room old place n count copied all kept honest);
   state = λ honest goes_on. in_window_state f st w taken place (length room) counts (omega arith) honest;
   fault = λ honest faults. absurd cc;
-  ended = tt }
+  ended = tt;
+}
 
 -- a reading that goes on behind the window: its bytes
 behind_answer : (s : Standing) (st' : Option Standing) (w room old more : List ℕ) (place now copied n : ℕ) → copied ≡ min (length old) (length w - place) → room ≡ part w place (length old) ++ drop copied old → length room ≡ length old → copied < length room → GivesFrom (Some s) st' (place + copied) now more (Ok n) → n ≤ length more → length more ≡ length room - copied → part (overlaid w s.bytes) place (length room) ≡ take (copied + n) (put_mid copied (length room - copied) room more)
@@ -206,11 +207,13 @@ grown_if w d more place k copied n true at small fits count short gave n_fits =
     record {
       fits = omega (arith, long, room, fits);
       same = ap (λ v. overlaid v d) bytes ∙ overlaid-kept w d (32 - length w) n room;
-      front = long ∙ grows_to (length w) place copied n here small; }
+      front = long ∙ grows_to (length w) place copied n here small;
+    }
 grown_if w d more place k copied n false at small fits count short gave n_fits = record {
   fits = fits;
   same = refl;
-  front = stays_at (length w) place k copied n at count short; }
+  front = stays_at (length w) place k copied n at count short;
+}
 
 -- states that agree in each part
 together : (f f' : Frame) (h h' : Held) (m m' t t' : ℕ) → f ≡ f' → h ≡ h' → m ≡ m' → t ≡ t' → ◌≡◌ {A = State} (record { frame = f; held = h; front = m; taken = t; recorded = None }) (record { frame = f'; held = h'; front = m'; taken = t'; recorded = None })
@@ -298,7 +301,8 @@ behind_window {f} {f'} {st} {st'} {w} {w'} {room} {old} {more} {taken} {taken'} 
       answer = λ honest goes_on. ap Ok (behind_runs_answer f f' st st' w w' room old more taken taken' place now copied n h honest);
       state = λ honest goes_on. behind_runs_state f f' st st' w w' room old more taken taken' place now copied n h honest;
       fault = λ honest faults. absurd cc;
-      ended = tt })
+      ended = tt;
+    })
 
 fails_claim : (st st' : Option Standing) (w more : List ℕ) (place now : ℕ) (e : ImageError) → GivesFrom st st' place now more (Err e) → (held_at st w).honest ≡ true → is_fault e ≡ true → (held_at st w).can_fail ≡ true
 fails_claim None st' w more place now e gives honest faults = absurd cc
@@ -329,7 +333,8 @@ halted {f} {f'} {st} {st'} {w} {w'} {room} {old} {more} {taken} {taken'} {place}
   answer = λ honest goes_on. absurd cc;
   state = λ honest goes_on. absurd cc;
   fault = λ honest faults. fails_claim st st' w more (place + copied) now e h.gives honest faults;
-  ended = h.ended }
+  ended = h.ended;
+}
 
 pub behind_stopped : {f f' : Frame} {st st' : Option Standing} {w w' room old more : List ℕ} {taken taken' place now copied : ℕ} {e : ImageError} (value : ℕ → List ℕ) (r : Result ℕ ImageError) → Halted f f' st st' w w' room old more taken taken' place now copied e → r ≡ Err e → Runs (state_at f st w taken) (state_at f' st' w' taken') (seen value r) (part_read (held_at st w).input place (length (put_mid copied (length room - copied) room more)))
 behind_stopped {f} {f'} {st} {st'} {w} {w'} {room} {old} {more} {taken} {taken'} {place} {now} {copied} {e} value r h is =
@@ -360,7 +365,8 @@ paid_by f taken (Some n) counts named = (counts, named.0, named.1)
 pub ended_by : (count : Option ℕ) (home : ℕ) (p : Progress) (st : Option Standing) (w : List ℕ) (e : ImageError) → StopsBy p e → EndedBy (state_at (reader_frame count home p) st w p.taken) e
 ended_by count home p st w e stops = record {
   budget = paid_by (reader_frame count home p) p.taken (spent e) refl stops.budget;
-  memory = λ refused. absurd cc }
+  memory = λ refused. absurd cc;
+}
 
 no_part : (d : List ℕ) (place k : ℕ) → length d < place → part d place k ≡ []
 unfolding part
@@ -391,4 +397,5 @@ behind_end {f} st w taken place k told far = record {
   answer = λ honest goes_on. ap Ok (end_answer f st w place k told far honest);
   state = λ honest goes_on. end_state f st w taken place k told far honest;
   fault = λ honest faults. absurd cc;
-  ended = tt }
+  ended = tt;
+}

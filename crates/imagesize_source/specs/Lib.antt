@@ -1,4 +1,5 @@
 pub mod Agreement
+pub mod Answers
 pub mod Chain
 pub mod Counts
 pub mod Extension

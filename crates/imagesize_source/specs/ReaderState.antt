@@ -25,12 +25,23 @@ held_at (Some s) window =
 -- what never changes of a reader as a source, with the name of its borrow
 abbrev pub reader_frame : Option ℕ → ℕ → Progress → Frame
 reader_frame count home p = record {
-  told = p.told; budget = p.budget; counts = true; records = false; home = home; since = since count p.taken }
+  told = p.told;
+  budget = p.budget;
+  counts = true;
+  records = false;
+  home = home;
+  since = since count p.taken;
+}
 
 -- a reader as a source
 abbrev pub state_at : Frame → Option Standing → List ℕ → ℕ → State
 state_at frame standing window taken = record {
-  frame = frame; held = held_at standing window; front = length window; taken = taken; recorded = None }
+  frame = frame;
+  held = held_at standing window;
+  front = length window;
+  taken = taken;
+  recorded = None;
+}
 
 abbrev pub reader_state : Option Telling → Option ℕ → ℕ → Progress → List ℕ → State
 reader_state telling count home p window = state_at (reader_frame count home p) (stand telling p) window p.taken

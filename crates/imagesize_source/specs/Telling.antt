@@ -1,5 +1,5 @@
 -- What a reader may tell of itself, and what its calls then owe.
-use Rattle.std.specs.Prelude.{◌≡◌, ℕ, ℤ, pos, negsuc, zero, suc, ◌+◌, ◌-◌, ◌<◌, ◌≤◌, Bool, true, false, List, length, take, nat_le, if◌then◌else◌, Option, None, Some, Result, Ok, Err, IfSome, IsSome, IsSomeAnd, option_map}
+use Rattle.std.specs.Prelude.{◌≡◌, ℕ, ℤ, pos, negsuc, zero, suc, ◌+◌, ◌-◌, ◌^◌, ◌<◌, ◌≤◌, Bool, true, false, List, length, take, nat_le, if◌then◌else◌, Option, None, Some, Result, Ok, Err, IfSome, IsSome, IsSomeAnd, option_map}
 use Rattle.std.specs.declared.io.traits.SeekFrom.{SeekFrom}
 use Rattle.std.specs.declared.io.traits.SeekFrom.TheVariants.{Start, End, Current}
 use Rattle.imagesize_source.specs.declared.told.Stop.{Stop}
@@ -73,3 +73,9 @@ given (Err _) = 0
 -- a named count rises by the bytes that a read gave
 abbrev pub counted : {E : Type 0} → Option ℕ → Result ℕ E → Option ℕ
 counted count r = option_map (λ c. c + given r) count
+
+-- An honest reader: its bytes are fewer than 2^63, and where none of its calls fails, at most 64 of its reads
+-- are interrupted.
+pub record IsHonest (t : Telling) : Type 0 where
+  pub short : length t.bytes < 2 ^ 63
+  pub patient : t.can_fail ≡ false → t.interruptions ≤ 64

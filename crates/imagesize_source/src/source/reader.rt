@@ -6,11 +6,10 @@ ghost use Rattle.imagesize_source.specs.State.{Runs};
 ghost use Rattle.imagesize_source.specs.Telling.{counted, given, SeekTells};
 ghost use Rattle.imagesize_source.specs.Standing.{Standing, steady, stand, GivesSome, GivesAll, StopsBy, Keeps, since, GoesTo, GivesFrom};
 
+use super::Source;
 use super::progress::Progress;
 use super::window::{Window, copy_kept, keep};
-use super::Source;
 use crate::{ImageError, ImageResult, Reason, Stop, Told};
-
 use std::io::SeekFrom;
 
 /// A reader that is read by place. It takes bytes within a budget, and keeps the first 32 of the input.
@@ -64,7 +63,13 @@ impl<R: Told> Source for ReaderSource<'_, R> {
         if place != self.present && place > self.progress.told {
             return Ok(0);
         }
-        let count = read_windowed(self.reader, &mut self.progress, &mut self.window, place, room)?;
+        let count = read_windowed(
+            self.reader,
+            &mut self.progress,
+            &mut self.window,
+            place,
+            room,
+        )?;
         self.present = place.saturating_add(count as u64);
         Ok(count)
     }
@@ -130,7 +135,11 @@ fn read_retrying<R: Told>(reader: &mut R, retries: &mut u64, room: &mut [u8]) ->
 }
 
 // One read of at most what the budget leaves. It is counted, and moves the place on.
-fn read_some<R: Told>(reader: &mut R, progress: &mut Progress, room: &mut [u8]) -> ImageResult<usize>
+fn read_some<R: Told>(
+    reader: &mut R,
+    progress: &mut Progress,
+    room: &mut [u8],
+) -> ImageResult<usize>
     ensures bound { IfOk result (λ n. n ≤ length room.new) }
     ensures stand { 0 < length room.new → GivesSome (stand (R.telling reader.old) progress.old)
         (stand (R.telling reader.new) progress.new) room.new result }
@@ -199,7 +208,12 @@ fn go_to<R: Told>(reader: &mut R, progress: &mut Progress, place: u64) -> ImageR
 
 // Reads from a place on until the room is full or the bytes end.
 #[tactic(auto, using(crate::proofs::Standings::not_reached, crate::proofs::Standings::from_there, crate::proofs::Standings::fails_there, crate::proofs::Standings::within_reached))]
-fn read_from<R: Told>(reader: &mut R, progress: &mut Progress, place: u64, room: &mut [u8]) -> ImageResult<usize>
+fn read_from<R: Told>(
+    reader: &mut R,
+    progress: &mut Progress,
+    place: u64,
+    room: &mut [u8],
+) -> ImageResult<usize>
     ensures bound { IfOk result (λ n. n ≤ length room.new) }
     ensures stand { GivesFrom (stand (R.telling reader.old) progress.old)
         (stand (R.telling reader.new) progress.new) place progress.new.place room.new result }

@@ -25,7 +25,8 @@ returns-in_err-count-clause-runs g c = λ home.
       paid = read.keeps.taken;
       within = read.within;
       stops = read.stops.stops;
-      ended = ended_by (g.R.Told.count c.read_behind.new.reader) home c.read_behind.new.progress _ _ _ read.stops }) (search rules)
+      ended = ended_by (g.R.Told.count c.read_behind.new.reader) home c.read_behind.new.progress _ _ _ read.stops;
+    }) (search rules)
 
 pub returns-clause-runs : goal.returns-clause-runs
 returns-clause-runs g c = λ home.
@@ -46,4 +47,5 @@ returns-clause-runs g c = λ home.
       long = search rules;
       took = read.taken;
       window = read.window;
-      within = read.within })
+      within = read.within;
+    })
