@@ -1,0 +1,6 @@
+//! Containers, which hold pixels that are stored in one of several ways.
+
+pub mod atc;
+pub mod dds;
+pub mod pkm;
+pub mod pvrtc;
