@@ -21,14 +21,14 @@ heif_brands =
   ∷ (codes "avif", Av1) ∷ (codes "avio", Av1) ∷ (codes "avis", Av1) ∷ (codes "MA1A", Av1) ∷ (codes "MA1B", Av1)
   ∷ (codes "jpeg", Jpeg) ∷ (codes "jpgs", Jpeg) ∷ []
 
-abbrev pub brand_compression : List ℕ → Compression
+unfoldable pub brand_compression : List ℕ → Compression
 brand_compression brand = look_up_text heif_brands Unknown brand
 
 -- the brands that say nothing of how pixels are stored
 abbrev pub general_brands : List (List ℕ)
 general_brands = codes "mif1" ∷ codes "msf1" ∷ codes "mif2" ∷ codes "miaf" ∷ []
 
-abbrev pub is_general : List ℕ → Bool
+unfoldable pub is_general : List ℕ → Bool
 is_general brand = list_any (λ general. bytes_eq brand general) general_brands
 
 -- behind the major brand and its version: the first compatible brand, or where that is general the second

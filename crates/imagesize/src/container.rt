@@ -2,5 +2,6 @@
 
 pub mod atc;
 pub mod dds;
+pub mod heif;
 pub mod pkm;
 pub mod pvrtc;

@@ -15,6 +15,7 @@ pub mod ktx2;
 pub mod pnm;
 pub mod psd;
 pub mod qoi;
+pub mod tga;
 pub mod tiff;
 pub mod vtf;
 pub mod webp;

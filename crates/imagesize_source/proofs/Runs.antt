@@ -88,6 +88,10 @@ unfolding past
 past-past a [] t = refl
 past-past a (x ∷ s) t = past-past (step a x) s t
 
+pub past-none : (a : State) → past a [] ≡ a
+unfolding past
+past-none a = refl
+
 pub total-append : (s t : List Span) → total (s ++ t) ≡ total s + total t
 total-append [] t = sym (zero-add (total t))
 total-append (x ∷ s) t = ap (λ n. x.len + n) (total-append s t) ∙ sym (add_assoc x.len (total s) (total t))
@@ -97,4 +101,4 @@ unfolding past
 past-held a [] = refl
 past-held a (x ∷ s) = past-held (step a x) s
 
-pub ruleset steps = (past-past, total-append, append-nil, past-held)
+pub ruleset steps = (past-past, past-none, total-append, append-nil, past-held)

@@ -1,7 +1,7 @@
 //! A source: the bytes of an input, read by place.
 ghost use Rattle.std.specs.Prelude.{◌≡◌, ◌<◌, ◌≤◌, max, take, length, IfOk};
 ghost use Rattle.imagesize_source.specs.Reading.{seen, part_read};
-ghost use Rattle.imagesize_source.specs.State.{State, Runs};
+ghost use Rattle.imagesize_source.specs.State.{State, Runs, Sound};
 
 use crate::ImageResult;
 
@@ -14,7 +14,8 @@ pub trait Source {
 
     /// The length of the input, as it was told.
     fn told(&self) -> u64
-        ensures { result ≡ (state self.now).frame.told };
+        ensures told { result ≡ (state self.now).frame.told }
+        ensures sound { Sound (state self.now) };
 
     /// Reads what is there from a place on into the room, and answers how many bytes that is.
     fn read_at(&mut self, place: u64, room: &mut [u8]) -> ImageResult<usize>

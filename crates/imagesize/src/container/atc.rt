@@ -49,6 +49,7 @@ pub fn detect_compression<S: Source>(source: &mut S) -> ImageResult<AtcCompressi
 }
 
 /// The data type of a PKM header.
+#[tactic(auto, using(crate::proofs::Bytes::last_two))]
 fn data_type(header: &[u8; 8]) -> u16
     ensures { result ≡ number endian.Big (drop 6 header.now) }
 {

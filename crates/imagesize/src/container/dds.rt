@@ -39,7 +39,7 @@ pub fn detect_compression<S: Source>(source: &mut S) -> ImageResult<DdsCompressi
 }
 
 /// How the pixels are stored, by the format of the extended header where it is there.
-#[tactic(auto, using(imagesize_source::proofs::Runs::steps))]
+#[tactic(auto, using(imagesize_source::proofs::Runs::steps, imagesize_source::proofs::Numbers::little_4))]
 fn extended_compression<S: Source>(source: &mut S) -> ImageResult<DdsCompression>
     ensures { Runs (S.state source.old) (S.state source.new) result (over (S.state source.old).held.input (if_there 128 4 (λ bs. done (dds_number_of dxgi_formats bs)))) }
 {
@@ -50,7 +50,7 @@ fn extended_compression<S: Source>(source: &mut S) -> ImageResult<DdsCompression
 }
 
 /// How the pixels are stored, by the bits of a pixel where they are there.
-#[tactic(auto, using(imagesize_source::proofs::Runs::steps))]
+#[tactic(auto, using(imagesize_source::proofs::Runs::steps, imagesize_source::proofs::Numbers::little_4))]
 fn plain_compression<S: Source>(source: &mut S) -> ImageResult<DdsCompression>
     ensures { Runs (S.state source.old) (S.state source.new) result (over (S.state source.old).held.input (if_there 88 4 (λ bs. done (dds_number_of dds_bit_counts bs)))) }
 {

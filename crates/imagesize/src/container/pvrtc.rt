@@ -43,7 +43,7 @@ pub fn detect_compression<S: Source>(source: &mut S) -> ImageResult<PvrtcCompres
 }
 
 /// How the pixels are stored, by the format where it is there.
-#[tactic(auto, using(imagesize_source::proofs::Runs::steps))]
+#[tactic(auto, using(imagesize_source::proofs::Runs::steps, imagesize_source::proofs::Numbers::little_8))]
 fn format<S: Source>(source: &mut S) -> ImageResult<PvrtcCompression>
     ensures { Runs (S.state source.old) (S.state source.new) result (over (S.state source.old).held.input (if_there 8 8 (λ bs. done (pvrtc_format_of bs)))) }
 {
