@@ -24,7 +24,7 @@ atc_compression_of None = Unknown
 atc_compression_of (Some bs) = if is_pkm bs then look_up atc_data_types Unknown (number Big (drop 6 bs)) else Unknown
 
 -- the data type, where it is there and of a PKM file
-abbrev pub atc_compression : Layout AtcCompression
+unfoldable pub atc_compression : Layout AtcCompression
 atc_compression = if_there 0 8 (λ bs. done (atc_compression_of bs))
 
 -- the height, then the width of a DDS header

@@ -43,7 +43,7 @@ dds_compression_by (Some code) =
   else if bytes_eq code (0 ∷ 0 ∷ 0 ∷ 0 ∷ []) then if_there 88 4 (λ bs. done (dds_number_of dds_bit_counts bs))
   else done (look_up_text dds_codes Unknown code)
 
-abbrev pub dds_compression : Layout DdsCompression
+unfoldable pub dds_compression : Layout DdsCompression
 dds_compression = if_there 84 4 dds_compression_by
 
 -- the height, then the width

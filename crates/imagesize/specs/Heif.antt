@@ -1,8 +1,8 @@
 -- HEIF, and AVIF and HEIC in it.
-use Rattle.std.specs.Prelude.{ℕ, ◌+◌, Bool, List, [], ◌∷◌, codes, if◌then◌else◌, drop, take, Option, None, Some}
+use Rattle.std.specs.Prelude.{ℕ, ◌+◌, Bool, List, [], ◌∷◌, codes, if◌then◌else◌, Option, None, Some}
 use Rattle.std.specs.List.{list_any}
 use Rattle.std.specs.Str.{bytes_eq}
-use Rattle.imagesize.specs.Head.{stands_at}
+use Rattle.imagesize.specs.Head.{stands_at, four_at}
 use Rattle.imagesize.specs.Table.{look_up_text}
 use Rattle.imagesize.specs.declared.types.Compression.{Compression}
 use Rattle.imagesize.specs.declared.types.Compression.TheVariants.{Av1, Hevc, Jpeg, Unknown}
@@ -34,10 +34,10 @@ is_general brand = list_any (λ general. bytes_eq brand general) general_brands
 -- behind the major brand and its version: the first compatible brand, or where that is general the second
 abbrev pub compatible_compression : Option (List ℕ) → Compression
 compatible_compression None = Unknown
-compatible_compression (Some more) = if is_general (take 4 (drop 4 more)) then brand_compression (drop 8 more) else brand_compression (take 4 (drop 4 more))
+compatible_compression (Some more) = if is_general (four_at 4 more) then brand_compression (four_at 8 more) else brand_compression (four_at 4 more)
 
 -- the major brand, or where that is general the compatible ones behind these twelve bytes
-abbrev pub heif_compression : ℕ → List ℕ → Layout Compression
+unfoldable pub heif_compression : ℕ → List ℕ → Layout Compression
 heif_compression place head =
-  if is_general (drop 8 head) then if_there (place + 12) 12 (λ more. done (compatible_compression more))
-  else done (brand_compression (drop 8 head))
+  if is_general (four_at 8 head) then if_there (place + 12) 12 (λ more. done (compatible_compression more))
+  else done (brand_compression (four_at 8 head))

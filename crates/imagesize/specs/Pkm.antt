@@ -29,7 +29,7 @@ pkm_compression_of None = Unknown
 pkm_compression_of (Some bs) = look_up pkm_data_types Unknown (number Big bs)
 
 -- the data type, where it is there
-abbrev pub pkm_compression : Layout PkmCompression
+unfoldable pub pkm_compression : Layout PkmCompression
 pkm_compression = if_there 6 2 (λ bs. done (pkm_compression_of bs))
 
 -- the width and the height with the border, which are not used, and those without

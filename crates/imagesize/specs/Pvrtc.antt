@@ -33,7 +33,7 @@ abbrev pub pvrtc_compression_by : Option (List ℕ) → Layout PvrtcCompression
 pvrtc_compression_by None = done Unknown
 pvrtc_compression_by (Some tag) = if is_pvr3 tag then if_there 8 8 (λ bs. done (pvrtc_format_of bs)) else done Unknown
 
-abbrev pub pvrtc_compression : Layout PvrtcCompression
+unfoldable pub pvrtc_compression : Layout PvrtcCompression
 pvrtc_compression = if_there 0 4 pvrtc_compression_by
 
 -- the height, then the width: of the newer header, and of the older

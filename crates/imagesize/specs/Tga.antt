@@ -45,7 +45,7 @@ tga_by_header head =
     else done false))
 
 -- whether an input of n bytes with this head is a TGA
-abbrev pub is_tga : ℕ → List ℕ → Layout Bool
+unfoldable pub is_tga : ℕ → List ℕ → Layout Bool
 is_tga n head =
   if may_be_tga head && nat_le 18 n
   then bytes (n - 18) 18 (λ footer.

@@ -88,3 +88,5 @@ within_64_bits d place k short false beyond = none_there d (min place (2 ^ 64 - 
 
 pub saturated : {a b : State} {r : Result (Option (List ℕ)) ImageError} (place k : ℕ) → Runs a b r (over a.held.input (if_there (min place (2 ^ 64 - 1)) k done)) → Runs a b r (over a.held.input (if_there place k done))
 saturated {a} place k h = runs_as (over a.held.input (if_there place k done)) h (λ honest. within_64_bits a.held.input place k (h.sound honest).1 (leb place (2 ^ 64 - 1)) refl)
+
+pub ruleset binding = (over-bind)

@@ -35,7 +35,7 @@ fn is_atc(header: &[u8]) -> bool
 }
 
 /// How the pixels are stored, by the data type where it is there.
-#[tactic(auto, using(imagesize_source::proofs::Runs::steps))]
+#[tactic(auto, using(imagesize_source::proofs::Runs::steps), unfolding(crate::specs::Atc::atc_compression))]
 pub fn detect_compression<S: Source>(source: &mut S) -> ImageResult<AtcCompression>
     ensures { Runs (S.state source.old) (S.state source.new) result (over (S.state source.old).held.input atc_compression) }
 {

@@ -22,7 +22,7 @@ pub fn matches(head: &[u8; 12]) -> bool
 }
 
 /// How the pixels are stored, by the four-character code where it is there.
-#[tactic(auto, using(imagesize_source::proofs::Runs::steps))]
+#[tactic(auto, using(imagesize_source::proofs::Runs::steps), unfolding(crate::specs::Dds::dds_compression))]
 pub fn detect_compression<S: Source>(source: &mut S) -> ImageResult<DdsCompression>
     ensures { Runs (S.state source.old) (S.state source.new) result (over (S.state source.old).held.input dds_compression) }
 {

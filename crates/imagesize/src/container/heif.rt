@@ -20,7 +20,7 @@ pub fn matches(head: &[u8; 12]) -> bool
 }
 
 /// How the pixels are stored, by the major brand, or by the compatible brands where that is general.
-#[tactic(auto, using(imagesize_source::proofs::Runs::steps))]
+#[tactic(auto, using(imagesize_source::proofs::Runs::steps), unfolding(crate::specs::Heif::heif_compression))]
 pub fn detect_compression<S: Source>(source: &mut S, place: u64, head: &[u8; 12]) -> ImageResult<Compression>
     requires { Sound (S.state source.old) }
     ensures { Runs (S.state source.old) (S.state source.new) result (over (S.state source.old).held.input (heif_compression place head.now)) }

@@ -36,7 +36,7 @@ pub fn is_pkm(header: &[u8]) -> bool
 }
 
 /// How the pixels are stored, by the data type where it is there.
-#[tactic(auto, using(imagesize_source::proofs::Runs::steps, imagesize_source::proofs::Numbers::big_2))]
+#[tactic(auto, using(imagesize_source::proofs::Runs::steps, imagesize_source::proofs::Numbers::big_2), unfolding(crate::specs::Pkm::pkm_compression))]
 pub fn detect_compression<S: Source>(source: &mut S) -> ImageResult<PkmCompression>
     ensures { Runs (S.state source.old) (S.state source.new) result (over (S.state source.old).held.input pkm_compression) }
 {

@@ -20,7 +20,7 @@ pub fn matches<S: Source>(source: &mut S, head: &[u8; 12]) -> ImageResult<bool>
 }
 
 /// Whether an input of this length, with this head, is a TGA.
-#[tactic(auto, using(imagesize_source::proofs::Runs::steps))]
+#[tactic(auto, using(imagesize_source::proofs::Runs::steps), unfolding(crate::specs::Tga::is_tga))]
 fn matches_by_length<S: Source>(source: &mut S, head: &[u8; 12], length: u64) -> ImageResult<bool>
     requires { Sound (S.state source.old) }
     ensures { Runs (S.state source.old) (S.state source.new) result (over (S.state source.old).held.input (is_tga length head.now)) }
