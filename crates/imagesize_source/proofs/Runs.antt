@@ -90,6 +90,10 @@ unfolding past
 past-past a [] t = refl
 past-past a (x ∷ s) t = past-past (step a x) s t
 
+pub past-none : (a : State) → past a [] ≡ a
+unfolding past
+past-none a = refl
+
 pub total-append : (s t : List Span) → total (s ++ t) ≡ total s + total t
 total-append [] t = sym (zero-add (total t))
 total-append (x ∷ s) t = ap (λ n. x.len + n) (total-append s t) ∙ sym (add_assoc x.len (total s) (total t))
@@ -99,7 +103,7 @@ unfolding past
 past-held a [] = refl
 past-held a (x ∷ s) = past-held (step a x) s
 
-pub ruleset steps = (past-past, total-append, append-nil, past-held)
+pub ruleset steps = (past-past, past-none, total-append, append-nil, past-held)
 
 past_honest : {X : Type 0} {a m : State} {x : X} {r : Reads X} → Runs a m (Ok x) r → a.held.honest ≡ true → m.held ≡ a.held
 past_honest {X} {a} {m} {x} {r} h honest = ap (λ s. s.held) (h.state honest refl) ∙ past-held a r.marks
