@@ -20,6 +20,7 @@ pub mod Meaning
 pub mod Order
 pub mod Pkm
 pub mod Pnm
+pub mod Probed
 pub mod Psd
 pub mod Pvrtc
 pub mod Qoi
