@@ -11,3 +11,4 @@ pub mod Chains
 pub mod Reached
 pub mod ChainLaws
 pub mod Advances
+pub mod Unrolled

@@ -44,6 +44,7 @@ module _ {X : Type 0} {a b : State} {whole rest : Reads X} (h : Reached a b whol
   still : a.held.honest ≡ true → b.held ≡ a.held
   still honest = ap (λ s. s.held) (h.state honest) ∙ past-held a h.made
 
+  -- and the same bytes
   pub same_input : a.held.honest ≡ true → b.held.input ≡ a.held.input
   same_input honest = ap (λ x. x.input) (still honest)
 
