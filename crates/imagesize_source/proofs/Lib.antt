@@ -12,3 +12,6 @@ pub mod Reached
 pub mod ChainLaws
 pub mod Advances
 pub mod Unrolled
+pub mod Tests
+pub mod Beyond
+pub mod Walks
