@@ -9,3 +9,7 @@ begins text bytes = bytes_eq text (take (length text) bytes)
 -- this text stands in the bytes, from a place on
 abbrev pub stands_at : ℕ → List ℕ → List ℕ → Bool
 stands_at place text bytes = begins text (drop place bytes)
+
+-- the four bytes from a place on
+abbrev pub four_at : ℕ → List ℕ → List ℕ
+four_at place bytes = take 4 (drop place bytes)

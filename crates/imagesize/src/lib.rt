@@ -1,6 +1,9 @@
 //! The type of an image and its size in pixels, by the few bytes that tell them.
 #![tactic(auto)]
 
+mod container;
+mod formats;
+mod laws;
 mod queries;
 mod types;
 

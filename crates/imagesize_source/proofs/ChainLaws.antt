@@ -31,7 +31,8 @@ module _ {C X : Type 0} (c : Chain C X) (d : List ℕ) where
   pub walked_step : {marks : List Span} (t : Along C) (v : C) (place : ℕ) → Advances c d → Walked c d t marks → (next_record c d t).answer ≡ Ok (Next v place) → Walked c d (record { held = t.held ++ v ∷ []; place = place }) (marks ++ (next_record c d t).marks)
   walked_step {marks} t v place adv w is = record {
     rest = w.rest ∙ ap (behind marks) (chain_next c d t v place adv is) ∙ behind-behind marks (next_record c d t).marks (chain_from c d (record { held = t.held ++ v ∷ []; place = place }));
-    count = let one = w.count in let two = records_next c d t v place adv is in let three = length_push t.held v in omega arith }
+    count = let one = w.count in let two = records_next c d t v place adv is in let three = length_push t.held v in omega arith;
+  }
 
   -- it ends by one that decides
   pub walked_stop : {marks : List Span} (t : Along C) (x : X) → Walked c d t marks → (next_record c d t).answer ≡ Ok (Decided x) → chain_at c d ≡ record { answer = Ok x; marks = marks ++ (next_record c d t).marks }
@@ -56,6 +57,7 @@ module _ {C X : Type 0} (c : Chain C X) (d : List ℕ) where
     by_record t (Ok (Decided x)) is later = last t (Ok x) (ap verdict is)
     by_record t (Ok (Next v place)) is later = on t v place is (later (record { held = t.held ++ v ∷ []; place = place }) (adv t v place is).0 (adv t v place is).1)
     by_record t (Err e) is later = last t (Err e) (ap verdict is)
+
     by_fuel : (k : ℕ) (t : Along C) → length d ≤ t.place + k → P t
     by_fuel zero t h = by_record t (next_record c d t).answer refl (λ u up below. absurd (omega arith))
     by_fuel (suc k) t h = by_record t (next_record c d t).answer refl (λ u up below. by_fuel k u (omega arith))
@@ -69,19 +71,21 @@ module _ {C X : Type 0} (c : Chain C X) (d e : List ℕ) (adv : Advances c d) (a
   pub chain_local_from : (t : Along C) → Agrees d e (chain_from c d t).marks → (chain_from c e t ≡ chain_from c d t) × (records_from c e t ≡ records_from c d t)
   chain_local_from = chain_induction c d (λ t. Agrees d e (chain_from c d t).marks → (chain_from c e t ≡ chain_from c d t) × (records_from c e t ≡ records_from c d t)) adv
       (λ t v place is later a.
-          let u : Along C = record { held = t.held ++ v ∷ []; place = place } in
-          let all : Agrees d e ((next_record c d t).marks ++ (chain_from c d u).marks) = subst (λ w. Agrees d e w.marks) (chain_next c d t v place adv is) a in
-          let here : next_record c e t ≡ next_record c d t = same_record t (agrees-left (next_record c d t).marks (chain_from c d u).marks all) in
-          let is_e : (next_record c e t).answer ≡ Ok (Next v place) = ap (λ w. w.answer) here ∙ is in
-          let rest = later (agrees-right (next_record c d t).marks (chain_from c d u).marks all) in
-          (chain_next c e t v place adv_e is_e ∙ ap (λ w. behind w.marks (chain_from c e u)) here ∙ ap (behind (next_record c d t).marks) rest.0 ∙ sym (chain_next c d t v place adv is),
-           records_next c e t v place adv_e is_e ∙ ap (λ n. n + 1) rest.1 ∙ sym (records_next c d t v place adv is)))
+      let u : Along C = record { held = t.held ++ v ∷ []; place = place } in
+      let all : Agrees d e ((next_record c d t).marks ++ (chain_from c d u).marks) = subst (λ w. Agrees d e w.marks) (chain_next c d t v place adv is) a in
+      let here : next_record c e t ≡ next_record c d t = same_record t (agrees-left (next_record c d t).marks (chain_from c d u).marks all) in
+      let is_e : (next_record c e t).answer ≡ Ok (Next v place) = ap (λ w. w.answer) here ∙ is in
+      let rest = later (agrees-right (next_record c d t).marks (chain_from c d u).marks all) in (
+        chain_next c e t v place adv_e is_e ∙ ap (λ w. behind w.marks (chain_from c e u)) here ∙ ap (behind (next_record c d t).marks) rest.0 ∙ sym (chain_next c d t v place adv is),
+        records_next c e t v place adv_e is_e ∙ ap (λ n. n + 1) rest.1 ∙ sym (records_next c d t v place adv is),
+      ))
       (λ t r is a.
-          let all : Agrees d e (next_record c d t).marks = subst (λ w. Agrees d e w.marks) (chain_stop c d t r is) a in
-          let here : next_record c e t ≡ next_record c d t = same_record t all in
-          let is_e : verdict (next_record c e t).answer ≡ Some r = ap (λ w. verdict w.answer) here ∙ is in
-          (chain_stop c e t r is_e ∙ ap (λ w. record { answer = r; marks = w.marks }) here ∙ sym (chain_stop c d t r is),
-           records_stop c e t r is_e ∙ sym (records_stop c d t r is)))
+      let all : Agrees d e (next_record c d t).marks = subst (λ w. Agrees d e w.marks) (chain_stop c d t r is) a in
+      let here : next_record c e t ≡ next_record c d t = same_record t all in
+      let is_e : verdict (next_record c e t).answer ≡ Some r = ap (λ w. verdict w.answer) here ∙ is in (
+        chain_stop c e t r is_e ∙ ap (λ w. record { answer = r; marks = w.marks }) here ∙ sym (chain_stop c d t r is),
+        records_stop c e t r is_e ∙ sym (records_stop c d t r is),
+      ))
 
   -- the whole chain
   pub chain_local : Agrees d e (chain_at c d).marks → (chain_at c e ≡ chain_at c d) × (records c e ≡ records c d)
@@ -97,16 +101,16 @@ module _ {C X : Type 0} (c : Chain C X) (d : List ℕ) (adv : Advances c d) wher
   pub chain_cost_from : (k : ℕ) → ((t : Along C) → total (next_record c d t).marks ≤ k) → (t : Along C) → total (chain_from c d t).marks ≤ k * records_from c d t
   chain_cost_from k each = chain_induction c d (λ t. total (chain_from c d t).marks ≤ k * records_from c d t) adv
       (λ t v place is later.
-          let u : Along C = record { held = t.held ++ v ∷ []; place = place } in
-          let all : total (chain_from c d t).marks ≡ total (next_record c d t).marks + total (chain_from c d u).marks = ap (λ w. total w.marks) (chain_next c d t v place adv is) ∙ total-append (next_record c d t).marks (chain_from c d u).marks in
-          let here = each t in
-          let count : k * records_from c d t ≡ k * records_from c d u + k * 1 = ap (λ n. k * n) (records_next c d t v place adv is) ∙ mul-add k (records_from c d u) 1 in
-          omega arith)
+      let u : Along C = record { held = t.held ++ v ∷ []; place = place } in
+      let all : total (chain_from c d t).marks ≡ total (next_record c d t).marks + total (chain_from c d u).marks = ap (λ w. total w.marks) (chain_next c d t v place adv is) ∙ total-append (next_record c d t).marks (chain_from c d u).marks in
+      let here = each t in
+      let count : k * records_from c d t ≡ k * records_from c d u + k * 1 = ap (λ n. k * n) (records_next c d t v place adv is) ∙ mul-add k (records_from c d u) 1 in
+      omega arith)
       (λ t r is.
-          let all : total (chain_from c d t).marks ≡ total (next_record c d t).marks = ap (λ w. total w.marks) (chain_stop c d t r is) in
-          let here = each t in
-          let count : k * records_from c d t ≡ k * 1 = ap (λ n. k * n) (records_stop c d t r is) in
-          omega arith)
+      let all : total (chain_from c d t).marks ≡ total (next_record c d t).marks = ap (λ w. total w.marks) (chain_stop c d t r is) in
+      let here = each t in
+      let count : k * records_from c d t ≡ k * 1 = ap (λ n. k * n) (records_stop c d t r is) in
+      omega arith)
 
   -- the whole chain, by the layouts of its records
   pub chain_cost : (k : ℕ) → ((held : List C) (place : ℕ) → AtMost k (c.said held place)) → total (chain_at c d).marks ≤ k * records c d
@@ -119,13 +123,13 @@ module _ {C X : Type 0} (c : Chain C X) (d : List ℕ) (adv : Advances c d) wher
       → (t : Along C) → total (chain_from c d t).marks ≤ allowed t
   chain_within allowed used each = chain_induction c d (λ t. total (chain_from c d t).marks ≤ allowed t) adv
       (λ t v place is later.
-          let u : Along C = record { held = t.held ++ v ∷ []; place = place } in
-          let all : total (chain_from c d t).marks ≡ total (next_record c d t).marks + total (chain_from c d u).marks = ap (λ w. total w.marks) (chain_next c d t v place adv is) ∙ total-append (next_record c d t).marks (chain_from c d u).marks in
-          let here = used t v place is in
-          omega arith)
+      let u : Along C = record { held = t.held ++ v ∷ []; place = place } in
+      let all : total (chain_from c d t).marks ≡ total (next_record c d t).marks + total (chain_from c d u).marks = ap (λ w. total w.marks) (chain_next c d t v place adv is) ∙ total-append (next_record c d t).marks (chain_from c d u).marks in
+      let here = used t v place is in
+      omega arith)
       (λ t r is.
-          let all : total (chain_from c d t).marks ≡ total (next_record c d t).marks = ap (λ w. total w.marks) (chain_stop c d t r is) in
-          let here = each t in omega arith)
+      let all : total (chain_from c d t).marks ≡ total (next_record c d t).marks = ap (λ w. total w.marks) (chain_stop c d t r is) in
+      let here = each t in omega arith)
 
 verdict_ok : {C X : Type 0} (r : Result (Said C X) ImageError) (y : X) → verdict r ≡ Some (Ok y) → r ≡ Ok (Decided y)
 verdict_ok (Ok (Decided x)) y is = cc
@@ -138,18 +142,20 @@ module _ {C X : Type 0} (c : Chain C X) (d x : List ℕ) (adv : Advances c d) (a
   pub chain_more_from : (t : Along C) (v : X) → (chain_from c d t).answer ≡ Ok v → (chain_from c (d ++ x) t ≡ chain_from c d t) × (records_from c (d ++ x) t ≡ records_from c d t)
   chain_more_from = chain_induction c d (λ t. (v : X) → (chain_from c d t).answer ≡ Ok v → (chain_from c (d ++ x) t ≡ chain_from c d t) × (records_from c (d ++ x) t ≡ records_from c d t)) adv
       (λ t v place is later y ok.
-          let u : Along C = record { held = t.held ++ v ∷ []; place = place } in
-          let here : next_record c (d ++ x) t ≡ next_record c d t = each t (Next v place) is in
-          let is_more : (next_record c (d ++ x) t).answer ≡ Ok (Next v place) = ap (λ w. w.answer) here ∙ is in
-          let rest = later y (sym (ap (λ w. w.answer) (chain_next c d t v place adv is)) ∙ ok) in
-          (chain_next c (d ++ x) t v place adv_more is_more ∙ ap (λ w. behind w.marks (chain_from c (d ++ x) u)) here ∙ ap (behind (next_record c d t).marks) rest.0 ∙ sym (chain_next c d t v place adv is),
-           records_next c (d ++ x) t v place adv_more is_more ∙ ap (λ n. n + 1) rest.1 ∙ sym (records_next c d t v place adv is)))
+      let u : Along C = record { held = t.held ++ v ∷ []; place = place } in
+      let here : next_record c (d ++ x) t ≡ next_record c d t = each t (Next v place) is in
+      let is_more : (next_record c (d ++ x) t).answer ≡ Ok (Next v place) = ap (λ w. w.answer) here ∙ is in
+      let rest = later y (sym (ap (λ w. w.answer) (chain_next c d t v place adv is)) ∙ ok) in (
+        chain_next c (d ++ x) t v place adv_more is_more ∙ ap (λ w. behind w.marks (chain_from c (d ++ x) u)) here ∙ ap (behind (next_record c d t).marks) rest.0 ∙ sym (chain_next c d t v place adv is),
+        records_next c (d ++ x) t v place adv_more is_more ∙ ap (λ n. n + 1) rest.1 ∙ sym (records_next c d t v place adv is),
+      ))
       (λ t r is y ok.
-          let decided : r ≡ Ok y = sym (ap (λ w. w.answer) (chain_stop c d t r is)) ∙ ok in
-          let here : next_record c (d ++ x) t ≡ next_record c d t = each t (Decided y) (verdict_ok (next_record c d t).answer y (is ∙ ap Some decided)) in
-          let is_more : verdict (next_record c (d ++ x) t).answer ≡ Some r = ap (λ w. verdict w.answer) here ∙ is in
-          (chain_stop c (d ++ x) t r is_more ∙ ap (λ w. record { answer = r; marks = w.marks }) here ∙ sym (chain_stop c d t r is),
-           records_stop c (d ++ x) t r is_more ∙ sym (records_stop c d t r is)))
+      let decided : r ≡ Ok y = sym (ap (λ w. w.answer) (chain_stop c d t r is)) ∙ ok in
+      let here : next_record c (d ++ x) t ≡ next_record c d t = each t (Decided y) (verdict_ok (next_record c d t).answer y (is ∙ ap Some decided)) in
+      let is_more : verdict (next_record c (d ++ x) t).answer ≡ Some r = ap (λ w. verdict w.answer) here ∙ is in (
+        chain_stop c (d ++ x) t r is_more ∙ ap (λ w. record { answer = r; marks = w.marks }) here ∙ sym (chain_stop c d t r is),
+        records_stop c (d ++ x) t r is_more ∙ sym (records_stop c d t r is),
+      ))
 
 -- a chain of plain records lasts
 pub lasts_chain : {C X : Type 0} (c : Chain C X) → ((d : List ℕ) → Advances c d) → ((held : List C) (place : ℕ) → Plain (c.said held place)) → Lasts (λ d. chain_at c d)

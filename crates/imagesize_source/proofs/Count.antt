@@ -156,8 +156,8 @@ step_covers_all n a s spans counts =
     let more : Span = record { start = max w s.start; len = m - (w - a.front) } in
     let after : Span = record { start = 0; len = w } in
     let fewer : places n (front_span a ∷ s ∷ spans) ≤ places n (more ∷ after ∷ spans) =
-        places_fewer n (front_span a ∷ s ∷ spans) (more ∷ after ∷ spans)
-        (λ at h. joined (has_place (front_span a) at) (has_place s at) (covered spans at) (has_place more at) (has_place after at) (step_covers a.front s.start s.len at) h) in
+    places_fewer n (front_span a ∷ s ∷ spans) (more ∷ after ∷ spans)
+    (λ at h. joined (has_place (front_span a) at) (has_place s at) (covered spans at) (has_place more at) (has_place after at) (step_covers a.front s.start s.len at) h) in
     let one = places_more n more (after ∷ spans) in
     let grows : w - a.front ≤ m = grind (arith, nat_tests) in
     let above : a.front ≤ w = grind (arith, nat_tests) in

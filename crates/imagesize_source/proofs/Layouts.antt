@@ -1,10 +1,11 @@
 -- What a layout says of an input.
-use Rattle.std.proofs.Common.{◌≡◌, ℕ, ◌+◌, ◌-◌, ◌^◌, ◌<◌, ◌≤◌, Bool, true, false, List, [], ◌++◌, length, take, leb, cond, Option, None, Some, Result, Ok, Err, IfErr, refl, sym, ap, ◌∙◌, subst, arith, append_assoc}
-use Rattle.std.proofs.lemmas.List.{length-take, take_all, append-nil}
+use Rattle.std.proofs.Common.{◌≡◌, ℕ, ◌+◌, ◌-◌, ◌^◌, ◌<◌, ◌≤◌, min, Bool, true, false, List, [], ◌++◌, length, take, leb, cond, Option, None, Some, Result, Ok, Err, IfErr, refl, sym, ap, ◌∙◌, subst, arith, append_assoc}
+use Rattle.std.proofs.lemmas.List.{length-take, take_all, drop_all, append-nil}
+use Rattle.std.proofs.Math.Seq.{take-nil}
 use Rattle.std.proofs.lemmas.Bool.Decides.{nat_tests}
 use Rattle.imagesize_source.specs.declared.error.ImageError.{ImageError}
 use Rattle.imagesize_source.specs.declared.span.Span.{Span}
-use Rattle.imagesize_source.specs.Input.{part, span_of}
+use Rattle.imagesize_source.specs.Input.{part, span_of, span_at}
 use Rattle.imagesize_source.specs.Layout.{Layout, over, bind, whole, if_there}
 use Rattle.imagesize_source.specs.Layout.Layout.{«done», refuse, field, bytes, there}
 use Rattle.imagesize_source.specs.Reading.{Reads, and_then, onward, behind, gives, bytes_at, number_at, end_of_input, bytes_read, part_read, faulted, stopped}
@@ -51,42 +52,41 @@ whole_missing {a} {b} d room place k n h long short =
     (λ is. ap Ok (whole-some k (part d place k) (omega (arith, long, length-take n room, ap length (ap (part d place) (sym long) ∙ part_is is)))))
     refl refl tt
 
--- an honest source tells the length
-pub by_told : {X : Type 0} {a b : State} {r : Result X ImageError} (f : ℕ → Reads X) → Runs a b r (f a.frame.told) → Runs a b r (f (length a.held.input))
-by_told {X} {a} {b} {r} f h = record {
+-- readings that are others' where the source is honest
+runs_as : {X : Type 0} {a b : State} {r : Result X ImageError} {reads : Reads X} (other : Reads X) → Runs a b r reads → (a.held.honest ≡ true → reads ≡ other) → Runs a b r other
+runs_as {X} {a} {b} {r} other h same = record {
   sound = h.sound;
   sound_after = h.sound_after;
   frame = h.frame;
   taken = h.taken;
-  within = λ honest. subst (λ n. b.taken ≤ a.taken + total (f n).marks) (h.sound honest).0 (h.within honest);
-  answer = λ honest goes_on. subst (λ n. (f n).answer ≡ r) (h.sound honest).0 (h.answer honest goes_on);
-  state = λ honest goes_on. subst (λ n. b ≡ past a (f n).marks) (h.sound honest).0 (h.state honest goes_on);
+  within = λ honest. subst (λ reads. b.taken ≤ a.taken + total reads.marks) (same honest) (h.within honest);
+  answer = λ honest goes_on. ap (λ reads. reads.answer) (sym (same honest)) ∙ h.answer honest goes_on;
+  state = λ honest goes_on. h.state honest goes_on ∙ ap (λ reads. past a reads.marks) (same honest);
   fault = h.fault;
   ended = h.ended }
 
--- bytes that came are there
-came : (d bs : List ℕ) (place k : ℕ) → bytes_at d place k ≡ Ok bs → k ≤ length d - place
-unfolding bytes_at
-came d bs place k is = all_or_none (leb k (length d - place)) refl is where
-  all_or_none : (b : Bool) → leb k (length d - place) ≡ b → cond b (Ok (part d place k)) (Err end_of_input) ≡ Ok bs → k ≤ length d - place
-  all_or_none true holds _ = grind (arith, nat_tests)
-  all_or_none false fails is = absurd cc
+-- an honest source tells the length
+pub by_told : {X : Type 0} {a b : State} {r : Result X ImageError} (f : ℕ → Reads X) → Runs a b r (f a.frame.told) → Runs a b r (f (length a.held.input))
+by_told {a} f h = runs_as (f (length a.held.input)) h (λ honest. ap f (h.sound honest).0)
 
--- no input is so long that the place behind bytes of it is beyond 64 bits
-never_beyond : {a b : State} (place k : ℕ) (bs : List ℕ) → Runs a b (Ok bs) (bytes_read a.held.input place k) → 0 < k → 2 ^ 64 ≤ place + k → a.held.honest ≡ true → ⊥
-never_beyond {a} place k bs h some far honest =
-    let there = came a.held.input bs place k (h.answer honest refl) in
-    let short = (h.sound honest).1 in
-    omega arith
+-- behind the end nothing is there
+no_part : (d : List ℕ) (place k : ℕ) → length d ≤ place → part d place k ≡ []
+unfolding part
+no_part d place k behind = ap (take k) (drop_all place d behind) ∙ take-nil k
 
-pub beyond : {X : Type 0} {a b : State} (r : Result X ImageError) (reads : Reads X) (place k : ℕ) (bs : List ℕ) → Runs a b (Ok bs) (bytes_read a.held.input place k) → 0 < k → 2 ^ 64 ≤ place + k → faulted r ≡ false → IfErr r (EndedBy b) → Runs a b r reads
-beyond {X} {a} {b} r reads place k bs h some far no_fault ended = record {
-  sound = h.sound;
-  sound_after = h.sound_after;
-  frame = h.frame;
-  taken = h.taken;
-  within = λ honest. absurd (never_beyond place k bs h some far honest);
-  answer = λ honest _. absurd (never_beyond place k bs h some far honest);
-  state = λ honest _. absurd (never_beyond place k bs h some far honest);
-  fault = λ honest faults. absurd cc;
-  ended = ended }
+no_span : (d : List ℕ) (place k : ℕ) → length d ≤ place → span_of d place k ≡ []
+unfolding span_of span_at
+no_span d place k behind = let none : min k (length d - place) ≡ 0 = omega arith in rw none refl
+
+none_there : (d : List ℕ) (place k : ℕ) → length d ≤ place → over d (if_there place k done) ≡ record { answer = Ok (whole k []); marks = [] }
+none_there d place k behind = rw (no_part d place k behind, no_span d place k behind) refl
+
+-- no input is so long that bytes of it stand beyond 64 bits
+within_64_bits : (d : List ℕ) (place k : ℕ) → length d < 2 ^ 63 → (is_within : Bool) → leb place (2 ^ 64 - 1) ≡ is_within → over d (if_there (min place (2 ^ 64 - 1)) k done) ≡ over d (if_there place k done)
+within_64_bits d place k short true within = ap (λ p. over d (if_there p k done)) (grind (arith, nat_tests))
+within_64_bits d place k short false beyond = none_there d (min place (2 ^ 64 - 1)) k (grind (arith, nat_tests)) ∙ sym (none_there d place k (grind (arith, nat_tests)))
+
+pub saturated : {a b : State} {r : Result (Option (List ℕ)) ImageError} (place k : ℕ) → Runs a b r (over a.held.input (if_there (min place (2 ^ 64 - 1)) k done)) → Runs a b r (over a.held.input (if_there place k done))
+saturated {a} place k h = runs_as (over a.held.input (if_there place k done)) h (λ honest. within_64_bits a.held.input place k (h.sound honest).1 (leb place (2 ^ 64 - 1)) refl)
+
+pub ruleset binding = (over-bind)

@@ -2,6 +2,9 @@ mod Cursors
 pub mod Runs
 pub mod Slices
 pub mod Numbers
+pub mod Filling
+pub mod Standings
+pub mod Windows
 pub mod Layouts
 pub mod Onward
 pub mod Local
@@ -15,3 +18,4 @@ pub mod Unrolled
 pub mod Tests
 pub mod Beyond
 pub mod Walks
+pub mod Openings

@@ -51,11 +51,11 @@ same_part d e place k a =
     ext_get_or 0 (take k (drop place e)) (take k (drop place d))
     (long ∙ ap (λ n. min k (n - place)) a.as_long ∙ sym long')
     (λ i h.
-        let below : i < min k (length d - place) = subst (λ n. i < n) (long ∙ ap (λ n. min k (n - place)) a.as_long) h in
-        let small : i < k = omega arith in
-        get_or-take k (drop place e) i 0 small ∙ get_or-drop place e i 0
-        ∙ a.same_byte (place + i) (covered-one place (min k (length d - place)) i below)
-        ∙ sym (get_or-take k (drop place d) i 0 small ∙ get_or-drop place d i 0))
+    let below : i < min k (length d - place) = subst (λ n. i < n) (long ∙ ap (λ n. min k (n - place)) a.as_long) h in
+    let small : i < k = omega arith in
+    get_or-take k (drop place e) i 0 small ∙ get_or-drop place e i 0
+    ∙ a.same_byte (place + i) (covered-one place (min k (length d - place)) i below)
+    ∙ sym (get_or-take k (drop place d) i 0 small ∙ get_or-drop place d i 0))
 
 -- the same of bytes that are all there, and of a number
 pub same_bytes : (d e : List ℕ) (place k : ℕ) → Agrees d e (span_of d place k) → bytes_at e place k ≡ bytes_at d place k

@@ -30,7 +30,8 @@ reached_start a whole = record {
   made = [];
   within = λ honest. omega arith;
   state = λ honest. refl;
-  left = λ honest. refl }
+  left = λ honest. refl;
+}
 
 total_onward : {X Y : Type 0} (spans : List Span) (r : Result Y ImageError) (f : Y → Reads X) → total spans ≤ total (onward spans r f).marks
 total_onward spans (Ok y) f = let all = total-append spans (f y).marks in omega arith
@@ -74,7 +75,8 @@ module _ {X : Type 0} {a b : State} {whole rest : Reads X} (h : Reached a b whol
     made = h.made;
     within = h.within;
     state = h.state;
-    left = λ honest. h.left honest ∙ ap (behind h.made) (same honest) }
+    left = λ honest. h.left honest ∙ ap (behind h.made) (same honest);
+  }
 
   -- a run that ends with what was left, or is ended by a refusal on the way
   ended_by : {end : State} {Y : Type 0} (r : Result X ImageError) (s : Result Y ImageError) (given : Reads Y) → Runs b end s given → stopped s ≡ stopped r → faulted s ≡ faulted r → IfErr r (EndedBy end) → (a.held.honest ≡ true → total given.marks ≤ total rest.marks) → (a.held.honest ≡ true → given.answer ≡ s → (rest.answer ≡ r) × (rest.marks ≡ given.marks)) → Runs a end r whole
@@ -93,7 +95,8 @@ module _ {X : Type 0} {a b : State} {whole rest : Reads X} (h : Reached a b whol
         ∙ ap (λ m. past a (h.made ++ m)) (sym (same honest (run.answer (still_honest honest) (stops ∙ goes_on))).1)
         ∙ sym (ap (λ w. past a w.marks) (h.left honest));
     fault = λ honest faulty. ap (λ x. x.can_fail) (sym (still honest)) ∙ run.fault (still_honest honest) (faults ∙ faulty);
-    ended = ended }
+    ended = ended;
+  }
 
   -- the readings that were left end the run
   pub reached_end : {end : State} (r : Result X ImageError) (given : Reads X) → Runs b end r given → (a.held.honest ≡ true → given ≡ rest) → Runs a end r whole
@@ -120,25 +123,26 @@ module _ {X Y : Type 0} {a b : State} {whole : Reads X} (reads : Reads Y) (f : Y
     left = λ honest.
         h.left honest ∙ ap (λ w. behind h.made (and_then w f)) (sym (same honest))
         ∙ ap (behind h.made) (onward_at given.marks given.answer (Ok y) f (run.answer (still_honest h honest) refl))
-        ∙ behind-behind h.made given.marks (f y) }
+        ∙ behind-behind h.made given.marks (f y);
+  }
 
   -- the next readings were refused
   pub reached_out : {end : State} (e : ImageError) (given : Reads Y) → Runs b end (Err e) given → (a.held.honest ≡ true → given ≡ reads) → Runs a end (Err e) whole
   reached_out e given run same = ended_by h (Err e) (Err e) given run refl refl run.ended
       (λ honest. let is = ap (λ w. total w.marks) (same honest) in let more = total_onward reads.marks reads.answer f in omega arith)
       (λ honest is.
-          let out : onward reads.marks reads.answer f ≡ record { answer = Err e; marks = given.marks } =
-              ap (λ w. and_then w f) (sym (same honest)) ∙ onward_at given.marks given.answer (Err e) f is in
-          (ap (λ w. w.answer) out, ap (λ w. w.marks) out))
+      let out : onward reads.marks reads.answer f ≡ record { answer = Err e; marks = given.marks } =
+      ap (λ w. and_then w f) (sym (same honest)) ∙ onward_at given.marks given.answer (Err e) f is in
+      (ap (λ w. w.answer) out, ap (λ w. w.marks) out))
 
   -- the next readings gave the answer, behind which nothing is read
   pub reached_stop : {end : State} (x : X) (y : Y) (given : Reads Y) → f y ≡ gives x → Runs b end (Ok y) given → (a.held.honest ≡ true → given ≡ reads) → Runs a end (Ok x) whole
   reached_stop x y given last run same = ended_by h (Ok x) (Ok y) given run refl refl tt
       (λ honest. let is = ap (λ w. total w.marks) (same honest) in let more = total_onward reads.marks reads.answer f in omega arith)
       (λ honest is.
-          let out : onward reads.marks reads.answer f ≡ behind given.marks (gives x) =
-              ap (λ w. and_then w f) (sym (same honest)) ∙ onward_at given.marks given.answer (Ok y) f is ∙ ap (behind given.marks) last in
-          (ap (λ w. w.answer) out, ap (λ w. w.marks) out ∙ append-nil given.marks))
+      let out : onward reads.marks reads.answer f ≡ behind given.marks (gives x) =
+      ap (λ w. and_then w f) (sym (same honest)) ∙ onward_at given.marks given.answer (Ok y) f is ∙ ap (behind given.marks) last in
+      (ap (λ w. w.answer) out, ap (λ w. w.marks) out ∙ append-nil given.marks))
 
 -- a walk along a chain, from which what is left is the chain from here on
 module _ {C X : Type 0} (c : Chain C X) (adv : (d : List ℕ) → Advances c d) {a b : State} {whole : Reads X} (t : Along C) (h : Reached a b whole (chain_from c a.held.input t)) where

@@ -9,8 +9,8 @@ use Rattle.imagesize_source.specs.declared.util.Endian.{Endian}
 use Rattle.imagesize_source.specs.declared.util.Endian.TheVariants.{Little, Big}
 use Rattle.imagesize_source.specs.Input.{part, span_of}
 use Rattle.imagesize_source.specs.Numbers.{number}
-use Rattle.imagesize_source.specs.Reading.{Reads, bytes_at, number_at, part_read, bytes_read, number_read, seen, stopped, faulted, is_fault, is_spent, is_memory, spent, end_of_input}
-use Rattle.imagesize_source.specs.State.{State, Runs, EndedBy, total, past, step}
+use Rattle.imagesize_source.specs.Reading.{Reads, onward, behind, and_then, bytes_at, number_at, part_read, bytes_read, number_read, seen, stopped, faulted, is_fault, is_spent, is_memory, spent, end_of_input}
+use Rattle.imagesize_source.specs.State.{State, Held, Runs, EndedBy, total, past, step}
 
 -- the same readings, answered otherwise where nothing stopped them
 pub answered : {X Y : Type 0} {a b : State} {x : X} {reads : Reads X} (r : Result Y ImageError) (other : Reads Y) → Runs a b (Ok x) reads → other.marks ≡ reads.marks → (reads.answer ≡ Ok x → other.answer ≡ r) → stopped r ≡ false → faulted r ≡ false → IfErr r (EndedBy b) → Runs a b r other
@@ -23,7 +23,8 @@ answered {a} {b} {x} {reads} r other h marks answer goes_on no_fault ended = rec
   answer = λ honest _. answer (h.answer honest refl);
   state = λ honest _. h.state honest refl ∙ ap (past a) (sym marks);
   fault = λ honest faults. absurd cc;
-  ended = ended }
+  ended = ended;
+}
 
 pub part_is : {xs ys : List ℕ} → ◌≡◌ {A = Result (List ℕ) ImageError} (Ok xs) (Ok ys) → xs ≡ ys
 part_is e = cc
@@ -47,9 +48,9 @@ bytes_there {a} {b} d room place k n h long all =
     let same : take n room ≡ room = take_all n room (omega arith) in
     answered (Ok room) (bytes_read d place k) h (ap (span_of d place) (sym long))
     (λ is.
-        let got : part d place (length room) ≡ room = part_is is ∙ same in
-        let enough : leb k (length d - place) ≡ true = all_there d place k (rw (← long) (omega (arith, ap length got))) in
-        rw enough (ap Ok (rw (← long) got)))
+    let got : part d place (length room) ≡ room = part_is is ∙ same in
+    let enough : leb k (length d - place) ≡ true = all_there d place k (rw (← long) (omega (arith, ap length got))) in
+    rw enough (ap Ok (rw (← long) got)))
     refl refl tt
 
 -- a reading that gave too few
@@ -58,9 +59,9 @@ unfolding bytes_at
 bytes_missing {a} {b} d room place k n h long short =
     answered (Err end_of_input) (bytes_read d place k) h (ap (span_of d place) (sym long))
     (λ is.
-        let got : length (part d place (length room)) ≡ min n (length room) = ap length (part_is is) ∙ length-take n room in
-        let too_few : leb k (length d - place) ≡ false = not_there d place k (rw (← long) (omega arith)) in
-        rw too_few refl)
+    let got : length (part d place (length room)) ≡ min n (length room) = ap length (part_is is) ∙ length-take n room in
+    let too_few : leb k (length d - place) ≡ false = not_there d place k (rw (← long) (omega arith)) in
+    rw too_few refl)
     refl refl (record { budget = tt; memory = λ e. absurd cc })
 
 -- the number of bytes that were read
@@ -81,12 +82,17 @@ number_missing {a} {b} d order place k e h = record {
   answer = λ honest goes_on. ap (seen (number order)) (h.answer honest goes_on);
   state = h.state;
   fault = h.fault;
-  ended = h.ended }
+  ended = h.ended;
+}
 
 pub past-past : (a : State) (s t : List Span) → past (past a s) t ≡ past a (s ++ t)
 unfolding past
 past-past a [] t = refl
 past-past a (x ∷ s) t = past-past (step a x) s t
+
+pub past-none : (a : State) → past a [] ≡ a
+unfolding past
+past-none a = refl
 
 pub total-append : (s t : List Span) → total (s ++ t) ≡ total s + total t
 total-append [] t = sym (zero-add (total t))
@@ -97,4 +103,46 @@ unfolding past
 past-held a [] = refl
 past-held a (x ∷ s) = past-held (step a x) s
 
-pub ruleset steps = (past-past, total-append, append-nil, past-held)
+pub ruleset steps = (past-past, past-none, total-append, append-nil, past-held)
+
+past_honest : {X : Type 0} {a m : State} {x : X} {r : Reads X} → Runs a m (Ok x) r → a.held.honest ≡ true → m.held ≡ a.held
+past_honest {X} {a} {m} {x} {r} h honest = ap (λ s. s.held) (h.state honest refl) ∙ past-held a r.marks
+
+-- the spans of the readings before are among those of the whole
+total_first : {X Y : Type 0} (spans : List Span) (r : Result X ImageError) (f : X → Reads Y) → total spans ≤ total (onward spans r f).marks
+total_first spans (Ok x) f = omega (arith, total-append spans (f x).marks)
+total_first spans (Err e) f = omega arith
+
+-- a call that read, and went on from what it found
+pub runs_then : {X Y : Type 0} {a m b : State} {x : X} {y : Result Y ImageError} (r : Reads X) (f : X → Held → Reads Y) → Runs a m (Ok x) r → Runs m b y (f x m.held) → Runs a b y (and_then r (λ v. f v a.held))
+runs_then {X} {Y} {a} {m} {b} {x} {y} r f first second =
+    let same = λ (honest : a.held.honest ≡ true). past_honest first honest in
+    let honest_then = λ (honest : a.held.honest ≡ true). ap (λ h. h.honest) (same honest) ∙ honest in
+    let next = λ (honest : a.held.honest ≡ true). ap (λ v. onward r.marks v (λ w. f w a.held)) (first.answer honest refl) ∙ ap (λ h. behind r.marks (f x h)) (sym (same honest)) in
+    record {
+      sound = first.sound;
+      sound_after = second.sound_after;
+      frame = second.frame ∙ first.frame;
+      taken = omega (arith, first.taken, second.taken);
+      within = λ honest. rw (next honest) (omega (arith, first.within honest, second.within (honest_then honest), total-append r.marks (f x m.held).marks));
+      answer = λ honest goes_on. ap (λ q. q.answer) (next honest) ∙ second.answer (honest_then honest) goes_on;
+      state = λ honest goes_on.
+        second.state (honest_then honest) goes_on
+        ∙ ap (λ s. past s (f x m.held).marks) (first.state honest refl)
+        ∙ past-past a r.marks (f x m.held).marks
+        ∙ ap (past a) (sym (ap (λ q. q.marks) (next honest)));
+      fault = λ honest faults. ap (λ h. h.can_fail) (sym (same honest)) ∙ second.fault (honest_then honest) faults;
+      ended = second.ended }
+
+-- a call that was refused goes on from nothing
+pub runs_refused : {X Y : Type 0} {a b : State} {e : ImageError} (r : Reads X) (f : X → Reads Y) → Runs {X = X} a b (Err e) r → Runs {X = Y} a b (Err e) (and_then r f)
+runs_refused {X} {Y} {a} {b} {e} r f h = record {
+  sound = h.sound;
+  sound_after = h.sound_after;
+  frame = h.frame;
+  taken = h.taken;
+  within = λ honest. omega (arith, h.within honest, total_first r.marks r.answer f);
+  answer = λ honest goes_on. ap (λ v. (onward r.marks v f).answer) (h.answer honest goes_on);
+  state = λ honest goes_on. h.state honest goes_on ∙ ap (past a) (sym (ap (λ v. (onward r.marks v f).marks) (h.answer honest goes_on)));
+  fault = h.fault;
+  ended = h.ended }

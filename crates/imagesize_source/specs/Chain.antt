@@ -66,7 +66,8 @@ records_from c d t = deciding c d t + 1
 unfoldable pub chain_from : {C X : Type 0} → Chain C X → List ℕ → Along C → Reads X
 chain_from c d t = record {
   answer = unwrap_or (verdict_of c d t (deciding c d t)) (Err end_of_input);
-  marks = flat_map (marks_of c d t) (range_with_len 0 (records_from c d t)) }
+  marks = flat_map (marks_of c d t) (range_with_len 0 (records_from c d t));
+}
 
 abbrev pub records : {C X : Type 0} → Chain C X → List ℕ → ℕ
 records c d = records_from c d (start c)

@@ -1,0 +1,117 @@
+//! The formats of images, the table that tells them apart, and the size by each.
+ghost use Rattle.std.specs.Prelude.{length};
+ghost use Rattle.imagesize.specs.Kind.{kind};
+ghost use Rattle.imagesize.specs.Meaning.{size_of};
+ghost use Rattle.imagesize_source.specs.Layout.{over};
+ghost use Rattle.imagesize_source.specs.State.{Runs};
+ghost use Rattle.imagesize_source.specs.declared.error.ImageError.TheVariants as error;
+ghost use Rattle.imagesize_source.specs.Layout.Layout.{refuse};
+
+use imagesize_source::source::Source;
+use imagesize_source::util::read_bytes;
+
+use crate::container::{atc, dds, heif, pkm, pvrtc};
+use crate::types::{ImageSize, ImageType};
+use crate::{ImageError, ImageResult};
+
+pub mod aseprite;
+pub mod astc;
+pub mod bmp;
+pub mod exr;
+pub mod farbfeld;
+pub mod gif;
+pub mod hdr;
+pub mod ico;
+pub mod ilbm;
+pub mod jpeg;
+pub mod jxl;
+pub mod ktx2;
+pub mod pnm;
+pub mod psd;
+pub mod qoi;
+pub mod tga;
+pub mod tiff;
+pub mod vtf;
+pub mod webp;
+
+/// The type at a place: that of the first row that holds of the twelve bytes there.
+#[tactic(auto, using(imagesize_source::proofs::Runs::steps, imagesize_source::proofs::Layouts::binding))]
+pub(crate) fn detect<S: Source>(source: &mut S, place: u64) -> ImageResult<ImageType>
+    ensures { Runs (S.state source.old) (S.state source.new) result
+        (over (S.state source.old).held.input (kind (length (S.state source.old).held.input) place)) }
+{
+    let head = read_bytes::<S, 12>(source, place)?;
+    Ok(match &head {
+        head if jpeg::matches(head) => ImageType::Jpeg,
+        head if gif::matches(head) => ImageType::Gif,
+        head if tiff::matches(head) => ImageType::Tiff,
+        head if webp::matches(head) => ImageType::Webp,
+        head if heif::matches(head) => ImageType::Heif(heif::detect_compression(source, place, head)?),
+        head if jxl::matches(head) => ImageType::Jxl,
+        head if bmp::matches(head) => ImageType::Bmp,
+        head if psd::matches(head) => ImageType::Psd,
+        head if ico::matches(head) => ImageType::Ico,
+        head if aseprite::matches(head) => ImageType::Aseprite,
+        head if astc::matches(head) => ImageType::Astc,
+        head if atc::matches(head) => ImageType::Atc(atc::detect_compression(source)?),
+        head if pvrtc::matches(head) => ImageType::Pvrtc(pvrtc::detect_compression(source)?),
+        head if pkm::matches_eac(head) => ImageType::Eac(pkm::detect_compression(source)?),
+        head if pkm::matches(head) => ImageType::Etc2(pkm::detect_compression(source)?),
+        head if exr::matches(head) => ImageType::Exr,
+        head if hdr::matches(head) => ImageType::Hdr,
+        head if dds::matches(head) => ImageType::Dds(dds::detect_compression(source)?),
+        head if ktx2::matches(head) => ImageType::Ktx2,
+        head if qoi::matches(head) => ImageType::Qoi,
+        head if farbfeld::matches(head) => ImageType::Farbfeld,
+        head if pnm::matches(head) => ImageType::Pnm,
+        head if vtf::matches(head) => ImageType::Vtf,
+        head if ilbm::matches(head) => ImageType::Ilbm,
+        // It has no signature at its beginning, so it comes last.
+        head if tga::matches(source, head)? => ImageType::Tga,
+        _ => return Err(ImageError::NotSupported),
+    })
+}
+
+/// The size of the image, read as this type whatever its first bytes are.
+#[tactic(auto, using(imagesize_source::proofs::Runs::steps))]
+pub(crate) fn size<S: Source>(source: &mut S, kind: ImageType) -> ImageResult<ImageSize>
+    ensures { Runs (S.state source.old) (S.state source.new) result
+        (over (S.state source.old).held.input (size_of kind (length (S.state source.old).held.input))) }
+{
+    match kind {
+        ImageType::Aseprite => aseprite::size(source),
+        ImageType::Astc => astc::size(source),
+        ImageType::Atc(_) => atc::size(source),
+        ImageType::Bmp => bmp::size(source),
+        ImageType::Dds(_) => dds::size(source),
+        ImageType::Eac(_) | ImageType::Etc2(_) => pkm::size(source),
+        ImageType::Farbfeld => farbfeld::size(source),
+        ImageType::Gif => gif::size(source),
+        ImageType::Ktx2 => ktx2::size(source),
+        ImageType::Pvrtc(_) => pvrtc::size(source),
+        ImageType::Psd => psd::size(source),
+        ImageType::Qoi => qoi::size(source),
+        ImageType::Tga => tga::size(source),
+        ImageType::Vtf => vtf::size(source),
+        ImageType::Webp => webp::size(source),
+        ImageType::Exr
+        | ImageType::Hdr
+        | ImageType::Heif(_)
+        | ImageType::Ico
+        | ImageType::Ilbm
+        | ImageType::Jpeg
+        | ImageType::Jxl
+        | ImageType::Pnm
+        | ImageType::Tiff => unsupported(source),
+    }
+}
+
+// The types whose sizes do not stand at fixed places. Nothing is read.
+#[tactic(auto, using(imagesize_source::proofs::Runs::steps))]
+fn unsupported<S: Source>(source: &mut S) -> ImageResult<ImageSize>
+    ensures { Runs (S.state source.old) (S.state source.new) result (over (S.state source.old).held.input (refuse error.NotSupported)) }
+{
+    // The proof needs that the source is sound, which it tells with its length.
+    let _told = source.told();
+    Err(ImageError::NotSupported)
+}

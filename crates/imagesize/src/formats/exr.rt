@@ -1,0 +1,11 @@
+//! OpenEXR, by "Magic Number" of OpenEXR File Layout.
+ghost use Rattle.std.specs.Prelude.{◌≡◌};
+ghost use Rattle.imagesize.specs.Exr.{is_exr};
+
+/// Whether the magic number stands first.
+#[inline]
+pub fn matches(head: &[u8; 12]) -> bool
+    ensures { result ≡ is_exr head.now }
+{
+    head.starts_with(&[0x76, 0x2F, 0x31, 0x01])
+}

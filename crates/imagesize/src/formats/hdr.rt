@@ -1,0 +1,11 @@
+//! Radiance RGBE, by "Picture File Format" of the Radiance reference manual.
+ghost use Rattle.std.specs.Prelude.{◌≡◌};
+ghost use Rattle.imagesize.specs.Hdr.{is_hdr};
+
+/// Whether the first line is the identifier.
+#[inline]
+pub fn matches(head: &[u8; 12]) -> bool
+    ensures { result ≡ is_hdr head.now }
+{
+    head.starts_with(b"#?RADIANCE\n") || head.starts_with(b"#?RGBE\n")
+}

@@ -1,0 +1,11 @@
+//! Windows icons, by `ICONDIR` of "Icons" (Win32).
+ghost use Rattle.std.specs.Prelude.{◌≡◌};
+ghost use Rattle.imagesize.specs.Ico.{is_ico};
+
+/// Whether a directory of icons stands first.
+#[inline]
+pub fn matches(head: &[u8; 12]) -> bool
+    ensures { result ≡ is_ico head.now }
+{
+    head.starts_with(&[0, 0, 1, 0])
+}

@@ -1,0 +1,11 @@
+//! Interleaved bitmaps, by "EA IFF 85" (forms) and its supplement "ILBM".
+ghost use Rattle.std.specs.Prelude.{◌≡◌};
+ghost use Rattle.imagesize.specs.Ilbm.{is_ilbm};
+
+/// Whether a form of the type `ILBM` or `PBM ` stands first.
+#[inline]
+pub fn matches(head: &[u8; 12]) -> bool
+    ensures { result ≡ is_ilbm head.now }
+{
+    head.starts_with(b"FORM") && (head[8..].starts_with(b"ILBM") || head[8..].starts_with(b"PBM "))
+}

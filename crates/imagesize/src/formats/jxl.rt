@@ -1,0 +1,11 @@
+//! JPEG XL, by ISO/IEC 18181-1 (the signature of a codestream) and 18181-2 (the signature box).
+ghost use Rattle.std.specs.Prelude.{◌≡◌};
+ghost use Rattle.imagesize.specs.Jxl.{is_jxl};
+
+/// Whether a codestream or a signature box stands first.
+#[inline]
+pub fn matches(head: &[u8; 12]) -> bool
+    ensures { result ≡ is_jxl head.now }
+{
+    head.starts_with(&[0xFF, 0x0A]) || head.starts_with(b"\0\0\0\x0CJXL \r\n\x87\n")
+}

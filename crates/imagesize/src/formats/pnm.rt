@@ -1,0 +1,11 @@
+//! The portable bitmaps, by the manual pages pbm(5), pgm(5) and ppm(5) of Netpbm.
+ghost use Rattle.std.specs.Prelude.{◌≡◌};
+ghost use Rattle.imagesize.specs.Pnm.{is_pnm};
+
+/// Whether a magic number from `P1` to `P6` stands first.
+#[inline]
+pub fn matches(head: &[u8; 12]) -> bool
+    ensures { result ≡ is_pnm head.now }
+{
+    head.starts_with(b"P") && head[1] >= b'1' && head[1] <= b'6'
+}

@@ -1,0 +1,14 @@
+//! TIFF and BigTIFF, by section 2 (Image File Header) of TIFF 6.0 and by the BigTIFF proposal.
+ghost use Rattle.std.specs.Prelude.{◌≡◌};
+ghost use Rattle.imagesize.specs.Tiff.{is_tiff};
+
+/// Whether the order of the bytes stands first, and the version behind it.
+#[inline]
+pub fn matches(head: &[u8; 12]) -> bool
+    ensures { result ≡ is_tiff head.now }
+{
+    head.starts_with(b"II\x2A\0")
+        || head.starts_with(b"II\x2B\0")
+        || head.starts_with(b"MM\0\x2A")
+        || head.starts_with(b"MM\0\x2B")
+}

@@ -1,0 +1,29 @@
+//! Valve textures, by "VTF header" of the Valve Texture Format.
+ghost use Rattle.std.specs.Prelude.{◌≡◌};
+ghost use Rattle.imagesize.specs.Vtf.{is_vtf, vtf};
+ghost use Rattle.imagesize_source.specs.Layout.{over};
+ghost use Rattle.imagesize_source.specs.State.{Runs};
+
+use imagesize_source::source::Source;
+use imagesize_source::util::{Endian, read_u16};
+
+use crate::types::ImageSize;
+use crate::ImageResult;
+
+/// Whether the signature stands first.
+#[inline]
+pub fn matches(head: &[u8; 12]) -> bool
+    ensures { result ≡ is_vtf head.now }
+{
+    head.starts_with(b"VTF\0")
+}
+
+/// The width and the height of the largest mipmap.
+#[tactic(auto, using(imagesize_source::proofs::Runs::steps))]
+pub fn size<S: Source>(source: &mut S) -> ImageResult<ImageSize>
+    ensures { Runs (S.state source.old) (S.state source.new) result (over (S.state source.old).held.input vtf) }
+{
+    let width = read_u16(source, 16, Endian::Little)? as usize;
+    let height = read_u16(source, 18, Endian::Little)? as usize;
+    Ok(ImageSize { width, height })
+}
