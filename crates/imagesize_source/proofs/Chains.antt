@@ -88,10 +88,11 @@ module _ {C X : Type 0} (c : Chain C X) (d : List ℕ) where
   decides t adv =
       let few : deciding c d t < length d + 1 = let n = records_few t adv in omega arith in
       let long = length-range_with_len 0 (length d + 1) in
-      let p : ℕ → Bool = λ i. is_some (verdict_of c d t i) in
-      ( omega arith,
+      let p : ℕ → Bool = λ i. is_some (verdict_of c d t i) in (
+        omega arith,
         ap p (sym (at_index (deciding c d t) few)) ∙ passes_at_first p (range_with_len 0 (length d + 1)) 0 (omega arith),
-        λ k h. ap p (sym (at_index k (omega arith))) ∙ fails_before_first p (range_with_len 0 (length d + 1)) k 0 h )
+        λ k h. ap p (sym (at_index k (omega arith))) ∙ fails_before_first p (range_with_len 0 (length d + 1)) k 0 h,
+      )
 
   deciding_stop : (t : Along C) → is_some (verdict (next_record c d t).answer) ≡ true → deciding c d t ≡ 0
   deciding_stop t h = deciding-is t ∙ position_here (λ i. is_some (verdict_of c d t i)) 0 (length d) h

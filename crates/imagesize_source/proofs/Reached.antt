@@ -52,7 +52,8 @@ reads_nothing b r sound no_fault ended = record {
   answer = λ honest goes_on. refl;
   state = λ honest goes_on. refl;
   fault = λ honest faults. absurd cc;
-  ended = ended }
+  ended = ended;
+}
 
 module _ {X : Type 0} {a b : State} {whole rest : Reads X} (h : Reached a b whole rest) where
   -- an honest run has the same input before it

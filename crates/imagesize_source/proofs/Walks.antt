@@ -27,7 +27,8 @@ module _ {C X : Type 0} (c : Chain C X) (adv : (d : List ℕ) → Advances c d) 
     held = w.held ++ v ∷ [];
     known = knows w.held w.known;
     reached = walk_on c adv (record { held = w.held; place = place }) w.reached v next (run w.held w.known);
-    sound = λ _. (run w.held w.known).sound_after }
+    sound = λ _. (run w.held w.known).sound_after;
+  }
 
   -- it ends by one that decides
   pub walks_stop : {end : State} (x : X) → ((held : List C) → P held → Runs b end (Ok (Decided x)) (over b.held.input (c.said held place))) → Runs a end (Ok x) (chain_at c a.held.input)
@@ -41,5 +42,5 @@ module _ {C X : Type 0} (c : Chain C X) (adv : (d : List ℕ) → Advances c d) 
   pub walks_past : 2 ^ 63 ≤ place → c.first < place → ((held : List C) (d : List ℕ) → P held → length d ≤ place → over d (c.said held place) ≡ refuses end_of_input) → Runs a b (Err end_of_input) (chain_at c a.held.input)
   walks_past far some none = reached_now w.reached (Err end_of_input) (w.sound some) refl (record { budget = tt; memory = λ e. absurd cc })
       (λ honest short.
-          let out = none w.held a.held.input w.known (omega arith) in
-          chain_stop c a.held.input (record { held = w.held; place = place }) (Err end_of_input) (ap (λ r. verdict r.answer) out) ∙ ap (λ r. record { answer = Err end_of_input; marks = r.marks }) out)
+      let out = none w.held a.held.input w.known (omega arith) in
+      chain_stop c a.held.input (record { held = w.held; place = place }) (Err end_of_input) (ap (λ r. verdict r.answer) out) ∙ ap (λ r. record { answer = Err end_of_input; marks = r.marks }) out)
