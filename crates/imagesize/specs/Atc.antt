@@ -37,5 +37,5 @@ atc_bare = field Little 4 4 (λ height. field Little 8 4 (λ width. done (record
 
 abbrev pub atc : Layout ImageSize
 atc = bytes 0 4 (λ tag.
-  if begins (codes "DDS ") tag then atc_in_dds
-  else bytes 0 8 (λ head. if is_atc head then pkm else atc_bare))
+    if begins (codes "DDS ") tag then atc_in_dds
+    else bytes 0 8 (λ head. if is_atc head then pkm else atc_bare))

@@ -2,6 +2,7 @@ pub mod Aseprite
 pub mod Astc
 pub mod Atc
 pub mod Bmp
+pub mod Comparisons
 pub mod Dds
 pub mod Exr
 pub mod Farbfeld

@@ -21,8 +21,8 @@ is_pvrtc head = begins (52 ∷ 0 ∷ 0 ∷ 0 ∷ []) head || is_pvr3 head
 -- how the pixels of a format are stored
 abbrev pub pvrtc_formats : List (ℕ × PvrtcCompression)
 pvrtc_formats =
-  (0, Pvrtc2BppRgb) ∷ (1, Pvrtc2BppRgba) ∷ (2, Pvrtc4BppRgb) ∷ (3, Pvrtc4BppRgba)
-  ∷ (22, Etc2Rgb) ∷ (23, Etc2Rgba) ∷ (24, Etc2RgbA1) ∷ (25, EacR11) ∷ (26, EacRg11) ∷ []
+    (0, Pvrtc2BppRgb) ∷ (1, Pvrtc2BppRgba) ∷ (2, Pvrtc4BppRgb) ∷ (3, Pvrtc4BppRgba)
+    ∷ (22, Etc2Rgb) ∷ (23, Etc2Rgba) ∷ (24, Etc2RgbA1) ∷ (25, EacR11) ∷ (26, EacRg11) ∷ []
 
 abbrev pub pvrtc_format_of : Option (List ℕ) → PvrtcCompression
 pvrtc_format_of None = Unknown

@@ -3,6 +3,7 @@
 
 mod container;
 mod formats;
+mod laws;
 mod queries;
 mod types;
 

@@ -28,10 +28,7 @@ impl ImageType {
     pub fn is_block_compressed(&self) -> bool
         ensures { IsTrue result ↔ (family_of self.now ≡ Some BlockCompression) }
     {
-        matches!(
-            self.compression_family(),
-            Some(CompressionFamily::BlockCompression)
-        )
+        self.compression_family() == Some(CompressionFamily::BlockCompression)
     }
 
     /// The name of the container, for types whose images stand in one.

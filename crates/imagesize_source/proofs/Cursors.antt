@@ -26,11 +26,12 @@ pub read_cursor : (d after room : List ℕ) (p q n : ℕ) → after ≡ d → q 
 unfolding part
 read_cursor d after room p q n same e fits split ends =
     let got : length (take n room) ≡ n = length-take-le n room fits in
-    let whole : length d - p ≡ n + length (drop q after) = sym (length-drop p d) ∙ ap length split ∙ length-append (take n room) (drop q after) ∙ ap (λ k. k + length (drop q after)) got in
-    ( cc,
+    let whole : length d - p ≡ n + length (drop q after) = sym (length-drop p d) ∙ ap length split ∙ length-append (take n room) (drop q after) ∙ ap (λ k. k + length (drop q after)) got in (
+      cc,
       sym (ap (take n) split ∙ ap (λ k. take k (take n room ++ drop q after)) (sym got) ∙ take-append_seam (take n room) (drop q after)),
       omega arith,
-      λ has_room before. some_bytes d room p q n e (λ z r. ap (drop q) (sym same) ∙ ends z r) has_room before )
+      λ has_room before. some_bytes d room p q n e (λ z r. ap (drop q) (sym same) ∙ ends z r) has_room before,
+    )
 
 goes : (d after : List ℕ) (p q x : ℕ) (r : Result ℕ Error) → after ≡ d → r ≡ Ok x → IfOk r (λ n. q ≡ n) → SeekGives (cursor_at d p) (Some (cursor_at after q)) (Some x) r
 goes d after p q x (Ok n) same e there = (cc, cc)

@@ -23,7 +23,8 @@ answered {a} {b} {x} {reads} r other h marks answer goes_on no_fault ended = rec
   answer = λ honest _. answer (h.answer honest refl);
   state = λ honest _. h.state honest refl ∙ ap (past a) (sym marks);
   fault = λ honest faults. absurd cc;
-  ended = ended }
+  ended = ended;
+}
 
 pub part_is : {xs ys : List ℕ} → ◌≡◌ {A = Result (List ℕ) ImageError} (Ok xs) (Ok ys) → xs ≡ ys
 part_is e = cc
@@ -47,9 +48,9 @@ bytes_there {a} {b} d room place k n h long all =
     let same : take n room ≡ room = take_all n room (omega arith) in
     answered (Ok room) (bytes_read d place k) h (ap (span_of d place) (sym long))
     (λ is.
-        let got : part d place (length room) ≡ room = part_is is ∙ same in
-        let enough : leb k (length d - place) ≡ true = all_there d place k (rw (← long) (omega (arith, ap length got))) in
-        rw enough (ap Ok (rw (← long) got)))
+    let got : part d place (length room) ≡ room = part_is is ∙ same in
+    let enough : leb k (length d - place) ≡ true = all_there d place k (rw (← long) (omega (arith, ap length got))) in
+    rw enough (ap Ok (rw (← long) got)))
     refl refl tt
 
 -- a reading that gave too few
@@ -58,9 +59,9 @@ unfolding bytes_at
 bytes_missing {a} {b} d room place k n h long short =
     answered (Err end_of_input) (bytes_read d place k) h (ap (span_of d place) (sym long))
     (λ is.
-        let got : length (part d place (length room)) ≡ min n (length room) = ap length (part_is is) ∙ length-take n room in
-        let too_few : leb k (length d - place) ≡ false = not_there d place k (rw (← long) (omega arith)) in
-        rw too_few refl)
+    let got : length (part d place (length room)) ≡ min n (length room) = ap length (part_is is) ∙ length-take n room in
+    let too_few : leb k (length d - place) ≡ false = not_there d place k (rw (← long) (omega arith)) in
+    rw too_few refl)
     refl refl (record { budget = tt; memory = λ e. absurd cc })
 
 -- the number of bytes that were read
@@ -81,7 +82,8 @@ number_missing {a} {b} d order place k e h = record {
   answer = λ honest goes_on. ap (seen (number order)) (h.answer honest goes_on);
   state = h.state;
   fault = h.fault;
-  ended = h.ended }
+  ended = h.ended;
+}
 
 pub past-past : (a : State) (s t : List Span) → past (past a s) t ≡ past a (s ++ t)
 unfolding past

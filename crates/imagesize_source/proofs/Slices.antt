@@ -17,7 +17,7 @@ pub length-part : (d : List ℕ) (place k : ℕ) → length (part d place k) ≡
 unfolding part
 length-part d place k = length-take k (drop place d) ∙ ap (min k) (length-drop place d)
 
-front_is : (d room old : List ℕ) (place n : ℕ) → n ≡ min (length old) (length d - place) → room ≡ part d place (length old) ++ drop n old → length room ≡ length old → take n room ≡ part d place (length room)
+pub front_is : (d room old : List ℕ) (place n : ℕ) → n ≡ min (length old) (length d - place) → room ≡ part d place (length old) ++ drop n old → length room ≡ length old → take n room ≡ part d place (length room)
 front_is d room old place n count copied kept =
     let same : length (part d place (length old)) ≡ n = length-part d place (length old) ∙ sym count in
     ap (take n) copied ∙ ap (λ k. take k (part d place (length old) ++ drop n old)) (sym same) ∙ take-append_seam (part d place (length old)) (drop n old) ∙ ap (part d place) (sym kept)
@@ -33,4 +33,5 @@ slice_reads d room old place n short count copied kept = record {
   answer = λ honest goes_on. ap Ok (sym (front_is d room old place n count copied kept));
   state = λ honest goes_on. sym (past-slice d (span_of d place (length room)));
   fault = λ honest faults. absurd cc;
-  ended = tt }
+  ended = tt;
+}

@@ -1,8 +1,15 @@
+pub mod Agreement
+pub mod Answers
+pub mod Chain
+pub mod Counts
+pub mod Extension
 pub mod Input
 pub mod Layout
 pub mod Numbers
+pub mod ReaderState
 pub mod Reading
 pub mod Reason
+pub mod Standing
 pub mod State
 pub mod StopOf
 pub mod Telling

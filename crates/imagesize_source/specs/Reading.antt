@@ -88,10 +88,13 @@ spent CorruptedImage = None
 spent (IoError (BudgetSpent n)) = Some n
 spent (IoError _) = None
 
+abbrev pub is_stop : ImageError → Bool
+is_stop e = is_fault e || is_spent e || is_memory e
+
 -- an answer that ends a call at once, and one by a failure of the reader
 abbrev pub stopped : {X : Type 0} → Result X ImageError → Bool
 stopped (Ok _) = false
-stopped (Err e) = is_fault e || is_spent e || is_memory e
+stopped (Err e) = is_stop e
 
 abbrev pub faulted : {X : Type 0} → Result X ImageError → Bool
 faulted (Ok _) = false

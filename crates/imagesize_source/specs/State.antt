@@ -43,7 +43,8 @@ abbrev pub step : State → Span → State
 step a s = record a {
   front = if a.frame.counts then front_after a.front s.start s.len else a.front;
   taken = if a.frame.counts then a.taken + fresh a.front s.start s.len else a.taken;
-  recorded = option_map (λ spans. spans ++ s ∷ []) a.recorded }
+  recorded = option_map (λ spans. spans ++ s ∷ []) a.recorded;
+}
 
 -- the state after the readings of these spans
 unfoldable pub past : State → List Span → State
@@ -86,4 +87,5 @@ slice_state d = record {
   held = record { honest = true; input = d; can_fail = false };
   front = 0;
   taken = 0;
-  recorded = None }
+  recorded = None;
+}

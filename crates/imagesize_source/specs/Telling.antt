@@ -1,8 +1,7 @@
 -- What a reader may tell of itself, and what its calls then owe.
-use Rattle.std.specs.Prelude.{◌≡◌, ℕ, ℤ, pos, negsuc, zero, suc, ◌+◌, ◌-◌, ◌<◌, ◌≤◌, Bool, true, false, List, length, take, nat_le, if◌then◌else◌, Option, None, Some, Result, Ok, Err, IfSome, IsSome, IsSomeAnd, option_map}
+use Rattle.std.specs.Prelude.{◌≡◌, ℕ, ℤ, pos, negsuc, zero, suc, ◌+◌, ◌-◌, ◌^◌, ◌<◌, ◌≤◌, Bool, true, false, List, length, take, nat_le, if◌then◌else◌, Option, None, Some, Result, Ok, Err, IfSome, IsSome, IsSomeAnd, option_map}
 use Rattle.std.specs.declared.io.traits.SeekFrom.{SeekFrom}
 use Rattle.std.specs.declared.io.traits.SeekFrom.TheVariants.{Start, End, Current}
-use Rattle.std.specs.declared.io.Error.{Error}
 use Rattle.imagesize_source.specs.declared.told.Stop.{Stop}
 use Rattle.imagesize_source.specs.declared.told.Stop.TheVariants.{Interrupted, Fault}
 use Rattle.imagesize_source.specs.Input.{part}
@@ -56,13 +55,13 @@ seek_target t (Current (pos (suc _))) = None
 seek_target t (Current (negsuc _)) = None
 
 -- what a seek did that is known to go to a place; of any other only that the reader still tells
-abbrev pub SeekGives : Telling → Option Telling → Option ℕ → Result ℕ Error → Type 0
+abbrev pub SeekGives : {E : Type 0} → Telling → Option Telling → Option ℕ → Result ℕ E → Type 0
 SeekGives t new None r = IsSome new
 SeekGives t new (Some place) (Ok answer) = (answer ≡ place) × (new ≡ Some (at_place t place))
 SeekGives t new (Some place) (Err e) = Fails t new
 
 -- the same of a reader that may tell nothing
-abbrev pub SeekTells : Option Telling → Option Telling → SeekFrom → Result ℕ Error → Type 0
+abbrev pub SeekTells : {E : Type 0} → Option Telling → Option Telling → SeekFrom → Result ℕ E → Type 0
 SeekTells None new to r = new ≡ None
 SeekTells (Some t) new to r = SeekGives t new (seek_target t to) r
 
@@ -74,3 +73,9 @@ given (Err _) = 0
 -- a named count rises by the bytes that a read gave
 abbrev pub counted : {E : Type 0} → Option ℕ → Result ℕ E → Option ℕ
 counted count r = option_map (λ c. c + given r) count
+
+-- An honest reader: its bytes are fewer than 2^63, and where none of its calls fails, at most 64 of its reads
+-- are interrupted.
+pub record IsHonest (t : Telling) : Type 0 where
+  pub short : length t.bytes < 2 ^ 63
+  pub patient : t.can_fail ≡ false → t.interruptions ≤ 64

@@ -5,7 +5,10 @@ ghost use Rattle.imagesize_source.specs.State.{State, Runs, Sound};
 
 use crate::ImageResult;
 
+pub mod progress;
+pub mod reader;
 pub mod slice;
+mod window;
 
 /// An input that is read by place. A place counts bytes from 0.
 pub trait Source {
@@ -16,6 +19,10 @@ pub trait Source {
     fn told(&self) -> u64
         ensures told { result ≡ (state self.now).frame.told }
         ensures sound { Sound (state self.now) };
+
+    /// How many bytes were taken from a reader.
+    fn taken(&self) -> u64
+        ensures { result ≡ (state self.now).taken };
 
     /// Reads what is there from a place on into the room, and answers how many bytes that is.
     fn read_at(&mut self, place: u64, room: &mut [u8]) -> ImageResult<usize>

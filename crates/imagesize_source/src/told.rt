@@ -50,7 +50,11 @@ pub trait Told: Drop {
 /// A cursor over bytes tells them and its place, cannot fail, is never interrupted and counts nothing.
 impl Told for Cursor<&[u8]> {
     ghost telling = { λ c. Some (record {
-        bytes = (cursor_inner c).now; place = cursor_position c; can_fail = false; interruptions = 0 }) };
+      bytes = (cursor_inner c).now;
+      place = cursor_position c;
+      can_fail = false;
+      interruptions = 0;
+    }) };
 
     ghost count = { λ _. None };
 

@@ -29,7 +29,10 @@ pub fn read_bytes<S: Source, const N: usize>(source: &mut S, place: u64) -> Imag
 }
 
 /// What is there of the `N` bytes from a place on: the room, and how many of its bytes are the input's.
-pub fn read_part<S: Source, const N: usize>(source: &mut S, place: u64) -> ImageResult<([u8; N], usize)>
+pub fn read_part<S: Source, const N: usize>(
+    source: &mut S,
+    place: u64,
+) -> ImageResult<([u8; N], usize)>
     ensures bound { IfOk result (λ (room, count). count ≤ N) }
     ensures runs { Runs (S.state source.old) (S.state source.new) (seen (λ (room, count). take count room) result)
         (part_read (S.state source.old).held.input place N) }
@@ -41,7 +44,10 @@ pub fn read_part<S: Source, const N: usize>(source: &mut S, place: u64) -> Image
 
 /// The `N` bytes from a place on, or none where the input ends before the last of them.
 #[inline]
-pub fn read_if_there<S: Source, const N: usize>(source: &mut S, place: u64) -> ImageResult<Option<[u8; N]>>
+pub fn read_if_there<S: Source, const N: usize>(
+    source: &mut S,
+    place: u64,
+) -> ImageResult<Option<[u8; N]>>
     ensures { Runs (S.state source.old) (S.state source.new) result (over (S.state source.old).held.input (if_there place N done)) }
 {
     let mut room = [0u8; N];

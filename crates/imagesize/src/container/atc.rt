@@ -7,12 +7,11 @@ ghost use Rattle.imagesize_source.specs.declared.util.Endian.TheVariants as endi
 ghost use Rattle.imagesize_source.specs.Layout.{over};
 ghost use Rattle.imagesize_source.specs.State.{Runs};
 
-use imagesize_source::source::Source;
-use imagesize_source::util::{Endian, read_bytes, read_if_there, read_u32};
-
 use crate::ImageResult;
 use crate::container::pkm;
 use crate::types::{AtcCompression, ImageSize};
+use imagesize_source::source::Source;
+use imagesize_source::util::{Endian, read_bytes, read_if_there, read_u32};
 
 /// Whether it is a PKM file of an ATC data type.
 #[inline]

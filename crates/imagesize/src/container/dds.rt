@@ -7,11 +7,10 @@ ghost use Rattle.imagesize_source.specs.Layout.Layout.{«done»};
 ghost use Rattle.imagesize_source.specs.Layout.{over};
 ghost use Rattle.imagesize_source.specs.State.{Runs};
 
-use imagesize_source::source::Source;
-use imagesize_source::util::{Endian, read_if_there, read_u32};
-
 use crate::ImageResult;
 use crate::types::{DdsCompression, ImageSize};
+use imagesize_source::source::Source;
+use imagesize_source::util::{Endian, read_if_there, read_u32};
 
 /// Whether the magic number stands first.
 #[inline]

@@ -5,11 +5,10 @@ ghost use Rattle.imagesize.specs.Table.{look_up};
 ghost use Rattle.imagesize_source.specs.Layout.{over};
 ghost use Rattle.imagesize_source.specs.State.{Runs};
 
-use imagesize_source::source::Source;
-use imagesize_source::util::{Endian, read_if_there, read_u16};
-
 use crate::ImageResult;
 use crate::types::{ImageSize, PkmCompression};
+use imagesize_source::source::Source;
+use imagesize_source::util::{Endian, read_if_there, read_u16};
 
 /// Whether the tag stands first, and a version behind it.
 #[inline]

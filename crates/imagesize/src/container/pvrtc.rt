@@ -7,11 +7,10 @@ ghost use Rattle.imagesize_source.specs.Layout.Layout.{«done»};
 ghost use Rattle.imagesize_source.specs.Layout.{over};
 ghost use Rattle.imagesize_source.specs.State.{Runs};
 
-use imagesize_source::source::Source;
-use imagesize_source::util::{Endian, read_bytes, read_if_there, read_u32};
-
 use crate::ImageResult;
 use crate::types::{ImageSize, PvrtcCompression};
+use imagesize_source::source::Source;
+use imagesize_source::util::{Endian, read_bytes, read_if_there, read_u32};
 
 /// Whether the length of the older header stands first, or the version of the newer.
 #[inline]

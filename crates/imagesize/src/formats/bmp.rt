@@ -4,11 +4,10 @@ ghost use Rattle.imagesize.specs.Bmp.{is_bmp, bmp};
 ghost use Rattle.imagesize_source.specs.Layout.{over};
 ghost use Rattle.imagesize_source.specs.State.{Runs};
 
+use crate::ImageResult;
+use crate::types::ImageSize;
 use imagesize_source::source::Source;
 use imagesize_source::util::{Endian, read_u32};
-
-use crate::types::ImageSize;
-use crate::ImageResult;
 
 /// Whether the file is of the type `BM`.
 #[inline]

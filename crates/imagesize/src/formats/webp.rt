@@ -4,11 +4,10 @@ ghost use Rattle.imagesize.specs.Webp.{is_webp, webp, lossy_webp, lossless_webp,
 ghost use Rattle.imagesize_source.specs.Layout.{over};
 ghost use Rattle.imagesize_source.specs.State.{Runs};
 
-use imagesize_source::source::Source;
-use imagesize_source::util::{Endian, read_bytes, read_u16, read_u24, read_u32};
-
 use crate::types::ImageSize;
 use crate::{ImageError, ImageResult, Reason};
+use imagesize_source::source::Source;
+use imagesize_source::util::{Endian, read_bytes, read_u16, read_u24, read_u32};
 
 /// Whether a RIFF form of the type `WEBP` stands first.
 #[inline]

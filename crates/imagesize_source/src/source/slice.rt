@@ -21,6 +21,11 @@ impl Source for SliceSource<'_> {
     }
 
     #[inline(always)]
+    fn taken(&self) -> u64 {
+        0
+    }
+
+    #[inline(always)]
     fn read_at(&mut self, place: u64, room: &mut [u8]) -> ImageResult<usize> {
         // The proof needs that the length is below 2^63.
         let _length = self.bytes.len();

@@ -1,0 +1,57 @@
+-- How a chain is seen to advance: by the layouts of its records.
+use Rattle.std.proofs.Common.{◌≡◌, ℕ, ◌+◌, ◌-◌, ◌<◌, ◌≤◌, List, [], ◌∷◌, length, Result, Ok, Err, refl, sym, ap, ◌∙◌, subst, arith}
+use Rattle.imagesize_source.specs.declared.error.ImageError.{ImageError}
+use Rattle.imagesize_source.specs.declared.span.Span.{Span}
+use Rattle.imagesize_source.specs.declared.util.Endian.{Endian}
+use Rattle.imagesize_source.specs.Chain.{Said, Decided, Next, Chain, Along, next_record, Advances}
+use Rattle.imagesize_source.specs.Input.{part, span_of}
+use Rattle.imagesize_source.specs.Layout.{Layout, done, refuse, field, bytes, there, over}
+use Rattle.imagesize_source.specs.Reading.{Reads, onward, bytes_at, number_at}
+use Rattle.imagesize_source.proofs.More.{bytes_ok, number_ok}
+use Rattle.imagesize_source.proofs.Runs.{part_length}
+
+-- whatever its readings answer, each next place that the layout tells has the property
+abbrev pub Tells : {C X : Type 0} → (ℕ → Type 0) → Layout (Said C X) → Type 0
+Tells P (done (Decided x)) = Unit {0}
+Tells P (done (Next v place)) = P place
+Tells P (refuse e) = Unit {0}
+Tells P (field order place k f) = (v : ℕ) → Tells P (f v)
+Tells P (bytes place k f) = (bs : List ℕ) → Tells P (f bs)
+Tells P (there place k f) = (bs : List ℕ) → Tells P (f bs)
+
+-- the layout tells no next place unless it has first read a byte at the place or behind it
+abbrev pub Begins : {C X : Type 0} → ℕ → Layout (Said C X) → Type 0
+Begins q (done (Decided x)) = Unit {0}
+Begins q (done (Next v place)) = ⊥
+Begins q (refuse e) = Unit {0}
+Begins q (field order place k f) = (q ≤ place) × (0 < k)
+Begins q (bytes place k f) = (q ≤ place) × (0 < k)
+Begins q (there place k f) = (q ≤ place) × Tells (λ _. ⊥) (f [])
+
+onward_tells : {C X Y : Type 0} (P : Type 0) (spans : List Span) (r : Result Y ImageError) (f : Y → Reads (Said C X)) (s : Said C X) → (onward spans r f).answer ≡ Ok s → ((y : Y) → r ≡ Ok y → (f y).answer ≡ Ok s → P) → P
+onward_tells P spans (Ok y) f s is each = each y refl is
+onward_tells P spans (Err e) f s is each = absurd cc
+
+tells : {C X : Type 0} (P : ℕ → Type 0) (d : List ℕ) (t : Layout (Said C X)) (v : C) (q : ℕ) → Tells P t → (over d t).answer ≡ Ok (Next v q) → P q
+tells P d (done (Decided x)) v q h is = absurd cc
+tells P d (done (Next w place)) v q h is = let same : place ≡ q = cc in subst P same h
+tells P d (refuse e) v q h is = absurd cc
+tells P d (field order place k f) v q h is = onward_tells (P q) (span_of d place k) (number_at d order place k) (λ n. over d (f n)) (Next v q) is (λ n _ got. tells P d (f n) v q (h n) got)
+tells P d (bytes place k f) v q h is = onward_tells (P q) (span_of d place k) (bytes_at d place k) (λ bs. over d (f bs)) (Next v q) is (λ bs _ got. tells P d (f bs) v q (h bs) got)
+tells P d (there place k f) v q h is = tells P d (f (part d place k)) v q (h (part d place k)) is
+
+-- where a layout tells a next place, there was a byte
+begins : {C X : Type 0} (d : List ℕ) (t : Layout (Said C X)) (v : C) (q p : ℕ) → Begins q t → (over d t).answer ≡ Ok (Next v p) → q < length d
+begins d (done (Decided x)) v q p h is = absurd cc
+begins d (done (Next w place)) v q p h is = absurd h
+begins d (refuse e) v q p h is = absurd cc
+begins d (field order place k f) v q p h is = onward_tells (q < length d) (span_of d place k) (number_at d order place k) (λ n. over d (f n)) (Next v p) is (λ n got _. let here = h.0 in let some = h.1 in let all = number_ok d order place k n got in omega arith)
+begins d (bytes place k f) v q p h is = onward_tells (q < length d) (span_of d place k) (bytes_at d place k) (λ bs. over d (f bs)) (Next v p) is (λ bs got _. let here = h.0 in let some = h.1 in let all = bytes_ok d bs place k got in omega arith)
+begins d (there place k f) v q p h is = begins_part (part d place k) refl where
+  begins_part : (bs : List ℕ) → part d place k ≡ bs → q < length d
+  begins_part [] none = absurd (tells (λ _. ⊥) d (f []) v p h.1 (sym (ap (λ bs. (over d (f bs)).answer) none) ∙ is))
+  begins_part (b ∷ bs) some = let here = h.0 in let long = part_length d place k in let has = ap length some in omega arith
+
+-- A chain advances, whose records each begin at their place or behind it and tell only greater places.
+pub advances : {C X : Type 0} (c : Chain C X) → ((held : List C) (place : ℕ) → Tells (λ p. place < p) (c.said held place)) → ((held : List C) (place : ℕ) → Begins place (c.said held place)) → (d : List ℕ) → Advances c d
+advances c up first d t v place is = (tells (λ p. t.place < p) d (c.said t.held t.place) v place (up t.held t.place) is, begins d (c.said t.held t.place) v t.place place (first t.held t.place) is)

@@ -1,0 +1,155 @@
+-- What holds of every chain: where a walk stands, locality, counts and extension.
+use Rattle.std.proofs.Common.{◌≡◌, ℕ, zero, suc, ◌+◌, ◌-◌, ◌*◌, ◌<◌, ◌≤◌, List, [], ◌∷◌, ◌++◌, length, Some, Result, Ok, Err, append_assoc, refl, sym, ap, ◌∙◌, subst, arith}
+use Rattle.std.proofs.Math.Nat.{mul-add}
+use Rattle.std.proofs.lemmas.List.{append-nil, length_push, length-append}
+use Rattle.imagesize_source.specs.declared.error.ImageError.{ImageError}
+use Rattle.imagesize_source.specs.declared.span.Span.{Span}
+use Rattle.imagesize_source.specs.Agreement.{Agrees, Local}
+use Rattle.imagesize_source.specs.Chain.{Said, Decided, Next, Chain, Along, start, next_record, verdict, records_from, records, chain_from, chain_at, Advances}
+use Rattle.imagesize_source.specs.Counts.{AtMost}
+use Rattle.imagesize_source.specs.Extension.{Plain, Lasts}
+use Rattle.imagesize_source.specs.Layout.{Layout, over}
+use Rattle.imagesize_source.specs.Reading.{Reads, behind}
+use Rattle.imagesize_source.specs.State.{total}
+use Rattle.imagesize_source.proofs.Chains.{chain_next, chain_stop, records_next, records_stop}
+use Rattle.imagesize_source.proofs.Local.{local, agrees-left, agrees-right}
+use Rattle.imagesize_source.proofs.Count.{at_most}
+use Rattle.imagesize_source.proofs.More.{more}
+use Rattle.imagesize_source.proofs.Onward.{behind-behind}
+use Rattle.imagesize_source.proofs.Runs.{total-append}
+
+-- A walk has come past some records, to the place of the next, and has read these marks.
+pub record Walked {C X : Type 0} (c : Chain C X) (d : List ℕ) (t : Along C) (marks : List Span) : Type 0 where
+  pub rest : chain_at c d ≡ behind marks (chain_from c d t)
+  pub count : records c d ≡ length t.held + records_from c d t
+
+module _ {C X : Type 0} (c : Chain C X) (d : List ℕ) where
+  pub walked_start : Walked c d (start c) []
+  walked_start = record { rest = refl; count = omega arith }
+
+  -- it goes on by a record that tells the place of the next
+  pub walked_step : {marks : List Span} (t : Along C) (v : C) (place : ℕ) → Advances c d → Walked c d t marks → (next_record c d t).answer ≡ Ok (Next v place) → Walked c d (record { held = t.held ++ v ∷ []; place = place }) (marks ++ (next_record c d t).marks)
+  walked_step {marks} t v place adv w is = record {
+    rest = w.rest ∙ ap (behind marks) (chain_next c d t v place adv is) ∙ behind-behind marks (next_record c d t).marks (chain_from c d (record { held = t.held ++ v ∷ []; place = place }));
+    count = let one = w.count in let two = records_next c d t v place adv is in let three = length_push t.held v in omega arith;
+  }
+
+  -- it ends by one that decides
+  pub walked_stop : {marks : List Span} (t : Along C) (x : X) → Walked c d t marks → (next_record c d t).answer ≡ Ok (Decided x) → chain_at c d ≡ record { answer = Ok x; marks = marks ++ (next_record c d t).marks }
+  walked_stop {marks} t x w is = w.rest ∙ ap (behind marks) (chain_stop c d t (Ok x) (ap verdict is))
+
+  -- or by one that is refused
+  pub walked_out : {marks : List Span} (t : Along C) (e : ImageError) → Walked c d t marks → (next_record c d t).answer ≡ Err e → chain_at c d ≡ record { answer = Err e; marks = marks ++ (next_record c d t).marks }
+  walked_out {marks} t e w is = w.rest ∙ ap (behind marks) (chain_stop c d t (Err e) (ap verdict is))
+
+  -- that record is the last
+  pub walked_count : {marks : List Span} (t : Along C) (r : Result X ImageError) → Walked c d t marks → verdict (next_record c d t).answer ≡ Some r → records c d ≡ length t.held + 1
+  walked_count t r w is = let one = w.count in let two = records_stop c d t r is in omega arith
+
+  -- What holds of each record with what follows it, where it tells the place of the next, and of each with
+  -- a verdict, holds of the chain from any records on.
+  pub chain_induction : (P : Along C → Type 0) → Advances c d
+      → ((t : Along C) (v : C) (place : ℕ) → (next_record c d t).answer ≡ Ok (Next v place) → P (record { held = t.held ++ v ∷ []; place = place }) → P t)
+      → ((t : Along C) (r : Result X ImageError) → verdict (next_record c d t).answer ≡ Some r → P t)
+      → (t : Along C) → P t
+  chain_induction P adv on last t = by_fuel (length d) t (omega arith) where
+    by_record : (t : Along C) (r : Result (Said C X) ImageError) → (next_record c d t).answer ≡ r → ((u : Along C) → t.place < u.place → t.place < length d → P u) → P t
+    by_record t (Ok (Decided x)) is later = last t (Ok x) (ap verdict is)
+    by_record t (Ok (Next v place)) is later = on t v place is (later (record { held = t.held ++ v ∷ []; place = place }) (adv t v place is).0 (adv t v place is).1)
+    by_record t (Err e) is later = last t (Err e) (ap verdict is)
+
+    by_fuel : (k : ℕ) (t : Along C) → length d ≤ t.place + k → P t
+    by_fuel zero t h = by_record t (next_record c d t).answer refl (λ u up below. absurd (omega arith))
+    by_fuel (suc k) t h = by_record t (next_record c d t).answer refl (λ u up below. by_fuel k u (omega arith))
+
+-- Locality: an input that agrees on the marks of a chain has its answer, its marks and as many records.
+module _ {C X : Type 0} (c : Chain C X) (d e : List ℕ) (adv : Advances c d) (adv_e : Advances c e) where
+  same_record : (t : Along C) → Agrees d e (next_record c d t).marks → next_record c e t ≡ next_record c d t
+  same_record t a = local d e (c.said t.held t.place) a
+
+  pub chain_local_from : (t : Along C) → Agrees d e (chain_from c d t).marks → (chain_from c e t ≡ chain_from c d t) × (records_from c e t ≡ records_from c d t)
+  chain_local_from = chain_induction c d (λ t. Agrees d e (chain_from c d t).marks → (chain_from c e t ≡ chain_from c d t) × (records_from c e t ≡ records_from c d t)) adv
+      (λ t v place is later a.
+      let u : Along C = record { held = t.held ++ v ∷ []; place = place } in
+      let all : Agrees d e ((next_record c d t).marks ++ (chain_from c d u).marks) = subst (λ w. Agrees d e w.marks) (chain_next c d t v place adv is) a in
+      let here : next_record c e t ≡ next_record c d t = same_record t (agrees-left (next_record c d t).marks (chain_from c d u).marks all) in
+      let is_e : (next_record c e t).answer ≡ Ok (Next v place) = ap (λ w. w.answer) here ∙ is in
+      let rest = later (agrees-right (next_record c d t).marks (chain_from c d u).marks all) in (
+        chain_next c e t v place adv_e is_e ∙ ap (λ w. behind w.marks (chain_from c e u)) here ∙ ap (behind (next_record c d t).marks) rest.0 ∙ sym (chain_next c d t v place adv is),
+        records_next c e t v place adv_e is_e ∙ ap (λ n. n + 1) rest.1 ∙ sym (records_next c d t v place adv is),
+      ))
+      (λ t r is a.
+      let all : Agrees d e (next_record c d t).marks = subst (λ w. Agrees d e w.marks) (chain_stop c d t r is) a in
+      let here : next_record c e t ≡ next_record c d t = same_record t all in
+      let is_e : verdict (next_record c e t).answer ≡ Some r = ap (λ w. verdict w.answer) here ∙ is in (
+        chain_stop c e t r is_e ∙ ap (λ w. record { answer = r; marks = w.marks }) here ∙ sym (chain_stop c d t r is),
+        records_stop c e t r is_e ∙ sym (records_stop c d t r is),
+      ))
+
+  pub chain_local : Agrees d e (chain_at c d).marks → (chain_at c e ≡ chain_at c d) × (records c e ≡ records c d)
+  chain_local a = chain_local_from (start c) a
+
+pub local_chain : {C X : Type 0} (c : Chain C X) → ((d : List ℕ) → Advances c d) → Local (λ d. chain_at c d)
+local_chain c adv d e a = (chain_local c d e (adv d) (adv e) a).0
+
+-- Counts: where each record reads at most k bytes, a chain reads at most k for each of its records.
+module _ {C X : Type 0} (c : Chain C X) (d : List ℕ) (adv : Advances c d) where
+  pub chain_cost_from : (k : ℕ) → ((t : Along C) → total (next_record c d t).marks ≤ k) → (t : Along C) → total (chain_from c d t).marks ≤ k * records_from c d t
+  chain_cost_from k each = chain_induction c d (λ t. total (chain_from c d t).marks ≤ k * records_from c d t) adv
+      (λ t v place is later.
+      let u : Along C = record { held = t.held ++ v ∷ []; place = place } in
+      let all : total (chain_from c d t).marks ≡ total (next_record c d t).marks + total (chain_from c d u).marks = ap (λ w. total w.marks) (chain_next c d t v place adv is) ∙ total-append (next_record c d t).marks (chain_from c d u).marks in
+      let here = each t in
+      let count : k * records_from c d t ≡ k * records_from c d u + k * 1 = ap (λ n. k * n) (records_next c d t v place adv is) ∙ mul-add k (records_from c d u) 1 in
+      omega arith)
+      (λ t r is.
+      let all : total (chain_from c d t).marks ≡ total (next_record c d t).marks = ap (λ w. total w.marks) (chain_stop c d t r is) in
+      let here = each t in
+      let count : k * records_from c d t ≡ k * 1 = ap (λ n. k * n) (records_stop c d t r is) in
+      omega arith)
+
+  pub chain_cost : (k : ℕ) → ((held : List C) (place : ℕ) → AtMost k (c.said held place)) → total (chain_at c d).marks ≤ k * records c d
+  chain_cost k each = chain_cost_from k (λ t. at_most d k (c.said t.held t.place) (each t.held t.place)) (start c)
+
+  -- Where the records use up an allowance, a chain reads at most the allowance.
+  pub chain_within : (allowed : Along C → ℕ)
+      → ((t : Along C) (v : C) (place : ℕ) → (next_record c d t).answer ≡ Ok (Next v place) → total (next_record c d t).marks + allowed (record { held = t.held ++ v ∷ []; place = place }) ≤ allowed t)
+      → ((t : Along C) → total (next_record c d t).marks ≤ allowed t)
+      → (t : Along C) → total (chain_from c d t).marks ≤ allowed t
+  chain_within allowed used each = chain_induction c d (λ t. total (chain_from c d t).marks ≤ allowed t) adv
+      (λ t v place is later.
+      let u : Along C = record { held = t.held ++ v ∷ []; place = place } in
+      let all : total (chain_from c d t).marks ≡ total (next_record c d t).marks + total (chain_from c d u).marks = ap (λ w. total w.marks) (chain_next c d t v place adv is) ∙ total-append (next_record c d t).marks (chain_from c d u).marks in
+      let here = used t v place is in
+      omega arith)
+      (λ t r is.
+      let all : total (chain_from c d t).marks ≡ total (next_record c d t).marks = ap (λ w. total w.marks) (chain_stop c d t r is) in
+      let here = each t in omega arith)
+
+verdict_ok : {C X : Type 0} (r : Result (Said C X) ImageError) (y : X) → verdict r ≡ Some (Ok y) → r ≡ Ok (Decided y)
+verdict_ok (Ok (Decided x)) y is = cc
+verdict_ok (Ok (Next v place)) y is = absurd cc
+verdict_ok (Err e) y is = absurd cc
+
+-- Extension: bytes behind an input change no answer of a chain whose records' answers they do not change.
+module _ {C X : Type 0} (c : Chain C X) (d x : List ℕ) (adv : Advances c d) (adv_more : Advances c (d ++ x)) (each : (t : Along C) (y : Said C X) → (next_record c d t).answer ≡ Ok y → next_record c (d ++ x) t ≡ next_record c d t) where
+  pub chain_more_from : (t : Along C) (v : X) → (chain_from c d t).answer ≡ Ok v → (chain_from c (d ++ x) t ≡ chain_from c d t) × (records_from c (d ++ x) t ≡ records_from c d t)
+  chain_more_from = chain_induction c d (λ t. (v : X) → (chain_from c d t).answer ≡ Ok v → (chain_from c (d ++ x) t ≡ chain_from c d t) × (records_from c (d ++ x) t ≡ records_from c d t)) adv
+      (λ t v place is later y ok.
+      let u : Along C = record { held = t.held ++ v ∷ []; place = place } in
+      let here : next_record c (d ++ x) t ≡ next_record c d t = each t (Next v place) is in
+      let is_more : (next_record c (d ++ x) t).answer ≡ Ok (Next v place) = ap (λ w. w.answer) here ∙ is in
+      let rest = later y (sym (ap (λ w. w.answer) (chain_next c d t v place adv is)) ∙ ok) in (
+        chain_next c (d ++ x) t v place adv_more is_more ∙ ap (λ w. behind w.marks (chain_from c (d ++ x) u)) here ∙ ap (behind (next_record c d t).marks) rest.0 ∙ sym (chain_next c d t v place adv is),
+        records_next c (d ++ x) t v place adv_more is_more ∙ ap (λ n. n + 1) rest.1 ∙ sym (records_next c d t v place adv is),
+      ))
+      (λ t r is y ok.
+      let decided : r ≡ Ok y = sym (ap (λ w. w.answer) (chain_stop c d t r is)) ∙ ok in
+      let here : next_record c (d ++ x) t ≡ next_record c d t = each t (Decided y) (verdict_ok (next_record c d t).answer y (is ∙ ap Some decided)) in
+      let is_more : verdict (next_record c (d ++ x) t).answer ≡ Some r = ap (λ w. verdict w.answer) here ∙ is in (
+        chain_stop c (d ++ x) t r is_more ∙ ap (λ w. record { answer = r; marks = w.marks }) here ∙ sym (chain_stop c d t r is),
+        records_stop c (d ++ x) t r is_more ∙ sym (records_stop c d t r is),
+      ))
+
+pub lasts_chain : {C X : Type 0} (c : Chain C X) → ((d : List ℕ) → Advances c d) → ((held : List C) (place : ℕ) → Plain (c.said held place)) → Lasts (λ d. chain_at c d)
+lasts_chain c adv plain d x v is = (chain_more_from c d x (adv d) (adv (d ++ x)) (λ t y got. more d x (c.said t.held t.place) y (plain t.held t.place) got) (start c) v is).0

@@ -1,0 +1,145 @@
+-- How far a run has come: what is left of its readings.
+use Rattle.std.proofs.Common.{◌≡◌, ℕ, ◌+◌, ◌≤◌, true, List, [], ◌∷◌, ◌++◌, Result, Ok, Err, refl, sym, ap, ◌∙◌, arith, IfErr}
+use Rattle.std.proofs.lemmas.List.{append-nil}
+use Rattle.imagesize_source.specs.declared.error.ImageError.{ImageError}
+use Rattle.imagesize_source.specs.declared.span.Span.{Span}
+use Rattle.imagesize_source.specs.Chain.{Decided, Next, Chain, Along, next_record, chain_from, Advances}
+use Rattle.imagesize_source.specs.Reading.{Reads, and_then, onward, behind, gives, stopped, faulted}
+use Rattle.imagesize_source.specs.State.{State, Runs, EndedBy, Sound, total, past}
+use Rattle.imagesize_source.proofs.Chains.{chain_unfolds, follows}
+use Rattle.imagesize_source.proofs.Onward.{behind-behind}
+use Rattle.imagesize_source.proofs.Runs.{past-past, past-held, total-append}
+
+-- From a on a run was to make the readings `whole`, and has made some of them; what is left from b on is `rest`.
+pub record Reached {X : Type 0} (a b : State) (whole rest : Reads X) : Type 0 where
+  pub sound : Sound b → Sound a
+  pub frame : b.frame ≡ a.frame
+  pub taken : a.taken ≤ b.taken
+  pub made : List Span
+  pub within : a.held.honest ≡ true → b.taken ≤ a.taken + total made
+  pub state : a.held.honest ≡ true → b ≡ past a made
+  pub left : a.held.honest ≡ true → whole ≡ behind made rest
+
+-- nothing was read
+pub reached_start : {X : Type 0} (a : State) (whole : Reads X) → Reached a a whole whole
+unfolding past
+reached_start a whole = record {
+  sound = λ s. s;
+  frame = refl;
+  taken = omega arith;
+  made = [];
+  within = λ honest. omega arith;
+  state = λ honest. refl;
+  left = λ honest. refl;
+}
+
+total_onward : {X Y : Type 0} (spans : List Span) (r : Result Y ImageError) (f : Y → Reads X) → total spans ≤ total (onward spans r f).marks
+total_onward spans (Ok y) f = let all = total-append spans (f y).marks in omega arith
+total_onward spans (Err e) f = omega arith
+
+onward_at : {X Y : Type 0} (spans : List Span) (r s : Result Y ImageError) (f : Y → Reads X) → r ≡ s → onward spans r f ≡ onward spans s f
+onward_at spans r s f is = ap (λ q. onward spans q f) is
+
+module _ {X : Type 0} {a b : State} {whole rest : Reads X} (h : Reached a b whole rest) where
+  -- an honest run has the same input before it
+  still : a.held.honest ≡ true → b.held ≡ a.held
+  still honest = ap (λ s. s.held) (h.state honest) ∙ past-held a h.made
+
+  pub same_input : a.held.honest ≡ true → b.held.input ≡ a.held.input
+  same_input honest = ap (λ x. x.input) (still honest)
+
+  still_honest : a.held.honest ≡ true → b.held.honest ≡ true
+  still_honest honest = ap (λ x. x.honest) (still honest) ∙ honest
+
+  -- what is left, otherwise said
+  pub reached_as : (other : Reads X) → (a.held.honest ≡ true → rest ≡ other) → Reached a b whole other
+  reached_as other same = record {
+    sound = h.sound;
+    frame = h.frame;
+    taken = h.taken;
+    made = h.made;
+    within = h.within;
+    state = h.state;
+    left = λ honest. h.left honest ∙ ap (behind h.made) (same honest);
+  }
+
+  -- a run that ends with what was left, or is ended by a refusal on the way
+  ended_by : {end : State} {Y : Type 0} (r : Result X ImageError) (s : Result Y ImageError) (given : Reads Y) → Runs b end s given → stopped s ≡ stopped r → faulted s ≡ faulted r → IfErr r (EndedBy end) → (a.held.honest ≡ true → total given.marks ≤ total rest.marks) → (a.held.honest ≡ true → given.answer ≡ s → (rest.answer ≡ r) × (rest.marks ≡ given.marks)) → Runs a end r whole
+  ended_by {end} r s given run stops faults ended within same = record {
+    sound = h.sound run.sound;
+    sound_after = run.sound_after;
+    frame = run.frame ∙ h.frame;
+    taken = let one = h.taken in let two = run.taken in omega arith;
+    within = λ honest.
+        let one = h.within honest in let two = run.within (still_honest honest) in let fits = within honest in
+        let all : total whole.marks ≡ total h.made + total rest.marks = ap (λ w. total w.marks) (h.left honest) ∙ total-append h.made rest.marks in
+        omega arith;
+    answer = λ honest goes_on. ap (λ w. w.answer) (h.left honest) ∙ (same honest (run.answer (still_honest honest) (stops ∙ goes_on))).0;
+    state = λ honest goes_on.
+        run.state (still_honest honest) (stops ∙ goes_on) ∙ ap (λ s. past s given.marks) (h.state honest) ∙ past-past a h.made given.marks
+        ∙ ap (λ m. past a (h.made ++ m)) (sym (same honest (run.answer (still_honest honest) (stops ∙ goes_on))).1)
+        ∙ sym (ap (λ w. past a w.marks) (h.left honest));
+    fault = λ honest faulty. ap (λ x. x.can_fail) (sym (still honest)) ∙ run.fault (still_honest honest) (faults ∙ faulty);
+    ended = ended;
+  }
+
+  -- the readings that were left end the run
+  pub reached_end : {end : State} (r : Result X ImageError) (given : Reads X) → Runs b end r given → (a.held.honest ≡ true → given ≡ rest) → Runs a end r whole
+  reached_end r given run same = ended_by r r given run refl refl run.ended
+      (λ honest. let is = ap (λ w. total w.marks) (same honest) in omega arith)
+      (λ honest is. (ap (λ w. w.answer) (sym (same honest)) ∙ is, ap (λ w. w.marks) (sym (same honest))))
+
+module _ {X Y : Type 0} {a b : State} {whole : Reads X} (reads : Reads Y) (f : Y → Reads X) (h : Reached a b whole (and_then reads f)) where
+  -- the next readings, and what is left behind their answer
+  pub reached_step : {end : State} (y : Y) (given : Reads Y) → Runs b end (Ok y) given → (a.held.honest ≡ true → given ≡ reads) → Reached a end whole (f y)
+  reached_step {end} y given run same = record {
+    sound = λ _. h.sound run.sound;
+    frame = run.frame ∙ h.frame;
+    taken = let one = h.taken in let two = run.taken in omega arith;
+    made = h.made ++ given.marks;
+    within = λ honest.
+        let one = h.within honest in let two = run.within (still_honest h honest) in let all = total-append h.made given.marks in omega arith;
+    state = λ honest. run.state (still_honest h honest) refl ∙ ap (λ s. past s given.marks) (h.state honest) ∙ past-past a h.made given.marks;
+    left = λ honest.
+        h.left honest ∙ ap (λ w. behind h.made (and_then w f)) (sym (same honest))
+        ∙ ap (behind h.made) (onward_at given.marks given.answer (Ok y) f (run.answer (still_honest h honest) refl))
+        ∙ behind-behind h.made given.marks (f y);
+  }
+
+  -- the next readings were refused
+  pub reached_out : {end : State} (e : ImageError) (given : Reads Y) → Runs b end (Err e) given → (a.held.honest ≡ true → given ≡ reads) → Runs a end (Err e) whole
+  reached_out e given run same = ended_by h (Err e) (Err e) given run refl refl run.ended
+      (λ honest. let is = ap (λ w. total w.marks) (same honest) in let more = total_onward reads.marks reads.answer f in omega arith)
+      (λ honest is.
+      let out : onward reads.marks reads.answer f ≡ record { answer = Err e; marks = given.marks } =
+      ap (λ w. and_then w f) (sym (same honest)) ∙ onward_at given.marks given.answer (Err e) f is in
+      (ap (λ w. w.answer) out, ap (λ w. w.marks) out))
+
+  -- the next readings gave the answer, behind which nothing is read
+  pub reached_stop : {end : State} (x : X) (y : Y) (given : Reads Y) → f y ≡ gives x → Runs b end (Ok y) given → (a.held.honest ≡ true → given ≡ reads) → Runs a end (Ok x) whole
+  reached_stop x y given last run same = ended_by h (Ok x) (Ok y) given run refl refl tt
+      (λ honest. let is = ap (λ w. total w.marks) (same honest) in let more = total_onward reads.marks reads.answer f in omega arith)
+      (λ honest is.
+      let out : onward reads.marks reads.answer f ≡ behind given.marks (gives x) =
+      ap (λ w. and_then w f) (sym (same honest)) ∙ onward_at given.marks given.answer (Ok y) f is ∙ ap (behind given.marks) last in
+      (ap (λ w. w.answer) out, ap (λ w. w.marks) out ∙ append-nil given.marks))
+
+-- a walk along a chain, from which what is left is the chain from here on
+module _ {C X : Type 0} (c : Chain C X) (adv : (d : List ℕ) → Advances c d) {a b : State} {whole : Reads X} (t : Along C) (h : Reached a b whole (chain_from c a.held.input t)) where
+  unfolded : Reached a b whole (and_then (next_record c a.held.input t) (follows c a.held.input t.held))
+  unfolded = reached_as h (and_then (next_record c a.held.input t) (follows c a.held.input t.held)) (λ honest. chain_unfolds c a.held.input t (adv a.held.input))
+
+  read : a.held.honest ≡ true → next_record c b.held.input t ≡ next_record c a.held.input t
+  read honest = ap (λ d. next_record c d t) (same_input h honest)
+
+  -- goes on by a record that tells the place of the next
+  pub walk_on : {end : State} (v : C) (place : ℕ) → Runs b end (Ok (Next v place)) (next_record c b.held.input t) → Reached a end whole (chain_from c a.held.input (record { held = t.held ++ v ∷ []; place = place }))
+  walk_on v place run = reached_step (next_record c a.held.input t) (follows c a.held.input t.held) unfolded (Next v place) (next_record c b.held.input t) run read
+
+  -- ends by one that decides
+  pub walk_stop : {end : State} (x : X) → Runs b end (Ok (Decided x)) (next_record c b.held.input t) → Runs a end (Ok x) whole
+  walk_stop x run = reached_stop (next_record c a.held.input t) (follows c a.held.input t.held) unfolded x (Decided x) (next_record c b.held.input t) refl run read
+
+  -- or by one that is refused
+  pub walk_out : {end : State} (e : ImageError) → Runs b end (Err e) (next_record c b.held.input t) → Runs a end (Err e) whole
+  walk_out e run = reached_out (next_record c a.held.input t) (follows c a.held.input t.held) unfolded e (next_record c b.held.input t) run read

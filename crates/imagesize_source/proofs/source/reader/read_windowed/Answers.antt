@@ -1,0 +1,51 @@
+use Rattle.std.proofs.Common.{refl, arith, rules}
+use Rattle.imagesize_source.specs.Standing.{stand}
+use Rattle.imagesize_source.proofs.Windows.{in_window, behind_window, behind_stopped, told_by, same_frame, ended_by}
+use Rattle.imagesize_source.proofs.source.reader.read_windowed.Goals as goal
+
+pub returns-then-copied-room-clause-runs : goal.returns-then-copied-room-clause-runs
+returns-then-copied-room-clause-runs g c = λ home.
+    let copy = c.copy_kept-copied in
+    let told = told_by (g.R.Told.count c.args.reader.now) home (g.R.Told.telling c.args.reader.now) c.args.progress.now in
+    in_window _ _ _ _ _ _ _ _ told refl copy.ensures.count copy.ensures.copied c.if-copied-room.true copy.auto.room
+
+pub returns-in_err-count-clause-runs : goal.returns-in_err-count-clause-runs
+returns-in_err-count-clause-runs g c = λ home.
+    let copy = c.copy_kept-copied in
+    let read = c.in_err-count.ensures in
+    behind_stopped _ c.from_residual.result (record {
+      told = told_by (g.R.Told.count c.args.reader.now) home (g.R.Told.telling c.args.reader.now) c.args.progress.now;
+      told_after = told_by (g.R.Told.count c.read_behind.new.reader) home (g.R.Told.telling c.read_behind.new.reader) c.read_behind.new.progress;
+      frame = same_frame (g.R.Told.count c.args.reader.now) (g.R.Told.count c.read_behind.new.reader) home c.args.progress.now c.read_behind.new.progress read.keeps read.since;
+      window = read.unkept;
+      count = copy.ensures.count;
+      kept = copy.auto.room;
+      long = search rules;
+      gives = read.stand;
+      paid = read.keeps.taken;
+      within = read.within;
+      stops = read.stops.stops;
+      ended = ended_by (g.R.Told.count c.read_behind.new.reader) home c.read_behind.new.progress _ _ _ read.stops;
+    }) (search rules)
+
+pub returns-clause-runs : goal.returns-clause-runs
+returns-clause-runs g c = λ home.
+    let copy = c.copy_kept-copied in
+    let read = c.in_ok-count.ensures in
+    behind_window (record {
+      told = told_by (g.R.Told.count c.args.reader.now) home (g.R.Told.telling c.args.reader.now) c.args.progress.now;
+      told_after = told_by (g.R.Told.count c.read_behind.new.reader) home (g.R.Told.telling c.read_behind.new.reader) c.read_behind.new.progress;
+      counts = refl;
+      frame = same_frame (g.R.Told.count c.args.reader.now) (g.R.Told.count c.read_behind.new.reader) home c.args.progress.now c.read_behind.new.progress read.keeps read.since;
+      small = copy.ensures.small;
+      count = copy.ensures.count;
+      front = copy.ensures.copied;
+      kept = copy.auto.room;
+      short = omega (arith, copy.ensures.count, copy.auto.room, c.if-copied-room.false);
+      gives = read.stand;
+      enough = read.bound;
+      long = search rules;
+      took = read.taken;
+      window = read.window;
+      within = read.within;
+    })

@@ -1,0 +1,33 @@
+-- What a call that reads by a layout answers to a reader, and takes from it.
+use Rattle.std.specs.Prelude.{◌≡◌, ℕ, ◌≤◌, true, false, List, length, Result, Option, None, Some}
+use Rattle.imagesize_source.specs.declared.error.ImageError.{ImageError}
+use Rattle.imagesize_source.specs.Counts.{places}
+use Rattle.imagesize_source.specs.Layout.{Layout, over}
+use Rattle.imagesize_source.specs.Reading.{Reads, stopped, faulted}
+use Rattle.imagesize_source.specs.State.{total}
+use Rattle.imagesize_source.specs.Telling.{Telling, IsHonest}
+
+-- The answer is that of the readings, or a failure of a reader that can fail.
+pub record AnswersAs {X : Type 0} (t : Telling) (reads : Reads X) (r : Result X ImageError) : Type 0 where
+  pub answer : stopped r ≡ false → reads.answer ≡ r
+  pub fault : stopped r ≡ true → (faulted r ≡ true) × (t.can_fail ≡ true)
+
+-- The bytes taken are at most those of the readings' spans together, and where nothing failed at least the
+-- places that the spans have.
+pub record TakesAs {X : Type 0} (t : Telling) (reads : Reads X) (r : Result X ImageError) (taken : ℕ) : Type 0 where
+  pub most : taken ≤ total reads.marks
+  pub least : stopped r ≡ false → places (length t.bytes) reads.marks ≤ taken
+
+-- what a layout says of the bytes of a reader; the layout may look at their length and at the reader's place
+abbrev pub over_reader : {X : Type 0} → Telling → (ℕ → ℕ → Layout X) → Reads X
+over_reader t layout = over t.bytes (layout (length t.bytes) t.place)
+
+-- over an honest reader the answer is that of the layout, or a failure
+abbrev pub Answers : {X : Type 0} → Option Telling → (ℕ → ℕ → Layout X) → Result X ImageError → Type 0
+Answers None layout r = Unit {0}
+Answers (Some t) layout r = IsHonest t → AnswersAs t (over_reader t layout) r
+
+-- and the bytes taken are those of its readings
+abbrev pub Takes : {X : Type 0} → Option Telling → (ℕ → ℕ → Layout X) → Result X ImageError → ℕ → Type 0
+Takes None layout r taken = Unit {0}
+Takes (Some t) layout r taken = IsHonest t → TakesAs t (over_reader t layout) r taken

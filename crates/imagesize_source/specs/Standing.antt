@@ -1,0 +1,82 @@
+-- What a reader claims, as far as the numbers kept beside it agree with what it tells.
+use Rattle.std.specs.Prelude.{◌≡◌, ℕ, ◌+◌, ◌-◌, ◌^◌, ◌<◌, ◌≤◌, min, Bool, true, false, ◌||◌, ◌&&◌, List, [], ◌++◌, length, take, drop, nat_le, nat_lt, ◌==◌, if◌then◌else◌, Option, None, Some, Result, Ok, Err, IfErr, IfSome, option_map, ⊤}
+use Rattle.imagesize_source.specs.declared.error.ImageError.{ImageError}
+use Rattle.imagesize_source.specs.declared.source.progress.Progress.{Progress}
+use Rattle.imagesize_source.specs.Input.{part}
+use Rattle.imagesize_source.specs.Reading.{is_fault, is_memory, is_stop, spent}
+use Rattle.imagesize_source.specs.Telling.{Telling}
+
+-- the bytes behind a reader, where it stands, and whether a call may fail
+pub record Standing : Type 0 where
+  pub bytes : List ℕ
+  pub place : ℕ
+  pub can_fail : Bool
+
+-- n bytes further on
+abbrev pub onto : Standing → ℕ → Standing
+onto s n = record s { place = s.place + n }
+
+-- Interruptions hidden, of which so many were tried again: a reader that cannot fail has at most 64 in all.
+abbrev pub steady : Option Telling → ℕ → Option Standing
+steady None retries = None
+steady (Some t) retries =
+    if t.can_fail || nat_le (t.interruptions + retries) 64
+    then Some (record { bytes = t.bytes; place = t.place; can_fail = t.can_fail }) else None
+
+-- the told length and the place kept beside a reader agree with where it stands
+abbrev pub in_step : ℕ → ℕ → Standing → Bool
+in_step told place s = nat_lt (length s.bytes) (2 ^ 63) && (told == length s.bytes) && (place == s.place)
+
+-- where a reader stands, if these numbers agree
+abbrev pub stand_of : ℕ → ℕ → Option Standing → Option Standing
+stand_of told place None = None
+stand_of told place (Some s) = if in_step told place s then Some s else None
+
+abbrev pub stand : Option Telling → Progress → Option Standing
+stand telling p = stand_of p.told p.place (steady telling p.retries)
+
+-- what a read did that went on from where a reader stands: as much as it gave was the next of the bytes, at
+-- least one where there is one and there is room; a failure comes only from a reader that can fail
+abbrev pub GivesSome : Option Standing → Option Standing → List ℕ → Result ℕ ImageError → Type 0
+GivesSome None new room r = ⊤
+GivesSome (Some s) new room (Ok n) =
+    (new ≡ Some (onto s n)) × (take n room ≡ part s.bytes s.place n) × (n ≤ length s.bytes - s.place)
+    × (0 < length room → s.place < length s.bytes → 0 < n)
+GivesSome (Some s) new room (Err e) = is_fault e ≡ true → s.can_fail ≡ true
+
+-- the same of a read that goes on until the room is full or the bytes end
+abbrev pub GivesAll : Option Standing → Option Standing → List ℕ → Result ℕ ImageError → Type 0
+GivesAll None new room r = ⊤
+GivesAll (Some s) new room (Ok n) =
+    (new ≡ Some (onto s n)) × (take n room ≡ part s.bytes s.place n) × (n ≡ min (length room) (length s.bytes - s.place))
+GivesAll (Some s) new room (Err e) = is_fault e ≡ true → s.can_fail ≡ true
+
+-- what a seek did from where a reader stands: it stands at the place now, or the place is behind its bytes
+abbrev pub GoesTo : Option Standing → Option Standing → ℕ → ℕ → Result Bool ImageError → Type 0
+GoesTo None new place now r = ⊤
+GoesTo (Some s) new place now (Ok true) = (new ≡ Some (record s { place = place })) × (now ≡ place)
+GoesTo (Some s) new place now (Ok false) = (new ≡ Some s) × (length s.bytes < place) × (now ≡ s.place)
+GoesTo (Some s) new place now (Err e) = is_fault e ≡ true → s.can_fail ≡ true
+
+-- what a read from a place on did, until the room is full or the bytes end
+abbrev pub GivesFrom : Option Standing → Option Standing → ℕ → ℕ → List ℕ → Result ℕ ImageError → Type 0
+GivesFrom None new place now room r = ⊤
+GivesFrom (Some s) new place now room (Ok n) =
+    (new ≡ Some (record s { place = now })) × (take n room ≡ part s.bytes place n) × (n ≡ min (length room) (length s.bytes - place))
+GivesFrom (Some s) new place now room (Err e) = is_fault e ≡ true → s.can_fail ≡ true
+
+-- by how much a count is above a number, and below it
+abbrev pub since : Option ℕ → ℕ → Option (ℕ × ℕ)
+since count taken = option_map (λ c. (c - taken, taken - c)) count
+
+-- Only a failure or a spent budget stops a read: the budget that is named is the one that was taken.
+pub record StopsBy (p : Progress) (e : ImageError) : Type 0 where
+  pub stops : is_stop e ≡ true
+  pub memory : is_memory e ≡ false
+  pub budget : IfSome (spent e) (λ n. (n ≡ p.budget) × (n ≡ p.taken))
+
+-- what a call leaves of the numbers beside the reader
+pub record Keeps (old new : Progress) : Type 0 where
+  pub told : new.told ≡ old.told
+  pub budget : new.budget ≡ old.budget
+  pub taken : old.taken ≤ new.taken

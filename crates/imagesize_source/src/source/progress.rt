@@ -1,0 +1,18 @@
+//! What is known beside a reader.
+ghost use Rattle.std.specs.Prelude.{◌≤◌};
+
+/// The numbers that a call keeps beside its reader.
+#[derive(Debug, Drop)]
+pub struct Progress {
+    /// The length of the input, as the reader told it.
+    pub told: u64,
+    /// How many bytes may be taken in all.
+    pub budget: u64,
+    /// How many bytes were taken.
+    pub taken: u64,
+    /// Where the reader stands.
+    pub place: u64,
+    /// How many interruptions were tried again.
+    pub retries: u64,
+    ghost within: { taken ≤ budget },
+}

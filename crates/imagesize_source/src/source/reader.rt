@@ -1,0 +1,283 @@
+//! A reader as a source.
+ghost use Rattle.std.specs.Prelude.{◌≡◌, ℕ, max, ◌+◌, ◌-◌, ◌<◌, ◌≤◌, min, take, length, IfOk, IfErr, OnOk, OnErr, IfSome, true};
+ghost use Rattle.imagesize_source.specs.Reading.{is_fault, seen, part_read};
+ghost use Rattle.imagesize_source.specs.ReaderState.{held_at, reader_state, start_state, Opens, kept_window};
+ghost use Rattle.imagesize_source.specs.State.{Runs};
+ghost use Rattle.imagesize_source.specs.Telling.{counted, given, SeekTells};
+ghost use Rattle.imagesize_source.specs.Standing.{Standing, steady, stand, GivesSome, GivesAll, StopsBy, Keeps, since, GoesTo, GivesFrom};
+
+use super::Source;
+use super::progress::Progress;
+use super::window::{Window, copy_kept, keep};
+use crate::{ImageError, ImageResult, Reason, Stop, Told};
+use std::io::SeekFrom;
+
+/// A reader that is read by place. It takes bytes within a budget, and keeps the first 32 of the input.
+#[derive(Drop)]
+pub struct ReaderSource<'a, R: Told> {
+    reader: &'a mut R,
+    progress: Progress,
+    window: Window,
+    // The end of the last reading.
+    present: u64,
+}
+
+impl<'a, R: Told> ReaderSource<'a, R> {
+    /// The reader of an input of this told length. It stands at the end.
+    pub fn new(reader: &'a mut R, told: u64) -> Self
+        ensures same_reference { result.reader.ghost_name ≡ reader.entry.ghost_name }
+        ensures state { reader_state (R.telling result.reader.now) (R.count result.reader.now) result.reader.ghost_name
+            result.progress result.window.items
+            ≡ start_state (R.telling reader.old) (R.count reader.old) reader.entry.ghost_name told }
+    {
+        let progress = Progress {
+            told,
+            budget: told.saturating_add(ALLOWANCE),
+            taken: 0,
+            place: told,
+            retries: 0,
+        };
+        ReaderSource {
+            reader,
+            progress,
+            window: Window::new(),
+            present: told,
+        }
+    }
+}
+
+impl<R: Told> Source for ReaderSource<'_, R> {
+    ghost state = { λ s. reader_state (R.telling s.reader.now) (R.count s.reader.now) s.reader.ghost_name s.progress s.window.items };
+
+    #[inline]
+    fn told(&self) -> u64 {
+        self.progress.told
+    }
+
+    #[inline]
+    fn taken(&self) -> u64 {
+        self.progress.taken
+    }
+
+    fn read_at(&mut self, place: u64, room: &mut [u8]) -> ImageResult<usize> {
+        if place != self.present && place > self.progress.told {
+            return Ok(0);
+        }
+        let count = read_windowed(
+            self.reader,
+            &mut self.progress,
+            &mut self.window,
+            place,
+            room,
+        )?;
+        self.present = place.saturating_add(count as u64);
+        Ok(count)
+    }
+}
+
+// How many bytes more than the told length a call may take.
+const ALLOWANCE: u64 = 64;
+
+/// What a reader told as a call began.
+#[derive(Clone, Copy, Debug)]
+pub struct Opened {
+    /// Where it stood.
+    pub place: u64,
+    /// The length of its input.
+    pub told: u64,
+}
+
+/// Asks a reader where it stands, and for its length. It stands at the end then.
+pub fn open<R: Told>(reader: &mut R) -> ImageResult<Opened>
+    ensures told { Opens (R.telling reader.old) (R.telling reader.new) result }
+    ensures counts { R.count reader.new ≡ R.count reader.old }
+    ensures fault { IfErr result (λ e. is_fault e ≡ true) }
+{
+    let place = seek(reader, SeekFrom::Current(0))?;
+    let told = seek(reader, SeekFrom::End(0))?;
+    Ok(Opened { place, told })
+}
+
+// A seek, whose error is a fault.
+fn seek<R: Told>(reader: &mut R, to: SeekFrom) -> ImageResult<u64>
+    ensures told { SeekTells (R.telling reader.old) (R.telling reader.new) to result }
+    ensures counts { R.count reader.new ≡ R.count reader.old }
+    ensures fault { IfErr result (λ e. is_fault e ≡ true) }
+{
+    match reader.seek_told(to) {
+        Ok(place) => Ok(place),
+        Err(error) => Err(ImageError::IoError(Reason::Fault(error))),
+    }
+}
+
+// How many interruptions of reads are tried again in one call.
+const MAX_RETRIES: u64 = 64;
+
+// One read, tried again where it is interrupted.
+fn read_retrying<R: Told>(reader: &mut R, retries: &mut u64, room: &mut [u8]) -> ImageResult<usize>
+    ensures bound { IfOk result (λ n. n ≤ length room.new) }
+    ensures steady { GivesSome (steady (R.telling reader.old) retries.old) (steady (R.telling reader.new) retries.new) room.new result }
+    ensures counts { R.count reader.new ≡ counted (R.count reader.old) result }
+    ensures fault { IfErr result (λ e. is_fault e ≡ true) }
+{
+    loop {
+        match reader.read_told(room) {
+            Ok(count) => return Ok(count),
+            Err(Stop::Fault(error)) => return Err(ImageError::IoError(Reason::Fault(error))),
+            Err(Stop::Interrupted(error)) => {
+                if *retries >= MAX_RETRIES {
+                    return Err(ImageError::IoError(Reason::Fault(error)));
+                }
+                *retries += 1;
+            }
+        }
+    }
+}
+
+// One read of at most what the budget leaves. It is counted, and moves the place on.
+fn read_some<R: Told>(
+    reader: &mut R,
+    progress: &mut Progress,
+    room: &mut [u8],
+) -> ImageResult<usize>
+    ensures bound { IfOk result (λ n. n ≤ length room.new) }
+    ensures stand { 0 < length room.new → GivesSome (stand (R.telling reader.old) progress.old)
+        (stand (R.telling reader.new) progress.new) room.new result }
+    ensures taken { progress.new.taken ≡ progress.old.taken + given result }
+    ensures since { since (R.count reader.new) progress.new.taken ≡ since (R.count reader.old) progress.old.taken }
+    ensures keeps { Keeps progress.old progress.new }
+    ensures stops { IfErr result (StopsBy progress.new) }
+{
+    let left = progress.budget - progress.taken;
+    if left == 0 {
+        let budget = progress.budget;
+        return Err(ImageError::IoError(Reason::BudgetSpent { budget }));
+    }
+    let most = room.len().min(left as usize);
+    let count = read_retrying(reader, &mut progress.retries, &mut room[..most])?;
+    progress.taken += count as u64;
+    progress.place = progress.place.saturating_add(count as u64);
+    Ok(count)
+}
+
+// Reads until the room is full or the bytes end.
+fn fill<R: Told>(reader: &mut R, progress: &mut Progress, room: &mut [u8]) -> ImageResult<usize>
+    ensures bound { IfOk result (λ n. n ≤ length room.new) }
+    ensures stand { GivesAll (stand (R.telling reader.old) progress.old)
+        (stand (R.telling reader.new) progress.new) room.new result }
+    ensures taken { IfOk result (λ n. progress.new.taken ≡ progress.old.taken + n) }
+    ensures within { IfSome (stand (R.telling reader.old) progress.old)
+        (λ s. progress.new.taken ≤ progress.old.taken + min (length room.new) (length s.bytes - s.place)) }
+    ensures since { since (R.count reader.new) progress.new.taken ≡ since (R.count reader.old) progress.old.taken }
+    ensures keeps { Keeps progress.old progress.new }
+    ensures stops { IfErr result (StopsBy progress.new) }
+{
+    let mut filled = 0;
+    while filled < room.len() {
+        let count = read_some(reader, progress, &mut room[filled..])?;
+        if count == 0 {
+            break;
+        }
+        filled += count;
+    }
+    Ok(filled)
+}
+
+// Goes to a place, and answers whether the reader stands there: it does not go above the told length.
+fn go_to<R: Told>(reader: &mut R, progress: &mut Progress, place: u64) -> ImageResult<bool>
+    ensures stand { GoesTo (stand (R.telling reader.old) progress.old) (stand (R.telling reader.new) progress.new) place progress.new.place result }
+    ensures since { since (R.count reader.new) progress.new.taken ≡ since (R.count reader.old) progress.old.taken }
+    ensures taken { progress.new.taken ≡ progress.old.taken }
+    ensures keeps { Keeps progress.old progress.new }
+    ensures stops { IfErr result (StopsBy progress.new) }
+{
+    if progress.place == place {
+        return Ok(true);
+    }
+    if place > progress.told {
+        return Ok(false);
+    }
+    match reader.seek_told(SeekFrom::Start(place)) {
+        Ok(_) => {
+            progress.place = place;
+            Ok(true)
+        }
+        Err(error) => Err(ImageError::IoError(Reason::Fault(error))),
+    }
+}
+
+// Reads from a place on until the room is full or the bytes end.
+#[tactic(auto, using(crate::proofs::Standings::not_reached, crate::proofs::Standings::from_there, crate::proofs::Standings::fails_there, crate::proofs::Standings::within_reached))]
+fn read_from<R: Told>(
+    reader: &mut R,
+    progress: &mut Progress,
+    place: u64,
+    room: &mut [u8],
+) -> ImageResult<usize>
+    ensures bound { IfOk result (λ n. n ≤ length room.new) }
+    ensures stand { GivesFrom (stand (R.telling reader.old) progress.old)
+        (stand (R.telling reader.new) progress.new) place progress.new.place room.new result }
+    ensures taken { IfOk result (λ n. progress.new.taken ≡ progress.old.taken + n) }
+    ensures within { IfSome (stand (R.telling reader.old) progress.old)
+        (λ s. progress.new.taken ≤ progress.old.taken + min (length room.new) (length s.bytes - place)) }
+    ensures pays { IfOk result (λ n. progress.old.told < place → 0 < n → progress.old.taken < progress.new.taken) }
+    ensures since { since (R.count reader.new) progress.new.taken ≡ since (R.count reader.old) progress.old.taken }
+    ensures keeps { Keeps progress.old progress.new }
+    ensures stops { IfErr result (StopsBy progress.new) }
+{
+    if !go_to(reader, progress, place)? {
+        return Ok(0);
+    }
+    let count = fill(reader, progress, room)?;
+    Ok(count)
+}
+
+// Reads from a place on that the window does not hold, and keeps what follows the window.
+fn read_behind<R: Told>(
+    reader: &mut R,
+    progress: &mut Progress,
+    window: &mut Window,
+    place: u64,
+    room: &mut [u8],
+) -> ImageResult<usize>
+    ensures bound { IfOk result (λ n. n ≤ length room.new) }
+    ensures stand { GivesFrom (stand (R.telling reader.old) progress.old)
+        (stand (R.telling reader.new) progress.new) place progress.new.place room.new result }
+    ensures taken { IfOk result (λ n. progress.new.taken ≡ progress.old.taken + n) }
+    ensures within { IfSome (stand (R.telling reader.old) progress.old)
+        (λ s. progress.new.taken ≤ progress.old.taken + min (length room.new) (length s.bytes - place)) }
+    ensures since { since (R.count reader.new) progress.new.taken ≡ since (R.count reader.old) progress.old.taken }
+    ensures keeps { Keeps progress.old progress.new }
+    ensures stops { IfErr result (StopsBy progress.new) }
+    ensures window { IfOk result (λ n. window.new.items ≡ kept_window window.old.items place (take n room.new)) }
+    ensures unkept { OnErr result (window.new.items ≡ window.old.items) }
+{
+    let count = read_from(reader, progress, place, room)?;
+    keep(window, place, &room[..count]);
+    Ok(count)
+}
+
+// Reads from a place on: what the window has of it, and what follows from the reader.
+fn read_windowed<R: Told>(
+    reader: &mut R,
+    progress: &mut Progress,
+    window: &mut Window,
+    place: u64,
+    room: &mut [u8],
+) -> ImageResult<usize>
+    ensures bound { IfOk result (λ n. n ≤ length room.new) }
+    ensures pays { IfOk result (λ n. 0 < n → max progress.old.told 32 < place → progress.old.taken < progress.new.taken) }
+    ensures runs { (home : ℕ) → Runs
+        (reader_state (R.telling reader.old) (R.count reader.old) home progress.old window.old.items)
+        (reader_state (R.telling reader.new) (R.count reader.new) home progress.new window.new.items)
+        (seen (λ n. take n room.new) result)
+        (part_read (held_at (stand (R.telling reader.old) progress.old) window.old.items).input place (length room.new)) }
+{
+    let copied = copy_kept(window, place, room);
+    if copied == room.len() {
+        return Ok(copied);
+    }
+    let next = place + copied as u64;
+    let count = read_behind(reader, progress, window, next, &mut room[copied..])?;
+    Ok(copied + count)
+}

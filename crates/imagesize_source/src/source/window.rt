@@ -1,0 +1,35 @@
+//! The first bytes of an input, kept as they were taken.
+ghost use Rattle.std.specs.Prelude.{◌≡◌, ◌-◌, ◌≤◌, ◌++◌, min, drop, length};
+ghost use Rattle.imagesize_source.specs.Input.{part};
+ghost use Rattle.imagesize_source.specs.ReaderState.{kept_window};
+
+use super::slice::copy_part;
+use arrayvec::ArrayVec;
+
+// How many of its first bytes a reader's source keeps.
+pub(super) const WINDOW: usize = 32;
+
+/// The first bytes of an input.
+pub(super) type Window = ArrayVec<u8, WINDOW>;
+
+// After bytes came from a place on: adds those that follow the window, as far as there is room.
+pub(super) fn keep(window: &mut Window, place: u64, bytes: &[u8])
+    ensures { window.new.items ≡ kept_window window.old.items place bytes.now }
+{
+    if place != window.len() as u64 {
+        return;
+    }
+    let kept = bytes.len().min(window.remaining_capacity());
+    // There is room for what is kept.
+    let _ = window.try_extend_from_slice(&bytes[..kept]);
+}
+
+// Copies what the window has from a place on into the room, and answers how many bytes that is.
+#[inline(always)]
+pub(super) fn copy_kept(window: &Window, place: u64, room: &mut [u8]) -> usize
+    ensures count { result ≡ min (length room.old) (length window.now.items - place) }
+    ensures copied { room.new ≡ part window.now.items place (length room.old) ++ drop result room.old }
+    ensures small { length window.now.items ≤ 32 }
+{
+    copy_part(window.as_slice(), place, room)
+}
