@@ -12,7 +12,7 @@ use Rattle.imagesize_source.specs.Layout.{Layout, if_there}
 use Rattle.imagesize_source.specs.Layout.Layout.{field, «done»}
 
 -- the magic number
-abbrev pub is_dds : List ℕ → Bool
+unfoldable pub is_dds : List ℕ → Bool
 is_dds head = begins (codes "DDS ") head
 
 -- how the pixels of a four-character code are stored

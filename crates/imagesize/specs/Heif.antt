@@ -10,7 +10,7 @@ use Rattle.imagesize_source.specs.Layout.{Layout, if_there}
 use Rattle.imagesize_source.specs.Layout.Layout.{«done»}
 
 -- a box of the type of files
-abbrev pub is_heif : List ℕ → Bool
+unfoldable pub is_heif : List ℕ → Bool
 is_heif head = stands_at 4 (codes "ftyp") head
 
 -- how the pixels of a brand are stored

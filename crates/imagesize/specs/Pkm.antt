@@ -11,11 +11,11 @@ use Rattle.imagesize_source.specs.Layout.{Layout, if_there}
 use Rattle.imagesize_source.specs.Layout.Layout.{field, «done»}
 
 -- the tag, and a version
-abbrev pub is_pkm : List ℕ → Bool
+unfoldable pub is_pkm : List ℕ → Bool
 is_pkm head = begins (codes "PKM 10") head || begins (codes "PKM 20") head
 
 -- a data type from 0x1608 to 0x160B
-abbrev pub is_eac : List ℕ → Bool
+unfoldable pub is_eac : List ℕ → Bool
 is_eac head = is_pkm head && (slice_index head 6 == 0x16 && (nat_le 0x08 (slice_index head 7) && nat_le (slice_index head 7) 0x0B))
 
 -- how the pixels of a data type are stored

@@ -9,7 +9,7 @@ use Rattle.imagesize_source.specs.Layout.{Layout}
 use Rattle.imagesize_source.specs.Layout.Layout.{field, bytes, refuse, «done»}
 
 -- a RIFF form of the type WEBP
-abbrev pub is_webp : List ℕ → Bool
+unfoldable pub is_webp : List ℕ → Bool
 is_webp head = begins (codes "RIFF") head && stands_at 8 (codes "WEBP") head
 
 -- a lossy image: of each dimension the low 14 bits, above which stands how to scale it

@@ -23,6 +23,7 @@ pub fn matches(head: &[u8; 12]) -> bool
 
 /// Whether these bytes begin a PKM file of an ATC data type.
 #[inline]
+#[tactic(auto, unfolding(crate::specs::Atc::is_atc))]
 fn is_atc(header: &[u8]) -> bool
     requires { 8 ≤ length header.now }
     ensures { result ≡ is_atc header.now }

@@ -14,6 +14,7 @@ use imagesize_source::util::{Endian, read_if_there, read_u32};
 
 /// Whether the magic number stands first.
 #[inline]
+#[tactic(auto, unfolding(crate::specs::Dds::is_dds))]
 pub fn matches(head: &[u8; 12]) -> bool
     ensures { result ≡ is_dds head.now }
 {

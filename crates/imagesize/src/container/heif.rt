@@ -12,6 +12,7 @@ use imagesize_source::util::read_if_there;
 
 /// Whether a box of the type of files stands first.
 #[inline]
+#[tactic(auto, unfolding(crate::specs::Heif::is_heif))]
 pub fn matches(head: &[u8; 12]) -> bool
     ensures { result ≡ is_heif head.now }
 {

@@ -20,6 +20,7 @@ pub fn matches(head: &[u8; 12]) -> bool
 
 /// Whether the data type is one of EAC.
 #[inline]
+#[tactic(auto, unfolding(crate::specs::Pkm::is_eac))]
 pub fn matches_eac(head: &[u8; 12]) -> bool
     ensures { result ≡ is_eac head.now }
 {
@@ -28,6 +29,7 @@ pub fn matches_eac(head: &[u8; 12]) -> bool
 
 /// Whether these bytes begin with the tag, and a version behind it.
 #[inline]
+#[tactic(auto, unfolding(crate::specs::Pkm::is_pkm))]
 pub fn is_pkm(header: &[u8]) -> bool
     ensures { result ≡ is_pkm header.now }
 {

@@ -14,6 +14,7 @@ use imagesize_source::util::{Endian, read_bytes, read_if_there, read_u32};
 
 /// Whether the length of the older header stands first, or the version of the newer.
 #[inline]
+#[tactic(auto, unfolding(crate::specs::Pvrtc::is_pvrtc))]
 pub fn matches(head: &[u8; 12]) -> bool
     ensures { result ≡ is_pvrtc head.now }
 {
@@ -21,6 +22,7 @@ pub fn matches(head: &[u8; 12]) -> bool
 }
 
 #[inline]
+#[tactic(auto, unfolding(crate::specs::Pvrtc::is_pvr3))]
 fn is_version_3(header: &[u8]) -> bool
     ensures { result ≡ is_pvr3 header.now }
 {

@@ -11,6 +11,7 @@ use imagesize_source::util::{Endian, read_u16};
 
 /// Whether the magic number 0xA5E0 stands behind the length of the file.
 #[inline]
+#[tactic(auto, unfolding(crate::specs::Aseprite::is_aseprite))]
 pub fn matches(head: &[u8; 12]) -> bool
     ensures { result ≡ is_aseprite head.now }
 {

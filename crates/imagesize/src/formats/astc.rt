@@ -11,6 +11,7 @@ use imagesize_source::util::{Endian, read_u24};
 
 /// Whether the magic number stands first.
 #[inline]
+#[tactic(auto, unfolding(crate::specs::Astc::is_astc))]
 pub fn matches(head: &[u8; 12]) -> bool
     ensures { result ≡ is_astc head.now }
 {

@@ -11,6 +11,7 @@ use imagesize_source::util::{Endian, read_u32};
 
 /// Whether the file is of the type `BM`.
 #[inline]
+#[tactic(auto, unfolding(crate::specs::Bmp::is_bmp))]
 pub fn matches(head: &[u8; 12]) -> bool
     ensures { result ≡ is_bmp head.now }
 {

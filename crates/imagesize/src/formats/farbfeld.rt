@@ -11,6 +11,7 @@ use imagesize_source::util::{Endian, read_u32};
 
 /// Whether the magic value stands first.
 #[inline]
+#[tactic(auto, unfolding(crate::specs::Farbfeld::is_farbfeld))]
 pub fn matches(head: &[u8; 12]) -> bool
     ensures { result ≡ is_farbfeld head.now }
 {

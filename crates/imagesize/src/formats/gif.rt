@@ -11,6 +11,7 @@ use imagesize_source::util::{Endian, read_u16};
 
 /// Whether the signature stands first, of either version.
 #[inline]
+#[tactic(auto, unfolding(crate::specs::Gif::is_gif))]
 pub fn matches(head: &[u8; 12]) -> bool
     ensures { result ≡ is_gif head.now }
 {

@@ -11,6 +11,7 @@ use imagesize_source::util::{Endian, read_u32};
 
 /// Whether the identifier stands first.
 #[inline]
+#[tactic(auto, unfolding(crate::specs::Ktx2::is_ktx2))]
 pub fn matches(head: &[u8; 12]) -> bool
     ensures { result ≡ is_ktx2 head.now }
 {

@@ -11,6 +11,7 @@ use imagesize_source::util::{Endian, read_u32};
 
 /// Whether the signature stands first.
 #[inline]
+#[tactic(auto, unfolding(crate::specs::Psd::is_psd))]
 pub fn matches(head: &[u8; 12]) -> bool
     ensures { result ≡ is_psd head.now }
 {

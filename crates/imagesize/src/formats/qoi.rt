@@ -11,6 +11,7 @@ use imagesize_source::util::{Endian, read_u32};
 
 /// Whether the magic bytes stand first.
 #[inline]
+#[tactic(auto, unfolding(crate::specs::Qoi::is_qoi))]
 pub fn matches(head: &[u8; 12]) -> bool
     ensures { result ≡ is_qoi head.now }
 {

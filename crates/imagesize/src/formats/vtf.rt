@@ -11,6 +11,7 @@ use imagesize_source::util::{Endian, read_u16};
 
 /// Whether the signature stands first.
 #[inline]
+#[tactic(auto, unfolding(crate::specs::Vtf::is_vtf))]
 pub fn matches(head: &[u8; 12]) -> bool
     ensures { result ≡ is_vtf head.now }
 {

@@ -11,6 +11,7 @@ use imagesize_source::util::{Endian, read_bytes, read_u16, read_u24, read_u32};
 
 /// Whether a RIFF form of the type `WEBP` stands first.
 #[inline]
+#[tactic(auto, unfolding(crate::specs::Webp::is_webp))]
 pub fn matches(head: &[u8; 12]) -> bool
     ensures { result ≡ is_webp head.now }
 {
