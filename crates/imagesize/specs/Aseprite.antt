@@ -7,7 +7,7 @@ use Rattle.imagesize_source.specs.Layout.{Layout}
 use Rattle.imagesize_source.specs.Layout.Layout.{field, «done»}
 
 -- the magic number 0xA5E0 stands behind the length of the file
-abbrev pub is_aseprite : List ℕ → Bool
+unfoldable pub is_aseprite : List ℕ → Bool
 is_aseprite head = stands_at 4 (0xE0 ∷ 0xA5 ∷ []) head
 
 -- the width, then the height

@@ -7,7 +7,7 @@ use Rattle.imagesize_source.specs.Layout.{Layout}
 use Rattle.imagesize_source.specs.Layout.Layout.{field, «done»}
 
 -- the magic number 0x5CA1AB13, or 0x5CA0AB13
-abbrev pub is_astc : List ℕ → Bool
+unfoldable pub is_astc : List ℕ → Bool
 is_astc head = begins (0x13 ∷ 0xAB ∷ 0xA1 ∷ 0x5C ∷ []) head || begins (0x13 ∷ 0xAB ∷ 0xA0 ∷ 0x5C ∷ []) head
 
 -- three bytes each

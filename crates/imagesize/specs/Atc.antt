@@ -12,7 +12,7 @@ use Rattle.imagesize_source.specs.Layout.{Layout, if_there}
 use Rattle.imagesize_source.specs.Layout.Layout.{field, bytes, «done»}
 
 -- a PKM file of an ATC data type
-abbrev pub is_atc : List ℕ → Bool
+unfoldable pub is_atc : List ℕ → Bool
 is_atc head = is_pkm head && (stands_at 6 (0x8C ∷ 0x92 ∷ []) head || stands_at 6 (0x8C ∷ 0x93 ∷ []) head || stands_at 6 (0x87 ∷ 0xEE ∷ []) head)
 
 -- how the pixels of a data type are stored
@@ -37,5 +37,5 @@ atc_bare = field Little 4 4 (λ height. field Little 8 4 (λ width. done (record
 
 abbrev pub atc : Layout ImageSize
 atc = bytes 0 4 (λ tag.
-  if begins (codes "DDS ") tag then atc_in_dds
-  else bytes 0 8 (λ head. if is_atc head then pkm else atc_bare))
+    if begins (codes "DDS ") tag then atc_in_dds
+    else bytes 0 8 (λ head. if is_atc head then pkm else atc_bare))

@@ -7,7 +7,7 @@ use Rattle.imagesize_source.specs.Layout.{Layout}
 use Rattle.imagesize_source.specs.Layout.Layout.{field, «done»}
 
 -- the type of the file
-abbrev pub is_bmp : List ℕ → Bool
+unfoldable pub is_bmp : List ℕ → Bool
 is_bmp head = begins (codes "BM") head
 
 -- the width, then the height

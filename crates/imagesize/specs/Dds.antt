@@ -12,16 +12,16 @@ use Rattle.imagesize_source.specs.Layout.{Layout, if_there}
 use Rattle.imagesize_source.specs.Layout.Layout.{field, «done»}
 
 -- the magic number
-abbrev pub is_dds : List ℕ → Bool
+unfoldable pub is_dds : List ℕ → Bool
 is_dds head = begins (codes "DDS ") head
 
 -- how the pixels of a four-character code are stored
 abbrev pub dds_codes : List (List ℕ × DdsCompression)
 dds_codes =
-  (codes "DXT1", Bc1) ∷ (codes "DXT3", Bc2) ∷ (codes "DXT5", Bc3)
-  ∷ (codes "ATI1", Bc4) ∷ (codes "BC4U", Bc4) ∷ (codes "BC4S", Bc4)
-  ∷ (codes "ATI2", Bc5) ∷ (codes "BC5U", Bc5) ∷ (codes "BC5S", Bc5)
-  ∷ (codes "BC6H", Bc6h) ∷ (codes "BC7U", Bc7) ∷ (codes "BC7L", Bc7) ∷ []
+    (codes "DXT1", Bc1) ∷ (codes "DXT3", Bc2) ∷ (codes "DXT5", Bc3)
+    ∷ (codes "ATI1", Bc4) ∷ (codes "BC4U", Bc4) ∷ (codes "BC4S", Bc4)
+    ∷ (codes "ATI2", Bc5) ∷ (codes "BC5U", Bc5) ∷ (codes "BC5S", Bc5)
+    ∷ (codes "BC6H", Bc6h) ∷ (codes "BC7U", Bc7) ∷ (codes "BC7L", Bc7) ∷ []
 
 -- those of the formats of the extended header
 abbrev pub dxgi_formats : List (ℕ × DdsCompression)
@@ -39,9 +39,9 @@ dds_number_of table (Some bs) = look_up table Unknown (number Little bs)
 abbrev pub dds_compression_by : Option (List ℕ) → Layout DdsCompression
 dds_compression_by None = done Unknown
 dds_compression_by (Some code) =
-  if bytes_eq code (codes "DX10") then if_there 128 4 (λ bs. done (dds_number_of dxgi_formats bs))
-  else if bytes_eq code (0 ∷ 0 ∷ 0 ∷ 0 ∷ []) then if_there 88 4 (λ bs. done (dds_number_of dds_bit_counts bs))
-  else done (look_up_text dds_codes Unknown code)
+    if bytes_eq code (codes "DX10") then if_there 128 4 (λ bs. done (dds_number_of dxgi_formats bs))
+    else if bytes_eq code (0 ∷ 0 ∷ 0 ∷ 0 ∷ []) then if_there 88 4 (λ bs. done (dds_number_of dds_bit_counts bs))
+    else done (look_up_text dds_codes Unknown code)
 
 unfoldable pub dds_compression : Layout DdsCompression
 dds_compression = if_there 84 4 dds_compression_by

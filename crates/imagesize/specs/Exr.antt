@@ -3,5 +3,5 @@ use Rattle.std.specs.Prelude.{ℕ, Bool, List, [], ◌∷◌}
 use Rattle.imagesize.specs.Head.{begins}
 
 -- the magic number
-abbrev pub is_exr : List ℕ → Bool
+unfoldable pub is_exr : List ℕ → Bool
 is_exr head = begins (0x76 ∷ 0x2F ∷ 0x31 ∷ 0x01 ∷ []) head

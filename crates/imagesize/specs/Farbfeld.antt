@@ -7,7 +7,7 @@ use Rattle.imagesize_source.specs.Layout.{Layout}
 use Rattle.imagesize_source.specs.Layout.Layout.{field, «done»}
 
 -- the magic value
-abbrev pub is_farbfeld : List ℕ → Bool
+unfoldable pub is_farbfeld : List ℕ → Bool
 is_farbfeld head = begins (codes "farbfeld") head
 
 -- the width, then the height

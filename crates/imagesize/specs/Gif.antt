@@ -7,7 +7,7 @@ use Rattle.imagesize_source.specs.Layout.{Layout}
 use Rattle.imagesize_source.specs.Layout.Layout.{field, «done»}
 
 -- the signature, and what both versions begin with
-abbrev pub is_gif : List ℕ → Bool
+unfoldable pub is_gif : List ℕ → Bool
 is_gif head = begins (codes "GIF8") head
 
 -- the logical screen

@@ -3,5 +3,5 @@ use Rattle.std.specs.Prelude.{ℕ, Bool, List, codes, [], ◌∷◌, ◌++◌, �
 use Rattle.imagesize.specs.Head.{begins}
 
 -- the first line
-abbrev pub is_hdr : List ℕ → Bool
+unfoldable pub is_hdr : List ℕ → Bool
 is_hdr head = begins (codes "#?RADIANCE" ++ 0x0A ∷ []) head || begins (codes "#?RGBE" ++ 0x0A ∷ []) head

@@ -10,16 +10,16 @@ use Rattle.imagesize_source.specs.Layout.{Layout, if_there}
 use Rattle.imagesize_source.specs.Layout.Layout.{«done»}
 
 -- a box of the type of files
-abbrev pub is_heif : List ℕ → Bool
+unfoldable pub is_heif : List ℕ → Bool
 is_heif head = stands_at 4 (codes "ftyp") head
 
 -- how the pixels of a brand are stored
 abbrev pub heif_brands : List (List ℕ × Compression)
 heif_brands =
-  (codes "heic", Hevc) ∷ (codes "heix", Hevc) ∷ (codes "heis", Hevc) ∷ (codes "hevs", Hevc)
-  ∷ (codes "heim", Hevc) ∷ (codes "hevm", Hevc) ∷ (codes "hevc", Hevc) ∷ (codes "hevx", Hevc)
-  ∷ (codes "avif", Av1) ∷ (codes "avio", Av1) ∷ (codes "avis", Av1) ∷ (codes "MA1A", Av1) ∷ (codes "MA1B", Av1)
-  ∷ (codes "jpeg", Jpeg) ∷ (codes "jpgs", Jpeg) ∷ []
+    (codes "heic", Hevc) ∷ (codes "heix", Hevc) ∷ (codes "heis", Hevc) ∷ (codes "hevs", Hevc)
+    ∷ (codes "heim", Hevc) ∷ (codes "hevm", Hevc) ∷ (codes "hevc", Hevc) ∷ (codes "hevx", Hevc)
+    ∷ (codes "avif", Av1) ∷ (codes "avio", Av1) ∷ (codes "avis", Av1) ∷ (codes "MA1A", Av1) ∷ (codes "MA1B", Av1)
+    ∷ (codes "jpeg", Jpeg) ∷ (codes "jpgs", Jpeg) ∷ []
 
 unfoldable pub brand_compression : List ℕ → Compression
 brand_compression brand = look_up_text heif_brands Unknown brand
@@ -39,5 +39,5 @@ compatible_compression (Some more) = if is_general (four_at 4 more) then brand_c
 -- the major brand, or where that is general the compatible ones behind these twelve bytes
 unfoldable pub heif_compression : ℕ → List ℕ → Layout Compression
 heif_compression place head =
-  if is_general (four_at 8 head) then if_there (place + 12) 12 (λ more. done (compatible_compression more))
-  else done (brand_compression (four_at 8 head))
+    if is_general (four_at 8 head) then if_there (place + 12) 12 (λ more. done (compatible_compression more))
+    else done (brand_compression (four_at 8 head))

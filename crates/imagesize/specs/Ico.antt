@@ -3,5 +3,5 @@ use Rattle.std.specs.Prelude.{ℕ, Bool, List, [], ◌∷◌}
 use Rattle.imagesize.specs.Head.{begins}
 
 -- no reserved byte is set, and the images are icons
-abbrev pub is_ico : List ℕ → Bool
+unfoldable pub is_ico : List ℕ → Bool
 is_ico head = begins (0 ∷ 0 ∷ 1 ∷ 0 ∷ []) head

@@ -38,31 +38,31 @@ pub record Row : Type 0 where
 -- the types that their first bytes tell, in the order in which they are tried
 abbrev pub rows : ℕ → List ℕ → List Row
 rows place head =
-  record { holds = is_jpeg; kind = done Jpeg }
-  ∷ record { holds = is_gif; kind = done Gif }
-  ∷ record { holds = is_tiff; kind = done Tiff }
-  ∷ record { holds = is_webp; kind = done Webp }
-  ∷ record { holds = is_heif; kind = bind (heif_compression place head) (λ compression. done (Heif compression)) }
-  ∷ record { holds = is_jxl; kind = done Jxl }
-  ∷ record { holds = is_bmp; kind = done Bmp }
-  ∷ record { holds = is_psd; kind = done Psd }
-  ∷ record { holds = is_ico; kind = done Ico }
-  ∷ record { holds = is_aseprite; kind = done Aseprite }
-  ∷ record { holds = is_astc; kind = done Astc }
-  ∷ record { holds = is_atc; kind = bind atc_compression (λ compression. done (Atc compression)) }
-  ∷ record { holds = is_pvrtc; kind = bind pvrtc_compression (λ compression. done (Pvrtc compression)) }
-  ∷ record { holds = is_eac; kind = bind pkm_compression (λ compression. done (Eac compression)) }
-  ∷ record { holds = is_pkm; kind = bind pkm_compression (λ compression. done (Etc2 compression)) }
-  ∷ record { holds = is_exr; kind = done Exr }
-  ∷ record { holds = is_hdr; kind = done Hdr }
-  ∷ record { holds = is_dds; kind = bind dds_compression (λ compression. done (Dds compression)) }
-  ∷ record { holds = is_ktx2; kind = done Ktx2 }
-  ∷ record { holds = is_qoi; kind = done Qoi }
-  ∷ record { holds = is_farbfeld; kind = done Farbfeld }
-  ∷ record { holds = is_pnm; kind = done Pnm }
-  ∷ record { holds = is_vtf; kind = done Vtf }
-  ∷ record { holds = is_ilbm; kind = done Ilbm }
-  ∷ []
+    record { holds = is_jpeg; kind = done Jpeg }
+    ∷ record { holds = is_gif; kind = done Gif }
+    ∷ record { holds = is_tiff; kind = done Tiff }
+    ∷ record { holds = is_webp; kind = done Webp }
+    ∷ record { holds = is_heif; kind = bind (heif_compression place head) (λ compression. done (Heif compression)) }
+    ∷ record { holds = is_jxl; kind = done Jxl }
+    ∷ record { holds = is_bmp; kind = done Bmp }
+    ∷ record { holds = is_psd; kind = done Psd }
+    ∷ record { holds = is_ico; kind = done Ico }
+    ∷ record { holds = is_aseprite; kind = done Aseprite }
+    ∷ record { holds = is_astc; kind = done Astc }
+    ∷ record { holds = is_atc; kind = bind atc_compression (λ compression. done (Atc compression)) }
+    ∷ record { holds = is_pvrtc; kind = bind pvrtc_compression (λ compression. done (Pvrtc compression)) }
+    ∷ record { holds = is_eac; kind = bind pkm_compression (λ compression. done (Eac compression)) }
+    ∷ record { holds = is_pkm; kind = bind pkm_compression (λ compression. done (Etc2 compression)) }
+    ∷ record { holds = is_exr; kind = done Exr }
+    ∷ record { holds = is_hdr; kind = done Hdr }
+    ∷ record { holds = is_dds; kind = bind dds_compression (λ compression. done (Dds compression)) }
+    ∷ record { holds = is_ktx2; kind = done Ktx2 }
+    ∷ record { holds = is_qoi; kind = done Qoi }
+    ∷ record { holds = is_farbfeld; kind = done Farbfeld }
+    ∷ record { holds = is_pnm; kind = done Pnm }
+    ∷ record { holds = is_vtf; kind = done Vtf }
+    ∷ record { holds = is_ilbm; kind = done Ilbm }
+    ∷ []
 
 -- what the first row that holds tells, or else another layout
 abbrev pub first_row : List Row → List ℕ → Layout ImageType → Layout ImageType

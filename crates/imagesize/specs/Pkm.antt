@@ -11,18 +11,18 @@ use Rattle.imagesize_source.specs.Layout.{Layout, if_there}
 use Rattle.imagesize_source.specs.Layout.Layout.{field, «done»}
 
 -- the tag, and a version
-abbrev pub is_pkm : List ℕ → Bool
+unfoldable pub is_pkm : List ℕ → Bool
 is_pkm head = begins (codes "PKM 10") head || begins (codes "PKM 20") head
 
 -- a data type from 0x1608 to 0x160B
-abbrev pub is_eac : List ℕ → Bool
+unfoldable pub is_eac : List ℕ → Bool
 is_eac head = is_pkm head && (slice_index head 6 == 0x16 && (nat_le 0x08 (slice_index head 7) && nat_le (slice_index head 7) 0x0B))
 
 -- how the pixels of a data type are stored
 abbrev pub pkm_data_types : List (ℕ × PkmCompression)
 pkm_data_types =
-  (0, Etc1) ∷ (1, Etc2) ∷ (2, Etc2A1) ∷ (3, Etc2A8) ∷ (4, Etc2A1) ∷ (5, Etc2A8)
-  ∷ (0x1608, EacRgSigned) ∷ (0x1609, EacRSigned) ∷ (0x160A, EacR) ∷ (0x160B, EacRg) ∷ []
+    (0, Etc1) ∷ (1, Etc2) ∷ (2, Etc2A1) ∷ (3, Etc2A8) ∷ (4, Etc2A1) ∷ (5, Etc2A8)
+    ∷ (0x1608, EacRgSigned) ∷ (0x1609, EacRSigned) ∷ (0x160A, EacR) ∷ (0x160B, EacRg) ∷ []
 
 abbrev pub pkm_compression_of : Option (List ℕ) → PkmCompression
 pkm_compression_of None = Unknown
@@ -35,4 +35,4 @@ pkm_compression = if_there 6 2 (λ bs. done (pkm_compression_of bs))
 -- the width and the height with the border, which are not used, and those without
 abbrev pub pkm : Layout ImageSize
 pkm = field Big 8 2 (λ _. field Big 10 2 (λ _. field Big 12 2 (λ width. field Big 14 2 (λ height.
-  done (record { width = width; height = height })))))
+    done (record { width = width; height = height })))))

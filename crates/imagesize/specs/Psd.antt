@@ -7,7 +7,7 @@ use Rattle.imagesize_source.specs.Layout.{Layout}
 use Rattle.imagesize_source.specs.Layout.Layout.{field, «done»}
 
 -- the signature
-abbrev pub is_psd : List ℕ → Bool
+unfoldable pub is_psd : List ℕ → Bool
 is_psd head = begins (codes "8BPS") head
 
 -- the height, then the width

@@ -11,18 +11,18 @@ use Rattle.imagesize_source.specs.Layout.{Layout, if_there}
 use Rattle.imagesize_source.specs.Layout.Layout.{field, bytes, «done»}
 
 -- the version of the header of version 3
-abbrev pub is_pvr3 : List ℕ → Bool
+unfoldable pub is_pvr3 : List ℕ → Bool
 is_pvr3 head = begins (codes "PVR" ++ 3 ∷ []) head
 
 -- the length of the older header, 52, or the version of the newer
-abbrev pub is_pvrtc : List ℕ → Bool
+unfoldable pub is_pvrtc : List ℕ → Bool
 is_pvrtc head = begins (52 ∷ 0 ∷ 0 ∷ 0 ∷ []) head || is_pvr3 head
 
 -- how the pixels of a format are stored
 abbrev pub pvrtc_formats : List (ℕ × PvrtcCompression)
 pvrtc_formats =
-  (0, Pvrtc2BppRgb) ∷ (1, Pvrtc2BppRgba) ∷ (2, Pvrtc4BppRgb) ∷ (3, Pvrtc4BppRgba)
-  ∷ (22, Etc2Rgb) ∷ (23, Etc2Rgba) ∷ (24, Etc2RgbA1) ∷ (25, EacR11) ∷ (26, EacRg11) ∷ []
+    (0, Pvrtc2BppRgb) ∷ (1, Pvrtc2BppRgba) ∷ (2, Pvrtc4BppRgb) ∷ (3, Pvrtc4BppRgba)
+    ∷ (22, Etc2Rgb) ∷ (23, Etc2Rgba) ∷ (24, Etc2RgbA1) ∷ (25, EacR11) ∷ (26, EacRg11) ∷ []
 
 abbrev pub pvrtc_format_of : Option (List ℕ) → PvrtcCompression
 pvrtc_format_of None = Unknown

@@ -7,7 +7,7 @@ use Rattle.imagesize_source.specs.Layout.{Layout}
 use Rattle.imagesize_source.specs.Layout.Layout.{field, «done»}
 
 -- the magic bytes
-abbrev pub is_qoi : List ℕ → Bool
+unfoldable pub is_qoi : List ℕ → Bool
 is_qoi head = begins (codes "qoif") head
 
 -- the width, then the height

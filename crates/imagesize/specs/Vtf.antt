@@ -7,7 +7,7 @@ use Rattle.imagesize_source.specs.Layout.{Layout}
 use Rattle.imagesize_source.specs.Layout.Layout.{field, «done»}
 
 -- the signature
-abbrev pub is_vtf : List ℕ → Bool
+unfoldable pub is_vtf : List ℕ → Bool
 is_vtf head = begins (codes "VTF" ++ 0 ∷ []) head
 
 -- the width, then the height

@@ -9,7 +9,7 @@ use Rattle.imagesize_source.specs.Layout.{Layout}
 use Rattle.imagesize_source.specs.Layout.Layout.{field, bytes, refuse, «done»}
 
 -- a RIFF form of the type WEBP
-abbrev pub is_webp : List ℕ → Bool
+unfoldable pub is_webp : List ℕ → Bool
 is_webp head = begins (codes "RIFF") head && stands_at 8 (codes "WEBP") head
 
 -- a lossy image: of each dimension the low 14 bits, above which stands how to scale it
@@ -27,10 +27,10 @@ extended_webp = field Little 24 3 (λ x. field Little 27 3 (λ y. done (record {
 -- the form that the tag of the first chunk names by its last byte: a space, L or X
 abbrev pub webp_form : ℕ → Layout ImageSize
 webp_form letter =
-  if letter == 0x20 then lossy_webp
-  else if letter == 0x4C then lossless_webp
-  else if letter == 0x58 then extended_webp
-  else refuse (IoError InvalidVp8Tag)
+    if letter == 0x20 then lossy_webp
+    else if letter == 0x4C then lossless_webp
+    else if letter == 0x58 then extended_webp
+    else refuse (IoError InvalidVp8Tag)
 
 abbrev pub webp : Layout ImageSize
 webp = bytes 12 4 (λ tag. webp_form (slice_index tag 3))

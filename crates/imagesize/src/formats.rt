@@ -7,12 +7,11 @@ ghost use Rattle.imagesize_source.specs.State.{Runs};
 ghost use Rattle.imagesize_source.specs.declared.error.ImageError.TheVariants as error;
 ghost use Rattle.imagesize_source.specs.Layout.Layout.{refuse};
 
-use imagesize_source::source::Source;
-use imagesize_source::util::read_bytes;
-
 use crate::container::{atc, dds, heif, pkm, pvrtc};
 use crate::types::{ImageSize, ImageType};
 use crate::{ImageError, ImageResult};
+use imagesize_source::source::Source;
+use imagesize_source::util::read_bytes;
 
 pub mod aseprite;
 pub mod astc;
@@ -46,7 +45,9 @@ pub(crate) fn detect<S: Source>(source: &mut S, place: u64) -> ImageResult<Image
         head if gif::matches(head) => ImageType::Gif,
         head if tiff::matches(head) => ImageType::Tiff,
         head if webp::matches(head) => ImageType::Webp,
-        head if heif::matches(head) => ImageType::Heif(heif::detect_compression(source, place, head)?),
+        head if heif::matches(head) => ImageType::Heif(heif::detect_compression(
+            source, place, head,
+        )?),
         head if jxl::matches(head) => ImageType::Jxl,
         head if bmp::matches(head) => ImageType::Bmp,
         head if psd::matches(head) => ImageType::Psd,

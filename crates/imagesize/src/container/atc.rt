@@ -7,12 +7,11 @@ ghost use Rattle.imagesize_source.specs.declared.util.Endian.TheVariants as endi
 ghost use Rattle.imagesize_source.specs.Layout.{over};
 ghost use Rattle.imagesize_source.specs.State.{Runs};
 
-use imagesize_source::source::Source;
-use imagesize_source::util::{Endian, read_bytes, read_if_there, read_u32};
-
 use crate::ImageResult;
 use crate::container::pkm;
 use crate::types::{AtcCompression, ImageSize};
+use imagesize_source::source::Source;
+use imagesize_source::util::{Endian, read_bytes, read_if_there, read_u32};
 
 /// Whether it is a PKM file of an ATC data type.
 #[inline]
@@ -24,6 +23,7 @@ pub fn matches(head: &[u8; 12]) -> bool
 
 /// Whether these bytes begin a PKM file of an ATC data type.
 #[inline]
+#[tactic(auto, unfolding(crate::specs::Atc::is_atc))]
 fn is_atc(header: &[u8]) -> bool
     requires { 8 ≤ length header.now }
     ensures { result ≡ is_atc header.now }

@@ -7,14 +7,14 @@ ghost use Rattle.imagesize_source.specs.Layout.Layout.{«done»};
 ghost use Rattle.imagesize_source.specs.Layout.{over};
 ghost use Rattle.imagesize_source.specs.State.{Runs};
 
+use crate::ImageResult;
+use crate::types::{DdsCompression, ImageSize};
 use imagesize_source::source::Source;
 use imagesize_source::util::{Endian, read_if_there, read_u32};
 
-use crate::ImageResult;
-use crate::types::{DdsCompression, ImageSize};
-
 /// Whether the magic number stands first.
 #[inline]
+#[tactic(auto, unfolding(crate::specs::Dds::is_dds))]
 pub fn matches(head: &[u8; 12]) -> bool
     ensures { result ≡ is_dds head.now }
 {

@@ -5,14 +5,14 @@ ghost use Rattle.imagesize_source.specs.Layout.{if_there, over};
 ghost use Rattle.imagesize_source.specs.Layout.Layout.{«done»};
 ghost use Rattle.imagesize_source.specs.State.{Runs, Sound};
 
+use crate::ImageResult;
+use crate::types::Compression;
 use imagesize_source::source::Source;
 use imagesize_source::util::read_if_there;
 
-use crate::ImageResult;
-use crate::types::Compression;
-
 /// Whether a box of the type of files stands first.
 #[inline]
+#[tactic(auto, unfolding(crate::specs::Heif::is_heif))]
 pub fn matches(head: &[u8; 12]) -> bool
     ensures { result ≡ is_heif head.now }
 {
@@ -21,7 +21,11 @@ pub fn matches(head: &[u8; 12]) -> bool
 
 /// How the pixels are stored, by the major brand, or by the compatible brands where that is general.
 #[tactic(auto, using(imagesize_source::proofs::Runs::steps), unfolding(crate::specs::Heif::heif_compression))]
-pub fn detect_compression<S: Source>(source: &mut S, place: u64, head: &[u8; 12]) -> ImageResult<Compression>
+pub fn detect_compression<S: Source>(
+    source: &mut S,
+    place: u64,
+    head: &[u8; 12],
+) -> ImageResult<Compression>
     requires { Sound (S.state source.old) }
     ensures { Runs (S.state source.old) (S.state source.new) result (over (S.state source.old).held.input (heif_compression place head.now)) }
 {

@@ -5,11 +5,10 @@ ghost use Rattle.imagesize.specs.Table.{look_up};
 ghost use Rattle.imagesize_source.specs.Layout.{over};
 ghost use Rattle.imagesize_source.specs.State.{Runs};
 
-use imagesize_source::source::Source;
-use imagesize_source::util::{Endian, read_if_there, read_u16};
-
 use crate::ImageResult;
 use crate::types::{ImageSize, PkmCompression};
+use imagesize_source::source::Source;
+use imagesize_source::util::{Endian, read_if_there, read_u16};
 
 /// Whether the tag stands first, and a version behind it.
 #[inline]
@@ -21,6 +20,7 @@ pub fn matches(head: &[u8; 12]) -> bool
 
 /// Whether the data type is one of EAC.
 #[inline]
+#[tactic(auto, unfolding(crate::specs::Pkm::is_eac))]
 pub fn matches_eac(head: &[u8; 12]) -> bool
     ensures { result ≡ is_eac head.now }
 {
@@ -29,6 +29,7 @@ pub fn matches_eac(head: &[u8; 12]) -> bool
 
 /// Whether these bytes begin with the tag, and a version behind it.
 #[inline]
+#[tactic(auto, unfolding(crate::specs::Pkm::is_pkm))]
 pub fn is_pkm(header: &[u8]) -> bool
     ensures { result ≡ is_pkm header.now }
 {

@@ -7,14 +7,14 @@ ghost use Rattle.imagesize_source.specs.Layout.Layout.{«done»};
 ghost use Rattle.imagesize_source.specs.Layout.{over};
 ghost use Rattle.imagesize_source.specs.State.{Runs};
 
+use crate::ImageResult;
+use crate::types::{ImageSize, PvrtcCompression};
 use imagesize_source::source::Source;
 use imagesize_source::util::{Endian, read_bytes, read_if_there, read_u32};
 
-use crate::ImageResult;
-use crate::types::{ImageSize, PvrtcCompression};
-
 /// Whether the length of the older header stands first, or the version of the newer.
 #[inline]
+#[tactic(auto, unfolding(crate::specs::Pvrtc::is_pvrtc))]
 pub fn matches(head: &[u8; 12]) -> bool
     ensures { result ≡ is_pvrtc head.now }
 {
@@ -22,6 +22,7 @@ pub fn matches(head: &[u8; 12]) -> bool
 }
 
 #[inline]
+#[tactic(auto, unfolding(crate::specs::Pvrtc::is_pvr3))]
 fn is_version_3(header: &[u8]) -> bool
     ensures { result ≡ is_pvr3 header.now }
 {

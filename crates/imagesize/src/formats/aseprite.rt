@@ -4,14 +4,14 @@ ghost use Rattle.imagesize.specs.Aseprite.{is_aseprite, aseprite};
 ghost use Rattle.imagesize_source.specs.Layout.{over};
 ghost use Rattle.imagesize_source.specs.State.{Runs};
 
+use crate::ImageResult;
+use crate::types::ImageSize;
 use imagesize_source::source::Source;
 use imagesize_source::util::{Endian, read_u16};
 
-use crate::types::ImageSize;
-use crate::ImageResult;
-
 /// Whether the magic number 0xA5E0 stands behind the length of the file.
 #[inline]
+#[tactic(auto, unfolding(crate::specs::Aseprite::is_aseprite))]
 pub fn matches(head: &[u8; 12]) -> bool
     ensures { result ≡ is_aseprite head.now }
 {

@@ -4,14 +4,14 @@ ghost use Rattle.imagesize.specs.Astc.{is_astc, astc};
 ghost use Rattle.imagesize_source.specs.Layout.{over};
 ghost use Rattle.imagesize_source.specs.State.{Runs};
 
+use crate::ImageResult;
+use crate::types::ImageSize;
 use imagesize_source::source::Source;
 use imagesize_source::util::{Endian, read_u24};
 
-use crate::types::ImageSize;
-use crate::ImageResult;
-
 /// Whether the magic number stands first.
 #[inline]
+#[tactic(auto, unfolding(crate::specs::Astc::is_astc))]
 pub fn matches(head: &[u8; 12]) -> bool
     ensures { result ≡ is_astc head.now }
 {

@@ -4,14 +4,14 @@ ghost use Rattle.imagesize.specs.Bmp.{is_bmp, bmp};
 ghost use Rattle.imagesize_source.specs.Layout.{over};
 ghost use Rattle.imagesize_source.specs.State.{Runs};
 
+use crate::ImageResult;
+use crate::types::ImageSize;
 use imagesize_source::source::Source;
 use imagesize_source::util::{Endian, read_u32};
 
-use crate::types::ImageSize;
-use crate::ImageResult;
-
 /// Whether the file is of the type `BM`.
 #[inline]
+#[tactic(auto, unfolding(crate::specs::Bmp::is_bmp))]
 pub fn matches(head: &[u8; 12]) -> bool
     ensures { result ≡ is_bmp head.now }
 {

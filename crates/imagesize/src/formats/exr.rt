@@ -4,6 +4,7 @@ ghost use Rattle.imagesize.specs.Exr.{is_exr};
 
 /// Whether the magic number stands first.
 #[inline]
+#[tactic(auto, unfolding(crate::specs::Exr::is_exr))]
 pub fn matches(head: &[u8; 12]) -> bool
     ensures { result ≡ is_exr head.now }
 {

@@ -4,14 +4,14 @@ ghost use Rattle.imagesize.specs.Gif.{is_gif, gif};
 ghost use Rattle.imagesize_source.specs.Layout.{over};
 ghost use Rattle.imagesize_source.specs.State.{Runs};
 
+use crate::ImageResult;
+use crate::types::ImageSize;
 use imagesize_source::source::Source;
 use imagesize_source::util::{Endian, read_u16};
 
-use crate::types::ImageSize;
-use crate::ImageResult;
-
 /// Whether the signature stands first, of either version.
 #[inline]
+#[tactic(auto, unfolding(crate::specs::Gif::is_gif))]
 pub fn matches(head: &[u8; 12]) -> bool
     ensures { result ≡ is_gif head.now }
 {

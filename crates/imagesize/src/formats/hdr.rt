@@ -4,6 +4,7 @@ ghost use Rattle.imagesize.specs.Hdr.{is_hdr};
 
 /// Whether the first line is the identifier.
 #[inline]
+#[tactic(auto, unfolding(crate::specs::Hdr::is_hdr))]
 pub fn matches(head: &[u8; 12]) -> bool
     ensures { result ≡ is_hdr head.now }
 {

@@ -4,6 +4,7 @@ ghost use Rattle.imagesize.specs.Ico.{is_ico};
 
 /// Whether a directory of icons stands first.
 #[inline]
+#[tactic(auto, unfolding(crate::specs::Ico::is_ico))]
 pub fn matches(head: &[u8; 12]) -> bool
     ensures { result ≡ is_ico head.now }
 {

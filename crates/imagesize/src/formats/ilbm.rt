@@ -4,6 +4,7 @@ ghost use Rattle.imagesize.specs.Ilbm.{is_ilbm};
 
 /// Whether a form of the type `ILBM` or `PBM ` stands first.
 #[inline]
+#[tactic(auto, unfolding(crate::specs::Ilbm::is_ilbm))]
 pub fn matches(head: &[u8; 12]) -> bool
     ensures { result ≡ is_ilbm head.now }
 {

@@ -4,6 +4,7 @@ ghost use Rattle.imagesize.specs.Jpeg.{is_jpeg};
 
 /// Whether the start of the image stands first, and another marker behind it.
 #[inline]
+#[tactic(auto, unfolding(crate::specs::Jpeg::is_jpeg))]
 pub fn matches(head: &[u8; 12]) -> bool
     ensures { result ≡ is_jpeg head.now }
 {

@@ -4,6 +4,7 @@ ghost use Rattle.imagesize.specs.Jxl.{is_jxl};
 
 /// Whether a codestream or a signature box stands first.
 #[inline]
+#[tactic(auto, unfolding(crate::specs::Jxl::is_jxl))]
 pub fn matches(head: &[u8; 12]) -> bool
     ensures { result ≡ is_jxl head.now }
 {

@@ -4,14 +4,14 @@ ghost use Rattle.imagesize.specs.Ktx2.{is_ktx2, ktx2};
 ghost use Rattle.imagesize_source.specs.Layout.{over};
 ghost use Rattle.imagesize_source.specs.State.{Runs};
 
+use crate::ImageResult;
+use crate::types::ImageSize;
 use imagesize_source::source::Source;
 use imagesize_source::util::{Endian, read_u32};
 
-use crate::types::ImageSize;
-use crate::ImageResult;
-
 /// Whether the identifier stands first.
 #[inline]
+#[tactic(auto, unfolding(crate::specs::Ktx2::is_ktx2))]
 pub fn matches(head: &[u8; 12]) -> bool
     ensures { result ≡ is_ktx2 head.now }
 {

@@ -4,6 +4,7 @@ ghost use Rattle.imagesize.specs.Pnm.{is_pnm};
 
 /// Whether a magic number from `P1` to `P6` stands first.
 #[inline]
+#[tactic(auto, unfolding(crate::specs::Pnm::is_pnm))]
 pub fn matches(head: &[u8; 12]) -> bool
     ensures { result ≡ is_pnm head.now }
 {

@@ -4,11 +4,10 @@ ghost use Rattle.imagesize.specs.Tga.{is_map_sound, is_pixel_sound, is_tga, is_t
 ghost use Rattle.imagesize_source.specs.Layout.{over};
 ghost use Rattle.imagesize_source.specs.State.{Runs, Sound};
 
-use imagesize_source::source::Source;
-use imagesize_source::util::{Endian, read_bytes, read_u8, read_u16};
-
 use crate::ImageResult;
 use crate::types::ImageSize;
+use imagesize_source::source::Source;
+use imagesize_source::util::{Endian, read_bytes, read_u8, read_u16};
 
 /// Whether the footer has the signature, or the header alone can be that of a TGA.
 pub fn matches<S: Source>(source: &mut S, head: &[u8; 12]) -> ImageResult<bool>

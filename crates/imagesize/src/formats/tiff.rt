@@ -4,6 +4,7 @@ ghost use Rattle.imagesize.specs.Tiff.{is_tiff};
 
 /// Whether the order of the bytes stands first, and the version behind it.
 #[inline]
+#[tactic(auto, unfolding(crate::specs::Tiff::is_tiff))]
 pub fn matches(head: &[u8; 12]) -> bool
     ensures { result ≡ is_tiff head.now }
 {

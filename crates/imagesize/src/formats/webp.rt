@@ -4,14 +4,14 @@ ghost use Rattle.imagesize.specs.Webp.{is_webp, webp, lossy_webp, lossless_webp,
 ghost use Rattle.imagesize_source.specs.Layout.{over};
 ghost use Rattle.imagesize_source.specs.State.{Runs};
 
+use crate::types::ImageSize;
+use crate::{ImageError, ImageResult, Reason};
 use imagesize_source::source::Source;
 use imagesize_source::util::{Endian, read_bytes, read_u16, read_u24, read_u32};
 
-use crate::types::ImageSize;
-use crate::{ImageError, ImageResult, Reason};
-
 /// Whether a RIFF form of the type `WEBP` stands first.
 #[inline]
+#[tactic(auto, unfolding(crate::specs::Webp::is_webp))]
 pub fn matches(head: &[u8; 12]) -> bool
     ensures { result ≡ is_webp head.now }
 {
