@@ -1,13 +1,11 @@
 //! The calls: type and size of a slice's bytes, or of a reader's.
 ghost use Rattle.std.specs.Prelude.{◌≡◌, ◌+◌, ◌≤◌, length, IfErr, IfSome, Some, Option, Ok, option_map};
 ghost use Rattle.imagesize_source.specs.Answers.{Answers, Takes};
-ghost use Rattle.imagesize_source.specs.Layout.{over};
 ghost use Rattle.imagesize_source.specs.Reading.{spent};
 ghost use Rattle.imagesize_source.specs.State.{Runs};
 ghost use Rattle.imagesize_source.specs.ReaderState.{Opens};
 ghost use Rattle.imagesize_source.specs.Telling.{Telling};
-ghost use Rattle.imagesize.specs.Kind.{kind};
-ghost use Rattle.imagesize.specs.Meaning.{meaning, size_of};
+ghost use Rattle.imagesize.specs.Meaning.{kind_of, meaning, size_of};
 ghost use Rattle.imagesize.specs.Probed.{FindsKind, Probes};
 
 use imagesize_source::source::Source;
@@ -33,7 +31,7 @@ pub struct Probed {
 ///
 /// Errors: `NotSupported` where no type has these bytes, and `EndOfInput` under 12 bytes.
 pub fn image_type(header: &[u8]) -> ImageResult<ImageType>
-    ensures { result ≡ (over header.now (kind (length header.now) 0)).answer }
+    ensures { result ≡ (kind_of header.now 0).answer }
 {
     detect(&mut SliceSource { bytes: header }, 0)
 }
@@ -43,7 +41,7 @@ pub fn image_type(header: &[u8]) -> ImageResult<ImageType>
 /// Errors: `NotSupported` where no type has the first bytes, `EndOfInput` where the bytes end before the size,
 /// and the refusals of the type's layout.
 pub fn blob_size(data: &[u8]) -> ImageResult<ImageSize>
-    ensures { result ≡ (over «data».now (meaning (length «data».now) 0)).answer }
+    ensures { result ≡ (meaning «data».now 0).answer }
 {
     probe(&mut SliceSource { bytes: data }, 0).1
 }
@@ -51,7 +49,7 @@ pub fn blob_size(data: &[u8]) -> ImageResult<ImageSize>
 // The type at a place of a source, and the size by it.
 fn probe<S: Source>(source: &mut S, place: u64) -> (Option<ImageType>, ImageResult<ImageSize>)
     ensures runs { Runs (S.state source.old) (S.state source.new) result.1
-        (over (S.state source.old).held.input (meaning (length (S.state source.old).held.input) place)) }
+        (meaning (S.state source.old).held.input place) }
     ensures kind { FindsKind (S.state source.old) place result.0 result.1 }
 {
     match detect(source, place) {
@@ -65,7 +63,7 @@ fn probe<S: Source>(source: &mut S, place: u64) -> (Option<ImageType>, ImageResu
 /// Errors: `NotSupported` where no type has these bytes, `EndOfInput` where fewer than 12 are left, and
 /// `Fault` where a call of the reader fails.
 pub fn reader_type<R: Told>(mut reader: R) -> ImageResult<ImageType>
-    ensures { Answers (R.telling reader) kind result }
+    ensures { Answers (R.telling reader) kind_of result }
 {
     let opened = open(&mut reader)?;
     detect(&mut ReaderSource::new(&mut reader, opened.told), opened.place)
