@@ -1,5 +1,5 @@
 -- The type of an input.
-use Rattle.std.specs.Prelude.{ℕ, Bool, List, [], ◌∷◌, if◌then◌else◌}
+use Rattle.std.specs.Prelude.{ℕ, Bool, List, [], ◌∷◌, if◌then◌else◌, Option, None, Some}
 use Rattle.imagesize.specs.Aseprite.{is_aseprite}
 use Rattle.imagesize.specs.Astc.{is_astc}
 use Rattle.imagesize.specs.Atc.{is_atc, atc_compression}
@@ -25,54 +25,73 @@ use Rattle.imagesize.specs.Tiff.{is_tiff}
 use Rattle.imagesize.specs.Vtf.{is_vtf}
 use Rattle.imagesize.specs.Webp.{is_webp}
 use Rattle.imagesize.specs.declared.types.ImageType.TheVariants.{Jpeg, Gif, Tiff, Webp, Heif, Jxl, Bmp, Psd, Ico, Aseprite, Astc, Atc, Pvrtc, Eac, Etc2, Exr, Hdr, Dds, Ktx2, Qoi, Farbfeld, Pnm, Vtf, Ilbm, Tga}
+use Rattle.imagesize.specs.declared.types.AtcCompression.TheVariants as atc
+use Rattle.imagesize.specs.declared.types.Compression.TheVariants as heif
+use Rattle.imagesize.specs.declared.types.DdsCompression.TheVariants as dds
+use Rattle.imagesize.specs.declared.types.PkmCompression.TheVariants as pkm
+use Rattle.imagesize.specs.declared.types.PvrtcCompression.TheVariants as pvrtc
 use Rattle.imagesize.specs.declared.types.ImageType.{ImageType}
 use Rattle.imagesize_source.specs.Layout.Layout.{bytes, refuse, «done»}
 use Rattle.imagesize_source.specs.Layout.{Layout, bind}
 use Rattle.imagesize_source.specs.declared.error.ImageError.TheVariants.{NotSupported}
 
--- A row of the table: a test of the first twelve bytes, and what tells the type where it holds.
+-- A row of the table: a test of the first twelve bytes, and the type where it holds, its kind still unknown.
 pub record Row : Type 0 where
   pub holds : List ℕ → Bool
-  pub kind : Layout ImageType
+  pub found : ImageType
 
 -- the types that their first bytes tell, in the order in which they are tried
-abbrev pub rows : ℕ → List ℕ → List Row
-rows place head =
-    record { holds = is_jpeg; kind = done Jpeg }
-    ∷ record { holds = is_gif; kind = done Gif }
-    ∷ record { holds = is_tiff; kind = done Tiff }
-    ∷ record { holds = is_webp; kind = done Webp }
-    ∷ record { holds = is_heif; kind = bind (heif_compression place head) (λ compression. done (Heif compression)) }
-    ∷ record { holds = is_jxl; kind = done Jxl }
-    ∷ record { holds = is_bmp; kind = done Bmp }
-    ∷ record { holds = is_psd; kind = done Psd }
-    ∷ record { holds = is_ico; kind = done Ico }
-    ∷ record { holds = is_aseprite; kind = done Aseprite }
-    ∷ record { holds = is_astc; kind = done Astc }
-    ∷ record { holds = is_atc; kind = bind atc_compression (λ compression. done (Atc compression)) }
-    ∷ record { holds = is_pvrtc; kind = bind pvrtc_compression (λ compression. done (Pvrtc compression)) }
-    ∷ record { holds = is_eac; kind = bind pkm_compression (λ compression. done (Eac compression)) }
-    ∷ record { holds = is_pkm; kind = bind pkm_compression (λ compression. done (Etc2 compression)) }
-    ∷ record { holds = is_exr; kind = done Exr }
-    ∷ record { holds = is_hdr; kind = done Hdr }
-    ∷ record { holds = is_dds; kind = bind dds_compression (λ compression. done (Dds compression)) }
-    ∷ record { holds = is_ktx2; kind = done Ktx2 }
-    ∷ record { holds = is_qoi; kind = done Qoi }
-    ∷ record { holds = is_farbfeld; kind = done Farbfeld }
-    ∷ record { holds = is_pnm; kind = done Pnm }
-    ∷ record { holds = is_vtf; kind = done Vtf }
-    ∷ record { holds = is_ilbm; kind = done Ilbm }
+abbrev pub rows : List Row
+rows =
+    record { holds = is_jpeg; found = Jpeg }
+    ∷ record { holds = is_gif; found = Gif }
+    ∷ record { holds = is_tiff; found = Tiff }
+    ∷ record { holds = is_webp; found = Webp }
+    ∷ record { holds = is_heif; found = Heif heif.Unknown }
+    ∷ record { holds = is_jxl; found = Jxl }
+    ∷ record { holds = is_bmp; found = Bmp }
+    ∷ record { holds = is_psd; found = Psd }
+    ∷ record { holds = is_ico; found = Ico }
+    ∷ record { holds = is_aseprite; found = Aseprite }
+    ∷ record { holds = is_astc; found = Astc }
+    ∷ record { holds = is_atc; found = Atc atc.Unknown }
+    ∷ record { holds = is_pvrtc; found = Pvrtc pvrtc.Unknown }
+    ∷ record { holds = is_eac; found = Eac pkm.Unknown }
+    ∷ record { holds = is_pkm; found = Etc2 pkm.Unknown }
+    ∷ record { holds = is_exr; found = Exr }
+    ∷ record { holds = is_hdr; found = Hdr }
+    ∷ record { holds = is_dds; found = Dds dds.Unknown }
+    ∷ record { holds = is_ktx2; found = Ktx2 }
+    ∷ record { holds = is_qoi; found = Qoi }
+    ∷ record { holds = is_farbfeld; found = Farbfeld }
+    ∷ record { holds = is_pnm; found = Pnm }
+    ∷ record { holds = is_vtf; found = Vtf }
+    ∷ record { holds = is_ilbm; found = Ilbm }
     ∷ []
 
--- what the first row that holds tells, or else another layout
-abbrev pub first_row : List Row → List ℕ → Layout ImageType → Layout ImageType
-first_row [] head other = other
-first_row (row ∷ rows) head other = if row.holds head then row.kind else first_row rows head other
+-- the type of the first row that holds
+abbrev pub first_row : List Row → List ℕ → Option ImageType
+first_row [] head = None
+first_row (row ∷ rows) head = if row.holds head then Some row.found else first_row rows head
 
--- TGA has no signature at its beginning, so it comes last
+-- the same type, with its kind read where it has several
+unfoldable pub with_kind : ℕ → List ℕ → ImageType → Layout ImageType
+with_kind place head (Heif _) = bind (heif_compression place head) (λ compression. done (Heif compression))
+with_kind place head (Atc _) = bind atc_compression (λ compression. done (Atc compression))
+with_kind place head (Pvrtc _) = bind pvrtc_compression (λ compression. done (Pvrtc compression))
+with_kind place head (Eac _) = bind pkm_compression (λ compression. done (Eac compression))
+with_kind place head (Etc2 _) = bind pkm_compression (λ compression. done (Etc2 compression))
+with_kind place head (Dds _) = bind dds_compression (λ compression. done (Dds compression))
+with_kind place head found = done found
+
 abbrev pub tga_or_none : Bool → Layout ImageType
 tga_or_none is = if is then done Tga else refuse NotSupported
 
+-- what an input of n bytes is at a place with this head: TGA has no signature at its beginning, so it comes last
+abbrev pub kind_by : ℕ → ℕ → List ℕ → Option ImageType → Layout ImageType
+kind_by n place head (Some found) = with_kind place head found
+kind_by n place head None = bind (is_tga n head) tga_or_none
+
 -- the type that an input of n bytes has at a place
 abbrev pub kind : ℕ → ℕ → Layout ImageType
-kind n place = bytes place 12 (λ head. first_row (rows place head) head (bind (is_tga n head) tga_or_none))
+kind n place = bytes place 12 (λ head. kind_by n place head (first_row rows head))

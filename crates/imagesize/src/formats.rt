@@ -1,14 +1,17 @@
 //! The formats of images, the table that tells them apart, and the size by each.
-ghost use Rattle.std.specs.Prelude.{length};
-ghost use Rattle.imagesize.specs.Kind.{kind};
+ghost use Rattle.std.specs.Prelude.{◌≡◌, length};
+ghost use Rattle.imagesize.specs.Kind.{first_row, kind, rows, with_kind};
 ghost use Rattle.imagesize.specs.Meaning.{size_of};
 ghost use Rattle.imagesize_source.specs.Layout.{over};
-ghost use Rattle.imagesize_source.specs.State.{Runs};
+ghost use Rattle.imagesize_source.specs.State.{Runs, Sound};
 ghost use Rattle.imagesize_source.specs.declared.error.ImageError.TheVariants as error;
 ghost use Rattle.imagesize_source.specs.Reading.{refuses};
 
 use crate::container::{atc, dds, heif, pkm, pvrtc};
-use crate::types::{ImageSize, ImageType};
+use crate::types::{
+    AtcCompression, Compression, DdsCompression, ImageSize, ImageType, PkmCompression,
+    PvrtcCompression,
+};
 use crate::{ImageError, ImageResult};
 use imagesize_source::source::Source;
 use imagesize_source::util::read_bytes;
@@ -33,43 +36,76 @@ pub mod tiff;
 pub mod vtf;
 pub mod webp;
 
-/// The type at a place: that of the first row that holds of the twelve bytes there.
+/// The type at a place, by the twelve bytes there.
 #[tactic(auto, using(imagesize_source::proofs::Runs::steps, imagesize_source::proofs::Layouts::binding))]
 pub(crate) fn detect<S: Source>(source: &mut S, place: u64) -> ImageResult<ImageType>
     ensures { Runs (S.state source.old) (S.state source.new) result
         (over (S.state source.old).held.input (kind (length (S.state source.old).held.input) place)) }
 {
     let head = read_bytes::<S, 12>(source, place)?;
-    Ok(match &head {
+    if let Some(found) = first_row(&head) {
+        return with_kind(source, place, &head, found);
+    }
+    if tga::matches(source, &head)? {
+        return Ok(ImageType::Tga);
+    }
+    Err(ImageError::NotSupported)
+}
+
+// The type of the first row that holds, its kind still unknown. TGA has no signature at its beginning, so it
+// has no row.
+fn first_row(head: &[u8; 12]) -> Option<ImageType>
+    ensures { result ≡ first_row rows head.now }
+{
+    Some(match head {
         head if jpeg::matches(head) => ImageType::Jpeg,
         head if gif::matches(head) => ImageType::Gif,
         head if tiff::matches(head) => ImageType::Tiff,
         head if webp::matches(head) => ImageType::Webp,
-        head if heif::matches(head) => ImageType::Heif(heif::detect_compression(
-            source, place, head,
-        )?),
+        head if heif::matches(head) => ImageType::Heif(Compression::Unknown),
         head if jxl::matches(head) => ImageType::Jxl,
         head if bmp::matches(head) => ImageType::Bmp,
         head if psd::matches(head) => ImageType::Psd,
         head if ico::matches(head) => ImageType::Ico,
         head if aseprite::matches(head) => ImageType::Aseprite,
         head if astc::matches(head) => ImageType::Astc,
-        head if atc::matches(head) => ImageType::Atc(atc::detect_compression(source)?),
-        head if pvrtc::matches(head) => ImageType::Pvrtc(pvrtc::detect_compression(source)?),
-        head if pkm::matches_eac(head) => ImageType::Eac(pkm::detect_compression(source)?),
-        head if pkm::matches(head) => ImageType::Etc2(pkm::detect_compression(source)?),
+        head if atc::matches(head) => ImageType::Atc(AtcCompression::Unknown),
+        head if pvrtc::matches(head) => ImageType::Pvrtc(PvrtcCompression::Unknown),
+        head if pkm::matches_eac(head) => ImageType::Eac(PkmCompression::Unknown),
+        head if pkm::matches(head) => ImageType::Etc2(PkmCompression::Unknown),
         head if exr::matches(head) => ImageType::Exr,
         head if hdr::matches(head) => ImageType::Hdr,
-        head if dds::matches(head) => ImageType::Dds(dds::detect_compression(source)?),
+        head if dds::matches(head) => ImageType::Dds(DdsCompression::Unknown),
         head if ktx2::matches(head) => ImageType::Ktx2,
         head if qoi::matches(head) => ImageType::Qoi,
         head if farbfeld::matches(head) => ImageType::Farbfeld,
         head if pnm::matches(head) => ImageType::Pnm,
         head if vtf::matches(head) => ImageType::Vtf,
         head if ilbm::matches(head) => ImageType::Ilbm,
-        // It has no signature at its beginning, so it comes last.
-        head if tga::matches(source, head)? => ImageType::Tga,
-        _ => return Err(ImageError::NotSupported),
+        _ => return None,
+    })
+}
+
+// The same type, with its kind read where it has several.
+#[tactic(auto, using(imagesize_source::proofs::Runs::steps, imagesize_source::proofs::Layouts::binding), unfolding(crate::specs::Kind::with_kind))]
+fn with_kind<S: Source>(
+    source: &mut S,
+    place: u64,
+    head: &[u8; 12],
+    found: ImageType,
+) -> ImageResult<ImageType>
+    requires { Sound (S.state source.old) }
+    ensures { Runs (S.state source.old) (S.state source.new) result
+        (over (S.state source.old).held.input (with_kind place head.now found)) }
+{
+    Ok(match found {
+        ImageType::Heif(_) => ImageType::Heif(heif::detect_compression(source, place, head)?),
+        ImageType::Atc(_) => ImageType::Atc(atc::detect_compression(source)?),
+        ImageType::Pvrtc(_) => ImageType::Pvrtc(pvrtc::detect_compression(source)?),
+        ImageType::Eac(_) => ImageType::Eac(pkm::detect_compression(source)?),
+        ImageType::Etc2(_) => ImageType::Etc2(pkm::detect_compression(source)?),
+        ImageType::Dds(_) => ImageType::Dds(dds::detect_compression(source)?),
+        _ => found,
     })
 }
 
