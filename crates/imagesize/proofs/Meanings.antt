@@ -64,3 +64,12 @@ probes_opened (Some t) mid count home opened a b probed start opens h finds took
       takes = subst (λ n. TakesAs t (meaning t.bytes t.place) probed.answer n) (sym took) (opened_takes (Some t) mid count home opened b probed.answer meaning opens runs honest);
       right = kinds.0;
       whole = kinds.1 }
+
+bounded_size : (type : ImageType) → IsBounded (λ d place. size_of type d)
+bounded_size type d place = omega (arith, size_at_most type d)
+
+-- the size that a reader was found to have, read as a type
+pub size_answers : (telling mid : Option Telling) (count : Option ℕ) (home : ℕ) (opened : Opened) (a b : State) (type : ImageType) (r : Result ImageSize ImageError) → a ≡ start_state mid count home opened.told → Opens telling mid (Ok opened) → Runs a b r (size_of type a.held.input) → Answers telling (λ d place. size_of type d) r
+size_answers telling mid count home opened a b type r start opens h =
+    opened_answers telling mid count home opened b r (λ d place. size_of type d) (bounded_size type) opens
+    (subst (λ s. Runs s b r (size_of type s.held.input)) start h)

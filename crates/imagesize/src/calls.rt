@@ -1,6 +1,6 @@
 //! The calls: type and size of a slice's bytes, or of a reader's.
 ghost use Rattle.std.specs.Prelude.{◌≡◌, ◌+◌, ◌≤◌, length, IfErr, IfSome, Some, Option, Ok, option_map};
-ghost use Rattle.imagesize_source.specs.Answers.{Answers, Takes};
+ghost use Rattle.imagesize_source.specs.Answers.{Answers, Counts};
 ghost use Rattle.imagesize_source.specs.Reading.{spent};
 ghost use Rattle.imagesize_source.specs.State.{Runs};
 ghost use Rattle.imagesize_source.specs.ReaderState.{Opens};
@@ -95,6 +95,33 @@ pub fn reader_probe<R: Told>(reader: &mut R) -> Probed
             taken: 0,
         },
     }
+}
+
+impl ImageType {
+    /// The size in pixels of the image in a reader's bytes, read as this type.
+    ///
+    /// The places of the size are those of the whole bytes, wherever the reader stands and whether or not the
+    /// bytes are of this type. The errors are those of `reader_size` but for the type's. The reader stands at an
+    /// unstated place then, and may be used again.
+    pub fn reader_size<R: Told>(&self, reader: &mut R) -> ImageResult<ImageSize>
+        ensures answers { Answers (R.telling reader.old) (λ d place. size_of self.now d) result }
+        ensures counts { Counts (R.telling reader.old) (R.count reader.old) (R.count reader.new) (λ d place. size_of self.now d) }
+    {
+        let opened = open(reader)?;
+        size_opened(*self, reader, opened)
+    }
+}
+
+// The size of what a reader holds that was opened, read as this type.
+fn size_opened<R: Told>(kind: ImageType, reader: &mut R, opened: Opened) -> ImageResult<ImageSize>
+    ensures answers { (telling : Option Telling) → Opens telling (R.telling reader.old) (Ok opened)
+        → Answers telling (λ d place. size_of kind d) result }
+    ensures counts { (telling : Option Telling) → Opens telling (R.telling reader.old) (Ok opened)
+        → Counts telling (R.count reader.old) (R.count reader.new) (λ d place. size_of kind d) }
+{
+    let mut source = ReaderSource::new(reader, opened.told);
+    let answer = size(&mut source, kind);
+    answer
 }
 
 // Type and size of what a reader holds that was opened.
