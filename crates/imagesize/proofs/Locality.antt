@@ -23,7 +23,8 @@ use Rattle.imagesize_source.proofs.Local.{local_layout, local_then, local_length
 use Rattle.imagesize_source.specs.Agreement.{Local}
 use Rattle.imagesize_source.specs.Layout.{over}
 
-local_kind : (place : ℕ) → Local (λ d. kind_of d place)
+-- the type sees an input by its marks
+pub local_kind : (place : ℕ) → Local (λ d. kind_of d place)
 local_kind place = local_length (λ n d. over d (kind n place)) (λ n. local_layout (kind n place))
 
 local_size : (type : ImageType) → Local (size_of type)
