@@ -1,4 +1,4 @@
-//! KTX 2.0, by sections 3.1 (Identifier), 3.4 (pixelWidth) and 3.5 (pixelHeight) of the Khronos KTX File Format Specification.
+//! KTX 2.0, by the fields `identifier`, `pixelWidth` and `pixelHeight` of the Khronos KTX File Format Specification.
 ghost use Rattle.std.specs.Prelude.{◌≡◌};
 ghost use Rattle.imagesize.specs.Ktx2.{is_ktx2, ktx2};
 ghost use Rattle.imagesize_source.specs.Layout.{over};

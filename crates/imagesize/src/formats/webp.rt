@@ -1,4 +1,4 @@
-//! WebP, by RFC 9649, sections 2.4 (file header), 2.5 and 2.6 (lossy and lossless) and 2.7 (extended), and 9.1 of RFC 6386.
+//! WebP, by RFC 9649, sections 2.4 (the file header) and 2.5 to 2.7 (its three forms), and RFC 6386, section 9.1.
 ghost use Rattle.std.specs.Prelude.{◌≡◌, ◌%◌, ◌^◌};
 ghost use Rattle.imagesize.specs.Webp.{is_webp, webp, lossy_webp, lossless_webp, extended_webp};
 ghost use Rattle.imagesize_source.specs.Layout.{over};
