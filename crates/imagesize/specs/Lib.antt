@@ -3,6 +3,7 @@ pub mod Astc
 pub mod Atc
 pub mod Bmp
 pub mod Comparisons
+pub mod Counts
 pub mod Dds
 pub mod Exr
 pub mod Farbfeld
@@ -20,6 +21,7 @@ pub mod Meaning
 pub mod Order
 pub mod Pkm
 pub mod Pnm
+pub mod Probed
 pub mod Psd
 pub mod Pvrtc
 pub mod Qoi

@@ -1,5 +1,5 @@
 -- The size of an input.
-use Rattle.std.specs.Prelude.{ℕ}
+use Rattle.std.specs.Prelude.{ℕ, List, length}
 use Rattle.imagesize.specs.Aseprite.{aseprite}
 use Rattle.imagesize.specs.Astc.{astc}
 use Rattle.imagesize.specs.Atc.{atc}
@@ -19,38 +19,42 @@ use Rattle.imagesize.specs.Webp.{webp}
 use Rattle.imagesize.specs.declared.types.ImageSize.{ImageSize}
 use Rattle.imagesize.specs.declared.types.ImageType.TheVariants.{Aseprite, Astc, Atc, Bmp, Dds, Eac, Etc2, Exr, Farbfeld, Gif, Hdr, Heif, Ico, Ilbm, Jpeg, Jxl, Ktx2, Pnm, Pvrtc, Psd, Qoi, Tga, Tiff, Vtf, Webp}
 use Rattle.imagesize.specs.declared.types.ImageType.{ImageType}
-use Rattle.imagesize_source.specs.Layout.Layout.{refuse}
-use Rattle.imagesize_source.specs.Layout.{Layout, bind}
+use Rattle.imagesize_source.specs.Layout.{over}
+use Rattle.imagesize_source.specs.Reading.{Reads, refuses, and_then}
 use Rattle.imagesize_source.specs.declared.error.ImageError.TheVariants.{NotSupported}
 
--- the size that an input of n bytes has, read as this type
-abbrev pub size_of : ImageType → ℕ → Layout ImageSize
-size_of Aseprite n = aseprite
-size_of Astc n = astc
-size_of (Atc _) n = atc
-size_of Bmp n = bmp
-size_of (Dds _) n = dds
-size_of (Eac _) n = pkm
-size_of (Etc2 _) n = pkm
-size_of Exr n = refuse NotSupported
-size_of Farbfeld n = farbfeld
-size_of Gif n = gif
-size_of Hdr n = refuse NotSupported
-size_of (Heif _) n = refuse NotSupported
-size_of Ico n = refuse NotSupported
-size_of Ilbm n = refuse NotSupported
-size_of Jpeg n = refuse NotSupported
-size_of Jxl n = refuse NotSupported
-size_of Ktx2 n = ktx2
-size_of Pnm n = refuse NotSupported
-size_of (Pvrtc _) n = pvrtc
-size_of Psd n = psd
-size_of Qoi n = qoi
-size_of Tga n = tga
-size_of Tiff n = refuse NotSupported
-size_of Vtf n = vtf
-size_of Webp n = webp
+-- the type that an input has at a place
+abbrev pub kind_of : List ℕ → ℕ → Reads ImageType
+kind_of d place = over d (kind (length d) place)
 
--- the type that an input of n bytes has at a place, then its size by that type
-abbrev pub meaning : ℕ → ℕ → Layout ImageSize
-meaning n place = bind (kind n place) (λ found. size_of found n)
+-- the size that an input has, read as this type
+abbrev pub size_of : ImageType → List ℕ → Reads ImageSize
+size_of Aseprite d = over d aseprite
+size_of Astc d = over d astc
+size_of (Atc _) d = over d atc
+size_of Bmp d = over d bmp
+size_of (Dds _) d = over d dds
+size_of (Eac _) d = over d pkm
+size_of (Etc2 _) d = over d pkm
+size_of Exr d = refuses NotSupported
+size_of Farbfeld d = over d farbfeld
+size_of Gif d = over d gif
+size_of Hdr d = refuses NotSupported
+size_of (Heif _) d = refuses NotSupported
+size_of Ico d = refuses NotSupported
+size_of Ilbm d = refuses NotSupported
+size_of Jpeg d = refuses NotSupported
+size_of Jxl d = refuses NotSupported
+size_of Ktx2 d = over d ktx2
+size_of Pnm d = refuses NotSupported
+size_of (Pvrtc _) d = over d pvrtc
+size_of Psd d = over d psd
+size_of Qoi d = over d qoi
+size_of Tga d = over d tga
+size_of Tiff d = refuses NotSupported
+size_of Vtf d = over d vtf
+size_of Webp d = over d webp
+
+-- the type that an input has at a place, then its size by that type
+unfoldable pub meaning : List ℕ → ℕ → Reads ImageSize
+meaning d place = and_then (kind_of d place) (λ found. size_of found d)

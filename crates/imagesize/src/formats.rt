@@ -5,7 +5,7 @@ ghost use Rattle.imagesize.specs.Meaning.{size_of};
 ghost use Rattle.imagesize_source.specs.Layout.{over};
 ghost use Rattle.imagesize_source.specs.State.{Runs, Sound};
 ghost use Rattle.imagesize_source.specs.declared.error.ImageError.TheVariants as error;
-ghost use Rattle.imagesize_source.specs.Layout.Layout.{refuse};
+ghost use Rattle.imagesize_source.specs.Reading.{refuses};
 
 use crate::container::{atc, dds, heif, pkm, pvrtc};
 use crate::types::{
@@ -113,7 +113,7 @@ fn with_kind<S: Source>(
 #[tactic(auto, using(imagesize_source::proofs::Runs::steps))]
 pub(crate) fn size<S: Source>(source: &mut S, kind: ImageType) -> ImageResult<ImageSize>
     ensures { Runs (S.state source.old) (S.state source.new) result
-        (over (S.state source.old).held.input (size_of kind (length (S.state source.old).held.input))) }
+        (size_of kind (S.state source.old).held.input) }
 {
     match kind {
         ImageType::Aseprite => aseprite::size(source),
@@ -146,7 +146,7 @@ pub(crate) fn size<S: Source>(source: &mut S, kind: ImageType) -> ImageResult<Im
 // The types whose sizes do not stand at fixed places. Nothing is read.
 #[tactic(auto, using(imagesize_source::proofs::Runs::steps))]
 fn unsupported<S: Source>(source: &mut S) -> ImageResult<ImageSize>
-    ensures { Runs (S.state source.old) (S.state source.new) result (over (S.state source.old).held.input (refuse error.NotSupported)) }
+    ensures { Runs (S.state source.old) (S.state source.new) result (refuses error.NotSupported) }
 {
     // The proof needs that the source is sound, which it tells with its length.
     let _told = source.told();

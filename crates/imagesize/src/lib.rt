@@ -1,13 +1,15 @@
 //! The type of an image and its size in pixels, by the few bytes that tell them.
 #![tactic(auto)]
 
+mod calls;
 mod container;
 mod formats;
 mod laws;
 mod queries;
 mod types;
 
-pub use imagesize_source::{ImageError, ImageResult, Reason, Span};
+pub use calls::{Probed, blob_size, image_type, reader_probe, reader_size, reader_type};
+pub use imagesize_source::{ImageError, ImageResult, Reason, Span, Stop, Told};
 pub use types::{
     AtcCompression, Compression, CompressionFamily, DdsCompression, ImageSize, ImageType,
     PkmCompression, PvrtcCompression,

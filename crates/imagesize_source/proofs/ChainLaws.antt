@@ -1,15 +1,14 @@
 -- What holds of every chain: where a walk stands, locality, counts and extension.
-use Rattle.std.proofs.Common.{◌≡◌, ℕ, zero, suc, ◌+◌, ◌-◌, ◌*◌, ◌<◌, ◌≤◌, List, [], ◌∷◌, ◌++◌, length, Some, Result, Ok, Err, append_assoc, refl, sym, ap, ◌∙◌, subst, arith}
+use Rattle.std.proofs.Common.{◌≡◌, ℕ, zero, suc, ◌+◌, ◌*◌, ◌<◌, ◌≤◌, List, [], ◌∷◌, ◌++◌, length, Some, Result, Ok, Err, refl, sym, ap, ◌∙◌, subst, arith}
 use Rattle.std.proofs.Math.Nat.{mul-add}
-use Rattle.std.proofs.lemmas.List.{append-nil, length_push, length-append}
+use Rattle.std.proofs.lemmas.List.{length_push}
 use Rattle.imagesize_source.specs.declared.error.ImageError.{ImageError}
 use Rattle.imagesize_source.specs.declared.span.Span.{Span}
 use Rattle.imagesize_source.specs.Agreement.{Agrees, Local}
 use Rattle.imagesize_source.specs.Chain.{Said, Decided, Next, Chain, Along, start, next_record, verdict, records_from, records, chain_from, chain_at, Advances}
 use Rattle.imagesize_source.specs.Counts.{AtMost}
 use Rattle.imagesize_source.specs.Extension.{Plain, Lasts}
-use Rattle.imagesize_source.specs.Layout.{Layout, over}
-use Rattle.imagesize_source.specs.Reading.{Reads, behind}
+use Rattle.imagesize_source.specs.Reading.{behind}
 use Rattle.imagesize_source.specs.State.{total}
 use Rattle.imagesize_source.proofs.Chains.{chain_next, chain_stop, records_next, records_stop}
 use Rattle.imagesize_source.proofs.Local.{local, agrees-left, agrees-right}
@@ -24,6 +23,7 @@ pub record Walked {C X : Type 0} (c : Chain C X) (d : List ℕ) (t : Along C) (m
   pub count : records c d ≡ length t.held + records_from c d t
 
 module _ {C X : Type 0} (c : Chain C X) (d : List ℕ) where
+  -- at the first record
   pub walked_start : Walked c d (start c) []
   walked_start = record { rest = refl; count = omega arith }
 
@@ -67,6 +67,7 @@ module _ {C X : Type 0} (c : Chain C X) (d e : List ℕ) (adv : Advances c d) (a
   same_record : (t : Along C) → Agrees d e (next_record c d t).marks → next_record c e t ≡ next_record c d t
   same_record t a = local d e (c.said t.held t.place) a
 
+  -- from some records on
   pub chain_local_from : (t : Along C) → Agrees d e (chain_from c d t).marks → (chain_from c e t ≡ chain_from c d t) × (records_from c e t ≡ records_from c d t)
   chain_local_from = chain_induction c d (λ t. Agrees d e (chain_from c d t).marks → (chain_from c e t ≡ chain_from c d t) × (records_from c e t ≡ records_from c d t)) adv
       (λ t v place is later a.
@@ -86,14 +87,17 @@ module _ {C X : Type 0} (c : Chain C X) (d e : List ℕ) (adv : Advances c d) (a
         records_stop c e t r is_e ∙ sym (records_stop c d t r is),
       ))
 
+  -- the whole chain
   pub chain_local : Agrees d e (chain_at c d).marks → (chain_at c e ≡ chain_at c d) × (records c e ≡ records c d)
   chain_local a = chain_local_from (start c) a
 
+-- a chain that advances is local
 pub local_chain : {C X : Type 0} (c : Chain C X) → ((d : List ℕ) → Advances c d) → Local (λ d. chain_at c d)
 local_chain c adv d e a = (chain_local c d e (adv d) (adv e) a).0
 
 -- Counts: where each record reads at most k bytes, a chain reads at most k for each of its records.
 module _ {C X : Type 0} (c : Chain C X) (d : List ℕ) (adv : Advances c d) where
+  -- from some records on
   pub chain_cost_from : (k : ℕ) → ((t : Along C) → total (next_record c d t).marks ≤ k) → (t : Along C) → total (chain_from c d t).marks ≤ k * records_from c d t
   chain_cost_from k each = chain_induction c d (λ t. total (chain_from c d t).marks ≤ k * records_from c d t) adv
       (λ t v place is later.
@@ -108,6 +112,7 @@ module _ {C X : Type 0} (c : Chain C X) (d : List ℕ) (adv : Advances c d) wher
       let count : k * records_from c d t ≡ k * 1 = ap (λ n. k * n) (records_stop c d t r is) in
       omega arith)
 
+  -- the whole chain, by the layouts of its records
   pub chain_cost : (k : ℕ) → ((held : List C) (place : ℕ) → AtMost k (c.said held place)) → total (chain_at c d).marks ≤ k * records c d
   chain_cost k each = chain_cost_from k (λ t. at_most d k (c.said t.held t.place) (each t.held t.place)) (start c)
 
@@ -133,6 +138,7 @@ verdict_ok (Err e) y is = absurd cc
 
 -- Extension: bytes behind an input change no answer of a chain whose records' answers they do not change.
 module _ {C X : Type 0} (c : Chain C X) (d x : List ℕ) (adv : Advances c d) (adv_more : Advances c (d ++ x)) (each : (t : Along C) (y : Said C X) → (next_record c d t).answer ≡ Ok y → next_record c (d ++ x) t ≡ next_record c d t) where
+  -- from some records on
   pub chain_more_from : (t : Along C) (v : X) → (chain_from c d t).answer ≡ Ok v → (chain_from c (d ++ x) t ≡ chain_from c d t) × (records_from c (d ++ x) t ≡ records_from c d t)
   chain_more_from = chain_induction c d (λ t. (v : X) → (chain_from c d t).answer ≡ Ok v → (chain_from c (d ++ x) t ≡ chain_from c d t) × (records_from c (d ++ x) t ≡ records_from c d t)) adv
       (λ t v place is later y ok.
@@ -151,5 +157,6 @@ module _ {C X : Type 0} (c : Chain C X) (d x : List ℕ) (adv : Advances c d) (a
         records_stop c (d ++ x) t r is_more ∙ sym (records_stop c d t r is),
       ))
 
+-- a chain of plain records lasts
 pub lasts_chain : {C X : Type 0} (c : Chain C X) → ((d : List ℕ) → Advances c d) → ((held : List C) (place : ℕ) → Plain (c.said held place)) → Lasts (λ d. chain_at c d)
 lasts_chain c adv plain d x v is = (chain_more_from c d x (adv d) (adv (d ++ x)) (λ t y got. more d x (c.said t.held t.place) y (plain t.held t.place) got) (start c) v is).0

@@ -1,6 +1,8 @@
 -- A chain from some records on is its next record, and the chain from there on.
-use Rattle.std.proofs.Common.{◌≡◌, ℕ, zero, suc, ◌+◌, ◌<◌, ◌≤◌, Bool, true, false, not, cond, List, [], ◌∷◌, ◌++◌, length, Some, Result, Ok, Err, is_some, refl, sym, ap, ◌∙◌, arith}
+use Rattle.std.proofs.Common.{zero-add, get_or, ◌≡◌, ℕ, zero, suc, ◌+◌, ◌<◌, ◌≤◌, Bool, true, false, not, cond, List, [], ◌∷◌, ◌++◌, length, Some, Result, Ok, Err, is_some, refl, sym, ap, ◌∙◌, arith}
 use Rattle.std.proofs.lemmas.List.{append-nil}
+use Rattle.std.proofs.lemmas.List.FromFn.{length-range_with_len, get_or-range_with_len}
+use Rattle.std.proofs.lemmas.List.Sums.{passes_at_first, fails_before_first}
 use Rattle.std.proofs.Math.Numerals.{add-one}
 use Rattle.std.specs.Prelude.{option_and_then, unwrap_or, flat_map}
 use Rattle.std.specs.List.{position_or_len, range_with_len}
@@ -32,6 +34,7 @@ position_here p a k h = rw h refl
 position_there : (p : ℕ → Bool) (a k : ℕ) → p a ≡ false → position_or_len p (range_with_len a (suc k)) ≡ 1 + position_or_len p (range_with_len (a + 1) k)
 position_there p a k h = rw h refl
 
+-- the same answer with the same marks
 pub same_reads : {X : Type 0} (r s : Reads X) → r.answer ≡ s.answer → r.marks ≡ s.marks → r ≡ s
 same_reads r s p q = ap (λ a. record r { answer = a }) p ∙ ap (λ m. record s { marks = m }) q
 
@@ -76,6 +79,21 @@ module _ {C X : Type 0} (c : Chain C X) (d : List ℕ) where
   pub records_few : (t : Along C) → Advances c d → records_from c d t ≤ length d + 1
   records_few t adv = let here = found (length d) t adv (omega arith) in let is = deciding-is t in omega arith
 
+  at_index : (k : ℕ) → k < length d + 1 → get_or (range_with_len 0 (length d + 1)) k 0 ≡ k
+  at_index k h = get_or-range_with_len 0 (length d + 1) k 0 h ∙ zero-add k
+
+  -- in a chain that advances there is a deciding record, and none before it has a verdict
+  pub decides : (t : Along C) → Advances c d → (deciding c d t ≤ length d) × (is_some (verdict_of c d t (deciding c d t)) ≡ true) × ((k : ℕ) → k < deciding c d t → is_some (verdict_of c d t k) ≡ false)
+  unfolding deciding
+  decides t adv =
+      let few : deciding c d t < length d + 1 = let n = records_few t adv in omega arith in
+      let long = length-range_with_len 0 (length d + 1) in
+      let p : ℕ → Bool = λ i. is_some (verdict_of c d t i) in (
+        omega arith,
+        ap p (sym (at_index (deciding c d t) few)) ∙ passes_at_first p (range_with_len 0 (length d + 1)) 0 (omega arith),
+        λ k h. ap p (sym (at_index k (omega arith))) ∙ fails_before_first p (range_with_len 0 (length d + 1)) k 0 h,
+      )
+
   deciding_stop : (t : Along C) → is_some (verdict (next_record c d t).answer) ≡ true → deciding c d t ≡ 0
   deciding_stop t h = deciding-is t ∙ position_here (λ i. is_some (verdict_of c d t i)) 0 (length d) h
 
@@ -101,6 +119,7 @@ module _ {C X : Type 0} (c : Chain C X) (d : List ℕ) where
       (ap (λ o. unwrap_or o (Err end_of_input)) (ap (verdict_of c d t) one ∙ verdict_next t u (deciding c d u) led))
       (marks_first t (deciding c d t) ∙ ap (λ m. (next_record c d t).marks ++ m) (ap (λ n. flat_map (marks_of c d t) (range_with_len 1 n)) one ∙ flat_map_shift (marks_of c d t) (marks_of c d u) 0 (records_from c d u) (λ i. marks_next t u i led)))
 
+  -- it is one record more
   pub records_next : (t : Along C) (v : C) (place : ℕ) → Advances c d → (next_record c d t).answer ≡ Ok (Next v place) → records_from c d t ≡ records_from c d (record { held = t.held ++ v ∷ []; place = place }) + 1
   records_next t v place adv is =
       let u : Along C = record { held = t.held ++ v ∷ []; place = place } in
@@ -115,6 +134,7 @@ module _ {C X : Type 0} (c : Chain C X) (d : List ℕ) where
       (ap (λ o. unwrap_or o (Err end_of_input)) (ap (verdict_of c d t) one ∙ is))
       (ap (λ n. flat_map (marks_of c d t) (range_with_len 0 (n + 1))) one ∙ append-nil (next_record c d t).marks)
 
+  -- it is the last
   pub records_stop : (t : Along C) (r : Result X ImageError) → verdict (next_record c d t).answer ≡ Some r → records_from c d t ≡ 1
   records_stop t r is = ap (λ n. n + 1) (deciding_stop t (ap is_some is))
 

@@ -12,7 +12,7 @@ use Rattle.imagesize_source.specs.Agreement.{has_place, covered}
 use Rattle.imagesize_source.specs.Counts.{places, AtMost}
 use Rattle.imagesize_source.specs.Input.{part, span_at, span_of}
 use Rattle.imagesize_source.specs.Layout.{Layout, done, refuse, field, bytes, there, over, bind}
-use Rattle.imagesize_source.specs.Reading.{Reads, onward, bytes_at, number_at}
+use Rattle.imagesize_source.specs.Reading.{Reads, and_then, onward, bytes_at, number_at}
 use Rattle.imagesize_source.specs.State.{State, past, step, total, fresh, front_after}
 
 total_unless : (b : Bool) (place n : ℕ) → (b ≡ true → n ≡ 0) → total (cond b [] (record { start = place; len = n } ∷ [])) ≡ n
@@ -24,6 +24,7 @@ total-span_at : (place n : ℕ) → total (span_at place n) ≡ n
 unfolding span_at
 total-span_at place n = total_unless (eqb n 0) place n (λ h. grind (arith, nat_tests))
 
+-- a reading has no more bytes than were asked for
 pub total-span_of : (d : List ℕ) (place k : ℕ) → total (span_of d place k) ≤ k
 unfolding span_of
 total-span_of d place k = let n = total-span_at place (min k (length d - place)) in omega arith
@@ -39,6 +40,14 @@ at_most d k (refuse e) h = omega arith
 at_most d k (field order place n f) h = onward_at_most (span_of d place n) (number_at d order place n) (λ v. over d (f v)) n k (total-span_of d place n) h.0 (λ v. at_most d (k - n) (f v) (h.1 v))
 at_most d k (bytes place n f) h = onward_at_most (span_of d place n) (bytes_at d place n) (λ bs. over d (f bs)) n k (total-span_of d place n) h.0 (λ bs. at_most d (k - n) (f bs) (h.1 bs))
 at_most d k (there place n f) h = onward_at_most (span_of d place n) (Ok (part d place n)) (λ bs. over d (f bs)) n k (total-span_of d place n) h.0 (λ bs. at_most d (k - n) (f bs) (h.1 bs))
+
+onward_within : {X Y : Type 0} (spans : List Span) (r : Result X ImageError) (f : X → Reads Y) (j k : ℕ) → total spans ≤ j → ((x : X) → r ≡ Ok x → total (f x).marks ≤ k) → total (onward spans r f).marks ≤ j + k
+onward_within spans (Ok x) f j k one two = let all = total-append spans (f x).marks in let more = two x refl in omega arith
+onward_within spans (Err e) f j k one two = omega arith
+
+-- readings behind readings are at most as many as both
+pub then_within : {X Y : Type 0} (r : Reads X) (f : X → Reads Y) (j k : ℕ) → total r.marks ≤ j → ((x : X) → r.answer ≡ Ok x → total (f x).marks ≤ k) → total (and_then r f).marks ≤ j + k
+then_within r f j k one two = onward_within r.marks r.answer f j k one two
 
 -- at most j bytes are at most k, where k is no less
 pub at_most_more : {X : Type 0} (j k : ℕ) (t : Layout X) → j ≤ k → AtMost j t → AtMost k t

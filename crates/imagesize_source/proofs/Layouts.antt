@@ -1,5 +1,5 @@
 -- What a layout says of an input.
-use Rattle.std.proofs.Common.{◌≡◌, ℕ, ◌+◌, ◌-◌, ◌^◌, ◌<◌, ◌≤◌, min, Bool, true, false, List, [], ◌++◌, length, take, leb, cond, Option, None, Some, Result, Ok, Err, IfErr, refl, sym, ap, ◌∙◌, subst, arith, append_assoc}
+use Rattle.std.proofs.Common.{◌≡◌, ℕ, ◌+◌, ◌-◌, ◌^◌, ◌<◌, ◌≤◌, min, Bool, true, false, List, [], ◌++◌, length, take, leb, Option, None, Some, Result, Ok, Err, refl, sym, ap, ◌∙◌, subst, arith, append_assoc}
 use Rattle.std.proofs.lemmas.List.{length-take, take_all, drop_all, append-nil}
 use Rattle.std.proofs.Math.Seq.{take-nil}
 use Rattle.std.proofs.lemmas.Bool.Decides.{nat_tests}
@@ -8,8 +8,8 @@ use Rattle.imagesize_source.specs.declared.span.Span.{Span}
 use Rattle.imagesize_source.specs.Input.{part, span_of, span_at}
 use Rattle.imagesize_source.specs.Layout.{Layout, over, bind, whole, if_there}
 use Rattle.imagesize_source.specs.Layout.Layout.{«done», refuse, field, bytes, there}
-use Rattle.imagesize_source.specs.Reading.{Reads, and_then, onward, behind, gives, bytes_at, number_at, end_of_input, bytes_read, part_read, faulted, stopped}
-use Rattle.imagesize_source.specs.State.{State, Runs, EndedBy, total, past}
+use Rattle.imagesize_source.specs.Reading.{Reads, and_then, onward, behind, bytes_at, number_at, part_read}
+use Rattle.imagesize_source.specs.State.{State, Runs, total, past}
 use Rattle.imagesize_source.proofs.Runs.{answered, part_is}
 
 behind-onward : {Y Z : Type 0} (marks more : List Span) (r : Result Y ImageError) (g : Y → Reads Z) → behind marks (onward more r g) ≡ onward (marks ++ more) r g
@@ -41,8 +41,8 @@ whole_there {a} {b} d room place k n h long all =
     let same : take n room ≡ room = take_all n room (omega arith) in
     answered (Ok (Some room)) (over d (if_there place k done)) h (append-nil _ ∙ ap (span_of d place) (sym long))
     (λ is.
-    let got : part d place k ≡ room = ap (part d place) (sym long) ∙ part_is is ∙ same in
-    ap (λ bs. Ok (whole k bs)) got ∙ ap Ok (whole-all k room (omega (arith, long))))
+        let got : part d place k ≡ room = ap (part d place) (sym long) ∙ part_is is ∙ same in
+        ap (λ bs. Ok (whole k bs)) got ∙ ap Ok (whole-all k room (omega (arith, long))))
     refl refl tt
 
 -- some are missing
@@ -63,8 +63,7 @@ runs_as {X} {a} {b} {r} other h same = record {
   answer = λ honest goes_on. ap (λ reads. reads.answer) (sym (same honest)) ∙ h.answer honest goes_on;
   state = λ honest goes_on. h.state honest goes_on ∙ ap (λ reads. past a reads.marks) (same honest);
   fault = h.fault;
-  ended = h.ended;
-}
+  ended = h.ended }
 
 -- an honest source tells the length
 pub by_told : {X : Type 0} {a b : State} {r : Result X ImageError} (f : ℕ → Reads X) → Runs a b r (f a.frame.told) → Runs a b r (f (length a.held.input))

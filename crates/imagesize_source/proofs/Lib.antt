@@ -14,4 +14,9 @@ pub mod Chains
 pub mod Reached
 pub mod ChainLaws
 pub mod Advances
+pub mod Unrolled
+pub mod Tests
+pub mod Beyond
+pub mod Walks
 pub mod Openings
+pub mod Costs

@@ -57,6 +57,7 @@ same_part d e place k a =
     ∙ a.same_byte (place + i) (covered-one place (min k (length d - place)) i below)
     ∙ sym (get_or-take k (drop place d) i 0 small ∙ get_or-drop place d i 0))
 
+-- the same of bytes that are all there, and of a number
 pub same_bytes : (d e : List ℕ) (place k : ℕ) → Agrees d e (span_of d place k) → bytes_at e place k ≡ bytes_at d place k
 unfolding bytes_at
 same_bytes d e place k a = rw (a.as_long, same_part d e place k a) refl
@@ -70,6 +71,7 @@ pub agrees_first : {d e : List ℕ} {X Y : Type 0} (spans : List Span) (r : Resu
 agrees_first spans (Ok x) f a = agrees-left spans (f x).marks a
 agrees_first spans (Err e) f a = a
 
+-- what goes on is the same, where it is so behind each answer
 pub onward_local : {d e : List ℕ} {X Y : Type 0} (spans : List Span) (r : Result X ImageError) (f g : X → Reads Y) → Agrees d e (onward spans r f).marks → ((x : X) → Agrees d e (f x).marks → g x ≡ f x) → onward spans r g ≡ onward spans r f
 onward_local spans (Ok x) f g a same = ap (behind spans) (same x (agrees-right spans (f x).marks a))
 onward_local spans (Err e) f g a same = refl
@@ -91,6 +93,7 @@ local d e (there place k f) a =
     rw (same_span d e place k here.as_long, same_part d e place k here)
     (ap (behind (span_of d place k)) (local d e (f (part d place k)) (agrees-right (span_of d place k) (over d (f (part d place k))).marks a)))
 
+-- a layout is local
 pub local_layout : {X : Type 0} (t : Layout X) → Local (λ d. over d t)
 local_layout t d e a = local d e t a
 
@@ -104,5 +107,6 @@ local_then r f first rest d e a =
 pub local_length : {X : Type 0} (f : ℕ → List ℕ → Reads X) → ((n : ℕ) → Local (f n)) → Local (λ d. f (length d) d)
 local_length f each d e a = ap (λ n. f n e) a.as_long ∙ each (length d) d e a
 
+-- the same of layouts, as one equation
 pub local_by_length : {X : Type 0} (d e : List ℕ) (f : ℕ → Layout X) → Agrees d e (over d (f (length d))).marks → over e (f (length e)) ≡ over d (f (length d))
 local_by_length d e f a = local_length (λ n d. over d (f n)) (λ n. local_layout (f n)) d e a

@@ -72,6 +72,7 @@ more d x (bytes place k f) v p is =
     (λ bs. more d x (f bs) v (p bs))
 more d x (there place k f) v p is = absurd p
 
+-- the answer alone
 pub more_answer : {X : Type 0} (d x : List ℕ) (t : Layout X) (v : X) → Plain t → (over d t).answer ≡ Ok v → (over (d ++ x) t).answer ≡ Ok v
 more_answer d x t v p is = ap (λ r. r.answer) (more d x t v p is) ∙ is
 
@@ -83,6 +84,7 @@ plain_bind (field order place k f) g p q = λ v. plain_bind (f v) g (p v) q
 plain_bind (bytes place k f) g p q = λ bs. plain_bind (f bs) g (p bs) q
 plain_bind (there place k f) g p q = absurd p
 
+-- a plain layout lasts
 pub lasts_layout : {X : Type 0} (t : Layout X) → Plain t → Lasts (λ d. over d t)
 lasts_layout t p d x v is = more d x t v p is
 

@@ -1,16 +1,14 @@
 -- From the state of a source to what a call answers to its reader.
-use Rattle.std.proofs.Common.{◌≡◌, ℕ, ◌+◌, ◌-◌, ◌^◌, ◌<◌, ◌≤◌, ◌⊎◌, inl, inr, min, Bool, true, false, cond, ◌||◌, ◌&&◌, List, [], ◌++◌, length, drop, leb, ltb, eqb, Option, Some, None, Result, Ok, Err, IfSome, IfErr, option_map, refl, sym, ap, ◌∙◌, subst, arith}
+use Rattle.std.proofs.Common.{◌≡◌, ℕ, ◌+◌, ◌-◌, ◌^◌, ◌<◌, ◌≤◌, ◌⊎◌, inl, inr, min, Bool, true, false, ◌||◌, List, length, leb, ltb, eqb, Option, Some, None, Result, Ok, Err, IfSome, refl, sym, ap, ◌∙◌, subst, arith}
 use Rattle.std.proofs.lemmas.Bool.Decides.{nat_tests}
 use Rattle.imagesize_source.specs.declared.error.ImageError.{ImageError}
 use Rattle.imagesize_source.specs.declared.error.ImageError.TheVariants.{NotSupported, CorruptedImage, IoError}
 use Rattle.imagesize_source.specs.declared.error.Reason.TheVariants.{Fault, BudgetSpent, Memory}
 use Rattle.imagesize_source.specs.declared.source.reader.Opened.{Opened}
-use Rattle.imagesize_source.specs.Layout.{Layout, over}
 use Rattle.imagesize_source.specs.Answers.{AnswersAs, TakesAs, Answers, Takes, over_reader}
-use Rattle.imagesize_source.specs.Reading.{Reads, stopped, faulted, is_fault, is_stop, is_memory, spent}
-use Rattle.imagesize_source.specs.ReaderState.{held_at, start_state, Opens}
-use Rattle.imagesize_source.specs.Standing.{Standing, steady, stand_of, in_step, since}
-use Rattle.imagesize_source.specs.State.{State, Held, Runs, EndedBy, past, total}
+use Rattle.imagesize_source.specs.Reading.{Reads, is_fault, is_stop, is_memory, spent}
+use Rattle.imagesize_source.specs.ReaderState.{start_state, Opens}
+use Rattle.imagesize_source.specs.State.{State, Held, Runs, past, total}
 use Rattle.imagesize_source.specs.Telling.{Telling, IsHonest, at_place}
 use Rattle.imagesize_source.proofs.Count.{places_past}
 
@@ -30,34 +28,14 @@ patient : (t : Telling) (b : Bool) → t.can_fail ≡ b → (b ≡ false → t.i
 patient t true fails few = rw fails refl
 patient t false fails few = let k : leb (t.interruptions + 0) 64 ≡ true = few_leb t.interruptions (few refl) in rw (fails, k) refl
 
-abbrev pair_in : Option (ℕ × ℕ) → ℕ × ℕ
-pair_in None = (0, 0)
-pair_in (Some p) = p
-
-pair_of : (a b c d : ℕ) → ◌≡◌ {A = Option (ℕ × ℕ)} (Some (a, c)) (Some (b, d)) → a ≡ b
-pair_of a b c d e = ap (λ o. (pair_in o).0) e
-
-second_of : (a b c d : ℕ) → ◌≡◌ {A = Option (ℕ × ℕ)} (Some (a, c)) (Some (b, d)) → c ≡ d
-second_of a b c d e = ap (λ o. (pair_in o).1) e
-
 least_of : (n : ℕ) → n < 2 ^ 63 → min (n + 64) (2 ^ 64 - 1) ≡ n + 64
 least_of n short = omega arith
-
--- a failure is a stop
-no_stop : (e : ImageError) → is_fault e ≡ true → is_stop e ≡ false → ⊥
-no_stop e faults goes_on = let k : is_stop e ≡ true = rw faults refl in absurd cc
-
-risen : (b c taken : ℕ) → ◌≡◌ {A = Option (ℕ × ℕ)} (Some (c - taken, taken - c)) (Some (b - 0, 0 - b)) → c ≡ b + taken
-risen b c taken same =
-    let above : c - taken ≡ b - 0 = pair_of (c - taken) (b - 0) (taken - c) (0 - b) same in
-    let below : taken - c ≡ 0 - b = second_of (c - taken) (b - 0) (taken - c) (0 - b) same in
-    omega arith
 
 -- what is claimed of an honest reader as a call begins
 abbrev pub claim : Telling → Held
 claim t = record { honest = true; input = t.bytes; can_fail = t.can_fail }
 
-start_holds : (t : Telling) (count : Option ℕ) (home : ℕ) → IsHonest t → (start_state (Some (at_place t (length t.bytes))) count home (length t.bytes)).held ≡ claim t
+pub start_holds : (t : Telling) (count : Option ℕ) (home : ℕ) → IsHonest t → (start_state (Some (at_place t (length t.bytes))) count home (length t.bytes)).held ≡ claim t
 start_holds t count home honest =
     let n = length t.bytes in
     let waits : (t.can_fail || leb (t.interruptions + 0) 64) ≡ true = patient t t.can_fail refl honest.patient in
@@ -133,56 +111,40 @@ starts_at t count home honest = record {
   taken = refl;
 }
 
--- a layout reads fewer bytes than an honest budget has
-abbrev pub IsBounded : {X : Type 0} → (ℕ → ℕ → Layout X) → Type 0
-IsBounded layout = (d : List ℕ) (place : ℕ) → total (over d (layout (length d) place)).marks < length d + 64
+-- a call reads fewer bytes than an honest budget has
+abbrev pub IsBounded : {X : Type 0} → (List ℕ → ℕ → Reads X) → Type 0
+IsBounded reads_of = (d : List ℕ) (place : ℕ) → total (reads_of d place).marks < length d + 64
 
--- what a layout says of the input that a source claims
-abbrev pub over_state : {X : Type 0} → State → (ℕ → ℕ → Layout X) → ℕ → Reads X
-over_state a layout place = over a.held.input (layout (length a.held.input) place)
+-- what readings say of the input that a source claims
+abbrev pub over_state : {X : Type 0} → State → (List ℕ → ℕ → Reads X) → ℕ → Reads X
+over_state a reads_of place = reads_of a.held.input place
 
 -- the states before and after a call that ran behind an opening
-record Began (t : Telling) (mid : Option Telling) (told place : ℕ) : Type 0 where
-  at_end : mid ≡ Some (at_place t (length t.bytes))
-  length_told : told ≡ length t.bytes
-  at : place ≡ t.place
+pub record Began (t : Telling) (mid : Option Telling) (told place : ℕ) : Type 0 where
+  pub at_end : mid ≡ Some (at_place t (length t.bytes))
+  pub length_told : told ≡ length t.bytes
+  pub at : place ≡ t.place
 
-start_of : (t : Telling) (mid : Option Telling) (count : Option ℕ) (home told place : ℕ) → Began t mid told place → start_state mid count home told ≡ start_state (Some (at_place t (length t.bytes))) count home (length t.bytes)
+pub start_of : (t : Telling) (mid : Option Telling) (count : Option ℕ) (home told place : ℕ) → Began t mid told place → start_state mid count home told ≡ start_state (Some (at_place t (length t.bytes))) count home (length t.bytes)
 start_of t mid count home told place h = ap (λ m. start_state m count home told) h.at_end ∙ ap (λ n. start_state (Some (at_place t (length t.bytes))) count home n) h.length_told
 
-runs_of : {X : Type 0} (t : Telling) (mid : Option Telling) (count : Option ℕ) (home told place : ℕ) (b : State) (r : Result X ImageError) (layout : ℕ → ℕ → Layout X) → IsHonest t → Began t mid told place → Runs (start_state mid count home told) b r (over_state (start_state mid count home told) layout place) → Runs (start_state (Some (at_place t (length t.bytes))) count home (length t.bytes)) b r (over_reader t layout)
-runs_of t mid count home told place b r layout honest began h =
+runs_of : {X : Type 0} (t : Telling) (mid : Option Telling) (count : Option ℕ) (home told place : ℕ) (b : State) (r : Result X ImageError) (reads_of : List ℕ → ℕ → Reads X) → IsHonest t → Began t mid told place → Runs (start_state mid count home told) b r (over_state (start_state mid count home told) reads_of place) → Runs (start_state (Some (at_place t (length t.bytes))) count home (length t.bytes)) b r (over_reader t reads_of)
+runs_of t mid count home told place b r reads_of honest began h =
     let a = start_state (Some (at_place t (length t.bytes))) count home (length t.bytes) in
-    let begun : Runs a b r (over_state a layout place) = subst (λ s. Runs s b r (over_state s layout place)) (start_of t mid count home told place began) h in
-    let there : Runs a b r (over t.bytes (layout (length t.bytes) place)) = subst (λ k. Runs a b r (over k.input (layout (length k.input) place))) (start_holds t count home honest) begun in
-    subst (λ p. Runs a b r (over t.bytes (layout (length t.bytes) p))) began.at there
+    let begun : Runs a b r (over_state a reads_of place) = subst (λ s. Runs s b r (over_state s reads_of place)) (start_of t mid count home told place began) h in
+    let there : Runs a b r (reads_of t.bytes place) = subst (λ k. Runs a b r (reads_of k.input place)) (start_holds t count home honest) begun in
+    subst (λ p. Runs a b r (reads_of t.bytes p)) began.at there
 
 -- what a call that ran behind an opening answers
-pub opened_answers : {X : Type 0} (telling mid : Option Telling) (count : Option ℕ) (home : ℕ) (opened : Opened) (b : State) (r : Result X ImageError) (layout : ℕ → ℕ → Layout X) → IsBounded layout → Opens telling mid (Ok opened) → Runs (start_state mid count home opened.told) b r (over_state (start_state mid count home opened.told) layout opened.place) → Answers telling layout r
-opened_answers None mid count home opened b r layout bounded opens h = tt
-opened_answers (Some t) mid count home opened b r layout bounded opens h = λ honest.
+pub opened_answers : {X : Type 0} (telling mid : Option Telling) (count : Option ℕ) (home : ℕ) (opened : Opened) (b : State) (r : Result X ImageError) (reads_of : List ℕ → ℕ → Reads X) → IsBounded reads_of → Opens telling mid (Ok opened) → Runs (start_state mid count home opened.told) b r (over_state (start_state mid count home opened.told) reads_of opened.place) → Answers telling reads_of r
+opened_answers None mid count home opened b r reads_of bounded opens h = tt
+opened_answers (Some t) mid count home opened b r reads_of bounded opens h = λ honest.
     let began : Began t mid opened.told opened.place = record { at_end = opens.0; length_told = opens.2; at = opens.1 } in
-    answers_of t _ b r (over_reader t layout) (starts_at t count home honest) (runs_of t mid count home opened.told opened.place b r layout honest began h) (bounded t.bytes t.place)
+    answers_of t _ b r (over_reader t reads_of) (starts_at t count home honest) (runs_of t mid count home opened.told opened.place b r reads_of honest began h) (bounded t.bytes t.place)
 
 -- and what it took
-pub opened_takes : {X : Type 0} (telling mid : Option Telling) (count : Option ℕ) (home : ℕ) (opened : Opened) (b : State) (r : Result X ImageError) (layout : ℕ → ℕ → Layout X) → Opens telling mid (Ok opened) → Runs (start_state mid count home opened.told) b r (over_state (start_state mid count home opened.told) layout opened.place) → Takes telling layout r b.taken
-opened_takes None mid count home opened b r layout opens h = tt
-opened_takes (Some t) mid count home opened b r layout opens h = λ honest.
+pub opened_takes : {X : Type 0} (telling mid : Option Telling) (count : Option ℕ) (home : ℕ) (opened : Opened) (b : State) (r : Result X ImageError) (reads_of : List ℕ → ℕ → Reads X) → Opens telling mid (Ok opened) → Runs (start_state mid count home opened.told) b r (over_state (start_state mid count home opened.told) reads_of opened.place) → Takes telling reads_of r b.taken
+opened_takes None mid count home opened b r reads_of opens h = tt
+opened_takes (Some t) mid count home opened b r reads_of opens h = λ honest.
     let began : Began t mid opened.told opened.place = record { at_end = opens.0; length_told = opens.2; at = opens.1 } in
-    takes_of t _ b r (over_reader t layout) (starts_at t count home honest) (runs_of t mid count home opened.told opened.place b r layout honest began h)
-
--- a reader that failed as the call began answers its failure, and nothing was taken
-pub failed_answers : {X : Type 0} (telling mid : Option Telling) (e : ImageError) (layout : ℕ → ℕ → Layout X) → is_fault e ≡ true → Opens telling mid (Err e) → Answers {X = X} telling layout (Err e)
-failed_answers None mid e layout faults opens = tt
-failed_answers (Some t) mid e layout faults opens = λ honest. record { answer = λ goes_on. absurd (no_stop e faults goes_on); fault = λ stops. (faults, opens) }
-
-pub failed_takes : {X : Type 0} (telling mid : Option Telling) (e : ImageError) (layout : ℕ → ℕ → Layout X) → is_fault e ≡ true → Opens telling mid (Err e) → Takes {X = X} telling layout (Err e) 0
-failed_takes None mid e layout faults opens = tt
-failed_takes (Some t) mid e layout faults opens = λ honest. record { most = omega arith; least = λ goes_on. absurd (no_stop e faults goes_on) }
-
--- how much a reader's count rose
-pub count_rose : (before after : Option ℕ) (taken : ℕ) → since after taken ≡ since before 0 → after ≡ option_map (λ c. c + taken) before
-count_rose None None taken same = refl
-count_rose None (Some c) taken same = absurd cc
-count_rose (Some c) None taken same = absurd cc
-count_rose (Some b) (Some c) taken same = ap Some (risen b c taken same)
+    takes_of t _ b r (over_reader t reads_of) (starts_at t count home honest) (runs_of t mid count home opened.told opened.place b r reads_of honest began h)

@@ -1,5 +1,5 @@
 -- How far a run has come: what is left of its readings.
-use Rattle.std.proofs.Common.{◌≡◌, ℕ, ◌+◌, ◌≤◌, true, List, [], ◌∷◌, ◌++◌, Result, Ok, Err, refl, sym, ap, ◌∙◌, arith, IfErr}
+use Rattle.std.proofs.Common.{◌≡◌, ℕ, ◌+◌, ◌^◌, ◌<◌, ◌≤◌, true, false, List, [], ◌∷◌, ◌++◌, length, Result, Ok, Err, refl, sym, ap, ◌∙◌, arith, IfErr}
 use Rattle.std.proofs.lemmas.List.{append-nil}
 use Rattle.imagesize_source.specs.declared.error.ImageError.{ImageError}
 use Rattle.imagesize_source.specs.declared.span.Span.{Span}
@@ -40,11 +40,27 @@ total_onward spans (Err e) f = omega arith
 onward_at : {X Y : Type 0} (spans : List Span) (r s : Result Y ImageError) (f : Y → Reads X) → r ≡ s → onward spans r f ≡ onward spans s f
 onward_at spans r s f is = ap (λ q. onward spans q f) is
 
+-- nothing is read
+pub reads_nothing : {X : Type 0} (b : State) (r : Result X ImageError) → Sound b → faulted r ≡ false → IfErr r (EndedBy b) → Runs b b r (record { answer = r; marks = [] })
+unfolding past
+reads_nothing b r sound no_fault ended = record {
+  sound = sound;
+  sound_after = sound;
+  frame = refl;
+  taken = omega arith;
+  within = λ honest. omega arith;
+  answer = λ honest goes_on. refl;
+  state = λ honest goes_on. refl;
+  fault = λ honest faults. absurd cc;
+  ended = ended;
+}
+
 module _ {X : Type 0} {a b : State} {whole rest : Reads X} (h : Reached a b whole rest) where
   -- an honest run has the same input before it
   still : a.held.honest ≡ true → b.held ≡ a.held
   still honest = ap (λ s. s.held) (h.state honest) ∙ past-held a h.made
 
+  -- and the same bytes
   pub same_input : a.held.honest ≡ true → b.held.input ≡ a.held.input
   same_input honest = ap (λ x. x.input) (still honest)
 
@@ -88,6 +104,11 @@ module _ {X : Type 0} {a b : State} {whole rest : Reads X} (h : Reached a b whol
   reached_end r given run same = ended_by r r given run refl refl run.ended
       (λ honest. let is = ap (λ w. total w.marks) (same honest) in omega arith)
       (λ honest is. (ap (λ w. w.answer) (sym (same honest)) ∙ is, ap (λ w. w.marks) (sym (same honest))))
+
+  -- nothing more is read, and the answer is known
+  pub reached_now : (r : Result X ImageError) → Sound b → faulted r ≡ false → IfErr r (EndedBy b) → (a.held.honest ≡ true → length a.held.input < 2 ^ 63 → rest ≡ record { answer = r; marks = [] }) → Runs a b r whole
+  reached_now r sound no_fault ended same = reached_end r (record { answer = r; marks = [] }) (reads_nothing b r sound no_fault ended)
+      (λ honest. sym (same honest (let short = (h.sound sound honest).1 in omega arith)))
 
 module _ {X Y : Type 0} {a b : State} {whole : Reads X} (reads : Reads Y) (f : Y → Reads X) (h : Reached a b whole (and_then reads f)) where
   -- the next readings, and what is left behind their answer

@@ -2,15 +2,13 @@
 use Rattle.std.proofs.Common.{◌≡◌, ℕ, ◌+◌, ◌-◌, ◌*◌, ◌^◌, ◌<◌, ◌≤◌, min, zero, suc, Bool, true, false, cond, List, [], ◌∷◌, ◌++◌, length, take, drop, leb, Result, Ok, Err, zero-add, add_assoc, refl, sym, ap, ◌∙◌, subst, arith, IfErr}
 use Rattle.std.proofs.lemmas.List.{length-take, length-drop, take_all, append-nil}
 use Rattle.std.proofs.lemmas.Bool.Decides.{nat_tests}
-use Rattle.std.specs.Int.{w16, w32, w64, from_le_bytes, from_be_bytes}
 use Rattle.imagesize_source.specs.declared.error.ImageError.{ImageError}
 use Rattle.imagesize_source.specs.declared.span.Span.{Span}
 use Rattle.imagesize_source.specs.declared.util.Endian.{Endian}
-use Rattle.imagesize_source.specs.declared.util.Endian.TheVariants.{Little, Big}
 use Rattle.imagesize_source.specs.Input.{part, span_of}
 use Rattle.imagesize_source.specs.Numbers.{number}
-use Rattle.imagesize_source.specs.Reading.{Reads, bytes_at, number_at, part_read, bytes_read, number_read, seen, stopped, faulted, is_fault, is_spent, is_memory, spent, end_of_input}
-use Rattle.imagesize_source.specs.State.{State, Runs, EndedBy, total, past, step}
+use Rattle.imagesize_source.specs.Reading.{Reads, onward, behind, and_then, bytes_at, number_at, part_read, bytes_read, number_read, seen, stopped, faulted, end_of_input}
+use Rattle.imagesize_source.specs.State.{State, Held, Runs, EndedBy, total, past, step}
 
 -- the same readings, answered otherwise where nothing stopped them
 pub answered : {X Y : Type 0} {a b : State} {x : X} {reads : Reads X} (r : Result Y ImageError) (other : Reads Y) → Runs a b (Ok x) reads → other.marks ≡ reads.marks → (reads.answer ≡ Ok x → other.answer ≡ r) → stopped r ≡ false → faulted r ≡ false → IfErr r (EndedBy b) → Runs a b r other
@@ -104,3 +102,45 @@ past-held a [] = refl
 past-held a (x ∷ s) = past-held (step a x) s
 
 pub ruleset steps = (past-past, past-none, total-append, append-nil, past-held)
+
+past_honest : {X : Type 0} {a m : State} {x : X} {r : Reads X} → Runs a m (Ok x) r → a.held.honest ≡ true → m.held ≡ a.held
+past_honest {X} {a} {m} {x} {r} h honest = ap (λ s. s.held) (h.state honest refl) ∙ past-held a r.marks
+
+-- the spans of the readings before are among those of the whole
+total_first : {X Y : Type 0} (spans : List Span) (r : Result X ImageError) (f : X → Reads Y) → total spans ≤ total (onward spans r f).marks
+total_first spans (Ok x) f = omega (arith, total-append spans (f x).marks)
+total_first spans (Err e) f = omega arith
+
+-- a call that read, and went on from what it found
+pub runs_then : {X Y : Type 0} {a m b : State} {x : X} {y : Result Y ImageError} (r : Reads X) (f : X → Held → Reads Y) → Runs a m (Ok x) r → Runs m b y (f x m.held) → Runs a b y (and_then r (λ v. f v a.held))
+runs_then {X} {Y} {a} {m} {b} {x} {y} r f first second =
+    let same = λ (honest : a.held.honest ≡ true). past_honest first honest in
+    let honest_then = λ (honest : a.held.honest ≡ true). ap (λ h. h.honest) (same honest) ∙ honest in
+    let next = λ (honest : a.held.honest ≡ true). ap (λ v. onward r.marks v (λ w. f w a.held)) (first.answer honest refl) ∙ ap (λ h. behind r.marks (f x h)) (sym (same honest)) in
+    record {
+      sound = first.sound;
+      sound_after = second.sound_after;
+      frame = second.frame ∙ first.frame;
+      taken = omega (arith, first.taken, second.taken);
+      within = λ honest. rw (next honest) (omega (arith, first.within honest, second.within (honest_then honest), total-append r.marks (f x m.held).marks));
+      answer = λ honest goes_on. ap (λ q. q.answer) (next honest) ∙ second.answer (honest_then honest) goes_on;
+      state = λ honest goes_on.
+        second.state (honest_then honest) goes_on
+        ∙ ap (λ s. past s (f x m.held).marks) (first.state honest refl)
+        ∙ past-past a r.marks (f x m.held).marks
+        ∙ ap (past a) (sym (ap (λ q. q.marks) (next honest)));
+      fault = λ honest faults. ap (λ h. h.can_fail) (sym (same honest)) ∙ second.fault (honest_then honest) faults;
+      ended = second.ended }
+
+-- a call that was refused goes on from nothing
+pub runs_refused : {X Y : Type 0} {a b : State} {e : ImageError} (r : Reads X) (f : X → Reads Y) → Runs {X = X} a b (Err e) r → Runs {X = Y} a b (Err e) (and_then r f)
+runs_refused {X} {Y} {a} {b} {e} r f h = record {
+  sound = h.sound;
+  sound_after = h.sound_after;
+  frame = h.frame;
+  taken = h.taken;
+  within = λ honest. omega (arith, h.within honest, total_first r.marks r.answer f);
+  answer = λ honest goes_on. ap (λ v. (onward r.marks v f).answer) (h.answer honest goes_on);
+  state = λ honest goes_on. h.state honest goes_on ∙ ap (past a) (sym (ap (λ v. (onward r.marks v f).marks) (h.answer honest goes_on)));
+  fault = h.fault;
+  ended = h.ended }

@@ -1,8 +1,7 @@
--- What a call that reads by a layout answers to a reader, and takes from it.
-use Rattle.std.specs.Prelude.{◌≡◌, ℕ, ◌≤◌, true, false, List, length, Result, Option, None, Some}
+-- What a call that makes certain readings answers to a reader, and takes from it.
+use Rattle.std.specs.Prelude.{◌≡◌, ℕ, ◌+◌, ◌≤◌, true, false, List, length, Result, Option, None, Some, IsSomeAnd}
 use Rattle.imagesize_source.specs.declared.error.ImageError.{ImageError}
 use Rattle.imagesize_source.specs.Counts.{places}
-use Rattle.imagesize_source.specs.Layout.{Layout, over}
 use Rattle.imagesize_source.specs.Reading.{Reads, stopped, faulted}
 use Rattle.imagesize_source.specs.State.{total}
 use Rattle.imagesize_source.specs.Telling.{Telling, IsHonest}
@@ -18,16 +17,26 @@ pub record TakesAs {X : Type 0} (t : Telling) (reads : Reads X) (r : Result X Im
   pub most : taken ≤ total reads.marks
   pub least : stopped r ≡ false → places (length t.bytes) reads.marks ≤ taken
 
--- what a layout says of the bytes of a reader; the layout may look at their length and at the reader's place
-abbrev pub over_reader : {X : Type 0} → Telling → (ℕ → ℕ → Layout X) → Reads X
-over_reader t layout = over t.bytes (layout (length t.bytes) t.place)
+-- what readings of an input from a place on say of the bytes of a reader, at its place
+abbrev pub over_reader : {X : Type 0} → Telling → (List ℕ → ℕ → Reads X) → Reads X
+over_reader t reads = reads t.bytes t.place
 
--- over an honest reader the answer is that of the layout, or a failure
-abbrev pub Answers : {X : Type 0} → Option Telling → (ℕ → ℕ → Layout X) → Result X ImageError → Type 0
-Answers None layout r = Unit {0}
-Answers (Some t) layout r = IsHonest t → AnswersAs t (over_reader t layout) r
+-- over an honest reader the answer is that of the readings, or a failure
+abbrev pub Answers : {X : Type 0} → Option Telling → (List ℕ → ℕ → Reads X) → Result X ImageError → Type 0
+Answers None reads r = Unit {0}
+Answers (Some t) reads r = IsHonest t → AnswersAs t (over_reader t reads) r
 
--- and the bytes taken are those of its readings
-abbrev pub Takes : {X : Type 0} → Option Telling → (ℕ → ℕ → Layout X) → Result X ImageError → ℕ → Type 0
-Takes None layout r taken = Unit {0}
-Takes (Some t) layout r taken = IsHonest t → TakesAs t (over_reader t layout) r taken
+-- and the bytes taken are those of the readings
+abbrev pub Takes : {X : Type 0} → Option Telling → (List ℕ → ℕ → Reads X) → Result X ImageError → ℕ → Type 0
+Takes None reads r taken = Unit {0}
+Takes (Some t) reads r taken = IsHonest t → TakesAs t (over_reader t reads) r taken
+
+-- a named count rose by at most k
+abbrev pub RisesWithin : Option ℕ → Option ℕ → ℕ → Type 0
+RisesWithin None after k = after ≡ None
+RisesWithin (Some before) after k = IsSomeAnd after (λ count. (before ≤ count) × (count ≤ before + k))
+
+-- over an honest reader that counts, the bytes given are at most those of the readings' spans together
+abbrev pub Counts : {X : Type 0} → Option Telling → Option ℕ → Option ℕ → (List ℕ → ℕ → Reads X) → Type 0
+Counts None before after reads = Unit {0}
+Counts (Some t) before after reads = IsHonest t → RisesWithin before after (total (over_reader t reads).marks)

@@ -1,5 +1,5 @@
 -- What bytes behind an input leave as it was.
-use Rattle.std.specs.Prelude.{◌≡◌, ℕ, List, ◌++◌, Result, Ok}
+use Rattle.std.specs.Prelude.{◌≡◌, ℕ, List, ◌++◌, Ok}
 use Rattle.imagesize_source.specs.Layout.{Layout, done, refuse, field, bytes, there}
 use Rattle.imagesize_source.specs.Reading.{Reads}
 

@@ -1,0 +1,29 @@
+-- What `reader_probe` answers.
+use Rattle.std.specs.Prelude.{◌≡◌, ℕ, true, false, length, Option, None, Some, Result, Ok, IfSome}
+use Rattle.std.specs.Result.{result_ok}
+use Rattle.imagesize.specs.Meaning.{kind_of, meaning}
+use Rattle.imagesize.specs.declared.types.ImageSize.{ImageSize}
+use Rattle.imagesize.specs.declared.types.ImageType.{ImageType}
+use Rattle.imagesize.specs.declared.calls.Probed.{Probed}
+use Rattle.imagesize_source.specs.declared.error.ImageError.{ImageError}
+use Rattle.imagesize_source.specs.Answers.{AnswersAs, TakesAs, over_reader}
+use Rattle.imagesize_source.specs.Reading.{stopped}
+use Rattle.imagesize_source.specs.State.{State}
+use Rattle.imagesize_source.specs.Telling.{Telling, IsHonest}
+
+-- A type that is named is the input's, and where nothing failed it is named if there is one.
+pub record FindsKind (a : State) (place : ℕ) (found : Option ImageType) (r : Result ImageSize ImageError) : Type 0 where
+  pub right : a.held.honest ≡ true → IfSome found (λ type. (kind_of a.held.input place).answer ≡ Ok type)
+  pub whole : a.held.honest ≡ true → stopped r ≡ false → found ≡ result_ok (kind_of a.held.input place).answer
+
+-- Over an honest reader the answer is that of the layouts or a failure, the type named beside it is right,
+-- and the bytes taken are those of their readings.
+pub record ProbesOf (t : Telling) (probed : Probed) : Type 0 where
+  pub answer : AnswersAs t (over_reader t meaning) probed.answer
+  pub takes : TakesAs t (over_reader t meaning) probed.answer probed.taken
+  pub right : IfSome probed.kind (λ type. (over_reader t kind_of).answer ≡ Ok type)
+  pub whole : stopped probed.answer ≡ false → probed.kind ≡ result_ok (over_reader t kind_of).answer
+
+abbrev pub Probes : Option Telling → Probed → Type 0
+Probes None probed = Unit {0}
+Probes (Some t) probed = IsHonest t → ProbesOf t probed

@@ -1,0 +1,141 @@
+//! The calls: type and size of a slice's bytes, or of a reader's.
+ghost use Rattle.std.specs.Prelude.{◌≡◌, ◌+◌, ◌≤◌, length, IfErr, IfSome, Some, Option, Ok, option_map};
+ghost use Rattle.imagesize_source.specs.Answers.{Answers, Counts};
+ghost use Rattle.imagesize_source.specs.Reading.{spent};
+ghost use Rattle.imagesize_source.specs.State.{Runs};
+ghost use Rattle.imagesize_source.specs.ReaderState.{Opens};
+ghost use Rattle.imagesize_source.specs.Telling.{Telling};
+ghost use Rattle.imagesize.specs.Meaning.{kind_of, meaning, size_of};
+ghost use Rattle.imagesize.specs.Probed.{FindsKind, Probes};
+
+use imagesize_source::source::Source;
+use imagesize_source::source::reader::{Opened, ReaderSource, open};
+use imagesize_source::source::slice::SliceSource;
+
+use crate::formats::{detect, size};
+use crate::types::{ImageSize, ImageType};
+use crate::{ImageResult, Told};
+
+/// What a reader was found to hold, and what it took to find it.
+#[derive(Debug, Drop)]
+pub struct Probed {
+    /// The type, where one was found.
+    pub kind: Option<ImageType>,
+    /// The size in pixels, or why there is none.
+    pub answer: ImageResult<ImageSize>,
+    /// How many bytes the reads of this call gave.
+    pub taken: u64,
+}
+
+/// The type of the image that a slice's first bytes tell.
+///
+/// Errors: `NotSupported` where no type has these bytes, and `EndOfInput` under 12 bytes.
+pub fn image_type(header: &[u8]) -> ImageResult<ImageType>
+    ensures { result ≡ (kind_of header.now 0).answer }
+{
+    detect(&mut SliceSource { bytes: header }, 0)
+}
+
+/// The size in pixels of the image that a slice's bytes hold.
+///
+/// Errors: `NotSupported` where no type has the first bytes, `EndOfInput` where the bytes end before the size,
+/// and the refusals of the type's layout.
+pub fn blob_size(data: &[u8]) -> ImageResult<ImageSize>
+    ensures { result ≡ (meaning «data».now 0).answer }
+{
+    probe(&mut SliceSource { bytes: data }, 0).1
+}
+
+// The type at a place of a source, and the size by it.
+fn probe<S: Source>(source: &mut S, place: u64) -> (Option<ImageType>, ImageResult<ImageSize>)
+    ensures runs { Runs (S.state source.old) (S.state source.new) result.1
+        (meaning (S.state source.old).held.input place) }
+    ensures kind { FindsKind (S.state source.old) place result.0 result.1 }
+{
+    match detect(source, place) {
+        Ok(found) => (Some(found), size(source, found)),
+        Err(error) => (None, Err(error)),
+    }
+}
+
+/// The type of the image in a reader's bytes, told by the twelve bytes where it stands.
+///
+/// Errors: `NotSupported` where no type has these bytes, `EndOfInput` where fewer than 12 are left, and
+/// `Fault` where a call of the reader fails.
+pub fn reader_type<R: Told>(mut reader: R) -> ImageResult<ImageType>
+    ensures { Answers (R.telling reader) kind_of result }
+{
+    let opened = open(&mut reader)?;
+    detect(&mut ReaderSource::new(&mut reader, opened.told), opened.place)
+}
+
+/// The size in pixels of the image in a reader's bytes, of the type that the twelve bytes tell where it stands.
+///
+/// Errors: those of `reader_type`, `EndOfInput` where the bytes end before the size, the refusals of the type's
+/// layout, and `BudgetSpent` where a reader gives more than 64 bytes above the length that it told.
+pub fn reader_size<R: Told>(mut reader: R) -> ImageResult<ImageSize>
+    ensures { Answers (R.telling reader) meaning result }
+{
+    reader_probe(&mut reader).answer
+}
+
+/// Type and size of the image in a reader's bytes, and how many bytes were taken to find them.
+///
+/// The errors are those of `reader_size`. The reader stands at an unstated place then, and may be used again.
+pub fn reader_probe<R: Told>(reader: &mut R) -> Probed
+    ensures probes { Probes (R.telling reader.old) result }
+    ensures counts { R.count reader.new ≡ option_map (λ c. c + result.taken) (R.count reader.old) }
+    ensures spent { IfErr result.answer (λ e. IfSome (spent e) (λ budget. budget ≡ result.taken)) }
+{
+    match open(reader) {
+        Ok(opened) => probe_opened(reader, opened),
+        Err(error) => Probed {
+            kind: None,
+            answer: Err(error),
+            taken: 0,
+        },
+    }
+}
+
+impl ImageType {
+    /// The size in pixels of the image in a reader's bytes, read as this type.
+    ///
+    /// The places of the size are those of the whole bytes, wherever the reader stands and whether or not the
+    /// bytes are of this type. The errors are those of `reader_size` but for the type's. The reader stands at an
+    /// unstated place then, and may be used again.
+    pub fn reader_size<R: Told>(&self, reader: &mut R) -> ImageResult<ImageSize>
+        ensures answers { Answers (R.telling reader.old) (λ d place. size_of self.now d) result }
+        ensures counts { Counts (R.telling reader.old) (R.count reader.old) (R.count reader.new) (λ d place. size_of self.now d) }
+    {
+        let opened = open(reader)?;
+        size_opened(*self, reader, opened)
+    }
+}
+
+// The size of what a reader holds that was opened, read as this type.
+fn size_opened<R: Told>(kind: ImageType, reader: &mut R, opened: Opened) -> ImageResult<ImageSize>
+    ensures answers { (telling : Option Telling) → Opens telling (R.telling reader.old) (Ok opened)
+        → Answers telling (λ d place. size_of kind d) result }
+    ensures counts { (telling : Option Telling) → Opens telling (R.telling reader.old) (Ok opened)
+        → Counts telling (R.count reader.old) (R.count reader.new) (λ d place. size_of kind d) }
+{
+    let mut source = ReaderSource::new(reader, opened.told);
+    let answer = size(&mut source, kind);
+    answer
+}
+
+// Type and size of what a reader holds that was opened.
+fn probe_opened<R: Told>(reader: &mut R, opened: Opened) -> Probed
+    ensures probes { (telling : Option Telling) → Opens telling (R.telling reader.old) (Ok opened) → Probes telling result }
+    ensures counts { R.count reader.new ≡ option_map (λ c. c + result.taken) (R.count reader.old) }
+    ensures spent { IfErr result.answer (λ e. IfSome (spent e) (λ budget. budget ≡ result.taken)) }
+{
+    let mut source = ReaderSource::new(reader, opened.told);
+    let (kind, answer) = probe(&mut source, opened.place);
+    let taken = source.taken();
+    Probed {
+        kind,
+        answer,
+        taken,
+    }
+}
