@@ -14,6 +14,7 @@ pub mod Chains
 pub mod Reached
 pub mod ChainLaws
 pub mod Advances
+pub mod Ahead
 pub mod Unrolled
 pub mod Tests
 pub mod Beyond
