@@ -3,6 +3,7 @@ pub mod Runs
 pub mod Slices
 pub mod Numbers
 pub mod Filling
+pub mod Found
 pub mod Standings
 pub mod Windows
 pub mod Layouts

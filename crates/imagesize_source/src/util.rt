@@ -96,7 +96,7 @@ pub fn read_u16_behind<S: Source>(
 /// The place so far behind another. One above 2^64 - 1 is behind the end of every input.
 #[inline]
 pub fn place_behind(place: u64, distance: u64) -> ImageResult<u64>
-    ensures next { IfOk result (λ next. next ≡ place + distance) }
+    ensures next { IfOk result (λ next. (next ≡ place + distance) × (next < 2 ^ 64)) }
     ensures beyond { IfErr result (λ e. (e ≡ end_of_input) × (2 ^ 64 ≤ place + distance)) }
 {
     match place.checked_add(distance) {
