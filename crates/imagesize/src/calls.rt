@@ -52,7 +52,7 @@ pub fn blob_size(data: &[u8]) -> ImageResult<ImageSize>
     // A size at fixed places, and a refused type, are read from at most 41 bytes.
     ensures cost { IsTrue (is_fixed_or_refused (kind_of «data».now 0).answer) → cost «data».now 0 ≤ 41 }
 
-    // Bytes that follow change no size of a JPEG, and none at fixed places, but for TGA.
+    // Bytes that follow change no size of a JPEG or an ILBM, and none at fixed places, but for TGA.
     ensures lasts { IsTrue (lasts_as (kind_of «data».now 0).answer) → IfOk result (λ size.
         (x : List ℕ) → (meaning («data».now ++ x) 0).answer ≡ Ok size) }
 {
