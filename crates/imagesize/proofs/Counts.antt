@@ -13,6 +13,7 @@ use Rattle.imagesize.specs.Vtf.{vtf}
 use Rattle.imagesize.specs.Dds.{dds, dds_compression, dds_compression_by}
 use Rattle.imagesize.specs.Heif.{heif_compression}
 use Rattle.imagesize.specs.Kind.{kind, kind_by, with_kind, tga_or_none, rows, first_row}
+use Rattle.imagesize.proofs.Ico.{ico_within}
 use Rattle.imagesize.proofs.Ilbm.{ilbm_within}
 use Rattle.imagesize.proofs.Jpeg.{jpeg_within}
 use Rattle.imagesize.specs.Meaning.{kind_of, size_of, meaning}
@@ -189,7 +190,7 @@ pub size_at_most : (type : ImageType) (d : List ℕ) → total (size_of type d).
 size_at_most Exr d = omega arith
 size_at_most Hdr d = omega arith
 size_at_most (Heif _) d = omega arith
-size_at_most Ico d = omega arith
+size_at_most Ico d = omega (arith, ico_within d)
 size_at_most Ilbm d = omega (arith, ilbm_within d)
 size_at_most Jpeg d = omega (arith, jpeg_within d)
 size_at_most Jxl d = omega arith

@@ -1,5 +1,6 @@
 -- Type and size see an input by their marks alone.
 use Rattle.std.proofs.Common.{◌≡◌, ℕ, List, length, refl}
+use Rattle.imagesize.proofs.Ico.{ico_local}
 use Rattle.imagesize.proofs.Ilbm.{ilbm_local}
 use Rattle.imagesize.proofs.Jpeg.{jpeg_local}
 use Rattle.imagesize.specs.Kind.{kind}
@@ -42,7 +43,7 @@ local_size Farbfeld = local_layout farbfeld
 local_size Gif = local_layout gif
 local_size Hdr = λ d e agrees. refl
 local_size (Heif _) = λ d e agrees. refl
-local_size Ico = λ d e agrees. refl
+local_size Ico = ico_local
 local_size Ilbm = ilbm_local
 local_size Jpeg = jpeg_local
 local_size Jxl = λ d e agrees. refl

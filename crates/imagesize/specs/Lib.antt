@@ -16,6 +16,7 @@ pub mod Ilbm
 pub mod Jpeg
 pub mod Jxl
 pub mod Kind
+pub mod Largest
 pub mod Ktx2
 pub mod Meaning
 pub mod Order

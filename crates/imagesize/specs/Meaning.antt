@@ -7,6 +7,7 @@ use Rattle.imagesize.specs.Bmp.{bmp}
 use Rattle.imagesize.specs.Dds.{dds}
 use Rattle.imagesize.specs.Farbfeld.{farbfeld}
 use Rattle.imagesize.specs.Gif.{gif}
+use Rattle.imagesize.specs.Ico.{ico}
 use Rattle.imagesize.specs.Ilbm.{ilbm}
 use Rattle.imagesize.specs.Jpeg.{jpeg}
 use Rattle.imagesize.specs.Kind.{kind}
@@ -43,7 +44,7 @@ size_of Farbfeld d = over d farbfeld
 size_of Gif d = over d gif
 size_of Hdr d = refuses NotSupported
 size_of (Heif _) d = refuses NotSupported
-size_of Ico d = refuses NotSupported
+size_of Ico d = ico d
 size_of Ilbm d = ilbm d
 size_of Jpeg d = jpeg d
 size_of Jxl d = refuses NotSupported

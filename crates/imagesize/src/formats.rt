@@ -124,6 +124,7 @@ pub(crate) fn size<S: Source>(source: &mut S, kind: ImageType) -> ImageResult<Im
         ImageType::Eac(_) | ImageType::Etc2(_) => pkm::size(source),
         ImageType::Farbfeld => farbfeld::size(source),
         ImageType::Gif => gif::size(source),
+        ImageType::Ico => ico::size(source),
         ImageType::Ilbm => ilbm::size(source),
         ImageType::Jpeg => jpeg::size(source),
         ImageType::Ktx2 => ktx2::size(source),
@@ -136,7 +137,6 @@ pub(crate) fn size<S: Source>(source: &mut S, kind: ImageType) -> ImageResult<Im
         ImageType::Exr
         | ImageType::Hdr
         | ImageType::Heif(_)
-        | ImageType::Ico
         | ImageType::Jxl
         | ImageType::Pnm
         | ImageType::Tiff => unsupported(source),
