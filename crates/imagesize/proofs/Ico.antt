@@ -82,11 +82,11 @@ by_count P count sizes place end entry = on_test P (eqb (length sizes) count) (i
 icon_advances : (count : ℕ) (d : List ℕ) → Advances (icon_entries count) d
 icon_advances count = advances (icon_entries count)
     (λ sizes place. by_count (Tells (λ p. place < p)) count sizes place
-      (by_answer (Tells (λ p. place < p)) (last_largest sizes) tt (λ size. tt))
-      (λ bs. by_entry (Tells (λ p. place < p)) sizes place (whole 2 bs) (by_answer (Tells (λ p. place < p)) (last_largest sizes) tt (λ size. tt)) (λ size. omega arith)))
+    (by_answer (Tells (λ p. place < p)) (last_largest sizes) tt (λ size. tt))
+    (λ bs. by_entry (Tells (λ p. place < p)) sizes place (whole 2 bs) (by_answer (Tells (λ p. place < p)) (last_largest sizes) tt (λ size. tt)) (λ size. omega arith)))
     (λ sizes place. by_count (Begins place) count sizes place
-      (by_answer (Begins place) (last_largest sizes) tt (λ size. tt))
-      (omega arith, by_answer (Tells (λ _. ⊥)) (last_largest sizes) tt (λ size. tt)))
+    (by_answer (Begins place) (last_largest sizes) tt (λ size. tt))
+    (omega arith, by_answer (Tells (λ _. ⊥)) (last_largest sizes) tt (λ size. tt)))
 
 pub ico_local : Local ico
 ico_local = local_then (λ d. number_read d Little 4 2) (λ count d. chain_at (icon_entries count) d) (local_number Little 4 2) (λ count. local_chain (icon_entries count) (icon_advances count))
@@ -94,9 +94,9 @@ ico_local = local_then (λ d. number_read d Little 4 2) (λ count d. chain_at (i
 entries_within : (count : ℕ) (d : List ℕ) → total (chain_at (icon_entries count) d).marks ≤ length d
 entries_within count d =
     let most = chain_ahead (icon_entries count) d (icon_advances count d)
-      (λ sizes place. by_count (Ahead place) count sizes place
-        (by_answer (Ahead place) (last_largest sizes) tt (λ size. tt))
-        (omega arith, λ bs. by_entry (Ahead (place + 2)) sizes place (whole 2 bs) (by_answer (Ahead (place + 2)) (last_largest sizes) tt (λ size. tt)) (λ size. omega arith))) in
+    (λ sizes place. by_count (Ahead place) count sizes place
+    (by_answer (Ahead place) (last_largest sizes) tt (λ size. tt))
+    (omega arith, λ bs. by_entry (Ahead (place + 2)) sizes place (whole 2 bs) (by_answer (Ahead (place + 2)) (last_largest sizes) tt (λ size. tt)) (λ size. omega arith))) in
     omega arith
 
 -- the count and the entries are read from at most 2 bytes more than the input has
@@ -125,8 +125,8 @@ pub icon_on : {a b end : State} (count i : ℕ) (best : Option ImageSize) (bytes
 icon_on {a} {b} {end} count i best bytes below w run =
     let place : ℕ = 6 + 16 * i in
     let on = walks_on (icon_entries count) (icon_advances count) (Found i best) w (Found (i + 1) (later_largest best (icon_size bytes))) (icon_size bytes) (place + 16)
-      (λ sizes h. more_said count i sizes place below h.many (runs_bind (Ok (Next (icon_size bytes) (place + 16))) (if_there place 2 done) (icon_entry sizes place) run (λ d. refl) refl tt))
-      (λ sizes h. record { many = length_push sizes (icon_size bytes) ∙ ap (λ n. n + 1) h.many; largest = largest_on best sizes (icon_size bytes) h.largest }) in
+    (λ sizes h. more_said count i sizes place below h.many (runs_bind (Ok (Next (icon_size bytes) (place + 16))) (if_there place 2 done) (icon_entry sizes place) run (λ d. refl) refl tt))
+    (λ sizes h. record { many = length_push sizes (icon_size bytes) ∙ ap (λ n. n + 1) h.many; largest = largest_on best sizes (icon_size bytes) h.largest }) in
     let at : place + 16 ≡ 6 + 16 * (i + 1) = omega arith in
     subst (λ p. Walks (icon_entries count) (Found (i + 1) (later_largest best (icon_size bytes))) a end p) at on
 
@@ -143,11 +143,11 @@ pub icon_cut : {a b end : State} (count i : ℕ) (best : Option ImageSize) → i
 icon_cut count i None below w run =
     walks_out (icon_entries count) (icon_advances count) (Found i None) w CorruptedImage
     (λ sizes h. more_said count i sizes (6 + 16 * i) below h.many
-      (runs_bind (Err CorruptedImage) (if_there (6 + 16 * i) 2 done) (icon_entry sizes (6 + 16 * i)) run (λ d. answers None sizes d h.largest) refl (record { budget = tt; memory = λ e. absurd cc })))
+    (runs_bind (Err CorruptedImage) (if_there (6 + 16 * i) 2 done) (icon_entry sizes (6 + 16 * i)) run (λ d. answers None sizes d h.largest) refl (record { budget = tt; memory = λ e. absurd cc })))
 icon_cut count i (Some size) below w run =
     walks_stop (icon_entries count) (icon_advances count) (Found i (Some size)) w size
     (λ sizes h. more_said count i sizes (6 + 16 * i) below h.many
-      (runs_bind (Ok (Decided size)) (if_there (6 + 16 * i) 2 done) (icon_entry sizes (6 + 16 * i)) run (λ d. answers (Some size) sizes d h.largest) refl tt))
+    (runs_bind (Ok (Decided size)) (if_there (6 + 16 * i) 2 done) (icon_entry sizes (6 + 16 * i)) run (λ d. answers (Some size) sizes d h.largest) refl tt))
 
 end_said : (count : ℕ) (sizes : List ImageSize) (place : ℕ) (best : Option ImageSize) (d : List ℕ) → length sizes ≡ count → Largest best sizes → over d ((icon_entries count).said sizes place) ≡ over d (icon_answer best)
 end_said count sizes place best d many h =
@@ -173,15 +173,15 @@ ends_at count d t size place is at =
 records_few : (count : ℕ) (d : List ℕ) → records (icon_entries count) d ≤ count + 1
 records_few count d =
     let few = chain_induction (icon_entries count) d (λ t. length t.held ≤ count → records_from (icon_entries count) d t + length t.held ≤ count + 1) (icon_advances count d)
-      (λ t size place is later fits.
-        let apart : length t.held ≢ count = λ at. ends_at count d t size place is at in
-        let below : length t.held < count = omega arith in
-        let one = length_push t.held size in
-        let rest = later (omega arith) in
-        let next = records_next (icon_entries count) d t size place (icon_advances count d) is in
-        omega arith)
-      (λ t r is fits. let one = records_stop (icon_entries count) d t r is in omega arith)
-      (start (icon_entries count)) in
+    (λ t size place is later fits.
+    let apart : length t.held ≢ count = λ at. ends_at count d t size place is at in
+    let below : length t.held < count = omega arith in
+    let one = length_push t.held size in
+    let rest = later (omega arith) in
+    let next = records_next (icon_entries count) d t size place (icon_advances count d) is in
+    omega arith)
+    (λ t r is fits. let one = records_stop (icon_entries count) d t r is in omega arith)
+    (start (icon_entries count)) in
     let all = few (omega arith) in omega arith
 
 cost_by : (d : List ℕ) (r : Result ℕ ImageError) → total (onward (span_of d 4 2) r (λ count. chain_at (icon_entries count) d)).marks ≤ 4 + 2 * begun_of d r
@@ -190,9 +190,9 @@ cost_by d (Ok count) =
     let first = total-span_of d 4 2 in
     let few = records_few count d in
     let each = chain_cost (icon_entries count) d (icon_advances count d) 2
-      (λ sizes place. by_count (AtMost 2) count sizes place
-        (by_answer (AtMost 2) (last_largest sizes) tt (λ size. tt))
-        (omega arith, λ bs. by_entry (AtMost 0) sizes place (whole 2 bs) (by_answer (AtMost 0) (last_largest sizes) tt (λ size. tt)) (λ size. tt))) in
+    (λ sizes place. by_count (AtMost 2) count sizes place
+    (by_answer (AtMost 2) (last_largest sizes) tt (λ size. tt))
+    (omega arith, λ bs. by_entry (AtMost 0) sizes place (whole 2 bs) (by_answer (AtMost 0) (last_largest sizes) tt (λ size. tt)) (λ size. tt))) in
     omega arith
 cost_by d (Err e) = let first = total-span_of d 4 2 in omega arith
 

@@ -44,7 +44,7 @@ ilbm_cost d = chain_cost ilbm_chunks d (ilbm_advances d) 12
 pub ilbm_within : (d : List ℕ) → total (ilbm d).marks ≤ length d
 ilbm_within d =
     let most = chain_ahead ilbm_chunks d (ilbm_advances d)
-      (λ passed place. (omega arith, λ head. by_name (Ahead (place + 8)) place head tt (omega arith, λ width. (omega arith, λ height. tt)) (omega arith))) in
+    (λ passed place. (omega arith, λ head. by_name (Ahead (place + 8)) place head tt (omega arith, λ width. (omega arith, λ height. tt)) (omega arith))) in
     omega arith
 
 -- how far a walk has come

@@ -31,7 +31,7 @@ by_head : (P : Layout (Said ℕ ImageSize) → Type 0) (k place : ℕ) (head : L
 by_head P k place head none frame other =
     on_test P (eqb (slice_index head 0) 0xFF) (jpeg_marked k place (slice_index head 1)) (refuse CorruptedImage)
     (λ _. on_test P (is_own_frame k (slice_index head 1)) (jpeg_frame place) _ (λ _. frame)
-      (λ _. on_test P (is_own_end k (slice_index head 1)) (refuse CorruptedImage) (jpeg_other place (slice_index head 1)) (λ _. none) (λ _. other (slice_index head 1))))
+    (λ _. on_test P (is_own_end k (slice_index head 1)) (refuse CorruptedImage) (jpeg_other place (slice_index head 1)) (λ _. none) (λ _. other (slice_index head 1))))
     (λ _. none)
 
 jpeg_advances : (d : List ℕ) → Advances jpeg_segments d
@@ -116,48 +116,48 @@ unfolding Used
 other_used d place marker begun ff =
     on_answer (λ w. Used d place (behind (span_of d place 2) w)) (span_of d (place + 2) 2) (number_at d Big (place + 2) 2) (λ l. over d (done (Next marker (place + (2 + l)))))
     (λ l got m next is.
-      let at : place + (2 + l) ≡ next = cc in
-      let fits = number_ok d Big (place + 2) 2 l got in
-      let first = total-span_of d place 2 in
-      let second = total-span_of d (place + 2) 2 in
-      let all = total-append (span_of d place 2) (span_of d (place + 2) 2 ++ []) in
-      let both = total-append (span_of d (place + 2) 2) [] in
-      let left = leaves (length d) place l (slice_index d (place + 2)) (slice_index d (place + 2 + 1)) (slice_index d next) (omega arith) (big_pair d (place + 2) l got)
-        (λ none. ap (slice_index d) (omega arith)) (λ one. ap (slice_index d) (omega arith)) in
-      let here : allowed d place ≡ (length d - place) + 6 = rw ff refl in
-      omega arith)
+    let at : place + (2 + l) ≡ next = cc in
+    let fits = number_ok d Big (place + 2) 2 l got in
+    let first = total-span_of d place 2 in
+    let second = total-span_of d (place + 2) 2 in
+    let all = total-append (span_of d place 2) (span_of d (place + 2) 2 ++ []) in
+    let both = total-append (span_of d (place + 2) 2) [] in
+    let left = leaves (length d) place l (slice_index d (place + 2)) (slice_index d (place + 2 + 1)) (slice_index d next) (omega arith) (big_pair d (place + 2) l got)
+    (λ none. ap (slice_index d) (omega arith)) (λ one. ap (slice_index d) (omega arith)) in
+    let here : allowed d place ≡ (length d - place) + 6 = rw ff refl in
+    omega arith)
     (λ e got m next is. absurd cc)
 
 segment_used : (d : List ℕ) (k place : ℕ) → Used d place (over d (jpeg_segment k place))
 unfolding Used
 segment_used d k place = on_answer (Used d place) (span_of d place 2) (bytes_at d place 2) _
     (λ head got.
-      let begun = bytes_ok d head place 2 got in
-      let first : slice_index d place ≡ slice_index head 0 = sym (part_first d place 2 (omega arith)) ∙ ap (λ bs. slice_index bs 0) (bytes_is d head place 2 got) in
-      let P : Layout (Said ℕ ImageSize) → Type 0 = λ t. Used d place (behind (span_of d place 2) (over d t)) in
-      on_test P (eqb (slice_index head 0) 0xFF) (jpeg_marked k place (slice_index head 1)) (refuse CorruptedImage)
-      (λ is. let ff : slice_index head 0 ≡ 0xFF = grind (arith, nat_tests) in
-        on_test P (is_own_frame k (slice_index head 1)) (jpeg_frame place) _ (λ _ m next says. absurd (tells (λ _. ⊥) d (jpeg_frame place) m next (λ height width. tt) says))
-        (λ _. on_test P (is_own_end k (slice_index head 1)) (refuse CorruptedImage) (jpeg_other place (slice_index head 1)) (λ _ m next says. absurd cc)
-          (λ _. other_used d place (slice_index head 1) begun (first ∙ ff))))
-      (λ _ m next says. absurd cc))
+    let begun = bytes_ok d head place 2 got in
+    let first : slice_index d place ≡ slice_index head 0 = sym (part_first d place 2 (omega arith)) ∙ ap (λ bs. slice_index bs 0) (bytes_is d head place 2 got) in
+    let P : Layout (Said ℕ ImageSize) → Type 0 = λ t. Used d place (behind (span_of d place 2) (over d t)) in
+    on_test P (eqb (slice_index head 0) 0xFF) (jpeg_marked k place (slice_index head 1)) (refuse CorruptedImage)
+    (λ is. let ff : slice_index head 0 ≡ 0xFF = grind (arith, nat_tests) in
+    on_test P (is_own_frame k (slice_index head 1)) (jpeg_frame place) _ (λ _ m next says. absurd (tells (λ _. ⊥) d (jpeg_frame place) m next (λ height width. tt) says))
+    (λ _. on_test P (is_own_end k (slice_index head 1)) (refuse CorruptedImage) (jpeg_other place (slice_index head 1)) (λ _ m next says. absurd cc)
+    (λ _. other_used d place (slice_index head 1) begun (first ∙ ff))))
+    (λ _ m next says. absurd cc))
     (λ e got m next is. absurd cc)
 
 segment_allowed : (d : List ℕ) (k place : ℕ) → total (over d (jpeg_segment k place)).marks ≤ allowed d place
 segment_allowed d k place = on_answer (λ w. total w.marks ≤ allowed d place) (span_of d place 2) (bytes_at d place 2) _
     (λ head got.
-      let begun = bytes_ok d head place 2 got in
-      let first : slice_index d place ≡ slice_index head 0 = sym (part_first d place 2 (omega arith)) ∙ ap (λ bs. slice_index bs 0) (bytes_is d head place 2 got) in
-      let here = total-span_of d place 2 in
-      let P : Layout (Said ℕ ImageSize) → Type 0 = λ t. total (span_of d place 2 ++ (over d t).marks) ≤ allowed d place in
-      on_test P (eqb (slice_index head 0) 0xFF) (jpeg_marked k place (slice_index head 1)) (refuse CorruptedImage)
-      (λ is. let ff : slice_index head 0 ≡ 0xFF = grind (arith, nat_tests) in
-        let all = total-append (span_of d place 2) (over d (jpeg_marked k place (slice_index head 1))).marks in
-        let rest = at_most d 4 (jpeg_marked k place (slice_index head 1)) (marked_at_most k place (slice_index head 1)) in
-        let most : allowed d place ≡ (length d - place) + 6 = rw (first ∙ ff) refl in
-        omega arith)
-      (λ _. let all = total-append (span_of d place 2) [] in
-        let few : 2 ≤ allowed d place = grind (arith, nat_tests) in omega arith))
+    let begun = bytes_ok d head place 2 got in
+    let first : slice_index d place ≡ slice_index head 0 = sym (part_first d place 2 (omega arith)) ∙ ap (λ bs. slice_index bs 0) (bytes_is d head place 2 got) in
+    let here = total-span_of d place 2 in
+    let P : Layout (Said ℕ ImageSize) → Type 0 = λ t. total (span_of d place 2 ++ (over d t).marks) ≤ allowed d place in
+    on_test P (eqb (slice_index head 0) 0xFF) (jpeg_marked k place (slice_index head 1)) (refuse CorruptedImage)
+    (λ is. let ff : slice_index head 0 ≡ 0xFF = grind (arith, nat_tests) in
+    let all = total-append (span_of d place 2) (over d (jpeg_marked k place (slice_index head 1))).marks in
+    let rest = at_most d 4 (jpeg_marked k place (slice_index head 1)) (marked_at_most k place (slice_index head 1)) in
+    let most : allowed d place ≡ (length d - place) + 6 = rw (first ∙ ff) refl in
+    omega arith)
+    (λ _. let all = total-append (span_of d place 2) [] in
+    let few : 2 ≤ allowed d place = grind (arith, nat_tests) in omega arith))
     (λ e got. let here = total-span_of d place 2 in let few : 2 ≤ allowed d place = grind (arith, nat_tests) in omega arith)
 
 -- the segments are read from at most 4 bytes more than the input has
@@ -165,8 +165,8 @@ pub jpeg_within : (d : List ℕ) → total (jpeg d).marks ≤ length d + 6
 unfolding Used
 jpeg_within d =
     let most = chain_within jpeg_segments d (jpeg_advances d) (λ t. allowed d t.place)
-      (λ t marker next is. segment_used d (depth t.held) t.place marker next is)
-      (λ t. segment_allowed d (depth t.held) t.place)
-      (start jpeg_segments) in
+    (λ t marker next is. segment_used d (depth t.held) t.place marker next is)
+    (λ t. segment_allowed d (depth t.held) t.place)
+    (start jpeg_segments) in
     let few : allowed d 2 ≤ length d + 6 = grind (arith, nat_tests) in
     omega arith

@@ -17,14 +17,14 @@ depth_behind-depth-requires-clause-fits g c = omega (arith, c.loop-size.invarian
 pub returns-in_err-place-in-Other : goal.returns-in_err-place-in-Other
 returns-in_err-place-in-Other g c =
     let on = jpeg_on c.loop-size.place (c.loop-size.place + (2 + c.in-Other.length)) c.loop-size.depth c.in-Other.marker
-      (rw c.in-Other.is at c.in_ok-size.ensures.inner) c.loop-size.invariant.walks (rw c.in-Other.is at c.in_ok-size.ensures.runs) in
+    (rw c.in-Other.is at c.in_ok-size.ensures.inner) c.loop-size.invariant.walks (rw c.in-Other.is at c.in_ok-size.ensures.runs) in
     let h = jpeg_past _ _ on c.in_err-place-in-Other.ensures.beyond.1 in
     search (rules, h, c.in_err-place-in-Other.ensures.beyond.0)
 
 pub loop-size-preserved : goal.loop-size-preserved
 loop-size-preserved g c =
     let on = jpeg_on c.loop-size.place (c.loop-size.place + (2 + c.in-Other.length)) c.loop-size.depth c.in-Other.marker
-      (rw c.in-Other.is at c.in_ok-size.ensures.inner) c.loop-size.invariant.walks (rw c.in-Other.is at c.in_ok-size.ensures.runs) in
+    (rw c.in-Other.is at c.in_ok-size.ensures.inner) c.loop-size.invariant.walks (rw c.in-Other.is at c.in_ok-size.ensures.runs) in
     let nears = rw c.in-Other.is at c.in_ok-size.ensures.nears in
     record {
       walks = search (rules, on);
