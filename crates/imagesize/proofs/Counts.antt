@@ -1,5 +1,5 @@
 -- How many bytes the type and a size at fixed places are read from.
-use Rattle.std.proofs.Common.{◌≡◌, ℕ, ◌+◌, ◌-◌, ◌<◌, ◌≤◌, Bool, true, false, cond, List, length, Option, Some, None, Result, Ok, Err, refl, slice_index, arith, rules}
+use Rattle.std.proofs.Common.{◌≡◌, ℕ, ◌+◌, ◌≤◌, Bool, true, false, cond, List, length, Option, Some, None, Result, Ok, Err, refl, slice_index, arith, rules}
 use Rattle.imagesize.specs.Atc.{atc, atc_compression}
 use Rattle.imagesize.specs.Aseprite.{aseprite}
 use Rattle.imagesize.specs.Astc.{astc}
@@ -23,7 +23,7 @@ use Rattle.imagesize.specs.Tga.{tga, tga_by_header, is_tga}
 use Rattle.imagesize.specs.Webp.{webp, webp_form}
 use Rattle.imagesize.specs.declared.types.ImageType.{ImageType}
 use Rattle.imagesize.specs.declared.types.ImageType.TheVariants.{Aseprite, Astc, Atc, Bmp, Dds, Eac, Etc2, Exr, Farbfeld, Gif, Hdr, Heif, Ico, Ilbm, Jpeg, Jxl, Ktx2, Pnm, Pvrtc, Psd, Qoi, Tga, Tiff, Vtf, Webp}
-use Rattle.imagesize_source.proofs.Count.{at_most, at_most_more, at_most_bind, then_within}
+use Rattle.imagesize_source.proofs.Count.{at_most}
 use Rattle.imagesize.specs.Counts.{cost, is_fixed, is_fixed_or_refused}
 use Rattle.imagesize_source.proofs.Costs.{bound_of, costs, costs_bind}
 use Rattle.imagesize_source.proofs.Runs.{total-append}
@@ -31,7 +31,7 @@ use Rattle.imagesize_source.specs.Counts.{AtMost, CostsBy}
 use Rattle.imagesize_source.specs.Reading.{onward}
 use Rattle.imagesize_source.specs.declared.error.ImageError.{ImageError}
 use Rattle.imagesize_source.specs.declared.span.Span.{Span}
-use Rattle.imagesize_source.specs.Layout.{Layout, bind, whole}
+use Rattle.imagesize_source.specs.Layout.{Layout, whole}
 use Rattle.imagesize_source.specs.State.{total}
 
 -- both sides of a test
@@ -86,7 +86,7 @@ kind_bytes Tga = 25
 kind_bytes _ = 0
 
 -- what the type is read from, by the type that is found
-abbrev kind_cost : ImageType → ℕ
+abbrev pub kind_cost : ImageType → ℕ
 kind_cost type = 12 + kind_bytes type
 
 with_costs : (place : ℕ) (head : List ℕ) (found : ImageType) → CostsBy kind_cost 37 12 (with_kind place head found)
@@ -111,7 +111,7 @@ kind_costs : (n place : ℕ) → CostsBy kind_cost 37 0 (kind n place)
 kind_costs n place = (omega arith, λ head. by_costs n place head (first_row rows head))
 
 -- the type is read from at most 37 bytes
-kind_at_most : (d : List ℕ) (place : ℕ) → total (kind_of d place).marks ≤ bound_of kind_cost 37 (kind_of d place).answer
+pub kind_at_most : (d : List ℕ) (place : ℕ) → total (kind_of d place).marks ≤ bound_of kind_cost 37 (kind_of d place).answer
 kind_at_most d place = omega (arith, costs kind_cost 37 0 d (kind (length d) place) (kind_costs (length d) place))
 
 cost_few : (r : Result ImageType ImageError) → bound_of kind_cost 37 r ≤ 37

@@ -1,5 +1,5 @@
 -- Type and size see an input by their marks alone.
-use Rattle.std.proofs.Common.{◌≡◌, ℕ, List, length, refl}
+use Rattle.std.proofs.Common.{ℕ, refl}
 use Rattle.imagesize.proofs.Ico.{ico_local}
 use Rattle.imagesize.proofs.Ilbm.{ilbm_local}
 use Rattle.imagesize.proofs.Jpeg.{jpeg_local}

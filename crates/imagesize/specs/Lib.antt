@@ -27,6 +27,7 @@ pub mod Psd
 pub mod Pvrtc
 pub mod Qoi
 pub mod Queries
+pub mod Records
 pub mod Table
 pub mod Tga
 pub mod Tiff

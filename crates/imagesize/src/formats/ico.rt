@@ -17,7 +17,7 @@ use imagesize_source::util::{Endian, read_if_there, read_u16};
 pub fn matches(head: &[u8; 12]) -> bool
     ensures { result ≡ is_ico head.now }
 {
-    head.starts_with(&[0, 0, 1, 0])
+    matches!(head, [0, 0, 1, 0, ..])
 }
 
 /// The width and the height of the image of greatest area, and of several the last.

@@ -17,7 +17,9 @@ use imagesize_source::util::{Endian, place_behind, read_bytes, read_u16_behind};
 pub fn matches(head: &[u8; 12]) -> bool
     ensures { result ≡ is_ilbm head.now }
 {
-    head.starts_with(b"FORM") && (head[8..].starts_with(b"ILBM") || head[8..].starts_with(b"PBM "))
+    matches!(head, [b'F', b'O', b'R', b'M', ..])
+        && (matches!(head, [_, _, _, _, _, _, _, _, b'I', b'L', b'B', b'M', ..])
+            || matches!(head, [_, _, _, _, _, _, _, _, b'P', b'B', b'M', b' ', ..]))
 }
 
 /// The width and the height of the first bitmap header that stands before the pixels.
@@ -66,14 +68,14 @@ fn read_chunk<S: Source>(source: &mut S, place: u64) -> ImageResult<Chunk>
 fn is_bitmap_header(head: &[u8; 8]) -> bool
     ensures { result ≡ is_bitmap_header head.now }
 {
-    head.starts_with(b"BMHD")
+    matches!(head, [b'B', b'M', b'H', b'D', ..])
 }
 
 #[inline]
 fn is_body(head: &[u8; 8]) -> bool
     ensures { result ≡ is_body head.now }
 {
-    head.starts_with(b"BODY")
+    matches!(head, [b'B', b'O', b'D', b'Y', ..])
 }
 
 // The length of a chunk's data.

@@ -17,7 +17,7 @@ use imagesize_source::util::{Endian, place_behind, read_bytes, read_u16_behind};
 pub fn matches(head: &[u8; 12]) -> bool
     ensures { result ≡ is_jpeg head.now }
 {
-    head.starts_with(&[0xFF, 0xD8, 0xFF])
+    matches!(head, [0xFF, 0xD8, 0xFF, ..])
 }
 
 /// The lines, and the samples of a line, of the first frame that is not that of an image within the image.
