@@ -1,0 +1,60 @@
+//! Prints the type and the size of each image file that is named, or why it has none.
+#![tactic(auto)]
+
+mod names;
+mod report;
+
+use imagesize::{ImageError, ImageResult, Reason};
+use std::io::{self, BufReader, Write};
+use std::process::ExitCode;
+use std::rt::{Env, Files};
+use std::{env, fs};
+
+fn main(rt: HostRuntime) -> ExitCode {
+    match probe_files(&rt) {
+        Ok(status) => ExitCode::from(status),
+        Err(_) => ExitCode::from(1),
+    }
+}
+
+// Prints a line for each file that the arguments name, in their order, and answers the program's status.
+//
+// Errors: the arguments could not be read, or standard output failed.
+fn probe_files<R: Env + Files + Print + Eprint + AllocGlobal>(rt: &R) -> io::Result<u8> {
+    let mut names = env::args(rt)?;
+    let _program = names.next();
+    let files = names.len();
+    if files == 0 {
+        // The status says the same where standard error fails.
+        let _ = eprintln!(rt; "usage: imagesize_probe FILE...");
+    }
+    let mut output = io::writer(rt);
+    let mut refused = false;
+    for name in names {
+        if !probe_file(rt, name.as_str(), &mut output)? {
+            refused = true;
+        }
+    }
+    Ok(report::status(files, refused))
+}
+
+// Writes the line of a file, and answers whether it was sized.
+fn probe_file<R: Files + AllocGlobal, W: Write>(
+    rt: &R,
+    name: &str,
+    writer: &mut W,
+) -> io::Result<bool> {
+    match open(rt, name) {
+        Ok(reader) => report::report(name, reader, writer),
+        Err(error) => report::write_refusal(name, &error, writer),
+    }
+}
+
+// Opens a file behind a buffer.
+fn open<R: Files + AllocGlobal>(rt: &R, name: &str) -> ImageResult<BufReader<R::File>> {
+    let file = fs::open(rt, name)?;
+    match BufReader::new(rt.alloc(), file) {
+        Ok(reader) => Ok(reader),
+        Err(_) => Err(ImageError::IoError(Reason::Memory)),
+    }
+}
