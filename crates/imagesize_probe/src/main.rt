@@ -11,31 +11,42 @@ use std::rt::{Env, Files};
 use std::{env, fs};
 
 fn main(rt: HostRuntime) -> ExitCode {
-    match probe_files(&rt) {
+    match run(&rt) {
         Ok(status) => ExitCode::from(status),
         Err(_) => ExitCode::from(1),
     }
 }
 
-// Prints a line for each file that the arguments name, in their order, and answers the program's status.
+// Probes the files that the arguments name, and answers the program's status.
 //
 // Errors: the arguments could not be read, or standard output failed.
-fn probe_files<R: Env + Files + Print + Eprint + AllocGlobal>(rt: &R) -> io::Result<u8> {
+fn run<R: Env + Files + Print + Eprint + AllocGlobal>(rt: &R) -> io::Result<u8> {
     let mut names = env::args(rt)?;
     let _program = names.next();
     let files = names.len();
     if files == 0 {
-        // The status says the same where standard error fails.
+        // Where standard error fails, the status still says it.
         let _ = eprintln!(rt; "usage: imagesize_probe FILE...");
     }
-    let mut output = io::writer(rt);
+    let refused = probe_files(rt, names, &mut io::writer(rt))?;
+    Ok(report::status(files, refused))
+}
+
+// Writes a line for each file in turn, and answers whether one was refused.
+//
+// Errors: those of the writer, at once.
+fn probe_files<R: Files + AllocGlobal, W: Write>(
+    rt: &R,
+    names: env::Args,
+    writer: &mut W,
+) -> io::Result<bool> {
     let mut refused = false;
     for name in names {
-        if !probe_file(rt, name.as_str(), &mut output)? {
+        if !probe_file(rt, name.as_str(), writer)? {
             refused = true;
         }
     }
-    Ok(report::status(files, refused))
+    Ok(refused)
 }
 
 // Writes the line of a file, and answers whether it was sized.
@@ -58,3 +69,6 @@ fn open<R: Files + AllocGlobal>(rt: &R, name: &str) -> ImageResult<BufReader<R::
         Err(_) => Err(ImageError::IoError(Reason::Memory)),
     }
 }
+
+#[cfg(test)]
+mod tests;

@@ -76,3 +76,6 @@ pub fn status(files: usize, refused: bool) -> u8
         (_, false) => 0,
     }
 }
+
+#[cfg(test)]
+mod tests;
