@@ -1,9 +1,8 @@
 -- The size by a type that was found.
 use Rattle.std.proofs.Common.{◌≡◌, ℕ, ◌+◌, ◌<◌, List, length, Option, Some, None, Result, Ok, Err, IfSome, Bool, true, false, refl, sym, ap, ◌∙◌, subst, arith}
 use Rattle.std.specs.Result.{result_ok}
-use Rattle.imagesize.proofs.Counts.{kind_at_most, size_at_most}
-use Rattle.imagesize.specs.Kind.{kind}
-use Rattle.imagesize_source.proofs.Count.{at_most, then_within}
+use Rattle.imagesize.proofs.Counts.{kind_within, size_at_most}
+use Rattle.imagesize_source.proofs.Count.{then_within}
 use Rattle.imagesize.specs.Meaning.{kind_of, meaning, size_of}
 use Rattle.imagesize.specs.Probed.{FindsKind, Probes, ProbesOf}
 use Rattle.imagesize.specs.declared.calls.Probed.{Probed}
@@ -32,11 +31,11 @@ none_found {a} {b} e place h = runs_refused (kind_of a.held.input place) (λ fou
 
 -- an honest budget is enough for a type and for every size
 bounded_kind : IsBounded kind_of
-bounded_kind d place = omega (arith, at_most d 37 (kind (length d) place) (kind_at_most (length d) place))
+bounded_kind d place = omega (arith, kind_within d place)
 
 bounded_meaning : IsBounded meaning
 unfolding meaning
-bounded_meaning d place = omega (arith, then_within (kind_of d place) (λ found. size_of found d) 37 20 (at_most d 37 (kind (length d) place) (kind_at_most (length d) place)) (λ found _. size_at_most found d))
+bounded_meaning d place = omega (arith, then_within (kind_of d place) (λ found. size_of found d) 37 (length d + 20) (kind_within d place) (λ found _. size_at_most found d))
 
 -- the type that a reader was found to hold
 pub kind_answers : (telling mid : Option Telling) (count : Option ℕ) (home : ℕ) (opened : Opened) (a b : State) (r : Result ImageType ImageError) → a ≡ start_state mid count home opened.told → Opens telling mid (Ok opened) → Runs a b r (kind_of a.held.input opened.place) → Answers telling kind_of r
@@ -64,3 +63,12 @@ probes_opened (Some t) mid count home opened a b probed start opens h finds took
       takes = subst (λ n. TakesAs t (meaning t.bytes t.place) probed.answer n) (sym took) (opened_takes (Some t) mid count home opened b probed.answer meaning opens runs honest);
       right = kinds.0;
       whole = kinds.1 }
+
+bounded_size : (type : ImageType) → IsBounded (λ d place. size_of type d)
+bounded_size type d place = omega (arith, size_at_most type d)
+
+-- the size that a reader was found to have, read as a type
+pub size_answers : (telling mid : Option Telling) (count : Option ℕ) (home : ℕ) (opened : Opened) (a b : State) (type : ImageType) (r : Result ImageSize ImageError) → a ≡ start_state mid count home opened.told → Opens telling mid (Ok opened) → Runs a b r (size_of type a.held.input) → Answers telling (λ d place. size_of type d) r
+size_answers telling mid count home opened a b type r start opens h =
+    opened_answers telling mid count home opened b r (λ d place. size_of type d) (bounded_size type) opens
+    (subst (λ s. Runs s b r (size_of type s.held.input)) start h)

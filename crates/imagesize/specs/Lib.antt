@@ -3,6 +3,7 @@ pub mod Astc
 pub mod Atc
 pub mod Bmp
 pub mod Comparisons
+pub mod Counts
 pub mod Dds
 pub mod Exr
 pub mod Farbfeld

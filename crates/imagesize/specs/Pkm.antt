@@ -32,7 +32,7 @@ pkm_compression_of (Some bs) = look_up pkm_data_types Unknown (number Big bs)
 unfoldable pub pkm_compression : Layout PkmCompression
 pkm_compression = if_there 6 2 (λ bs. done (pkm_compression_of bs))
 
--- the width and the height with the border, which are not used, and those without
+-- the width and the height in whole blocks, which are not used, and those of the image
 abbrev pub pkm : Layout ImageSize
 pkm = field Big 8 2 (λ _. field Big 10 2 (λ _. field Big 12 2 (λ width. field Big 14 2 (λ height.
     done (record { width = width; height = height })))))

@@ -1,5 +1,5 @@
 -- WebP.
-use Rattle.std.specs.Prelude.{ℕ, Bool, List, codes, ◌∷◌, [], ◌+◌, ◌/◌, ◌%◌, ◌^◌, ◌&&◌, ◌==◌, if◌then◌else◌, slice_index}
+use Rattle.std.specs.Prelude.{ℕ, Bool, List, codes, ◌+◌, ◌/◌, ◌%◌, ◌^◌, ◌&&◌, ◌==◌, if◌then◌else◌, slice_index}
 use Rattle.imagesize.specs.Head.{begins, stands_at}
 use Rattle.imagesize.specs.declared.types.ImageSize.{ImageSize}
 use Rattle.imagesize_source.specs.declared.util.Endian.TheVariants.{Little}

@@ -1,10 +1,12 @@
 //! The calls: type and size of a slice's bytes, or of a reader's.
-ghost use Rattle.std.specs.Prelude.{◌≡◌, ◌+◌, ◌≤◌, length, IfErr, IfSome, Some, Option, Ok, option_map};
-ghost use Rattle.imagesize_source.specs.Answers.{Answers, Takes};
+ghost use Rattle.std.specs.Prelude.{◌≡◌, ℕ, ◌+◌, ◌≤◌, List, ◌++◌, IsTrue, IfOk, IfErr, IfSome, Some, Option, Ok, option_map};
+ghost use Rattle.imagesize_source.specs.Answers.{Answers, Counts};
 ghost use Rattle.imagesize_source.specs.Reading.{spent};
 ghost use Rattle.imagesize_source.specs.State.{Runs};
 ghost use Rattle.imagesize_source.specs.ReaderState.{Opens};
 ghost use Rattle.imagesize_source.specs.Telling.{Telling};
+ghost use Rattle.imagesize_source.specs.Agreement.{Agrees};
+ghost use Rattle.imagesize.specs.Counts.{cost, is_fixed_or_refused, lasts_as};
 ghost use Rattle.imagesize.specs.Meaning.{kind_of, meaning, size_of};
 ghost use Rattle.imagesize.specs.Probed.{FindsKind, Probes};
 
@@ -31,7 +33,8 @@ pub struct Probed {
 ///
 /// Errors: `NotSupported` where no type has these bytes, and `EndOfInput` under 12 bytes.
 pub fn image_type(header: &[u8]) -> ImageResult<ImageType>
-    ensures { result ≡ (kind_of header.now 0).answer }
+    ensures value { result ≡ (kind_of header.now 0).answer }
+    ensures local { (e : List ℕ) → Agrees header.now e (kind_of header.now 0).marks → kind_of e 0 ≡ kind_of header.now 0 }
 {
     detect(&mut SliceSource { bytes: header }, 0)
 }
@@ -41,6 +44,23 @@ pub fn image_type(header: &[u8]) -> ImageResult<ImageType>
 /// Errors: `NotSupported` where no type has the first bytes, `EndOfInput` where the bytes end before the size,
 /// and the refusals of the type's layout.
 pub fn blob_size(data: &[u8]) -> ImageResult<ImageSize>
+    ensures value { result ≡ (meaning «data».now 0).answer }
+
+    // Another input of this length that agrees on the marks has the same size, and the same marks.
+    ensures local { (e : List ℕ) → Agrees «data».now e (meaning «data».now 0).marks → meaning e 0 ≡ meaning «data».now 0 }
+
+    // A size at fixed places, and a refused type, are read from at most 41 bytes.
+    ensures cost { IsTrue (is_fixed_or_refused (kind_of «data».now 0).answer) → cost «data».now 0 ≤ 41 }
+
+    // Bytes that follow change no size at fixed places, but for TGA.
+    ensures lasts { IsTrue (lasts_as (kind_of «data».now 0).answer) → IfOk result (λ size.
+        (x : List ℕ) → (meaning («data».now ++ x) 0).answer ≡ Ok size) }
+{
+    probe_slice(data)
+}
+
+// The size that a slice's bytes mean.
+fn probe_slice(data: &[u8]) -> ImageResult<ImageSize>
     ensures { result ≡ (meaning «data».now 0).answer }
 {
     probe(&mut SliceSource { bytes: data }, 0).1
@@ -95,6 +115,33 @@ pub fn reader_probe<R: Told>(reader: &mut R) -> Probed
             taken: 0,
         },
     }
+}
+
+impl ImageType {
+    /// The size in pixels of the image in a reader's bytes, read as this type.
+    ///
+    /// The places of the size are those of the whole bytes, wherever the reader stands and whether or not the
+    /// bytes are of this type. The errors are those of `reader_size` but for the type's. The reader stands at an
+    /// unstated place then, and may be used again.
+    pub fn reader_size<R: Told>(&self, reader: &mut R) -> ImageResult<ImageSize>
+        ensures answers { Answers (R.telling reader.old) (λ d place. size_of self.now d) result }
+        ensures counts { Counts (R.telling reader.old) (R.count reader.old) (R.count reader.new) (λ d place. size_of self.now d) }
+    {
+        let opened = open(reader)?;
+        size_opened(*self, reader, opened)
+    }
+}
+
+// The size of what a reader holds that was opened, read as this type.
+fn size_opened<R: Told>(kind: ImageType, reader: &mut R, opened: Opened) -> ImageResult<ImageSize>
+    ensures answers { (telling : Option Telling) → Opens telling (R.telling reader.old) (Ok opened)
+        → Answers telling (λ d place. size_of kind d) result }
+    ensures counts { (telling : Option Telling) → Opens telling (R.telling reader.old) (Ok opened)
+        → Counts telling (R.count reader.old) (R.count reader.new) (λ d place. size_of kind d) }
+{
+    let mut source = ReaderSource::new(reader, opened.told);
+    let answer = size(&mut source, kind);
+    answer
 }
 
 // Type and size of what a reader holds that was opened.

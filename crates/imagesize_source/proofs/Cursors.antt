@@ -1,5 +1,5 @@
 -- What a cursor over bytes does is what a reader that tells its bytes owes.
-use Rattle.std.proofs.Common.{◌≡◌, ℕ, ◌+◌, ◌-◌, ◌^◌, ◌<◌, ◌≤◌, zero, suc, pos, negsuc, Bool, cond, true, false, length, take, drop, ◌++◌, Option, Some, None, Result, Ok, Err, IfOk, IsSome, nat_le, List, [], refl, sym, ap, ◌∙◌, arith}
+use Rattle.std.proofs.Common.{◌≡◌, ℕ, ◌+◌, ◌-◌, ◌^◌, ◌<◌, ◌≤◌, zero, suc, pos, negsuc, Bool, cond, true, false, length, take, drop, ◌++◌, Some, None, Result, Ok, Err, IfOk, nat_le, List, [], refl, sym, ap, ◌∙◌, arith}
 use Rattle.std.proofs.lemmas.List.{length-append, length-take-le, length-drop}
 use Rattle.std.proofs.Math.Seq.{take-append_seam}
 use Rattle.std.specs.Result.{OkIff}

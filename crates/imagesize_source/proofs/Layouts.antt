@@ -1,5 +1,5 @@
 -- What a layout says of an input.
-use Rattle.std.proofs.Common.{◌≡◌, ℕ, ◌+◌, ◌-◌, ◌^◌, ◌<◌, ◌≤◌, min, Bool, true, false, List, [], ◌++◌, length, take, leb, cond, Option, None, Some, Result, Ok, Err, IfErr, refl, sym, ap, ◌∙◌, subst, arith, append_assoc}
+use Rattle.std.proofs.Common.{◌≡◌, ℕ, ◌+◌, ◌-◌, ◌^◌, ◌<◌, ◌≤◌, min, Bool, true, false, List, [], ◌++◌, length, take, leb, Option, None, Some, Result, Ok, Err, refl, sym, ap, ◌∙◌, subst, arith, append_assoc}
 use Rattle.std.proofs.lemmas.List.{length-take, take_all, drop_all, append-nil}
 use Rattle.std.proofs.Math.Seq.{take-nil}
 use Rattle.std.proofs.lemmas.Bool.Decides.{nat_tests}
@@ -8,8 +8,8 @@ use Rattle.imagesize_source.specs.declared.span.Span.{Span}
 use Rattle.imagesize_source.specs.Input.{part, span_of, span_at}
 use Rattle.imagesize_source.specs.Layout.{Layout, over, bind, whole, if_there}
 use Rattle.imagesize_source.specs.Layout.Layout.{«done», refuse, field, bytes, there}
-use Rattle.imagesize_source.specs.Reading.{Reads, and_then, onward, behind, gives, bytes_at, number_at, end_of_input, bytes_read, part_read, faulted, stopped}
-use Rattle.imagesize_source.specs.State.{State, Runs, EndedBy, total, past}
+use Rattle.imagesize_source.specs.Reading.{Reads, and_then, onward, behind, bytes_at, number_at, part_read}
+use Rattle.imagesize_source.specs.State.{State, Runs, total, past}
 use Rattle.imagesize_source.proofs.Runs.{answered, part_is}
 
 behind-onward : {Y Z : Type 0} (marks more : List Span) (r : Result Y ImageError) (g : Y → Reads Z) → behind marks (onward more r g) ≡ onward (marks ++ more) r g

@@ -19,3 +19,4 @@ pub mod Tests
 pub mod Beyond
 pub mod Walks
 pub mod Openings
+pub mod Costs

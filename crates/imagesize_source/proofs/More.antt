@@ -42,7 +42,7 @@ pub number_ok : (d : List ℕ) (order : Endian) (place k v : ℕ) → number_at 
 unfolding number_at
 number_ok d order place k v is = let bs = seen_ok (bytes_at d place k) order v is in bytes_ok d bs.0 place k bs.1
 
-bytes_more : (d x : List ℕ) (place k : ℕ) → k ≤ length d - place → bytes_at (d ++ x) place k ≡ bytes_at d place k
+pub bytes_more : (d x : List ℕ) (place k : ℕ) → k ≤ length d - place → bytes_at (d ++ x) place k ≡ bytes_at d place k
 unfolding bytes_at
 bytes_more d x place k h =
     let long = length-append d x in

@@ -1,15 +1,14 @@
 -- From the state of a source to what a call answers to its reader.
-use Rattle.std.proofs.Common.{◌≡◌, ℕ, ◌+◌, ◌-◌, ◌^◌, ◌<◌, ◌≤◌, ◌⊎◌, inl, inr, min, Bool, true, false, cond, ◌||◌, ◌&&◌, List, [], ◌++◌, length, drop, leb, ltb, eqb, Option, Some, None, Result, Ok, Err, IfSome, IfErr, option_map, refl, sym, ap, ◌∙◌, subst, arith}
+use Rattle.std.proofs.Common.{◌≡◌, ℕ, ◌+◌, ◌-◌, ◌^◌, ◌<◌, ◌≤◌, ◌⊎◌, inl, inr, min, Bool, true, false, ◌||◌, List, length, leb, ltb, eqb, Option, Some, None, Result, Ok, Err, IfSome, refl, sym, ap, ◌∙◌, subst, arith}
 use Rattle.std.proofs.lemmas.Bool.Decides.{nat_tests}
 use Rattle.imagesize_source.specs.declared.error.ImageError.{ImageError}
 use Rattle.imagesize_source.specs.declared.error.ImageError.TheVariants.{NotSupported, CorruptedImage, IoError}
 use Rattle.imagesize_source.specs.declared.error.Reason.TheVariants.{Fault, BudgetSpent, Memory}
 use Rattle.imagesize_source.specs.declared.source.reader.Opened.{Opened}
 use Rattle.imagesize_source.specs.Answers.{AnswersAs, TakesAs, Answers, Takes, over_reader}
-use Rattle.imagesize_source.specs.Reading.{Reads, stopped, faulted, is_fault, is_stop, is_memory, spent}
-use Rattle.imagesize_source.specs.ReaderState.{held_at, start_state, Opens}
-use Rattle.imagesize_source.specs.Standing.{Standing, steady, stand_of, in_step, since}
-use Rattle.imagesize_source.specs.State.{State, Held, Runs, EndedBy, past, total}
+use Rattle.imagesize_source.specs.Reading.{Reads, is_fault, is_stop, is_memory, spent}
+use Rattle.imagesize_source.specs.ReaderState.{start_state, Opens}
+use Rattle.imagesize_source.specs.State.{State, Held, Runs, past, total}
 use Rattle.imagesize_source.specs.Telling.{Telling, IsHonest, at_place}
 use Rattle.imagesize_source.proofs.Count.{places_past}
 
@@ -29,28 +28,8 @@ patient : (t : Telling) (b : Bool) → t.can_fail ≡ b → (b ≡ false → t.i
 patient t true fails few = rw fails refl
 patient t false fails few = let k : leb (t.interruptions + 0) 64 ≡ true = few_leb t.interruptions (few refl) in rw (fails, k) refl
 
-abbrev pair_in : Option (ℕ × ℕ) → ℕ × ℕ
-pair_in None = (0, 0)
-pair_in (Some p) = p
-
-pair_of : (a b c d : ℕ) → ◌≡◌ {A = Option (ℕ × ℕ)} (Some (a, c)) (Some (b, d)) → a ≡ b
-pair_of a b c d e = ap (λ o. (pair_in o).0) e
-
-second_of : (a b c d : ℕ) → ◌≡◌ {A = Option (ℕ × ℕ)} (Some (a, c)) (Some (b, d)) → c ≡ d
-second_of a b c d e = ap (λ o. (pair_in o).1) e
-
 least_of : (n : ℕ) → n < 2 ^ 63 → min (n + 64) (2 ^ 64 - 1) ≡ n + 64
 least_of n short = omega arith
-
--- a failure is a stop
-no_stop : (e : ImageError) → is_fault e ≡ true → is_stop e ≡ false → ⊥
-no_stop e faults goes_on = let k : is_stop e ≡ true = rw faults refl in absurd cc
-
-risen : (b c taken : ℕ) → ◌≡◌ {A = Option (ℕ × ℕ)} (Some (c - taken, taken - c)) (Some (b - 0, 0 - b)) → c ≡ b + taken
-risen b c taken same =
-    let above : c - taken ≡ b - 0 = pair_of (c - taken) (b - 0) (taken - c) (0 - b) same in
-    let below : taken - c ≡ 0 - b = second_of (c - taken) (b - 0) (taken - c) (0 - b) same in
-    omega arith
 
 -- what is claimed of an honest reader as a call begins
 abbrev pub claim : Telling → Held
@@ -169,19 +148,3 @@ opened_takes None mid count home opened b r reads_of opens h = tt
 opened_takes (Some t) mid count home opened b r reads_of opens h = λ honest.
     let began : Began t mid opened.told opened.place = record { at_end = opens.0; length_told = opens.2; at = opens.1 } in
     takes_of t _ b r (over_reader t reads_of) (starts_at t count home honest) (runs_of t mid count home opened.told opened.place b r reads_of honest began h)
-
--- a reader that failed as the call began answers its failure, and nothing was taken
-pub failed_answers : {X : Type 0} (telling mid : Option Telling) (e : ImageError) (reads_of : List ℕ → ℕ → Reads X) → is_fault e ≡ true → Opens telling mid (Err e) → Answers {X = X} telling reads_of (Err e)
-failed_answers None mid e reads_of faults opens = tt
-failed_answers (Some t) mid e reads_of faults opens = λ honest. record { answer = λ goes_on. absurd (no_stop e faults goes_on); fault = λ stops. (faults, opens) }
-
-pub failed_takes : {X : Type 0} (telling mid : Option Telling) (e : ImageError) (reads_of : List ℕ → ℕ → Reads X) → is_fault e ≡ true → Opens telling mid (Err e) → Takes {X = X} telling reads_of (Err e) 0
-failed_takes None mid e reads_of faults opens = tt
-failed_takes (Some t) mid e reads_of faults opens = λ honest. record { most = omega arith; least = λ goes_on. absurd (no_stop e faults goes_on) }
-
--- how much a reader's count rose
-pub count_rose : (before after : Option ℕ) (taken : ℕ) → since after taken ≡ since before 0 → after ≡ option_map (λ c. c + taken) before
-count_rose None None taken same = refl
-count_rose None (Some c) taken same = absurd cc
-count_rose (Some c) None taken same = absurd cc
-count_rose (Some b) (Some c) taken same = ap Some (risen b c taken same)

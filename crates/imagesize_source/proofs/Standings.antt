@@ -1,12 +1,11 @@
 -- How a reader stands after its calls.
-use Rattle.std.proofs.Common.{◌≡◌, ℕ, ◌+◌, ◌-◌, ◌^◌, ◌<◌, ◌≤◌, min, Bool, true, false, cond, List, [], ◌++◌, length, take, drop, ltb, Option, Some, None, Result, Ok, Err, IfSome, refl, sym, ap, ◌∙◌, subst, arith}
+use Rattle.std.proofs.Common.{◌≡◌, ℕ, ◌+◌, ◌-◌, ◌^◌, ◌<◌, ◌≤◌, min, Bool, true, false, cond, List, length, Option, Some, None, Ok, Err, IfSome, refl, sym, ap, ◌∙◌, subst, arith}
 use Rattle.std.proofs.lemmas.Bool.Decides.{nat_tests}
-use Rattle.std.proofs.lemmas.List.{drop_all}
 use Rattle.imagesize_source.specs.declared.error.ImageError.{ImageError}
 use Rattle.imagesize_source.specs.declared.source.progress.Progress.{Progress}
 use Rattle.imagesize_source.specs.Input.{part}
 use Rattle.imagesize_source.specs.Telling.{Telling}
-use Rattle.imagesize_source.specs.Standing.{Standing, onto, steady, in_step, stand_of, stand, GivesAll, GoesTo, GivesFrom}
+use Rattle.imagesize_source.specs.Standing.{Standing, steady, in_step, stand_of, stand, GivesAll, GoesTo, GivesFrom}
 
 kept_if : (b : Bool) (s t : Standing) → cond b (Some s) None ≡ Some t → (b ≡ true) × (s ≡ t)
 kept_if true s t e = (refl, cc)

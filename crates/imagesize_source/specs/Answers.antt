@@ -1,5 +1,5 @@
 -- What a call that makes certain readings answers to a reader, and takes from it.
-use Rattle.std.specs.Prelude.{◌≡◌, ℕ, ◌≤◌, true, false, List, length, Result, Option, None, Some}
+use Rattle.std.specs.Prelude.{◌≡◌, ℕ, ◌+◌, ◌≤◌, true, false, List, length, Result, Option, None, Some, IsSomeAnd}
 use Rattle.imagesize_source.specs.declared.error.ImageError.{ImageError}
 use Rattle.imagesize_source.specs.Counts.{places}
 use Rattle.imagesize_source.specs.Reading.{Reads, stopped, faulted}
@@ -30,3 +30,13 @@ Answers (Some t) reads r = IsHonest t → AnswersAs t (over_reader t reads) r
 abbrev pub Takes : {X : Type 0} → Option Telling → (List ℕ → ℕ → Reads X) → Result X ImageError → ℕ → Type 0
 Takes None reads r taken = Unit {0}
 Takes (Some t) reads r taken = IsHonest t → TakesAs t (over_reader t reads) r taken
+
+-- a named count rose by at most k
+abbrev pub RisesWithin : Option ℕ → Option ℕ → ℕ → Type 0
+RisesWithin None after k = after ≡ None
+RisesWithin (Some before) after k = IsSomeAnd after (λ count. (before ≤ count) × (count ≤ before + k))
+
+-- over an honest reader that counts, the bytes given are at most those of the readings' spans together
+abbrev pub Counts : {X : Type 0} → Option Telling → Option ℕ → Option ℕ → (List ℕ → ℕ → Reads X) → Type 0
+Counts None before after reads = Unit {0}
+Counts (Some t) before after reads = IsHonest t → RisesWithin before after (total (over_reader t reads).marks)

@@ -1,5 +1,5 @@
 -- What a reader may tell of itself, and what its calls then owe.
-use Rattle.std.specs.Prelude.{◌≡◌, ℕ, ℤ, pos, negsuc, zero, suc, ◌+◌, ◌-◌, ◌^◌, ◌<◌, ◌≤◌, Bool, true, false, List, length, take, nat_le, if◌then◌else◌, Option, None, Some, Result, Ok, Err, IfSome, IsSome, IsSomeAnd, option_map}
+use Rattle.std.specs.Prelude.{◌≡◌, ℕ, pos, negsuc, zero, suc, ◌+◌, ◌-◌, ◌^◌, ◌<◌, ◌≤◌, Bool, true, false, List, length, take, nat_le, if◌then◌else◌, Option, None, Some, Result, Ok, Err, IsSome, IsSomeAnd, option_map}
 use Rattle.std.specs.declared.io.traits.SeekFrom.{SeekFrom}
 use Rattle.std.specs.declared.io.traits.SeekFrom.TheVariants.{Start, End, Current}
 use Rattle.imagesize_source.specs.declared.told.Stop.{Stop}

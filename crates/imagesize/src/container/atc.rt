@@ -21,7 +21,7 @@ pub fn matches(head: &[u8; 12]) -> bool
     is_atc(head)
 }
 
-/// Whether these bytes begin a PKM file of an ATC data type.
+// Whether these bytes begin a PKM file of an ATC data type.
 #[inline]
 #[tactic(auto, unfolding(crate::specs::Atc::is_atc))]
 fn is_atc(header: &[u8]) -> bool
@@ -37,7 +37,8 @@ fn is_atc(header: &[u8]) -> bool
 /// How the pixels are stored, by the data type where it is there.
 #[tactic(auto, using(imagesize_source::proofs::Runs::steps), unfolding(crate::specs::Atc::atc_compression))]
 pub fn detect_compression<S: Source>(source: &mut S) -> ImageResult<AtcCompression>
-    ensures { Runs (S.state source.old) (S.state source.new) result (over (S.state source.old).held.input atc_compression) }
+    ensures { Runs (S.state source.old) (S.state source.new) result
+        (over (S.state source.old).held.input atc_compression) }
 {
     let Some(header) = read_if_there::<S, 8>(source, 0)? else {
         return Ok(AtcCompression::Unknown);
@@ -48,7 +49,7 @@ pub fn detect_compression<S: Source>(source: &mut S) -> ImageResult<AtcCompressi
     Ok(compression(data_type(&header)))
 }
 
-/// The data type of a PKM header.
+// The data type of a PKM header.
 #[tactic(auto, using(crate::proofs::Bytes::last_two))]
 fn data_type(header: &[u8; 8]) -> u16
     ensures { result ≡ number endian.Big (drop 6 header.now) }
@@ -56,7 +57,7 @@ fn data_type(header: &[u8; 8]) -> u16
     u16::from_be_bytes([header[6], header[7]])
 }
 
-/// How the pixels of a data type are stored.
+// How the pixels of a data type are stored.
 fn compression(data_type: u16) -> AtcCompression
     ensures { result ≡ look_up atc_data_types AtcCompression.Unknown data_type }
 {
@@ -71,7 +72,8 @@ fn compression(data_type: u16) -> AtcCompression
 /// The width and the height, by the header that is there.
 #[tactic(auto, using(imagesize_source::proofs::Runs::steps))]
 pub fn size<S: Source>(source: &mut S) -> ImageResult<ImageSize>
-    ensures { Runs (S.state source.old) (S.state source.new) result (over (S.state source.old).held.input atc) }
+    ensures { Runs (S.state source.old) (S.state source.new) result
+        (over (S.state source.old).held.input atc) }
 {
     let tag = read_bytes::<S, 4>(source, 0)?;
     if tag.starts_with(b"DDS ") {
@@ -84,20 +86,22 @@ pub fn size<S: Source>(source: &mut S) -> ImageResult<ImageSize>
     bare_size(source)
 }
 
-/// The height and the width of a DDS header.
+// The height and the width of a DDS header.
 #[tactic(auto, using(imagesize_source::proofs::Runs::steps))]
 fn size_in_dds<S: Source>(source: &mut S) -> ImageResult<ImageSize>
-    ensures { Runs (S.state source.old) (S.state source.new) result (over (S.state source.old).held.input atc_in_dds) }
+    ensures { Runs (S.state source.old) (S.state source.new) result
+        (over (S.state source.old).held.input atc_in_dds) }
 {
     let height = read_u32(source, 12, Endian::Little)? as usize;
     let width = read_u32(source, 16, Endian::Little)? as usize;
     Ok(ImageSize { width, height })
 }
 
-/// The height and the width of a header of neither kind.
+// The height and the width of a header of neither kind.
 #[tactic(auto, using(imagesize_source::proofs::Runs::steps))]
 fn bare_size<S: Source>(source: &mut S) -> ImageResult<ImageSize>
-    ensures { Runs (S.state source.old) (S.state source.new) result (over (S.state source.old).held.input atc_bare) }
+    ensures { Runs (S.state source.old) (S.state source.new) result
+        (over (S.state source.old).held.input atc_bare) }
 {
     let height = read_u32(source, 4, Endian::Little)? as usize;
     let width = read_u32(source, 8, Endian::Little)? as usize;

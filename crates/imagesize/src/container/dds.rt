@@ -1,10 +1,10 @@
-//! DirectDraw surfaces, by `DDS_HEADER`, `DDS_PIXELFORMAT` and `DDS_HEADER_DXT10` of the Programming Guide for DDS (Direct3D).
+//! DirectDraw surfaces, by `DDS_HEADER`, `DDS_PIXELFORMAT` and `DDS_HEADER_DXT10` of the Programming Guide
+//! for DDS (Direct3D).
 ghost use Rattle.std.specs.Prelude.{◌≡◌};
 ghost use Rattle.imagesize.specs.Dds.{dds, dds_bit_counts, dds_codes, dds_compression, dds_number_of, dxgi_formats, is_dds};
 ghost use Rattle.imagesize.specs.Table.{look_up, look_up_text};
-ghost use Rattle.imagesize_source.specs.Layout.{if_there};
+ghost use Rattle.imagesize_source.specs.Layout.{if_there, over};
 ghost use Rattle.imagesize_source.specs.Layout.Layout.{«done»};
-ghost use Rattle.imagesize_source.specs.Layout.{over};
 ghost use Rattle.imagesize_source.specs.State.{Runs};
 
 use crate::ImageResult;
@@ -24,7 +24,8 @@ pub fn matches(head: &[u8; 12]) -> bool
 /// How the pixels are stored, by the four-character code where it is there.
 #[tactic(auto, using(imagesize_source::proofs::Runs::steps), unfolding(crate::specs::Dds::dds_compression))]
 pub fn detect_compression<S: Source>(source: &mut S) -> ImageResult<DdsCompression>
-    ensures { Runs (S.state source.old) (S.state source.new) result (over (S.state source.old).held.input dds_compression) }
+    ensures { Runs (S.state source.old) (S.state source.new) result
+        (over (S.state source.old).held.input dds_compression) }
 {
     let Some(code) = read_if_there::<S, 4>(source, 84)? else {
         return Ok(DdsCompression::Unknown);
@@ -38,10 +39,11 @@ pub fn detect_compression<S: Source>(source: &mut S) -> ImageResult<DdsCompressi
     Ok(code_compression(&code))
 }
 
-/// How the pixels are stored, by the format of the extended header where it is there.
+// How the pixels are stored, by the format of the extended header where it is there.
 #[tactic(auto, using(imagesize_source::proofs::Runs::steps, imagesize_source::proofs::Numbers::little_4))]
 fn extended_compression<S: Source>(source: &mut S) -> ImageResult<DdsCompression>
-    ensures { Runs (S.state source.old) (S.state source.new) result (over (S.state source.old).held.input (if_there 128 4 (λ bs. done (dds_number_of dxgi_formats bs)))) }
+    ensures { Runs (S.state source.old) (S.state source.new) result
+        (over (S.state source.old).held.input (if_there 128 4 (λ bs. done (dds_number_of dxgi_formats bs)))) }
 {
     match read_if_there::<S, 4>(source, 128)? {
         Some(format) => Ok(format_compression(u32::from_le_bytes(format))),
@@ -49,10 +51,11 @@ fn extended_compression<S: Source>(source: &mut S) -> ImageResult<DdsCompression
     }
 }
 
-/// How the pixels are stored, by the bits of a pixel where they are there.
+// How the pixels are stored, by the bits of a pixel where they are there.
 #[tactic(auto, using(imagesize_source::proofs::Runs::steps, imagesize_source::proofs::Numbers::little_4))]
 fn plain_compression<S: Source>(source: &mut S) -> ImageResult<DdsCompression>
-    ensures { Runs (S.state source.old) (S.state source.new) result (over (S.state source.old).held.input (if_there 88 4 (λ bs. done (dds_number_of dds_bit_counts bs)))) }
+    ensures { Runs (S.state source.old) (S.state source.new) result
+        (over (S.state source.old).held.input (if_there 88 4 (λ bs. done (dds_number_of dds_bit_counts bs)))) }
 {
     match read_if_there::<S, 4>(source, 88)? {
         Some(bits) => Ok(bits_compression(u32::from_le_bytes(bits))),
@@ -60,7 +63,7 @@ fn plain_compression<S: Source>(source: &mut S) -> ImageResult<DdsCompression>
     }
 }
 
-/// How the pixels of a four-character code are stored.
+// How the pixels of a four-character code are stored.
 fn code_compression(code: &[u8; 4]) -> DdsCompression
     ensures { result ≡ look_up_text dds_codes DdsCompression.Unknown code.now }
 {
@@ -76,7 +79,7 @@ fn code_compression(code: &[u8; 4]) -> DdsCompression
     }
 }
 
-/// How the pixels of a DXGI format are stored.
+// How the pixels of a DXGI format are stored.
 fn format_compression(format: u32) -> DdsCompression
     ensures { result ≡ look_up dxgi_formats DdsCompression.Unknown format }
 {
@@ -87,7 +90,7 @@ fn format_compression(format: u32) -> DdsCompression
     }
 }
 
-/// How pixels of so many bits are stored.
+// How pixels of so many bits are stored.
 fn bits_compression(bits: u32) -> DdsCompression
     ensures { result ≡ look_up dds_bit_counts DdsCompression.Unknown bits }
 {
@@ -101,7 +104,8 @@ fn bits_compression(bits: u32) -> DdsCompression
 /// The height and the width.
 #[tactic(auto, using(imagesize_source::proofs::Runs::steps))]
 pub fn size<S: Source>(source: &mut S) -> ImageResult<ImageSize>
-    ensures { Runs (S.state source.old) (S.state source.new) result (over (S.state source.old).held.input dds) }
+    ensures { Runs (S.state source.old) (S.state source.new) result
+        (over (S.state source.old).held.input dds) }
 {
     let height = read_u32(source, 12, Endian::Little)? as usize;
     let width = read_u32(source, 16, Endian::Little)? as usize;

@@ -1,4 +1,5 @@
-//! HEIF and AVIF, by ISO/IEC 14496-12, section 4.3 (`ftyp`), with the brands of 23008-12 and of the AV1 Image File Format.
+//! HEIF and AVIF, by ISO/IEC 14496-12, section 4.3 (`ftyp`), and the brands of ISO/IEC 23008-12 and of the
+//! AV1 Image File Format.
 ghost use Rattle.std.specs.Prelude.{◌≡◌, ◌+◌};
 ghost use Rattle.imagesize.specs.Heif.{brand_compression, compatible_compression, heif_compression, is_general, is_heif};
 ghost use Rattle.imagesize_source.specs.Layout.{if_there, over};
@@ -27,7 +28,8 @@ pub fn detect_compression<S: Source>(
     head: &[u8; 12],
 ) -> ImageResult<Compression>
     requires { Sound (S.state source.old) }
-    ensures { Runs (S.state source.old) (S.state source.new) result (over (S.state source.old).held.input (heif_compression place head.now)) }
+    ensures { Runs (S.state source.old) (S.state source.new) result
+        (over (S.state source.old).held.input (heif_compression place head.now)) }
 {
     let brand = &head[8..];
     if !is_general(brand) {
@@ -41,7 +43,8 @@ pub fn detect_compression<S: Source>(
 
 // The version and the first two compatible brands behind the twelve bytes at a place.
 fn read_compatible<S: Source>(source: &mut S, place: u64) -> ImageResult<Option<[u8; 12]>>
-    ensures { Runs (S.state source.old) (S.state source.new) result (over (S.state source.old).held.input (if_there (place + 12) 12 done)) }
+    ensures { Runs (S.state source.old) (S.state source.new) result
+        (over (S.state source.old).held.input (if_there (place + 12) 12 done)) }
 {
     read_if_there::<S, 12>(source, place.saturating_add(12))
 }

@@ -39,7 +39,8 @@ pub fn is_pkm(header: &[u8]) -> bool
 /// How the pixels are stored, by the data type where it is there.
 #[tactic(auto, using(imagesize_source::proofs::Runs::steps, imagesize_source::proofs::Numbers::big_2), unfolding(crate::specs::Pkm::pkm_compression))]
 pub fn detect_compression<S: Source>(source: &mut S) -> ImageResult<PkmCompression>
-    ensures { Runs (S.state source.old) (S.state source.new) result (over (S.state source.old).held.input pkm_compression) }
+    ensures { Runs (S.state source.old) (S.state source.new) result
+        (over (S.state source.old).held.input pkm_compression) }
 {
     match read_if_there::<S, 2>(source, 6)? {
         Some(data_type) => Ok(compression(u16::from_be_bytes(data_type))),
@@ -47,7 +48,7 @@ pub fn detect_compression<S: Source>(source: &mut S) -> ImageResult<PkmCompressi
     }
 }
 
-/// How the pixels of a data type are stored.
+// How the pixels of a data type are stored.
 fn compression(data_type: u16) -> PkmCompression
     ensures { result ≡ look_up pkm_data_types PkmCompression.Unknown data_type }
 {
@@ -64,13 +65,14 @@ fn compression(data_type: u16) -> PkmCompression
     }
 }
 
-/// The width and the height without the border; those with it are read too.
+/// The width and the height. Those that are rounded up to whole blocks are read too.
 #[tactic(auto, using(imagesize_source::proofs::Runs::steps))]
 pub fn size<S: Source>(source: &mut S) -> ImageResult<ImageSize>
-    ensures { Runs (S.state source.old) (S.state source.new) result (over (S.state source.old).held.input pkm) }
+    ensures { Runs (S.state source.old) (S.state source.new) result
+        (over (S.state source.old).held.input pkm) }
 {
-    let _bordered_width = read_u16(source, 8, Endian::Big)?;
-    let _bordered_height = read_u16(source, 10, Endian::Big)?;
+    let _padded_width = read_u16(source, 8, Endian::Big)?;
+    let _padded_height = read_u16(source, 10, Endian::Big)?;
     let width = read_u16(source, 12, Endian::Big)? as usize;
     let height = read_u16(source, 14, Endian::Big)? as usize;
     Ok(ImageSize { width, height })

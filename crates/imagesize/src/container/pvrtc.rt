@@ -2,9 +2,8 @@
 ghost use Rattle.std.specs.Prelude.{◌≡◌};
 ghost use Rattle.imagesize.specs.Pvrtc.{is_pvr3, is_pvrtc, pvr2, pvr3, pvrtc, pvrtc_compression, pvrtc_format_of, pvrtc_formats};
 ghost use Rattle.imagesize.specs.Table.{look_up};
-ghost use Rattle.imagesize_source.specs.Layout.{if_there};
+ghost use Rattle.imagesize_source.specs.Layout.{if_there, over};
 ghost use Rattle.imagesize_source.specs.Layout.Layout.{«done»};
-ghost use Rattle.imagesize_source.specs.Layout.{over};
 ghost use Rattle.imagesize_source.specs.State.{Runs};
 
 use crate::ImageResult;
@@ -32,7 +31,8 @@ fn is_version_3(header: &[u8]) -> bool
 /// How the pixels are stored, which the newer header tells.
 #[tactic(auto, using(imagesize_source::proofs::Runs::steps), unfolding(crate::specs::Pvrtc::pvrtc_compression))]
 pub fn detect_compression<S: Source>(source: &mut S) -> ImageResult<PvrtcCompression>
-    ensures { Runs (S.state source.old) (S.state source.new) result (over (S.state source.old).held.input pvrtc_compression) }
+    ensures { Runs (S.state source.old) (S.state source.new) result
+        (over (S.state source.old).held.input pvrtc_compression) }
 {
     let Some(tag) = read_if_there::<S, 4>(source, 0)? else {
         return Ok(PvrtcCompression::Unknown);
@@ -43,10 +43,11 @@ pub fn detect_compression<S: Source>(source: &mut S) -> ImageResult<PvrtcCompres
     format(source)
 }
 
-/// How the pixels are stored, by the format where it is there.
+// How the pixels are stored, by the format where it is there.
 #[tactic(auto, using(imagesize_source::proofs::Runs::steps, imagesize_source::proofs::Numbers::little_8))]
 fn format<S: Source>(source: &mut S) -> ImageResult<PvrtcCompression>
-    ensures { Runs (S.state source.old) (S.state source.new) result (over (S.state source.old).held.input (if_there 8 8 (λ bs. done (pvrtc_format_of bs)))) }
+    ensures { Runs (S.state source.old) (S.state source.new) result
+        (over (S.state source.old).held.input (if_there 8 8 (λ bs. done (pvrtc_format_of bs)))) }
 {
     match read_if_there::<S, 8>(source, 8)? {
         Some(format) => Ok(format_compression(u64::from_le_bytes(format))),
@@ -54,7 +55,7 @@ fn format<S: Source>(source: &mut S) -> ImageResult<PvrtcCompression>
     }
 }
 
-/// How the pixels of a format are stored.
+// How the pixels of a format are stored.
 fn format_compression(format: u64) -> PvrtcCompression
     ensures { result ≡ look_up pvrtc_formats PvrtcCompression.Unknown format }
 {
@@ -75,7 +76,8 @@ fn format_compression(format: u64) -> PvrtcCompression
 /// The height and the width, by the header that is there.
 #[tactic(auto, using(imagesize_source::proofs::Runs::steps))]
 pub fn size<S: Source>(source: &mut S) -> ImageResult<ImageSize>
-    ensures { Runs (S.state source.old) (S.state source.new) result (over (S.state source.old).held.input pvrtc) }
+    ensures { Runs (S.state source.old) (S.state source.new) result
+        (over (S.state source.old).held.input pvrtc) }
 {
     let tag = read_bytes::<S, 4>(source, 0)?;
     if is_version_3(&tag) {
@@ -84,20 +86,22 @@ pub fn size<S: Source>(source: &mut S) -> ImageResult<ImageSize>
     older_size(source)
 }
 
-/// The height and the width of the newer header.
+// The height and the width of the newer header.
 #[tactic(auto, using(imagesize_source::proofs::Runs::steps))]
 fn newer_size<S: Source>(source: &mut S) -> ImageResult<ImageSize>
-    ensures { Runs (S.state source.old) (S.state source.new) result (over (S.state source.old).held.input pvr3) }
+    ensures { Runs (S.state source.old) (S.state source.new) result
+        (over (S.state source.old).held.input pvr3) }
 {
     let height = read_u32(source, 24, Endian::Little)? as usize;
     let width = read_u32(source, 28, Endian::Little)? as usize;
     Ok(ImageSize { width, height })
 }
 
-/// The height and the width of the older header.
+// The height and the width of the older header.
 #[tactic(auto, using(imagesize_source::proofs::Runs::steps))]
 fn older_size<S: Source>(source: &mut S) -> ImageResult<ImageSize>
-    ensures { Runs (S.state source.old) (S.state source.new) result (over (S.state source.old).held.input pvr2) }
+    ensures { Runs (S.state source.old) (S.state source.new) result
+        (over (S.state source.old).held.input pvr2) }
 {
     let height = read_u32(source, 4, Endian::Little)? as usize;
     let width = read_u32(source, 8, Endian::Little)? as usize;

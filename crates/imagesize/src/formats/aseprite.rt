@@ -21,7 +21,8 @@ pub fn matches(head: &[u8; 12]) -> bool
 /// The width and the height of the sprite.
 #[tactic(auto, using(imagesize_source::proofs::Runs::steps))]
 pub fn size<S: Source>(source: &mut S) -> ImageResult<ImageSize>
-    ensures { Runs (S.state source.old) (S.state source.new) result (over (S.state source.old).held.input aseprite) }
+    ensures { Runs (S.state source.old) (S.state source.new) result
+        (over (S.state source.old).held.input aseprite) }
 {
     let width = read_u16(source, 8, Endian::Little)? as usize;
     let height = read_u16(source, 10, Endian::Little)? as usize;

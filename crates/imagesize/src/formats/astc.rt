@@ -21,7 +21,8 @@ pub fn matches(head: &[u8; 12]) -> bool
 /// The first two of the three dimensions.
 #[tactic(auto, using(imagesize_source::proofs::Runs::steps))]
 pub fn size<S: Source>(source: &mut S) -> ImageResult<ImageSize>
-    ensures { Runs (S.state source.old) (S.state source.new) result (over (S.state source.old).held.input astc) }
+    ensures { Runs (S.state source.old) (S.state source.new) result
+        (over (S.state source.old).held.input astc) }
 {
     let width = read_u24(source, 7, Endian::Little)? as usize;
     let height = read_u24(source, 10, Endian::Little)? as usize;

@@ -21,7 +21,8 @@ pub fn matches(head: &[u8; 12]) -> bool
 /// The width and the height, which is read as a number without a sign.
 #[tactic(auto, using(imagesize_source::proofs::Runs::steps))]
 pub fn size<S: Source>(source: &mut S) -> ImageResult<ImageSize>
-    ensures { Runs (S.state source.old) (S.state source.new) result (over (S.state source.old).held.input bmp) }
+    ensures { Runs (S.state source.old) (S.state source.new) result
+        (over (S.state source.old).held.input bmp) }
 {
     let width = read_u32(source, 18, Endian::Little)? as usize;
     let height = read_u32(source, 22, Endian::Little)? as usize;

@@ -1,4 +1,4 @@
-//! KTX 2.0, by sections 3.1 (Identifier), 3.4 (pixelWidth) and 3.5 (pixelHeight) of the Khronos KTX File Format Specification.
+//! KTX 2.0, by the fields `identifier`, `pixelWidth` and `pixelHeight` of the Khronos KTX File Format Specification.
 ghost use Rattle.std.specs.Prelude.{◌≡◌};
 ghost use Rattle.imagesize.specs.Ktx2.{is_ktx2, ktx2};
 ghost use Rattle.imagesize_source.specs.Layout.{over};
@@ -23,7 +23,8 @@ pub fn matches(head: &[u8; 12]) -> bool
 /// The width and the height of the texture at its first level.
 #[tactic(auto, using(imagesize_source::proofs::Runs::steps))]
 pub fn size<S: Source>(source: &mut S) -> ImageResult<ImageSize>
-    ensures { Runs (S.state source.old) (S.state source.new) result (over (S.state source.old).held.input ktx2) }
+    ensures { Runs (S.state source.old) (S.state source.new) result
+        (over (S.state source.old).held.input ktx2) }
 {
     let width = read_u32(source, 20, Endian::Little)? as usize;
     let height = read_u32(source, 24, Endian::Little)? as usize;

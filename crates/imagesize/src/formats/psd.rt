@@ -21,7 +21,8 @@ pub fn matches(head: &[u8; 12]) -> bool
 /// The height and the width.
 #[tactic(auto, using(imagesize_source::proofs::Runs::steps))]
 pub fn size<S: Source>(source: &mut S) -> ImageResult<ImageSize>
-    ensures { Runs (S.state source.old) (S.state source.new) result (over (S.state source.old).held.input psd) }
+    ensures { Runs (S.state source.old) (S.state source.new) result
+        (over (S.state source.old).held.input psd) }
 {
     let height = read_u32(source, 14, Endian::Big)? as usize;
     let width = read_u32(source, 18, Endian::Big)? as usize;

@@ -21,7 +21,8 @@ pub fn matches(head: &[u8; 12]) -> bool
 /// The width and the height.
 #[tactic(auto, using(imagesize_source::proofs::Runs::steps))]
 pub fn size<S: Source>(source: &mut S) -> ImageResult<ImageSize>
-    ensures { Runs (S.state source.old) (S.state source.new) result (over (S.state source.old).held.input qoi) }
+    ensures { Runs (S.state source.old) (S.state source.new) result
+        (over (S.state source.old).held.input qoi) }
 {
     let width = read_u32(source, 4, Endian::Big)? as usize;
     let height = read_u32(source, 8, Endian::Big)? as usize;

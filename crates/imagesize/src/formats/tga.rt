@@ -18,11 +18,12 @@ pub fn matches<S: Source>(source: &mut S, head: &[u8; 12]) -> ImageResult<bool>
     matches_by_length(source, head, length)
 }
 
-/// Whether an input of this length, with this head, is a TGA.
+// Whether an input of this length, with this head, is a TGA.
 #[tactic(auto, using(imagesize_source::proofs::Runs::steps), unfolding(crate::specs::Tga::is_tga))]
 fn matches_by_length<S: Source>(source: &mut S, head: &[u8; 12], length: u64) -> ImageResult<bool>
     requires { Sound (S.state source.old) }
-    ensures { Runs (S.state source.old) (S.state source.new) result (over (S.state source.old).held.input (is_tga length head.now)) }
+    ensures { Runs (S.state source.old) (S.state source.new) result
+        (over (S.state source.old).held.input (is_tga length head.now)) }
 {
     if !may_be_tga(head) || length < 18 {
         return Ok(false);
@@ -37,10 +38,11 @@ fn matches_by_length<S: Source>(source: &mut S, head: &[u8; 12], length: u64) ->
     has_sound_header(source, head)
 }
 
-/// Whether the fields of the colour map and of the pixels agree with each other.
+// Whether the fields of the colour map and of the pixels agree with each other.
 #[tactic(auto, using(imagesize_source::proofs::Runs::steps))]
 fn has_sound_header<S: Source>(source: &mut S, head: &[u8; 12]) -> ImageResult<bool>
-    ensures { Runs (S.state source.old) (S.state source.new) result (over (S.state source.old).held.input (tga_by_header head.now)) }
+    ensures { Runs (S.state source.old) (S.state source.new) result
+        (over (S.state source.old).held.input (tga_by_header head.now)) }
 {
     let map = read_bytes::<S, 4>(source, 3)?;
     let map_bits = read_u8(source, 7)?;
@@ -107,7 +109,8 @@ fn is_pixel_sound(bits: u8, descriptor: u8) -> bool
 /// The width and the height.
 #[tactic(auto, using(imagesize_source::proofs::Runs::steps))]
 pub fn size<S: Source>(source: &mut S) -> ImageResult<ImageSize>
-    ensures { Runs (S.state source.old) (S.state source.new) result (over (S.state source.old).held.input tga) }
+    ensures { Runs (S.state source.old) (S.state source.new) result
+        (over (S.state source.old).held.input tga) }
 {
     let width = read_u16(source, 12, Endian::Little)? as usize;
     let height = read_u16(source, 14, Endian::Little)? as usize;

@@ -1,4 +1,4 @@
-//! WebP, by RFC 9649, sections 2.4 (file header), 2.5 and 2.6 (lossy and lossless) and 2.7 (extended), and 9.1 of RFC 6386.
+//! WebP, by RFC 9649, sections 2.4 (the file header) and 2.5 to 2.7 (its three forms), and RFC 6386, section 9.1.
 ghost use Rattle.std.specs.Prelude.{◌≡◌, ◌%◌, ◌^◌};
 ghost use Rattle.imagesize.specs.Webp.{is_webp, webp, lossy_webp, lossless_webp, extended_webp};
 ghost use Rattle.imagesize_source.specs.Layout.{over};
@@ -21,7 +21,8 @@ pub fn matches(head: &[u8; 12]) -> bool
 /// The width and the height of the canvas, or of the one image.
 #[tactic(auto, using(imagesize_source::proofs::Runs::steps))]
 pub fn size<S: Source>(source: &mut S) -> ImageResult<ImageSize>
-    ensures { Runs (S.state source.old) (S.state source.new) result (over (S.state source.old).held.input webp) }
+    ensures { Runs (S.state source.old) (S.state source.new) result
+        (over (S.state source.old).held.input webp) }
 {
     let [_, _, _, form] = read_bytes::<S, 4>(source, 12)?;
     match form {
@@ -32,20 +33,22 @@ pub fn size<S: Source>(source: &mut S) -> ImageResult<ImageSize>
     }
 }
 
-/// Of each dimension the low 14 bits; above them stands how to scale it.
+// Of each dimension the low 14 bits; above them stands how to scale it.
 #[tactic(auto, using(imagesize_source::proofs::Runs::steps))]
 fn lossy_size<S: Source>(source: &mut S) -> ImageResult<ImageSize>
-    ensures { Runs (S.state source.old) (S.state source.new) result (over (S.state source.old).held.input lossy_webp) }
+    ensures { Runs (S.state source.old) (S.state source.new) result
+        (over (S.state source.old).held.input lossy_webp) }
 {
     let width = low_14_bits(read_u16(source, 26, Endian::Little)? as u32);
     let height = low_14_bits(read_u16(source, 28, Endian::Little)? as u32);
     Ok(ImageSize { width, height })
 }
 
-/// 14 bits each for the width less one and the height less one.
+// 14 bits each for the width less one and the height less one.
 #[tactic(auto, using(imagesize_source::proofs::Runs::steps))]
 fn lossless_size<S: Source>(source: &mut S) -> ImageResult<ImageSize>
-    ensures { Runs (S.state source.old) (S.state source.new) result (over (S.state source.old).held.input lossless_webp) }
+    ensures { Runs (S.state source.old) (S.state source.new) result
+        (over (S.state source.old).held.input lossless_webp) }
 {
     let dimensions = read_u32(source, 21, Endian::Little)?;
     let width = low_14_bits(dimensions) + 1;
@@ -53,10 +56,11 @@ fn lossless_size<S: Source>(source: &mut S) -> ImageResult<ImageSize>
     Ok(ImageSize { width, height })
 }
 
-/// 24 bits each for the width less one and the height less one.
+// 24 bits each for the width less one and the height less one.
 #[tactic(auto, using(imagesize_source::proofs::Runs::steps))]
 fn extended_size<S: Source>(source: &mut S) -> ImageResult<ImageSize>
-    ensures { Runs (S.state source.old) (S.state source.new) result (over (S.state source.old).held.input extended_webp) }
+    ensures { Runs (S.state source.old) (S.state source.new) result
+        (over (S.state source.old).held.input extended_webp) }
 {
     let width = read_u24(source, 24, Endian::Little)? as usize + 1;
     let height = read_u24(source, 27, Endian::Little)? as usize + 1;

@@ -1,5 +1,4 @@
 use Rattle.std.proofs.Common.{refl, arith, rules}
-use Rattle.imagesize_source.specs.Standing.{stand}
 use Rattle.imagesize_source.proofs.Windows.{in_window, behind_window, behind_stopped, told_by, same_frame, ended_by}
 use Rattle.imagesize_source.proofs.source.reader.read_windowed.Goals as goal
 

@@ -1,4 +1,4 @@
-use Rattle.std.proofs.Common.{◌≡◌, Result, Ok, Err, ℕ, arith, rules}
+use Rattle.std.proofs.Common.{◌≡◌, Result, Err, ℕ, rules}
 use Rattle.imagesize_source.specs.declared.error.ImageError.{ImageError}
 use Rattle.imagesize_source.proofs.Windows.{behind_end, told_by}
 use Rattle.imagesize_source.proofs.source.reader.ReaderSourceSource.read_at.Goals as goal

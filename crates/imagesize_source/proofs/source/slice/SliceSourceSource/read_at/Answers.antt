@@ -1,4 +1,4 @@
-use Rattle.std.proofs.Common.{arith, rules}
+use Rattle.std.proofs.Common.{arith}
 use Rattle.imagesize_source.proofs.Slices.{slice_reads}
 use Rattle.imagesize_source.proofs.source.slice.SliceSourceSource.read_at.Goals as goal
 
