@@ -1,7 +1,7 @@
 //! What each call answers of the worked inputs.
 
 use crate::readers::OneByte;
-use crate::rows::{FIXED, GENERAL_HEIF, Row};
+use crate::rows::{FIXED, GENERAL_HEIF, READ_AS, Row};
 use imagesize::{
     Compression, ImageError, ImageResult, ImageSize, ImageType, Probed, blob_size, image_type,
     reader_probe, reader_size, reader_type,
@@ -9,6 +9,7 @@ use imagesize::{
 use std::alloc::{AllocError, Global};
 use std::fmt::Display;
 use std::io::Cursor;
+use std::process::Abort;
 use std::test::Fail;
 
 // The bytes of an input in hex.
@@ -133,5 +134,39 @@ fn places_of_a_size_count_from_the_first_byte(rt: HostRuntime) -> Result<(), Fai
         height: 24889,
     };
     assert_eq!(rt; reader_size(cursor)?, size);
+    Ok(())
+}
+
+// A type reads a size, wherever the reader stands.
+fn check_size_as(rt: &(impl Abort + AllocGlobal), row: &Row) -> Result<(), Fail> {
+    let alloc = rt.alloc();
+    let bytes = bytes_of(alloc, row.hex)?;
+    let shows = row.shows;
+    if let Some(kind) = row.kind {
+        for place in [0, 4, 1000] {
+            let mut cursor = Cursor::new(bytes.as_slice());
+            cursor.set_position(place);
+            assert!(rt;
+                is_answer(alloc, row, &kind.reader_size(&mut cursor))?,
+                "{shows}"
+            );
+            let mut reader = OneByte { reader: cursor };
+            assert!(rt;
+                is_answer(alloc, row, &kind.reader_size(&mut reader))?,
+                "{shows}"
+            );
+        }
+    }
+    Ok(())
+}
+
+#[test]
+fn a_type_reads_its_size_wherever_the_reader_stands(rt: HostRuntime) -> Result<(), Fail> {
+    for row in &FIXED {
+        check_size_as(&rt, row)?;
+    }
+    for row in &READ_AS {
+        check_size_as(&rt, row)?;
+    }
     Ok(())
 }

@@ -178,3 +178,31 @@ pub const FIXED: [Row; 22] = [
         answer: Err("Could not decode image"),
     },
 ];
+
+/// Inputs that are read as the type beside them, of which they need not be.
+pub const READ_AS: [Row; 4] = [
+    Row {
+        shows: "a WebP as a WebP",
+        hex: LOSSY_WEBP,
+        kind: Some(ImageType::Webp),
+        answer: Ok((16, 8)),
+    },
+    Row {
+        shows: "no bytes as a GIF",
+        hex: "",
+        kind: Some(ImageType::Gif),
+        answer: Err("failed to fill whole buffer"),
+    },
+    Row {
+        shows: "a DDS as an ATC texture in one",
+        hex: DDS,
+        kind: Some(ImageType::Atc(AtcCompression::Rgb)),
+        answer: Ok((7, 5)),
+    },
+    Row {
+        shows: "a GIF as an ATC texture",
+        hex: GIF,
+        kind: Some(ImageType::Atc(AtcCompression::Unknown)),
+        answer: Ok((100, 6578489)),
+    },
+];

@@ -1,7 +1,7 @@
 //! What is answered of readers that count, interrupt, fail and lie.
 
 use crate::calls::bytes_of;
-use crate::readers::{Claiming, Counting, Failing, Interrupted, OneByte};
+use crate::readers::{Claiming, Counting, EndlessSegments, Failing, Interrupted, OneByte};
 use crate::rows::{ETC2, EXTENDED_DDS, GENERAL_HEIF, GIF, PVR, TGA};
 use imagesize::{
     ImageError, ImageResult, ImageSize, ImageType, Reason, Told, reader_probe, reader_size,
@@ -155,6 +155,21 @@ fn check_failures(rt: &impl Abort, bytes: &[u8], kind: ImageType, failure: Error
     assert!(rt; 4 <= turns && turns < TURNS, "{kind:?}: {turns} calls");
 }
 
+// The same where the type is given.
+fn check_size_failures(rt: &impl Abort, bytes: &[u8], kind: ImageType, failure: ErrorKind) {
+    let mut turns = 0;
+    for turn in 0..TURNS {
+        let mut reader = failing(Cursor::new(bytes), turn, failure);
+        let answer = kind.reader_size(&mut reader);
+        if reader.left.is_some() {
+            break;
+        }
+        turns = turn + 1;
+        assert_eq!(rt; fault_of(&answer), Some(failure), "{kind:?}: call {turn}");
+    }
+    assert!(rt; 2 <= turns && turns < TURNS, "{kind:?}: {turns} calls");
+}
+
 // The type of an input is asked, and each call of the reader fails in turn.
 fn check_type_failures(rt: &impl Abort, bytes: &[u8], kind: ImageType, failure: ErrorKind) {
     let mut turns = 0;
@@ -186,6 +201,7 @@ fn each_failure_in_turn_is_the_fault_that_is_answered(rt: HostRuntime) -> Result
         let (bytes, kind) = kind_of(rt.alloc(), hex)?;
         for failure in FAILURES {
             check_failures(&rt, bytes.as_slice(), kind, failure);
+            check_size_failures(&rt, bytes.as_slice(), kind, failure);
             check_type_failures(&rt, bytes.as_slice(), kind, failure);
         }
     }
@@ -230,5 +246,15 @@ fn a_reader_behind_its_end_is_at_the_end(rt: HostRuntime) -> Result<(), Fail> {
     assert!(rt; is_end(&probed.answer));
     assert_eq!(rt; probed.taken, 0);
     assert_eq!(rt; probed.kind, None);
+    Ok(())
+}
+
+#[test]
+fn an_endless_reader_has_a_type(rt: HostRuntime) -> Result<(), Fail> {
+    let reader = Claiming {
+        reader: EndlessSegments { place: 0 },
+        told: 100,
+    };
+    assert_eq!(rt; reader_type(reader)?, ImageType::Jpeg);
     Ok(())
 }
