@@ -16,7 +16,8 @@ use std::io::{self, Write};
 pub fn report<R: Told, W: Write>(name: &str, mut reader: R, writer: &mut W) -> io::Result<bool>
     ensures { IfOk result (Reports (R.telling reader) name.now (W.contents writer.old) (W.contents writer.new)) }
 {
-    write_line(name, reader_probe(&mut reader), writer)
+    let probed = reader_probe(&mut reader);
+    write_line(name, probed, writer)
 }
 
 // Writes the line of what was found, and answers whether that has a size.
