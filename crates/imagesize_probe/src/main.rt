@@ -1,11 +1,14 @@
 //! Prints the type and the size of each image file that is named, or why it has none.
 #![tactic(auto)]
 
+ghost use Rattle.std.specs.Prelude.{◌||◌, IsTrue, IfErr};
+ghost use Rattle.imagesize_source.specs.Reading.{is_fault, is_memory};
+
 mod names;
 mod report;
 
 use imagesize::{ImageError, ImageResult, Reason};
-use std::io::{self, BufReader, Write};
+use std::io::{self, BufReader, BufWriter, Write};
 use std::process::ExitCode;
 use std::rt::{Env, Files};
 use std::{env, fs};
@@ -28,11 +31,15 @@ fn run<R: Env + Files + Print + Eprint + AllocGlobal>(rt: &R) -> io::Result<u8> 
         // Where standard error fails, the status still says it.
         let _ = eprintln!(rt; "usage: imagesize_probe FILE...");
     }
-    let refused = probe_files(rt, names, &mut io::writer(rt))?;
+    let refused = match BufWriter::new(rt.alloc(), io::writer(rt)) {
+        Ok(mut output) => probe_files(rt, names, &mut output)?,
+        // With no memory for a buffer the lines go out in pieces.
+        Err(_) => probe_files(rt, names, &mut io::writer(rt))?,
+    };
     Ok(report::status(files, refused))
 }
 
-// Writes a line for each file in turn, and answers whether one was refused.
+// Writes a line for each file, out before the next file is opened, and answers whether one was refused.
 //
 // Errors: those of the writer, at once.
 fn probe_files<R: Files + AllocGlobal, W: Write>(
@@ -45,6 +52,7 @@ fn probe_files<R: Files + AllocGlobal, W: Write>(
         if !probe_file(rt, name.as_str(), writer)? {
             refused = true;
         }
+        writer.flush()?;
     }
     Ok(refused)
 }
@@ -62,7 +70,9 @@ fn probe_file<R: Files + AllocGlobal, W: Write>(
 }
 
 // Opens a file behind a buffer.
-fn open<R: Files + AllocGlobal>(rt: &R, name: &str) -> ImageResult<BufReader<R::File>> {
+fn open<R: Files + AllocGlobal>(rt: &R, name: &str) -> ImageResult<BufReader<R::File>>
+    ensures { IfErr result (λ e. IsTrue (is_fault e || is_memory e)) }
+{
     let file = fs::open(rt, name)?;
     match BufReader::new(rt.alloc(), file) {
         Ok(reader) => Ok(reader),
