@@ -1,5 +1,5 @@
 -- How many bytes the type and a size at fixed places are read from.
-use Rattle.std.proofs.Common.{◌≡◌, ℕ, ◌+◌, ◌-◌, ◌<◌, ◌≤◌, Bool, true, false, cond, List, length, Option, Some, None, Result, Ok, Err, refl, slice_index, arith, rules}
+use Rattle.std.proofs.Common.{◌≡◌, ℕ, ◌+◌, ◌≤◌, Bool, true, false, cond, List, length, Option, Some, None, Result, Ok, Err, refl, slice_index, arith, rules}
 use Rattle.imagesize.specs.Atc.{atc, atc_compression}
 use Rattle.imagesize.specs.Aseprite.{aseprite}
 use Rattle.imagesize.specs.Astc.{astc}
@@ -20,7 +20,7 @@ use Rattle.imagesize.specs.Tga.{tga, tga_by_header, is_tga}
 use Rattle.imagesize.specs.Webp.{webp, webp_form}
 use Rattle.imagesize.specs.declared.types.ImageType.{ImageType}
 use Rattle.imagesize.specs.declared.types.ImageType.TheVariants.{Aseprite, Astc, Atc, Bmp, Dds, Eac, Etc2, Exr, Farbfeld, Gif, Hdr, Heif, Ico, Ilbm, Jpeg, Jxl, Ktx2, Pnm, Pvrtc, Psd, Qoi, Tga, Tiff, Vtf, Webp}
-use Rattle.imagesize_source.proofs.Count.{at_most, at_most_more, at_most_bind, then_within}
+use Rattle.imagesize_source.proofs.Count.{at_most}
 use Rattle.imagesize.specs.Counts.{cost, is_fixed, is_fixed_or_refused}
 use Rattle.imagesize_source.proofs.Costs.{bound_of, costs, costs_bind}
 use Rattle.imagesize_source.proofs.Runs.{total-append}
@@ -28,7 +28,7 @@ use Rattle.imagesize_source.specs.Counts.{AtMost, CostsBy}
 use Rattle.imagesize_source.specs.Reading.{onward}
 use Rattle.imagesize_source.specs.declared.error.ImageError.{ImageError}
 use Rattle.imagesize_source.specs.declared.span.Span.{Span}
-use Rattle.imagesize_source.specs.Layout.{Layout, bind, whole}
+use Rattle.imagesize_source.specs.Layout.{Layout, whole}
 use Rattle.imagesize_source.specs.State.{total}
 
 -- both sides of a test

@@ -1,8 +1,8 @@
 -- A size at fixed places stays, whatever bytes follow.
-use Rattle.std.proofs.Common.{◌≡◌, ℕ, Bool, true, false, cond, List, ◌++◌, length, Option, Some, None, Result, Ok, Err, IfOk, IsTrue, slice_index, refl, sym, ap, ◌∙◌, subst, arith, rules}
+use Rattle.std.proofs.Common.{◌≡◌, ℕ, Bool, true, false, cond, List, ◌++◌, length, Option, Some, None, Result, Ok, Err, IfOk, IsTrue, slice_index, refl, sym, ap, ◌∙◌, subst, rules}
 use Rattle.imagesize.specs.Counts.{lasts, lasts_as}
 use Rattle.imagesize.specs.Heif.{heif_compression}
-use Rattle.imagesize.specs.Kind.{kind, kind_by, with_kind, tga_or_none, rows, first_row}
+use Rattle.imagesize.specs.Kind.{kind_by, with_kind, tga_or_none, rows, first_row}
 use Rattle.imagesize.specs.Meaning.{kind_of, size_of, meaning}
 use Rattle.imagesize.specs.Aseprite.{aseprite}
 use Rattle.imagesize.specs.Astc.{astc}
@@ -16,7 +16,7 @@ use Rattle.imagesize.specs.Pkm.{pkm, pkm_compression}
 use Rattle.imagesize.specs.Psd.{psd}
 use Rattle.imagesize.specs.Pvrtc.{pvrtc, pvrtc_compression, pvrtc_compression_by}
 use Rattle.imagesize.specs.Qoi.{qoi}
-use Rattle.imagesize.specs.Tga.{tga, is_tga}
+use Rattle.imagesize.specs.Tga.{is_tga}
 use Rattle.imagesize.specs.Vtf.{vtf}
 use Rattle.imagesize.specs.Webp.{webp, webp_form}
 use Rattle.imagesize.specs.declared.types.ImageSize.{ImageSize}

@@ -1,5 +1,5 @@
 -- Type and size see an input by their marks alone.
-use Rattle.std.proofs.Common.{◌≡◌, ℕ, List, length, refl}
+use Rattle.std.proofs.Common.{ℕ, refl}
 use Rattle.imagesize.specs.Kind.{kind}
 use Rattle.imagesize.specs.Meaning.{kind_of, size_of, meaning}
 use Rattle.imagesize.specs.Aseprite.{aseprite}

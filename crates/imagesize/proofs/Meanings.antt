@@ -1,20 +1,20 @@
 -- The size by a type that was found.
-use Rattle.std.proofs.Common.{◌≡◌, ℕ, ◌+◌, ◌<◌, List, length, Option, Some, None, Result, Ok, Err, IfSome, Bool, true, false, refl, sym, ap, ◌∙◌, subst, arith}
+use Rattle.std.proofs.Common.{◌≡◌, ℕ, ◌+◌, length, Option, Some, None, Result, Ok, Err, IfSome, true, false, sym, ap, ◌∙◌, subst, arith}
 use Rattle.std.specs.Result.{result_ok}
 use Rattle.imagesize.proofs.Counts.{kind_within, size_at_most}
 use Rattle.imagesize_source.proofs.Count.{then_within}
 use Rattle.imagesize.specs.Meaning.{kind_of, meaning, size_of}
-use Rattle.imagesize.specs.Probed.{FindsKind, Probes, ProbesOf}
+use Rattle.imagesize.specs.Probed.{FindsKind, Probes}
 use Rattle.imagesize.specs.declared.calls.Probed.{Probed}
 use Rattle.imagesize.specs.declared.types.ImageSize.{ImageSize}
 use Rattle.imagesize.specs.declared.types.ImageType.{ImageType}
 use Rattle.imagesize_source.proofs.Openings.{IsBounded, Began, claim, start_of, start_holds, opened_answers, opened_takes}
 use Rattle.imagesize_source.proofs.Runs.{runs_then, runs_refused}
-use Rattle.imagesize_source.specs.Answers.{Answers, Takes, TakesAs}
-use Rattle.imagesize_source.specs.Reading.{Reads, stopped}
+use Rattle.imagesize_source.specs.Answers.{Answers, TakesAs}
+use Rattle.imagesize_source.specs.Reading.{stopped}
 use Rattle.imagesize_source.specs.ReaderState.{Opens, start_state}
 use Rattle.imagesize_source.specs.State.{State, Runs}
-use Rattle.imagesize_source.specs.Telling.{Telling, IsHonest, at_place}
+use Rattle.imagesize_source.specs.Telling.{Telling, IsHonest}
 use Rattle.imagesize_source.specs.declared.error.ImageError.{ImageError}
 use Rattle.imagesize_source.specs.declared.source.reader.Opened.{Opened}
 
@@ -47,9 +47,10 @@ found_kind : (t : Telling) (mid : Option Telling) (count : Option ℕ) (home tol
 found_kind t mid count home told place a found r honest began start finds =
     let held : a.held ≡ claim t = ap (λ s. s.held) (start ∙ start_of t mid count home told place began) ∙ start_holds t count home honest in
     let is_honest : a.held.honest ≡ true = ap (λ h. h.honest) held in
-    let same : kind_of a.held.input place ≡ kind_of t.bytes t.place = ap (λ h. kind_of h.input place) held ∙ ap (kind_of t.bytes) began.at in
-    (subst (λ reads. IfSome found (λ type. reads.answer ≡ Ok type)) same (finds.right is_honest),
-    λ goes_on. finds.whole is_honest goes_on ∙ ap (λ reads. result_ok reads.answer) same)
+    let same : kind_of a.held.input place ≡ kind_of t.bytes t.place = ap (λ h. kind_of h.input place) held ∙ ap (kind_of t.bytes) began.at in (
+      subst (λ reads. IfSome found (λ type. reads.answer ≡ Ok type)) same (finds.right is_honest),
+      λ goes_on. finds.whole is_honest goes_on ∙ ap (λ reads. result_ok reads.answer) same,
+    )
 
 -- type, size and count of a reader that was opened
 pub probes_opened : (telling mid : Option Telling) (count : Option ℕ) (home : ℕ) (opened : Opened) (a b : State) (probed : Probed) → a ≡ start_state mid count home opened.told → Opens telling mid (Ok opened) → Runs a b probed.answer (meaning a.held.input opened.place) → FindsKind a opened.place probed.kind probed.answer → probed.taken ≡ b.taken → Probes telling probed
@@ -62,7 +63,8 @@ probes_opened (Some t) mid count home opened a b probed start opens h finds took
       answer = opened_answers (Some t) mid count home opened b probed.answer meaning bounded_meaning opens runs honest;
       takes = subst (λ n. TakesAs t (meaning t.bytes t.place) probed.answer n) (sym took) (opened_takes (Some t) mid count home opened b probed.answer meaning opens runs honest);
       right = kinds.0;
-      whole = kinds.1 }
+      whole = kinds.1;
+    }
 
 bounded_size : (type : ImageType) → IsBounded (λ d place. size_of type d)
 bounded_size type d place = omega (arith, size_at_most type d)

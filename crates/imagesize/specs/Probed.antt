@@ -1,5 +1,5 @@
 -- What `reader_probe` answers.
-use Rattle.std.specs.Prelude.{◌≡◌, ℕ, true, false, length, Option, None, Some, Result, Ok, IfSome}
+use Rattle.std.specs.Prelude.{◌≡◌, ℕ, true, false, Option, None, Some, Result, Ok, IfSome}
 use Rattle.std.specs.Result.{result_ok}
 use Rattle.imagesize.specs.Meaning.{kind_of, meaning}
 use Rattle.imagesize.specs.declared.types.ImageSize.{ImageSize}

@@ -10,13 +10,12 @@ ghost use Rattle.imagesize.specs.Counts.{cost, is_fixed_or_refused, lasts_as};
 ghost use Rattle.imagesize.specs.Meaning.{kind_of, meaning, size_of};
 ghost use Rattle.imagesize.specs.Probed.{FindsKind, Probes};
 
-use imagesize_source::source::Source;
-use imagesize_source::source::reader::{Opened, ReaderSource, open};
-use imagesize_source::source::slice::SliceSource;
-
 use crate::formats::{detect, size};
 use crate::types::{ImageSize, ImageType};
 use crate::{ImageResult, Told};
+use imagesize_source::source::Source;
+use imagesize_source::source::reader::{Opened, ReaderSource, open};
+use imagesize_source::source::slice::SliceSource;
 
 /// What a reader was found to hold, and what it took to find it.
 #[derive(Debug, Drop)]
@@ -86,7 +85,10 @@ pub fn reader_type<R: Told>(mut reader: R) -> ImageResult<ImageType>
     ensures { Answers (R.telling reader) kind_of result }
 {
     let opened = open(&mut reader)?;
-    detect(&mut ReaderSource::new(&mut reader, opened.told), opened.place)
+    detect(
+        &mut ReaderSource::new(&mut reader, opened.told),
+        opened.place,
+    )
 }
 
 /// The size in pixels of the image in a reader's bytes, of the type that the twelve bytes tell where it stands.

@@ -41,8 +41,8 @@ whole_there {a} {b} d room place k n h long all =
     let same : take n room ≡ room = take_all n room (omega arith) in
     answered (Ok (Some room)) (over d (if_there place k done)) h (append-nil _ ∙ ap (span_of d place) (sym long))
     (λ is.
-        let got : part d place k ≡ room = ap (part d place) (sym long) ∙ part_is is ∙ same in
-        ap (λ bs. Ok (whole k bs)) got ∙ ap Ok (whole-all k room (omega (arith, long))))
+    let got : part d place k ≡ room = ap (part d place) (sym long) ∙ part_is is ∙ same in
+    ap (λ bs. Ok (whole k bs)) got ∙ ap Ok (whole-all k room (omega (arith, long))))
     refl refl tt
 
 -- some are missing
@@ -63,7 +63,8 @@ runs_as {X} {a} {b} {r} other h same = record {
   answer = λ honest goes_on. ap (λ reads. reads.answer) (sym (same honest)) ∙ h.answer honest goes_on;
   state = λ honest goes_on. h.state honest goes_on ∙ ap (λ reads. past a reads.marks) (same honest);
   fault = h.fault;
-  ended = h.ended }
+  ended = h.ended;
+}
 
 -- an honest source tells the length
 pub by_told : {X : Type 0} {a b : State} {r : Result X ImageError} (f : ℕ → Reads X) → Runs a b r (f a.frame.told) → Runs a b r (f (length a.held.input))

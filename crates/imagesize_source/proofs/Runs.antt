@@ -125,12 +125,13 @@ runs_then {X} {Y} {a} {m} {b} {x} {y} r f first second =
       within = λ honest. rw (next honest) (omega (arith, first.within honest, second.within (honest_then honest), total-append r.marks (f x m.held).marks));
       answer = λ honest goes_on. ap (λ q. q.answer) (next honest) ∙ second.answer (honest_then honest) goes_on;
       state = λ honest goes_on.
-        second.state (honest_then honest) goes_on
-        ∙ ap (λ s. past s (f x m.held).marks) (first.state honest refl)
-        ∙ past-past a r.marks (f x m.held).marks
-        ∙ ap (past a) (sym (ap (λ q. q.marks) (next honest)));
+          second.state (honest_then honest) goes_on
+          ∙ ap (λ s. past s (f x m.held).marks) (first.state honest refl)
+          ∙ past-past a r.marks (f x m.held).marks
+          ∙ ap (past a) (sym (ap (λ q. q.marks) (next honest)));
       fault = λ honest faults. ap (λ h. h.can_fail) (sym (same honest)) ∙ second.fault (honest_then honest) faults;
-      ended = second.ended }
+      ended = second.ended;
+    }
 
 -- a call that was refused goes on from nothing
 pub runs_refused : {X Y : Type 0} {a b : State} {e : ImageError} (r : Reads X) (f : X → Reads Y) → Runs {X = X} a b (Err e) r → Runs {X = Y} a b (Err e) (and_then r f)
@@ -143,4 +144,5 @@ runs_refused {X} {Y} {a} {b} {e} r f h = record {
   answer = λ honest goes_on. ap (λ v. (onward r.marks v f).answer) (h.answer honest goes_on);
   state = λ honest goes_on. h.state honest goes_on ∙ ap (past a) (sym (ap (λ v. (onward r.marks v f).marks) (h.answer honest goes_on)));
   fault = h.fault;
-  ended = h.ended }
+  ended = h.ended;
+}

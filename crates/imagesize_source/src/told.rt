@@ -1,6 +1,9 @@
 //! Readers, and what they may tell of themselves.
-ghost use Rattle.std.specs.Prelude.{◌≡◌, ℕ, ◌≤◌, length, Option, Some, None, false, IfOk, List};
+ghost use Rattle.std.specs.Prelude.{◌≡◌, ℕ, ◌≤◌, length, Option, Some, None, false, IfOk, IfSome, List};
+ghost use Rattle.std.specs.Io.Buffered.{reader_inner, reader_position, reader_remaining};
 ghost use Rattle.std.specs.Io.Cursor.{cursor_inner, cursor_position};
+ghost use Rattle.std.specs.Io.KnownBytes.{ReadConsumes};
+ghost use Rattle.std.specs.Io.Seek.{SeekMoves, IsAtOffset};
 ghost use Rattle.imagesize_source.specs.Telling.{Telling, ReadTells, SeekTells, counted};
 ghost use Rattle.imagesize_source.specs.StopOf.{stop_of};
 
@@ -70,18 +73,28 @@ impl Told for Cursor<&[u8]> {
     }
 }
 
-/// A buffered reader tells nothing of what it reads from.
+/// A buffered reader tells nothing of what it reads from. Its reads and seeks give what those of `BufReader`
+/// give, and a place within its buffer is reached with the buffer kept.
 impl<R: Read + Seek + Drop> Told for BufReader<R> {
     ghost telling = { λ _. None };
 
     ghost count = { λ _. None };
 
-    fn read_told(&mut self, room: &mut [u8]) -> Result<usize, Stop> {
+    fn read_told(&mut self, room: &mut [u8]) -> Result<usize, Stop>
+        ensures bound { IfOk result (λ n. n ≤ length room.new) }
+        ensures told { ReadTells None None room.new result }
+        ensures counts { ◌≡◌ {A = Option ℕ} None (counted None result) }
+        ensures reads { ReadConsumes (reader_remaining R.remaining self.old) (reader_remaining R.remaining self.new) result room.new }
+    {
         Ok(self.read(room)?)
     }
 
-    /// A place within the buffer is reached with the buffer kept.
-    fn seek_told(&mut self, to: SeekFrom) -> io::Result<u64> {
+    fn seek_told(&mut self, to: SeekFrom) -> io::Result<u64>
+        ensures told { SeekTells None None to result }
+        ensures counts { ◌≡◌ {A = Option ℕ} None None }
+        ensures seeks { SeekMoves (reader_position R.stream_position self.old) (reader_position R.stream_position self.new)
+            (R.stream_bytes (reader_inner self.old)) to result }
+    {
         match to {
             SeekFrom::Start(target) => seek_kept(self, target),
             SeekFrom::Current(0) => self.stream_position(),
@@ -91,7 +104,10 @@ impl<R: Read + Seek + Drop> Told for BufReader<R> {
 }
 
 // Goes to a place, and keeps the buffer where the place lies within it.
-fn seek_kept<R: Read + Seek>(reader: &mut BufReader<R>, target: u64) -> io::Result<u64> {
+fn seek_kept<R: Read + Seek>(reader: &mut BufReader<R>, target: u64) -> io::Result<u64>
+    ensures { SeekMoves (reader_position R.stream_position reader.old) (reader_position R.stream_position reader.new)
+        (R.stream_bytes (reader_inner reader.old)) (SeekFrom.Start target) result }
+{
     let place = reader.stream_position()?;
     match distance(place, target) {
         Some(offset) => {
@@ -103,8 +119,13 @@ fn seek_kept<R: Read + Seek>(reader: &mut BufReader<R>, target: u64) -> io::Resu
 }
 
 // How far one place is from another, where that is known to fit.
-fn distance(from: u64, to: u64) -> Option<i64> {
+fn distance(from: u64, to: u64) -> Option<i64>
+    ensures { IfSome result (λ offset. IsAtOffset from offset to) }
+{
     let from = i64::try_from(from).ok()?;
     let to = i64::try_from(to).ok()?;
     to.checked_sub(from)
 }
+
+#[cfg(test)]
+mod tests;

@@ -1,6 +1,7 @@
 //! ATC textures, by GL_AMD_compressed_ATC_texture, in PKM files and in DDS files.
-ghost use Rattle.std.specs.Prelude.{◌≡◌, ◌≤◌, length, drop};
+ghost use Rattle.std.specs.Prelude.{◌≡◌, ◌≤◌, length, drop, codes};
 ghost use Rattle.imagesize.specs.Atc.{atc, atc_bare, atc_compression, atc_data_types, atc_in_dds, is_atc};
+ghost use Rattle.imagesize.specs.Head.{begins};
 ghost use Rattle.imagesize.specs.Table.{look_up};
 ghost use Rattle.imagesize_source.specs.Numbers.{number};
 ghost use Rattle.imagesize_source.specs.declared.util.Endian.TheVariants as endian;
@@ -29,9 +30,8 @@ fn is_atc(header: &[u8]) -> bool
     ensures { result ≡ is_atc header.now }
 {
     pkm::is_pkm(header)
-        && (header[6..].starts_with(&[0x8C, 0x92])
-            || header[6..].starts_with(&[0x8C, 0x93])
-            || header[6..].starts_with(&[0x87, 0xEE]))
+        && (matches!(header, [_, _, _, _, _, _, 0x8C, 0x92 | 0x93, ..])
+            || matches!(header, [_, _, _, _, _, _, 0x87, 0xEE, ..]))
 }
 
 /// How the pixels are stored, by the data type where it is there.
@@ -76,7 +76,7 @@ pub fn size<S: Source>(source: &mut S) -> ImageResult<ImageSize>
         (over (S.state source.old).held.input atc) }
 {
     let tag = read_bytes::<S, 4>(source, 0)?;
-    if tag.starts_with(b"DDS ") {
+    if is_dds_tag(&tag) {
         return size_in_dds(source);
     }
     let header = read_bytes::<S, 8>(source, 0)?;
@@ -106,4 +106,12 @@ fn bare_size<S: Source>(source: &mut S) -> ImageResult<ImageSize>
     let height = read_u32(source, 4, Endian::Little)? as usize;
     let width = read_u32(source, 8, Endian::Little)? as usize;
     Ok(ImageSize { width, height })
+}
+
+// Whether this is the tag of a DDS file.
+#[inline]
+fn is_dds_tag(tag: &[u8; 4]) -> bool
+    ensures { result ≡ begins (codes "DDS ") tag.now }
+{
+    matches!(tag, [b'D', b'D', b'S', b' '])
 }

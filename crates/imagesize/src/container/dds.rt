@@ -18,7 +18,7 @@ use imagesize_source::util::{Endian, read_if_there, read_u32};
 pub fn matches(head: &[u8; 12]) -> bool
     ensures { result ≡ is_dds head.now }
 {
-    head.starts_with(b"DDS ")
+    matches!(head, [b'D', b'D', b'S', b' ', ..])
 }
 
 /// How the pixels are stored, by the four-character code where it is there.

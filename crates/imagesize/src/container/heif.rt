@@ -17,7 +17,7 @@ use imagesize_source::util::read_if_there;
 pub fn matches(head: &[u8; 12]) -> bool
     ensures { result ≡ is_heif head.now }
 {
-    head[4..].starts_with(b"ftyp")
+    matches!(head, [_, _, _, _, b'f', b't', b'y', b'p', ..])
 }
 
 /// How the pixels are stored, by the major brand, or by the compatible brands where that is general.

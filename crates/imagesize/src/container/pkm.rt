@@ -33,7 +33,7 @@ pub fn matches_eac(head: &[u8; 12]) -> bool
 pub fn is_pkm(header: &[u8]) -> bool
     ensures { result ≡ is_pkm header.now }
 {
-    header.starts_with(b"PKM 10") || header.starts_with(b"PKM 20")
+    matches!(header, [b'P', b'K', b'M', b' ', b'1' | b'2', b'0', ..])
 }
 
 /// How the pixels are stored, by the data type where it is there.

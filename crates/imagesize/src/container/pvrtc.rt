@@ -17,7 +17,7 @@ use imagesize_source::util::{Endian, read_bytes, read_if_there, read_u32};
 pub fn matches(head: &[u8; 12]) -> bool
     ensures { result ≡ is_pvrtc head.now }
 {
-    head.starts_with(&[52, 0, 0, 0]) || is_version_3(head)
+    matches!(head, [52, 0, 0, 0, ..]) || is_version_3(head)
 }
 
 #[inline]
@@ -25,7 +25,7 @@ pub fn matches(head: &[u8; 12]) -> bool
 fn is_version_3(header: &[u8]) -> bool
     ensures { result ≡ is_pvr3 header.now }
 {
-    header.starts_with(b"PVR\x03")
+    matches!(header, [b'P', b'V', b'R', 3, ..])
 }
 
 /// How the pixels are stored, which the newer header tells.

@@ -15,7 +15,7 @@ use imagesize_source::util::{Endian, read_u16};
 pub fn matches(head: &[u8; 12]) -> bool
     ensures { result ≡ is_aseprite head.now }
 {
-    head[4..].starts_with(&[0xE0, 0xA5])
+    matches!(head, [_, _, _, _, 0xE0, 0xA5, ..])
 }
 
 /// The width and the height of the sprite.

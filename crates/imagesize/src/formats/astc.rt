@@ -15,7 +15,7 @@ use imagesize_source::util::{Endian, read_u24};
 pub fn matches(head: &[u8; 12]) -> bool
     ensures { result ≡ is_astc head.now }
 {
-    head.starts_with(&[0x13, 0xAB, 0xA1, 0x5C]) || head.starts_with(&[0x13, 0xAB, 0xA0, 0x5C])
+    matches!(head, [0x13, 0xAB, 0xA1 | 0xA0, 0x5C, ..])
 }
 
 /// The first two of the three dimensions.

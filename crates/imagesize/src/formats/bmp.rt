@@ -15,7 +15,7 @@ use imagesize_source::util::{Endian, read_u32};
 pub fn matches(head: &[u8; 12]) -> bool
     ensures { result ≡ is_bmp head.now }
 {
-    head.starts_with(b"BM")
+    matches!(head, [b'B', b'M', ..])
 }
 
 /// The width and the height, which is read as a number without a sign.

@@ -8,5 +8,5 @@ ghost use Rattle.imagesize.specs.Exr.{is_exr};
 pub fn matches(head: &[u8; 12]) -> bool
     ensures { result ≡ is_exr head.now }
 {
-    head.starts_with(&[0x76, 0x2F, 0x31, 0x01])
+    matches!(head, [0x76, 0x2F, 0x31, 0x01, ..])
 }

@@ -15,7 +15,7 @@ use imagesize_source::util::{Endian, read_u32};
 pub fn matches(head: &[u8; 12]) -> bool
     ensures { result ≡ is_farbfeld head.now }
 {
-    head.starts_with(b"farbfeld")
+    matches!(head, [b'f', b'a', b'r', b'b', b'f', b'e', b'l', b'd', ..])
 }
 
 /// The width and the height.

@@ -15,7 +15,7 @@ use imagesize_source::util::{Endian, read_u16};
 pub fn matches(head: &[u8; 12]) -> bool
     ensures { result ≡ is_gif head.now }
 {
-    head.starts_with(b"GIF8")
+    matches!(head, [b'G', b'I', b'F', b'8', ..])
 }
 
 /// The width and the height of the logical screen.

@@ -8,5 +8,21 @@ ghost use Rattle.imagesize.specs.Hdr.{is_hdr};
 pub fn matches(head: &[u8; 12]) -> bool
     ensures { result ≡ is_hdr head.now }
 {
-    head.starts_with(b"#?RADIANCE\n") || head.starts_with(b"#?RGBE\n")
+    matches!(
+        head,
+        [
+            b'#',
+            b'?',
+            b'R',
+            b'A',
+            b'D',
+            b'I',
+            b'A',
+            b'N',
+            b'C',
+            b'E',
+            b'\n',
+            ..
+        ]
+    ) || matches!(head, [b'#', b'?', b'R', b'G', b'B', b'E', b'\n', ..])
 }

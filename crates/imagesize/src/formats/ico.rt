@@ -8,5 +8,5 @@ ghost use Rattle.imagesize.specs.Ico.{is_ico};
 pub fn matches(head: &[u8; 12]) -> bool
     ensures { result ≡ is_ico head.now }
 {
-    head.starts_with(&[0, 0, 1, 0])
+    matches!(head, [0, 0, 1, 0, ..])
 }

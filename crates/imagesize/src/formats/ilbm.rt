@@ -8,5 +8,7 @@ ghost use Rattle.imagesize.specs.Ilbm.{is_ilbm};
 pub fn matches(head: &[u8; 12]) -> bool
     ensures { result ≡ is_ilbm head.now }
 {
-    head.starts_with(b"FORM") && (head[8..].starts_with(b"ILBM") || head[8..].starts_with(b"PBM "))
+    matches!(head, [b'F', b'O', b'R', b'M', ..])
+        && (matches!(head, [_, _, _, _, _, _, _, _, b'I', b'L', b'B', b'M', ..])
+            || matches!(head, [_, _, _, _, _, _, _, _, b'P', b'B', b'M', b' ', ..]))
 }

@@ -8,5 +8,5 @@ ghost use Rattle.imagesize.specs.Jpeg.{is_jpeg};
 pub fn matches(head: &[u8; 12]) -> bool
     ensures { result ≡ is_jpeg head.now }
 {
-    head.starts_with(&[0xFF, 0xD8, 0xFF])
+    matches!(head, [0xFF, 0xD8, 0xFF, ..])
 }

@@ -8,5 +8,11 @@ ghost use Rattle.imagesize.specs.Jxl.{is_jxl};
 pub fn matches(head: &[u8; 12]) -> bool
     ensures { result ≡ is_jxl head.now }
 {
-    head.starts_with(&[0xFF, 0x0A]) || head.starts_with(b"\0\0\0\x0CJXL \r\n\x87\n")
+    matches!(head, [0xFF, 0x0A, ..])
+        || matches!(
+            head,
+            [
+                0, 0, 0, 0x0C, b'J', b'X', b'L', b' ', 0x0D, 0x0A, 0x87, 0x0A
+            ]
+        )
 }

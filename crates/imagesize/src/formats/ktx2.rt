@@ -15,9 +15,12 @@ use imagesize_source::util::{Endian, read_u32};
 pub fn matches(head: &[u8; 12]) -> bool
     ensures { result ≡ is_ktx2 head.now }
 {
-    head.starts_with(&[
-        0xAB, 0x4B, 0x54, 0x58, 0x20, 0x32, 0x30, 0xBB, 0x0D, 0x0A, 0x1A, 0x0A,
-    ])
+    matches!(
+        head,
+        [
+            0xAB, 0x4B, 0x54, 0x58, 0x20, 0x32, 0x30, 0xBB, 0x0D, 0x0A, 0x1A, 0x0A
+        ]
+    )
 }
 
 /// The width and the height of the texture at its first level.

@@ -8,5 +8,5 @@ ghost use Rattle.imagesize.specs.Pnm.{is_pnm};
 pub fn matches(head: &[u8; 12]) -> bool
     ensures { result ≡ is_pnm head.now }
 {
-    head.starts_with(b"P") && head[1] >= b'1' && head[1] <= b'6'
+    matches!(head, [b'P', b'1'..=b'6', ..])
 }

@@ -15,7 +15,7 @@ use imagesize_source::util::{Endian, read_u32};
 pub fn matches(head: &[u8; 12]) -> bool
     ensures { result ≡ is_psd head.now }
 {
-    head.starts_with(b"8BPS")
+    matches!(head, [b'8', b'B', b'P', b'S', ..])
 }
 
 /// The height and the width.

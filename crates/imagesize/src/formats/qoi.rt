@@ -15,7 +15,7 @@ use imagesize_source::util::{Endian, read_u32};
 pub fn matches(head: &[u8; 12]) -> bool
     ensures { result ≡ is_qoi head.now }
 {
-    head.starts_with(b"qoif")
+    matches!(head, [b'q', b'o', b'i', b'f', ..])
 }
 
 /// The width and the height.

@@ -8,8 +8,8 @@ ghost use Rattle.imagesize.specs.Tiff.{is_tiff};
 pub fn matches(head: &[u8; 12]) -> bool
     ensures { result ≡ is_tiff head.now }
 {
-    head.starts_with(b"II\x2A\0")
-        || head.starts_with(b"II\x2B\0")
-        || head.starts_with(b"MM\0\x2A")
-        || head.starts_with(b"MM\0\x2B")
+    matches!(
+        head,
+        [b'I', b'I', 42 | 43, 0, ..] | [b'M', b'M', 0, 42 | 43, ..]
+    )
 }

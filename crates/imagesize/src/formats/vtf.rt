@@ -15,7 +15,7 @@ use imagesize_source::util::{Endian, read_u16};
 pub fn matches(head: &[u8; 12]) -> bool
     ensures { result ≡ is_vtf head.now }
 {
-    head.starts_with(b"VTF\0")
+    matches!(head, [b'V', b'T', b'F', 0, ..])
 }
 
 /// The width and the height of the largest mipmap.

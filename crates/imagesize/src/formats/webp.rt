@@ -15,7 +15,10 @@ use imagesize_source::util::{Endian, read_bytes, read_u16, read_u24, read_u32};
 pub fn matches(head: &[u8; 12]) -> bool
     ensures { result ≡ is_webp head.now }
 {
-    head.starts_with(b"RIFF") && head[8..].starts_with(b"WEBP")
+    matches!(
+        head,
+        [b'R', b'I', b'F', b'F', _, _, _, _, b'W', b'E', b'B', b'P']
+    )
 }
 
 /// The width and the height of the canvas, or of the one image.
