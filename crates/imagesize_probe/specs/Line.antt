@@ -1,0 +1,46 @@
+-- The line that is printed of an image.
+use Rattle.std.specs.Prelude.{◌≡◌, ℕ, Bool, true, false, List, ◌++◌, ◌⊎◌, Option, None, Some, Result, Ok, Err, IsOk, IsErr, IsSomeAnd, codes, decimal, option_map}
+use Rattle.std.specs.Result.{result_ok}
+use Rattle.std.specs.Io.KnownBytes.{Appends}
+use Rattle.imagesize.specs.Meaning.{kind_of, meaning}
+use Rattle.imagesize.specs.declared.types.ImageSize.{ImageSize}
+use Rattle.imagesize.specs.declared.types.ImageType.{ImageType}
+use Rattle.imagesize_probe.specs.Names.{type_text}
+use Rattle.imagesize_source.specs.Answers.{over_reader}
+use Rattle.imagesize_source.specs.Reason.{error_text}
+use Rattle.imagesize_source.specs.Telling.{Telling, IsHonest}
+use Rattle.imagesize_source.specs.declared.error.ImageError.{ImageError}
+
+-- a size as it is printed
+abbrev pub size_text : ImageSize → List ℕ
+size_text size = decimal size.width ++ (codes "x" ++ decimal size.height)
+
+-- the line of an image that was sized
+abbrev pub sized_line : List ℕ → ImageType → ImageSize → List ℕ
+sized_line name image size = name ++ (codes ": " ++ (type_text image ++ (codes " " ++ (size_text size ++ codes "\n"))))
+
+-- the line of an image that was refused
+abbrev pub refused_line : List ℕ → List ℕ → List ℕ
+refused_line name text = name ++ (codes ": error: " ++ (text ++ codes "\n"))
+
+-- The line of a name, a type and an answer. None is stated of a refusal whose text is not, nor of a size
+-- that stands beside no type.
+abbrev pub line : List ℕ → Option ImageType → Result ImageSize ImageError → Option (List ℕ)
+line name found (Ok size) = option_map (λ image. sized_line name image size) found
+line name found (Err e) = option_map (refused_line name) (error_text e)
+
+-- the line of a name and of the bytes of a reader, at its place
+abbrev pub line_of : List ℕ → Telling → Option (List ℕ)
+line_of name t = line name (result_ok (over_reader t kind_of).answer) (over_reader t meaning).answer
+
+-- What a writer got that held these bytes and holds those, where the answer is whether there is a size: the
+-- line of the layouts, but where a reader that can fail gave no size.
+pub record ReportsOf (t : Telling) (name : List ℕ) (old new : Option (List ℕ)) (sized : Bool) : Type 0 where
+  pub text : (t.can_fail ≡ false) ⊎ (sized ≡ true) → IsSomeAnd (line_of name t) (Appends old new)
+  pub size : sized ≡ true → IsOk (over_reader t meaning).answer
+  pub refusal : t.can_fail ≡ false → sized ≡ false → IsErr (over_reader t meaning).answer
+
+-- the same over an honest reader, or one that tells nothing
+abbrev pub Reports : Option Telling → List ℕ → Option (List ℕ) → Option (List ℕ) → Bool → Type 0
+Reports None name old new sized = Unit {0}
+Reports (Some t) name old new sized = IsHonest t → ReportsOf t name old new sized

@@ -1,0 +1,131 @@
+use super::report;
+use imagesize::{Stop, Told};
+use std::alloc::Global;
+use std::io::{self, Cursor, ErrorKind, SeekFrom, Write};
+use std::test::Fail;
+
+const GIF: [u8; 12] = *b"GIF89a\x64\0\x64\0\0\0";
+
+#[test]
+fn lines_of_sizes_name_type_and_kind(rt: HostRuntime) -> Result<(), Fail> {
+    for (name, bytes, line) in [
+        ("tiny.gif", GIF.as_slice(), "tiny.gif: Gif 100x100\n"),
+        (
+            "x.webp",
+            b"RIFF\0\0\0\0WEBPVP8 \0\0\0\0\0\0\0\0\0\0\x10\x40\x08\0",
+            "x.webp: Webp 16x8\n",
+        ),
+        (
+            "b.bmp",
+            b"BM\0\0\0\0\0\0\0\0\0\0\0\0\0\0\0\0\x02\0\0\0\xFE\xFF\xFF\xFF",
+            "b.bmp: Bmp 2x4294967294\n",
+        ),
+        (
+            "",
+            b"PKM 20\0\x01\0\x40\0\x40\0\x40\0\x40",
+            ": Etc2(Etc2) 64x64\n",
+        ),
+    ] {
+        let mut written = Vec::new(rt.alloc());
+        assert_eq!(rt; report(name, Cursor::new(bytes), &mut written)?, true);
+        assert_eq!(rt; written.as_slice(), line.as_bytes());
+    }
+    Ok(())
+}
+
+#[test]
+fn lines_of_refusals_say_why(rt: HostRuntime) -> Result<(), Fail> {
+    for (name, bytes, line) in [
+        (
+            "cut.gif",
+            b"GIF89a\x64\0\x64\0".as_slice(),
+            "cut.gif: error: failed to fill whole buffer\n",
+        ),
+        ("e", b"", "e: error: failed to fill whole buffer\n"),
+        (
+            "a.png",
+            b"\x89PNG\r\n\x1A\n\0\0\0\x0D",
+            "a.png: error: Could not decode image\n",
+        ),
+        (
+            "vp8z.webp",
+            b"RIFF\0\0\0\0WEBPVP8Z",
+            "vp8z.webp: error: Invalid VP8 Tag\n",
+        ),
+    ] {
+        let mut written = Vec::new(rt.alloc());
+        assert_eq!(rt; report(name, Cursor::new(bytes), &mut written)?, false);
+        assert_eq!(rt; written.as_slice(), line.as_bytes());
+    }
+    Ok(())
+}
+
+// A reader whose seeks fail.
+#[derive(Drop)]
+struct Unseekable;
+
+impl Told for Unseekable {
+    ghost use Rattle.std.specs.Prelude.{None};
+
+    ghost telling = { λ _. None };
+
+    ghost count = { λ _. None };
+
+    fn read_told(&mut self, _room: &mut [u8]) -> Result<usize, Stop> {
+        Ok(0)
+    }
+
+    fn seek_told(&mut self, _to: SeekFrom) -> io::Result<u64> {
+        Err(fault())
+    }
+}
+
+fn fault() -> io::Error {
+    io::Error::new(ErrorKind::NotSeekable, "the pipe has no places")
+}
+
+#[test]
+fn line_of_a_fault_has_its_text(rt: HostRuntime) -> Result<(), Fail> {
+    let alloc = rt.alloc();
+    let mut written = Vec::new(alloc);
+    assert_eq!(rt; report("pipe", Unseekable, &mut written)?, false);
+    let error = fault();
+    let line = format!(in alloc; "pipe: error: {error}\n")?;
+    assert_eq!(rt; written.as_slice(), line.as_bytes());
+    Ok(())
+}
+
+// A writer that takes so many bytes and then fails.
+#[derive(Drop)]
+struct Full {
+    left: usize,
+}
+
+impl Write for Full {
+    fn write(&mut self, buf: &[u8]) -> io::Result<usize> {
+        let count = buf.len().min(self.left);
+        if count == 0 {
+            return Err(io::Error::from(ErrorKind::StorageFull));
+        }
+        self.left -= count;
+        Ok(count)
+    }
+
+    fn flush(&mut self) -> io::Result<()> {
+        Ok(())
+    }
+}
+
+fn report_into(left: usize, bytes: &[u8]) -> io::Result<bool> {
+    report("a", Cursor::new(bytes), &mut Full { left })
+}
+
+#[test]
+fn fails_where_the_writer_does(rt: HostRuntime) {
+    for left in 0..15 {
+        let error = report_into(left, &GIF).expect_err(&rt, "a full writer");
+        assert_eq!(rt; error.kind(), ErrorKind::StorageFull);
+    }
+    assert!(rt; report_into(0, b"").is_err());
+    assert!(rt; matches!(report_into(15, &GIF), Ok(true)));
+}

@@ -1,0 +1,10 @@
+//! Worked inputs with their answers, and readers that cut, count, interrupt, fail and lie.
+#![tactic(auto)]
+
+#[cfg(test)]
+mod calls;
+pub mod readers;
+#[cfg(test)]
+mod rows;
+#[cfg(test)]
+mod strange;
