@@ -1,9 +1,11 @@
 //! Windows icons, by `ICONDIR` and `ICONDIRENTRY` of "Icons" (Win32).
-ghost use Rattle.std.specs.Prelude.{◌≡◌, Some, ok_or};
+ghost use Rattle.std.specs.Prelude.{◌≡◌, ◌+◌, ◌*◌, Some, ok_or};
 ghost use Rattle.imagesize.specs.Ico.{ico, icon_entries, icon_side, icon_size, is_ico};
 ghost use Rattle.imagesize.specs.Largest.{later_largest};
 ghost use Rattle.imagesize_source.specs.declared.error.ImageError.TheVariants as error;
 ghost use Rattle.imagesize_source.specs.Chain.{chain_at};
+ghost use Rattle.imagesize_source.specs.Layout.{if_there, over};
+ghost use Rattle.imagesize_source.specs.Layout.Layout.{«done»};
 ghost use Rattle.imagesize_source.specs.State.{Runs, Sound};
 
 use crate::types::ImageSize;
@@ -37,12 +39,21 @@ fn largest<S: Source>(source: &mut S, count: u16) -> ImageResult<ImageSize>
 {
     let mut best: Option<ImageSize> = None;
     for index in 0..count {
-        let Some(bytes) = read_if_there::<S, 2>(source, 6 + 16 * index as u64)? else {
+        let Some(bytes) = read_entry(source, index)? else {
             return answer(best);
         };
         best = Some(larger(best, icon_size(bytes)));
     }
     answer(best)
+}
+
+// The first two bytes of an entry, or none where the input ends before the second.
+#[inline]
+fn read_entry<S: Source>(source: &mut S, index: u16) -> ImageResult<Option<[u8; 2]>>
+    ensures { Runs (S.state source.old) (S.state source.new) result
+        (over (S.state source.old).held.input (if_there (6 + 16 * index) 2 done)) }
+{
+    read_if_there::<S, 2>(source, 6 + 16 * index as u64)
 }
 
 // What is answered at the end of the list.
