@@ -1,5 +1,5 @@
 -- ICO: how a walk along its entries goes, how many bytes they are read from, and what it sees of an input.
-use Rattle.std.proofs.Common.{◌≡◌, ◌≢◌, ℕ, ◌+◌, ◌*◌, ◌^◌, ◌<◌, ◌≤◌, max, min, Bool, true, false, cond, eqb, leb, List, [], ◌∷◌, ◌++◌, length, map, Option, Some, None, Result, Ok, Err, refl, sym, ap, ◌∙◌, subst, arith}
+use Rattle.std.proofs.Common.{◌≡◌, ◌≢◌, ℕ, ◌+◌, ◌*◌, ◌<◌, ◌≤◌, max, Bool, true, false, cond, eqb, leb, List, [], ◌∷◌, ◌++◌, length, map, Option, Some, None, Result, Ok, Err, refl, sym, ap, ◌∙◌, subst, arith}
 use Rattle.std.proofs.lemmas.Bool.Decides.{nat_tests}
 use Rattle.std.proofs.lemmas.List.{append-nil, length_push, map-append}
 use Rattle.std.proofs.lemmas.List.Elements.{filter-append}
@@ -7,7 +7,7 @@ use Rattle.std.proofs.lemmas.List.Sums.{fold-append}
 use Rattle.std.specs.Prelude.{filter, fold, ok_or}
 use Rattle.std.specs.List.{last_or}
 use Rattle.imagesize.specs.Ico.{ico, icon_entries, icon_entry, icon_answer, icon_size, begun_of, entries_begun}
-use Rattle.imagesize.specs.Largest.{greatest_area, largest_of, last_largest, area_if_some, later_largest}
+use Rattle.imagesize.specs.Largest.{greatest_area, last_largest, area_if_some, later_largest}
 use Rattle.imagesize.specs.Order.{area_of}
 use Rattle.imagesize.specs.declared.types.ImageSize.{ImageSize}
 use Rattle.imagesize_source.specs.declared.error.ImageError.{ImageError}
@@ -18,8 +18,8 @@ use Rattle.imagesize_source.specs.Chain.{Said, Decided, Next, Along, Advances, s
 use Rattle.imagesize_source.specs.Counts.{AtMost}
 use Rattle.imagesize_source.specs.Input.{span_of}
 use Rattle.imagesize_source.specs.Layout.{Layout, over, if_there, refuse, done, whole}
-use Rattle.imagesize_source.specs.Reading.{Reads, onward, number_at, number_read}
-use Rattle.imagesize_source.specs.State.{State, Runs, EndedBy, Sound, total}
+use Rattle.imagesize_source.specs.Reading.{onward, number_at, number_read}
+use Rattle.imagesize_source.specs.State.{State, Runs, Sound, total}
 use Rattle.imagesize_source.proofs.Advances.{Tells, Begins, advances, tells}
 use Rattle.imagesize_source.proofs.Ahead.{Ahead, chain_ahead}
 use Rattle.imagesize_source.proofs.ChainLaws.{local_chain, chain_cost, chain_induction}

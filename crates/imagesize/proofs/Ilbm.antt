@@ -1,5 +1,5 @@
 -- ILBM: how a walk along its chunks goes, how many bytes they are read from, and what it sees of an input.
-use Rattle.std.proofs.Common.{◌≡◌, ℕ, ◌+◌, ◌*◌, ◌^◌, ◌<◌, ◌≤◌, Bool, List, [], ◌∷◌, ◌++◌, length, Ok, Err, refl, arith}
+use Rattle.std.proofs.Common.{ℕ, ◌+◌, ◌*◌, ◌^◌, ◌<◌, ◌≤◌, List, length, Ok, Err, arith}
 use Rattle.imagesize.specs.Ilbm.{ilbm, ilbm_chunks, ilbm_chunk, ilbm_named, bitmap_header, chunk_bytes, chunk_length, is_bitmap_header, is_body}
 use Rattle.imagesize.specs.declared.types.ImageSize.{ImageSize}
 use Rattle.imagesize_source.specs.declared.error.ImageError.{ImageError}

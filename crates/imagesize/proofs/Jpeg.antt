@@ -1,5 +1,5 @@
 -- JPEG: how a walk along its segments goes, how many bytes they are read from, and what it sees of an input.
-use Rattle.std.proofs.Common.{zero-add, ◌≡◌, ℕ, ◌+◌, ◌-◌, ◌*◌, ◌^◌, ◌<◌, ◌≤◌, Bool, true, false, cond, eqb, List, [], ◌∷◌, ◌++◌, length, Result, Ok, Err, refl, sym, ap, ◌∙◌, subst, arith, slice_index}
+use Rattle.std.proofs.Common.{zero-add, ◌≡◌, ℕ, ◌+◌, ◌-◌, ◌*◌, ◌^◌, ◌<◌, ◌≤◌, Bool, cond, eqb, List, [], ◌∷◌, ◌++◌, length, Result, Ok, Err, refl, sym, ap, ◌∙◌, subst, arith, slice_index}
 use Rattle.std.proofs.lemmas.Bool.Decides.{nat_tests}
 use Rattle.std.proofs.lemmas.List.Sums.{sum_by-append}
 use Rattle.std.specs.Prelude.{count_by}
@@ -13,10 +13,10 @@ use Rattle.imagesize_source.specs.Counts.{AtMost}
 use Rattle.imagesize_source.specs.Extension.{Plain, Lasts}
 use Rattle.imagesize_source.specs.Input.{span_of}
 use Rattle.imagesize_source.specs.declared.util.Endian.TheVariants.{Big}
-use Rattle.imagesize_source.specs.Layout.{Layout, over, field, bytes, refuse, done}
+use Rattle.imagesize_source.specs.Layout.{Layout, over, refuse, done}
 use Rattle.imagesize_source.specs.Reading.{Reads, behind, bytes_at, number_at, end_of_input}
 use Rattle.imagesize_source.specs.State.{State, Runs, total}
-use Rattle.imagesize_source.proofs.Advances.{Tells, Begins, advances, tells}
+use Rattle.imagesize_source.proofs.Advances.{Tells, advances, tells}
 use Rattle.imagesize_source.proofs.Beyond.{bytes_beyond}
 use Rattle.imagesize_source.proofs.ChainLaws.{local_chain, lasts_chain, chain_cost, chain_within}
 use Rattle.imagesize_source.proofs.Count.{at_most, total-span_of}

@@ -1,5 +1,5 @@
 -- A size that is found by a walk is read from at most 64 bytes and 20 a record, its type included.
-use Rattle.std.proofs.Common.{◌≡◌, ℕ, ◌+◌, ◌*◌, ◌≤◌, Bool, true, false, List, Result, Ok, Err, refl, arith}
+use Rattle.std.proofs.Common.{◌≡◌, ℕ, ◌+◌, ◌*◌, ◌≤◌, true, List, Result, Ok, Err, arith}
 use Rattle.imagesize.specs.Counts.{cost}
 use Rattle.imagesize.specs.Meaning.{kind_of, size_of, meaning}
 use Rattle.imagesize.specs.Records.{is_walked, is_walked_as, records_of, records_by, records_begun}

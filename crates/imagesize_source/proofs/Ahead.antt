@@ -1,9 +1,9 @@
 -- Chains whose records read on, and never back, are read from at most the bytes before them.
-use Rattle.std.proofs.Common.{◌≡◌, ℕ, ◌+◌, ◌-◌, ◌≤◌, min, List, [], ◌∷◌, length, Result, Ok, Err, refl, arith}
+use Rattle.std.proofs.Common.{◌≡◌, ℕ, ◌+◌, ◌-◌, ◌≤◌, min, List, length, Result, Ok, Err, arith}
 use Rattle.imagesize_source.specs.declared.error.ImageError.{ImageError}
 use Rattle.imagesize_source.specs.declared.span.Span.{Span}
-use Rattle.imagesize_source.specs.Chain.{Said, Decided, Next, Chain, Along, start, next_record, chain_from, chain_at, Advances}
-use Rattle.imagesize_source.specs.Input.{part, span_at, span_of}
+use Rattle.imagesize_source.specs.Chain.{Said, Decided, Next, Chain, start, chain_at, Advances}
+use Rattle.imagesize_source.specs.Input.{part, span_of}
 use Rattle.imagesize_source.specs.Layout.{Layout, done, refuse, field, bytes, there, over}
 use Rattle.imagesize_source.specs.Reading.{Reads, onward, bytes_at, number_at}
 use Rattle.imagesize_source.specs.State.{total}

@@ -1,4 +1,4 @@
-use Rattle.std.proofs.Common.{ℕ, ◌+◌, ◌^◌, ◌≤◌, arith, rules}
+use Rattle.std.proofs.Common.{◌+◌, ◌^◌, ◌≤◌, arith, rules}
 use Rattle.imagesize.specs.Ilbm.{chunk_bytes}
 use Rattle.imagesize.proofs.Ilbm.{ilbm_start, ilbm_on, ilbm_stop, ilbm_out, ilbm_past}
 use Rattle.imagesize.proofs.formats.ilbm.size.Goals as goal

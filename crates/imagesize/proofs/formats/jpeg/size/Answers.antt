@@ -1,5 +1,5 @@
-use Rattle.std.proofs.Common.{ℕ, ◌+◌, ◌≤◌, ◌^◌, subst, sym, arith, rules}
-use Rattle.imagesize.proofs.Jpeg.{JpegWalks, jpeg_start, jpeg_on, jpeg_stop, jpeg_out, jpeg_past, depth_rises}
+use Rattle.std.proofs.Common.{◌+◌, arith, rules}
+use Rattle.imagesize.proofs.Jpeg.{jpeg_start, jpeg_on, jpeg_stop, jpeg_out, jpeg_past, depth_rises}
 use Rattle.imagesize.proofs.formats.jpeg.size.Goals as goal
 
 pub loop-size-init : goal.loop-size-init
