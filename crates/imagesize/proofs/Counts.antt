@@ -13,6 +13,9 @@ use Rattle.imagesize.specs.Vtf.{vtf}
 use Rattle.imagesize.specs.Dds.{dds, dds_compression, dds_compression_by}
 use Rattle.imagesize.specs.Heif.{heif_compression}
 use Rattle.imagesize.specs.Kind.{kind, kind_by, with_kind, tga_or_none, rows, first_row}
+use Rattle.imagesize.proofs.Ico.{ico_within}
+use Rattle.imagesize.proofs.Ilbm.{ilbm_within}
+use Rattle.imagesize.proofs.Jpeg.{jpeg_within}
 use Rattle.imagesize.specs.Meaning.{kind_of, size_of, meaning}
 use Rattle.imagesize.specs.Pkm.{pkm, pkm_compression}
 use Rattle.imagesize.specs.Pvrtc.{pvrtc, pvrtc_compression, pvrtc_compression_by}
@@ -83,7 +86,7 @@ kind_bytes Tga = 25
 kind_bytes _ = 0
 
 -- what the type is read from, by the type that is found
-abbrev kind_cost : ImageType → ℕ
+abbrev pub kind_cost : ImageType → ℕ
 kind_cost type = 12 + kind_bytes type
 
 with_costs : (place : ℕ) (head : List ℕ) (found : ImageType) → CostsBy kind_cost 37 12 (with_kind place head found)
@@ -108,7 +111,7 @@ kind_costs : (n place : ℕ) → CostsBy kind_cost 37 0 (kind n place)
 kind_costs n place = (omega arith, λ head. by_costs n place head (first_row rows head))
 
 -- the type is read from at most 37 bytes
-kind_at_most : (d : List ℕ) (place : ℕ) → total (kind_of d place).marks ≤ bound_of kind_cost 37 (kind_of d place).answer
+pub kind_at_most : (d : List ℕ) (place : ℕ) → total (kind_of d place).marks ≤ bound_of kind_cost 37 (kind_of d place).answer
 kind_at_most d place = omega (arith, costs kind_cost 37 0 d (kind (length d) place) (kind_costs (length d) place))
 
 cost_few : (r : Result ImageType ImageError) → bound_of kind_cost 37 r ≤ 37
@@ -187,9 +190,9 @@ pub size_at_most : (type : ImageType) (d : List ℕ) → total (size_of type d).
 size_at_most Exr d = omega arith
 size_at_most Hdr d = omega arith
 size_at_most (Heif _) d = omega arith
-size_at_most Ico d = omega arith
-size_at_most Ilbm d = omega arith
-size_at_most Jpeg d = omega arith
+size_at_most Ico d = omega (arith, ico_within d)
+size_at_most Ilbm d = omega (arith, ilbm_within d)
+size_at_most Jpeg d = omega (arith, jpeg_within d)
 size_at_most Jxl d = omega arith
 size_at_most Pnm d = omega arith
 size_at_most Tiff d = omega arith

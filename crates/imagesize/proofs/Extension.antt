@@ -1,5 +1,7 @@
 -- A size at fixed places stays, whatever bytes follow.
 use Rattle.std.proofs.Common.{◌≡◌, ℕ, Bool, true, false, cond, List, ◌++◌, length, Option, Some, None, Result, Ok, Err, IfOk, IsTrue, slice_index, refl, sym, ap, ◌∙◌, subst, rules}
+use Rattle.imagesize.proofs.Ilbm.{ilbm_lasts}
+use Rattle.imagesize.proofs.Jpeg.{jpeg_lasts}
 use Rattle.imagesize.specs.Counts.{lasts, lasts_as}
 use Rattle.imagesize.specs.Heif.{heif_compression}
 use Rattle.imagesize.specs.Kind.{kind_by, with_kind, tga_or_none, rows, first_row}
@@ -155,8 +157,8 @@ size_more Gif d x size stays is = more_answer d x gif size (search rules) is
 size_more Hdr d x size stays is = absurd cc
 size_more (Heif _) d x size stays is = absurd cc
 size_more Ico d x size stays is = absurd cc
-size_more Ilbm d x size stays is = absurd cc
-size_more Jpeg d x size stays is = absurd cc
+size_more Ilbm d x size stays is = ap (λ r. r.answer) (ilbm_lasts d x size is) ∙ is
+size_more Jpeg d x size stays is = ap (λ r. r.answer) (jpeg_lasts d x size is) ∙ is
 size_more Jxl d x size stays is = absurd cc
 size_more Ktx2 d x size stays is = more_answer d x ktx2 size (search rules) is
 size_more Pnm d x size stays is = absurd cc

@@ -1,5 +1,8 @@
 -- Type and size see an input by their marks alone.
 use Rattle.std.proofs.Common.{ℕ, refl}
+use Rattle.imagesize.proofs.Ico.{ico_local}
+use Rattle.imagesize.proofs.Ilbm.{ilbm_local}
+use Rattle.imagesize.proofs.Jpeg.{jpeg_local}
 use Rattle.imagesize.specs.Kind.{kind}
 use Rattle.imagesize.specs.Meaning.{kind_of, size_of, meaning}
 use Rattle.imagesize.specs.Aseprite.{aseprite}
@@ -40,9 +43,9 @@ local_size Farbfeld = local_layout farbfeld
 local_size Gif = local_layout gif
 local_size Hdr = λ d e agrees. refl
 local_size (Heif _) = λ d e agrees. refl
-local_size Ico = λ d e agrees. refl
-local_size Ilbm = λ d e agrees. refl
-local_size Jpeg = λ d e agrees. refl
+local_size Ico = ico_local
+local_size Ilbm = ilbm_local
+local_size Jpeg = jpeg_local
 local_size Jxl = λ d e agrees. refl
 local_size Ktx2 = local_layout ktx2
 local_size Pnm = λ d e agrees. refl

@@ -28,9 +28,12 @@ abbrev pub is_fixed_or_refused : Result ImageType ImageError → Bool
 is_fixed_or_refused (Ok type) = is_fixed type
 is_fixed_or_refused (Err _) = true
 
--- what bytes that follow keep: a size that stands at fixed places stays, but for TGA, whose footer stands at the end
+-- What bytes that follow keep: the size of a JPEG or an ILBM, and one that stands at fixed places, but for TGA,
+-- whose footer stands at the end.
 abbrev pub lasts : ImageType → Bool
 lasts Tga = false
+lasts Ilbm = true
+lasts Jpeg = true
 lasts type = is_fixed type
 
 abbrev pub lasts_as : Result ImageType ImageError → Bool

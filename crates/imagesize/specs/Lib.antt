@@ -16,6 +16,7 @@ pub mod Ilbm
 pub mod Jpeg
 pub mod Jxl
 pub mod Kind
+pub mod Largest
 pub mod Ktx2
 pub mod Meaning
 pub mod Order
@@ -26,6 +27,7 @@ pub mod Psd
 pub mod Pvrtc
 pub mod Qoi
 pub mod Queries
+pub mod Records
 pub mod Table
 pub mod Tga
 pub mod Tiff

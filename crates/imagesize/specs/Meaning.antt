@@ -7,6 +7,9 @@ use Rattle.imagesize.specs.Bmp.{bmp}
 use Rattle.imagesize.specs.Dds.{dds}
 use Rattle.imagesize.specs.Farbfeld.{farbfeld}
 use Rattle.imagesize.specs.Gif.{gif}
+use Rattle.imagesize.specs.Ico.{ico}
+use Rattle.imagesize.specs.Ilbm.{ilbm}
+use Rattle.imagesize.specs.Jpeg.{jpeg}
 use Rattle.imagesize.specs.Kind.{kind}
 use Rattle.imagesize.specs.Ktx2.{ktx2}
 use Rattle.imagesize.specs.Pkm.{pkm}
@@ -41,9 +44,9 @@ size_of Farbfeld d = over d farbfeld
 size_of Gif d = over d gif
 size_of Hdr d = refuses NotSupported
 size_of (Heif _) d = refuses NotSupported
-size_of Ico d = refuses NotSupported
-size_of Ilbm d = refuses NotSupported
-size_of Jpeg d = refuses NotSupported
+size_of Ico d = ico d
+size_of Ilbm d = ilbm d
+size_of Jpeg d = jpeg d
 size_of Jxl d = refuses NotSupported
 size_of Ktx2 d = over d ktx2
 size_of Pnm d = refuses NotSupported

@@ -1,5 +1,5 @@
 //! The calls: type and size of a slice's bytes, or of a reader's.
-ghost use Rattle.std.specs.Prelude.{◌≡◌, ℕ, ◌+◌, ◌≤◌, List, ◌++◌, IsTrue, IfOk, IfErr, IfSome, Some, Option, Ok, option_map};
+ghost use Rattle.std.specs.Prelude.{◌≡◌, ℕ, ◌+◌, ◌*◌, ◌≤◌, List, ◌++◌, IsTrue, IfOk, IfErr, IfSome, Some, Option, Ok, option_map};
 ghost use Rattle.imagesize_source.specs.Answers.{Answers, Counts};
 ghost use Rattle.imagesize_source.specs.Reading.{spent};
 ghost use Rattle.imagesize_source.specs.State.{Runs};
@@ -9,6 +9,7 @@ ghost use Rattle.imagesize_source.specs.Agreement.{Agrees};
 ghost use Rattle.imagesize.specs.Counts.{cost, is_fixed_or_refused, lasts_as};
 ghost use Rattle.imagesize.specs.Meaning.{kind_of, meaning, size_of};
 ghost use Rattle.imagesize.specs.Probed.{FindsKind, Probes};
+ghost use Rattle.imagesize.specs.Records.{is_walked_as, records_begun};
 
 use crate::formats::{detect, size};
 use crate::types::{ImageSize, ImageType};
@@ -51,7 +52,10 @@ pub fn blob_size(data: &[u8]) -> ImageResult<ImageSize>
     // A size at fixed places, and a refused type, are read from at most 41 bytes.
     ensures cost { IsTrue (is_fixed_or_refused (kind_of «data».now 0).answer) → cost «data».now 0 ≤ 41 }
 
-    // Bytes that follow change no size at fixed places, but for TGA.
+    // A size behind records is read from at most 64 bytes, and 20 for each record that is begun.
+    ensures walked { IsTrue (is_walked_as (kind_of «data».now 0).answer) → cost «data».now 0 ≤ 64 + 20 * records_begun «data».now 0 }
+
+    // Bytes that follow change no size of a JPEG or an ILBM, and none at fixed places, but for TGA.
     ensures lasts { IsTrue (lasts_as (kind_of «data».now 0).answer) → IfOk result (λ size.
         (x : List ℕ) → (meaning («data».now ++ x) 0).answer ≡ Ok size) }
 {

@@ -124,6 +124,9 @@ pub(crate) fn size<S: Source>(source: &mut S, kind: ImageType) -> ImageResult<Im
         ImageType::Eac(_) | ImageType::Etc2(_) => pkm::size(source),
         ImageType::Farbfeld => farbfeld::size(source),
         ImageType::Gif => gif::size(source),
+        ImageType::Ico => ico::size(source),
+        ImageType::Ilbm => ilbm::size(source),
+        ImageType::Jpeg => jpeg::size(source),
         ImageType::Ktx2 => ktx2::size(source),
         ImageType::Pvrtc(_) => pvrtc::size(source),
         ImageType::Psd => psd::size(source),
@@ -134,9 +137,6 @@ pub(crate) fn size<S: Source>(source: &mut S, kind: ImageType) -> ImageResult<Im
         ImageType::Exr
         | ImageType::Hdr
         | ImageType::Heif(_)
-        | ImageType::Ico
-        | ImageType::Ilbm
-        | ImageType::Jpeg
         | ImageType::Jxl
         | ImageType::Pnm
         | ImageType::Tiff => unsupported(source),

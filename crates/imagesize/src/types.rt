@@ -195,7 +195,7 @@ pub struct ImageSize {
 
 impl ImageSize {
     // The count of pixels, which 64 bits need not hold.
-    fn area(&self) -> u128
+    pub(crate) fn area(&self) -> u128
         ensures { result ≡ area_of self.now }
     {
         self.width as u128 * self.height as u128

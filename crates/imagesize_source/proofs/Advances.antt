@@ -31,7 +31,7 @@ onward_tells : {C X Y : Type 0} (P : Type 0) (spans : List Span) (r : Result Y I
 onward_tells P spans (Ok y) f s is each = each y refl is
 onward_tells P spans (Err e) f s is each = absurd cc
 
-tells : {C X : Type 0} (P : ℕ → Type 0) (d : List ℕ) (t : Layout (Said C X)) (v : C) (q : ℕ) → Tells P t → (over d t).answer ≡ Ok (Next v q) → P q
+pub tells : {C X : Type 0} (P : ℕ → Type 0) (d : List ℕ) (t : Layout (Said C X)) (v : C) (q : ℕ) → Tells P t → (over d t).answer ≡ Ok (Next v q) → P q
 tells P d (done (Decided x)) v q h is = absurd cc
 tells P d (done (Next w place)) v q h is = let same : place ≡ q = cc in subst P same h
 tells P d (refuse e) v q h is = absurd cc

@@ -20,7 +20,7 @@ total_unless true place n h = sym (h refl)
 total_unless false place n h = add-zero n
 
 -- a span has no more bytes than were asked for
-total-span_at : (place n : ℕ) → total (span_at place n) ≡ n
+pub total-span_at : (place n : ℕ) → total (span_at place n) ≡ n
 unfolding span_at
 total-span_at place n = total_unless (eqb n 0) place n (λ h. grind (arith, nat_tests))
 

@@ -53,7 +53,7 @@ whole_missing {a} {b} d room place k n h long short =
     refl refl tt
 
 -- readings that are others' where the source is honest
-runs_as : {X : Type 0} {a b : State} {r : Result X ImageError} {reads : Reads X} (other : Reads X) → Runs a b r reads → (a.held.honest ≡ true → reads ≡ other) → Runs a b r other
+pub runs_as : {X : Type 0} {a b : State} {r : Result X ImageError} {reads : Reads X} (other : Reads X) → Runs a b r reads → (a.held.honest ≡ true → reads ≡ other) → Runs a b r other
 runs_as {X} {a} {b} {r} other h same = record {
   sound = h.sound;
   sound_after = h.sound_after;

@@ -3,6 +3,7 @@ pub mod Runs
 pub mod Slices
 pub mod Numbers
 pub mod Filling
+pub mod Found
 pub mod Standings
 pub mod Windows
 pub mod Layouts
@@ -14,6 +15,7 @@ pub mod Chains
 pub mod Reached
 pub mod ChainLaws
 pub mod Advances
+pub mod Ahead
 pub mod Unrolled
 pub mod Tests
 pub mod Beyond

@@ -9,7 +9,7 @@ use Rattle.imagesize_source.specs.Agreement.{Agrees, Local, has_place, covered}
 use Rattle.imagesize_source.specs.Input.{part, span_at, span_of}
 use Rattle.imagesize_source.specs.Layout.{Layout, done, refuse, field, bytes, there, over}
 use Rattle.imagesize_source.specs.Numbers.{number}
-use Rattle.imagesize_source.specs.Reading.{Reads, onward, behind, and_then, bytes_at, number_at, seen}
+use Rattle.imagesize_source.specs.Reading.{Reads, onward, behind, and_then, bytes_at, number_at, number_read, seen}
 
 covered-left : (s t : List Span) (place : ℕ) → covered s place ≡ true → covered (s ++ t) place ≡ true
 covered-left [] t place h = absurd cc
@@ -110,3 +110,7 @@ local_length f each d e a = ap (λ n. f n e) a.as_long ∙ each (length d) d e a
 -- the same of layouts, as one equation
 pub local_by_length : {X : Type 0} (d e : List ℕ) (f : ℕ → Layout X) → Agrees d e (over d (f (length d))).marks → over e (f (length e)) ≡ over d (f (length d))
 local_by_length d e f a = local_length (λ n d. over d (f n)) (λ n. local_layout (f n)) d e a
+
+-- one number is local
+pub local_number : (order : Endian) (place k : ℕ) → Local (λ d. number_read d order place k)
+local_number order place k d e a = rw (same_span d e place k a.as_long, same_number d e order place k a) refl

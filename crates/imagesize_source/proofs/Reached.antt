@@ -1,14 +1,16 @@
 -- How far a run has come: what is left of its readings.
-use Rattle.std.proofs.Common.{◌≡◌, ℕ, ◌+◌, ◌^◌, ◌<◌, ◌≤◌, true, false, List, [], ◌∷◌, ◌++◌, length, Result, Ok, Err, refl, sym, ap, ◌∙◌, arith, IfErr}
+use Rattle.std.proofs.Common.{◌≡◌, ℕ, ◌+◌, ◌^◌, ◌<◌, ◌≤◌, true, false, List, [], ◌∷◌, ◌++◌, length, Result, Ok, Err, refl, sym, ap, ◌∙◌, subst, arith, IfErr}
 use Rattle.std.proofs.lemmas.List.{append-nil}
 use Rattle.imagesize_source.specs.declared.error.ImageError.{ImageError}
 use Rattle.imagesize_source.specs.declared.span.Span.{Span}
 use Rattle.imagesize_source.specs.Chain.{Decided, Next, Chain, Along, next_record, chain_from, Advances}
+use Rattle.imagesize_source.specs.Layout.{Layout, over, bind}
 use Rattle.imagesize_source.specs.Reading.{Reads, and_then, onward, behind, gives, stopped, faulted}
 use Rattle.imagesize_source.specs.State.{State, Runs, EndedBy, Sound, total, past}
 use Rattle.imagesize_source.proofs.Chains.{chain_unfolds, follows}
 use Rattle.imagesize_source.proofs.Onward.{behind-behind}
-use Rattle.imagesize_source.proofs.Runs.{past-past, past-held, total-append}
+use Rattle.imagesize_source.proofs.Layouts.{over-bind}
+use Rattle.imagesize_source.proofs.Runs.{past-past, past-held, total-append, runs_then, runs_refused}
 
 -- From a on a run was to make the readings `whole`, and has made some of them; what is left from b on is `rest`.
 pub record Reached {X : Type 0} (a b : State) (whole rest : Reads X) : Type 0 where
@@ -164,3 +166,13 @@ module _ {C X : Type 0} (c : Chain C X) (adv : (d : List ℕ) → Advances c d) 
   -- or by one that is refused
   pub walk_out : {end : State} (e : ImageError) → Runs b end (Err e) (next_record c b.held.input t) → Runs a end (Err e) whole
   walk_out e run = reached_out (next_record c a.held.input t) (follows c a.held.input t.held) unfolded e (next_record c b.held.input t) run read
+
+-- a layout that was read, and what goes on from its answer and reads nothing
+pub runs_bind : {X Y : Type 0} {a b : State} {x : X} (r : Result Y ImageError) (t : Layout X) (f : X → Layout Y) → Runs a b (Ok x) (over a.held.input t) → ((d : List ℕ) → over d (f x) ≡ record { answer = r; marks = [] }) → faulted r ≡ false → IfErr r (EndedBy b) → Runs a b r (over a.held.input (bind t f))
+runs_bind {X} {Y} {a} {b} {x} r t f first says no_fault ended =
+    let second : Runs b b r (over b.held.input (f x)) = subst (λ w. Runs b b r w) (sym (says b.held.input)) (reads_nothing b r first.sound_after no_fault ended) in
+    subst (λ w. Runs a b r w) (sym (over-bind a.held.input t f)) (runs_then (over a.held.input t) (λ v held. over held.input (f v)) first second)
+
+-- a layout that was refused
+pub refused_bind : {X Y : Type 0} {a b : State} {e : ImageError} (t : Layout X) (f : X → Layout Y) → Runs {X = X} a b (Err e) (over a.held.input t) → Runs {X = Y} a b (Err e) (over a.held.input (bind t f))
+refused_bind {X} {Y} {a} {b} {e} t f h = subst (λ w. Runs {X = Y} a b (Err e) w) (sym (over-bind a.held.input t f)) (runs_refused (over a.held.input t) (λ v. over a.held.input (f v)) h)

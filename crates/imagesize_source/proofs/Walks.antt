@@ -1,10 +1,10 @@
 -- A walk along a chain, as a loop keeps it: behind records that are not named, of which something is known.
-use Rattle.std.proofs.Common.{◌≡◌, ℕ, ◌^◌, ◌<◌, ◌≤◌, List, [], ◌∷◌, ◌++◌, length, Ok, Err, refl, ap, ◌∙◌, arith}
+use Rattle.std.proofs.Common.{◌≡◌, ℕ, ◌^◌, ◌<◌, ◌≤◌, List, [], ◌∷◌, ◌++◌, length, Some, Result, Ok, Err, IfErr, false, refl, ap, ◌∙◌, arith}
 use Rattle.imagesize_source.specs.declared.error.ImageError.{ImageError}
 use Rattle.imagesize_source.specs.Chain.{Decided, Next, Chain, verdict, chain_from, chain_at, Advances}
 use Rattle.imagesize_source.specs.Layout.{over}
-use Rattle.imagesize_source.specs.Reading.{refuses, end_of_input}
-use Rattle.imagesize_source.specs.State.{State, Runs, Sound}
+use Rattle.imagesize_source.specs.Reading.{refuses, faulted, end_of_input}
+use Rattle.imagesize_source.specs.State.{State, Runs, EndedBy, Sound}
 use Rattle.imagesize_source.proofs.Chains.{chain_stop}
 use Rattle.imagesize_source.proofs.Reached.{Reached, reached_start, reached_now, walk_on, walk_stop, walk_out}
 
@@ -44,3 +44,10 @@ module _ {C X : Type 0} (c : Chain C X) (adv : (d : List ℕ) → Advances c d) 
       (λ honest short.
       let out = none w.held a.held.input w.known (omega arith) in
       chain_stop c a.held.input (record { held = w.held; place = place }) (Err end_of_input) (ap (λ r. verdict r.answer) out) ∙ ap (λ r. record { answer = Err end_of_input; marks = r.marks }) out)
+
+  -- or where nothing more is read, and the record at this place has its verdict
+  pub walks_now : (r : Result X ImageError) → Sound b → faulted r ≡ false → IfErr r (EndedBy b) → ((held : List C) (d : List ℕ) → P held → (verdict (over d (c.said held place)).answer ≡ Some r) × ((over d (c.said held place)).marks ≡ [])) → Runs a b r (chain_at c a.held.input)
+  walks_now r sound no_fault ended says = reached_now w.reached r sound no_fault ended
+      (λ honest short.
+      let at = says w.held a.held.input w.known in
+      chain_stop c a.held.input (record { held = w.held; place = place }) r at.0 ∙ ap (λ marks. record { answer = r; marks = marks }) at.1)

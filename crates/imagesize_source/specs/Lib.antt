@@ -6,6 +6,7 @@ pub mod Extension
 pub mod Input
 pub mod Layout
 pub mod Numbers
+pub mod Paying
 pub mod ReaderState
 pub mod Reading
 pub mod Reason

@@ -1,5 +1,6 @@
 //! A source: the bytes of an input, read by place.
-ghost use Rattle.std.specs.Prelude.{◌≡◌, ◌<◌, ◌≤◌, max, take, length, IfOk};
+ghost use Rattle.std.specs.Prelude.{◌≡◌, ◌<◌, ◌≤◌, take, length, IfOk};
+ghost use Rattle.imagesize_source.specs.Paying.{Paid};
 ghost use Rattle.imagesize_source.specs.Reading.{seen, part_read};
 ghost use Rattle.imagesize_source.specs.State.{State, Runs, Sound};
 
@@ -29,7 +30,7 @@ pub trait Source {
         ensures bound { IfOk result (λ n. n ≤ length room.new) }
 
         // Above the told length and the bytes held, what comes is paid for.
-        ensures pays { IfOk result (λ n. 0 < n → max (state self.old).frame.told 32 < place → (state self.old).taken < (state self.new).taken) }
+        ensures pays { IfOk result (λ n. 0 < n → Paid (state self.old) (state self.new) place) }
         ensures runs { Runs (state self.old) (state self.new) (seen (λ n. take n room.new) result)
             (part_read (state self.old).held.input place (length room.new)) };
 }

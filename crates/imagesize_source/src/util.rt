@@ -1,6 +1,7 @@
 //! Bytes and numbers of both byte orders.
-ghost use Rattle.std.specs.Prelude.{◌≤◌, take, IfOk};
-ghost use Rattle.imagesize_source.specs.Reading.{bytes_read, number_read, part_read, seen};
+ghost use Rattle.std.specs.Prelude.{◌≡◌, ◌+◌, ◌^◌, ◌<◌, ◌≤◌, take, IfOk, IfErr};
+ghost use Rattle.imagesize_source.specs.Paying.{Paid};
+ghost use Rattle.imagesize_source.specs.Reading.{bytes_read, end_of_input, number_read, part_read, seen};
 ghost use Rattle.imagesize_source.specs.Layout.{Layout, over, if_there};
 ghost use Rattle.imagesize_source.specs.Layout.Layout.{«done»};
 ghost use Rattle.imagesize_source.specs.State.{Runs};
@@ -19,7 +20,8 @@ pub enum Endian {
 
 /// The `N` bytes from a place on.
 pub fn read_bytes<S: Source, const N: usize>(source: &mut S, place: u64) -> ImageResult<[u8; N]>
-    ensures { Runs (S.state source.old) (S.state source.new) result (bytes_read (S.state source.old).held.input place N) }
+    ensures pays { IfOk result (λ bytes. 0 < N → Paid (S.state source.old) (S.state source.new) place) }
+    ensures runs { Runs (S.state source.old) (S.state source.new) result (bytes_read (S.state source.old).held.input place N) }
 {
     let mut room = [0u8; N];
     if source.read_at(place, &mut room)? < N {
@@ -76,6 +78,31 @@ pub fn read_u16<S: Source>(source: &mut S, place: u64, endian: Endian) -> ImageR
         Endian::Little => u16::from_le_bytes(bytes),
         Endian::Big => u16::from_be_bytes(bytes),
     })
+}
+
+/// The number of the two bytes that stand so far behind a place. A place above 2^64 - 1 is behind the end of
+/// every input.
+pub fn read_u16_behind<S: Source>(
+    source: &mut S,
+    place: u64,
+    distance: u64,
+    endian: Endian,
+) -> ImageResult<u16>
+    ensures { Runs (S.state source.old) (S.state source.new) result (number_read (S.state source.old).held.input endian (place + distance) 2) }
+{
+    read_u16(source, place.saturating_add(distance), endian)
+}
+
+/// The place so far behind another. One above 2^64 - 1 is behind the end of every input.
+#[inline]
+pub fn place_behind(place: u64, distance: u64) -> ImageResult<u64>
+    ensures next { IfOk result (λ next. (next ≡ place + distance) × (next < 2 ^ 64)) }
+    ensures beyond { IfErr result (λ e. (e ≡ end_of_input) × (2 ^ 64 ≤ place + distance)) }
+{
+    match place.checked_add(distance) {
+        Some(next) => Ok(next),
+        None => Err(ImageError::IoError(Reason::EndOfInput)),
+    }
 }
 
 /// The number of the three bytes from a place on.

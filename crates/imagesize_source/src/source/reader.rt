@@ -266,7 +266,7 @@ fn read_windowed<R: Told>(
     room: &mut [u8],
 ) -> ImageResult<usize>
     ensures bound { IfOk result (λ n. n ≤ length room.new) }
-    ensures pays { IfOk result (λ n. 0 < n → max progress.old.told 32 < place → progress.old.taken < progress.new.taken) }
+    ensures pays { IfOk result (λ n. 0 < n → max progress.old.told 32 < place → (progress.old.taken < progress.new.taken) × (progress.new.taken ≤ progress.old.budget)) }
     ensures runs { (home : ℕ) → Runs
         (reader_state (R.telling reader.old) (R.count reader.old) home progress.old window.old.items)
         (reader_state (R.telling reader.new) (R.count reader.new) home progress.new window.new.items)
