@@ -1,8 +1,25 @@
+ghost use Rattle.std.specs.Prelude.{◌≡◌, ◌++◌, IfOk, IsSomeAnd, is_ok};
+ghost use Rattle.std.specs.Result.{result_ok};
+ghost use Rattle.imagesize.specs.Meaning.{kind_of, meaning};
+ghost use Rattle.imagesize_probe.specs.Line.{line};
+
 use super::report;
 use imagesize::{Stop, Told};
 use std::alloc::Global;
 use std::io::{self, Cursor, ErrorKind, SeekFrom, Write};
 use std::test::Fail;
+
+// Reports on the bytes of a slice, from its first one on.
+fn report_bytes(name: &str, bytes: &[u8], written: &mut Vec<u8>) -> io::Result<bool>
+    ensures line { IfOk result (λ sized. IsSomeAnd
+        (line name.now (result_ok (kind_of bytes.now 0).answer) (meaning bytes.now 0).answer)
+        (λ text. written.new.items ≡ written.old.items ++ text)) }
+    ensures sized { IfOk result (λ sized. sized ≡ is_ok (meaning bytes.now 0).answer) }
+{
+    // The proof needs that the length is below 2^63.
+    let _length = bytes.len();
+    report(name, Cursor::new(bytes), written)
+}
 
 const GIF: [u8; 12] = *b"GIF89a\x64\0\x64\0\0\0";
 
@@ -27,7 +44,7 @@ fn lines_of_sizes_name_type_and_kind(rt: HostRuntime) -> Result<(), Fail> {
         ),
     ] {
         let mut written = Vec::new(rt.alloc());
-        assert_eq!(rt; report(name, Cursor::new(bytes), &mut written)?, true);
+        assert_eq!(rt; report_bytes(name, bytes, &mut written)?, true);
         assert_eq!(rt; written.as_slice(), line.as_bytes());
     }
     Ok(())
@@ -54,7 +71,7 @@ fn lines_of_refusals_say_why(rt: HostRuntime) -> Result<(), Fail> {
         ),
     ] {
         let mut written = Vec::new(rt.alloc());
-        assert_eq!(rt; report(name, Cursor::new(bytes), &mut written)?, false);
+        assert_eq!(rt; report_bytes(name, bytes, &mut written)?, false);
         assert_eq!(rt; written.as_slice(), line.as_bytes());
     }
     Ok(())
