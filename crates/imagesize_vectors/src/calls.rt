@@ -1,7 +1,7 @@
 //! What each call answers of the worked inputs.
 
 use crate::readers::OneByte;
-use crate::rows::{FIXED, GENERAL_HEIF, READ_AS, Row};
+use crate::rows::{GENERAL_HEIF, Row, read_as, rows};
 use imagesize::{
     Compression, ImageError, ImageResult, ImageSize, ImageType, Probed, blob_size, image_type,
     reader_probe, reader_size, reader_type,
@@ -11,14 +11,6 @@ use std::fmt::Display;
 use std::io::Cursor;
 use std::process::Abort;
 use std::test::Fail;
-
-// The bytes of an input in hex.
-pub fn bytes_of(alloc: Global, hex: &str) -> Result<Vec<u8>, Fail> {
-    match hex::decode(alloc, hex) {
-        Ok(bytes) => Ok(bytes),
-        Err(error) => Err(Fail::from(error)),
-    }
-}
 
 // Whether a size is the wanted one, or a refusal has the wanted text.
 fn is_answer(
@@ -52,15 +44,14 @@ fn is_probed(alloc: Global, row: &Row, probed: &Probed) -> Result<bool, AllocErr
 #[test]
 fn slices_have_the_worked_answers(rt: HostRuntime) -> Result<(), Fail> {
     let alloc = rt.alloc();
-    for row in &FIXED {
-        let bytes = bytes_of(alloc, row.hex)?;
+    for row in rows() {
         let shows = row.shows;
         assert!(rt;
-            is_type(alloc, row, &image_type(bytes.as_slice()))?,
+            is_type(alloc, row, &image_type(row.bytes))?,
             "{shows}"
         );
         assert!(rt;
-            is_answer(alloc, row, &blob_size(bytes.as_slice()))?,
+            is_answer(alloc, row, &blob_size(row.bytes))?,
             "{shows}"
         );
     }
@@ -70,10 +61,9 @@ fn slices_have_the_worked_answers(rt: HostRuntime) -> Result<(), Fail> {
 #[test]
 fn readers_have_the_worked_answers(rt: HostRuntime) -> Result<(), Fail> {
     let alloc = rt.alloc();
-    for row in &FIXED {
-        let bytes = bytes_of(alloc, row.hex)?;
+    for row in rows() {
         let shows = row.shows;
-        let cursor = || Cursor::new(bytes.as_slice());
+        let cursor = || Cursor::new(row.bytes);
         assert!(rt; is_type(alloc, row, &reader_type(cursor()))?, "{shows}");
         assert!(rt; is_answer(alloc, row, &reader_size(cursor()))?, "{shows}");
         assert!(rt;
@@ -87,11 +77,10 @@ fn readers_have_the_worked_answers(rt: HostRuntime) -> Result<(), Fail> {
 #[test]
 fn one_byte_a_read_changes_no_answer(rt: HostRuntime) -> Result<(), Fail> {
     let alloc = rt.alloc();
-    for row in &FIXED {
-        let bytes = bytes_of(alloc, row.hex)?;
+    for row in rows() {
         let shows = row.shows;
         let reader = || OneByte {
-            reader: Cursor::new(bytes.as_slice()),
+            reader: Cursor::new(row.bytes),
         };
         assert!(rt; is_type(alloc, row, &reader_type(reader()))?, "{shows}");
         assert!(rt; is_answer(alloc, row, &reader_size(reader()))?, "{shows}");
@@ -113,9 +102,8 @@ fn an_icon_with_the_footer_of_a_tga_is_an_icon(rt: HostRuntime) -> Result<(), Fa
 
 #[test]
 fn a_general_brand_asks_its_compatible_brands(rt: HostRuntime) -> Result<(), Fail> {
-    let bytes = bytes_of(rt.alloc(), GENERAL_HEIF)?;
     assert_eq!(rt;
-        image_type(bytes.as_slice())?,
+        image_type(GENERAL_HEIF)?,
         ImageType::Heif(Compression::Hevc)
     );
     Ok(())
@@ -140,11 +128,10 @@ fn places_of_a_size_count_from_the_first_byte(rt: HostRuntime) -> Result<(), Fai
 // A type reads a size, wherever the reader stands.
 fn check_size_as(rt: &(impl Abort + AllocGlobal), row: &Row) -> Result<(), Fail> {
     let alloc = rt.alloc();
-    let bytes = bytes_of(alloc, row.hex)?;
     let shows = row.shows;
     if let Some(kind) = row.kind {
         for place in [0, 4, 1000] {
-            let mut cursor = Cursor::new(bytes.as_slice());
+            let mut cursor = Cursor::new(row.bytes);
             cursor.set_position(place);
             assert!(rt;
                 is_answer(alloc, row, &kind.reader_size(&mut cursor))?,
@@ -162,10 +149,10 @@ fn check_size_as(rt: &(impl Abort + AllocGlobal), row: &Row) -> Result<(), Fail>
 
 #[test]
 fn a_type_reads_its_size_wherever_the_reader_stands(rt: HostRuntime) -> Result<(), Fail> {
-    for row in &FIXED {
+    for row in rows() {
         check_size_as(&rt, row)?;
     }
-    for row in &READ_AS {
+    for row in read_as() {
         check_size_as(&rt, row)?;
     }
     Ok(())

@@ -3,6 +3,8 @@
 
 #[cfg(test)]
 mod calls;
+#[cfg(test)]
+mod long;
 pub mod readers;
 #[cfg(test)]
 mod rows;

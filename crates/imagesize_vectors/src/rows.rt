@@ -7,8 +7,8 @@ use imagesize::{AtcCompression, DdsCompression, ImageType, PkmCompression, Pvrtc
 pub struct Row {
     /// What it shows.
     pub shows: &'static str,
-    /// Its bytes in hex.
-    pub hex: &'static str,
+    /// Its bytes.
+    pub bytes: &'static [u8],
     /// Its type, where it has one.
     pub kind: Option<ImageType>,
     /// Its width and height, or the text of its refusal.
@@ -16,193 +16,296 @@ pub struct Row {
 }
 
 /// A GIF of 100 by 100 pixels.
-pub const GIF: &str = "474946383961640064000000";
+pub const GIF: &[u8] = b"GIF89ad\0d\0\0\0";
 
 /// A TGA of 3 by 4 pixels.
-pub const TGA: &str = "000002000000000000000000030004001800";
+pub const TGA: &[u8] = b"\0\0\x02\0\0\0\0\0\0\0\0\0\x03\0\x04\0\x18\0";
 
 /// A WebP with loss, of 16 by 8 pixels.
-pub const LOSSY_WEBP: &str = "524946460000000057454250565038200000000000000000000010400800";
+pub const LOSSY_WEBP: &[u8] = b"RIFF\0\0\0\0WEBPVP8 \0\0\0\0\0\0\0\0\0\0\x10@\x08\0";
 
 /// A DDS of 7 by 5 pixels.
-pub const DDS: &str = "444453207c000000071000000500000007000000";
+pub const DDS: &[u8] = b"DDS |\0\0\0\x07\x10\0\0\x05\0\0\0\x07\0\0\0";
 
 /// A HEIF of a general brand that ends behind its compatible brands.
-pub const GENERAL_HEIF: &str = "00000018667479706d696631000000006d69663168656963";
+pub const GENERAL_HEIF: &[u8] = b"\0\0\0\x18ftypmif1\0\0\0\0mif1heic";
 
 /// A PVR of the newer version, of 7 by 5 pixels.
-pub const PVR: &str = "5056520300000000160000000000000000000000000000000500000007000000";
+pub const PVR: &[u8] = b"PVR\x03\0\0\0\0\x16\0\0\0\0\0\0\0\0\0\0\0\0\0\0\0\x05\0\0\0\x07\0\0\0";
 
 /// An ETC2 texture of 64 by 64 pixels.
-pub const ETC2: &str = "504b4d20323000010040004000400040";
+pub const ETC2: &[u8] = b"PKM 20\0\x01\0@\0@\0@\0@";
 
 /// A DDS with the extension for DirectX 10, of 8 by 4 pixels.
-pub const EXTENDED_DDS: &str = concat!(
-    "444453200000000000000000040000000800000000000000000000000000000000000000000000000000000000000000",
-    "000000000000000000000000000000000000000000000000000000000000000000000000445831300000000000000000",
-    "000000000000000000000000000000000000000000000000000000000000000062000000",
-);
+pub const EXTENDED_DDS: &[u8] = b"DDS \0\0\0\0\0\0\0\0\x04\0\0\0\x08\0\0\0\0\0\0\0\0\0\0\0\0\0\0\0\0\0\0\0\
+    \0\0\0\0\0\0\0\0\0\0\0\0\0\0\0\0\0\0\0\0\0\0\0\0\0\0\0\0\0\0\0\0\0\0\0\0\
+    \0\0\0\0\0\0\0\0\0\0\0\0DX10\0\0\0\0\0\0\0\0\0\0\0\0\0\0\0\0\0\0\0\0\0\0\
+    \0\0\0\0\0\0\0\0\0\0\0\0\0\0\0\0\0\0b\0\0\0";
 
-/// Inputs whose size stands at fixed places, and inputs of no known type.
-pub const FIXED: [Row; 22] = [
+/// A JPEG with an image within, whose frame is passed.
+pub const NESTED_JPEG: &[u8] = b"\xFF\xD8\xFF\xD8\0\x02\xFF\xC0\0\x02\xFF\xD9\0\x02\xFF\xC0\0\x11\x08\0\x05\0\x07";
+
+/// An icon with two images of the greatest area.
+pub const ICON: &[u8] = b"\0\0\x01\0\x03\0\x10 \0\0\0\0\0\0\0\0\0\0\0\0\0\0 \x10";
+
+// Inputs with a size, and inputs that have none.
+static ROWS: [Row; 36] = [
     Row {
         shows: "a GIF",
-        hex: GIF,
+        bytes: GIF,
         kind: Some(ImageType::Gif),
         answer: Ok((100, 100)),
     },
     Row {
         shows: "a GIF that is cut before its height",
-        hex: "47494638396164006400",
+        bytes: b"GIF89ad\0d\0",
         kind: None,
         answer: Err("failed to fill whole buffer"),
     },
     Row {
         shows: "no bytes",
-        hex: "",
+        bytes: b"",
         kind: None,
         answer: Err("failed to fill whole buffer"),
     },
     Row {
         shows: "a QOI",
-        hex: "716f69660000000200000003",
+        bytes: b"qoif\0\0\0\x02\0\0\0\x03",
         kind: Some(ImageType::Qoi),
         answer: Ok((2, 3)),
     },
     Row {
         shows: "a TGA without a footer",
-        hex: TGA,
+        bytes: TGA,
         kind: Some(ImageType::Tga),
         answer: Ok((3, 4)),
     },
     Row {
         shows: "a TGA that is cut within its header",
-        hex: "0000020000000000000000000300040018",
+        bytes: b"\0\0\x02\0\0\0\0\0\0\0\0\0\x03\0\x04\0\x18",
         kind: None,
         answer: Err("Could not decode image"),
     },
     Row {
         shows: "a TGA with a bit that its descriptor keeps clear",
-        hex: "000002000000000000000000030004001810",
+        bytes: b"\0\0\x02\0\0\0\0\0\0\0\0\0\x03\0\x04\0\x18\x10",
         kind: None,
         answer: Err("Could not decode image"),
     },
     Row {
         shows: "a WebP with loss",
-        hex: LOSSY_WEBP,
+        bytes: LOSSY_WEBP,
         kind: Some(ImageType::Webp),
         answer: Ok((16, 8)),
     },
     Row {
         shows: "a WebP with loss, scaled up",
-        hex: "5249464600000000574542505650382000000000000000000000104008c0",
+        bytes: b"RIFF\0\0\0\0WEBPVP8 \0\0\0\0\0\0\0\0\0\0\x10@\x08\xC0",
         kind: Some(ImageType::Webp),
         answer: Ok((16, 8)),
     },
     Row {
         shows: "an extended WebP",
-        hex: "524946460000000057454250565038580000000000000000090000130000",
+        bytes: b"RIFF\0\0\0\0WEBPVP8X\0\0\0\0\0\0\0\0\t\0\0\x13\0\0",
         kind: Some(ImageType::Webp),
         answer: Ok((10, 20)),
     },
     Row {
         shows: "a WebP without loss",
-        hex: "5249464600000000574542505650384c000000000009c00400",
+        bytes: b"RIFF\0\0\0\0WEBPVP8L\0\0\0\0\0\t\xC0\x04\0",
         kind: Some(ImageType::Webp),
         answer: Ok((10, 20)),
     },
     Row {
         shows: "a WebP of no known kind",
-        hex: "5249464600000000574542505650385a",
+        bytes: b"RIFF\0\0\0\0WEBPVP8Z",
         kind: Some(ImageType::Webp),
         answer: Err("Invalid VP8 Tag"),
     },
     Row {
         shows: "a DDS of no known compression",
-        hex: DDS,
+        bytes: DDS,
         kind: Some(ImageType::Dds(DdsCompression::Unknown)),
         answer: Ok((7, 5)),
     },
     Row {
         shows: "a DDS with the extension for DirectX 10",
-        hex: EXTENDED_DDS,
+        bytes: EXTENDED_DDS,
         kind: Some(ImageType::Dds(DdsCompression::Bc7)),
         answer: Ok((8, 4)),
     },
     Row {
         shows: "a DDS by the bits of its pixels",
-        hex: "4444532000000000000000000000000000000000000000000000000000000000000000000000000000000000000000000000000000000000000000000000000000000000000000000000000000000000000000000000000020000000",
+        bytes: b"DDS \0\0\0\0\0\0\0\0\0\0\0\0\0\0\0\0\0\0\0\0\0\0\0\0\0\0\0\0\0\0\0\0\0\0\
+            \0\0\0\0\0\0\0\0\0\0\0\0\0\0\0\0\0\0\0\0\0\0\0\0\0\0\0\0\0\0\0\0\0\0\0\0\
+            \0\0\0\0\0\0\0\0\0\0\0\0\0\0 \0\0\0",
         kind: Some(ImageType::Dds(DdsCompression::Rgba32)),
         answer: Ok((0, 0)),
     },
     Row {
         shows: "a PVR",
-        hex: PVR,
+        bytes: PVR,
         kind: Some(ImageType::Pvrtc(PvrtcCompression::Etc2Rgb)),
         answer: Ok((7, 5)),
     },
     Row {
         shows: "an ATC texture",
-        hex: "504b4d2031308c9200400040003c0028",
+        bytes: b"PKM 10\x8C\x92\0@\0@\0<\0(",
         kind: Some(ImageType::Atc(AtcCompression::Rgb)),
         answer: Ok((60, 40)),
     },
     Row {
         shows: "an ETC2 texture",
-        hex: ETC2,
+        bytes: ETC2,
         kind: Some(ImageType::Etc2(PkmCompression::Etc2)),
         answer: Ok((64, 64)),
     },
     Row {
         shows: "a BMP whose height is a negative number",
-        hex: "424d0000000000000000000000000000000002000000feffffff",
+        bytes: b"BM\0\0\0\0\0\0\0\0\0\0\0\0\0\0\0\0\x02\0\0\0\xFE\xFF\xFF\xFF",
         kind: Some(ImageType::Bmp),
         answer: Ok((2, 4294967294)),
     },
     Row {
         shows: "an Aseprite that begins as a QOI does",
-        hex: "716f6966e0a5000000000003",
+        bytes: b"qoif\xE0\xA5\0\0\0\0\0\x03",
         kind: Some(ImageType::Aseprite),
         answer: Ok((0, 768)),
     },
     Row {
         shows: "no known signature",
-        hex: "898989890d0a1a0a0000000d494844520000007b0100014108060000009a38c4",
+        bytes: b"\x89\x89\x89\x89\r\n\x1A\n\0\0\0\rIHDR\0\0\0{\x01\0\x01A\x08\x06\0\0\0\
+            \x9A8\xC4",
         kind: None,
         answer: Err("Could not decode image"),
     },
     Row {
         shows: "a PNG",
-        hex: "89504e470d0a1a0a0000000d",
+        bytes: b"\x89PNG\r\n\x1A\n\0\0\0\r",
         kind: None,
         answer: Err("Could not decode image"),
     },
+    Row {
+        shows: "a JPEG",
+        bytes: b"\xFF\xD8\xFF\xC0\0\x11\x08\0\x05\0\x07\0",
+        kind: Some(ImageType::Jpeg),
+        answer: Ok((7, 5)),
+    },
+    Row {
+        shows: "a JPEG whose segment leads into itself",
+        bytes: b"\xFF\xD8\xFF\xE0\0\x01\xFF\xC0\0\0\0\0",
+        kind: Some(ImageType::Jpeg),
+        answer: Err("Hit end of file before finding size"),
+    },
+    Row {
+        shows: "a JPEG with an image within",
+        bytes: NESTED_JPEG,
+        kind: Some(ImageType::Jpeg),
+        answer: Ok((7, 5)),
+    },
+    Row {
+        shows: "a JPEG that ends at once",
+        bytes: b"\xFF\xD8\xFF\xD9\0\0\0\0\0\0\0\0",
+        kind: Some(ImageType::Jpeg),
+        answer: Err("Hit end of file before finding size"),
+    },
+    Row {
+        shows: "a JPEG whose segment leads to itself",
+        bytes: b"\xFF\xD8\xFF\xE0\0\0\0\0\0\0\0\0",
+        kind: Some(ImageType::Jpeg),
+        answer: Err("Hit end of file before finding size"),
+    },
+    Row {
+        shows: "an ILBM with a chunk of one byte before its header",
+        bytes: b"FORM\0\0\0\x16ILBMANNO\0\0\0\x01A\0BMHD\0\0\0\x14\x01@\0\xC8",
+        kind: Some(ImageType::Ilbm),
+        answer: Ok((320, 200)),
+    },
+    Row {
+        shows: "an ILBM whose pixels come before its header",
+        bytes: b"FORM\0\0\0\x0CPBM BODY\0\0\0\0",
+        kind: Some(ImageType::Ilbm),
+        answer: Err("Hit end of file before finding size"),
+    },
+    Row {
+        shows: "an ILBM whose chunk is longer than the file",
+        bytes: b"FORM\0\0\0\x0CILBMANNO\xFF\xFF\xFF\xFF",
+        kind: Some(ImageType::Ilbm),
+        answer: Err("failed to fill whole buffer"),
+    },
+    Row {
+        shows: "an icon with two images of the greatest area",
+        bytes: ICON,
+        kind: Some(ImageType::Ico),
+        answer: Ok((32, 16)),
+    },
+    Row {
+        shows: "an icon of no images",
+        bytes: b"\0\0\x01\0\0\0\0\0\0\0\0\0",
+        kind: Some(ImageType::Ico),
+        answer: Err("Hit end of file before finding size"),
+    },
+    Row {
+        shows: "an icon of 256 by 256 pixels",
+        bytes: b"\0\0\x01\0\x01\0\0\0\0\0\0\0",
+        kind: Some(ImageType::Ico),
+        answer: Ok((256, 256)),
+    },
+    Row {
+        shows: "an icon that is cut within its second entry",
+        bytes: b"\0\0\x01\0\x02\0\x10 \0\0\0\0\0\0\0\0\0\0\0\0\0\0 ",
+        kind: Some(ImageType::Ico),
+        answer: Ok((16, 32)),
+    },
+    Row {
+        shows: "an icon with the footer of a TGA",
+        bytes: b"\0\0\x01\0\x01\0  \0\0\0\0TRUEVISION-XFILE.\0",
+        kind: Some(ImageType::Ico),
+        answer: Ok((32, 32)),
+    },
+    Row {
+        shows: "an icon whose last image is the greatest",
+        bytes: b"\0\0\x01\0\x03\0\x10 \0\0\0\0\0\0\0\0\0\0\0\0\0\0 \x10\0\0\0\0\0\0\0\0\0\
+            \0\0\0\0\0@@",
+        kind: Some(ImageType::Ico),
+        answer: Ok((64, 64)),
+    },
 ];
 
-/// Inputs that are read as the type beside them, of which they need not be.
-pub const READ_AS: [Row; 4] = [
+// Inputs that are read as the type beside them, of which they need not be.
+static READ_AS: [Row; 4] = [
     Row {
         shows: "a WebP as a WebP",
-        hex: LOSSY_WEBP,
+        bytes: LOSSY_WEBP,
         kind: Some(ImageType::Webp),
         answer: Ok((16, 8)),
     },
     Row {
         shows: "no bytes as a GIF",
-        hex: "",
+        bytes: b"",
         kind: Some(ImageType::Gif),
         answer: Err("failed to fill whole buffer"),
     },
     Row {
         shows: "a DDS as an ATC texture in one",
-        hex: DDS,
+        bytes: DDS,
         kind: Some(ImageType::Atc(AtcCompression::Rgb)),
         answer: Ok((7, 5)),
     },
     Row {
         shows: "a GIF as an ATC texture",
-        hex: GIF,
+        bytes: GIF,
         kind: Some(ImageType::Atc(AtcCompression::Unknown)),
         answer: Ok((100, 6578489)),
     },
 ];
+
+/// Inputs with a size, and inputs that have none.
+pub fn rows() -> &'static [Row] {
+    &ROWS
+}
+
+/// Inputs that are read as the type beside them, of which they need not be.
+pub fn read_as() -> &'static [Row] {
+    &READ_AS
+}

@@ -1,26 +1,25 @@
 //! What is answered of readers that count, interrupt, fail and lie.
 
-use crate::calls::bytes_of;
 use crate::readers::{Claiming, Counting, EndlessSegments, Failing, Interrupted, OneByte};
-use crate::rows::{ETC2, EXTENDED_DDS, GENERAL_HEIF, GIF, PVR, TGA};
+use crate::rows::{ETC2, EXTENDED_DDS, GENERAL_HEIF, GIF, ICON, NESTED_JPEG, PVR, TGA};
 use imagesize::{
     ImageError, ImageResult, ImageSize, ImageType, Reason, Told, reader_probe, reader_size,
     reader_type,
 };
-use std::alloc::Global;
 use std::io::{Cursor, ErrorKind};
 use std::process::Abort;
 use std::test::Fail;
 
 // An input that stands behind four other bytes, and from whose first byte on a reader is asked.
-const GIF_BEHIND: &str = "61626364474946383961640064000000";
+const GIF_BEHIND: &[u8] = b"abcdGIF89ad\0d\0\0\0";
 
 // The input, how many bytes are before its first one, and how many a call takes of it.
-const TAKEN: [(&str, u64, u64); 4] = [
+const TAKEN: [(&[u8], u64, u64); 5] = [
     (GIF, 0, 12),
     (GIF_BEHIND, 4, 16),
     (TGA, 0, 18),
     (ETC2, 0, 16),
+    (NESTED_JPEG, 0, 20),
 ];
 
 fn cursor_at(bytes: &[u8], place: u64) -> Cursor<&[u8]> {
@@ -31,11 +30,10 @@ fn cursor_at(bytes: &[u8], place: u64) -> Cursor<&[u8]> {
 
 #[test]
 fn no_byte_is_taken_again(rt: HostRuntime) -> Result<(), Fail> {
-    for (hex, place, taken) in TAKEN {
-        let bytes = bytes_of(rt.alloc(), hex)?;
-        let mut cursor = cursor_at(bytes.as_slice(), place);
+    for (bytes, place, taken) in TAKEN {
+        let mut cursor = cursor_at(bytes, place);
         let probed = reader_probe(&mut cursor);
-        assert_eq!(rt; probed.taken, taken, "{hex}");
+        assert_eq!(rt; probed.taken, taken, "{bytes:?}");
         assert!(rt; probed.answer.is_ok());
     }
     Ok(())
@@ -43,33 +41,31 @@ fn no_byte_is_taken_again(rt: HostRuntime) -> Result<(), Fail> {
 
 #[test]
 fn a_counting_reader_counts_what_is_taken(rt: HostRuntime) -> Result<(), Fail> {
-    for (hex, place, taken) in TAKEN {
-        let bytes = bytes_of(rt.alloc(), hex)?;
+    for (bytes, place, taken) in TAKEN {
         let mut count = 1000;
         let reader = Counting {
-            reader: cursor_at(bytes.as_slice(), place),
+            reader: cursor_at(bytes, place),
             count: &mut count,
         };
         assert!(rt; reader_size(reader).is_ok());
-        assert_eq!(rt; count, 1000 + taken, "{hex}");
+        assert_eq!(rt; count, 1000 + taken, "{bytes:?}");
         let mut reader = Counting {
             reader: OneByte {
-                reader: cursor_at(bytes.as_slice(), place),
+                reader: cursor_at(bytes, place),
             },
             count: &mut count,
         };
-        assert_eq!(rt; reader_probe(&mut reader).taken, taken, "{hex}");
-        assert_eq!(rt; count, 1000 + 2 * taken, "{hex}");
+        assert_eq!(rt; reader_probe(&mut reader).taken, taken, "{bytes:?}");
+        assert_eq!(rt; count, 1000 + 2 * taken, "{bytes:?}");
     }
     Ok(())
 }
 
 #[test]
 fn a_read_that_cannot_be_counted_is_a_fault(rt: HostRuntime) -> Result<(), Fail> {
-    let bytes = bytes_of(rt.alloc(), GIF)?;
     let mut count = u64::MAX - 11;
     let mut reader = Counting {
-        reader: Cursor::new(bytes.as_slice()),
+        reader: Cursor::new(GIF),
         count: &mut count,
     };
     let probed = reader_probe(&mut reader);
@@ -93,9 +89,8 @@ fn is_end<T>(answer: &ImageResult<T>) -> bool {
 
 #[test]
 fn reads_are_tried_again_sixty_four_times(rt: HostRuntime) -> Result<(), Fail> {
-    let bytes = bytes_of(rt.alloc(), GIF)?;
     let mut reader = Interrupted {
-        reader: Cursor::new(bytes.as_slice()),
+        reader: Cursor::new(GIF),
         left: 64,
     };
     let probed = reader_probe(&mut reader);
@@ -106,7 +101,7 @@ fn reads_are_tried_again_sixty_four_times(rt: HostRuntime) -> Result<(), Fail> {
     assert_eq!(rt; probed.answer?, size);
     assert_eq!(rt; probed.taken, 12);
     let mut reader = Interrupted {
-        reader: Cursor::new(bytes.as_slice()),
+        reader: Cursor::new(GIF),
         left: 65,
     };
     let probed = reader_probe(&mut reader);
@@ -116,14 +111,14 @@ fn reads_are_tried_again_sixty_four_times(rt: HostRuntime) -> Result<(), Fail> {
 }
 
 // The kinds of failures, one of which other readers answer at their end.
-const FAILURES: [ErrorKind; 3] = [
+pub const FAILURES: [ErrorKind; 3] = [
     ErrorKind::UnexpectedEof,
     ErrorKind::InvalidData,
     ErrorKind::Other,
 ];
 
-// How many failures are made in turn. No input below is read by so many calls.
-const TURNS: u64 = 40;
+// How many failures are made in turn, at most. No input is read by so many calls.
+const TURNS: u64 = 1000;
 
 fn failing<R: Told>(reader: R, turn: u64, kind: ErrorKind) -> Failing<R> {
     Failing {
@@ -134,7 +129,7 @@ fn failing<R: Told>(reader: R, turn: u64, kind: ErrorKind) -> Failing<R> {
 }
 
 // Each call of the reader fails in turn, until one more than the call makes.
-fn check_failures(rt: &impl Abort, bytes: &[u8], kind: ImageType, failure: ErrorKind) {
+pub fn check_failures(rt: &impl Abort, bytes: &[u8], kind: ImageType, failure: ErrorKind) {
     let mut turns = 0;
     for turn in 0..TURNS {
         let mut reader = failing(Cursor::new(bytes), turn, failure);
@@ -189,20 +184,14 @@ fn check_type_failures(rt: &impl Abort, bytes: &[u8], kind: ImageType, failure: 
     assert!(rt; 4 <= turns && turns < TURNS, "{kind:?}: {turns} calls");
 }
 
-fn kind_of(alloc: Global, hex: &str) -> Result<(Vec<u8>, ImageType), Fail> {
-    let bytes = bytes_of(alloc, hex)?;
-    let kind = reader_type(Cursor::new(bytes.as_slice()))?;
-    Ok((bytes, kind))
-}
-
 #[test]
 fn each_failure_in_turn_is_the_fault_that_is_answered(rt: HostRuntime) -> Result<(), Fail> {
-    for hex in [GIF, TGA, GENERAL_HEIF, PVR, EXTENDED_DDS] {
-        let (bytes, kind) = kind_of(rt.alloc(), hex)?;
+    for bytes in [GIF, TGA, GENERAL_HEIF, PVR, EXTENDED_DDS, ICON] {
+        let kind = reader_type(Cursor::new(bytes))?;
         for failure in FAILURES {
-            check_failures(&rt, bytes.as_slice(), kind, failure);
-            check_size_failures(&rt, bytes.as_slice(), kind, failure);
-            check_type_failures(&rt, bytes.as_slice(), kind, failure);
+            check_failures(&rt, bytes, kind, failure);
+            check_size_failures(&rt, bytes, kind, failure);
+            check_type_failures(&rt, bytes, kind, failure);
         }
     }
     Ok(())
@@ -210,9 +199,8 @@ fn each_failure_in_turn_is_the_fault_that_is_answered(rt: HostRuntime) -> Result
 
 #[test]
 fn bytes_behind_the_told_length_are_the_end(rt: HostRuntime) -> Result<(), Fail> {
-    let bytes = bytes_of(rt.alloc(), GIF)?;
     let mut reader = Claiming {
-        reader: Cursor::new(bytes.as_slice()),
+        reader: Cursor::new(GIF),
         told: 0,
     };
     let probed = reader_probe(&mut reader);
@@ -224,9 +212,8 @@ fn bytes_behind_the_told_length_are_the_end(rt: HostRuntime) -> Result<(), Fail>
 
 #[test]
 fn the_greatest_told_length_changes_no_answer(rt: HostRuntime) -> Result<(), Fail> {
-    let bytes = bytes_of(rt.alloc(), GIF)?;
     let reader = Claiming {
-        reader: Cursor::new(bytes.as_slice()),
+        reader: Cursor::new(GIF),
         told: u64::MAX,
     };
     let size = ImageSize {
@@ -239,10 +226,9 @@ fn the_greatest_told_length_changes_no_answer(rt: HostRuntime) -> Result<(), Fai
 
 #[test]
 fn a_reader_behind_its_end_is_at_the_end(rt: HostRuntime) -> Result<(), Fail> {
-    let bytes = bytes_of(rt.alloc(), GIF)?;
-    assert!(rt; is_end(&reader_type(cursor_at(bytes.as_slice(), 20))));
-    assert!(rt; is_end(&reader_size(cursor_at(bytes.as_slice(), 20))));
-    let probed = reader_probe(&mut cursor_at(bytes.as_slice(), 20));
+    assert!(rt; is_end(&reader_type(cursor_at(GIF, 20))));
+    assert!(rt; is_end(&reader_size(cursor_at(GIF, 20))));
+    let probed = reader_probe(&mut cursor_at(GIF, 20));
     assert!(rt; is_end(&probed.answer));
     assert_eq!(rt; probed.taken, 0);
     assert_eq!(rt; probed.kind, None);
@@ -257,4 +243,21 @@ fn an_endless_reader_has_a_type(rt: HostRuntime) -> Result<(), Fail> {
     };
     assert_eq!(rt; reader_type(reader)?, ImageType::Jpeg);
     Ok(())
+}
+
+#[test]
+fn an_endless_reader_is_read_until_the_budget_is_spent(rt: HostRuntime) {
+    let mut reader = Claiming {
+        reader: EndlessSegments { place: 0 },
+        told: 100,
+    };
+    let probed = reader_probe(&mut reader);
+    assert!(rt;
+        matches!(
+            probed.answer,
+            Err(ImageError::IoError(Reason::BudgetSpent { budget: 164 }))
+        )
+    );
+    assert_eq!(rt; probed.kind, Some(ImageType::Jpeg));
+    assert_eq!(rt; probed.taken, 164);
 }
