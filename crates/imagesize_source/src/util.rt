@@ -1,7 +1,7 @@
 //! Bytes and numbers of both byte orders.
-ghost use Rattle.std.specs.Prelude.{◌≡◌, ◌+◌, ◌^◌, ◌<◌, ◌≤◌, take, IfOk, IfErr};
+ghost use Rattle.std.specs.Prelude.{◌≡◌, ◌+◌, ◌^◌, ◌<◌, ◌≤◌, IfOk, IfErr};
 ghost use Rattle.imagesize_source.specs.Paying.{Paid};
-ghost use Rattle.imagesize_source.specs.Reading.{bytes_read, end_of_input, number_read, part_read, seen};
+ghost use Rattle.imagesize_source.specs.Reading.{bytes_read, end_of_input, number_read};
 ghost use Rattle.imagesize_source.specs.Layout.{Layout, over, if_there};
 ghost use Rattle.imagesize_source.specs.Layout.Layout.{«done»};
 ghost use Rattle.imagesize_source.specs.State.{Runs};
@@ -28,20 +28,6 @@ pub fn read_bytes<S: Source, const N: usize>(source: &mut S, place: u64) -> Imag
         return Err(ImageError::IoError(Reason::EndOfInput));
     }
     Ok(room)
-}
-
-/// What is there of the `N` bytes from a place on: the room, and how many of its bytes are the input's.
-pub fn read_part<S: Source, const N: usize>(
-    source: &mut S,
-    place: u64,
-) -> ImageResult<([u8; N], usize)>
-    ensures bound { IfOk result (λ (room, count). count ≤ N) }
-    ensures runs { Runs (S.state source.old) (S.state source.new) (seen (λ (room, count). take count room) result)
-        (part_read (S.state source.old).held.input place N) }
-{
-    let mut room = [0u8; N];
-    let count = source.read_at(place, &mut room)?;
-    Ok((room, count))
 }
 
 /// The `N` bytes from a place on, or none where the input ends before the last of them.

@@ -46,14 +46,8 @@ fn slices_have_the_worked_answers(rt: HostRuntime) -> Result<(), Fail> {
     let alloc = rt.alloc();
     for row in rows() {
         let shows = row.shows;
-        assert!(rt;
-            is_type(alloc, row, &image_type(row.bytes))?,
-            "{shows}"
-        );
-        assert!(rt;
-            is_answer(alloc, row, &blob_size(row.bytes))?,
-            "{shows}"
-        );
+        assert!(rt; is_type(alloc, row, &image_type(row.bytes))?, "{shows}");
+        assert!(rt; is_answer(alloc, row, &blob_size(row.bytes))?, "{shows}");
     }
     Ok(())
 }

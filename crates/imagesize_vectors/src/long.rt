@@ -48,7 +48,10 @@ fn segments_have_no_greatest_number(rt: HostRuntime) -> Result<(), Fail> {
         assert_eq!(rt; blob_size(bytes.as_slice())?, JPEG_SIZE);
         assert_eq!(rt; reader_size(cursor())?, JPEG_SIZE);
         assert_eq!(rt; reader_size(OneByte { reader: cursor() })?, JPEG_SIZE);
-        assert_eq!(rt; reader_size(BufReader::new(rt.alloc(), cursor())?)?, JPEG_SIZE);
+        assert_eq!(rt;
+            reader_size(BufReader::new(rt.alloc(), cursor())?)?,
+            JPEG_SIZE
+        );
     }
     Ok(())
 }
@@ -60,7 +63,10 @@ fn the_greatest_number_of_entries_is_read(rt: HostRuntime) -> Result<(), Fail> {
     assert_eq!(rt; blob_size(bytes.as_slice())?, ICON_SIZE);
     assert_eq!(rt; reader_size(cursor())?, ICON_SIZE);
     assert_eq!(rt; reader_size(OneByte { reader: cursor() })?, ICON_SIZE);
-    assert_eq!(rt; reader_size(BufReader::new(rt.alloc(), cursor())?)?, ICON_SIZE);
+    assert_eq!(rt;
+        reader_size(BufReader::new(rt.alloc(), cursor())?)?,
+        ICON_SIZE
+    );
     Ok(())
 }
 

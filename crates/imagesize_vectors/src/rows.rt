@@ -37,13 +37,15 @@ pub const PVR: &[u8] = b"PVR\x03\0\0\0\0\x16\0\0\0\0\0\0\0\0\0\0\0\0\0\0\0\x05\0
 pub const ETC2: &[u8] = b"PKM 20\0\x01\0@\0@\0@\0@";
 
 /// A DDS with the extension for DirectX 10, of 8 by 4 pixels.
-pub const EXTENDED_DDS: &[u8] = b"DDS \0\0\0\0\0\0\0\0\x04\0\0\0\x08\0\0\0\0\0\0\0\0\0\0\0\0\0\0\0\0\0\0\0\
+pub const EXTENDED_DDS: &[u8] =
+    b"DDS \0\0\0\0\0\0\0\0\x04\0\0\0\x08\0\0\0\0\0\0\0\0\0\0\0\0\0\0\0\0\0\0\0\
     \0\0\0\0\0\0\0\0\0\0\0\0\0\0\0\0\0\0\0\0\0\0\0\0\0\0\0\0\0\0\0\0\0\0\0\0\
     \0\0\0\0\0\0\0\0\0\0\0\0DX10\0\0\0\0\0\0\0\0\0\0\0\0\0\0\0\0\0\0\0\0\0\0\
     \0\0\0\0\0\0\0\0\0\0\0\0\0\0\0\0\0\0b\0\0\0";
 
 /// A JPEG with an image within, whose frame is passed.
-pub const NESTED_JPEG: &[u8] = b"\xFF\xD8\xFF\xD8\0\x02\xFF\xC0\0\x02\xFF\xD9\0\x02\xFF\xC0\0\x11\x08\0\x05\0\x07";
+pub const NESTED_JPEG: &[u8] =
+    b"\xFF\xD8\xFF\xD8\0\x02\xFF\xC0\0\x02\xFF\xD9\0\x02\xFF\xC0\0\x11\x08\0\x05\0\x07";
 
 /// An icon with two images of the greatest area.
 pub const ICON: &[u8] = b"\0\0\x01\0\x03\0\x10 \0\0\0\0\0\0\0\0\0\0\0\0\0\0 \x10";
