@@ -29,7 +29,7 @@ pub struct Probed {
     pub taken: u64,
 }
 
-/// The type of the image that a slice's first bytes tell.
+/// The type of the image that a slice's first bytes tell, and its kind, `Unknown` where the bytes do not tell it.
 ///
 /// Errors: `NotSupported` where no type has these bytes, and `EndOfInput` under 12 bytes.
 pub fn image_type(header: &[u8]) -> ImageResult<ImageType>
@@ -98,7 +98,7 @@ pub fn reader_type<R: Told>(mut reader: R) -> ImageResult<ImageType>
 /// The size in pixels of the image in a reader's bytes, of the type that the twelve bytes tell where it stands.
 ///
 /// Errors: those of `reader_type`, `EndOfInput` where the bytes end before the size, the refusals of the type's
-/// layout, and `BudgetSpent` where a reader gives more than 64 bytes above the length that it told.
+/// layout, and `BudgetSpent` where more bytes would be taken than the length that the reader told, and 64.
 pub fn reader_size<R: Told>(mut reader: R) -> ImageResult<ImageSize>
     ensures { Answers (R.telling reader) meaning result }
 {
