@@ -107,10 +107,6 @@ local_then r f first rest d e a =
 pub local_length : {X : Type 0} (f : ℕ → List ℕ → Reads X) → ((n : ℕ) → Local (f n)) → Local (λ d. f (length d) d)
 local_length f each d e a = ap (λ n. f n e) a.as_long ∙ each (length d) d e a
 
--- the same of layouts, as one equation
-pub local_by_length : {X : Type 0} (d e : List ℕ) (f : ℕ → Layout X) → Agrees d e (over d (f (length d))).marks → over e (f (length e)) ≡ over d (f (length d))
-local_by_length d e f a = local_length (λ n d. over d (f n)) (λ n. local_layout (f n)) d e a
-
 -- one number is local
 pub local_number : (order : Endian) (place k : ℕ) → Local (λ d. number_read d order place k)
 local_number order place k d e a = rw (same_span d e place k a.as_long, same_number d e order place k a) refl

@@ -8,8 +8,8 @@ use Rattle.imagesize_source.specs.declared.util.Endian.{Endian}
 use Rattle.imagesize_source.specs.Input.{part, span_at, span_of}
 use Rattle.imagesize_source.specs.Layout.{Layout, done, refuse, field, bytes, there, over, bind}
 use Rattle.imagesize_source.specs.Numbers.{number}
-use Rattle.imagesize_source.specs.Extension.{Plain, Lasts}
-use Rattle.imagesize_source.specs.Reading.{Reads, onward, behind, and_then, bytes_at, number_at, seen, end_of_input}
+use Rattle.imagesize_source.specs.Extension.{Plain}
+use Rattle.imagesize_source.specs.Reading.{Reads, onward, behind, bytes_at, number_at, seen, end_of_input}
 
 -- bytes behind the input are not among those that are all there
 part_more : (d x : List ℕ) (place k : ℕ) → k ≤ length d - place → part (d ++ x) place k ≡ part d place k
@@ -83,14 +83,3 @@ plain_bind (refuse e) g p q = tt
 plain_bind (field order place k f) g p q = λ v. plain_bind (f v) g (p v) q
 plain_bind (bytes place k f) g p q = λ bs. plain_bind (f bs) g (p bs) q
 plain_bind (there place k f) g p q = absurd p
-
--- a plain layout lasts
-pub lasts_layout : {X : Type 0} (t : Layout X) → Plain t → Lasts (λ d. over d t)
-lasts_layout t p d x v is = more d x t v p is
-
--- readings behind readings
-pub lasts_then : {X Y : Type 0} (r : List ℕ → Reads X) (f : X → List ℕ → Reads Y) → Lasts r → ((x : X) → Lasts (f x)) → Lasts (λ d. and_then (r d) (λ x. f x d))
-lasts_then r f first rest d x v is =
-    onward_more (r d).marks (r (d ++ x)).marks (r d).answer (r (d ++ x)).answer (λ y. f y d) (λ y. f y (d ++ x)) v is
-    (λ y got. let same = first d x y got in (ap (λ w. w.marks) same, ap (λ w. w.answer) same))
-    (λ y. rest y d x v)
