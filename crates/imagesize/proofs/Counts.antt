@@ -1,26 +1,26 @@
 -- How many bytes the type and a size at fixed places are read from.
 use Rattle.std.proofs.Common.{◌≡◌, ℕ, ◌+◌, ◌≤◌, Bool, true, false, cond, List, length, Option, Some, None, Result, Ok, Err, refl, slice_index, arith, rules}
-use Rattle.imagesize.specs.Atc.{atc, atc_compression}
-use Rattle.imagesize.specs.Aseprite.{aseprite}
-use Rattle.imagesize.specs.Astc.{astc}
-use Rattle.imagesize.specs.Bmp.{bmp}
-use Rattle.imagesize.specs.Farbfeld.{farbfeld}
-use Rattle.imagesize.specs.Gif.{gif}
-use Rattle.imagesize.specs.Ktx2.{ktx2}
-use Rattle.imagesize.specs.Psd.{psd}
-use Rattle.imagesize.specs.Qoi.{qoi}
-use Rattle.imagesize.specs.Vtf.{vtf}
-use Rattle.imagesize.specs.Dds.{dds, dds_compression, dds_compression_by}
-use Rattle.imagesize.specs.Heif.{heif_compression}
+use Rattle.imagesize_fixed.specs.Atc.{atc, atc_compression}
+use Rattle.imagesize_fixed.specs.Aseprite.{aseprite}
+use Rattle.imagesize_fixed.specs.Astc.{astc}
+use Rattle.imagesize_fixed.specs.Bmp.{bmp}
+use Rattle.imagesize_fixed.specs.Farbfeld.{farbfeld}
+use Rattle.imagesize_fixed.specs.Gif.{gif}
+use Rattle.imagesize_fixed.specs.Ktx2.{ktx2}
+use Rattle.imagesize_fixed.specs.Psd.{psd}
+use Rattle.imagesize_fixed.specs.Qoi.{qoi}
+use Rattle.imagesize_fixed.specs.Vtf.{vtf}
+use Rattle.imagesize_fixed.specs.Dds.{dds, dds_compression, dds_compression_by}
+use Rattle.imagesize_boxes.specs.Heif.{heif_compression}
 use Rattle.imagesize.specs.Kind.{kind, kind_by, with_kind, tga_or_none, rows, first_row}
-use Rattle.imagesize.proofs.Ico.{ico_within}
-use Rattle.imagesize.proofs.Ilbm.{ilbm_within}
-use Rattle.imagesize.proofs.Jpeg.{jpeg_within}
+use Rattle.imagesize_walked.proofs.Ico.{ico_within}
+use Rattle.imagesize_walked.proofs.Ilbm.{ilbm_within}
+use Rattle.imagesize_walked.proofs.Jpeg.{jpeg_within}
 use Rattle.imagesize.specs.Meaning.{kind_of, size_of, meaning}
-use Rattle.imagesize.specs.Pkm.{pkm, pkm_compression}
-use Rattle.imagesize.specs.Pvrtc.{pvrtc, pvrtc_compression, pvrtc_compression_by}
-use Rattle.imagesize.specs.Tga.{tga, tga_by_header, is_tga}
-use Rattle.imagesize.specs.Webp.{webp, webp_form}
+use Rattle.imagesize_fixed.specs.Pkm.{pkm, pkm_compression}
+use Rattle.imagesize_fixed.specs.Pvrtc.{pvrtc, pvrtc_compression, pvrtc_compression_by}
+use Rattle.imagesize_fixed.specs.Tga.{tga, tga_by_header, is_tga}
+use Rattle.imagesize_fixed.specs.Webp.{webp, webp_form}
 use Rattle.imagesize.specs.declared.types.ImageType.{ImageType}
 use Rattle.imagesize.specs.declared.types.ImageType.TheVariants.{Aseprite, Astc, Atc, Bmp, Dds, Eac, Etc2, Exr, Farbfeld, Gif, Hdr, Heif, Ico, Ilbm, Jpeg, Jxl, Ktx2, Pnm, Pvrtc, Psd, Qoi, Tga, Tiff, Vtf, Webp}
 use Rattle.imagesize_source.proofs.Count.{at_most}

@@ -1,25 +1,25 @@
 -- Type and size see an input by their marks alone.
 use Rattle.std.proofs.Common.{ℕ, refl}
-use Rattle.imagesize.proofs.Ico.{ico_local}
-use Rattle.imagesize.proofs.Ilbm.{ilbm_local}
-use Rattle.imagesize.proofs.Jpeg.{jpeg_local}
+use Rattle.imagesize_walked.proofs.Ico.{ico_local}
+use Rattle.imagesize_walked.proofs.Ilbm.{ilbm_local}
+use Rattle.imagesize_walked.proofs.Jpeg.{jpeg_local}
 use Rattle.imagesize.specs.Kind.{kind}
 use Rattle.imagesize.specs.Meaning.{kind_of, size_of, meaning}
-use Rattle.imagesize.specs.Aseprite.{aseprite}
-use Rattle.imagesize.specs.Astc.{astc}
-use Rattle.imagesize.specs.Atc.{atc}
-use Rattle.imagesize.specs.Bmp.{bmp}
-use Rattle.imagesize.specs.Dds.{dds}
-use Rattle.imagesize.specs.Farbfeld.{farbfeld}
-use Rattle.imagesize.specs.Gif.{gif}
-use Rattle.imagesize.specs.Ktx2.{ktx2}
-use Rattle.imagesize.specs.Pkm.{pkm}
-use Rattle.imagesize.specs.Psd.{psd}
-use Rattle.imagesize.specs.Pvrtc.{pvrtc}
-use Rattle.imagesize.specs.Qoi.{qoi}
-use Rattle.imagesize.specs.Tga.{tga}
-use Rattle.imagesize.specs.Vtf.{vtf}
-use Rattle.imagesize.specs.Webp.{webp}
+use Rattle.imagesize_fixed.specs.Aseprite.{aseprite}
+use Rattle.imagesize_fixed.specs.Astc.{astc}
+use Rattle.imagesize_fixed.specs.Atc.{atc}
+use Rattle.imagesize_fixed.specs.Bmp.{bmp}
+use Rattle.imagesize_fixed.specs.Dds.{dds}
+use Rattle.imagesize_fixed.specs.Farbfeld.{farbfeld}
+use Rattle.imagesize_fixed.specs.Gif.{gif}
+use Rattle.imagesize_fixed.specs.Ktx2.{ktx2}
+use Rattle.imagesize_fixed.specs.Pkm.{pkm}
+use Rattle.imagesize_fixed.specs.Psd.{psd}
+use Rattle.imagesize_fixed.specs.Pvrtc.{pvrtc}
+use Rattle.imagesize_fixed.specs.Qoi.{qoi}
+use Rattle.imagesize_fixed.specs.Tga.{tga}
+use Rattle.imagesize_fixed.specs.Vtf.{vtf}
+use Rattle.imagesize_fixed.specs.Webp.{webp}
 use Rattle.imagesize.specs.declared.types.ImageType.{ImageType}
 use Rattle.imagesize.specs.declared.types.ImageType.TheVariants.{Aseprite, Astc, Atc, Bmp, Dds, Eac, Etc2, Exr, Farbfeld, Gif, Hdr, Heif, Ico, Ilbm, Jpeg, Jxl, Ktx2, Pnm, Pvrtc, Psd, Qoi, Tga, Tiff, Vtf, Webp}
 use Rattle.imagesize_source.proofs.Local.{local_layout, local_then, local_length}

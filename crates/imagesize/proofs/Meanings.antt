@@ -6,7 +6,7 @@ use Rattle.imagesize_source.proofs.Count.{then_within}
 use Rattle.imagesize.specs.Meaning.{kind_of, meaning, size_of}
 use Rattle.imagesize.specs.Probed.{FindsKind, Probes}
 use Rattle.imagesize.specs.declared.calls.Probed.{Probed}
-use Rattle.imagesize.specs.declared.types.ImageSize.{ImageSize}
+use Rattle.imagesize_types.specs.declared.size.ImageSize.{ImageSize}
 use Rattle.imagesize.specs.declared.types.ImageType.{ImageType}
 use Rattle.imagesize_source.proofs.Openings.{IsBounded, Began, claim, start_of, start_holds, opened_answers, opened_takes}
 use Rattle.imagesize_source.proofs.Runs.{runs_then, runs_refused}

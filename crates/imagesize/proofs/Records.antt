@@ -6,9 +6,9 @@ use Rattle.imagesize.specs.Records.{is_walked, is_walked_as, records_of, records
 use Rattle.imagesize.specs.declared.types.ImageType.{ImageType}
 use Rattle.imagesize.specs.declared.types.ImageType.TheVariants.{Ico, Ilbm, Jpeg}
 use Rattle.imagesize.proofs.Counts.{kind_at_most, kind_cost}
-use Rattle.imagesize.proofs.Ico.{ico_cost}
-use Rattle.imagesize.proofs.Ilbm.{ilbm_cost}
-use Rattle.imagesize.proofs.Jpeg.{jpeg_cost}
+use Rattle.imagesize_walked.proofs.Ico.{ico_cost}
+use Rattle.imagesize_walked.proofs.Ilbm.{ilbm_cost}
+use Rattle.imagesize_walked.proofs.Jpeg.{jpeg_cost}
 use Rattle.imagesize_source.proofs.Costs.{bound_of}
 use Rattle.imagesize_source.specs.Reading.{onward}
 use Rattle.imagesize_source.specs.State.{total}

@@ -1,25 +1,25 @@
 -- The size of an input.
 use Rattle.std.specs.Prelude.{ℕ, List, length}
-use Rattle.imagesize.specs.Aseprite.{aseprite}
-use Rattle.imagesize.specs.Astc.{astc}
-use Rattle.imagesize.specs.Atc.{atc}
-use Rattle.imagesize.specs.Bmp.{bmp}
-use Rattle.imagesize.specs.Dds.{dds}
-use Rattle.imagesize.specs.Farbfeld.{farbfeld}
-use Rattle.imagesize.specs.Gif.{gif}
-use Rattle.imagesize.specs.Ico.{ico}
-use Rattle.imagesize.specs.Ilbm.{ilbm}
-use Rattle.imagesize.specs.Jpeg.{jpeg}
+use Rattle.imagesize_fixed.specs.Aseprite.{aseprite}
+use Rattle.imagesize_fixed.specs.Astc.{astc}
+use Rattle.imagesize_fixed.specs.Atc.{atc}
+use Rattle.imagesize_fixed.specs.Bmp.{bmp}
+use Rattle.imagesize_fixed.specs.Dds.{dds}
+use Rattle.imagesize_fixed.specs.Farbfeld.{farbfeld}
+use Rattle.imagesize_fixed.specs.Gif.{gif}
+use Rattle.imagesize_walked.specs.Ico.{ico}
+use Rattle.imagesize_walked.specs.Ilbm.{ilbm}
+use Rattle.imagesize_walked.specs.Jpeg.{jpeg}
 use Rattle.imagesize.specs.Kind.{kind}
-use Rattle.imagesize.specs.Ktx2.{ktx2}
-use Rattle.imagesize.specs.Pkm.{pkm}
-use Rattle.imagesize.specs.Psd.{psd}
-use Rattle.imagesize.specs.Pvrtc.{pvrtc}
-use Rattle.imagesize.specs.Qoi.{qoi}
-use Rattle.imagesize.specs.Tga.{tga}
-use Rattle.imagesize.specs.Vtf.{vtf}
-use Rattle.imagesize.specs.Webp.{webp}
-use Rattle.imagesize.specs.declared.types.ImageSize.{ImageSize}
+use Rattle.imagesize_fixed.specs.Ktx2.{ktx2}
+use Rattle.imagesize_fixed.specs.Pkm.{pkm}
+use Rattle.imagesize_fixed.specs.Psd.{psd}
+use Rattle.imagesize_fixed.specs.Pvrtc.{pvrtc}
+use Rattle.imagesize_fixed.specs.Qoi.{qoi}
+use Rattle.imagesize_fixed.specs.Tga.{tga}
+use Rattle.imagesize_fixed.specs.Vtf.{vtf}
+use Rattle.imagesize_fixed.specs.Webp.{webp}
+use Rattle.imagesize_types.specs.declared.size.ImageSize.{ImageSize}
 use Rattle.imagesize.specs.declared.types.ImageType.TheVariants.{Aseprite, Astc, Atc, Bmp, Dds, Eac, Etc2, Exr, Farbfeld, Gif, Hdr, Heif, Ico, Ilbm, Jpeg, Jxl, Ktx2, Pnm, Pvrtc, Psd, Qoi, Tga, Tiff, Vtf, Webp}
 use Rattle.imagesize.specs.declared.types.ImageType.{ImageType}
 use Rattle.imagesize_source.specs.Layout.{over}

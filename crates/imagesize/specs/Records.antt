@@ -1,8 +1,8 @@
 -- How many records are begun for a size that is found by a walk.
 use Rattle.std.specs.Prelude.{ℕ, Bool, true, false, List, Result, Ok, Err}
-use Rattle.imagesize.specs.Ico.{entries_begun}
-use Rattle.imagesize.specs.Ilbm.{ilbm_chunks}
-use Rattle.imagesize.specs.Jpeg.{jpeg_segments}
+use Rattle.imagesize_walked.specs.Ico.{entries_begun}
+use Rattle.imagesize_walked.specs.Ilbm.{ilbm_chunks}
+use Rattle.imagesize_walked.specs.Jpeg.{jpeg_segments}
 use Rattle.imagesize.specs.Meaning.{kind_of}
 use Rattle.imagesize.specs.declared.types.ImageType.{ImageType}
 use Rattle.imagesize.specs.declared.types.ImageType.TheVariants.{Ico, Ilbm, Jpeg}

@@ -12,11 +12,12 @@ ghost use Rattle.imagesize.specs.Probed.{FindsKind, Probes};
 ghost use Rattle.imagesize.specs.Records.{is_walked_as, records_begun};
 
 use crate::formats::{detect, size};
-use crate::types::{ImageSize, ImageType};
+use crate::types::ImageType;
 use crate::{ImageResult, Told};
 use imagesize_source::source::Source;
 use imagesize_source::source::reader::{Opened, ReaderSource, open};
 use imagesize_source::source::slice::SliceSource;
+use imagesize_types::size::ImageSize;
 
 /// What a reader was found to hold, and what it took to find it.
 #[derive(Debug, Drop)]

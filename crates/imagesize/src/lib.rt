@@ -2,7 +2,6 @@
 #![tactic(auto)]
 
 mod calls;
-mod container;
 mod formats;
 mod laws;
 mod queries;
@@ -10,7 +9,8 @@ mod types;
 
 pub use calls::{Probed, blob_size, image_type, reader_probe, reader_size, reader_type};
 pub use imagesize_source::{ImageError, ImageResult, Reason, Span, Stop, Told};
-pub use types::{
-    AtcCompression, Compression, CompressionFamily, DdsCompression, ImageSize, ImageType,
-    PkmCompression, PvrtcCompression,
+pub use imagesize_types::compression::{
+    AtcCompression, Compression, DdsCompression, PkmCompression, PvrtcCompression,
 };
+pub use imagesize_types::size::ImageSize;
+pub use types::{CompressionFamily, ImageType};

@@ -1,3 +1,4 @@
+pub mod Bytes
 mod Cursors
 pub mod Runs
 pub mod Slices

@@ -1,0 +1,3 @@
+pub mod Ico
+pub mod Ilbm
+pub mod Jpeg
