@@ -1,6 +1,6 @@
 -- How many bytes a type and its size are read from.
-use Rattle.std.proofs.Common.{◌≡◌, ℕ, ◌+◌, ◌≤◌, List, length, Result, Ok, Err, arith}
-use Rattle.imagesize.proofs.Kinds.{kind_cost, kind_few, kind_at_most}
+use Rattle.std.proofs.Common.{ℕ, ◌+◌, ◌≤◌, List, length, Result, Ok, Err, arith}
+use Rattle.imagesize.proofs.Detection.{kind_cost, kind_few, kind_at_most}
 use Rattle.imagesize.proofs.Ways.{laws_of}
 use Rattle.imagesize.specs.Counts.{cost, lasts, stated, stated_as}
 use Rattle.imagesize.specs.Meaning.{kind_of, meaning, size_of, way_of}

@@ -1,6 +1,6 @@
 -- A size stays, whatever bytes follow.
 use Rattle.std.proofs.Common.{◌≡◌, ℕ, true, List, ◌++◌, Result, Ok, Err, IfOk, IsTrue, refl, sym, ap, ◌∙◌}
-use Rattle.imagesize.proofs.Kinds.{kind_cost, kind_more}
+use Rattle.imagesize.proofs.Detection.{kind_cost, kind_more}
 use Rattle.imagesize.proofs.Ways.{laws_of}
 use Rattle.imagesize.specs.Counts.{lasts, lasts_as}
 use Rattle.imagesize.specs.Meaning.{kind_of, size_of, meaning, way_of}

@@ -1,6 +1,6 @@
 -- What a type and its size see of an input.
 use Rattle.std.proofs.Common.{ℕ}
-use Rattle.imagesize.proofs.Kinds.{kind_cost}
+use Rattle.imagesize.proofs.Detection.{kind_cost}
 use Rattle.imagesize.proofs.Ways.{laws_of}
 use Rattle.imagesize.specs.Counts.{lasts}
 use Rattle.imagesize.specs.Kind.{kind}

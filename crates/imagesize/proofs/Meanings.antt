@@ -1,8 +1,8 @@
 -- The size by a type that was found.
-use Rattle.std.proofs.Common.{◌≡◌, ℕ, ◌+◌, length, Option, Some, None, Result, Ok, Err, IfSome, true, false, sym, ap, ◌∙◌, subst, arith}
+use Rattle.std.proofs.Common.{◌≡◌, ℕ, Option, Some, None, Result, Ok, Err, IfSome, true, false, sym, ap, ◌∙◌, subst, arith}
 use Rattle.std.specs.Result.{result_ok}
 use Rattle.imagesize.proofs.Counts.{cost_within, size_within}
-use Rattle.imagesize.proofs.Kinds.{kind_within}
+use Rattle.imagesize.proofs.Detection.{kind_within}
 use Rattle.imagesize.specs.Meaning.{kind_of, meaning, size_of}
 use Rattle.imagesize.specs.Probed.{FindsKind, Probes}
 use Rattle.imagesize.specs.declared.calls.Probed.{Probed}

@@ -1,5 +1,4 @@
 -- What holds of the size of each type.
-use Rattle.std.proofs.Common.{arith}
 use Rattle.imagesize_fixed.proofs.Aseprite.{aseprite_laws}
 use Rattle.imagesize_fixed.proofs.Astc.{astc_laws}
 use Rattle.imagesize_fixed.proofs.Atc.{atc_laws}
@@ -18,7 +17,7 @@ use Rattle.imagesize_fixed.proofs.Webp.{webp_laws}
 use Rattle.imagesize_walked.proofs.Ico.{ico_laws}
 use Rattle.imagesize_walked.proofs.Ilbm.{ilbm_laws}
 use Rattle.imagesize_walked.proofs.Jpeg.{jpeg_laws}
-use Rattle.imagesize.proofs.Kinds.{kind_cost}
+use Rattle.imagesize.proofs.Detection.{kind_cost}
 use Rattle.imagesize.specs.Counts.{lasts}
 use Rattle.imagesize.specs.Meaning.{way_of}
 use Rattle.imagesize.specs.declared.types.ImageType.{ImageType}

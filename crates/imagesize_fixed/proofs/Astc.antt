@@ -1,5 +1,5 @@
 -- ASTC: what is read of it.
-use Rattle.std.proofs.Common.{arith, rules}
+use Rattle.std.proofs.Common.{rules}
 use Rattle.imagesize_fixed.specs.Astc.{astc}
 use Rattle.imagesize_source.proofs.Way.{FixedLaws}
 

@@ -1,5 +1,5 @@
 -- Farbfeld: what is read of it.
-use Rattle.std.proofs.Common.{arith, rules}
+use Rattle.std.proofs.Common.{rules}
 use Rattle.imagesize_fixed.specs.Farbfeld.{farbfeld}
 use Rattle.imagesize_source.proofs.Way.{FixedLaws}
 

@@ -1,5 +1,5 @@
 -- GIF: what is read of it.
-use Rattle.std.proofs.Common.{arith, rules}
+use Rattle.std.proofs.Common.{rules}
 use Rattle.imagesize_fixed.specs.Gif.{gif}
 use Rattle.imagesize_source.proofs.Way.{FixedLaws}
 

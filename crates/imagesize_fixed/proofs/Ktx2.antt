@@ -1,5 +1,5 @@
 -- KTX2: what is read of it.
-use Rattle.std.proofs.Common.{arith, rules}
+use Rattle.std.proofs.Common.{rules}
 use Rattle.imagesize_fixed.specs.Ktx2.{ktx2}
 use Rattle.imagesize_source.proofs.Way.{FixedLaws}
 

@@ -1,5 +1,5 @@
 -- Photoshop documents: what is read of it.
-use Rattle.std.proofs.Common.{arith, rules}
+use Rattle.std.proofs.Common.{rules}
 use Rattle.imagesize_fixed.specs.Psd.{psd}
 use Rattle.imagesize_source.proofs.Way.{FixedLaws}
 

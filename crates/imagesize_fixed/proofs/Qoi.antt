@@ -1,5 +1,5 @@
 -- QOI: what is read of it.
-use Rattle.std.proofs.Common.{arith, rules}
+use Rattle.std.proofs.Common.{rules}
 use Rattle.imagesize_fixed.specs.Qoi.{qoi}
 use Rattle.imagesize_source.proofs.Way.{FixedLaws}
 

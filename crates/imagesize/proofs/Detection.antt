@@ -1,5 +1,5 @@
 -- The type at a place: what it is read from, and what bytes that follow leave of it.
-use Rattle.std.proofs.Common.{◌≡◌, ℕ, ◌+◌, ◌≤◌, Bool, true, false, List, ◌++◌, length, Option, Some, None, Result, Ok, Err, refl, sym, ap, ◌∙◌, subst, arith}
+use Rattle.std.proofs.Common.{◌≡◌, ℕ, ◌≤◌, Bool, true, false, List, ◌++◌, length, Option, Some, None, Result, Ok, Err, refl, sym, ap, ◌∙◌, subst, arith}
 use Rattle.imagesize_boxes.proofs.Heif.{heif_kind}
 use Rattle.imagesize_boxes.specs.Heif.{heif_compression}
 use Rattle.imagesize_fixed.proofs.Atc.{atc_kind}
