@@ -23,3 +23,4 @@ pub mod Beyond
 pub mod Walks
 pub mod Openings
 pub mod Costs
+pub mod Recordings
