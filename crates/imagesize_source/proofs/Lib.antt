@@ -4,6 +4,7 @@ pub mod Slices
 pub mod Numbers
 pub mod Filling
 pub mod Found
+pub mod Spends
 pub mod Standings
 pub mod Windows
 pub mod Layouts
@@ -18,6 +19,8 @@ pub mod Advances
 pub mod Ahead
 pub mod Unrolled
 pub mod Tests
+pub mod TextReads
+pub mod Texts
 pub mod Beyond
 pub mod Walks
 pub mod Openings
