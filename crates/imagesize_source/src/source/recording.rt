@@ -7,8 +7,8 @@ ghost use Rattle.imagesize_source.specs.declared.error.ImageError.TheVariants as
 ghost use Rattle.imagesize_source.specs.declared.error.Reason.TheVariants as reason;
 
 use super::Source;
-use super::slice::copy_part;
-use crate::{ImageError, ImageResult, Reason, Span};
+use super::slice::{copy_part, text_at};
+use crate::{ImageError, ImageResult, Reason, Span, Text};
 use std::alloc::Allocator;
 
 /// A slice that is read by place, and the spans of the readings so far, in their order.
@@ -37,6 +37,15 @@ impl<A: Allocator> Source for RecordingSource<'_, A> {
         let count = copy_part(self.bytes, place, room);
         record(&mut self.spans, place, count)?;
         Ok(count)
+    }
+
+    fn read_text(&mut self, place: u64, text: Text, room: &mut [u8]) -> ImageResult<usize> {
+        // The proof needs that the length is below 2^63.
+        let _length = self.bytes.len();
+        let found = text_at(self.bytes, place, text, room.len());
+        record(&mut self.spans, place, found.len())?;
+        room[..found.len()].copy_from_slice(found);
+        Ok(found.len())
     }
 }
 
