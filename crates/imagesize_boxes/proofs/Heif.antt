@@ -11,7 +11,7 @@ use Rattle.std.specs.Int.{w32, from_be_bytes}
 use Rattle.std.specs.List.{find, last_or, sum_by}
 use Rattle.std.specs.Option.{option_or}
 use Rattle.std.specs.Prelude.{codes, flat_map, fold, nat_lt, nat_le, unwrap_or, ok_or, option_map, IfErr}
-use Rattle.imagesize_boxes.specs.Heif.{is_named, box_size, box_searched, search_for, searched_box, extents_size, property_named, property_found, property_at, property_bytes, extents_of, rotations_of, skipped_bytes, no_pixels, first_largest, largest_extents, turned, heif_answer, listed, properties, heif, property_said, earlier_largest, gathered_with, gathered_answer, begun, heif_boxes}
+use Rattle.imagesize_boxes.specs.Heif.{heif_compression, is_general, is_named, box_size, box_searched, search_for, searched_box, extents_size, property_named, property_found, property_at, property_bytes, extents_of, rotations_of, skipped_bytes, no_pixels, first_largest, largest_extents, turned, heif_answer, listed, properties, heif, heif_in_meta, heif_in_iprp, earlier_largest, gathered_with, gathered_answer, begun, boxes_in_iprp, boxes_in_meta, heif_boxes}
 use Rattle.imagesize_boxes.specs.declared.container.heif.FoundBox.{FoundBox}
 use Rattle.imagesize_boxes.specs.declared.container.heif.Gathered.{Gathered}
 use Rattle.imagesize_boxes.specs.declared.container.heif.Property.{Property}
@@ -33,19 +33,23 @@ use Rattle.imagesize_source.specs.Layout.{Layout, bytes, refuse, done, over, bin
 use Rattle.imagesize_source.specs.Numbers.{number}
 use Rattle.imagesize_source.specs.Reading.{Reads, and_then, onward, bytes_at, bytes_read, number_at, number_read, refuses, end_of_input, faulted}
 use Rattle.imagesize_source.specs.State.{State, Runs, EndedBy, Sound, total}
+use Rattle.imagesize_source.proofs.Always.{KindLaws}
 use Rattle.imagesize_source.proofs.Advances.{Tells, Begins, advances}
-use Rattle.imagesize_source.proofs.Ahead.{Ahead, chain_ahead}
+use Rattle.imagesize_source.proofs.Ahead.{Ahead, ahead_next, chain_ahead, total_behind}
 use Rattle.imagesize_source.proofs.Beyond.{bytes_beyond}
-use Rattle.imagesize_source.proofs.ChainLaws.{local_chain, chain_cost}
-use Rattle.imagesize_source.proofs.Chains.{chain_stop}
-use Rattle.imagesize_source.proofs.Count.{total-span_of}
+use Rattle.imagesize_source.proofs.ChainLaws.{local_chain, chain_cost, chain_induction}
+use Rattle.imagesize_source.proofs.Chains.{chain_next, chain_stop}
+use Rattle.imagesize_source.proofs.Count.{then_within, total-span_of}
+use Rattle.imagesize_source.proofs.Found.{on_answer}
 use Rattle.imagesize_source.proofs.Layouts.{runs_as}
 use Rattle.imagesize_source.proofs.Local.{local_then, local_number, same_span, same_bytes}
+use Rattle.imagesize_source.proofs.More.{bytes_ok}
 use Rattle.imagesize_source.proofs.Numbers.{big_4}
 use Rattle.imagesize_source.proofs.Reached.{runs_bind, refused_bind, reached_now}
 use Rattle.imagesize_source.proofs.Runs.{part_length, total-append}
 use Rattle.imagesize_source.proofs.Tests.{on_test}
 use Rattle.imagesize_source.proofs.Walks.{Walks, walks_start, walks_on, walks_stop, walks_out, walks_past}
+use Rattle.imagesize_source.proofs.Way.{RecordedLaws}
 
 first_four : (bs : List ℕ) → 4 ≤ length bs → from_be_bytes w32 (slice_index_or bs 0 0 ∷ slice_index_or bs 1 0 ∷ slice_index_or bs 2 0 ∷ slice_index_or bs 3 0 ∷ []) ≡ number Big (take 4 bs)
 first_four [] h = absurd (omega arith)
@@ -333,3 +337,169 @@ list_saturated all place h = saturated_by (λ p d. chain_at (properties all p) d
     (λ d p far. ends_beyond all p p (record { left = all; best = None; turn = None }) [] d far
     (record { left = omega arith; best = record { is = refl; first = refl; area = refl; found = λ some. absurd (omega arith) }; turn = refl }))
     h
+
+-- the kind is read from at most 12 bytes, and is always told
+pub heif_kind : (place : ℕ) (head : List ℕ) → KindLaws 12 (heif_compression place head)
+unfolding heif_compression
+heif_kind place head =
+    on_test (KindLaws 12) (is_general (four_at 8 head)) _ _ (λ _. record { few = (omega arith, λ _. tt); answers = λ _. tt }) (λ _. record { few = tt; answers = tt })
+
+-- what is seen of an input
+local_bytes : (place k : ℕ) → Local (λ d. bytes_read d place k)
+local_bytes place k d e a = rw (same_span d e place k a.as_long, same_bytes d e place k a) refl
+
+local_search : (tag : List ℕ) (place : ℕ) → Local (λ d. chain_at (search_for tag place) d)
+local_search tag place = local_chain (search_for tag place) (search_advances tag place)
+
+in_iprp_local : (iprp : FoundBox) → Local (heif_in_iprp iprp)
+in_iprp_local iprp = local_then (λ d. chain_at (search_for (codes "ipco") (iprp.place + 8)) d) (λ ipco d. chain_at (properties ipco.size (ipco.place + 8)) d)
+    (local_search (codes "ipco") (iprp.place + 8))
+    (λ ipco. local_chain (properties ipco.size (ipco.place + 8)) (properties_advance ipco.size (ipco.place + 8)))
+
+in_meta_local : (meta : FoundBox) → Local (heif_in_meta meta)
+in_meta_local meta = local_then (λ d. bytes_read d (meta.place + 8) 4) (λ version d. and_then (chain_at (search_for (codes "iprp") (meta.place + 12)) d) (λ iprp. heif_in_iprp iprp d))
+    (local_bytes (meta.place + 8) 4)
+    (λ version. local_then (λ d. chain_at (search_for (codes "iprp") (meta.place + 12)) d) heif_in_iprp (local_search (codes "iprp") (meta.place + 12)) in_iprp_local)
+
+pub heif_local : Local heif
+heif_local = local_then (λ d. number_read d Big 0 4) (λ first d. and_then (chain_at (search_for (codes "meta") first) d) (λ meta. heif_in_meta meta d))
+    (local_number Big 0 4)
+    (λ first. local_then (λ d. chain_at (search_for (codes "meta") first) d) heif_in_meta (local_search (codes "meta") first) in_meta_local)
+
+-- how many bytes the boxes are read from: what an answer leads to, and nothing behind a refusal
+begun_cost : {X Y : Type 0} (spans : List Span) (r : Result X ImageError) (f : X → Reads Y) (n : X → ℕ) (j k : ℕ) → total spans ≤ j → ((x : X) → total (f x).marks ≤ k + 20 * n x) → total (onward spans r f).marks ≤ j + (k + 20 * begun r n)
+begun_cost spans (Ok x) f n j k here rest = let all = total-append spans (f x).marks in let more = rest x in omega arith
+begun_cost spans (Err e) f n j k here rest = omega arith
+
+search_cost : (tag : List ℕ) (place : ℕ) (d : List ℕ) → total (chain_at (search_for tag place) d).marks ≤ 20 * records (search_for tag place) d
+search_cost tag place d = chain_cost (search_for tag place) d (search_advances tag place d) 20
+    (λ passed q. (omega arith, λ head. by_searched (AtMost 12) tag q head tt tt (λ big. tt)))
+
+properties_cost : (all place : ℕ) (d : List ℕ) → total (chain_at (properties all place) d).marks ≤ 20 * records (properties all place) d
+properties_cost all place d = chain_cost (properties all place) d (properties_advance all place d) 20
+    (λ held q. (omega arith, λ bs. by_listed (AtMost 12) held (all - sum_by skipped_bytes held) q (whole 8 bs) (λ e. tt) (λ size. tt) (omega arith, λ content. tt) (omega arith, λ content. tt) (λ size big. tt)))
+
+in_iprp_cost : (iprp : FoundBox) (d : List ℕ) → total (heif_in_iprp iprp d).marks ≤ 20 * boxes_in_iprp iprp d
+in_iprp_cost iprp d =
+    let reads = chain_at (search_for (codes "ipco") (iprp.place + 8)) d in
+    let all = begun_cost reads.marks reads.answer (λ ipco. chain_at (properties ipco.size (ipco.place + 8)) d) (λ ipco. records (properties ipco.size (ipco.place + 8)) d) _ 0
+    (search_cost (codes "ipco") (iprp.place + 8) d) (λ ipco. omega (arith, properties_cost ipco.size (ipco.place + 8) d)) in
+    omega arith
+
+in_meta_cost : (meta : FoundBox) (d : List ℕ) → total (heif_in_meta meta d).marks ≤ 4 + 20 * boxes_in_meta meta d
+in_meta_cost meta d =
+    let reads = chain_at (search_for (codes "iprp") (meta.place + 12)) d in
+    let rest : total (and_then reads (λ iprp. heif_in_iprp iprp d)).marks ≤ 20 * (records (search_for (codes "iprp") (meta.place + 12)) d + begun reads.answer (λ iprp. boxes_in_iprp iprp d)) =
+    omega (
+      arith,
+      begun_cost reads.marks reads.answer (λ iprp. heif_in_iprp iprp d) (λ iprp. boxes_in_iprp iprp d) _ 0
+          (search_cost (codes "iprp") (meta.place + 12) d) (λ iprp. omega (arith, in_iprp_cost iprp d)),
+    ) in
+    omega (
+      arith,
+      begun_cost (span_of d (meta.place + 8) 4) (bytes_at d (meta.place + 8) 4) (λ version. and_then reads (λ iprp. heif_in_iprp iprp d)) (λ version. records (search_for (codes "iprp") (meta.place + 12)) d + begun reads.answer (λ iprp. boxes_in_iprp iprp d)) 4 0
+          (total-span_of d (meta.place + 8) 4) (λ version. omega (arith, rest)),
+    )
+
+-- a box is read from at most 20 bytes
+pub heif_cost : (d : List ℕ) → total (heif d).marks ≤ 8 + 20 * heif_boxes d
+heif_cost d =
+    let rest : (first : ℕ) → total (and_then (chain_at (search_for (codes "meta") first) d) (λ meta. heif_in_meta meta d)).marks ≤ 4 + 20 * (records (search_for (codes "meta") first) d + begun (chain_at (search_for (codes "meta") first) d).answer (λ meta. boxes_in_meta meta d)) =
+    λ first. let reads = chain_at (search_for (codes "meta") first) d in
+    omega (
+      arith,
+      begun_cost reads.marks reads.answer (λ meta. heif_in_meta meta d) (λ meta. boxes_in_meta meta d) _ 4
+          (search_cost (codes "meta") first d) (λ meta. in_meta_cost meta d),
+    ) in
+    omega (
+      arith,
+      begun_cost (span_of d 0 4) (number_at d Big 0 4) (λ first. and_then (chain_at (search_for (codes "meta") first) d) (λ meta. heif_in_meta meta d)) (λ first. records (search_for (codes "meta") first) d + begun (chain_at (search_for (codes "meta") first) d).answer (λ meta. boxes_in_meta meta d)) 4 4
+          (total-span_of d 0 4) rest,
+    )
+
+-- what is left behind the head of a box that was found
+abbrev left_behind : List ℕ → Result FoundBox ImageError → ℕ
+left_behind d (Ok found) = length d - (found.place + 8)
+left_behind d (Err e) = 0
+
+-- the box that ends a search is read from the bytes up to there
+last_spends : (tag : List ℕ) (d : List ℕ) (place : ℕ) (r : Result FoundBox ImageError) → verdict (over d (searched_box tag place)).answer ≡ Some r → total (over d (searched_box tag place)).marks + left_behind d r ≤ length d - place
+last_spends tag d place r =
+    let few = total-span_of d place 8 in
+    let behind = total_behind d place 8 in
+    let none = total-append (span_of d place 8) [] in
+    on_answer (λ w. verdict w.answer ≡ Some r → total w.marks + left_behind d r ≤ length d - place) (span_of d place 8) (bytes_at d place 8) (λ head. over d (box_searched tag place head))
+    (λ head got. by_searched (λ t. verdict (over d t).answer ≡ Some r → total (span_of d place 8 ++ (over d t).marks) + left_behind d r ≤ length d - place) tag place head
+    (λ is. let same : Ok (record { place = place; size = box_size head }) ≡ r = cc in
+    let left : length d - (place + 8) ≡ left_behind d r = ap (left_behind d) same in
+    let there = bytes_ok d head place 8 got in omega arith)
+    (λ is. let same : Err (IoError (InvalidHeifBoxSize (box_size head))) ≡ r = cc in
+    let left : 0 ≡ left_behind d r = ap (left_behind d) same in omega arith)
+    (λ big is. absurd cc))
+    (λ e got is. let same : Err e ≡ r = cc in let left : 0 ≡ left_behind d r = ap (left_behind d) same in omega arith)
+
+search_spends : (tag : List ℕ) (first : ℕ) (d : List ℕ) → total (chain_at (search_for tag first) d).marks + left_behind d (chain_at (search_for tag first) d).answer ≤ length d - first
+search_spends tag first d =
+    let c = search_for tag first in
+    chain_induction c d (λ t. total (chain_from c d t).marks + left_behind d (chain_from c d t).answer ≤ length d - t.place) (search_advances tag first d)
+    (λ t v place is later.
+    let u : Along (Unit {0}) = record { held = t.held ++ v ∷ []; place = place } in
+    let next = chain_next c d t v place (search_advances tag first d) is in
+    let all : total (chain_from c d t).marks ≡ total (next_record c d t).marks + total (chain_from c d u).marks = ap (λ w. total w.marks) next ∙ total-append (next_record c d t).marks (chain_from c d u).marks in
+    let same : left_behind d (chain_from c d t).answer ≡ left_behind d (chain_from c d u).answer = ap (λ w. left_behind d w.answer) next in
+    let here = ahead_next d t.place (searched_box tag t.place) v place (omega arith, λ head. by_searched (Ahead (t.place + 8)) tag t.place head tt tt (λ big. omega arith)) is in
+    omega arith)
+    (λ t r is.
+    let stop = chain_stop c d t r is in
+    let all : total (chain_from c d t).marks ≡ total (next_record c d t).marks = ap (λ w. total w.marks) stop in
+    let same : left_behind d (chain_from c d t).answer ≡ left_behind d r = ap (λ w. left_behind d w.answer) stop in
+    let here = last_spends tag d t.place r is in
+    omega arith)
+    (start c)
+
+-- and what is found in the box
+found_spends : {Y : Type 0} (d : List ℕ) (n : ℕ) (spans : List Span) (r : Result FoundBox ImageError) (f : FoundBox → Reads Y) → total spans + left_behind d r ≤ n → ((found : FoundBox) → total (f found).marks ≤ length d - (found.place + 8)) → total (onward spans r f).marks ≤ n
+found_spends d n spans (Ok found) f here rest = let all = total-append spans (f found).marks in let more = rest found in omega arith
+found_spends d n spans (Err e) f here rest = omega arith
+
+properties_within : (all place : ℕ) (d : List ℕ) → total (chain_at (properties all place) d).marks ≤ length d - place
+properties_within all place d = chain_ahead (properties all place) d (properties_advance all place d)
+    (λ held q. (omega arith, λ bs. by_listed (Ahead (q + 8)) held (all - sum_by skipped_bytes held) q (whole 8 bs) (λ e. tt) (λ size. tt) (omega arith, λ content. omega arith) (omega arith, λ content. omega arith) (λ size big. omega arith)))
+
+in_iprp_within : (iprp : FoundBox) (d : List ℕ) → total (heif_in_iprp iprp d).marks ≤ length d - (iprp.place + 8)
+in_iprp_within iprp d =
+    let reads = chain_at (search_for (codes "ipco") (iprp.place + 8)) d in
+    found_spends d (length d - (iprp.place + 8)) reads.marks reads.answer (λ ipco. chain_at (properties ipco.size (ipco.place + 8)) d)
+    (search_spends (codes "ipco") (iprp.place + 8) d) (λ ipco. properties_within ipco.size (ipco.place + 8) d)
+
+bytes_then : {X Y : Type 0} (d : List ℕ) (place k : ℕ) (r : Result X ImageError) (f : X → Reads Y) → ((x : X) → total (f x).marks ≤ length d - (place + k)) → total (onward (span_of d place k) r f).marks ≤ length d - place
+bytes_then d place k (Ok x) f rest =
+    let all = total-append (span_of d place k) (f x).marks in let more = rest x in
+    let few = total-span_of d place k in let behind = total_behind d place k in omega arith
+bytes_then d place k (Err e) f rest = total_behind d place k
+
+in_meta_within : (meta : FoundBox) (d : List ℕ) → total (heif_in_meta meta d).marks ≤ length d - (meta.place + 8)
+in_meta_within meta d =
+    let reads = chain_at (search_for (codes "iprp") (meta.place + 12)) d in
+    let spends = search_spends (codes "iprp") (meta.place + 12) d in
+    bytes_then d (meta.place + 8) 4 (bytes_at d (meta.place + 8) 4) (λ version. and_then reads (λ iprp. heif_in_iprp iprp d))
+    (λ version. found_spends d (length d - (meta.place + 8 + 4)) reads.marks reads.answer (λ iprp. heif_in_iprp iprp d) (omega arith) (λ iprp. in_iprp_within iprp d))
+
+-- the boxes are read from at most 4 bytes more than the input has: the first four may be read twice
+pub heif_within : (d : List ℕ) → total (heif d).marks ≤ length d + 4
+heif_within d = omega (
+  arith,
+  then_within (number_read d Big 0 4) (λ first. and_then (chain_at (search_for (codes "meta") first) d) (λ meta. heif_in_meta meta d)) 4 (length d) (total-span_of d 0 4)
+      (λ first _. let reads = chain_at (search_for (codes "meta") first) d in
+      let spends = search_spends (codes "meta") first d in
+      found_spends d (length d) reads.marks reads.answer (λ meta. heif_in_meta meta d) (omega arith) (λ meta. in_meta_within meta d)),
+)
+
+-- the properties may go on in bytes that follow
+pub heif_laws : RecordedLaws 24 false 20 heif heif_boxes
+heif_laws = record {
+  local = heif_local;
+  cost = λ d. omega (arith, heif_cost d);
+  within = λ d. omega (arith, heif_within d);
+  lasts = λ keeps. absurd cc;
+}
