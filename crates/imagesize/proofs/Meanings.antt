@@ -1,8 +1,8 @@
 -- The size by a type that was found.
-use Rattle.std.proofs.Common.{◌≡◌, ℕ, ◌+◌, length, Option, Some, None, Result, Ok, Err, IfSome, true, false, sym, ap, ◌∙◌, subst, arith}
+use Rattle.std.proofs.Common.{◌≡◌, ℕ, Option, Some, None, Result, Ok, Err, IfSome, true, false, sym, ap, ◌∙◌, subst, arith}
 use Rattle.std.specs.Result.{result_ok}
-use Rattle.imagesize.proofs.Counts.{kind_within, size_at_most}
-use Rattle.imagesize_source.proofs.Count.{then_within}
+use Rattle.imagesize.proofs.Counts.{cost_within, size_within}
+use Rattle.imagesize.proofs.Detection.{kind_within}
 use Rattle.imagesize.specs.Meaning.{kind_of, meaning, size_of}
 use Rattle.imagesize.specs.Probed.{FindsKind, Probes}
 use Rattle.imagesize.specs.declared.calls.Probed.{Probed}
@@ -34,8 +34,7 @@ bounded_kind : IsBounded kind_of
 bounded_kind d place = omega (arith, kind_within d place)
 
 bounded_meaning : IsBounded meaning
-unfolding meaning
-bounded_meaning d place = omega (arith, then_within (kind_of d place) (λ found. size_of found d) 37 (length d + 20) (kind_within d place) (λ found _. size_at_most found d))
+bounded_meaning d place = omega (arith, cost_within d place)
 
 -- the type that a reader was found to hold
 pub kind_answers : (telling mid : Option Telling) (count : Option ℕ) (home : ℕ) (opened : Opened) (a b : State) (r : Result ImageType ImageError) → a ≡ start_state mid count home opened.told → Opens telling mid (Ok opened) → Runs a b r (kind_of a.held.input opened.place) → Answers telling kind_of r
@@ -67,7 +66,7 @@ probes_opened (Some t) mid count home opened a b probed start opens h finds took
     }
 
 bounded_size : (type : ImageType) → IsBounded (λ d place. size_of type d)
-bounded_size type d place = omega (arith, size_at_most type d)
+bounded_size type d place = omega (arith, size_within type d)
 
 -- the size that a reader was found to have, read as a type
 pub size_answers : (telling mid : Option Telling) (count : Option ℕ) (home : ℕ) (opened : Opened) (a b : State) (type : ImageType) (r : Result ImageSize ImageError) → a ≡ start_state mid count home opened.told → Opens telling mid (Ok opened) → Runs a b r (size_of type a.held.input) → Answers telling (λ d place. size_of type d) r

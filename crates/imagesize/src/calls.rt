@@ -1,15 +1,14 @@
 //! The calls: type and size of a slice's bytes, or of a reader's.
-ghost use Rattle.std.specs.Prelude.{◌≡◌, ℕ, ◌+◌, ◌*◌, ◌≤◌, List, ◌++◌, IsTrue, IfOk, IfErr, IfSome, Some, Option, Ok, option_map};
+ghost use Rattle.std.specs.Prelude.{◌≡◌, ℕ, ◌+◌, ◌≤◌, List, length, ◌++◌, IsTrue, IfOk, IfErr, IfSome, Some, Option, Ok, option_map};
 ghost use Rattle.imagesize_source.specs.Answers.{Answers, Counts};
 ghost use Rattle.imagesize_source.specs.Reading.{spent};
 ghost use Rattle.imagesize_source.specs.State.{Runs};
 ghost use Rattle.imagesize_source.specs.ReaderState.{Opens};
 ghost use Rattle.imagesize_source.specs.Telling.{Telling};
 ghost use Rattle.imagesize_source.specs.Agreement.{Agrees};
-ghost use Rattle.imagesize.specs.Counts.{cost, is_fixed_or_refused, lasts_as};
+ghost use Rattle.imagesize.specs.Counts.{cost, lasts_as, stated};
 ghost use Rattle.imagesize.specs.Meaning.{kind_of, meaning, size_of};
 ghost use Rattle.imagesize.specs.Probed.{FindsKind, Probes};
-ghost use Rattle.imagesize.specs.Records.{is_walked_as, records_begun};
 
 use crate::formats::{detect, size};
 use crate::types::ImageType;
@@ -50,13 +49,14 @@ pub fn blob_size(data: &[u8]) -> ImageResult<ImageSize>
     // Another input of this length that agrees on the marks has the same size, and the same marks.
     ensures local { (e : List ℕ) → Agrees «data».now e (meaning «data».now 0).marks → meaning e 0 ≡ meaning «data».now 0 }
 
-    // A size at fixed places, and a refused type, are read from at most 41 bytes.
-    ensures cost { IsTrue (is_fixed_or_refused (kind_of «data».now 0).answer) → cost «data».now 0 ≤ 41 }
+    // A refused type, and a size at fixed places, are read from at most 41 bytes; a size behind records from at
+    // most 64, and 20 for each record that is begun.
+    ensures stated { cost «data».now 0 ≤ stated «data».now 0 }
 
-    // A size behind records is read from at most 64 bytes, and 20 for each record that is begun.
-    ensures walked { IsTrue (is_walked_as (kind_of «data».now 0).answer) → cost «data».now 0 ≤ 64 + 20 * records_begun «data».now 0 }
+    // Every size, and every refusal, is read from at most 64 bytes more than there are.
+    ensures within { cost «data».now 0 ≤ length «data».now + 64 }
 
-    // Bytes that follow change no size of a JPEG or an ILBM, and none at fixed places, but for TGA.
+    // Bytes that follow change no size, but those of HEIF, of icons and of TGA.
     ensures lasts { IsTrue (lasts_as (kind_of «data».now 0).answer) → IfOk result (λ size.
         (x : List ℕ) → (meaning («data».now ++ x) 0).answer ≡ Ok size) }
 {

@@ -23,3 +23,5 @@ pub mod Beyond
 pub mod Walks
 pub mod Openings
 pub mod Costs
+pub mod Way
+pub mod Always
