@@ -19,7 +19,7 @@ use Rattle.imagesize_source.specs.Chain.{Said, Decided, Next, Chain, chain_at, r
 use Rattle.imagesize_source.specs.Layout.{Layout, over, bind, if_there}
 use Rattle.imagesize_source.specs.Layout.Layout.{field, bytes, refuse, «done»}
 use Rattle.imagesize_source.specs.Numbers.{number}
-use Rattle.imagesize_source.specs.Reading.{Reads, and_then, number_read}
+use Rattle.imagesize_source.specs.Reading.{Reads, and_then, number_at, number_read}
 
 -- the order of the bytes, and 42 or 43 in that order
 unfoldable pub is_tiff : List ℕ → Bool
@@ -155,3 +155,15 @@ tiff_directory d header = and_then (number_read d header.order header.directory 
 
 abbrev pub tiff : List ℕ → Reads ImageSize
 tiff d = and_then (over d tiff_header) (tiff_directory d)
+
+-- how many entries are begun: the end of the directory begins none
+abbrev pub begun_of : List ℕ → Header → Result ℕ ImageError → ℕ
+begun_of d header (Ok count) = min count (records (tiff_entries header count) d)
+begun_of d header (Err e) = 0
+
+abbrev pub begun_behind : List ℕ → Result Header ImageError → ℕ
+begun_behind d (Ok header) = begun_of d header (number_at d header.order header.directory (count_bytes header.version))
+begun_behind d (Err e) = 0
+
+abbrev pub entries_begun : List ℕ → ℕ
+entries_begun d = begun_behind d (over d tiff_header).answer
