@@ -3,3 +3,4 @@ pub mod Kind
 pub mod Meaning
 pub mod Probed
 pub mod Queries
+pub mod Ranks
