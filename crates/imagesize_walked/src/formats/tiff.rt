@@ -3,7 +3,7 @@ ghost use Rattle.std.specs.Prelude.{◌≡◌};
 ghost use Rattle.imagesize_walked.specs.Tiff.{is_tiff};
 
 /// Whether the order of the bytes stands first, and the version behind it.
-#[inline]
+#[inline(always)]
 #[tactic(auto, unfolding(crate::specs::Tiff::is_tiff))]
 pub fn matches(head: &[u8; 12]) -> bool
     ensures { result ≡ is_tiff head.now }
