@@ -1,4 +1,5 @@
 -- What holds of the size of each type.
+use Rattle.imagesize_boxes.proofs.Heif.{heif_laws}
 use Rattle.imagesize_fixed.proofs.Aseprite.{aseprite_laws}
 use Rattle.imagesize_fixed.proofs.Astc.{astc_laws}
 use Rattle.imagesize_fixed.proofs.Atc.{atc_laws}
@@ -36,7 +37,7 @@ laws_of Exr = record { few = tt; plain = tt }
 laws_of Farbfeld = farbfeld_laws
 laws_of Gif = gif_laws
 laws_of Hdr = record { few = tt; plain = tt }
-laws_of (Heif _) = record { few = tt; plain = tt }
+laws_of (Heif _) = heif_laws
 laws_of Ico = ico_laws
 laws_of Ilbm = ilbm_laws
 laws_of Jpeg = jpeg_laws

@@ -4,3 +4,4 @@ pub mod Meaning
 pub mod Probed
 pub mod Queries
 pub mod Ranks
+pub mod Traced

@@ -1,5 +1,6 @@
 -- The size of an input.
 use Rattle.std.specs.Prelude.{ℕ, List, length}
+use Rattle.imagesize_boxes.specs.Heif.{heif, heif_boxes}
 use Rattle.imagesize_fixed.specs.Aseprite.{aseprite}
 use Rattle.imagesize_fixed.specs.Astc.{astc}
 use Rattle.imagesize_fixed.specs.Atc.{atc}
@@ -50,7 +51,7 @@ way_of Exr = unread
 way_of Farbfeld = Fixed farbfeld
 way_of Gif = Fixed gif
 way_of Hdr = unread
-way_of (Heif _) = unread
+way_of (Heif _) = Recorded 20 heif heif_boxes
 way_of Ico = Recorded 20 ico entries_begun
 way_of Ilbm = Recorded 20 ilbm (records ilbm_chunks)
 way_of Jpeg = Recorded 20 jpeg (records jpeg_segments)

@@ -72,7 +72,10 @@ fn probe_slice(data: &[u8]) -> ImageResult<ImageSize>
 }
 
 // The type at a place of a source, and the size by it.
-fn probe<S: Source>(source: &mut S, place: u64) -> (Option<ImageType>, ImageResult<ImageSize>)
+pub(crate) fn probe<S: Source>(
+    source: &mut S,
+    place: u64,
+) -> (Option<ImageType>, ImageResult<ImageSize>)
     ensures runs { Runs (S.state source.old) (S.state source.new) result.1
         (meaning (S.state source.old).held.input place) }
     ensures kind { FindsKind (S.state source.old) place result.0 result.1 }

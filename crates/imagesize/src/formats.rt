@@ -114,6 +114,7 @@ pub(crate) fn size<S: Source>(source: &mut S, kind: ImageType) -> ImageResult<Im
         ImageType::Eac(_) | ImageType::Etc2(_) => pkm::size(source),
         ImageType::Farbfeld => farbfeld::size(source),
         ImageType::Gif => gif::size(source),
+        ImageType::Heif(_) => heif::size(source),
         ImageType::Ico => ico::size(source),
         ImageType::Ilbm => ilbm::size(source),
         ImageType::Jpeg => jpeg::size(source),
@@ -124,12 +125,8 @@ pub(crate) fn size<S: Source>(source: &mut S, kind: ImageType) -> ImageResult<Im
         ImageType::Tga => tga::size(source),
         ImageType::Vtf => vtf::size(source),
         ImageType::Webp => webp::size(source),
-        ImageType::Exr
-        | ImageType::Hdr
-        | ImageType::Heif(_)
-        | ImageType::Jxl
-        | ImageType::Pnm
-        | ImageType::Tiff => unsupported(source),
+        ImageType::Exr | ImageType::Hdr | ImageType::Jxl | ImageType::Pnm | ImageType::Tiff =>
+            unsupported(source),
     }
 }
 

@@ -28,3 +28,4 @@ pub mod Openings
 pub mod Costs
 pub mod Way
 pub mod Always
+pub mod Recordings
