@@ -16,8 +16,8 @@ use Rattle.imagesize_source.specs.declared.error.Reason.TheVariants.{InvalidTiff
 use Rattle.imagesize_source.specs.declared.util.Endian.{Endian}
 use Rattle.imagesize_source.specs.declared.util.Endian.TheVariants.{Little, Big}
 use Rattle.imagesize_source.specs.Chain.{Said, Decided, Next, Chain, chain_at, records}
-use Rattle.imagesize_source.specs.Layout.{Layout, over, bind, if_there}
-use Rattle.imagesize_source.specs.Layout.Layout.{field, bytes, refuse, «done»}
+use Rattle.imagesize_source.specs.Layout.{Layout, over, bind, bytes, if_there}
+use Rattle.imagesize_source.specs.Layout.Layout.{field, refuse, «done»}
 use Rattle.imagesize_source.specs.Numbers.{number}
 use Rattle.imagesize_source.specs.Reading.{Reads, and_then, number_at, number_read}
 
