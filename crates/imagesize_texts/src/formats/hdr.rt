@@ -3,7 +3,7 @@ ghost use Rattle.std.specs.Prelude.{◌≡◌};
 ghost use Rattle.imagesize_texts.specs.Hdr.{is_hdr};
 
 /// Whether the first line is the identifier.
-#[inline]
+#[inline(always)]
 #[tactic(auto, unfolding(crate::specs::Hdr::is_hdr))]
 pub fn matches(head: &[u8; 12]) -> bool
     ensures { result ≡ is_hdr head.now }

@@ -3,7 +3,7 @@ ghost use Rattle.std.specs.Prelude.{◌≡◌};
 ghost use Rattle.imagesize_texts.specs.Pnm.{is_pnm};
 
 /// Whether a magic number from `P1` to `P6` stands first.
-#[inline]
+#[inline(always)]
 #[tactic(auto, unfolding(crate::specs::Pnm::is_pnm))]
 pub fn matches(head: &[u8; 12]) -> bool
     ensures { result ≡ is_pnm head.now }
