@@ -1,0 +1,103 @@
+//! Texts: lines up to a delimiter and words between white space, each of so many bytes at most.
+ghost use Rattle.std.specs.Prelude.{◌≡◌, length};
+ghost use Rattle.imagesize_source.specs.Reading.{seen};
+ghost use Rattle.imagesize_texts.specs.Contents.{ended_word, is_word_end, line_length, line_text, no_end, number_text, utf8, word_text};
+ghost use Rattle.imagesize_texts.specs.Texts.{read_word_of};
+
+use imagesize_source::{ImageError, ImageResult, Reason};
+
+/// How many bytes of an input a word may take, less one.
+pub const WORD_ROOM: usize = 1024;
+
+/// A word of an input.
+pub struct Word<'a> {
+    /// Its text.
+    pub text: &'a str,
+    /// The white space that ends it.
+    pub ended_by: u8,
+    /// How many bytes it takes, with the white space before it and the one that ends it.
+    pub taken: usize,
+}
+
+// The text of a line, without the delimiter that ends it, where there is room for so many bytes.
+#[tactic(auto, unfolding(crate::specs::Contents::line_text))]
+fn line_text(bytes: &[u8], delimiter: u8, most: usize) -> ImageResult<&str>
+    ensures { seen (λ text. text.now) result ≡ line_text delimiter most bytes.now }
+{
+    match bytes {
+        [text @ .., last] if *last == delimiter => text_of(text),
+        _ => Err(no_end(bytes.len(), most)),
+    }
+}
+
+// How many bytes a line takes, where there is room for so many.
+#[tactic(auto, unfolding(crate::specs::Contents::line_length))]
+fn line_length(bytes: &[u8], delimiter: u8, most: usize) -> ImageResult<usize>
+    ensures { result ≡ line_length delimiter most bytes.now }
+{
+    match bytes {
+        [.., last] if *last == delimiter => Ok(bytes.len()),
+        _ => Err(no_end(bytes.len(), most)),
+    }
+}
+
+// The word that stands behind white space.
+#[tactic(auto, using(crate::proofs::Words::unspaced_is), unfolding(crate::specs::Contents::word_text))]
+fn word_text(bytes: &[u8]) -> ImageResult<Word<'_>>
+    ensures { seen (λ word. read_word_of word) result ≡ word_text bytes.now }
+{
+    ended_word(bytes.trim_ascii_start(), bytes.len())
+}
+
+// The word that begins the bytes, of so many with the white space before them.
+#[tactic(auto, unfolding(crate::specs::Contents::ended_word))]
+fn ended_word(bytes: &[u8], taken: usize) -> ImageResult<Word<'_>>
+    ensures { seen (λ word. read_word_of word) result ≡ ended_word taken bytes.now }
+{
+    match bytes {
+        [text @ .., last] if is_word_end(*last, taken) => Ok(Word {
+            text: text_of(text)?,
+            ended_by: *last,
+            taken,
+        }),
+        _ => Err(no_end(taken, WORD_ROOM)),
+    }
+}
+
+// Whether a byte ends a word that takes so many bytes.
+#[inline]
+fn is_word_end(byte: u8, taken: usize) -> bool
+    ensures { result ≡ is_word_end byte taken }
+{
+    byte.is_ascii_whitespace() && taken < WORD_ROOM
+}
+
+// Why a text of so many bytes has no end, where there is room for so many.
+#[inline]
+fn no_end(count: usize, most: usize) -> ImageError
+    ensures { result ≡ no_end most count }
+{
+    if count == most {
+        return ImageError::IoError(Reason::NoDelimiter { max_size: most });
+    }
+    ImageError::IoError(Reason::EndOfInput)
+}
+
+// The bytes as text.
+#[tactic(auto, using(crate::proofs::Words::is_text, crate::proofs::Words::no_text))]
+fn text_of(bytes: &[u8]) -> ImageResult<&str>
+    ensures { seen (λ text. text.now) result ≡ utf8 bytes.now }
+{
+    match str::from_utf8(bytes) {
+        Ok(text) => Ok(text),
+        Err(_) => Err(ImageError::IoError(Reason::NotUtf8)),
+    }
+}
+
+/// The number that a text is: digits, before which one `+` may stand.
+#[tactic(auto, using(crate::proofs::Words::parsed))]
+pub fn number(text: &str) -> Option<usize>
+    ensures { result ≡ number_text text.now }
+{
+    text.parse().ok()
+}
