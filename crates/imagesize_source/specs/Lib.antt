@@ -14,3 +14,4 @@ pub mod Standing
 pub mod State
 pub mod StopOf
 pub mod Telling
+pub mod Text
