@@ -28,9 +28,9 @@ use Rattle.imagesize_source.proofs.More.{more_answer, bytes_ok, bytes_more}
 use Rattle.imagesize_source.proofs.Layouts.{over-bind}
 use Rattle.imagesize_source.specs.Extension.{Plain}
 use Rattle.imagesize_source.specs.Layout.{Layout, over, bind, whole}
-use Rattle.imagesize_source.specs.Layout.Layout.{«done», refuse, field, bytes, there}
+use Rattle.imagesize_source.specs.Layout.Layout.{«done», refuse, field, reading}
 use Rattle.imagesize_source.specs.Input.{span_of}
-use Rattle.imagesize_source.specs.Reading.{Reads, onward, bytes_at}
+use Rattle.imagesize_source.specs.Reading.{Reads, AllOf, PartOf, TextOf, onward, bytes_at}
 use Rattle.imagesize_source.specs.declared.span.Span.{Span}
 use Rattle.imagesize_source.specs.declared.error.ImageError.{ImageError}
 
@@ -39,22 +39,25 @@ abbrev Always : {X : Type 0} → (X → Type 0) → Layout X → Type 0
 Always P (done x) = P x
 Always P (refuse e) = ⊥
 Always P (field order place n f) = ⊥
-Always P (bytes place n f) = ⊥
-Always P (there place n f) = (bs : List ℕ) → Always P (f bs)
+Always P (reading (AllOf n) place f) = ⊥
+Always P (reading (PartOf n) place f) = (bs : List ℕ) → Always P (f bs)
+Always P (reading (TextOf t n) place f) = (bs : List ℕ) → Always P (f bs)
 
 always : {X : Type 0} (P : X → Type 0) (d : List ℕ) (t : Layout X) → Always P t → (x : X) × ((over d t).answer ≡ Ok x) × P x
 always P d (done x) h = (x, refl, h)
 always P d (refuse e) h = absurd h
 always P d (field order place n f) h = absurd h
-always P d (bytes place n f) h = absurd h
-always P d (there place n f) h = always P d (f _) (h _)
+always P d (reading (AllOf n) place f) h = absurd h
+always P d (reading (PartOf n) place f) h = always P d (f _) (h _)
+always P d (reading (TextOf t n) place f) h = always P d (f _) (h _)
 
 always_bind : {X Y : Type 0} (P : Y → Type 0) (t : Layout X) (g : X → Layout Y) → Always (λ _. Unit {0}) t → ((x : X) → Always P (g x)) → Always P (bind t g)
 always_bind P (done x) g h next = next x
 always_bind P (refuse e) g h next = absurd h
 always_bind P (field order place n f) g h next = absurd h
-always_bind P (bytes place n f) g h next = absurd h
-always_bind P (there place n f) g h next = λ bs. always_bind P (f bs) g (h bs) next
+always_bind P (reading (AllOf n) place f) g h next = absurd h
+always_bind P (reading (PartOf n) place f) g h next = λ bs. always_bind P (f bs) g (h bs) next
+always_bind P (reading (TextOf t n) place f) g h next = λ bs. always_bind P (f bs) g (h bs) next
 
 -- both sides of a test
 on_both : {X : Type 0} (b : Bool) (s t : Layout X) → Always (λ _. Unit {0}) s → Always (λ _. Unit {0}) t → Always (λ _. Unit {0}) (cond b s t)
