@@ -1,5 +1,5 @@
 -- Texts that were read: what was made of them, and what holds of layouts that read them.
-use Rattle.std.proofs.Common.{◌≡◌, ℕ, zero, suc, ◌+◌, ◌-◌, ◌^◌, ◌<◌, ◌≤◌, min, Bool, true, false, ◌||◌, not, cond, eqb, leb, ltb, List, [], ◌∷◌, length, drop, slice_index, Option, None, Some, Result, Ok, Err, IfErr, IfOk, IfSome, refl, sym, ap, ◌∙◌, subst, arith}
+use Rattle.std.proofs.Common.{◌≡◌, ℕ, zero, suc, ◌+◌, ◌-◌, ◌^◌, ◌<◌, ◌≤◌, min, Bool, true, false, ◌||◌, not, cond, eqb, leb, ltb, List, [], ◌∷◌, length, take, drop, slice_index, Option, None, Some, Result, Ok, Err, IfErr, IfOk, IfSome, refl, sym, ap, ◌∙◌, subst, arith}
 use Rattle.std.proofs.lemmas.Bool.Decides.{nat_tests}
 use Rattle.std.proofs.lemmas.List.{length-take}
 use Rattle.std.specs.Char.{is_ascii_whitespace}
@@ -103,14 +103,18 @@ word_judged bs = on_test Judged (last_passes (λ b. is_word_end b (length bs)) (
     (λ _. seen_judged (word_at (length bs) (unspaced bs)) (utf8 (before_last (unspaced bs))) (utf8_judged (before_last (unspaced bs)))) (λ _. no_end_harmless word_room (length bs))
 
 -- the three readings of texts, of which each is judged
-pub line_runs : {a b : State} {r : Result (List ℕ) ImageError} (d : List ℕ) (delimiter place most : ℕ) (bs : List ℕ) → Runs a b (Ok bs) (text_read d (Line delimiter) place most) → r ≡ line_text delimiter most bs → Runs a b r (line_read d delimiter place most)
-line_runs {a} {b} {r} d delimiter place most bs h is = text_judged d (Line delimiter) place most bs (line_text delimiter most) r h is (line_judged delimiter most bs)
+module _ {a b : State} (d room : List ℕ) (place most n : ℕ) (long : length room ≡ most) where
+  judged_room : {X : Type 0} (t : Text) (f : List ℕ → Result X ImageError) (r : Result X ImageError) → Runs a b (Ok (take n room)) (text_read d t place (length room)) → r ≡ f (take n room) → Judged (f (take n room)) → Runs a b r (text_as d t place most f)
+  judged_room t f r h is fine = text_judged d t place most (take n room) f r (subst (λ k. Runs a b (Ok (take n room)) (text_read d t place k)) long h) is fine
 
-pub length_runs : {a b : State} {r : Result ℕ ImageError} (d : List ℕ) (delimiter place most : ℕ) (bs : List ℕ) → Runs a b (Ok bs) (text_read d (Line delimiter) place most) → r ≡ line_length delimiter most bs → Runs a b r (length_read d delimiter place most)
-length_runs {a} {b} {r} d delimiter place most bs h is = text_judged d (Line delimiter) place most bs (line_length delimiter most) r h is (length_judged delimiter most bs)
+  pub line_runs : (delimiter : ℕ) (r : Result (List ℕ) ImageError) → Runs a b (Ok (take n room)) (text_read d (Line delimiter) place (length room)) → r ≡ line_text delimiter most (take n room) → Runs a b r (line_read d delimiter place most)
+  line_runs delimiter r h is = judged_room (Line delimiter) (line_text delimiter most) r h is (line_judged delimiter most (take n room))
 
-pub word_runs : {a b : State} {r : Result WordRead ImageError} (d : List ℕ) (place : ℕ) (bs : List ℕ) → Runs a b (Ok bs) (text_read d Word place word_room) → r ≡ word_text bs → Runs a b r (word_read d place)
-word_runs {a} {b} {r} d place bs h is = text_judged d Word place word_room bs word_text r h is (word_judged bs)
+  pub length_runs : (delimiter : ℕ) (r : Result ℕ ImageError) → Runs a b (Ok (take n room)) (text_read d (Line delimiter) place (length room)) → r ≡ line_length delimiter most (take n room) → Runs a b r (length_read d delimiter place most)
+  length_runs delimiter r h is = judged_room (Line delimiter) (line_length delimiter most) r h is (length_judged delimiter most (take n room))
+
+pub word_runs : {a b : State} (d room : List ℕ) (place n : ℕ) (r : Result WordRead ImageError) → length room ≡ word_room → Runs a b (Ok (take n room)) (text_read d Word place (length room)) → r ≡ word_text (take n room) → Runs a b r (word_read d place)
+word_runs d room place n r long h is = judged_room d room place word_room n long Word word_text r h is (word_judged (take n room))
 
 -- a text has bytes where something was made of it
 passes_some : (p : ℕ → Bool) (bs : List ℕ) → last_passes p bs ≡ true → 0 < length bs
@@ -164,6 +168,15 @@ word_ok bs w = on_test (λ r. r ≡ Ok w → (length bs ≡ w.taken) × (0 < len
     (sym (ap (λ w. w.taken) text.1), omega (arith, some, unspaced_le bs), ends))
     (λ _ is. absurd cc)
 
+-- so what was read of it was paid for
+pub line_pays : {A P : Type 0} (v : A → List ℕ) (delimiter most : ℕ) (room : List ℕ) (n : ℕ) (r : Result A ImageError) → seen v r ≡ line_text delimiter most (take n room) → (0 < n → P) → IfOk r (λ _. P)
+line_pays v delimiter most room n (Ok x) is pays = pays (omega (arith, (line_ok delimiter most (take n room) (v x) (sym is)).0, length-take n room))
+line_pays v delimiter most room n (Err e) is pays = tt
+
+pub word_pays : {A P : Type 0} (v : A → WordRead) (room : List ℕ) (n : ℕ) (r : Result A ImageError) → seen v r ≡ word_text (take n room) → (0 < n → P) → IfOk r (λ _. P)
+word_pays v room n (Ok x) is pays = pays (omega (arith, (word_ok (take n room) (v x) (sym is)).1, length-take n room))
+word_pays v room n (Err e) is pays = tt
+
 any_at : (p : ℕ → Bool) (bs : List ℕ) (i : ℕ) → i < length bs → p (slice_index bs i) ≡ true → list_any p bs ≡ true
 any_at p [] i h is = absurd (omega arith)
 any_at p (b ∷ bs) zero h is = ap (λ test. test || list_any p bs) is
@@ -209,8 +222,11 @@ module _ {X : Type 0} (delimiter place most : ℕ) (f : List ℕ → Layout X) w
   line_at_most k few rest = (few, λ bs. found_by (AtMost (k - most)) (line_text delimiter most bs) f (λ text _. rest text) (λ e. tt))
 
   pub line_onto : (to : X → Option ℕ) (q : ℕ) → q ≤ place → ((text : List ℕ) → Onto to (place + (length text + 1)) (f text)) → Onto to q (line delimiter place most f)
-  line_onto to q here rest = (here, λ bs. found_by (Onto to (place + length bs)) (line_text delimiter most bs) f
-      (λ text is. subst (λ n. Onto to (place + n) (f text)) (sym (line_ok delimiter most bs text is).0) (rest text)) (λ e. tt))
+  line_onto to q here rest = (
+    here,
+    λ bs. found_by (Onto to (place + length bs)) (line_text delimiter most bs) f
+        (λ text is. subst (λ n. Onto to (place + n) (f text)) (sym (line_ok delimiter most bs text is).0) (rest text)) (λ e. tt),
+  )
 
   pub line_plain : ((text : List ℕ) → Plain (f text)) → Plain (line delimiter place most f)
   line_plain rest = λ bs. (
@@ -228,8 +244,11 @@ module _ {C X : Type 0} (delimiter place most : ℕ) (f : List ℕ → Layout (S
 -- lines that are passed
 module _ {X : Type 0} (delimiter place most : ℕ) (f : ℕ → Layout X) where
   pub passed_onto : (to : X → Option ℕ) (q : ℕ) → q ≤ place → ((n : ℕ) → Onto to (place + n) (f n)) → Onto to q (passed_line delimiter place most f)
-  passed_onto to q here rest = (here, λ bs. found_by (Onto to (place + length bs)) (line_length delimiter most bs) f
-      (λ n is. subst (λ k. Onto to (place + k) (f n)) (sym (length_ok delimiter most bs n is).0) (rest n)) (λ e. tt))
+  passed_onto to q here rest = (
+    here,
+    λ bs. found_by (Onto to (place + length bs)) (line_length delimiter most bs) f
+        (λ n is. subst (λ k. Onto to (place + k) (f n)) (sym (length_ok delimiter most bs n is).0) (rest n)) (λ e. tt),
+  )
 
   pub passed_plain : ((n : ℕ) → Plain (f n)) → Plain (passed_line delimiter place most f)
   passed_plain rest = λ bs. (
@@ -243,8 +262,11 @@ passed_tells delimiter place most f P rest = λ bs. found_by (Tells P) (line_len
 -- words
 module _ {X : Type 0} (place : ℕ) (f : WordRead → Layout X) where
   pub word_onto : (to : X → Option ℕ) (q : ℕ) → q ≤ place → ((w : WordRead) → Onto to (place + w.taken) (f w)) → Onto to q (word place f)
-  word_onto to q here rest = (here, λ bs. found_by (Onto to (place + length bs)) (word_text bs) f
-      (λ w is. subst (λ n. Onto to (place + n) (f w)) (sym (word_ok bs w is).0) (rest w)) (λ e. tt))
+  word_onto to q here rest = (
+    here,
+    λ bs. found_by (Onto to (place + length bs)) (word_text bs) f
+        (λ w is. subst (λ n. Onto to (place + n) (f w)) (sym (word_ok bs w is).0) (rest w)) (λ e. tt),
+  )
 
   pub word_plain : ((w : WordRead) → Plain (f w)) → Plain (word place f)
   word_plain rest = λ bs. (

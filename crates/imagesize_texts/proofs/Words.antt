@@ -115,15 +115,15 @@ word_first text gap word rest more utf is some gaps letters starts =
     let gs : List ℕ = gaps.0 in
     let ws : List ℕ = letters.0 in
     let whole : text ≡ encode_utf8_all (gs ++ ws) ++ rest =
-        is ∙ ap (λ g. g ++ (word ++ rest)) (sym gaps.1) ∙ ap (λ w. encode_utf8_all gs ++ (w ++ rest)) (sym letters.1)
-        ∙ sym (append_assoc (encode_utf8_all gs) (encode_utf8_all ws) rest) ∙ ap (λ bs. bs ++ rest) (sym (encodes-append gs ws)) in
+    is ∙ ap (λ g. g ++ (word ++ rest)) (sym gaps.1) ∙ ap (λ w. encode_utf8_all gs ++ (w ++ rest)) (sym letters.1)
+    ∙ sym (append_assoc (encode_utf8_all gs) (encode_utf8_all ws) rest) ∙ ap (λ bs. bs ++ rest) (sym (encodes-append gs ws)) in
     let utf_rest : IsUtf8 rest = rest_utf8 (gs ++ ws) text rest utf whole in
     let all : encode_utf8_all ((gs ++ ws) ++ chars rest) ≡ text = encodes-append (gs ++ ws) (chars rest) ∙ ap (λ bs. encode_utf8_all (gs ++ ws) ++ bs) (encodes-chars rest utf_rest) ∙ sym whole in
     let cs : (gs ++ ws) ++ chars rest ≡ chars text = chars_from_encodes ((gs ++ ws) ++ chars rest) text utf all in
     let parts = split_starts rest more utf_rest starts in (
       ap (λ cs. map encode_utf8_all (char_words cs)) (sym cs ∙ append_assoc gs ws (chars rest))
-      ∙ ap (map encode_utf8_all) (char_words_gap gs (ws ++ chars rest) gaps.2 ∙ char_words_word ws (chars rest) parts.0 (some_chars ws word letters.1 some) letters.2 parts.1)
-      ∙ ap (λ w. w ∷ map encode_utf8_all (char_words (chars rest))) letters.1,
+          ∙ ap (map encode_utf8_all) (char_words_gap gs (ws ++ chars rest) gaps.2 ∙ char_words_word ws (chars rest) parts.0 (some_chars ws word letters.1 some) letters.2 parts.1)
+          ∙ ap (λ w. w ∷ map encode_utf8_all (char_words (chars rest))) letters.1,
       utf_rest,
     )
 

@@ -1,10 +1,13 @@
 //! Texts: lines up to a delimiter and words between white space, each of so many bytes at most.
-ghost use Rattle.std.specs.Prelude.{◌≡◌, length};
+ghost use Rattle.std.specs.Prelude.{◌≡◌, length, IfOk};
+ghost use Rattle.imagesize_source.specs.Paying.{Paid};
 ghost use Rattle.imagesize_source.specs.Reading.{seen};
+ghost use Rattle.imagesize_source.specs.State.{Runs};
 ghost use Rattle.imagesize_texts.specs.Contents.{ended_word, is_word_end, line_length, line_text, no_end, number_text, utf8, word_text};
-ghost use Rattle.imagesize_texts.specs.Texts.{read_word_of};
+ghost use Rattle.imagesize_texts.specs.Texts.{length_read, line_read, read_word_of, word_read};
 
-use imagesize_source::{ImageError, ImageResult, Reason};
+use imagesize_source::source::Source;
+use imagesize_source::{ImageError, ImageResult, Reason, Text};
 
 /// How many bytes of an input a word may take, less one.
 pub const WORD_ROOM: usize = 1024;
@@ -17,6 +20,76 @@ pub struct Word<'a> {
     pub ended_by: u8,
     /// How many bytes it takes, with the white space before it and the one that ends it.
     pub taken: usize,
+}
+
+/// The text from a place on up to a delimiter, which stands among as many bytes as there is room for.
+///
+/// # Errors
+///
+/// `NoDelimiter` where none of these bytes is the delimiter, `EndOfInput` where the input ends before one,
+/// and `NotUtf8` where the bytes before it are no text.
+pub fn read_line_capped<'a, S: Source>(
+    source: &mut S,
+    place: u64,
+    delimiter: u8,
+    room: &'a mut [u8],
+) -> ImageResult<&'a str>
+    ensures pays { IfOk result (λ text. Paid (S.state source.old) (S.state source.new) place) }
+    ensures runs { Runs (S.state source.old) (S.state source.new) (seen (λ text. text.now) result)
+        (line_read (S.state source.old).held.input delimiter place (length room.old)) }
+{
+    let most = room.len();
+    let count = source.read_text(place, Text::Line { delimiter }, room)?;
+    line_text(&room[..count], delimiter, most)
+}
+
+/// The text from a place on up to a byte 0, as `read_line_capped`.
+pub fn read_null_terminated_string<'a, S: Source>(
+    source: &mut S,
+    place: u64,
+    room: &'a mut [u8],
+) -> ImageResult<&'a str>
+    ensures pays { IfOk result (λ text. Paid (S.state source.old) (S.state source.new) place) }
+    ensures runs { Runs (S.state source.old) (S.state source.new) (seen (λ text. text.now) result)
+        (line_read (S.state source.old).held.input 0 place (length room.old)) }
+{
+    read_line_capped(source, place, 0, room)
+}
+
+/// How many bytes there are from a place on up to a delimiter, and with it, as `read_line_capped`, but for a
+/// line that need not be text.
+pub fn pass_line_capped<S: Source>(
+    source: &mut S,
+    place: u64,
+    delimiter: u8,
+    room: &mut [u8],
+) -> ImageResult<usize>
+    ensures { Runs (S.state source.old) (S.state source.new) result
+        (length_read (S.state source.old).held.input delimiter place (length room.old)) }
+{
+    let most = room.len();
+    let count = source.read_text(place, Text::Line { delimiter }, room)?;
+    line_length(&room[..count], delimiter, most)
+}
+
+/// The word from a place on, behind ASCII white space. The white space that ends it is byte 1023 from the place
+/// on, or an earlier one.
+///
+/// # Errors
+///
+/// `NoDelimiter` where 1024 bytes have no such end, `EndOfInput` where the input ends before one, and
+/// `NotUtf8` where the word is no text.
+pub fn read_word<'a, S: Source>(
+    source: &mut S,
+    place: u64,
+    room: &'a mut [u8; WORD_ROOM],
+) -> ImageResult<Word<'a>>
+    ensures pays { IfOk result (λ word. Paid (S.state source.old) (S.state source.new) place) }
+    ensures runs { Runs (S.state source.old) (S.state source.new) (seen (λ word. read_word_of word) result)
+        (word_read (S.state source.old).held.input place) }
+{
+    let count = source.read_text(place, Text::Word, room)?;
+    word_text(&room[..count])
 }
 
 // The text of a line, without the delimiter that ends it, where there is room for so many bytes.
