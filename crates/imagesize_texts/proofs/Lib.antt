@@ -1,2 +1,4 @@
-pub mod Words
+pub mod Hdr
+pub mod Pnm
 pub mod Texts
+pub mod Words

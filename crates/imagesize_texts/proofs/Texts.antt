@@ -1,5 +1,5 @@
 -- Texts that were read: what was made of them, and what holds of layouts that read them.
-use Rattle.std.proofs.Common.{◌≡◌, ℕ, zero, suc, ◌+◌, ◌-◌, ◌^◌, ◌<◌, ◌≤◌, min, Bool, true, false, ◌||◌, not, cond, eqb, leb, ltb, List, [], ◌∷◌, length, take, drop, slice_index, Option, None, Some, Result, Ok, Err, IfErr, IfOk, IfSome, refl, sym, ap, ◌∙◌, subst, arith}
+use Rattle.std.proofs.Common.{◌≡◌, ℕ, zero, suc, ◌+◌, ◌-◌, ◌^◌, ◌<◌, ◌≤◌, min, Bool, true, false, ◌||◌, not, cond, eqb, leb, ltb, List, [], ◌∷◌, ◌++◌, length, take, drop, slice_index, Option, None, Some, Result, Ok, Err, IfErr, IfOk, IfSome, refl, sym, ap, ◌∙◌, subst, arith}
 use Rattle.std.proofs.lemmas.Bool.Decides.{nat_tests}
 use Rattle.std.proofs.lemmas.List.{length-take}
 use Rattle.std.specs.Char.{is_ascii_whitespace}
@@ -13,12 +13,12 @@ use Rattle.imagesize_source.specs.declared.text.Text.{Text}
 use Rattle.imagesize_source.specs.declared.text.Text.TheVariants.{Line, Word}
 use Rattle.imagesize_source.specs.Chain.{Said}
 use Rattle.imagesize_source.specs.Counts.{AtMost}
-use Rattle.imagesize_source.specs.Extension.{Plain, Never}
+use Rattle.imagesize_source.specs.Extension.{Plain, Never, Lasts}
 use Rattle.imagesize_source.specs.Input.{part, span_at}
 use Rattle.imagesize_source.specs.Layout.{Layout, over}
 use Rattle.imagesize_source.specs.Layout.Layout.{refuse}
 use Rattle.imagesize_source.specs.Paying.{Paid}
-use Rattle.imagesize_source.specs.Reading.{Reads, refuses, behind, text_part, text_read, is_stop, seen, is_fault, is_memory, spent, stopped, faulted, end_of_input}
+use Rattle.imagesize_source.specs.Reading.{Reads, and_then, onward, refuses, behind, text_part, text_read, is_stop, seen, is_fault, is_memory, spent, stopped, faulted, end_of_input}
 use Rattle.imagesize_source.specs.State.{State, Runs, EndedBy}
 use Rattle.imagesize_source.specs.Text.{is_ended, skipped, delimits}
 use Rattle.imagesize_source.proofs.Advances.{Tells, Begins}
@@ -116,6 +116,14 @@ module _ {a b : State} (d room : List ℕ) (place most n : ℕ) (long : length r
 pub word_runs : {a b : State} (d room : List ℕ) (place n : ℕ) (r : Result WordRead ImageError) → length room ≡ word_room → Runs a b (Ok (take n room)) (text_read d Word place (length room)) → r ≡ word_text (take n room) → Runs a b r (word_read d place)
 word_runs d room place n r long h is = judged_room d room place word_room n long Word word_text r h is (word_judged (take n room))
 
+first_of : (a b : Bool) → a && b ≡ true → a ≡ true
+first_of true b is = refl
+first_of false b is = absurd cc
+
+second_of : (a b : Bool) → a && b ≡ true → b ≡ true
+second_of true b is = is
+second_of false b is = absurd cc
+
 -- a text has bytes where something was made of it
 passes_some : (p : ℕ → Bool) (bs : List ℕ) → last_passes p bs ≡ true → 0 < length bs
 passes_some p bs is = by_test (ltb 0 (length bs)) refl where
@@ -168,6 +176,9 @@ word_ok bs w = on_test (λ r. r ≡ Ok w → (length bs ≡ w.taken) × (0 < len
     (sym (ap (λ w. w.taken) text.1), omega (arith, some, unspaced_le bs), ends))
     (λ _ is. absurd cc)
 
+below_room : (last count : ℕ) → is_word_end last count ≡ true → count < word_room
+below_room last count is = let few : ltb count word_room ≡ true = second_of (is_ascii_whitespace last) (ltb count word_room) is in grind (arith, nat_tests)
+
 -- so what was read of it was paid for
 pub line_pays : {A P : Type 0} (v : A → List ℕ) (delimiter most : ℕ) (room : List ℕ) (n : ℕ) (r : Result A ImageError) → seen v r ≡ line_text delimiter most (take n room) → (0 < n → P) → IfOk r (λ _. P)
 line_pays v delimiter most room n (Ok x) is pays = pays (omega (arith, (line_ok delimiter most (take n room) (v x) (sym is)).0, length-take n room))
@@ -176,6 +187,19 @@ line_pays v delimiter most room n (Err e) is pays = tt
 pub word_pays : {A P : Type 0} (v : A → WordRead) (room : List ℕ) (n : ℕ) (r : Result A ImageError) → seen v r ≡ word_text (take n room) → (0 < n → P) → IfOk r (λ _. P)
 word_pays v room n (Ok x) is pays = pays (omega (arith, (word_ok (take n room) (v x) (sym is)).1, length-take n room))
 word_pays v room n (Err e) is pays = tt
+
+-- a line is no longer than there is room for, and a word takes some bytes, and fewer
+pub length_bound : (delimiter most : ℕ) (room : List ℕ) (n : ℕ) (r : Result ℕ ImageError) → length room ≡ most → r ≡ line_length delimiter most (take n room) → IfOk r (λ count. count ≤ most)
+length_bound delimiter most room n (Ok count) long is = omega (arith, (length_ok delimiter most (take n room) count (sym is)).0, length-take n room)
+length_bound delimiter most room n (Err e) long is = tt
+
+pub word_bound : {A : Type 0} (v : A → WordRead) (room : List ℕ) (n : ℕ) (r : Result A ImageError) → seen v r ≡ word_text (take n room) → IfOk r (λ w. (0 < (v w).taken) × ((v w).taken < word_room))
+word_bound v room n (Ok x) is =
+    let ok = word_ok (take n room) (v x) (sym is) in
+    let ends = passes_last (λ b. is_word_end b (length (take n room))) (unspaced (take n room)) ok.2 in
+    let few = below_room (last_byte (unspaced (take n room))) (length (take n room)) ends in
+    (omega (arith, ok.0, ok.1), omega (arith, ok.0, few))
+word_bound v room n (Err e) is = tt
 
 any_at : (p : ℕ → Bool) (bs : List ℕ) (i : ℕ) → i < length bs → p (slice_index bs i) ≡ true → list_any p bs ≡ true
 any_at p [] i h is = absurd (omega arith)
@@ -199,10 +223,6 @@ skipped_unspaced (b ∷ bs) =
     let one : 1 + skipped Word bs ≡ suc (skipped Word bs) = omega arith in
     let Goal : Bool → Type 0 = λ is. drop (cond (not (not is)) (1 + skipped Word bs) 0) (b ∷ bs) ≡ cond is (unspaced bs) (b ∷ bs) in
     elim (is_ascii_whitespace b) as Goal [ true ↦ ap (λ n. drop n (b ∷ bs)) one ∙ skipped_unspaced bs | false ↦ refl ]
-
-first_of : (a b : Bool) → a && b ≡ true → a ≡ true
-first_of true b is = refl
-first_of false b is = absurd cc
 
 any_white : (count : ℕ) (bs : List ℕ) → last_passes (λ b. is_word_end b count) bs ≡ true → list_any is_ascii_whitespace bs ≡ true
 any_white count bs is = any_at is_ascii_whitespace bs (length bs - 1) (omega (arith, passes_some (λ b. is_word_end b count) bs is)) (first_of (is_ascii_whitespace (last_byte bs)) (ltb count word_room) (passes_last (λ b. is_word_end b count) bs is))
@@ -325,3 +345,13 @@ within_64_bits d t place k f short false beyond = as_beyond d t (min place (2 ^ 
 -- no input is so long that a text stands beyond 64 bits
 pub text_saturated : {X : Type 0} {a b : State} {r : Result X ImageError} (t : Text) (place k : ℕ) (f : List ℕ → Result X ImageError) → Runs a b r (text_as a.held.input t (min place (2 ^ 64 - 1)) k f) → Runs a b r (text_as a.held.input t place k f)
 text_saturated {X} {a} t place k f h = runs_as (text_as a.held.input t place k f) h (λ honest. within_64_bits a.held.input t place k f (h.sound honest).1 (leb place (2 ^ 64 - 1)) refl)
+
+-- readings behind readings last where both do
+pub lasts_then : {X Y : Type 0} (r : List ℕ → Reads X) (f : X → List ℕ → Reads Y) → Lasts r → ((y : X) → Lasts (f y)) → Lasts (λ d. and_then (r d) (λ y. f y d))
+lasts_then {X} {Y} r f first rest d x v is = by_answer (r d).answer refl where
+  by_answer : (a : Result X ImageError) → (r d).answer ≡ a → and_then (r (d ++ x)) (λ y. f y (d ++ x)) ≡ and_then (r d) (λ y. f y d)
+  by_answer (Ok y) got =
+      let ends : (f y d).answer ≡ Ok v = sym (ap (λ a. (onward (r d).marks a (λ y. f y d)).answer) got) ∙ is in
+      ap (λ w. and_then w (λ y. f y (d ++ x))) (first d x y got) ∙ ap (λ a. onward (r d).marks a (λ y. f y (d ++ x))) got
+      ∙ ap (behind (r d).marks) (rest y d x v ends) ∙ sym (ap (λ a. onward (r d).marks a (λ y. f y d)) got)
+  by_answer (Err e) got = absurd (let no : ◌≡◌ {A = Result Y ImageError} (Err e) (Ok v) = sym (ap (λ a. (onward (r d).marks a (λ y. f y d)).answer) got) ∙ is in cc)

@@ -11,6 +11,8 @@ use Rattle.std.specs.Char.{is_ascii_whitespace, is_whitespace, is_not_whitespace
 use Rattle.std.specs.List.{prefix_len, slice_split, onto_first}
 use Rattle.std.specs.Result.{OkIff, result_ok}
 use Rattle.std.specs.Str.{IsUtf8, is_utf8, chars, encode_utf8_all, all_ascii_digits, NoCharPasses, NonePass, EmptyOrStartsWithPassing, IsTrimAsciiStart}
+use Rattle.std.specs.Str.Iter.{split_whitespace_rest, split_whitespace_steps}
+use Rattle.std.specs.Borrow.{Bor}
 use Rattle.std.specs.Str.Parse.{ParsesUnsigned, IsNumeral, digits_value, without_leading_plus, AllDigits}
 use Rattle.imagesize_source.specs.declared.error.ImageError.{ImageError}
 use Rattle.imagesize_source.specs.declared.error.ImageError.TheVariants.{IoError}
@@ -133,3 +135,21 @@ unfolding words
 word_none text utf none =
     let is : none.0 ≡ chars text = chars_from_encodes none.0 text utf none.1 in
     ap (λ cs. map encode_utf8_all (char_words cs)) (sym is ∙ sym (append-nil none.0)) ∙ ap (map encode_utf8_all) (char_words_gap none.0 [] none.2)
+
+-- Some words were taken off a text, and these bytes are left.
+pub record Taken (text : List ℕ) (ws : List (List ℕ)) (rest : List ℕ) : Type 0 where
+  pub is : words text ≡ ws ++ words rest
+  pub utf : IsUtf8 rest
+
+pub taken_start : (text rest : List ℕ) → IsUtf8 text → rest ≡ text → Taken text [] rest
+taken_start text rest utf is = record { is = ap words (sym is); utf = subst IsUtf8 (sym is) utf }
+
+-- one more is
+pub taken_next : {text : List ℕ} {ws : List (List ℕ)} (s t : _) (x : Bor (List ℕ)) → Taken text ws (split_whitespace_rest s) → split_whitespace_steps s (Some x) t → Taken text (ws ++ x.now ∷ []) (split_whitespace_rest t)
+taken_next {text} {ws} s t x taken step =
+    let next = word_first (split_whitespace_rest s) step.0 x.now (split_whitespace_rest t) step.5.0 taken.utf step.1 step.2 step.3 step.4 step.5.1 in
+    record { is = taken.is ∙ ap (λ more. ws ++ more) next.0 ∙ sym (append_assoc ws (x.now ∷ []) (words (split_whitespace_rest t))); utf = next.1 }
+
+-- or none is left
+pub taken_end : {text : List ℕ} {ws : List (List ℕ)} (s t : _) → Taken text ws (split_whitespace_rest s) → split_whitespace_steps s None t → words text ≡ ws
+taken_end {text} {ws} s t taken step = taken.is ∙ ap (λ more. ws ++ more) (word_none (split_whitespace_rest s) taken.utf step.1) ∙ append-nil ws

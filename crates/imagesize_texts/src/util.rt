@@ -1,5 +1,5 @@
 //! Texts: lines up to a delimiter and words between white space, each of so many bytes at most.
-ghost use Rattle.std.specs.Prelude.{◌≡◌, length, IfOk};
+ghost use Rattle.std.specs.Prelude.{◌≡◌, ◌+◌, ◌<◌, ◌≤◌, length, IfOk};
 ghost use Rattle.imagesize_source.specs.Paying.{Paid};
 ghost use Rattle.imagesize_source.specs.Reading.{seen};
 ghost use Rattle.imagesize_source.specs.State.{Runs};
@@ -13,6 +13,7 @@ use imagesize_source::{ImageError, ImageResult, Reason, Text};
 pub const WORD_ROOM: usize = 1024;
 
 /// A word of an input.
+#[derive(Clone, Copy, Debug)]
 pub struct Word<'a> {
     /// Its text.
     pub text: &'a str,
@@ -64,7 +65,8 @@ pub fn pass_line_capped<S: Source>(
     delimiter: u8,
     room: &mut [u8],
 ) -> ImageResult<usize>
-    ensures { Runs (S.state source.old) (S.state source.new) result
+    ensures bound { IfOk result (λ n. n ≤ length room.old) }
+    ensures runs { Runs (S.state source.old) (S.state source.new) result
         (length_read (S.state source.old).held.input delimiter place (length room.old)) }
 {
     let most = room.len();
@@ -84,12 +86,42 @@ pub fn read_word<'a, S: Source>(
     place: u64,
     room: &'a mut [u8; WORD_ROOM],
 ) -> ImageResult<Word<'a>>
+    ensures bound { IfOk result (λ word. (0 < word.taken) × (word.taken < 1024)) }
     ensures pays { IfOk result (λ word. Paid (S.state source.old) (S.state source.new) place) }
     ensures runs { Runs (S.state source.old) (S.state source.new) (seen (λ word. read_word_of word) result)
         (word_read (S.state source.old).held.input place) }
 {
     let count = source.read_text(place, Text::Word, room)?;
     word_text(&room[..count])
+}
+
+/// How many bytes the line so far behind a place takes, as `pass_line_capped`. A place above 2^64 - 1 is behind
+/// the end of every input.
+pub fn pass_line_behind<S: Source>(
+    source: &mut S,
+    place: u64,
+    distance: u64,
+    delimiter: u8,
+    room: &mut [u8],
+) -> ImageResult<usize>
+    ensures bound { IfOk result (λ n. n ≤ length room.old) }
+    ensures runs { Runs (S.state source.old) (S.state source.new) result
+        (length_read (S.state source.old).held.input delimiter (place + distance) (length room.old)) }
+{
+    pass_line_capped(source, place.saturating_add(distance), delimiter, room)
+}
+
+/// The word so far behind a place. A place above 2^64 - 1 is behind the end of every input.
+pub fn read_word_behind<'a, S: Source>(
+    source: &mut S,
+    place: u64,
+    distance: u64,
+    room: &'a mut [u8; WORD_ROOM],
+) -> ImageResult<Word<'a>>
+    ensures { Runs (S.state source.old) (S.state source.new) (seen (λ word. read_word_of word) result)
+        (word_read (S.state source.old).held.input (place + distance)) }
+{
+    read_word(source, place.saturating_add(distance), room)
 }
 
 // The text of a line, without the delimiter that ends it, where there is room for so many bytes.

@@ -1,7 +1,10 @@
 use Rattle.std.proofs.Common.{rules}
 use Rattle.imagesize_texts.specs.Texts.{read_word_of}
-use Rattle.imagesize_texts.proofs.Texts.{word_runs, word_pays}
+use Rattle.imagesize_texts.proofs.Texts.{word_runs, word_bound, word_pays}
 use Rattle.imagesize_texts.proofs.util.read_word.Goals as goal
+
+pub returns-clause-bound : goal.returns-clause-bound
+returns-clause-bound g c = word_bound read_word_of c.read_text.new.room c.in_ok-count.count c.word_text.result c.word_text.ensures
 
 pub returns-clause-pays : goal.returns-clause-pays
 returns-clause-pays g c = word_pays read_word_of c.read_text.new.room c.in_ok-count.count c.word_text.result c.word_text.ensures c.in_ok-count.ensures.pays
