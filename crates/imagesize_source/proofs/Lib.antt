@@ -26,3 +26,6 @@ pub mod Beyond
 pub mod Walks
 pub mod Openings
 pub mod Costs
+pub mod Way
+pub mod Always
+pub mod Recordings

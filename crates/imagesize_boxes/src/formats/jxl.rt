@@ -3,7 +3,7 @@ ghost use Rattle.std.specs.Prelude.{◌≡◌};
 ghost use Rattle.imagesize_boxes.specs.Jxl.{is_jxl};
 
 /// Whether a codestream or a signature box stands first.
-#[inline]
+#[inline(always)]
 #[tactic(auto, unfolding(crate::specs::Jxl::is_jxl))]
 pub fn matches(head: &[u8; 12]) -> bool
     ensures { result ≡ is_jxl head.now }

@@ -14,15 +14,24 @@ use imagesize_types::compression::DdsCompression;
 use imagesize_types::size::ImageSize;
 
 /// Whether the magic number stands first.
-#[inline]
-#[tactic(auto, unfolding(crate::specs::Dds::is_dds))]
+#[inline(always)]
 pub fn matches(head: &[u8; 12]) -> bool
     ensures { result ≡ is_dds head.now }
 {
-    matches!(head, [b'D', b'D', b'S', b' ', ..])
+    is_dds(head)
+}
+
+// Whether the magic number stands first.
+#[inline(always)]
+#[tactic(auto, unfolding(crate::specs::Dds::is_dds))]
+pub(super) fn is_dds(header: &[u8]) -> bool
+    ensures { result ≡ is_dds header.now }
+{
+    matches!(header, [b'D', b'D', b'S', b' ', ..])
 }
 
 /// How the pixels are stored, by the four-character code where it is there.
+#[inline(always)]
 #[tactic(auto, using(imagesize_source::proofs::Runs::steps), unfolding(crate::specs::Dds::dds_compression))]
 pub fn detect_compression<S: Source>(source: &mut S) -> ImageResult<DdsCompression>
     ensures { Runs (S.state source.old) (S.state source.new) result
@@ -41,6 +50,7 @@ pub fn detect_compression<S: Source>(source: &mut S) -> ImageResult<DdsCompressi
 }
 
 // How the pixels are stored, by the format of the extended header where it is there.
+#[inline(always)]
 #[tactic(auto, using(imagesize_source::proofs::Runs::steps, imagesize_source::proofs::Numbers::little_4))]
 fn extended_compression<S: Source>(source: &mut S) -> ImageResult<DdsCompression>
     ensures { Runs (S.state source.old) (S.state source.new) result
@@ -53,6 +63,7 @@ fn extended_compression<S: Source>(source: &mut S) -> ImageResult<DdsCompression
 }
 
 // How the pixels are stored, by the bits of a pixel where they are there.
+#[inline(always)]
 #[tactic(auto, using(imagesize_source::proofs::Runs::steps, imagesize_source::proofs::Numbers::little_4))]
 fn plain_compression<S: Source>(source: &mut S) -> ImageResult<DdsCompression>
     ensures { Runs (S.state source.old) (S.state source.new) result
@@ -65,6 +76,7 @@ fn plain_compression<S: Source>(source: &mut S) -> ImageResult<DdsCompression>
 }
 
 // How the pixels of a four-character code are stored.
+#[inline(always)]
 fn code_compression(code: &[u8; 4]) -> DdsCompression
     ensures { result ≡ look_up_text dds_codes DdsCompression.Unknown code.now }
 {
@@ -81,6 +93,7 @@ fn code_compression(code: &[u8; 4]) -> DdsCompression
 }
 
 // How the pixels of a DXGI format are stored.
+#[inline(always)]
 fn format_compression(format: u32) -> DdsCompression
     ensures { result ≡ look_up dxgi_formats DdsCompression.Unknown format }
 {
@@ -92,6 +105,7 @@ fn format_compression(format: u32) -> DdsCompression
 }
 
 // How pixels of so many bits are stored.
+#[inline(always)]
 fn bits_compression(bits: u32) -> DdsCompression
     ensures { result ≡ look_up dds_bit_counts DdsCompression.Unknown bits }
 {
@@ -103,6 +117,7 @@ fn bits_compression(bits: u32) -> DdsCompression
 }
 
 /// The height and the width.
+#[inline(always)]
 #[tactic(auto, using(imagesize_source::proofs::Runs::steps))]
 pub fn size<S: Source>(source: &mut S) -> ImageResult<ImageSize>
     ensures { Runs (S.state source.old) (S.state source.new) result

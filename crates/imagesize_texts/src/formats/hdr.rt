@@ -16,7 +16,7 @@ use imagesize_source::{ImageError, ImageResult, Reason};
 use imagesize_types::size::ImageSize;
 
 /// Whether the first line is the identifier.
-#[inline]
+#[inline(always)]
 #[tactic(auto, unfolding(crate::specs::Hdr::is_hdr))]
 pub fn matches(head: &[u8; 12]) -> bool
     ensures { result ≡ is_hdr head.now }

@@ -14,7 +14,7 @@ use imagesize_source::{ImageError, ImageResult, Reason};
 use imagesize_types::size::ImageSize;
 
 /// Whether a magic number from `P1` to `P6` stands first.
-#[inline]
+#[inline(always)]
 #[tactic(auto, unfolding(crate::specs::Pnm::is_pnm))]
 pub fn matches(head: &[u8; 12]) -> bool
     ensures { result ≡ is_pnm head.now }
