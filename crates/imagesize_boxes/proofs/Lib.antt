@@ -1,0 +1,4 @@
+pub mod Fields
+pub mod Heads
+pub mod Jxl
+pub mod Places

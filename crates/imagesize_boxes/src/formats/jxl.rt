@@ -1,6 +1,10 @@
-//! JPEG XL, by ISO/IEC 18181-1 (the signature of a codestream) and 18181-2 (the signature box).
+//! JPEG XL, by ISO/IEC 18181-1 (the codestream) and 18181-2 (the boxes around it).
 ghost use Rattle.std.specs.Prelude.{◌≡◌};
 ghost use Rattle.imagesize_boxes.specs.Jxl.{is_jxl};
+
+mod bits;
+mod boxes;
+mod header;
 
 /// Whether a codestream or a signature box stands first.
 #[inline]
