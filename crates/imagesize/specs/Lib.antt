@@ -3,4 +3,3 @@ pub mod Kind
 pub mod Meaning
 pub mod Probed
 pub mod Queries
-pub mod Records

@@ -2,3 +2,4 @@ pub mod Fields
 pub mod Heads
 pub mod Jxl
 pub mod Places
+pub mod Heif

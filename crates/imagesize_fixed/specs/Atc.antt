@@ -1,15 +1,17 @@
 -- ATC textures, in PKM files and in DDS files.
-use Rattle.std.specs.Prelude.{ℕ, Bool, List, [], ◌∷◌, codes, ◌&&◌, ◌||◌, drop, if◌then◌else◌, Option, None, Some}
-use Rattle.imagesize_types.specs.Head.{begins, stands_at}
+use Rattle.std.specs.Prelude.{ℕ, Bool, List, [], ◌∷◌, ◌&&◌, ◌||◌, drop, if◌then◌else◌, Option, None, Some}
+use Rattle.imagesize_types.specs.Head.{stands_at}
+use Rattle.imagesize_fixed.specs.Dds.{dds, is_dds}
 use Rattle.imagesize_fixed.specs.Pkm.{is_pkm, pkm}
+use Rattle.imagesize_fixed.specs.Pvrtc.{pvr2}
 use Rattle.imagesize_types.specs.Table.{look_up}
 use Rattle.imagesize_types.specs.declared.size.ImageSize.{ImageSize}
 use Rattle.imagesize_types.specs.declared.compression.AtcCompression.{AtcCompression}
 use Rattle.imagesize_types.specs.declared.compression.AtcCompression.TheVariants.{Rgb, RgbaExplicit, RgbaInterpolated, Unknown}
-use Rattle.imagesize_source.specs.declared.util.Endian.TheVariants.{Little, Big}
+use Rattle.imagesize_source.specs.declared.util.Endian.TheVariants.{Big}
 use Rattle.imagesize_source.specs.Numbers.{number}
-use Rattle.imagesize_source.specs.Layout.{Layout, if_there}
-use Rattle.imagesize_source.specs.Layout.Layout.{field, bytes, «done»}
+use Rattle.imagesize_source.specs.Layout.{Layout, bytes, if_there}
+use Rattle.imagesize_source.specs.Layout.Layout.{«done»}
 
 -- a PKM file of an ATC data type
 unfoldable pub is_atc : List ℕ → Bool
@@ -27,15 +29,8 @@ atc_compression_of (Some bs) = if is_pkm bs then look_up atc_data_types Unknown 
 unfoldable pub atc_compression : Layout AtcCompression
 atc_compression = if_there 0 8 (λ bs. done (atc_compression_of bs))
 
--- the height, then the width of a DDS header
-abbrev pub atc_in_dds : Layout ImageSize
-atc_in_dds = field Little 12 4 (λ height. field Little 16 4 (λ width. done (record { width = width; height = height })))
-
--- the height, then the width of a header of neither kind
-abbrev pub atc_bare : Layout ImageSize
-atc_bare = field Little 4 4 (λ height. field Little 8 4 (λ width. done (record { width = width; height = height })))
-
+-- the size as a DDS, as a PKM file, or else as the older header of PowerVR textures has it
 abbrev pub atc : Layout ImageSize
 atc = bytes 0 4 (λ tag.
-    if begins (codes "DDS ") tag then atc_in_dds
-    else bytes 0 8 (λ head. if is_atc head then pkm else atc_bare))
+    if is_dds tag then dds
+    else bytes 0 8 (λ head. if is_atc head then pkm else pvr2))

@@ -29,6 +29,7 @@ use Rattle.imagesize_source.proofs.Local.{local_then, local_number}
 use Rattle.imagesize_source.proofs.Reached.{runs_bind, refused_bind}
 use Rattle.imagesize_source.proofs.Runs.{total-append}
 use Rattle.imagesize_source.proofs.Tests.{on_test}
+use Rattle.imagesize_source.proofs.Way.{RecordedLaws}
 use Rattle.imagesize_source.proofs.Walks.{Walks, walks_start, walks_on, walks_stop, walks_out, walks_now}
 
 -- The largest of the sizes, with its area.
@@ -199,3 +200,12 @@ cost_by d (Err e) = let first = total-span_of d 4 2 in omega arith
 -- an entry is read from at most 2 bytes
 pub ico_cost : (d : List ℕ) → total (ico d).marks ≤ 4 + 2 * entries_begun d
 ico_cost d = cost_by d (number_at d Little 4 2)
+
+-- the list may go on in bytes that follow
+pub ico_laws : RecordedLaws 12 false 20 ico entries_begun
+ico_laws = record {
+  local = ico_local;
+  cost = λ d. omega (arith, ico_cost d);
+  within = λ d. omega (arith, ico_within d);
+  lasts = λ keeps. absurd cc;
+}

@@ -1,5 +1,5 @@
 -- ILBM: how a walk along its chunks goes, how many bytes they are read from, and what it sees of an input.
-use Rattle.std.proofs.Common.{ℕ, ◌+◌, ◌*◌, ◌^◌, ◌<◌, ◌≤◌, List, length, Ok, Err, arith}
+use Rattle.std.proofs.Common.{ℕ, ◌+◌, ◌*◌, ◌^◌, ◌<◌, ◌≤◌, true, List, length, Ok, Err, ap, ◌∙◌, arith}
 use Rattle.imagesize_walked.specs.Ilbm.{ilbm, ilbm_chunks, ilbm_chunk, ilbm_named, bitmap_header, chunk_bytes, chunk_length, is_bitmap_header, is_body}
 use Rattle.imagesize_types.specs.declared.size.ImageSize.{ImageSize}
 use Rattle.imagesize_source.specs.declared.error.ImageError.{ImageError}
@@ -16,6 +16,7 @@ use Rattle.imagesize_source.proofs.Ahead.{Ahead, chain_ahead}
 use Rattle.imagesize_source.proofs.Beyond.{bytes_beyond}
 use Rattle.imagesize_source.proofs.ChainLaws.{local_chain, lasts_chain, chain_cost}
 use Rattle.imagesize_source.proofs.Tests.{on_test}
+use Rattle.imagesize_source.proofs.Way.{RecordedLaws}
 use Rattle.imagesize_source.proofs.Walks.{Walks, walks_start, walks_on, walks_stop, walks_out, walks_past}
 
 -- what holds of each chunk, by its name
@@ -66,3 +67,11 @@ ilbm_out place e w run = walks_out ilbm_chunks ilbm_advances (λ passed. Unit {0
 pub ilbm_past : {a b : State} (place : ℕ) → IlbmWalks a b place → 2 ^ 64 ≤ place → Runs a b (Err end_of_input) (ilbm a.held.input)
 ilbm_past place w far = walks_past ilbm_chunks ilbm_advances (λ passed. Unit {0}) w (omega arith) (omega arith)
     (λ passed d _ h. bytes_beyond d place 8 (λ head. ilbm_named place head) h (omega arith))
+
+pub ilbm_laws : RecordedLaws 12 true 20 ilbm (records ilbm_chunks)
+ilbm_laws = record {
+  local = ilbm_local;
+  cost = λ d. omega (arith, ilbm_cost d);
+  within = λ d. omega (arith, ilbm_within d);
+  lasts = λ _ d x v is. ap (λ r. r.answer) (ilbm_lasts d x v is) ∙ is;
+}

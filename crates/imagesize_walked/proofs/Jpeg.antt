@@ -1,5 +1,5 @@
 -- JPEG: how a walk along its segments goes, how many bytes they are read from, and what it sees of an input.
-use Rattle.std.proofs.Common.{zero-add, ◌≡◌, ℕ, ◌+◌, ◌-◌, ◌*◌, ◌^◌, ◌<◌, ◌≤◌, Bool, cond, eqb, List, [], ◌∷◌, ◌++◌, length, Result, Ok, Err, refl, sym, ap, ◌∙◌, subst, arith, slice_index}
+use Rattle.std.proofs.Common.{zero-add, ◌≡◌, ℕ, ◌+◌, ◌-◌, ◌*◌, ◌^◌, ◌<◌, ◌≤◌, Bool, true, cond, eqb, List, [], ◌∷◌, ◌++◌, length, Result, Ok, Err, refl, sym, ap, ◌∙◌, subst, arith, slice_index}
 use Rattle.std.proofs.lemmas.Bool.Decides.{nat_tests}
 use Rattle.std.proofs.lemmas.List.Sums.{sum_by-append}
 use Rattle.std.specs.Prelude.{count_by}
@@ -24,6 +24,7 @@ use Rattle.imagesize_source.proofs.Found.{bytes_is, part_first, big_pair, on_ans
 use Rattle.imagesize_source.proofs.More.{bytes_ok, number_ok}
 use Rattle.imagesize_source.proofs.Runs.{total-append}
 use Rattle.imagesize_source.proofs.Tests.{on_test}
+use Rattle.imagesize_source.proofs.Way.{RecordedLaws}
 use Rattle.imagesize_source.proofs.Walks.{Walks, walks_start, walks_on, walks_stop, walks_out, walks_past}
 
 -- what holds of each way that a segment can go
@@ -170,3 +171,11 @@ jpeg_within d =
     (start jpeg_segments) in
     let few : allowed d 2 ≤ length d + 6 = grind (arith, nat_tests) in
     omega arith
+
+pub jpeg_laws : RecordedLaws 12 true 20 jpeg (records jpeg_segments)
+jpeg_laws = record {
+  local = jpeg_local;
+  cost = λ d. omega (arith, jpeg_cost d);
+  within = λ d. omega (arith, jpeg_within d);
+  lasts = λ _ d x v is. ap (λ r. r.answer) (jpeg_lasts d x v is) ∙ is;
+}

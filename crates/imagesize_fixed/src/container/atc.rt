@@ -1,17 +1,16 @@
 //! ATC textures, by GL_AMD_compressed_ATC_texture, in PKM files and in DDS files.
-ghost use Rattle.std.specs.Prelude.{◌≡◌, ◌≤◌, length, drop, codes};
-ghost use Rattle.imagesize_fixed.specs.Atc.{atc, atc_bare, atc_compression, atc_data_types, atc_in_dds, is_atc};
-ghost use Rattle.imagesize_types.specs.Head.{begins};
+ghost use Rattle.std.specs.Prelude.{◌≡◌, ◌≤◌, length, drop};
+ghost use Rattle.imagesize_fixed.specs.Atc.{atc, atc_compression, atc_data_types, is_atc};
 ghost use Rattle.imagesize_types.specs.Table.{look_up};
 ghost use Rattle.imagesize_source.specs.Numbers.{number};
 ghost use Rattle.imagesize_source.specs.declared.util.Endian.TheVariants as endian;
 ghost use Rattle.imagesize_source.specs.Layout.{over};
 ghost use Rattle.imagesize_source.specs.State.{Runs};
 
-use crate::container::pkm;
+use crate::container::{dds, pkm, pvrtc};
 use imagesize_source::ImageResult;
 use imagesize_source::source::Source;
-use imagesize_source::util::{Endian, read_bytes, read_if_there, read_u32};
+use imagesize_source::util::{read_bytes, read_if_there};
 use imagesize_types::compression::AtcCompression;
 use imagesize_types::size::ImageSize;
 
@@ -77,42 +76,12 @@ pub fn size<S: Source>(source: &mut S) -> ImageResult<ImageSize>
         (over (S.state source.old).held.input atc) }
 {
     let tag = read_bytes::<S, 4>(source, 0)?;
-    if is_dds_tag(&tag) {
-        return size_in_dds(source);
+    if dds::is_dds(&tag) {
+        return dds::size(source);
     }
     let header = read_bytes::<S, 8>(source, 0)?;
     if is_atc(&header) {
         return pkm::size(source);
     }
-    bare_size(source)
-}
-
-// The height and the width of a DDS header.
-#[tactic(auto, using(imagesize_source::proofs::Runs::steps))]
-fn size_in_dds<S: Source>(source: &mut S) -> ImageResult<ImageSize>
-    ensures { Runs (S.state source.old) (S.state source.new) result
-        (over (S.state source.old).held.input atc_in_dds) }
-{
-    let height = read_u32(source, 12, Endian::Little)? as usize;
-    let width = read_u32(source, 16, Endian::Little)? as usize;
-    Ok(ImageSize { width, height })
-}
-
-// The height and the width of a header of neither kind.
-#[tactic(auto, using(imagesize_source::proofs::Runs::steps))]
-fn bare_size<S: Source>(source: &mut S) -> ImageResult<ImageSize>
-    ensures { Runs (S.state source.old) (S.state source.new) result
-        (over (S.state source.old).held.input atc_bare) }
-{
-    let height = read_u32(source, 4, Endian::Little)? as usize;
-    let width = read_u32(source, 8, Endian::Little)? as usize;
-    Ok(ImageSize { width, height })
-}
-
-// Whether this is the tag of a DDS file.
-#[inline]
-fn is_dds_tag(tag: &[u8; 4]) -> bool
-    ensures { result ≡ begins (codes "DDS ") tag.now }
-{
-    matches!(tag, [b'D', b'D', b'S', b' '])
+    pvrtc::older_size(source)
 }

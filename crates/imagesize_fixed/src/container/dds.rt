@@ -14,12 +14,20 @@ use imagesize_types::compression::DdsCompression;
 use imagesize_types::size::ImageSize;
 
 /// Whether the magic number stands first.
-#[inline]
-#[tactic(auto, unfolding(crate::specs::Dds::is_dds))]
+#[inline(always)]
 pub fn matches(head: &[u8; 12]) -> bool
     ensures { result ≡ is_dds head.now }
 {
-    matches!(head, [b'D', b'D', b'S', b' ', ..])
+    is_dds(head)
+}
+
+// Whether the magic number stands first.
+#[inline(always)]
+#[tactic(auto, unfolding(crate::specs::Dds::is_dds))]
+pub(super) fn is_dds(header: &[u8]) -> bool
+    ensures { result ≡ is_dds header.now }
+{
+    matches!(header, [b'D', b'D', b'S', b' ', ..])
 }
 
 /// How the pixels are stored, by the four-character code where it is there.

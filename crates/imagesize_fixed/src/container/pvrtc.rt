@@ -100,7 +100,7 @@ fn newer_size<S: Source>(source: &mut S) -> ImageResult<ImageSize>
 
 // The height and the width of the older header.
 #[tactic(auto, using(imagesize_source::proofs::Runs::steps))]
-fn older_size<S: Source>(source: &mut S) -> ImageResult<ImageSize>
+pub(super) fn older_size<S: Source>(source: &mut S) -> ImageResult<ImageSize>
     ensures { Runs (S.state source.old) (S.state source.new) result
         (over (S.state source.old).held.input pvr2) }
 {
