@@ -5,22 +5,24 @@ use Rattle.std.proofs.lemmas.List.{append-nil}
 use Rattle.std.proofs.lemmas.List.Folds.{concat-append}
 use Rattle.std.specs.List.{concat}
 use Rattle.imagesize_boxes.specs.declared.formats.jxl.boxes.BoxHead.{BoxHead}
-use Rattle.imagesize_boxes.specs.Fields.{bits_of, field_at, field_in, found_by, found_in}
-use Rattle.imagesize_boxes.specs.Jxl.{has_signature, jxl_header, jxl_size, piece_at, answer, box_checked, box_head, box_room, said_behind, codestream_box, partial_said, partial_box, box_content, jxl_box, jxl_chain, jxl_start, codestream, jxl, begun_behind, jxl_boxes}
+use Rattle.imagesize_boxes.specs.Fields.{Fields, found, bits, binary, bits_of, field_at, field_in, with_found, found_by, found_in}
+use Rattle.imagesize_boxes.specs.Jxl.{has_signature, jxl_header, jxl_size, piece_at, answer, box_checked, box_head, box_room, said_behind, codestream_box, partial_said, partial_box, box_content, jxl_box, jxl_chain, jxl_start, codestream, jxl_codestream, jxl, begun_behind, jxl_boxes}
 use Rattle.imagesize_boxes.proofs.Fields.{field_same, found_alike, found_more}
 use Rattle.imagesize_types.specs.Head.{begins}
 use Rattle.imagesize_types.specs.declared.size.ImageSize.{ImageSize}
 use Rattle.imagesize_source.specs.Agreement.{Local}
 use Rattle.imagesize_source.specs.Chain.{Said, Decided, Next, Advances, chain_at, records}
 use Rattle.imagesize_source.specs.Counts.{AtMost}
-use Rattle.imagesize_source.specs.Layout.{Layout, over, bind}
-use Rattle.imagesize_source.specs.Layout.Layout.{field, bytes, there, refuse, «done»}
-use Rattle.imagesize_source.specs.Reading.{Reads, and_then, gives, end_of_input}
-use Rattle.imagesize_source.specs.State.{State, Runs, total}
+use Rattle.imagesize_source.specs.Layout.{Layout, over, bind, bytes, there}
+use Rattle.imagesize_source.specs.Layout.Layout.{field, refuse, «done»}
+use Rattle.imagesize_source.specs.Reading.{Reads, and_then, gives, end_of_input, is_fault}
+use Rattle.imagesize_source.specs.State.{State, Runs, EndedBy, Sound, total}
 use Rattle.imagesize_source.proofs.Advances.{Tells, advances}
 use Rattle.imagesize_source.proofs.Ahead.{Ahead, chain_ahead}
 use Rattle.imagesize_source.proofs.ChainLaws.{local_chain, chain_cost}
 use Rattle.imagesize_source.proofs.Local.{local_layout, local_then}
+use Rattle.imagesize_source.proofs.Reached.{reads_nothing}
+use Rattle.imagesize_source.proofs.Runs.{runs_then, runs_refused, total-append}
 use Rattle.imagesize_source.proofs.Tests.{on_test}
 use Rattle.imagesize_source.proofs.Walks.{Walks, walks_start, walks_on, walks_stop, walks_out}
 use Rattle.imagesize_source.specs.declared.error.ImageError.{ImageError}
@@ -127,3 +129,40 @@ walk_stop place front whole w run = walks_stop jxl_chain jxl_advances (λ pieces
 
 pub walk_out : {a b end : State} (place : ℕ) (front : List ℕ) (e : ImageError) → JxlWalks a b place front → Runs b end (Err e) (over b.held.input (jxl_box front place)) → Runs {X = List ℕ} a end (Err e) (chain_at jxl_chain a.held.input)
 walk_out place front e w run = walks_out jxl_chain jxl_advances (λ pieces. concat pieces ≡ front) w e (box_as place front run)
+
+-- The size by a codestream.
+
+-- a refusal that ends no call by itself
+abbrev Plainly : {X : Type 0} → Result X ImageError → Type 0
+Plainly (Ok x) = Unit {0}
+Plainly (Err e) = (is_fault e ≡ false) × ((b : State) → EndedBy b e)
+
+plain_corrupted : Plainly {X = ℕ} (Err CorruptedImage)
+plain_corrupted = (refl, λ b. record { budget = tt; memory = λ e. absurd cc })
+
+plain_found : {X : Type 0} (list : List ℕ) (t : Fields X) → Plainly (found_by (field_at list) t)
+unfolding field_at
+plain_found list (found x) = tt
+plain_found list (bits from count f) =
+    on_test (λ r. Plainly (with_found r (λ n. found_by (field_at list) (f n)))) (leb (from + count) (length list)) (Ok (binary (take count (drop from list)))) (Err CorruptedImage)
+    (λ _. plain_found list (f (binary (take count (drop from list))))) (λ _. plain_corrupted)
+
+plain_size : (front : List ℕ) → Plainly (jxl_size front)
+unfolding jxl_size
+plain_size front =
+    on_test Plainly (ltb (length front) 2) (Err CorruptedImage) _ (λ _. plain_corrupted)
+    (λ _. on_test Plainly (has_signature front) (found_by (field_at (bits_of front)) jxl_header) (Err (IoError InvalidJxlSignature)) (λ _. plain_found (bits_of front) jxl_header)
+    (λ _. (refl, λ b. record { budget = tt; memory = λ e. absurd cc })))
+
+sized_by : {b : State} (r : Result ImageSize ImageError) → Sound b → Plainly r → Runs b b r (record { answer = r; marks = [] })
+sized_by {b} (Ok size) sound plain = reads_nothing b (Ok size) sound refl tt
+sized_by {b} (Err e) sound plain = reads_nothing b (Err e) sound plain.0 (plain.1 b)
+
+-- the size by a codestream that was found
+pub sized : {a b : State} (front : List ℕ) → Runs a b (Ok front) (jxl_codestream a.held.input) → Runs a b (jxl_size front) (jxl a.held.input)
+sized {a} {b} front run =
+    runs_then (jxl_codestream a.held.input) (λ found held. record { answer = jxl_size found; marks = [] }) run (sized_by (jxl_size front) run.sound_after (plain_size front))
+
+-- and none where none was found
+pub unsized : {a b : State} (e : ImageError) → Runs a b (Err e) (jxl_codestream a.held.input) → Runs a b (Err e) (jxl a.held.input)
+unsized {a} {b} e run = runs_refused (jxl_codestream a.held.input) (λ front. record { answer = jxl_size front; marks = [] }) run

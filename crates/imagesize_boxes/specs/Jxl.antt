@@ -7,8 +7,8 @@ use Rattle.imagesize_boxes.specs.declared.formats.jxl.boxes.Found.{Found}
 use Rattle.imagesize_boxes.specs.declared.formats.jxl.boxes.Found.TheVariants.{Whole, Passed}
 use Rattle.imagesize_boxes.specs.declared.formats.jxl.header.Side.{Side}
 use Rattle.imagesize_source.specs.Chain.{Said, Decided, Next, Chain, chain_at, records}
-use Rattle.imagesize_source.specs.Layout.{Layout, over, bind}
-use Rattle.imagesize_source.specs.Layout.Layout.{field, bytes, there, refuse, «done»}
+use Rattle.imagesize_source.specs.Layout.{Layout, over, bind, bytes, there}
+use Rattle.imagesize_source.specs.Layout.Layout.{field, refuse, «done»}
 use Rattle.imagesize_source.specs.Numbers.{number}
 use Rattle.imagesize_source.specs.Reading.{Reads, gives, and_then, end_of_input}
 use Rattle.imagesize_source.specs.declared.util.Endian.TheVariants.{Big}
@@ -152,9 +152,12 @@ abbrev pub codestream : List ℕ → Option (List ℕ) → Reads (List ℕ)
 codestream d (Some front) = gives front
 codestream d None = chain_at jxl_chain d
 
+abbrev pub jxl_codestream : List ℕ → Reads (List ℕ)
+jxl_codestream d = and_then (over d jxl_start) (codestream d)
+
 -- by them the size
 abbrev pub jxl : List ℕ → Reads ImageSize
-jxl d = and_then (and_then (over d jxl_start) (codestream d)) (λ front. record { answer = jxl_size front; marks = [] })
+jxl d = and_then (jxl_codestream d) (λ front. record { answer = jxl_size front; marks = [] })
 
 -- how many boxes are begun
 abbrev pub begun_behind : List ℕ → Result (Option (List ℕ)) ImageError → ℕ
