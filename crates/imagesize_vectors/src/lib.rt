@@ -4,9 +4,19 @@
 #[cfg(test)]
 mod calls;
 #[cfg(test)]
+mod counts;
+#[cfg(test)]
+mod failures;
+#[cfg(test)]
 mod long;
+#[cfg(test)]
+mod queries;
 pub mod readers;
 #[cfg(test)]
 mod rows;
 #[cfg(test)]
 mod strange;
+#[cfg(test)]
+mod told;
+#[cfg(test)]
+mod types;
