@@ -241,6 +241,3 @@ impl PartialOrd for ImageSize {
         Some(self.cmp(other))
     }
 }
-
-#[cfg(test)]
-mod tests;
