@@ -1,6 +1,6 @@
 //! What is answered of readers that lie about their length, stand behind it, or never end.
 
-use crate::readers::{Claiming, Counting, Endless};
+use crate::readers::{Claiming, Counting, Elsewhere, Endless};
 use crate::rows::GIF;
 use imagesize::{
     ImageError, ImageResult, ImageSize, ImageType, Reason, reader_probe, reader_size, reader_type,
@@ -30,6 +30,21 @@ fn bytes_behind_the_told_length_are_the_end(rt: HostRuntime) -> Result<(), Fail>
     assert_eq!(rt; reader_type(claiming())?, ImageType::Gif);
     assert!(rt; is_end(&reader_size(claiming())));
     assert!(rt; is_end(&ImageType::Gif.reader_size(&mut claiming())));
+    Ok(())
+}
+
+#[test]
+fn a_call_goes_back_to_a_place_that_is_the_told_length(rt: HostRuntime) -> Result<(), Fail> {
+    let elsewhere = || Elsewhere {
+        reader: Cursor::new(GIF),
+        told: 0,
+    };
+    let probed = reader_probe(&mut elsewhere());
+    assert!(rt; is_end(&probed.answer));
+    assert_eq!(rt; probed.taken, 12);
+    assert_eq!(rt; probed.kind, Some(ImageType::Gif));
+    assert_eq!(rt; reader_type(elsewhere())?, ImageType::Gif);
+    assert!(rt; is_end(&reader_size(elsewhere())));
     Ok(())
 }
 
