@@ -139,6 +139,3 @@ fn unsupported<S: Source>(source: &mut S) -> ImageResult<ImageSize>
     let _told = source.told();
     Err(ImageError::NotSupported)
 }
-
-#[cfg(test)]
-mod tests;

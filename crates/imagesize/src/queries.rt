@@ -104,6 +104,3 @@ fn pvrtc_family(compression: PvrtcCompression) -> Option<CompressionFamily>
         PvrtcCompression::Unknown => None,
     }
 }
-
-#[cfg(test)]
-mod tests;

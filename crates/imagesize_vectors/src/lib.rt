@@ -4,9 +4,15 @@
 #[cfg(test)]
 mod calls;
 #[cfg(test)]
+mod counts;
+#[cfg(test)]
+mod failures;
+#[cfg(test)]
 mod heif;
 #[cfg(test)]
 mod long;
+#[cfg(test)]
+mod queries;
 pub mod readers;
 #[cfg(test)]
 mod rows;
@@ -14,3 +20,7 @@ mod rows;
 mod strange;
 #[cfg(test)]
 mod tiff;
+#[cfg(test)]
+mod told;
+#[cfg(test)]
+mod types;

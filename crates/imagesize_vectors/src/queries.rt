@@ -1,4 +1,6 @@
-use crate::types::{
+//! What a type answers of itself.
+
+use imagesize::{
     AtcCompression, Compression, CompressionFamily, DdsCompression, ImageType, PkmCompression,
     PvrtcCompression,
 };
