@@ -14,7 +14,7 @@ use imagesize_source::{ImageError, ImageResult, Reason};
 use imagesize_types::size::ImageSize;
 
 /// Whether the order of the bytes stands first, and the version behind it.
-#[inline]
+#[inline(always)]
 #[tactic(auto, unfolding(crate::specs::Tiff::is_tiff))]
 pub fn matches(head: &[u8; 12]) -> bool
     ensures { result ≡ is_tiff head.now }
