@@ -1,8 +1,9 @@
 -- The size by a type that was found.
-use Rattle.std.proofs.Common.{◌≡◌, ℕ, Option, Some, None, Result, Ok, Err, IfSome, true, false, sym, ap, ◌∙◌, subst, arith}
+use Rattle.std.proofs.Common.{◌≡◌, ℕ, ◌≤◌, Option, Some, None, Result, Ok, Err, IfSome, true, false, sym, ap, ◌∙◌, subst, arith}
 use Rattle.std.specs.Result.{result_ok}
-use Rattle.imagesize.proofs.Counts.{cost_within, size_within}
+use Rattle.imagesize.proofs.Counts.{cost_stated, cost_within, size_within}
 use Rattle.imagesize.proofs.Detection.{kind_within}
+use Rattle.imagesize.specs.Counts.{cost}
 use Rattle.imagesize.specs.Meaning.{kind_of, meaning, size_of}
 use Rattle.imagesize.specs.Probed.{FindsKind, Probes}
 use Rattle.imagesize.specs.declared.calls.Probed.{Probed}
@@ -58,11 +59,15 @@ probes_opened (Some t) mid count home opened a b probed start opens h finds took
     let began : Began t mid opened.told opened.place = record { at_end = opens.0; length_told = opens.2; at = opens.1 } in
     let runs = subst (λ s. Runs s b probed.answer (meaning s.held.input opened.place)) start h in
     let kinds = found_kind t mid count home opened.told opened.place a probed.kind probed.answer honest began start finds in
+    let takes = subst (λ n. TakesAs t (meaning t.bytes t.place) probed.answer n) (sym took) (opened_takes (Some t) mid count home opened b probed.answer meaning opens runs honest) in
+    let most : probed.taken ≤ cost t.bytes t.place = takes.most in
     record {
       answer = opened_answers (Some t) mid count home opened b probed.answer meaning bounded_meaning opens runs honest;
-      takes = subst (λ n. TakesAs t (meaning t.bytes t.place) probed.answer n) (sym took) (opened_takes (Some t) mid count home opened b probed.answer meaning opens runs honest);
+      takes = takes;
       right = kinds.0;
       whole = kinds.1;
+      stated = omega (arith, most, cost_stated t.bytes t.place);
+      within = omega (arith, most, cost_within t.bytes t.place);
     }
 
 bounded_size : (type : ImageType) → IsBounded (λ d place. size_of type d)

@@ -31,8 +31,8 @@ use Rattle.imagesize_types.specs.declared.compression.DdsCompression.TheVariants
 use Rattle.imagesize_types.specs.declared.compression.PkmCompression.TheVariants as pkm
 use Rattle.imagesize_types.specs.declared.compression.PvrtcCompression.TheVariants as pvrtc
 use Rattle.imagesize.specs.declared.types.ImageType.{ImageType}
-use Rattle.imagesize_source.specs.Layout.Layout.{bytes, refuse, «done»}
-use Rattle.imagesize_source.specs.Layout.{Layout, bind}
+use Rattle.imagesize_source.specs.Layout.Layout.{refuse, «done»}
+use Rattle.imagesize_source.specs.Layout.{Layout, bind, bytes}
 use Rattle.imagesize_source.specs.declared.error.ImageError.TheVariants.{NotSupported}
 
 -- A row of the table: a test of the first twelve bytes, and the type where it holds, its kind still unknown.

@@ -7,8 +7,8 @@ use Rattle.imagesize_types.specs.declared.compression.PvrtcCompression.{PvrtcCom
 use Rattle.imagesize_types.specs.declared.compression.PvrtcCompression.TheVariants.{Pvrtc2BppRgb, Pvrtc2BppRgba, Pvrtc4BppRgb, Pvrtc4BppRgba, Etc2Rgb, Etc2Rgba, Etc2RgbA1, EacR11, EacRg11, Unknown}
 use Rattle.imagesize_source.specs.declared.util.Endian.TheVariants.{Little}
 use Rattle.imagesize_source.specs.Numbers.{number}
-use Rattle.imagesize_source.specs.Layout.{Layout, if_there}
-use Rattle.imagesize_source.specs.Layout.Layout.{field, bytes, «done»}
+use Rattle.imagesize_source.specs.Layout.{Layout, if_there, bytes}
+use Rattle.imagesize_source.specs.Layout.Layout.{field, «done»}
 
 -- the version of the header of version 3
 unfoldable pub is_pvr3 : List ℕ → Bool

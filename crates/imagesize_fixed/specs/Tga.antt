@@ -4,8 +4,8 @@ use Rattle.std.specs.List.{list_any}
 use Rattle.std.specs.Str.{bytes_eq}
 use Rattle.imagesize_types.specs.declared.size.ImageSize.{ImageSize}
 use Rattle.imagesize_source.specs.declared.util.Endian.TheVariants.{Little}
-use Rattle.imagesize_source.specs.Layout.{Layout}
-use Rattle.imagesize_source.specs.Layout.Layout.{field, bytes, «done»}
+use Rattle.imagesize_source.specs.Layout.{Layout, bytes}
+use Rattle.imagesize_source.specs.Layout.Layout.{field, «done»}
 
 -- an image type that has pixels, and a colour map or none
 unfoldable pub may_be_tga : List ℕ → Bool

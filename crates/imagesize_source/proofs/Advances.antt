@@ -3,11 +3,12 @@ use Rattle.std.proofs.Common.{◌≡◌, ℕ, ◌<◌, ◌≤◌, List, [], ◌�
 use Rattle.imagesize_source.specs.declared.error.ImageError.{ImageError}
 use Rattle.imagesize_source.specs.declared.span.Span.{Span}
 use Rattle.imagesize_source.specs.Chain.{Said, Decided, Next, Chain, Advances}
-use Rattle.imagesize_source.specs.Input.{part, span_of}
-use Rattle.imagesize_source.specs.Layout.{Layout, done, refuse, field, bytes, there, over}
-use Rattle.imagesize_source.specs.Reading.{Reads, onward, bytes_at, number_at}
+use Rattle.imagesize_source.specs.Input.{span_of}
+use Rattle.imagesize_source.specs.Layout.{Layout, done, refuse, field, reading, over}
+use Rattle.imagesize_source.specs.Reading.{Reads, Reading, AllOf, PartOf, TextOf, onward, number_at, read_of}
 use Rattle.imagesize_source.proofs.More.{bytes_ok, number_ok}
-use Rattle.imagesize_source.proofs.Runs.{part_length}
+use Rattle.imagesize_source.proofs.Runs.{part_is, part_length}
+use Rattle.imagesize_source.proofs.Count.{text_length}
 
 -- whatever its readings answer, each next place that the layout tells has the property
 abbrev pub Tells : {C X : Type 0} → (ℕ → Type 0) → Layout (Said C X) → Type 0
@@ -15,8 +16,13 @@ Tells P (done (Decided x)) = Unit {0}
 Tells P (done (Next v place)) = P place
 Tells P (refuse e) = Unit {0}
 Tells P (field order place k f) = (v : ℕ) → Tells P (f v)
-Tells P (bytes place k f) = (bs : List ℕ) → Tells P (f bs)
-Tells P (there place k f) = (bs : List ℕ) → Tells P (f bs)
+Tells P (reading r place f) = (bs : List ℕ) → Tells P (f bs)
+
+-- the reading gives some byte, or P
+abbrev pub OrSome : Reading → Type 0 → Type 0
+OrSome (AllOf k) P = 0 < k
+OrSome (PartOf k) P = P
+OrSome (TextOf t k) P = P
 
 -- the layout tells no next place unless it has first read a byte at the place or behind it
 abbrev pub Begins : {C X : Type 0} → ℕ → Layout (Said C X) → Type 0
@@ -24,8 +30,7 @@ Begins q (done (Decided x)) = Unit {0}
 Begins q (done (Next v place)) = ⊥
 Begins q (refuse e) = Unit {0}
 Begins q (field order place k f) = (q ≤ place) × (0 < k)
-Begins q (bytes place k f) = (q ≤ place) × (0 < k)
-Begins q (there place k f) = (q ≤ place) × Tells (λ _. ⊥) (f [])
+Begins q (reading r place f) = (q ≤ place) × OrSome r (Tells (λ _. ⊥) (f []))
 
 onward_tells : {C X Y : Type 0} (P : Type 0) (spans : List Span) (r : Result Y ImageError) (f : Y → Reads (Said C X)) (s : Said C X) → (onward spans r f).answer ≡ Ok s → ((y : Y) → r ≡ Ok y → (f y).answer ≡ Ok s → P) → P
 onward_tells P spans (Ok y) f s is each = each y refl is
@@ -36,8 +41,15 @@ tells P d (done (Decided x)) v q h is = absurd cc
 tells P d (done (Next w place)) v q h is = let same : place ≡ q = cc in subst P same h
 tells P d (refuse e) v q h is = absurd cc
 tells P d (field order place k f) v q h is = onward_tells (P q) (span_of d place k) (number_at d order place k) (λ n. over d (f n)) (Next v q) is (λ n _ got. tells P d (f n) v q (h n) got)
-tells P d (bytes place k f) v q h is = onward_tells (P q) (span_of d place k) (bytes_at d place k) (λ bs. over d (f bs)) (Next v q) is (λ bs _ got. tells P d (f bs) v q (h bs) got)
-tells P d (there place k f) v q h is = tells P d (f (part d place k)) v q (h (part d place k)) is
+tells P d (reading r place f) v q h is = onward_tells (P q) (read_of d r place).marks (read_of d r place).answer (λ bs. over d (f bs)) (Next v q) is (λ bs _ got. tells P d (f bs) v q (h bs) got)
+
+-- where a reading gives a byte, there was one
+some_byte : {P : Type 0} (d : List ℕ) (r : Reading) (place : ℕ) (bs : List ℕ) → OrSome r P → (bs ≡ [] → P → ⊥) → (read_of d r place).answer ≡ Ok bs → place < length d
+some_byte d (AllOf k) place bs h none is = let all = bytes_ok d bs place k is in omega arith
+some_byte d (PartOf k) place [] h none is = absurd (none refl h)
+some_byte d (PartOf k) place (b ∷ bs) h none is = omega (arith, part_length d place k, ap length (part_is is))
+some_byte d (TextOf t k) place [] h none is = absurd (none refl h)
+some_byte d (TextOf t k) place (b ∷ bs) h none is = omega (arith, text_length d t place k, part_length d place k, ap length (part_is is))
 
 -- where a layout tells a next place, there was a byte
 begins : {C X : Type 0} (d : List ℕ) (t : Layout (Said C X)) (v : C) (q p : ℕ) → Begins q t → (over d t).answer ≡ Ok (Next v p) → q < length d
@@ -45,11 +57,8 @@ begins d (done (Decided x)) v q p h is = absurd cc
 begins d (done (Next w place)) v q p h is = absurd h
 begins d (refuse e) v q p h is = absurd cc
 begins d (field order place k f) v q p h is = onward_tells (q < length d) (span_of d place k) (number_at d order place k) (λ n. over d (f n)) (Next v p) is (λ n got _. let here = h.0 in let some = h.1 in let all = number_ok d order place k n got in omega arith)
-begins d (bytes place k f) v q p h is = onward_tells (q < length d) (span_of d place k) (bytes_at d place k) (λ bs. over d (f bs)) (Next v p) is (λ bs got _. let here = h.0 in let some = h.1 in let all = bytes_ok d bs place k got in omega arith)
-begins d (there place k f) v q p h is = begins_part (part d place k) refl where
-  begins_part : (bs : List ℕ) → part d place k ≡ bs → q < length d
-  begins_part [] none = absurd (tells (λ _. ⊥) d (f []) v p h.1 (sym (ap (λ bs. (over d (f bs)).answer) none) ∙ is))
-  begins_part (b ∷ bs) some = let here = h.0 in let long = part_length d place k in let has = ap length some in omega arith
+begins d (reading r place f) v q p h is = onward_tells (q < length d) (read_of d r place).marks (read_of d r place).answer (λ bs. over d (f bs)) (Next v p) is
+    (λ bs got told. let below = some_byte d r place bs h.1 (λ none nothing. tells (λ _. ⊥) d (f []) v p nothing (sym (ap (λ bs. (over d (f bs)).answer) none) ∙ told)) got in omega (arith, h.0))
 
 -- A chain advances, whose records each begin at their place or behind it and tell only greater places.
 pub advances : {C X : Type 0} (c : Chain C X) → ((held : List C) (place : ℕ) → Tells (λ p. place < p) (c.said held place)) → ((held : List C) (place : ℕ) → Begins place (c.said held place)) → (d : List ℕ) → Advances c d

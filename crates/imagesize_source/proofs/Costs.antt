@@ -1,14 +1,14 @@
 -- How many bytes a layout reads, by its answer.
-use Rattle.std.proofs.Common.{ℕ, ◌+◌, ◌-◌, ◌≤◌, List, Result, Ok, Err, arith}
-use Rattle.imagesize_source.specs.Counts.{AtMost, CostsBy}
+use Rattle.std.proofs.Common.{◌≡◌, ℕ, ◌+◌, ◌-◌, ◌≤◌, List, Result, Ok, Err, refl, arith}
+use Rattle.imagesize_source.specs.Counts.{AtMost, CostsBy, IfRefused}
 use Rattle.imagesize_source.specs.declared.error.ImageError.{ImageError}
 use Rattle.imagesize_source.specs.declared.span.Span.{Span}
-use Rattle.imagesize_source.specs.Input.{part, span_of}
+use Rattle.imagesize_source.specs.Input.{span_of}
 use Rattle.imagesize_source.specs.Layout.{Layout, over, bind}
-use Rattle.imagesize_source.specs.Layout.Layout.{«done», refuse, field, bytes, there}
-use Rattle.imagesize_source.specs.Reading.{Reads, onward, bytes_at, number_at}
+use Rattle.imagesize_source.specs.Layout.Layout.{«done», refuse, field, reading}
+use Rattle.imagesize_source.specs.Reading.{Reads, Reading, AllOf, PartOf, TextOf, onward, number_at, read_of, most}
 use Rattle.imagesize_source.specs.State.{total}
-use Rattle.imagesize_source.proofs.Count.{total-span_of}
+use Rattle.imagesize_source.proofs.Count.{total-span_of, total_reading}
 use Rattle.imagesize_source.proofs.Runs.{total-append}
 
 -- the bound that goes with an answer
@@ -16,32 +16,50 @@ abbrev pub bound_of : {X : Type 0} → (X → ℕ) → ℕ → Result X ImageErr
 bound_of f e (Ok x) = f x
 bound_of f e (Err _) = e
 
-onward_costs : {X Y : Type 0} (f : Y → ℕ) (e u n : ℕ) (spans : List Span) (r : Result X ImageError) (g : X → Reads Y) → total spans ≤ n → u + n ≤ e → ((x : X) → u + n + total (g x).marks ≤ bound_of f e (g x).answer) → u + total (onward spans r g).marks ≤ bound_of f e (onward spans r g).answer
-onward_costs f e u n spans (Ok x) g few enough next = omega (arith, next x, total-append spans (g x).marks)
-onward_costs f e u n spans (Err r) g few enough next = omega arith
+-- what is owed of a reading, one by one
+refused : (P Q : Type 0) {e : ImageError} (d : List ℕ) (r : Reading) (place : ℕ) → IfRefused r P Q → (read_of d r place).answer ≡ Err e → P
+refused P Q d (AllOf k) place h is = h.0
+refused P Q d (PartOf k) place h is = absurd cc
+refused P Q d (TextOf t k) place h is = absurd cc
 
-part_costs : {X Y : Type 0} (f : Y → ℕ) (e u n : ℕ) (spans : List Span) (x : X) (g : X → Reads Y) → total spans ≤ n → u + n + total (g x).marks ≤ bound_of f e (g x).answer → u + total (onward spans (Ok x) g).marks ≤ bound_of f e (g x).answer
-part_costs f e u n spans x g few next = omega (arith, next, total-append spans (g x).marks)
+otherwise : (P Q : Type 0) (r : Reading) → IfRefused r P Q → Q
+otherwise P Q (AllOf k) h = h.1
+otherwise P Q (PartOf k) h = h
+otherwise P Q (TextOf t k) h = h
+
+-- of less, and of both
+if_refused : {P Q P' Q' : Type 0} (r : Reading) → (P → P') → (Q → Q') → IfRefused r P Q → IfRefused r P' Q'
+if_refused (AllOf k) f g h = (f h.0, g h.1)
+if_refused (PartOf k) f g h = g h
+if_refused (TextOf t k) f g h = g h
+
+both : {P Q : Type 0} (r : Reading) → P → Q → IfRefused r P Q
+both (AllOf k) p q = (p, q)
+both (PartOf k) p q = q
+both (TextOf t k) p q = q
+
+onward_costs : {X Y : Type 0} (f : Y → ℕ) (e u n : ℕ) (spans : List Span) (r : Result X ImageError) (g : X → Reads Y) → total spans ≤ n → ((x : ImageError) → r ≡ Err x → u + n ≤ e) → ((x : X) → u + n + total (g x).marks ≤ bound_of f e (g x).answer) → u + total (onward spans r g).marks ≤ bound_of f e (onward spans r g).answer
+onward_costs f e u n spans (Ok x) g few enough next = omega (arith, next x, total-append spans (g x).marks)
+onward_costs f e u n spans (Err r) g few enough next = omega (arith, enough r refl)
 
 pub costs : {X : Type 0} (f : X → ℕ) (e u : ℕ) (d : List ℕ) (t : Layout X) → CostsBy f e u t → u + total (over d t).marks ≤ bound_of f e (over d t).answer
 costs f e u d (done x) h = omega arith
 costs f e u d (refuse r) h = omega arith
-costs f e u d (field order place n g) h = onward_costs f e u n (span_of d place n) (number_at d order place n) (λ v. over d (g v)) (total-span_of d place n) h.0 (λ v. costs f e (u + n) d (g v) (h.1 v))
-costs f e u d (bytes place n g) h = onward_costs f e u n (span_of d place n) (bytes_at d place n) (λ bs. over d (g bs)) (total-span_of d place n) h.0 (λ bs. costs f e (u + n) d (g bs) (h.1 bs))
-costs f e u d (there place n g) h = part_costs f e u n (span_of d place n) (part d place n) (λ bs. over d (g bs)) (total-span_of d place n) (costs f e (u + n) d (g (part d place n)) (h (part d place n)))
+costs f e u d (field order place n g) h = onward_costs f e u n (span_of d place n) (number_at d order place n) (λ v. over d (g v)) (total-span_of d place n) (λ _ _. h.0) (λ v. costs f e (u + n) d (g v) (h.1 v))
+costs f e u d (reading r place g) h = onward_costs f e u (most r) (read_of d r place).marks (read_of d r place).answer (λ bs. over d (g bs)) (total_reading d r place) (λ x is. refused (u + most r ≤ e) ((bs : List ℕ) → CostsBy f e (u + most r) (g bs)) {e = x} d r place h is) (λ bs. costs f e (u + most r) d (g bs) (otherwise (u + most r ≤ e) ((bs : List ℕ) → CostsBy f e (u + most r) (g bs)) r h bs))
 
 -- fewer bytes before cost no more
 pub costs_less : {X : Type 0} (f : X → ℕ) (e u v : ℕ) (t : Layout X) → u ≤ v → CostsBy f e v t → CostsBy f e u t
 costs_less f e u v (done x) le h = omega arith
 costs_less f e u v (refuse r) le h = omega arith
 costs_less f e u v (field order place n g) le h = let here = h.0 in (omega arith, λ w. costs_less f e (u + n) (v + n) (g w) (omega arith) (h.1 w))
-costs_less f e u v (bytes place n g) le h = let here = h.0 in (omega arith, λ w. costs_less f e (u + n) (v + n) (g w) (omega arith) (h.1 w))
-costs_less f e u v (there place n g) le h = λ w. costs_less f e (u + n) (v + n) (g w) (omega arith) (h w)
+costs_less f e u v (reading r place g) le h = if_refused r (λ here. omega arith) (λ rest bs. costs_less f e (u + most r) (v + most r) (g bs) (omega arith) (rest bs)) h
 
 -- one layout behind another
 pub costs_bind : {X Y : Type 0} (f : Y → ℕ) (e u j : ℕ) (t : Layout X) (g : X → Layout Y) → AtMost j t → u + j ≤ e → ((x : X) → CostsBy f e (u + j) (g x)) → CostsBy f e u (bind t g)
 costs_bind f e u j (done x) g few enough next = costs_less f e u (u + j) (g x) (omega arith) (next x)
 costs_bind f e u j (refuse r) g few enough next = omega arith
 costs_bind f e u j (field order place n h) g few enough next = let here = few.0 in (omega arith, λ v. costs_bind f e (u + n) (j - n) (h v) g (few.1 v) (omega arith) (λ x. costs_less f e (u + n + (j - n)) (u + j) (g x) (omega arith) (next x)))
-costs_bind f e u j (bytes place n h) g few enough next = let here = few.0 in (omega arith, λ v. costs_bind f e (u + n) (j - n) (h v) g (few.1 v) (omega arith) (λ x. costs_less f e (u + n + (j - n)) (u + j) (g x) (omega arith) (next x)))
-costs_bind f e u j (there place n h) g few enough next = let here = few.0 in λ v. costs_bind f e (u + n) (j - n) (h v) g (few.1 v) (omega arith) (λ x. costs_less f e (u + n + (j - n)) (u + j) (g x) (omega arith) (next x))
+costs_bind f e u j (reading r place h) g few enough next =
+    let here = few.0 in
+    both r (omega arith) (λ bs. costs_bind f e (u + most r) (j - most r) (h bs) g (few.1 bs) (omega arith) (λ x. costs_less f e (u + most r + (j - most r)) (u + j) (g x) (omega arith) (next x)))

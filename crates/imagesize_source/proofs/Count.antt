@@ -5,14 +5,16 @@ use Rattle.std.proofs.lemmas.Bool.Decides.{nat_tests}
 use Rattle.std.proofs.lemmas.List.Sums.{sum_by-cons}
 use Rattle.std.specs.Prelude.{count_by}
 use Rattle.std.specs.List.{range_with_len}
-use Rattle.imagesize_source.proofs.Runs.{total-append}
+use Rattle.imagesize_source.proofs.Runs.{total-append, part_length}
+use Rattle.imagesize_source.proofs.Texts.{front_length}
 use Rattle.imagesize_source.specs.declared.error.ImageError.{ImageError}
 use Rattle.imagesize_source.specs.declared.span.Span.{Span}
+use Rattle.imagesize_source.specs.declared.text.Text.{Text}
 use Rattle.imagesize_source.specs.Agreement.{has_place, covered}
 use Rattle.imagesize_source.specs.Counts.{places, AtMost}
 use Rattle.imagesize_source.specs.Input.{part, span_at, span_of}
-use Rattle.imagesize_source.specs.Layout.{Layout, done, refuse, field, bytes, there, over, bind}
-use Rattle.imagesize_source.specs.Reading.{Reads, and_then, onward, bytes_at, number_at}
+use Rattle.imagesize_source.specs.Layout.{Layout, done, refuse, field, reading, over, bind}
+use Rattle.imagesize_source.specs.Reading.{Reads, Reading, AllOf, PartOf, TextOf, and_then, onward, number_at, text_part, read_of, most}
 use Rattle.imagesize_source.specs.State.{State, past, step, total, fresh, front_after}
 
 total_unless : (b : Bool) (place n : ℕ) → (b ≡ true → n ≡ 0) → total (cond b [] (record { start = place; len = n } ∷ [])) ≡ n
@@ -29,6 +31,22 @@ pub total-span_of : (d : List ℕ) (place k : ℕ) → total (span_of d place k)
 unfolding span_of
 total-span_of d place k = let n = total-span_at place (min k (length d - place)) in omega arith
 
+-- it has those of them that are there
+pub total_behind : (d : List ℕ) (place k : ℕ) → total (span_of d place k) ≡ min k (length d - place)
+unfolding span_of
+total_behind d place k = total-span_at place (min k (length d - place))
+
+-- a text is no longer than the part that it is looked for in
+pub text_length : (d : List ℕ) (t : Text) (place k : ℕ) → length (text_part d t place k) ≤ length (part d place k)
+unfolding text_part
+text_length d t place k = front_length t (part d place k)
+
+-- the same of any reading
+pub total_reading : (d : List ℕ) (r : Reading) (place : ℕ) → total (read_of d r place).marks ≤ most r
+total_reading d (AllOf k) place = total-span_of d place k
+total_reading d (PartOf k) place = total-span_of d place k
+total_reading d (TextOf t k) place = omega (arith, total-span_at place (length (text_part d t place k)), text_length d t place k, part_length d place k)
+
 onward_at_most : {X Y : Type 0} (spans : List Span) (r : Result X ImageError) (f : X → Reads Y) (n k : ℕ) → total spans ≤ n → n ≤ k → ((x : X) → total (f x).marks ≤ k - n) → total (onward spans r f).marks ≤ k
 onward_at_most spans (Ok x) f n k here fits rest = let all = total-append spans (f x).marks in let more = rest x in omega arith
 onward_at_most spans (Err e) f n k here fits rest = omega arith
@@ -38,8 +56,7 @@ pub at_most : {X : Type 0} (d : List ℕ) (k : ℕ) (t : Layout X) → AtMost k 
 at_most d k (done x) h = omega arith
 at_most d k (refuse e) h = omega arith
 at_most d k (field order place n f) h = onward_at_most (span_of d place n) (number_at d order place n) (λ v. over d (f v)) n k (total-span_of d place n) h.0 (λ v. at_most d (k - n) (f v) (h.1 v))
-at_most d k (bytes place n f) h = onward_at_most (span_of d place n) (bytes_at d place n) (λ bs. over d (f bs)) n k (total-span_of d place n) h.0 (λ bs. at_most d (k - n) (f bs) (h.1 bs))
-at_most d k (there place n f) h = onward_at_most (span_of d place n) (Ok (part d place n)) (λ bs. over d (f bs)) n k (total-span_of d place n) h.0 (λ bs. at_most d (k - n) (f bs) (h.1 bs))
+at_most d k (reading r place f) h = onward_at_most (read_of d r place).marks (read_of d r place).answer (λ bs. over d (f bs)) (most r) k (total_reading d r place) h.0 (λ bs. at_most d (k - most r) (f bs) (h.1 bs))
 
 onward_within : {X Y : Type 0} (spans : List Span) (r : Result X ImageError) (f : X → Reads Y) (j k : ℕ) → total spans ≤ j → ((x : X) → r ≡ Ok x → total (f x).marks ≤ k) → total (onward spans r f).marks ≤ j + k
 onward_within spans (Ok x) f j k one two = let all = total-append spans (f x).marks in let more = two x refl in omega arith
@@ -54,16 +71,14 @@ pub at_most_more : {X : Type 0} (j k : ℕ) (t : Layout X) → j ≤ k → AtMos
 at_most_more j k (done x) le h = tt
 at_most_more j k (refuse e) le h = tt
 at_most_more j k (field order place n f) le h = let here = h.0 in (omega arith, λ v. at_most_more (j - n) (k - n) (f v) (omega arith) (h.1 v))
-at_most_more j k (bytes place n f) le h = let here = h.0 in (omega arith, λ bs. at_most_more (j - n) (k - n) (f bs) (omega arith) (h.1 bs))
-at_most_more j k (there place n f) le h = let here = h.0 in (omega arith, λ bs. at_most_more (j - n) (k - n) (f bs) (omega arith) (h.1 bs))
+at_most_more j k (reading r place f) le h = let here = h.0 in (omega arith, λ bs. at_most_more (j - most r) (k - most r) (f bs) (omega arith) (h.1 bs))
 
 -- a layout behind another asks for as many bytes as both
 pub at_most_bind : {X Y : Type 0} (j k : ℕ) (t : Layout X) (g : X → Layout Y) → AtMost j t → ((x : X) → AtMost k (g x)) → AtMost (j + k) (bind t g)
 at_most_bind j k (done x) g h rest = at_most_more k (j + k) (g x) (omega arith) (rest x)
 at_most_bind j k (refuse e) g h rest = tt
 at_most_bind j k (field order place n f) g h rest = let here = h.0 in (omega arith, λ v. at_most_more (j - n + k) (j + k - n) (bind (f v) g) (omega arith) (at_most_bind (j - n) k (f v) g (h.1 v) rest))
-at_most_bind j k (bytes place n f) g h rest = let here = h.0 in (omega arith, λ bs. at_most_more (j - n + k) (j + k - n) (bind (f bs) g) (omega arith) (at_most_bind (j - n) k (f bs) g (h.1 bs) rest))
-at_most_bind j k (there place n f) g h rest = let here = h.0 in (omega arith, λ bs. at_most_more (j - n + k) (j + k - n) (bind (f bs) g) (omega arith) (at_most_bind (j - n) k (f bs) g (h.1 bs) rest))
+at_most_bind j k (reading r place f) g h rest = let here = h.0 in (omega arith, λ bs. at_most_more (j - most r + k) (j + k - most r) (bind (f bs) g) (omega arith) (at_most_bind (j - most r) k (f bs) g (h.1 bs) rest))
 
 -- readings change nothing of the frame
 pub past-frame : (a : State) (spans : List Span) → (past a spans).frame ≡ a.frame

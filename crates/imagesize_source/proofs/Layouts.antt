@@ -7,8 +7,8 @@ use Rattle.imagesize_source.specs.declared.error.ImageError.{ImageError}
 use Rattle.imagesize_source.specs.declared.span.Span.{Span}
 use Rattle.imagesize_source.specs.Input.{part, span_of, span_at}
 use Rattle.imagesize_source.specs.Layout.{Layout, over, bind, whole, if_there}
-use Rattle.imagesize_source.specs.Layout.Layout.{«done», refuse, field, bytes, there}
-use Rattle.imagesize_source.specs.Reading.{Reads, and_then, onward, behind, bytes_at, number_at, part_read}
+use Rattle.imagesize_source.specs.Layout.Layout.{«done», refuse, field, reading}
+use Rattle.imagesize_source.specs.Reading.{Reads, and_then, onward, behind, number_at, part_read, read_of}
 use Rattle.imagesize_source.specs.State.{State, Runs, total, past}
 use Rattle.imagesize_source.proofs.Runs.{answered, part_is}
 
@@ -26,8 +26,7 @@ pub over-bind : {X Y : Type 0} (d : List ℕ) (t : Layout X) (f : X → Layout Y
 over-bind d (done x) f = refl
 over-bind d (refuse e) f = refl
 over-bind d (field order place k g) f = onward-and_then (span_of d place k) (number_at d order place k) (λ v. over d (g v)) (λ x. over d (f x)) (λ v. over d (bind (g v) f)) (λ v. over-bind d (g v) f)
-over-bind d (bytes place k g) f = onward-and_then (span_of d place k) (bytes_at d place k) (λ bs. over d (g bs)) (λ x. over d (f x)) (λ bs. over d (bind (g bs) f)) (λ bs. over-bind d (g bs) f)
-over-bind d (there place k g) f = onward-and_then (span_of d place k) (Ok (part d place k)) (λ bs. over d (g bs)) (λ x. over d (f x)) (λ bs. over d (bind (g bs) f)) (λ bs. over-bind d (g bs) f)
+over-bind d (reading r place g) f = onward-and_then (read_of d r place).marks (read_of d r place).answer (λ bs. over d (g bs)) (λ x. over d (f x)) (λ bs. over d (bind (g bs) f)) (λ bs. over-bind d (g bs) f)
 
 whole-all : (k : ℕ) (bs : List ℕ) → k ≤ length bs → whole k bs ≡ Some bs
 whole-all k bs all = grind (arith, nat_tests)
@@ -71,11 +70,11 @@ pub by_told : {X : Type 0} {a b : State} {r : Result X ImageError} (f : ℕ → 
 by_told {a} f h = runs_as (f (length a.held.input)) h (λ honest. ap f (h.sound honest).0)
 
 -- behind the end nothing is there
-no_part : (d : List ℕ) (place k : ℕ) → length d ≤ place → part d place k ≡ []
+pub no_part : (d : List ℕ) (place k : ℕ) → length d ≤ place → part d place k ≡ []
 unfolding part
 no_part d place k behind = ap (take k) (drop_all place d behind) ∙ take-nil k
 
-no_span : (d : List ℕ) (place k : ℕ) → length d ≤ place → span_of d place k ≡ []
+pub no_span : (d : List ℕ) (place k : ℕ) → length d ≤ place → span_of d place k ≡ []
 unfolding span_of span_at
 no_span d place k behind = let none : min k (length d - place) ≡ 0 = omega arith in rw none refl
 

@@ -5,6 +5,7 @@ pub mod Slices
 pub mod Numbers
 pub mod Filling
 pub mod Found
+pub mod Spends
 pub mod Standings
 pub mod Windows
 pub mod Layouts
@@ -19,9 +20,12 @@ pub mod Advances
 pub mod Ahead
 pub mod Unrolled
 pub mod Tests
+pub mod TextReads
+pub mod Texts
 pub mod Beyond
 pub mod Walks
 pub mod Openings
 pub mod Costs
 pub mod Way
 pub mod Always
+pub mod Recordings

@@ -1,10 +1,16 @@
 -- What a reading of a slice sees.
-use Rattle.std.proofs.Common.{◌≡◌, ℕ, ◌-◌, ◌^◌, ◌<◌, min, List, [], ◌∷◌, ◌++◌, length, take, drop, Ok, refl, sym, ap, ◌∙◌, arith}
-use Rattle.std.proofs.lemmas.List.{length-take, length-drop}
+use Rattle.std.proofs.Common.{◌≡◌, ℕ, ◌-◌, ◌^◌, ◌<◌, ◌≤◌, min, List, [], ◌∷◌, ◌++◌, length, take, drop, Ok, inl, inr, refl, sym, ap, ◌∙◌, arith}
+use Rattle.std.proofs.lemmas.List.{length-append, length-take, length-drop, drop_all, take_all, take_min}
 use Rattle.std.proofs.Math.Seq.{take-append_seam}
 use Rattle.imagesize_source.specs.declared.span.Span.{Span}
 use Rattle.imagesize_source.specs.Input.{part, span_of}
-use Rattle.imagesize_source.specs.Reading.{part_read}
+use Rattle.imagesize_source.specs.Reading.{Reads, part_read, text_part, text_read}
+use Rattle.imagesize_source.specs.Text.{text_front}
+use Rattle.imagesize_source.proofs.Count.{text_length}
+use Rattle.imagesize_source.proofs.Runs.{part_length}
+use Rattle.imagesize_source.proofs.Texts.{front_take}
+use Rattle.imagesize_source.specs.declared.text.Text.{Text}
+use Rattle.std.proofs.lemmas.Bool.{cases_lt}
 use Rattle.imagesize_source.specs.State.{Runs, past, slice_state}
 
 past-slice : (d : List ℕ) (spans : List Span) → past (slice_state d) spans ≡ slice_state d
@@ -22,16 +28,57 @@ front_is d room old place n count copied kept =
     let same : length (part d place (length old)) ≡ n = length-part d place (length old) ∙ sym count in
     ap (take n) copied ∙ ap (λ k. take k (part d place (length old) ++ drop n old)) (sym same) ∙ take-append_seam (part d place (length old)) (drop n old) ∙ ap (part d place) (sym kept)
 
--- a reading of a slice
-pub slice_reads : (d room old : List ℕ) (place n : ℕ) → length d < 2 ^ 63 → n ≡ min (length old) (length d - place) → room ≡ part d place (length old) ++ drop n old → length room ≡ length old → Runs (slice_state d) (slice_state d) (Ok (take n room)) (part_read d place (length room))
-slice_reads d room old place n short count copied kept = record {
+-- what was copied is what a reading gives
+slice_runs : {reads : Reads (List ℕ)} (d got : List ℕ) → length d < 2 ^ 63 → reads.answer ≡ Ok got → Runs (slice_state d) (slice_state d) (Ok got) reads
+slice_runs {reads} d got short is = record {
   sound = λ honest. (refl, short);
   sound_after = λ honest. (refl, short);
   frame = refl;
   taken = omega arith;
   within = λ honest. omega arith;
-  answer = λ honest goes_on. ap Ok (sym (front_is d room old place n count copied kept));
-  state = λ honest goes_on. sym (past-slice d (span_of d place (length room)));
+  answer = λ honest goes_on. is;
+  state = λ honest goes_on. sym (past-slice d reads.marks);
   fault = λ honest faults. absurd cc;
   ended = tt;
 }
+
+-- a reading of a slice
+pub slice_reads : (d room old : List ℕ) (place n : ℕ) → length d < 2 ^ 63 → n ≡ min (length old) (length d - place) → room ≡ part d place (length old) ++ drop n old → length room ≡ length old → Runs (slice_state d) (slice_state d) (Ok (take n room)) (part_read d place (length room))
+slice_reads d room old place n short count copied kept = slice_runs d (take n room) short (ap Ok (sym (front_is d room old place n count copied kept)))
+
+-- the part in which a text is looked for, by the slices that the code takes
+pub slice_part : (d : List ℕ) (place first k n : ℕ) → first ≡ min place (length d) → n ≡ min (length (take (length d - first) (drop first d))) k → take n (take (length d - first) (drop first d)) ≡ part d place k
+unfolding part
+slice_part d place first k n first_is n_is =
+    let rest : take (length d - first) (drop first d) ≡ drop first d = take_all (length d - first) (drop first d) (omega (arith, length-drop first d)) in
+    let same : drop first d ≡ drop place d = drop_min d place first first_is in
+    let long : n ≡ min k (length (drop place d)) = n_is ∙ ap (λ xs. min (length xs) k) (rest ∙ same) ∙ omega arith in
+    ap (λ xs. take n xs) (rest ∙ same) ∙ ap (λ m. take m (drop place d)) long ∙ take_min k (drop place d)
+  where
+    drop_min : (d : List ℕ) (place first : ℕ) → first ≡ min place (length d) → drop first d ≡ drop place d
+    drop_min d place first is = elim (cases_lt (length d) place) [
+      | inl beyond ↦ drop_all first d (omega (arith, is, beyond)) ∙ sym (drop_all place d (omega (arith, beyond)))
+      | inr within ↦ (let same : first ≡ place = omega (arith, is, within) in ap (λ n. drop n d) same)
+    ]
+
+-- the text in it
+pub slice_text : (d : List ℕ) (t : Text) (place first k n m : ℕ) → first ≡ min place (length d) → n ≡ min (length (take (length d - first) (drop first d))) k → m ≡ length (text_front t (take n (take (length d - first) (drop first d)))) → take m (take n (take (length d - first) (drop first d))) ≡ text_part d t place k
+unfolding text_part
+slice_text d t place first k n m first_is n_is m_is =
+    let same = slice_part d place first k n first_is n_is in
+    ap (λ j. take j (take n (take (length d - first) (drop first d)))) m_is ∙ front_take t (take n (take (length d - first) (drop first d))) ∙ ap (text_front t) same
+
+-- how long it is
+pub slice_text_fits : (d : List ℕ) (t : Text) (place first k n m : ℕ) → first ≡ min place (length d) → n ≡ min (length (take (length d - first) (drop first d))) k → m ≡ length (text_front t (take n (take (length d - first) (drop first d)))) → length (take m (take n (take (length d - first) (drop first d)))) ≤ k
+slice_text_fits d t place first k n m first_is n_is m_is = omega (arith, ap length (slice_text d t place first k n m first_is n_is m_is), text_length d t place k, part_length d place k)
+
+pub slice_text_there : (d : List ℕ) (t : Text) (place first k n m : ℕ) → first ≡ min place (length d) → n ≡ min (length (take (length d - first) (drop first d))) k → m ≡ length (text_front t (take n (take (length d - first) (drop first d)))) → 0 < length (take m (take n (take (length d - first) (drop first d)))) → place < length d
+slice_text_there d t place first k n m first_is n_is m_is some = omega (arith, some, ap length (slice_text d t place first k n m first_is n_is m_is), text_length d t place k, part_length d place k)
+
+-- the reading of a text of a slice
+pub slice_reads_text : (d old copied found : List ℕ) (t : Text) (place : ℕ) → length d < 2 ^ 63 → found ≡ text_part d t place (length old) → length found ≤ length old → copied ≡ found → Runs (slice_state d) (slice_state d) (Ok (take (length found) (copied ++ drop (length found) old))) (text_read d t place (length (copied ++ drop (length found) old)))
+slice_reads_text d old copied found t place short is fits same =
+    let kept : length (copied ++ drop (length found) old) ≡ length old = omega (arith, length-append copied (drop (length found) old), ap length same, length-drop (length found) old, fits) in
+    let front : take (length found) (copied ++ drop (length found) old) ≡ found = ap (λ bs. take (length found) (bs ++ drop (length found) old)) same ∙ take-append_seam found (drop (length found) old) in
+    slice_runs d (take (length found) (copied ++ drop (length found) old)) short
+    (ap (λ k. Ok (text_part d t place k)) kept ∙ ap Ok (sym is) ∙ ap Ok (sym front))

@@ -1,32 +1,42 @@
 -- A layout: which readings an answer rests on, as a tree.
 use Rattle.std.specs.Prelude.{ℕ, List, length, nat_le, if◌then◌else◌, Option, None, Some}
 use Rattle.imagesize_source.specs.declared.error.ImageError.{ImageError}
+use Rattle.imagesize_source.specs.declared.text.Text.{Text}
 use Rattle.imagesize_source.specs.declared.util.Endian.{Endian}
-use Rattle.imagesize_source.specs.Reading.{Reads, gives, refuses, and_then, number_read, bytes_read, part_read}
+use Rattle.imagesize_source.specs.Reading.{Reads, Reading, AllOf, PartOf, TextOf, gives, refuses, and_then, number_read, read_of}
 
--- It sees the input by its readings alone: a number of k bytes at a place, k bytes, or what is there of them.
+-- It sees the input by its readings alone: a number of k bytes at a place, or a reading of bytes there.
 pub data Layout (X : Type 0) : Type 0 where
   done : X → Layout X
   refuse : ImageError → Layout X
   field : Endian → ℕ → ℕ → (ℕ → Layout X) → Layout X
-  bytes : ℕ → ℕ → (List ℕ → Layout X) → Layout X
-  there : ℕ → ℕ → (List ℕ → Layout X) → Layout X
+  reading : Reading → ℕ → (List ℕ → Layout X) → Layout X
+
+-- k bytes
+abbrev pub bytes : {X : Type 0} → ℕ → ℕ → (List ℕ → Layout X) → Layout X
+bytes place k f = reading (AllOf k) place f
+
+-- what is there of k bytes
+abbrev pub there : {X : Type 0} → ℕ → ℕ → (List ℕ → Layout X) → Layout X
+there place k f = reading (PartOf k) place f
+
+-- a text of at most k bytes
+abbrev pub text : {X : Type 0} → Text → ℕ → ℕ → (List ℕ → Layout X) → Layout X
+text t place k f = reading (TextOf t k) place f
 
 -- what a layout says of an input
 abbrev pub over : {X : Type 0} → List ℕ → Layout X → Reads X
 over d (done x) = gives x
 over d (refuse e) = refuses e
 over d (field order place k f) = and_then (number_read d order place k) (λ v. over d (f v))
-over d (bytes place k f) = and_then (bytes_read d place k) (λ bs. over d (f bs))
-over d (there place k f) = and_then (part_read d place k) (λ bs. over d (f bs))
+over d (reading r place f) = and_then (read_of d r place) (λ bs. over d (f bs))
 
 -- a layout, and what goes on from its answer
 abbrev pub bind : {X Y : Type 0} → Layout X → (X → Layout Y) → Layout Y
 bind (done x) g = g x
 bind (refuse e) g = refuse e
 bind (field order place k f) g = field order place k (λ v. bind (f v) g)
-bind (bytes place k f) g = bytes place k (λ bs. bind (f bs) g)
-bind (there place k f) g = there place k (λ bs. bind (f bs) g)
+bind (reading r place f) g = reading r place (λ bs. bind (f bs) g)
 
 -- all of k bytes, or none where some are missing
 abbrev pub whole : ℕ → List ℕ → Option (List ℕ)

@@ -15,3 +15,4 @@ pub mod State
 pub mod StopOf
 pub mod Telling
 pub mod Way
+pub mod Text

@@ -4,9 +4,11 @@ use Rattle.imagesize_source.specs.declared.error.ImageError.{ImageError}
 use Rattle.imagesize_source.specs.declared.error.ImageError.TheVariants.{NotSupported, CorruptedImage, IoError}
 use Rattle.imagesize_source.specs.declared.error.Reason.TheVariants.{EndOfInput, Fault, BudgetSpent, Memory}
 use Rattle.imagesize_source.specs.declared.span.Span.{Span}
+use Rattle.imagesize_source.specs.declared.text.Text.{Text}
 use Rattle.imagesize_source.specs.declared.util.Endian.{Endian}
-use Rattle.imagesize_source.specs.Input.{part, span_of}
+use Rattle.imagesize_source.specs.Input.{part, span_at, span_of}
 use Rattle.imagesize_source.specs.Numbers.{number}
+use Rattle.imagesize_source.specs.Text.{text_front}
 
 -- an answer, with the spans of the readings that it rests on, in their order
 pub record Reads (X : Type 0) : Type 0 where
@@ -60,6 +62,32 @@ bytes_read d place k = record { answer = bytes_at d place k; marks = span_of d p
 -- the reading of a number of k bytes
 abbrev pub number_read : List ℕ → Endian → ℕ → ℕ → Reads ℕ
 number_read d order place k = record { answer = number_at d order place k; marks = span_of d place k }
+
+-- the text from a place on, of at most k bytes
+unfoldable pub text_part : List ℕ → Text → ℕ → ℕ → List ℕ
+text_part d t place k = text_front t (part d place k)
+
+-- the reading of a text: it sees the bytes of the text, and none behind them
+abbrev pub text_read : List ℕ → Text → ℕ → ℕ → Reads (List ℕ)
+text_read d t place k = record { answer = Ok (text_part d t place k); marks = span_at place (length (text_part d t place k)) }
+
+-- what is read from a place on: all of k bytes, what is there of k bytes, or a text of at most k bytes
+pub data Reading : Type 0 where
+  AllOf : ℕ → Reading
+  PartOf : ℕ → Reading
+  TextOf : Text → ℕ → Reading
+
+-- what a reading gives
+abbrev pub read_of : List ℕ → Reading → ℕ → Reads (List ℕ)
+read_of d (AllOf k) place = bytes_read d place k
+read_of d (PartOf k) place = part_read d place k
+read_of d (TextOf t k) place = text_read d t place k
+
+-- how many bytes it asks for
+abbrev pub most : Reading → ℕ
+most (AllOf k) = k
+most (PartOf k) = k
+most (TextOf t k) = k
 
 -- a failure of the reader, a spent budget and refused memory end a call at once, whatever a layout says
 abbrev pub is_fault : ImageError → Bool

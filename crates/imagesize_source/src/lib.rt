@@ -4,9 +4,11 @@
 pub mod error;
 pub mod source;
 pub mod span;
+pub mod text;
 pub mod told;
 pub mod util;
 
 pub use error::{ImageError, ImageResult, Reason};
 pub use span::Span;
+pub use text::Text;
 pub use told::{Stop, Told};

@@ -1,13 +1,14 @@
 //! A source: the bytes of an input, read by place.
 ghost use Rattle.std.specs.Prelude.{◌≡◌, ◌<◌, ◌≤◌, take, length, IfOk};
 ghost use Rattle.imagesize_source.specs.Paying.{Paid};
-ghost use Rattle.imagesize_source.specs.Reading.{seen, part_read};
+ghost use Rattle.imagesize_source.specs.Reading.{seen, part_read, text_read};
 ghost use Rattle.imagesize_source.specs.State.{State, Runs, Sound};
 
-use crate::ImageResult;
+use crate::{ImageResult, Text};
 
 pub mod progress;
 pub mod reader;
+pub mod recording;
 pub mod slice;
 mod window;
 
@@ -33,4 +34,14 @@ pub trait Source {
         ensures pays { IfOk result (λ n. 0 < n → Paid (state self.old) (state self.new) place) }
         ensures runs { Runs (state self.old) (state self.new) (seen (λ n. take n room.new) result)
             (part_read (state self.old).held.input place (length room.new)) };
+
+    /// Reads the text from a place on into the room, as far as there is room, and answers how many bytes that
+    /// is: the white space before a word, the text, and the byte that ends it. It takes nothing behind them.
+    fn read_text(&mut self, place: u64, text: Text, room: &mut [u8]) -> ImageResult<usize>
+        ensures bound { IfOk result (λ n. n ≤ length room.new) }
+
+        // Above the told length and the bytes held, what comes is paid for.
+        ensures pays { IfOk result (λ n. 0 < n → Paid (state self.old) (state self.new) place) }
+        ensures runs { Runs (state self.old) (state self.new) (seen (λ n. take n room.new) result)
+            (text_read (state self.old).held.input text place (length room.new)) };
 }

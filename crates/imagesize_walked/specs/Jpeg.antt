@@ -7,8 +7,8 @@ use Rattle.imagesize_types.specs.declared.size.ImageSize.{ImageSize}
 use Rattle.imagesize_source.specs.declared.error.ImageError.TheVariants.{CorruptedImage}
 use Rattle.imagesize_source.specs.declared.util.Endian.TheVariants.{Big}
 use Rattle.imagesize_source.specs.Chain.{Said, Decided, Next, Chain, chain_at}
-use Rattle.imagesize_source.specs.Layout.{Layout}
-use Rattle.imagesize_source.specs.Layout.Layout.{field, bytes, refuse, «done»}
+use Rattle.imagesize_source.specs.Layout.{Layout, bytes}
+use Rattle.imagesize_source.specs.Layout.Layout.{field, refuse, «done»}
 use Rattle.imagesize_source.specs.Reading.{Reads}
 
 -- the start of the image, and the start of another marker

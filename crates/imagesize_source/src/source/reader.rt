@@ -7,10 +7,12 @@ ghost use Rattle.imagesize_source.specs.Telling.{counted, given, SeekTells};
 ghost use Rattle.imagesize_source.specs.Standing.{Standing, steady, stand, GivesSome, GivesAll, StopsBy, Keeps, Tries, since, GoesTo, GivesFrom};
 ghost use Rattle.imagesize_source.specs.StopOf.{ending_of};
 
+mod text;
+
 use super::Source;
 use super::progress::Progress;
 use super::window::{Window, copy_kept, keep};
-use crate::{ImageError, ImageResult, Reason, Stop, Told};
+use crate::{ImageError, ImageResult, Reason, Stop, Text, Told};
 use std::io::SeekFrom;
 
 /// A reader that is read by place. It takes bytes within a budget, and keeps the first 32 of the input.
@@ -69,6 +71,10 @@ impl<R: Told> Source for ReaderSource<'_, R> {
             place,
             room,
         )
+    }
+
+    fn read_text(&mut self, place: u64, text: Text, room: &mut [u8]) -> ImageResult<usize> {
+        text::read_text(self, place, text, room)
     }
 }
 

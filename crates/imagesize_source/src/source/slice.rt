@@ -1,10 +1,12 @@
 //! The bytes of a slice as a source. It takes nothing, and no reading of it fails.
-ghost use Rattle.std.specs.Prelude.{◌≡◌, min, ◌-◌, ◌++◌, take, drop, length};
+ghost use Rattle.std.specs.Prelude.{◌≡◌, ◌<◌, ◌≤◌, min, ◌-◌, ◌++◌, take, drop, length};
 ghost use Rattle.imagesize_source.specs.Input.{part};
+ghost use Rattle.imagesize_source.specs.Reading.{text_part};
 ghost use Rattle.imagesize_source.specs.State.{slice_state};
 
 use super::Source;
-use crate::ImageResult;
+use crate::text::text_length;
+use crate::{ImageResult, Text};
 
 /// A slice that is read by place.
 #[derive(Clone, Copy, Debug)]
@@ -31,6 +33,15 @@ impl Source for SliceSource<'_> {
         let _length = self.bytes.len();
         Ok(copy_part(self.bytes, place, room))
     }
+
+    #[inline]
+    fn read_text(&mut self, place: u64, text: Text, room: &mut [u8]) -> ImageResult<usize> {
+        // The proof needs that the length is below 2^63.
+        let _length = self.bytes.len();
+        let found = text_at(self.bytes, place, text, room.len());
+        room[..found.len()].copy_from_slice(found);
+        Ok(found.len())
+    }
 }
 
 /// Copies what is there of the bytes from a place on into the room, and answers how many that is.
@@ -48,4 +59,16 @@ pub(crate) fn copy_part(bytes: &[u8], place: u64, room: &mut [u8]) -> usize
     }
     room[..rest.len()].copy_from_slice(rest);
     rest.len()
+}
+
+/// The text from a place on, of at most so many bytes.
+pub(crate) fn text_at(bytes: &[u8], place: u64, text: Text, most: usize) -> &[u8]
+    ensures text { result.now ≡ text_part bytes.now text place most }
+    ensures fits { length result.now ≤ most }
+    ensures there { 0 < length result.now → place < length bytes.now }
+{
+    let first = (place as usize).min(bytes.len());
+    let rest = &bytes[first..];
+    let part = &rest[..rest.len().min(most)];
+    &part[..text_length(text, part)]
 }

@@ -1,0 +1,78 @@
+//! Texts within an input: bytes up to one that ends them.
+ghost use Rattle.std.specs.Prelude.{◌≡◌, ◌≤◌, ◌==◌, not, length};
+ghost use Rattle.std.specs.List.{position};
+ghost use Rattle.std.specs.Char.{is_ascii_whitespace};
+ghost use Rattle.imagesize_source.specs.Text.{ends, through, text_front};
+
+/// A text, by what ends it. Where nothing ends it, it goes on to the end of the input or of the room.
+#[derive(Clone, Copy, Debug, PartialEq, Eq)]
+pub enum Text {
+    /// The bytes up to a delimiter, with the delimiter.
+    Line { delimiter: u8 },
+    /// The ASCII white space (20, 09, 0A, 0C and 0D) before a word, the word, and the byte of white space
+    /// behind it.
+    Word,
+}
+
+/// How many of the bytes are of the text at their front.
+#[tactic(auto, using(crate::proofs::Texts::fronts))]
+pub(crate) fn text_length(text: Text, bytes: &[u8]) -> usize
+    ensures length { result ≡ length (text_front text bytes.now) }
+    ensures within { result ≤ length bytes.now }
+{
+    match text {
+        Text::Line { delimiter } => line_length(delimiter, bytes),
+        Text::Word => word_length(bytes),
+    }
+}
+
+// How many bytes there are up to the delimiter, with it.
+fn line_length(delimiter: u8, bytes: &[u8]) -> usize
+    ensures { result ≡ length (through (λ b. b == delimiter) bytes.now) }
+{
+    match first_delimiter(delimiter, bytes) {
+        Some(index) => index + 1,
+        None => bytes.len(),
+    }
+}
+
+// How many bytes the white space before a word, the word, and the white space that ends it are.
+fn word_length(bytes: &[u8]) -> usize
+    ensures { result ≡ length (text_front Text.Word bytes.now) }
+{
+    let Some(start) = first_of_word(bytes) else {
+        return bytes.len();
+    };
+    match first_white(&bytes[start..]) {
+        Some(index) => start + index + 1,
+        None => bytes.len(),
+    }
+}
+
+fn first_delimiter(delimiter: u8, bytes: &[u8]) -> Option<usize>
+    ensures { result ≡ position (λ b. b == delimiter) bytes.now }
+{
+    bytes.iter().position(|byte| *byte == delimiter)
+}
+
+fn first_of_word(bytes: &[u8]) -> Option<usize>
+    ensures { result ≡ position (λ b. not (is_ascii_whitespace b)) bytes.now }
+{
+    bytes.iter().position(|byte| !byte.is_ascii_whitespace())
+}
+
+fn first_white(bytes: &[u8]) -> Option<usize>
+    ensures { result ≡ position is_ascii_whitespace bytes.now }
+{
+    bytes.iter().position(|byte| byte.is_ascii_whitespace())
+}
+
+/// Whether a byte ends the text, of which a byte other than white space came before or none did.
+pub(crate) fn is_end(text: Text, begun: bool, byte: u8) -> bool
+    ensures { result ≡ ends text begun byte }
+{
+    match text {
+        Text::Line { delimiter } => byte == delimiter,
+        Text::Word => begun && byte.is_ascii_whitespace(),
+    }
+}
