@@ -4,6 +4,8 @@
 #[cfg(test)]
 mod calls;
 #[cfg(test)]
+mod heif;
+#[cfg(test)]
 mod long;
 pub mod readers;
 #[cfg(test)]
