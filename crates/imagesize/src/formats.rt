@@ -123,10 +123,10 @@ pub(crate) fn size<S: Source>(source: &mut S, kind: ImageType) -> ImageResult<Im
         ImageType::Psd => psd::size(source),
         ImageType::Qoi => qoi::size(source),
         ImageType::Tga => tga::size(source),
+        ImageType::Tiff => tiff::size(source),
         ImageType::Vtf => vtf::size(source),
         ImageType::Webp => webp::size(source),
-        ImageType::Exr | ImageType::Hdr | ImageType::Jxl | ImageType::Pnm | ImageType::Tiff =>
-            unsupported(source),
+        ImageType::Exr | ImageType::Hdr | ImageType::Jxl | ImageType::Pnm => unsupported(source),
     }
 }
 

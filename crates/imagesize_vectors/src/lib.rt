@@ -12,3 +12,5 @@ pub mod readers;
 mod rows;
 #[cfg(test)]
 mod strange;
+#[cfg(test)]
+mod tiff;
