@@ -161,7 +161,7 @@ segment_allowed d k place = on_answer (λ w. total w.marks ≤ allowed d place) 
     let few : 2 ≤ allowed d place = grind (arith, nat_tests) in omega arith))
     (λ e got. let here = total-span_of d place 2 in let few : 2 ≤ allowed d place = grind (arith, nat_tests) in omega arith)
 
--- the segments are read from at most 4 bytes more than the input has
+-- the segments are read from at most 6 bytes more than the input has
 pub jpeg_within : (d : List ℕ) → total (jpeg d).marks ≤ length d + 6
 unfolding Used
 jpeg_within d =
