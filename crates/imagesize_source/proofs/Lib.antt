@@ -17,7 +17,6 @@ pub mod Reached
 pub mod ChainLaws
 pub mod Advances
 pub mod Ahead
-pub mod Unrolled
 pub mod Tests
 pub mod TextReads
 pub mod Texts

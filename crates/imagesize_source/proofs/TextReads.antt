@@ -1,5 +1,5 @@
 -- A text that is read byte by byte: its readings are one, and it takes none behind it.
-use Rattle.std.proofs.Common.{◌≡◌, ℕ, zero, suc, ◌+◌, ◌-◌, ◌^◌, ◌<◌, ◌≤◌, min, max, Bool, true, false, ◌||◌, not, cond, List, [], ◌∷◌, ◌++◌, length, take, drop, slice_index, Option, None, Result, Ok, Err, inl, inr, refl, sym, ap, ◌∙◌, subst, arith, append_assoc, IfErr}
+use Rattle.std.proofs.Common.{◌≡◌, ℕ, zero, suc, ◌+◌, ◌-◌, ◌^◌, ◌<◌, ◌≤◌, min, max, Bool, true, false, ◌||◌, not, cond, List, [], ◌∷◌, ◌++◌, length, take, drop, slice_index, Option, None, Ok, Err, inl, inr, refl, sym, ap, ◌∙◌, subst, arith, append_assoc}
 use Rattle.std.proofs.Math.Nat.{add-zero}
 use Rattle.std.proofs.lemmas.Bool.{cases_lt}
 use Rattle.std.proofs.lemmas.Bool.Decides.{nat_tests}
@@ -13,8 +13,8 @@ use Rattle.imagesize_source.specs.declared.text.Text.{Text}
 use Rattle.imagesize_source.specs.declared.text.Text.TheVariants.{Line, Word}
 use Rattle.imagesize_source.specs.Input.{part, span_at, span_of}
 use Rattle.imagesize_source.specs.Paying.{Paid}
-use Rattle.imagesize_source.specs.Reading.{Reads, part_read, text_part, text_read, stopped, faulted}
-use Rattle.imagesize_source.specs.State.{State, Runs, EndedBy, Sound, total, past, step, fresh, front_after}
+use Rattle.imagesize_source.specs.Reading.{part_read, text_part, text_read}
+use Rattle.imagesize_source.specs.State.{State, Runs, Sound, total, past, step, fresh, front_after}
 use Rattle.imagesize_source.specs.declared.source.progress.Progress.{Progress}
 use Rattle.imagesize_source.specs.ReaderState.{reader_frame, reader_state}
 use Rattle.imagesize_source.specs.Standing.{stand}
