@@ -23,7 +23,7 @@ use Rattle.imagesize.specs.Tga.{tga, tga_by_header, is_tga}
 use Rattle.imagesize.specs.Webp.{webp, webp_form}
 use Rattle.imagesize.specs.declared.types.ImageType.{ImageType}
 use Rattle.imagesize.specs.declared.types.ImageType.TheVariants.{Aseprite, Astc, Atc, Bmp, Dds, Eac, Etc2, Exr, Farbfeld, Gif, Hdr, Heif, Ico, Ilbm, Jpeg, Jxl, Ktx2, Pnm, Pvrtc, Psd, Qoi, Tga, Tiff, Vtf, Webp}
-use Rattle.imagesize_source.proofs.Count.{at_most}
+use Rattle.imagesize_source.proofs.Counts.{at_most}
 use Rattle.imagesize.specs.Counts.{cost, is_fixed, is_fixed_or_refused}
 use Rattle.imagesize_source.proofs.Costs.{bound_of, costs, costs_bind}
 use Rattle.imagesize_source.proofs.Runs.{total-append}

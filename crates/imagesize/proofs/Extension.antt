@@ -24,7 +24,7 @@ use Rattle.imagesize.specs.Webp.{webp, webp_form}
 use Rattle.imagesize.specs.declared.types.ImageSize.{ImageSize}
 use Rattle.imagesize.specs.declared.types.ImageType.{ImageType}
 use Rattle.imagesize.specs.declared.types.ImageType.TheVariants.{Aseprite, Astc, Atc, Bmp, Dds, Eac, Etc2, Exr, Farbfeld, Gif, Hdr, Heif, Ico, Ilbm, Jpeg, Jxl, Ktx2, Pnm, Pvrtc, Psd, Qoi, Tga, Tiff, Vtf, Webp}
-use Rattle.imagesize_source.proofs.More.{more_answer, bytes_ok, bytes_more}
+use Rattle.imagesize_source.proofs.Extension.{more_answer, bytes_ok, bytes_more}
 use Rattle.imagesize_source.proofs.Layouts.{over-bind}
 use Rattle.imagesize_source.specs.Extension.{Plain}
 use Rattle.imagesize_source.specs.Layout.{Layout, over, bind, whole}

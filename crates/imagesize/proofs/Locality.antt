@@ -22,7 +22,7 @@ use Rattle.imagesize.specs.Vtf.{vtf}
 use Rattle.imagesize.specs.Webp.{webp}
 use Rattle.imagesize.specs.declared.types.ImageType.{ImageType}
 use Rattle.imagesize.specs.declared.types.ImageType.TheVariants.{Aseprite, Astc, Atc, Bmp, Dds, Eac, Etc2, Exr, Farbfeld, Gif, Hdr, Heif, Ico, Ilbm, Jpeg, Jxl, Ktx2, Pnm, Pvrtc, Psd, Qoi, Tga, Tiff, Vtf, Webp}
-use Rattle.imagesize_source.proofs.Local.{local_layout, local_then, local_length}
+use Rattle.imagesize_source.proofs.Agreement.{local_layout, local_then, local_length}
 use Rattle.imagesize_source.specs.Agreement.{Local}
 use Rattle.imagesize_source.specs.Layout.{over}
 

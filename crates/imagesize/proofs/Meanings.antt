@@ -2,7 +2,7 @@
 use Rattle.std.proofs.Common.{◌≡◌, ℕ, ◌+◌, length, Option, Some, None, Result, Ok, Err, IfSome, true, false, sym, ap, ◌∙◌, subst, arith}
 use Rattle.std.specs.Result.{result_ok}
 use Rattle.imagesize.proofs.Counts.{kind_within, size_at_most}
-use Rattle.imagesize_source.proofs.Count.{then_within}
+use Rattle.imagesize_source.proofs.Counts.{then_within}
 use Rattle.imagesize.specs.Meaning.{kind_of, meaning, size_of}
 use Rattle.imagesize.specs.Probed.{FindsKind, Probes}
 use Rattle.imagesize.specs.declared.calls.Probed.{Probed}

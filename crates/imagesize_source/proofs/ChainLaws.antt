@@ -9,9 +9,9 @@ use Rattle.imagesize_source.specs.Extension.{Plain, Lasts}
 use Rattle.imagesize_source.specs.Reading.{behind}
 use Rattle.imagesize_source.specs.State.{total}
 use Rattle.imagesize_source.proofs.Chains.{chain_next, chain_stop, records_next, records_stop}
-use Rattle.imagesize_source.proofs.Local.{local, agrees-left, agrees-right}
-use Rattle.imagesize_source.proofs.Count.{at_most}
-use Rattle.imagesize_source.proofs.More.{more}
+use Rattle.imagesize_source.proofs.Agreement.{local, agrees-left, agrees-right}
+use Rattle.imagesize_source.proofs.Counts.{at_most}
+use Rattle.imagesize_source.proofs.Extension.{more}
 use Rattle.imagesize_source.proofs.Runs.{total-append}
 
 module _ {C X : Type 0} (c : Chain C X) (d : List ℕ) where

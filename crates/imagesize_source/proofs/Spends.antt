@@ -9,7 +9,7 @@ use Rattle.imagesize_source.specs.Reading.{Reads, Reading, AllOf, PartOf, TextOf
 use Rattle.imagesize_source.specs.State.{total}
 use Rattle.imagesize_source.proofs.ChainLaws.{chain_induction}
 use Rattle.imagesize_source.proofs.Chains.{chain_next, chain_stop}
-use Rattle.imagesize_source.proofs.Count.{text_length, total-span_at, total_behind}
+use Rattle.imagesize_source.proofs.Counts.{text_length, total-span_at, total_behind}
 use Rattle.imagesize_source.proofs.Runs.{part_is, part_length, total-append}
 
 -- how many of n bytes are left from a place on, or none where nothing goes on

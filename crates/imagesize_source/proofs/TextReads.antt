@@ -20,9 +20,9 @@ use Rattle.imagesize_source.specs.ReaderState.{reader_frame, reader_state}
 use Rattle.imagesize_source.specs.Standing.{stand}
 use Rattle.imagesize_source.specs.Telling.{Telling}
 use Rattle.imagesize_source.specs.Text.{delimits, through, text_front, ends}
-use Rattle.imagesize_source.proofs.Count.{total-span_at, total-span_of, total_behind}
+use Rattle.imagesize_source.proofs.Counts.{total-span_at, total-span_of, total_behind}
 use Rattle.imagesize_source.proofs.Layouts.{no_part, no_span}
-use Rattle.imagesize_source.proofs.Local.{whole_span}
+use Rattle.imagesize_source.proofs.Agreement.{whole_span}
 use Rattle.imagesize_source.proofs.Runs.{part_is, part_length, past-held}
 use Rattle.imagesize_source.proofs.Windows.{sound_at, told_by}
 use Rattle.imagesize_source.proofs.Texts.{line_front, no_front, through-cons, word_front}

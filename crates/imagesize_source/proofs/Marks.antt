@@ -1,4 +1,4 @@
--- Readings behind readings.
+-- Spans in front of spans in front of readings.
 use Rattle.std.proofs.Common.{◌≡◌, List, ◌++◌, append_assoc, sym, ap}
 use Rattle.imagesize_source.specs.declared.span.Span.{Span}
 use Rattle.imagesize_source.specs.Reading.{Reads, behind}
