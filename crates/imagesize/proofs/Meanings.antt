@@ -1,12 +1,13 @@
 -- The size by a type that was found.
-use Rattle.std.proofs.Common.{◌≡◌, ℕ, ◌+◌, length, Option, Some, None, Result, Ok, Err, IfSome, true, false, sym, ap, ◌∙◌, subst, arith}
+use Rattle.std.proofs.Common.{◌≡◌, ℕ, ◌≤◌, Option, Some, None, Result, Ok, Err, IfSome, true, false, sym, ap, ◌∙◌, subst, arith}
 use Rattle.std.specs.Result.{result_ok}
-use Rattle.imagesize.proofs.Counts.{kind_within, size_at_most}
-use Rattle.imagesize_source.proofs.Counts.{then_within}
+use Rattle.imagesize.proofs.Counts.{cost_stated, cost_within, size_within}
+use Rattle.imagesize.proofs.Detection.{kind_within}
+use Rattle.imagesize.specs.Counts.{cost}
 use Rattle.imagesize.specs.Meaning.{kind_of, meaning, size_of}
 use Rattle.imagesize.specs.Probed.{FindsKind, Probes}
 use Rattle.imagesize.specs.declared.calls.Probed.{Probed}
-use Rattle.imagesize.specs.declared.types.ImageSize.{ImageSize}
+use Rattle.imagesize_types.specs.declared.size.ImageSize.{ImageSize}
 use Rattle.imagesize.specs.declared.types.ImageType.{ImageType}
 use Rattle.imagesize_source.proofs.Openings.{IsBounded, Began, claim, start_of, start_holds, opened_answers, opened_takes}
 use Rattle.imagesize_source.proofs.Runs.{runs_then, runs_refused}
@@ -34,8 +35,7 @@ bounded_kind : IsBounded kind_of
 bounded_kind d place = omega (arith, kind_within d place)
 
 bounded_meaning : IsBounded meaning
-unfolding meaning
-bounded_meaning d place = omega (arith, then_within (kind_of d place) (λ found. size_of found d) 37 (length d + 20) (kind_within d place) (λ found _. size_at_most found d))
+bounded_meaning d place = omega (arith, cost_within d place)
 
 -- the type that a reader was found to hold
 pub kind_answers : (telling mid : Option Telling) (count : Option ℕ) (home : ℕ) (opened : Opened) (a b : State) (r : Result ImageType ImageError) → a ≡ start_state mid count home opened.told → Opens telling mid (Ok opened) → Runs a b r (kind_of a.held.input opened.place) → Answers telling kind_of r
@@ -59,15 +59,19 @@ probes_opened (Some t) mid count home opened a b probed start opens h finds took
     let began : Began t mid opened.told opened.place = record { at_end = opens.0; length_told = opens.2; at = opens.1 } in
     let runs = subst (λ s. Runs s b probed.answer (meaning s.held.input opened.place)) start h in
     let kinds = found_kind t mid count home opened.told opened.place a probed.kind probed.answer honest began start finds in
+    let takes = subst (λ n. TakesAs t (meaning t.bytes t.place) probed.answer n) (sym took) (opened_takes (Some t) mid count home opened b probed.answer meaning opens runs honest) in
+    let most : probed.taken ≤ cost t.bytes t.place = takes.most in
     record {
       answer = opened_answers (Some t) mid count home opened b probed.answer meaning bounded_meaning opens runs honest;
-      takes = subst (λ n. TakesAs t (meaning t.bytes t.place) probed.answer n) (sym took) (opened_takes (Some t) mid count home opened b probed.answer meaning opens runs honest);
+      takes = takes;
       right = kinds.0;
       whole = kinds.1;
+      stated = omega (arith, most, cost_stated t.bytes t.place);
+      within = omega (arith, most, cost_within t.bytes t.place);
     }
 
 bounded_size : (type : ImageType) → IsBounded (λ d place. size_of type d)
-bounded_size type d place = omega (arith, size_at_most type d)
+bounded_size type d place = omega (arith, size_within type d)
 
 -- the size that a reader was found to have, read as a type
 pub size_answers : (telling mid : Option Telling) (count : Option ℕ) (home : ℕ) (opened : Opened) (a b : State) (type : ImageType) (r : Result ImageSize ImageError) → a ≡ start_state mid count home opened.told → Opens telling mid (Ok opened) → Runs a b r (size_of type a.held.input) → Answers telling (λ d place. size_of type d) r

@@ -1,40 +1,31 @@
--- How many bytes a type and its size are read from, and which sizes stand at fixed places.
+-- How many bytes a type and its size are read from, and what bytes that follow leave.
 use Rattle.std.specs.Prelude.{ℕ, Bool, true, false, List, Result, Ok, Err}
-use Rattle.imagesize.specs.Meaning.{meaning}
+use Rattle.imagesize.specs.Meaning.{kind_of, meaning, way_of}
 use Rattle.imagesize.specs.declared.types.ImageType.{ImageType}
-use Rattle.imagesize.specs.declared.types.ImageType.TheVariants.{Exr, Hdr, Heif, Ico, Ilbm, Jpeg, Jxl, Pnm, Tga, Tiff}
+use Rattle.imagesize.specs.declared.types.ImageType.TheVariants.{Heif, Ico, Tga}
 use Rattle.imagesize_source.specs.State.{total}
+use Rattle.imagesize_source.specs.Way.{stated_by}
 use Rattle.imagesize_source.specs.declared.error.ImageError.{ImageError}
 
 -- the lengths of the marks together, repeats counted
 abbrev pub cost : List ℕ → ℕ → ℕ
 cost d place = total (meaning d place).marks
 
--- the sixteen types whose sizes stand at fixed places
-abbrev pub is_fixed : ImageType → Bool
-is_fixed Exr = false
-is_fixed Hdr = false
-is_fixed (Heif _) = false
-is_fixed Ico = false
-is_fixed Ilbm = false
-is_fixed Jpeg = false
-is_fixed Jxl = false
-is_fixed Pnm = false
-is_fixed Tiff = false
-is_fixed _ = true
+-- What is stated of it: 41 of a refused type and of a size at fixed places, 64 and 20 for each record that is begun of
+-- a size behind records, and 64 more than the input has of a text.
+abbrev pub stated_as : Result ImageType ImageError → List ℕ → ℕ
+stated_as (Ok type) d = stated_by (way_of type) d
+stated_as (Err _) d = 41
 
--- a refused type, or one of the sixteen
-abbrev pub is_fixed_or_refused : Result ImageType ImageError → Bool
-is_fixed_or_refused (Ok type) = is_fixed type
-is_fixed_or_refused (Err _) = true
+abbrev pub stated : List ℕ → ℕ → ℕ
+stated d place = stated_as (kind_of d place).answer d
 
--- What bytes that follow keep: the size of a JPEG or an ILBM, and one that stands at fixed places, but for TGA,
--- whose footer stands at the end.
+-- Bytes that follow change no size, but of the types whose list or footer they may belong to.
 abbrev pub lasts : ImageType → Bool
+lasts (Heif _) = false
+lasts Ico = false
 lasts Tga = false
-lasts Ilbm = true
-lasts Jpeg = true
-lasts type = is_fixed type
+lasts _ = true
 
 abbrev pub lasts_as : Result ImageType ImageError → Bool
 lasts_as (Ok type) = lasts type

@@ -1,35 +1,35 @@
 -- The type of an input.
 use Rattle.std.specs.Prelude.{ℕ, Bool, List, [], ◌∷◌, if◌then◌else◌, Option, None, Some}
-use Rattle.imagesize.specs.Aseprite.{is_aseprite}
-use Rattle.imagesize.specs.Astc.{is_astc}
-use Rattle.imagesize.specs.Atc.{is_atc, atc_compression}
-use Rattle.imagesize.specs.Bmp.{is_bmp}
-use Rattle.imagesize.specs.Dds.{is_dds, dds_compression}
-use Rattle.imagesize.specs.Exr.{is_exr}
-use Rattle.imagesize.specs.Farbfeld.{is_farbfeld}
-use Rattle.imagesize.specs.Gif.{is_gif}
-use Rattle.imagesize.specs.Hdr.{is_hdr}
-use Rattle.imagesize.specs.Heif.{is_heif, heif_compression}
-use Rattle.imagesize.specs.Ico.{is_ico}
-use Rattle.imagesize.specs.Ilbm.{is_ilbm}
-use Rattle.imagesize.specs.Jpeg.{is_jpeg}
-use Rattle.imagesize.specs.Jxl.{is_jxl}
-use Rattle.imagesize.specs.Ktx2.{is_ktx2}
-use Rattle.imagesize.specs.Pkm.{is_eac, is_pkm, pkm_compression}
-use Rattle.imagesize.specs.Pnm.{is_pnm}
-use Rattle.imagesize.specs.Psd.{is_psd}
-use Rattle.imagesize.specs.Pvrtc.{is_pvrtc, pvrtc_compression}
-use Rattle.imagesize.specs.Qoi.{is_qoi}
-use Rattle.imagesize.specs.Tga.{is_tga}
-use Rattle.imagesize.specs.Tiff.{is_tiff}
-use Rattle.imagesize.specs.Vtf.{is_vtf}
-use Rattle.imagesize.specs.Webp.{is_webp}
+use Rattle.imagesize_fixed.specs.Aseprite.{is_aseprite}
+use Rattle.imagesize_fixed.specs.Astc.{is_astc}
+use Rattle.imagesize_fixed.specs.Atc.{is_atc, atc_compression}
+use Rattle.imagesize_fixed.specs.Bmp.{is_bmp}
+use Rattle.imagesize_fixed.specs.Dds.{is_dds, dds_compression}
+use Rattle.imagesize_texts.specs.Exr.{is_exr}
+use Rattle.imagesize_fixed.specs.Farbfeld.{is_farbfeld}
+use Rattle.imagesize_fixed.specs.Gif.{is_gif}
+use Rattle.imagesize_texts.specs.Hdr.{is_hdr}
+use Rattle.imagesize_boxes.specs.Heif.{is_heif, heif_compression}
+use Rattle.imagesize_walked.specs.Ico.{is_ico}
+use Rattle.imagesize_walked.specs.Ilbm.{is_ilbm}
+use Rattle.imagesize_walked.specs.Jpeg.{is_jpeg}
+use Rattle.imagesize_boxes.specs.Jxl.{is_jxl}
+use Rattle.imagesize_fixed.specs.Ktx2.{is_ktx2}
+use Rattle.imagesize_fixed.specs.Pkm.{is_eac, is_pkm, pkm_compression}
+use Rattle.imagesize_texts.specs.Pnm.{is_pnm}
+use Rattle.imagesize_fixed.specs.Psd.{is_psd}
+use Rattle.imagesize_fixed.specs.Pvrtc.{is_pvrtc, pvrtc_compression}
+use Rattle.imagesize_fixed.specs.Qoi.{is_qoi}
+use Rattle.imagesize_fixed.specs.Tga.{is_tga}
+use Rattle.imagesize_walked.specs.Tiff.{is_tiff}
+use Rattle.imagesize_fixed.specs.Vtf.{is_vtf}
+use Rattle.imagesize_fixed.specs.Webp.{is_webp}
 use Rattle.imagesize.specs.declared.types.ImageType.TheVariants.{Jpeg, Gif, Tiff, Webp, Heif, Jxl, Bmp, Psd, Ico, Aseprite, Astc, Atc, Pvrtc, Eac, Etc2, Exr, Hdr, Dds, Ktx2, Qoi, Farbfeld, Pnm, Vtf, Ilbm, Tga}
-use Rattle.imagesize.specs.declared.types.AtcCompression.TheVariants as atc
-use Rattle.imagesize.specs.declared.types.Compression.TheVariants as heif
-use Rattle.imagesize.specs.declared.types.DdsCompression.TheVariants as dds
-use Rattle.imagesize.specs.declared.types.PkmCompression.TheVariants as pkm
-use Rattle.imagesize.specs.declared.types.PvrtcCompression.TheVariants as pvrtc
+use Rattle.imagesize_types.specs.declared.compression.AtcCompression.TheVariants as atc
+use Rattle.imagesize_types.specs.declared.compression.Compression.TheVariants as heif
+use Rattle.imagesize_types.specs.declared.compression.DdsCompression.TheVariants as dds
+use Rattle.imagesize_types.specs.declared.compression.PkmCompression.TheVariants as pkm
+use Rattle.imagesize_types.specs.declared.compression.PvrtcCompression.TheVariants as pvrtc
 use Rattle.imagesize.specs.declared.types.ImageType.{ImageType}
 use Rattle.imagesize_source.specs.Layout.Layout.{refuse, «done»}
 use Rattle.imagesize_source.specs.Layout.{Layout, bind, bytes}

@@ -1,8 +1,9 @@
 -- What `reader_probe` answers.
-use Rattle.std.specs.Prelude.{◌≡◌, ℕ, true, false, Option, None, Some, Result, Ok, IfSome}
+use Rattle.std.specs.Prelude.{◌≡◌, ℕ, ◌+◌, ◌≤◌, true, false, length, Option, None, Some, Result, Ok, IfSome, option_map}
 use Rattle.std.specs.Result.{result_ok}
+use Rattle.imagesize.specs.Counts.{stated}
 use Rattle.imagesize.specs.Meaning.{kind_of, meaning}
-use Rattle.imagesize.specs.declared.types.ImageSize.{ImageSize}
+use Rattle.imagesize_types.specs.declared.size.ImageSize.{ImageSize}
 use Rattle.imagesize.specs.declared.types.ImageType.{ImageType}
 use Rattle.imagesize.specs.declared.calls.Probed.{Probed}
 use Rattle.imagesize_source.specs.declared.error.ImageError.{ImageError}
@@ -16,14 +17,20 @@ pub record FindsKind (a : State) (place : ℕ) (found : Option ImageType) (r : R
   pub right : a.held.honest ≡ true → IfSome found (λ type. (kind_of a.held.input place).answer ≡ Ok type)
   pub whole : a.held.honest ≡ true → stopped r ≡ false → found ≡ result_ok (kind_of a.held.input place).answer
 
--- Over an honest reader the answer is that of the layouts or a failure, the type named beside it is right,
--- and the bytes taken are those of their readings.
+-- Over an honest reader the answer is that of the layouts or a failure, the type named beside it is right, and the
+-- bytes taken are those of their readings, at most as many as are stated, and 64 more than the input has.
 pub record ProbesOf (t : Telling) (probed : Probed) : Type 0 where
   pub answer : AnswersAs t (over_reader t meaning) probed.answer
   pub takes : TakesAs t (over_reader t meaning) probed.answer probed.taken
   pub right : IfSome probed.kind (λ type. (over_reader t kind_of).answer ≡ Ok type)
   pub whole : stopped probed.answer ≡ false → probed.kind ≡ result_ok (over_reader t kind_of).answer
+  pub stated : probed.taken ≤ stated t.bytes t.place
+  pub within : probed.taken ≤ length t.bytes + 64
 
 abbrev pub Probes : Option Telling → Probed → Type 0
 Probes None probed = Unit {0}
 Probes (Some t) probed = IsHonest t → ProbesOf t probed
+
+-- a budget of at least 64 was spent, and a named count rose by all of it
+abbrev pub SpentAll : Option ℕ → Option ℕ → ℕ → Type 0
+SpentAll before after budget = (64 ≤ budget) × (after ≡ option_map (λ count. count + budget) before)

@@ -2,12 +2,12 @@
 use Rattle.std.specs.Prelude.{ℕ, List, Bool, true, false, Option, None, Some, codes}
 use Rattle.imagesize.specs.declared.types.CompressionFamily.{CompressionFamily}
 use Rattle.imagesize.specs.declared.types.CompressionFamily.TheVariants as family
-use Rattle.imagesize.specs.declared.types.DdsCompression.{DdsCompression}
-use Rattle.imagesize.specs.declared.types.DdsCompression.TheVariants as dds
-use Rattle.imagesize.specs.declared.types.PkmCompression.{PkmCompression}
-use Rattle.imagesize.specs.declared.types.PkmCompression.TheVariants as pkm
-use Rattle.imagesize.specs.declared.types.PvrtcCompression.{PvrtcCompression}
-use Rattle.imagesize.specs.declared.types.PvrtcCompression.TheVariants as pvrtc
+use Rattle.imagesize_types.specs.declared.compression.DdsCompression.{DdsCompression}
+use Rattle.imagesize_types.specs.declared.compression.DdsCompression.TheVariants as dds
+use Rattle.imagesize_types.specs.declared.compression.PkmCompression.{PkmCompression}
+use Rattle.imagesize_types.specs.declared.compression.PkmCompression.TheVariants as pkm
+use Rattle.imagesize_types.specs.declared.compression.PvrtcCompression.{PvrtcCompression}
+use Rattle.imagesize_types.specs.declared.compression.PvrtcCompression.TheVariants as pvrtc
 use Rattle.imagesize.specs.declared.types.ImageType.{ImageType}
 use Rattle.imagesize.specs.declared.types.ImageType.TheVariants.{Astc, Atc, Dds, Eac, Etc2, Heif, Ktx2, Pvrtc}
 

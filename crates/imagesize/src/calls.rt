@@ -1,22 +1,23 @@
 //! The calls: type and size of a slice's bytes, or of a reader's.
-ghost use Rattle.std.specs.Prelude.{◌≡◌, ℕ, ◌+◌, ◌*◌, ◌≤◌, List, ◌++◌, IsTrue, IfOk, IfErr, IfSome, Some, Option, Ok, option_map};
+ghost use Rattle.std.specs.Prelude.{◌≡◌, ℕ, ◌+◌, ◌≤◌, List, length, ◌++◌, IsTrue, IfOk, IfErr, IfSome, IsSome, Some, true, false, Option, Ok, option_map};
 ghost use Rattle.imagesize_source.specs.Answers.{Answers, Counts};
-ghost use Rattle.imagesize_source.specs.Reading.{spent};
+ghost use Rattle.imagesize_source.specs.Reading.{is_fault, is_memory, spent};
 ghost use Rattle.imagesize_source.specs.State.{Runs};
 ghost use Rattle.imagesize_source.specs.ReaderState.{Opens};
 ghost use Rattle.imagesize_source.specs.Telling.{Telling};
 ghost use Rattle.imagesize_source.specs.Agreement.{Agrees};
-ghost use Rattle.imagesize.specs.Counts.{cost, is_fixed_or_refused, lasts_as};
+ghost use Rattle.imagesize.specs.Counts.{cost, lasts_as, stated};
 ghost use Rattle.imagesize.specs.Meaning.{kind_of, meaning, size_of};
-ghost use Rattle.imagesize.specs.Probed.{FindsKind, Probes};
-ghost use Rattle.imagesize.specs.Records.{is_walked_as, records_begun};
+ghost use Rattle.imagesize.specs.Probed.{FindsKind, Probes, SpentAll};
 
 use crate::formats::{detect, size};
-use crate::types::{ImageSize, ImageType};
+use crate::types::ImageType;
 use crate::{ImageResult, Told};
 use imagesize_source::source::Source;
 use imagesize_source::source::reader::{Opened, ReaderSource, open};
 use imagesize_source::source::slice::SliceSource;
+use imagesize_types::size::ImageSize;
+use std::io::SeekFrom;
 
 /// What a reader was found to hold, and what it took to find it.
 #[derive(Debug, Drop)]
@@ -49,13 +50,14 @@ pub fn blob_size(data: &[u8]) -> ImageResult<ImageSize>
     // Another input of this length that agrees on the marks has the same size, and the same marks.
     ensures local { (e : List ℕ) → Agrees «data».now e (meaning «data».now 0).marks → meaning e 0 ≡ meaning «data».now 0 }
 
-    // A size at fixed places, and a refused type, are read from at most 41 bytes.
-    ensures cost { IsTrue (is_fixed_or_refused (kind_of «data».now 0).answer) → cost «data».now 0 ≤ 41 }
+    // A refused type, and a size at fixed places, are read from at most 41 bytes; a size behind records from at
+    // most 64, and 20 for each record that is begun.
+    ensures stated { cost «data».now 0 ≤ stated «data».now 0 }
 
-    // A size behind records is read from at most 64 bytes, and 20 for each record that is begun.
-    ensures walked { IsTrue (is_walked_as (kind_of «data».now 0).answer) → cost «data».now 0 ≤ 64 + 20 * records_begun «data».now 0 }
+    // Every size, and every refusal, is read from at most 64 bytes more than there are.
+    ensures within { cost «data».now 0 ≤ length «data».now + 64 }
 
-    // Bytes that follow change no size of a JPEG or an ILBM, and none at fixed places, but for TGA.
+    // Bytes that follow change no size, but those of HEIF, of icons and of TGA.
     ensures lasts { IsTrue (lasts_as (kind_of «data».now 0).answer) → IfOk result (λ size.
         (x : List ℕ) → (meaning («data».now ++ x) 0).answer ≡ Ok size) }
 {
@@ -70,10 +72,14 @@ fn probe_slice(data: &[u8]) -> ImageResult<ImageSize>
 }
 
 // The type at a place of a source, and the size by it.
-fn probe<S: Source>(source: &mut S, place: u64) -> (Option<ImageType>, ImageResult<ImageSize>)
+pub(crate) fn probe<S: Source>(
+    source: &mut S,
+    place: u64,
+) -> (Option<ImageType>, ImageResult<ImageSize>)
     ensures runs { Runs (S.state source.old) (S.state source.new) result.1
         (meaning (S.state source.old).held.input place) }
     ensures kind { FindsKind (S.state source.old) place result.0 result.1 }
+    ensures typed { IfOk result.1 (λ _. IsSome result.0) }
 {
     match detect(source, place) {
         Ok(found) => (Some(found), size(source, found)),
@@ -86,9 +92,10 @@ fn probe<S: Source>(source: &mut S, place: u64) -> (Option<ImageType>, ImageResu
 /// Errors: `NotSupported` where no type has these bytes, `EndOfInput` where fewer than 12 are left, and
 /// `Fault` where a call of the reader fails.
 pub fn reader_type<R: Told>(mut reader: R) -> ImageResult<ImageType>
-    ensures { Answers (R.telling reader) kind_of result }
+    ensures answers { Answers (R.telling reader) kind_of result }
+    ensures memory { IfErr result (λ e. is_memory e ≡ false) }
 {
-    let opened = open(&mut reader)?;
+    let opened = open_at_place(&mut reader)?;
     detect(
         &mut ReaderSource::new(&mut reader, opened.told),
         opened.place,
@@ -100,7 +107,11 @@ pub fn reader_type<R: Told>(mut reader: R) -> ImageResult<ImageType>
 /// Errors: those of `reader_type`, `EndOfInput` where the bytes end before the size, the refusals of the type's
 /// layout, and `BudgetSpent` where more bytes would be taken than the length that the reader told, and 64.
 pub fn reader_size<R: Told>(mut reader: R) -> ImageResult<ImageSize>
-    ensures { Answers (R.telling reader) meaning result }
+    ensures answers { Answers (R.telling reader) meaning result }
+    ensures memory { IfErr result (λ e. is_memory e ≡ false) }
+
+    // The budget that is spent is the length that was told, and 64.
+    ensures spent { IfErr result (λ e. IfSome (spent e) (λ budget. 64 ≤ budget)) }
 {
     reader_probe(&mut reader).answer
 }
@@ -110,10 +121,14 @@ pub fn reader_size<R: Told>(mut reader: R) -> ImageResult<ImageSize>
 /// The errors are those of `reader_size`. The reader stands at an unstated place then, and may be used again.
 pub fn reader_probe<R: Told>(reader: &mut R) -> Probed
     ensures probes { Probes (R.telling reader.old) result }
+
+    // Over every reader, also one that tells nothing or lies:
+    ensures typed { IfOk result.answer (λ _. IsSome result.kind) }
     ensures counts { R.count reader.new ≡ option_map (λ c. c + result.taken) (R.count reader.old) }
-    ensures spent { IfErr result.answer (λ e. IfSome (spent e) (λ budget. budget ≡ result.taken)) }
+    ensures spent { IfErr result.answer (λ e. IfSome (spent e) (λ budget. (budget ≡ result.taken) × (64 ≤ budget))) }
+    ensures memory { IfErr result.answer (λ e. is_memory e ≡ false) }
 {
-    match open(reader) {
+    match open_at_place(reader) {
         Ok(opened) => probe_opened(reader, opened),
         Err(error) => Probed {
             kind: None,
@@ -132,6 +147,10 @@ impl ImageType {
     pub fn reader_size<R: Told>(&self, reader: &mut R) -> ImageResult<ImageSize>
         ensures answers { Answers (R.telling reader.old) (λ d place. size_of self.now d) result }
         ensures counts { Counts (R.telling reader.old) (R.count reader.old) (R.count reader.new) (λ d place. size_of self.now d) }
+
+        // Over every reader, also one that tells nothing or lies:
+        ensures spent { IfErr result (λ e. IfSome (spent e) (λ budget. SpentAll (R.count reader.old) (R.count reader.new) budget)) }
+        ensures memory { IfErr result (λ e. is_memory e ≡ false) }
     {
         let opened = open(reader)?;
         size_opened(*self, reader, opened)
@@ -144,6 +163,8 @@ fn size_opened<R: Told>(kind: ImageType, reader: &mut R, opened: Opened) -> Imag
         → Answers telling (λ d place. size_of kind d) result }
     ensures counts { (telling : Option Telling) → Opens telling (R.telling reader.old) (Ok opened)
         → Counts telling (R.count reader.old) (R.count reader.new) (λ d place. size_of kind d) }
+    ensures spent { IfErr result (λ e. IfSome (spent e) (λ budget. SpentAll (R.count reader.old) (R.count reader.new) budget)) }
+    ensures memory { IfErr result (λ e. is_memory e ≡ false) }
 {
     let mut source = ReaderSource::new(reader, opened.told);
     let answer = size(&mut source, kind);
@@ -153,8 +174,10 @@ fn size_opened<R: Told>(kind: ImageType, reader: &mut R, opened: Opened) -> Imag
 // Type and size of what a reader holds that was opened.
 fn probe_opened<R: Told>(reader: &mut R, opened: Opened) -> Probed
     ensures probes { (telling : Option Telling) → Opens telling (R.telling reader.old) (Ok opened) → Probes telling result }
+    ensures typed { IfOk result.answer (λ _. IsSome result.kind) }
     ensures counts { R.count reader.new ≡ option_map (λ c. c + result.taken) (R.count reader.old) }
-    ensures spent { IfErr result.answer (λ e. IfSome (spent e) (λ budget. budget ≡ result.taken)) }
+    ensures spent { IfErr result.answer (λ e. IfSome (spent e) (λ budget. (budget ≡ result.taken) × (64 ≤ budget))) }
+    ensures memory { IfErr result.answer (λ e. is_memory e ≡ false) }
 {
     let mut source = ReaderSource::new(reader, opened.told);
     let (kind, answer) = probe(&mut source, opened.place);
@@ -164,4 +187,19 @@ fn probe_opened<R: Told>(reader: &mut R, opened: Opened) -> Probed
         answer,
         taken,
     }
+}
+
+// Opens a reader whose type is read at its place. The first reading goes back there from the end; where its place
+// is the told length, which a reader may lie about, this does.
+fn open_at_place<R: Told>(reader: &mut R) -> ImageResult<Opened>
+    ensures told { Opens (R.telling reader.old) (R.telling reader.new) result }
+    ensures counts { R.count reader.new ≡ R.count reader.old }
+    ensures fault { IfErr result (λ e. is_fault e ≡ true) }
+    ensures memory { IfErr result (λ e. is_memory e ≡ false) }
+{
+    let opened = open(reader)?;
+    if opened.place == opened.told {
+        reader.seek_told(SeekFrom::Start(opened.place))?;
+    }
+    Ok(opened)
 }

@@ -7,34 +7,22 @@ ghost use Rattle.imagesize_source.specs.State.{Runs, Sound};
 ghost use Rattle.imagesize_source.specs.declared.error.ImageError.TheVariants as error;
 ghost use Rattle.imagesize_source.specs.Reading.{refuses};
 
-use crate::container::{atc, dds, heif, pkm, pvrtc};
-use crate::types::{
-    AtcCompression, Compression, DdsCompression, ImageSize, ImageType, PkmCompression,
-    PvrtcCompression,
-};
+use crate::types::ImageType;
 use crate::{ImageError, ImageResult};
+use imagesize_boxes::container::heif;
+use imagesize_boxes::formats::jxl;
+use imagesize_fixed::container::{atc, dds, pkm, pvrtc};
+use imagesize_fixed::formats::{
+    aseprite, astc, bmp, farbfeld, gif, ktx2, psd, qoi, tga, vtf, webp,
+};
 use imagesize_source::source::Source;
 use imagesize_source::util::read_bytes;
-
-pub mod aseprite;
-pub mod astc;
-pub mod bmp;
-pub mod exr;
-pub mod farbfeld;
-pub mod gif;
-pub mod hdr;
-pub mod ico;
-pub mod ilbm;
-pub mod jpeg;
-pub mod jxl;
-pub mod ktx2;
-pub mod pnm;
-pub mod psd;
-pub mod qoi;
-pub mod tga;
-pub mod tiff;
-pub mod vtf;
-pub mod webp;
+use imagesize_texts::formats::{exr, hdr, pnm};
+use imagesize_types::compression::{
+    AtcCompression, Compression, DdsCompression, PkmCompression, PvrtcCompression,
+};
+use imagesize_types::size::ImageSize;
+use imagesize_walked::formats::{ico, ilbm, jpeg, tiff};
 
 /// The type at a place, by the twelve bytes there.
 #[tactic(auto, using(imagesize_source::proofs::Runs::steps, imagesize_source::proofs::Layouts::binding))]
@@ -124,6 +112,7 @@ pub(crate) fn size<S: Source>(source: &mut S, kind: ImageType) -> ImageResult<Im
         ImageType::Eac(_) | ImageType::Etc2(_) => pkm::size(source),
         ImageType::Farbfeld => farbfeld::size(source),
         ImageType::Gif => gif::size(source),
+        ImageType::Heif(_) => heif::size(source),
         ImageType::Ico => ico::size(source),
         ImageType::Ilbm => ilbm::size(source),
         ImageType::Jpeg => jpeg::size(source),
@@ -134,12 +123,8 @@ pub(crate) fn size<S: Source>(source: &mut S, kind: ImageType) -> ImageResult<Im
         ImageType::Tga => tga::size(source),
         ImageType::Vtf => vtf::size(source),
         ImageType::Webp => webp::size(source),
-        ImageType::Exr
-        | ImageType::Hdr
-        | ImageType::Heif(_)
-        | ImageType::Jxl
-        | ImageType::Pnm
-        | ImageType::Tiff => unsupported(source),
+        ImageType::Exr | ImageType::Hdr | ImageType::Jxl | ImageType::Pnm | ImageType::Tiff =>
+            unsupported(source),
     }
 }
 

@@ -2,15 +2,17 @@
 #![tactic(auto)]
 
 mod calls;
-mod container;
 mod formats;
 mod laws;
 mod queries;
+mod trace;
 mod types;
 
 pub use calls::{Probed, blob_size, image_type, reader_probe, reader_size, reader_type};
 pub use imagesize_source::{ImageError, ImageResult, Reason, Span, Stop, Told};
-pub use types::{
-    AtcCompression, Compression, CompressionFamily, DdsCompression, ImageSize, ImageType,
-    PkmCompression, PvrtcCompression,
+pub use imagesize_types::compression::{
+    AtcCompression, Compression, DdsCompression, PkmCompression, PvrtcCompression,
 };
+pub use imagesize_types::size::ImageSize;
+pub use trace::{Trace, blob_trace};
+pub use types::{CompressionFamily, ImageType};

@@ -4,9 +4,8 @@ ghost use Rattle.std.specs.Option.{option_copied};
 ghost use Rattle.imagesize.specs.Queries.{family_of, dds_family_of, pkm_family_of, pvrtc_family_of, container_of, is_multi_container};
 ghost use Rattle.imagesize.specs.declared.types.CompressionFamily.TheVariants.{BlockCompression};
 
-use crate::types::{
-    CompressionFamily, DdsCompression, ImageType, PkmCompression, PvrtcCompression,
-};
+use crate::types::{CompressionFamily, ImageType};
+use imagesize_types::compression::{DdsCompression, PkmCompression, PvrtcCompression};
 
 impl ImageType {
     /// What the image's compression has in common with that of other types. It is None for types

@@ -6,7 +6,7 @@ use Rattle.std.specs.Result.{result_ok}
 use Rattle.std.specs.Io.KnownBytes.{Appends}
 use Rattle.imagesize.specs.Meaning.{kind_of, meaning, size_of}
 use Rattle.imagesize.specs.Probed.{Probes, ProbesOf}
-use Rattle.imagesize.specs.declared.types.ImageSize.{ImageSize}
+use Rattle.imagesize_types.specs.declared.size.ImageSize.{ImageSize}
 use Rattle.imagesize.specs.declared.types.ImageType.{ImageType}
 use Rattle.imagesize.specs.declared.calls.Probed.{Probed}
 use Rattle.imagesize_probe.specs.Line.{line, line_of, refused_line, Reports, ReportsOf}

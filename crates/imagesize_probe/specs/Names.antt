@@ -1,15 +1,15 @@
 -- How types of images are printed.
 use Rattle.std.specs.Prelude.{ℕ, List, ◌++◌, Option, None, Some, codes}
-use Rattle.imagesize.specs.declared.types.AtcCompression.{AtcCompression}
-use Rattle.imagesize.specs.declared.types.AtcCompression.TheVariants as atc
-use Rattle.imagesize.specs.declared.types.DdsCompression.{DdsCompression}
-use Rattle.imagesize.specs.declared.types.DdsCompression.TheVariants as dds
-use Rattle.imagesize.specs.declared.types.Compression.{Compression}
-use Rattle.imagesize.specs.declared.types.Compression.TheVariants as heif
-use Rattle.imagesize.specs.declared.types.PkmCompression.{PkmCompression}
-use Rattle.imagesize.specs.declared.types.PkmCompression.TheVariants as pkm
-use Rattle.imagesize.specs.declared.types.PvrtcCompression.{PvrtcCompression}
-use Rattle.imagesize.specs.declared.types.PvrtcCompression.TheVariants as pvrtc
+use Rattle.imagesize_types.specs.declared.compression.AtcCompression.{AtcCompression}
+use Rattle.imagesize_types.specs.declared.compression.AtcCompression.TheVariants as atc
+use Rattle.imagesize_types.specs.declared.compression.DdsCompression.{DdsCompression}
+use Rattle.imagesize_types.specs.declared.compression.DdsCompression.TheVariants as dds
+use Rattle.imagesize_types.specs.declared.compression.Compression.{Compression}
+use Rattle.imagesize_types.specs.declared.compression.Compression.TheVariants as heif
+use Rattle.imagesize_types.specs.declared.compression.PkmCompression.{PkmCompression}
+use Rattle.imagesize_types.specs.declared.compression.PkmCompression.TheVariants as pkm
+use Rattle.imagesize_types.specs.declared.compression.PvrtcCompression.{PvrtcCompression}
+use Rattle.imagesize_types.specs.declared.compression.PvrtcCompression.TheVariants as pvrtc
 use Rattle.imagesize.specs.declared.types.ImageType.{ImageType}
 use Rattle.imagesize.specs.declared.types.ImageType.TheVariants.{Aseprite, Astc, Atc, Bmp, Dds, Eac, Etc2, Exr, Farbfeld, Gif, Hdr, Heif, Ico, Ilbm, Jpeg, Jxl, Ktx2, Pnm, Pvrtc, Psd, Qoi, Tga, Tiff, Vtf, Webp}
 

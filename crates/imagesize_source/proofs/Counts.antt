@@ -32,9 +32,12 @@ unfolding span_of
 total-span_of d place k = let n = total-span_at place (min k (length d - place)) in omega arith
 
 -- it has those of them that are there
-pub total_behind : (d : List ℕ) (place k : ℕ) → total (span_of d place k) ≡ min k (length d - place)
+pub total_there : (d : List ℕ) (place k : ℕ) → total (span_of d place k) ≡ min k (length d - place)
 unfolding span_of
-total_behind d place k = total-span_at place (min k (length d - place))
+total_there d place k = total-span_at place (min k (length d - place))
+
+pub total_behind : (d : List ℕ) (place k : ℕ) → total (span_of d place k) ≤ length d - place
+total_behind d place k = omega (arith, total_there d place k)
 
 -- a text is no longer than the part that it is looked for in
 pub text_length : (d : List ℕ) (t : Text) (place k : ℕ) → length (text_part d t place k) ≤ length (part d place k)

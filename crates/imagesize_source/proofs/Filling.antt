@@ -1,7 +1,8 @@
 -- A room that is filled by one read after another.
 use Rattle.std.proofs.Common.{◌≡◌, ℕ, ◌+◌, ◌-◌, ◌<◌, ◌≤◌, List, ◌++◌, length, take, drop, Option, Some, None, Ok, refl, sym, ap, ◌∙◌, subst, arith}
 use Rattle.std.proofs.lemmas.List.{length-append, length-take, length-drop, length-take-le, take-append-le}
-use Rattle.std.proofs.Math.Seq.{take-append-add, take-add, drop-drop}
+use Rattle.std.proofs.Math.Seq.{take-append-add, take-add, drop-append-add, drop-drop}
+use Rattle.std.specs.List.{slice_range}
 use borrow.Rule.Slice.PartMut.{put_mid}
 use Rattle.imagesize_source.specs.declared.source.progress.Progress.{Progress}
 use Rattle.imagesize_source.specs.Input.{part}
@@ -28,7 +29,7 @@ none_reached (Some s) room = (ap (λ p. Some (record s { place = p })) (omega ar
 
 -- before the first read
 pub filled_none : (first : Option Standing) (count : Option ℕ) (p : Progress) (room : List ℕ) → Filling first first count count p p 0 room
-filled_none first count p room = record { fits = omega arith; reached = none_reached first room; taken = omega arith; counts = refl; keeps = record { told = refl; budget = refl; taken = omega arith } }
+filled_none first count p room = record { fits = omega arith; reached = none_reached first room; taken = omega arith; counts = refl; keeps = record { told = refl; budget = refl; taken = omega arith; retries = omega arith; limit = λ few. few } }
 
 -- the bytes of one more read stand behind those before
 pub take_more : (room more : List ℕ) (filled n : ℕ) → filled ≤ length room → n ≤ length more → take (filled + n) (put_mid filled (length room - filled) room more) ≡ take filled room ++ take n more
@@ -37,6 +38,16 @@ take_more room more filled n fits enough =
     ap (λ k. take (k + n) (put_mid filled (length room - filled) room more)) (sym front)
     ∙ take-append-add (take filled room) (more ++ drop (length room - filled) (drop filled room)) n
     ∙ ap (λ l. take filled room ++ l) (take-append-le n more (drop (length room - filled) (drop filled room)) enough)
+
+-- and they are that part of the room
+pub put_there : (room more : List ℕ) (filled n : ℕ) → filled ≤ length room → n ≤ length more → slice_range (put_mid filled (length room - filled) room more) filled (filled + n) ≡ take n more
+put_there room more filled n fits enough =
+    let front : length (take filled room) + 0 ≡ filled = omega (arith, length-take-le filled room fits) in
+    let count : filled + n - filled ≡ n = omega arith in
+    ap (λ k. take k (drop filled (put_mid filled (length room - filled) room more))) count
+    ∙ ap (λ k. take n (drop k (put_mid filled (length room - filled) room more))) (sym front)
+    ∙ ap (take n) (drop-append-add (take filled room) (more ++ drop (length room - filled) (drop filled room)) 0)
+    ∙ take-append-le n more (drop (length room - filled) (drop filled room)) enough
 
 pub length-put : (room more : List ℕ) (filled : ℕ) → filled ≤ length room → length more ≡ length room - filled → length (put_mid filled (length room - filled) room more) ≡ length room
 length-put room more filled fits long =
@@ -63,7 +74,7 @@ filling_more {first} {now} {next} {filled = filled} {room = room} more n h enoug
   reached = reached_more first now next room more filled n h.fits enough h.reached gave;
   taken = omega (arith, h.taken);
   counts = same ∙ h.counts;
-  keeps = record { told = keeps.told ∙ h.keeps.told; budget = keeps.budget ∙ h.keeps.budget; taken = omega (arith, keeps.taken, h.keeps.taken) };
+  keeps = record { told = keeps.told ∙ h.keeps.told; budget = keeps.budget ∙ h.keeps.budget; taken = omega (arith, keeps.taken, h.keeps.taken); retries = omega (arith, keeps.retries, h.keeps.retries); limit = λ few. keeps.limit (h.keeps.limit few) };
 }
 
 ends : (first now next : Option Standing) (room more : List ℕ) (filled : ℕ) → filled ≤ length room → Filled first now filled room → filled < length room → length more ≡ length room - filled → GivesSome now next more (Ok 0) → GivesAll first next (put_mid filled (length room - filled) room more) (Ok filled)

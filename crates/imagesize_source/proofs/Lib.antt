@@ -1,7 +1,9 @@
 pub mod Advances
 pub mod Agreement
 pub mod Ahead
+pub mod Always
 pub mod Answered
+pub mod Bytes
 pub mod ChainLaws
 pub mod Chains
 pub mod Costs
@@ -15,6 +17,7 @@ pub mod Numbers
 pub mod Openings
 pub mod PastTheEnd
 pub mod Reached
+pub mod Recordings
 pub mod Runs
 pub mod Slices
 pub mod Spends
@@ -23,4 +26,5 @@ pub mod Tests
 pub mod TextReads
 pub mod Texts
 pub mod Walks
+pub mod Way
 pub mod Windows

@@ -5,7 +5,7 @@ use Rattle.imagesize_source.specs.declared.error.ImageError.{ImageError}
 use Rattle.imagesize_source.specs.declared.source.progress.Progress.{Progress}
 use Rattle.imagesize_source.specs.Input.{part}
 use Rattle.imagesize_source.specs.Telling.{Telling}
-use Rattle.imagesize_source.specs.Standing.{Standing, steady, in_step, stand_of, stand, GivesAll, GoesTo, GivesFrom}
+use Rattle.imagesize_source.specs.Standing.{Standing, steady, in_step, stand_of, stand, GivesAll, GoesTo, GivesFrom, Tries}
 
 kept_if : (b : Bool) (s t : Standing) → cond b (Some s) None ≡ Some t → (b ≡ true) × (s ≡ t)
 kept_if true s t e = (refl, cc)
@@ -54,3 +54,11 @@ within_reached None mid place at old between new k b goes on same within = tt
 within_reached (Some s) mid place at old between new k b goes on same within =
     subst (λ o. new ≤ o + min k (length s.bytes - place)) same
     (subst (λ w. IfSome w (λ t. new ≤ between + min k (length t.bytes - t.place))) (goes_there s mid place at b goes on) within)
+
+-- the tries of a read so far
+pub record Retried (first now : Option Telling) (count count' : Option ℕ) (old new : ℕ) : Type 0 where
+  pub steady : steady now new ≡ steady first old
+  pub counts : count' ≡ count
+  pub tried : old ≤ new
+  pub limit : old ≤ 64 → new ≤ 64
+  pub tries : Tries first old now new

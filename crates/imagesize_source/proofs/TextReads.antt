@@ -20,7 +20,7 @@ use Rattle.imagesize_source.specs.ReaderState.{reader_frame, reader_state}
 use Rattle.imagesize_source.specs.Standing.{stand}
 use Rattle.imagesize_source.specs.Telling.{Telling}
 use Rattle.imagesize_source.specs.Text.{delimits, through, text_front, ends}
-use Rattle.imagesize_source.proofs.Counts.{total-span_at, total-span_of, total_behind}
+use Rattle.imagesize_source.proofs.Counts.{total-span_at, total-span_of, total_there}
 use Rattle.imagesize_source.proofs.Layouts.{no_part, no_span}
 use Rattle.imagesize_source.proofs.Agreement.{whole_span}
 use Rattle.imagesize_source.proofs.Runs.{part_is, part_length, past-held}
@@ -224,7 +224,7 @@ module _ {a b : State} {t : Text} {place count k : ℕ} {begun : Bool} {got : Li
             let short : length a.held.input < 2 ^ 63 = subst (λ d. length d < 2 ^ 63) (same_input honest) (h.sound (same_honest honest)).1 in
             let some = one_more (part a.held.input (place + count) (k - count)) (omega (arith, part_length a.held.input (place + count) (k - count), there, next_is, short, more)) in
             omega (arith, some, text_long honest, total-span_of b.held.input next 1))
-        | inr beyond ↦ omega (arith, text_long honest, total_behind b.held.input next 1, ap length (same_input honest), beyond)
+        | inr beyond ↦ omega (arith, text_long honest, total_there b.held.input next 1, ap length (same_input honest), beyond)
       ]
 
     module _ (byte : ℕ) (more : count < k) (run : Runs b c (Ok (byte ∷ [])) (part_read b.held.input next 1)) where

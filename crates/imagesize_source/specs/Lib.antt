@@ -14,4 +14,5 @@ pub mod Standing
 pub mod State
 pub mod StopOf
 pub mod Telling
+pub mod Way
 pub mod Text

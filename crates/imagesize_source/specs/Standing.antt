@@ -1,5 +1,5 @@
 -- What a reader claims, as far as the numbers kept beside it agree with what it tells.
-use Rattle.std.specs.Prelude.{◌≡◌, ℕ, ◌+◌, ◌-◌, ◌^◌, ◌<◌, ◌≤◌, min, Bool, true, false, ◌||◌, ◌&&◌, List, length, take, nat_le, nat_lt, ◌==◌, if◌then◌else◌, Option, None, Some, Result, Ok, Err, IfSome, option_map, ⊤}
+use Rattle.std.specs.Prelude.{◌≡◌, ℕ, ◌+◌, ◌-◌, ◌^◌, ◌<◌, ◌≤◌, min, Bool, true, false, ◌||◌, ◌&&◌, List, length, take, nat_le, nat_lt, ◌==◌, if◌then◌else◌, Option, None, Some, Result, Ok, Err, IfSome, IsSomeAnd, option_map, ⊤}
 use Rattle.imagesize_source.specs.declared.error.ImageError.{ImageError}
 use Rattle.imagesize_source.specs.declared.source.progress.Progress.{Progress}
 use Rattle.imagesize_source.specs.Input.{part}
@@ -65,6 +65,11 @@ GivesFrom (Some s) new place now room (Ok n) =
     (new ≡ Some (record s { place = now })) × (take n room ≡ part s.bytes place n) × (n ≡ min (length room) (length s.bytes - place))
 GivesFrom (Some s) new place now room (Err e) = is_fault e ≡ true → s.can_fail ≡ true
 
+-- a reader that tells itself still does, and each interruption of it that came was counted as a try
+abbrev pub Tries : Option Telling → ℕ → Option Telling → ℕ → Type 0
+Tries None tries new tries' = ⊤
+Tries (Some t) tries new tries' = IsSomeAnd new (λ u. t.interruptions + tries ≤ u.interruptions + tries')
+
 -- by how much a count is above a number, and below it
 abbrev pub since : Option ℕ → ℕ → Option (ℕ × ℕ)
 since count taken = option_map (λ c. (c - taken, taken - c)) count
@@ -75,8 +80,10 @@ pub record StopsBy (p : Progress) (e : ImageError) : Type 0 where
   pub memory : is_memory e ≡ false
   pub budget : IfSome (spent e) (λ n. (n ≡ p.budget) × (n ≡ p.taken))
 
--- what a call leaves of the numbers beside the reader
+-- What a call leaves of the numbers beside the reader. Tries are never forgotten, and never more than 64.
 pub record Keeps (old new : Progress) : Type 0 where
   pub told : new.told ≡ old.told
   pub budget : new.budget ≡ old.budget
   pub taken : old.taken ≤ new.taken
+  pub retries : old.retries ≤ new.retries
+  pub limit : old.retries ≤ 64 → new.retries ≤ 64

@@ -1,9 +1,10 @@
 //! Readers, and what they may tell of themselves.
-ghost use Rattle.std.specs.Prelude.{◌≡◌, ℕ, ◌≤◌, length, Option, Some, None, false, IfOk, IfSome, List};
+ghost use Rattle.std.specs.Prelude.{◌≡◌, ℕ, ◌≤◌, length, Option, Some, None, false, ◌<◌, ◌^◌, IfOk, IfErr, IfSome, IsSome, List};
 ghost use Rattle.std.specs.Io.Buffered.{reader_inner, reader_position, reader_remaining};
 ghost use Rattle.std.specs.Io.Cursor.{cursor_inner, cursor_position};
 ghost use Rattle.std.specs.Io.KnownBytes.{ReadConsumes};
 ghost use Rattle.std.specs.Io.Seek.{SeekMoves, IsAtOffset};
+ghost use Rattle.std.specs.declared.io.Error.{Error};
 ghost use Rattle.imagesize_source.specs.Telling.{Telling, ReadTells, SeekTells, counted};
 ghost use Rattle.imagesize_source.specs.StopOf.{stop_of};
 
@@ -84,9 +85,11 @@ impl<R: Read + Seek + Drop> Told for BufReader<R> {
         ensures bound { IfOk result (λ n. n ≤ length room.new) }
         ensures told { ReadTells None None room.new result }
         ensures counts { ◌≡◌ {A = Option ℕ} None (counted None result) }
+        ensures stops { IfErr result (λ stop. (e : Error) × (stop ≡ stop_of e)) }
         ensures reads { ReadConsumes (reader_remaining R.remaining self.old) (reader_remaining R.remaining self.new) result room.new }
     {
-        Ok(self.read(room)?)
+        let count = self.read(room)?;
+        Ok(count)
     }
 
     fn seek_told(&mut self, to: SeekFrom) -> io::Result<u64>
@@ -118,9 +121,10 @@ fn seek_kept<R: Read + Seek>(reader: &mut BufReader<R>, target: u64) -> io::Resu
     }
 }
 
-// How far one place is from another, where that is known to fit.
+// How far one place is from another, where both are below 2^63.
 fn distance(from: u64, to: u64) -> Option<i64>
-    ensures { IfSome result (λ offset. IsAtOffset from offset to) }
+    ensures offset { IfSome result (λ offset. IsAtOffset from offset to) }
+    ensures known { from < 2 ^ 63 → to < 2 ^ 63 → IsSome result }
 {
     let from = i64::try_from(from).ok()?;
     let to = i64::try_from(to).ok()?;

@@ -1,10 +1,11 @@
 //! A reader as a source.
-ghost use Rattle.std.specs.Prelude.{◌≡◌, ℕ, max, ◌+◌, ◌-◌, ◌<◌, ◌≤◌, min, take, length, IfOk, IfErr, OnOk, OnErr, IfSome, true};
-ghost use Rattle.imagesize_source.specs.Reading.{is_fault, seen, part_read};
-ghost use Rattle.imagesize_source.specs.ReaderState.{held_at, reader_state, start_state, Opens, kept_window};
+ghost use Rattle.std.specs.Prelude.{◌≡◌, ℕ, max, ◌+◌, ◌-◌, ◌^◌, ◌<◌, ◌≤◌, ◌≢◌, min, take, length, IfOk, IfErr, OnOk, IfSome, true, false};
+ghost use Rattle.imagesize_source.specs.Reading.{is_fault, is_memory, seen, part_read};
+ghost use Rattle.imagesize_source.specs.ReaderState.{held_at, reader_state, start_state, Opens};
 ghost use Rattle.imagesize_source.specs.State.{Runs};
 ghost use Rattle.imagesize_source.specs.Telling.{counted, given, SeekTells};
-ghost use Rattle.imagesize_source.specs.Standing.{Standing, steady, stand, GivesSome, GivesAll, StopsBy, Keeps, since, GoesTo, GivesFrom};
+ghost use Rattle.imagesize_source.specs.Standing.{Standing, steady, stand, GivesSome, GivesAll, StopsBy, Keeps, Tries, since, GoesTo, GivesFrom};
+ghost use Rattle.imagesize_source.specs.StopOf.{ending_of};
 
 mod text;
 
@@ -62,18 +63,14 @@ impl<R: Told> Source for ReaderSource<'_, R> {
     }
 
     fn read_at(&mut self, place: u64, room: &mut [u8]) -> ImageResult<usize> {
-        if place != self.present && place > self.progress.told {
-            return Ok(0);
-        }
-        let count = read_windowed(
+        read_on(
             self.reader,
             &mut self.progress,
             &mut self.window,
+            &mut self.present,
             place,
             room,
-        )?;
-        self.present = place.saturating_add(count as u64);
-        Ok(count)
+        )
     }
 
     fn read_text(&mut self, place: u64, text: Text, room: &mut [u8]) -> ImageResult<usize> {
@@ -98,6 +95,7 @@ pub fn open<R: Told>(reader: &mut R) -> ImageResult<Opened>
     ensures told { Opens (R.telling reader.old) (R.telling reader.new) result }
     ensures counts { R.count reader.new ≡ R.count reader.old }
     ensures fault { IfErr result (λ e. is_fault e ≡ true) }
+    ensures memory { IfErr result (λ e. is_memory e ≡ false) }
 {
     let place = seek(reader, SeekFrom::Current(0))?;
     let told = seek(reader, SeekFrom::End(0))?;
@@ -109,33 +107,43 @@ fn seek<R: Told>(reader: &mut R, to: SeekFrom) -> ImageResult<u64>
     ensures told { SeekTells (R.telling reader.old) (R.telling reader.new) to result }
     ensures counts { R.count reader.new ≡ R.count reader.old }
     ensures fault { IfErr result (λ e. is_fault e ≡ true) }
+    ensures memory { IfErr result (λ e. is_memory e ≡ false) }
 {
-    match reader.seek_told(to) {
-        Ok(place) => Ok(place),
-        Err(error) => Err(ImageError::IoError(Reason::Fault(error))),
-    }
+    let place = reader.seek_told(to)?;
+    Ok(place)
 }
 
 // How many interruptions of reads are tried again in one call.
 const MAX_RETRIES: u64 = 64;
+
+// What a stop ends the call with after so many tries; nothing where the read may be tried again.
+fn ending(stop: Stop, tries: u64) -> Option<ImageError>
+    ensures { result ≡ ending_of stop tries }
+{
+    match stop {
+        Stop::Fault(error) => Some(ImageError::from(error)),
+        Stop::Interrupted(_) if tries < MAX_RETRIES => None,
+        Stop::Interrupted(error) => Some(ImageError::from(error)),
+    }
+}
 
 // One read, tried again where it is interrupted.
 fn read_retrying<R: Told>(reader: &mut R, retries: &mut u64, room: &mut [u8]) -> ImageResult<usize>
     ensures bound { IfOk result (λ n. n ≤ length room.new) }
     ensures steady { GivesSome (steady (R.telling reader.old) retries.old) (steady (R.telling reader.new) retries.new) room.new result }
     ensures counts { R.count reader.new ≡ counted (R.count reader.old) result }
+    ensures tried { retries.old ≤ retries.new }
+    ensures limit { retries.old ≤ 64 → retries.new ≤ 64 }
+    ensures tries { OnOk result (Tries (R.telling reader.old) retries.old (R.telling reader.new) retries.new) }
     ensures fault { IfErr result (λ e. is_fault e ≡ true) }
 {
     loop {
         match reader.read_told(room) {
             Ok(count) => return Ok(count),
-            Err(Stop::Fault(error)) => return Err(ImageError::IoError(Reason::Fault(error))),
-            Err(Stop::Interrupted(error)) => {
-                if *retries >= MAX_RETRIES {
-                    return Err(ImageError::IoError(Reason::Fault(error)));
-                }
-                *retries += 1;
-            }
+            Err(stop) => match ending(stop, *retries) {
+                Some(error) => return Err(error),
+                None => *retries += 1,
+            },
         }
     }
 }
@@ -150,7 +158,9 @@ fn read_some<R: Told>(
     ensures stand { 0 < length room.new → GivesSome (stand (R.telling reader.old) progress.old)
         (stand (R.telling reader.new) progress.new) room.new result }
     ensures taken { progress.new.taken ≡ progress.old.taken + given result }
+    ensures place { IfOk result (λ n. progress.new.place ≡ min (progress.old.place + n) (2 ^ 64 - 1)) }
     ensures since { since (R.count reader.new) progress.new.taken ≡ since (R.count reader.old) progress.old.taken }
+    ensures tries { OnOk result (Tries (R.telling reader.old) progress.old.retries (R.telling reader.new) progress.new.retries) }
     ensures keeps { Keeps progress.old progress.new }
     ensures stops { IfErr result (StopsBy progress.new) }
 {
@@ -189,9 +199,14 @@ fn fill<R: Told>(reader: &mut R, progress: &mut Progress, room: &mut [u8]) -> Im
     Ok(filled)
 }
 
-// Goes to a place, and answers whether the reader stands there: it does not go above the told length.
+// Goes to a place, and answers whether the reader stands there: it does not go above the told length. What the
+// seek answers is not asked.
 fn go_to<R: Told>(reader: &mut R, progress: &mut Progress, place: u64) -> ImageResult<bool>
     ensures stand { GoesTo (stand (R.telling reader.old) progress.old) (stand (R.telling reader.new) progress.new) place progress.new.place result }
+    ensures asked { IfOk result (λ there. there ≡ true → progress.new.place ≡ place) }
+    ensures short { IfOk result (λ there. there ≡ true → place ≤ max progress.old.told progress.old.place) }
+    ensures far { IfOk result (λ there. there ≡ false → progress.old.told < place) }
+    ensures stays { progress.old.place ≡ place → (result ≡ Ok true) × (reader.new ≡ reader.old) }
     ensures since { since (R.count reader.new) progress.new.taken ≡ since (R.count reader.old) progress.old.taken }
     ensures taken { progress.new.taken ≡ progress.old.taken }
     ensures keeps { Keeps progress.old progress.new }
@@ -203,13 +218,9 @@ fn go_to<R: Told>(reader: &mut R, progress: &mut Progress, place: u64) -> ImageR
     if place > progress.told {
         return Ok(false);
     }
-    match reader.seek_told(SeekFrom::Start(place)) {
-        Ok(_) => {
-            progress.place = place;
-            Ok(true)
-        }
-        Err(error) => Err(ImageError::IoError(Reason::Fault(error))),
-    }
+    reader.seek_told(SeekFrom::Start(place))?;
+    progress.place = place;
+    Ok(true)
 }
 
 // Reads from a place on until the room is full or the bytes end.
@@ -238,31 +249,6 @@ fn read_from<R: Told>(
     Ok(count)
 }
 
-// Reads from a place on that the window does not hold, and keeps what follows the window.
-fn read_behind<R: Told>(
-    reader: &mut R,
-    progress: &mut Progress,
-    window: &mut Window,
-    place: u64,
-    room: &mut [u8],
-) -> ImageResult<usize>
-    ensures bound { IfOk result (λ n. n ≤ length room.new) }
-    ensures stand { GivesFrom (stand (R.telling reader.old) progress.old)
-        (stand (R.telling reader.new) progress.new) place progress.new.place room.new result }
-    ensures taken { IfOk result (λ n. progress.new.taken ≡ progress.old.taken + n) }
-    ensures within { IfSome (stand (R.telling reader.old) progress.old)
-        (λ s. progress.new.taken ≤ progress.old.taken + min (length room.new) (length s.bytes - place)) }
-    ensures since { since (R.count reader.new) progress.new.taken ≡ since (R.count reader.old) progress.old.taken }
-    ensures keeps { Keeps progress.old progress.new }
-    ensures stops { IfErr result (StopsBy progress.new) }
-    ensures window { IfOk result (λ n. window.new.items ≡ kept_window window.old.items place (take n room.new)) }
-    ensures unkept { OnErr result (window.new.items ≡ window.old.items) }
-{
-    let count = read_from(reader, progress, place, room)?;
-    keep(window, place, &room[..count]);
-    Ok(count)
-}
-
 // Reads from a place on: what the window has of it, and what follows from the reader.
 fn read_windowed<R: Told>(
     reader: &mut R,
@@ -273,6 +259,7 @@ fn read_windowed<R: Told>(
 ) -> ImageResult<usize>
     ensures bound { IfOk result (λ n. n ≤ length room.new) }
     ensures pays { IfOk result (λ n. 0 < n → max progress.old.told 32 < place → (progress.old.taken < progress.new.taken) × (progress.new.taken ≤ progress.old.budget)) }
+    ensures keeps { Keeps progress.old progress.new }
     ensures runs { (home : ℕ) → Runs
         (reader_state (R.telling reader.old) (R.count reader.old) home progress.old window.old.items)
         (reader_state (R.telling reader.new) (R.count reader.new) home progress.new window.new.items)
@@ -284,6 +271,37 @@ fn read_windowed<R: Told>(
         return Ok(copied);
     }
     let next = place + copied as u64;
-    let count = read_behind(reader, progress, window, next, &mut room[copied..])?;
+    let count = read_from(reader, progress, next, &mut room[copied..])?;
+    keep(window, next, &room[copied..copied + count]);
     Ok(copied + count)
+}
+
+// Reads from a place on. Above the told length it goes on only where the last reading ended: elsewhere it sees
+// the end of the input, also where the window has bytes.
+fn read_on<R: Told>(
+    reader: &mut R,
+    progress: &mut Progress,
+    window: &mut Window,
+    present: &mut u64,
+    place: u64,
+    room: &mut [u8],
+) -> ImageResult<usize>
+    ensures bound { IfOk result (λ n. n ≤ length room.new) }
+    ensures ends { progress.old.told < place → place ≢ present.old → (result ≡ Ok 0) × (reader.new ≡ reader.old) × (present.new ≡ present.old) }
+    ensures present { place ≤ progress.old.told → IfOk result (λ n. present.new ≡ min (place + n) (2 ^ 64 - 1)) }
+    ensures goes_on { place ≡ present.old → IfOk result (λ n. present.new ≡ min (place + n) (2 ^ 64 - 1)) }
+    ensures keeps { Keeps progress.old progress.new }
+    ensures pays { IfOk result (λ n. 0 < n → max progress.old.told 32 < place → (progress.old.taken < progress.new.taken) × (progress.new.taken ≤ progress.old.budget)) }
+    ensures runs { (home : ℕ) → Runs
+        (reader_state (R.telling reader.old) (R.count reader.old) home progress.old window.old.items)
+        (reader_state (R.telling reader.new) (R.count reader.new) home progress.new window.new.items)
+        (seen (λ n. take n room.new) result)
+        (part_read (held_at (stand (R.telling reader.old) progress.old) window.old.items).input place (length room.new)) }
+{
+    if place > progress.told && place != *present {
+        return Ok(0);
+    }
+    let count = read_windowed(reader, progress, window, place, room)?;
+    *present = place.saturating_add(count as u64);
+    Ok(count)
 }

@@ -5,7 +5,7 @@ use Rattle.imagesize.specs.declared.types.ImageType.{ImageType}
 use Rattle.imagesize.specs.contracts.types.ImageTypePartialEq.TheImpl.{eq-value}
 use Rattle.imagesize.specs.contracts.types.ImageTypeEq.TheImpl.Laws as equal
 use Rattle.imagesize.specs.contracts.types.ImageTypeOrd.TheImpl.Laws as ordered
-use Rattle.imagesize.proofs.Lawful.{lawful_hash, lawful_order}
+use Rattle.imagesize_types.proofs.Lawful.{lawful_hash, lawful_order}
 use Rattle.imagesize.proofs.laws.image_type_laws.Goals as goal
 
 -- two types are equal exactly where they are one type

@@ -1,4 +1,6 @@
-use Rattle.std.proofs.Common.{refl, arith, rules}
+use Rattle.std.proofs.Common.{◌+◌, refl, ap, ◌∙◌, arith, rules}
+use Rattle.imagesize_source.specs.ReaderState.{kept_window}
+use Rattle.imagesize_source.proofs.Filling.{put_there}
 use Rattle.imagesize_source.proofs.Windows.{in_window, behind_window, behind_stopped, told_by, same_frame, ended_by}
 use Rattle.imagesize_source.proofs.source.reader.read_windowed.Goals as goal
 
@@ -14,9 +16,9 @@ returns-in_err-count-clause-runs g c = λ home.
     let read = c.in_err-count.ensures in
     behind_stopped _ c.from_residual.result (record {
       told = told_by (g.R.Told.count c.args.reader.now) home (g.R.Told.telling c.args.reader.now) c.args.progress.now;
-      told_after = told_by (g.R.Told.count c.read_behind.new.reader) home (g.R.Told.telling c.read_behind.new.reader) c.read_behind.new.progress;
-      frame = same_frame (g.R.Told.count c.args.reader.now) (g.R.Told.count c.read_behind.new.reader) home c.args.progress.now c.read_behind.new.progress read.keeps read.since;
-      window = read.unkept;
+      told_after = told_by (g.R.Told.count c.read_from.new.reader) home (g.R.Told.telling c.read_from.new.reader) c.read_from.new.progress;
+      frame = same_frame (g.R.Told.count c.args.reader.now) (g.R.Told.count c.read_from.new.reader) home c.args.progress.now c.read_from.new.progress read.keeps read.since;
+      window = refl;
       count = copy.ensures.count;
       kept = copy.auto.room;
       long = search rules;
@@ -24,7 +26,7 @@ returns-in_err-count-clause-runs g c = λ home.
       paid = read.keeps.taken;
       within = read.within;
       stops = read.stops.stops;
-      ended = ended_by (g.R.Told.count c.read_behind.new.reader) home c.read_behind.new.progress _ _ _ read.stops;
+      ended = ended_by (g.R.Told.count c.read_from.new.reader) home c.read_from.new.progress _ _ _ read.stops;
     }) (search rules)
 
 pub returns-clause-runs : goal.returns-clause-runs
@@ -33,9 +35,9 @@ returns-clause-runs g c = λ home.
     let read = c.in_ok-count.ensures in
     behind_window (record {
       told = told_by (g.R.Told.count c.args.reader.now) home (g.R.Told.telling c.args.reader.now) c.args.progress.now;
-      told_after = told_by (g.R.Told.count c.read_behind.new.reader) home (g.R.Told.telling c.read_behind.new.reader) c.read_behind.new.progress;
+      told_after = told_by (g.R.Told.count c.read_from.new.reader) home (g.R.Told.telling c.read_from.new.reader) c.read_from.new.progress;
       counts = refl;
-      frame = same_frame (g.R.Told.count c.args.reader.now) (g.R.Told.count c.read_behind.new.reader) home c.args.progress.now c.read_behind.new.progress read.keeps read.since;
+      frame = same_frame (g.R.Told.count c.args.reader.now) (g.R.Told.count c.read_from.new.reader) home c.args.progress.now c.read_from.new.progress read.keeps read.since;
       small = copy.ensures.small;
       count = copy.ensures.count;
       front = copy.ensures.copied;
@@ -45,6 +47,6 @@ returns-clause-runs g c = λ home.
       enough = read.bound;
       long = search rules;
       took = read.taken;
-      window = read.window;
+      window = c.keep.ensures ∙ ap (kept_window c.args.window.now.items (c.args.place + copy.result)) (put_there copy.new.room c.read_from.new.room copy.result c.in_ok-count.count (omega (arith, copy.ensures.count, copy.auto.room)) read.bound);
       within = read.within;
     })

@@ -1,0 +1,53 @@
+-- What holds of the size of each type.
+use Rattle.imagesize_boxes.proofs.Heif.{heif_laws}
+use Rattle.imagesize_fixed.proofs.Aseprite.{aseprite_laws}
+use Rattle.imagesize_fixed.proofs.Astc.{astc_laws}
+use Rattle.imagesize_fixed.proofs.Atc.{atc_laws}
+use Rattle.imagesize_fixed.proofs.Bmp.{bmp_laws}
+use Rattle.imagesize_fixed.proofs.Dds.{dds_laws}
+use Rattle.imagesize_fixed.proofs.Farbfeld.{farbfeld_laws}
+use Rattle.imagesize_fixed.proofs.Gif.{gif_laws}
+use Rattle.imagesize_fixed.proofs.Ktx2.{ktx2_laws}
+use Rattle.imagesize_fixed.proofs.Pkm.{pkm_laws}
+use Rattle.imagesize_fixed.proofs.Psd.{psd_laws}
+use Rattle.imagesize_fixed.proofs.Pvrtc.{pvrtc_laws}
+use Rattle.imagesize_fixed.proofs.Qoi.{qoi_laws}
+use Rattle.imagesize_fixed.proofs.Tga.{tga_laws}
+use Rattle.imagesize_fixed.proofs.Vtf.{vtf_laws}
+use Rattle.imagesize_fixed.proofs.Webp.{webp_laws}
+use Rattle.imagesize_walked.proofs.Ico.{ico_laws}
+use Rattle.imagesize_walked.proofs.Ilbm.{ilbm_laws}
+use Rattle.imagesize_walked.proofs.Jpeg.{jpeg_laws}
+use Rattle.imagesize.proofs.Detection.{kind_cost}
+use Rattle.imagesize.specs.Counts.{lasts}
+use Rattle.imagesize.specs.Meaning.{way_of}
+use Rattle.imagesize.specs.declared.types.ImageType.{ImageType}
+use Rattle.imagesize.specs.declared.types.ImageType.TheVariants.{Aseprite, Astc, Atc, Bmp, Dds, Eac, Etc2, Exr, Farbfeld, Gif, Hdr, Heif, Ico, Ilbm, Jpeg, Jxl, Ktx2, Pnm, Pvrtc, Psd, Qoi, Tga, Tiff, Vtf, Webp}
+use Rattle.imagesize_source.proofs.Way.{Laws}
+
+pub laws_of : (type : ImageType) → Laws (kind_cost type) (lasts type) (way_of type)
+laws_of Aseprite = aseprite_laws
+laws_of Astc = astc_laws
+laws_of (Atc _) = atc_laws
+laws_of Bmp = bmp_laws
+laws_of (Dds _) = dds_laws
+laws_of (Eac _) = pkm_laws
+laws_of (Etc2 _) = pkm_laws
+laws_of Exr = record { few = tt; plain = tt }
+laws_of Farbfeld = farbfeld_laws
+laws_of Gif = gif_laws
+laws_of Hdr = record { few = tt; plain = tt }
+laws_of (Heif _) = heif_laws
+laws_of Ico = ico_laws
+laws_of Ilbm = ilbm_laws
+laws_of Jpeg = jpeg_laws
+laws_of Jxl = record { few = tt; plain = tt }
+laws_of Ktx2 = ktx2_laws
+laws_of Pnm = record { few = tt; plain = tt }
+laws_of (Pvrtc _) = pvrtc_laws
+laws_of Psd = psd_laws
+laws_of Qoi = qoi_laws
+laws_of Tga = tga_laws
+laws_of Tiff = record { few = tt; plain = tt }
+laws_of Vtf = vtf_laws
+laws_of Webp = webp_laws

@@ -1,7 +1,0 @@
-use Rattle.std.proofs.Common.{rules}
-use Rattle.imagesize.specs.contracts.types.ImageSizeOrd.TheImpl.Laws as ordered
-use Rattle.imagesize.proofs.Lawful.{lawful_order}
-use Rattle.imagesize.proofs.laws.image_size_laws.Goals as goal
-
-pub returns-clause-order : goal.returns-clause-order
-returns-clause-order c = lawful_order _ _ _ (search rules) ordered.total-law ordered.matches_eq-law ordered.matches_partial_cmp-law

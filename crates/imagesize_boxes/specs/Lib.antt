@@ -1,0 +1,2 @@
+pub mod Heif
+pub mod Jxl

@@ -1,0 +1,3 @@
+//! Containers of images, in boxes.
+
+pub mod heif;

@@ -1,0 +1,3 @@
+//! The formats of boxes.
+
+pub mod jxl;

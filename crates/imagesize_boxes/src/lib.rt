@@ -1,0 +1,5 @@
+//! Formats whose sizes stand in boxes.
+#![tactic(auto)]
+
+pub mod container;
+pub mod formats;

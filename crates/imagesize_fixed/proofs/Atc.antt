@@ -1,0 +1,27 @@
+-- ATC textures: what is read of them.
+use Rattle.std.proofs.Common.{arith, rules}
+use Rattle.imagesize_fixed.specs.Atc.{atc, atc_compression, is_atc}
+use Rattle.imagesize_fixed.specs.Dds.{dds, is_dds}
+use Rattle.imagesize_fixed.specs.Pkm.{pkm}
+use Rattle.imagesize_fixed.specs.Pvrtc.{pvr2}
+use Rattle.imagesize_source.specs.Counts.{AtMost}
+use Rattle.imagesize_source.specs.Extension.{Plain}
+use Rattle.imagesize_source.proofs.Always.{KindLaws}
+use Rattle.imagesize_source.proofs.Tests.{on_test}
+use Rattle.imagesize_source.proofs.Way.{FixedLaws}
+
+pub atc_kind : KindLaws 8 atc_compression
+unfolding atc_compression
+atc_kind = record { few = (omega arith, λ _. tt); answers = λ _. tt }
+
+-- with the kind, 40 bytes
+pub atc_laws : FixedLaws 20 atc
+atc_laws = record {
+  few = (
+    omega arith,
+    λ tag. on_test (AtMost 17) (is_dds tag) dds _ (λ _. search rules)
+        (λ _. (omega arith, λ head. on_test (AtMost 9) (is_atc head) pkm pvr2 (λ _. search rules) (λ _. search rules))),
+  );
+  plain = λ tag. on_test Plain (is_dds tag) dds _ (λ _. search rules)
+      (λ _ head. on_test Plain (is_atc head) pkm pvr2 (λ _. search rules) (λ _. search rules));
+}

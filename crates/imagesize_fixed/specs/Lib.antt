@@ -1,0 +1,15 @@
+pub mod Aseprite
+pub mod Astc
+pub mod Atc
+pub mod Bmp
+pub mod Dds
+pub mod Farbfeld
+pub mod Gif
+pub mod Ktx2
+pub mod Pkm
+pub mod Psd
+pub mod Pvrtc
+pub mod Qoi
+pub mod Tga
+pub mod Vtf
+pub mod Webp

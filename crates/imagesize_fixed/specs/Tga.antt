@@ -1,0 +1,59 @@
+-- TGA.
+use Rattle.std.specs.Prelude.{ℕ, ◌-◌, ◌%◌, ◌/◌, Bool, true, false, ◌||◌, ◌&&◌, List, [], ◌∷◌, ◌++◌, codes, if◌then◌else◌, ◌==◌, nat_le, slice_index}
+use Rattle.std.specs.List.{list_any}
+use Rattle.std.specs.Str.{bytes_eq}
+use Rattle.imagesize_types.specs.declared.size.ImageSize.{ImageSize}
+use Rattle.imagesize_source.specs.declared.util.Endian.TheVariants.{Little}
+use Rattle.imagesize_source.specs.Layout.{Layout, bytes}
+use Rattle.imagesize_source.specs.Layout.Layout.{field, «done»}
+
+-- an image type that has pixels, and a colour map or none
+unfoldable pub may_be_tga : List ℕ → Bool
+may_be_tga head =
+    list_any (λ image_type. slice_index head 2 == image_type) (1 ∷ 2 ∷ 3 ∷ 9 ∷ 10 ∷ 11 ∷ [])
+    && nat_le (slice_index head 1) 1
+
+-- the signature at the end of the footer
+unfoldable pub is_tga_footer : List ℕ → Bool
+is_tga_footer footer = bytes_eq footer (codes "TRUEVISION-XFILE." ++ 0 ∷ [])
+
+-- an image type with a colour map, in a file that has none
+unfoldable pub lacks_its_map : List ℕ → Bool
+lacks_its_map head = (slice_index head 2 == 1 || slice_index head 2 == 9) && slice_index head 1 == 0
+
+-- the place and length of the colour map, and the bits of its entries, which are all zero without a map
+unfoldable pub is_map_sound : ℕ → List ℕ → ℕ → Bool
+is_map_sound map_type map bits =
+    if map_type == 0 then bytes_eq map (0 ∷ 0 ∷ 0 ∷ 0 ∷ []) && bits == 0
+    else list_any (λ known. bits == known) (0 ∷ 8 ∷ 16 ∷ 24 ∷ 32 ∷ [])
+
+-- the bits of a pixel, and how many of them are alpha; the pixels do not go from right to left
+unfoldable pub is_pixel_sound : ℕ → ℕ → Bool
+is_pixel_sound bits descriptor =
+    descriptor / 16 % 2 == 0
+    && ((bits == 8 && descriptor % 16 == 0)
+    || (bits == 16 && nat_le (descriptor % 16) 1)
+    || (bits == 24 && descriptor % 16 == 0)
+    || (bits == 32 && (descriptor % 16 == 0 || descriptor % 16 == 8)))
+
+-- without the footer, by the whole header
+abbrev pub tga_by_header : List ℕ → Layout Bool
+tga_by_header head =
+    bytes 3 4 (λ map. field Little 7 1 (λ map_bits.
+    if is_map_sound (slice_index head 1) map map_bits
+    then field Little 16 1 (λ bits. field Little 17 1 (λ descriptor. done (is_pixel_sound bits descriptor)))
+    else done false))
+
+-- whether an input of n bytes with this head is a TGA
+unfoldable pub is_tga : ℕ → List ℕ → Layout Bool
+is_tga n head =
+    if may_be_tga head && nat_le 18 n
+    then bytes (n - 18) 18 (λ footer.
+    if is_tga_footer footer then done true
+    else if lacks_its_map head then done false
+    else tga_by_header head)
+    else done false
+
+-- the width, then the height
+abbrev pub tga : Layout ImageSize
+tga = field Little 12 2 (λ width. field Little 14 2 (λ height. done (record { width = width; height = height })))

@@ -1,0 +1,87 @@
+//! ATC textures, by GL_AMD_compressed_ATC_texture, in PKM files and in DDS files.
+ghost use Rattle.std.specs.Prelude.{◌≡◌, ◌≤◌, length, drop};
+ghost use Rattle.imagesize_fixed.specs.Atc.{atc, atc_compression, atc_data_types, is_atc};
+ghost use Rattle.imagesize_types.specs.Table.{look_up};
+ghost use Rattle.imagesize_source.specs.Numbers.{number};
+ghost use Rattle.imagesize_source.specs.declared.util.Endian.TheVariants as endian;
+ghost use Rattle.imagesize_source.specs.Layout.{over};
+ghost use Rattle.imagesize_source.specs.State.{Runs};
+
+use crate::container::{dds, pkm, pvrtc};
+use imagesize_source::ImageResult;
+use imagesize_source::source::Source;
+use imagesize_source::util::{read_bytes, read_if_there};
+use imagesize_types::compression::AtcCompression;
+use imagesize_types::size::ImageSize;
+
+/// Whether it is a PKM file of an ATC data type.
+#[inline]
+pub fn matches(head: &[u8; 12]) -> bool
+    ensures { result ≡ is_atc head.now }
+{
+    is_atc(head)
+}
+
+// Whether these bytes begin a PKM file of an ATC data type.
+#[inline]
+#[tactic(auto, unfolding(crate::specs::Atc::is_atc))]
+fn is_atc(header: &[u8]) -> bool
+    requires { 8 ≤ length header.now }
+    ensures { result ≡ is_atc header.now }
+{
+    pkm::is_pkm(header)
+        && (matches!(header, [_, _, _, _, _, _, 0x8C, 0x92 | 0x93, ..])
+            || matches!(header, [_, _, _, _, _, _, 0x87, 0xEE, ..]))
+}
+
+/// How the pixels are stored, by the data type where it is there.
+#[tactic(auto, using(imagesize_source::proofs::Runs::steps), unfolding(crate::specs::Atc::atc_compression))]
+pub fn detect_compression<S: Source>(source: &mut S) -> ImageResult<AtcCompression>
+    ensures { Runs (S.state source.old) (S.state source.new) result
+        (over (S.state source.old).held.input atc_compression) }
+{
+    let Some(header) = read_if_there::<S, 8>(source, 0)? else {
+        return Ok(AtcCompression::Unknown);
+    };
+    if !pkm::is_pkm(&header) {
+        return Ok(AtcCompression::Unknown);
+    }
+    Ok(compression(data_type(&header)))
+}
+
+// The data type of a PKM header.
+#[tactic(auto, using(imagesize_source::proofs::Bytes::last_two))]
+fn data_type(header: &[u8; 8]) -> u16
+    ensures { result ≡ number endian.Big (drop 6 header.now) }
+{
+    u16::from_be_bytes([header[6], header[7]])
+}
+
+// How the pixels of a data type are stored.
+fn compression(data_type: u16) -> AtcCompression
+    ensures { result ≡ look_up atc_data_types AtcCompression.Unknown data_type }
+{
+    match data_type {
+        0x8C92 => AtcCompression::Rgb,
+        0x8C93 => AtcCompression::RgbaExplicit,
+        0x87EE => AtcCompression::RgbaInterpolated,
+        _ => AtcCompression::Unknown,
+    }
+}
+
+/// The width and the height, by the header that is there.
+#[tactic(auto, using(imagesize_source::proofs::Runs::steps))]
+pub fn size<S: Source>(source: &mut S) -> ImageResult<ImageSize>
+    ensures { Runs (S.state source.old) (S.state source.new) result
+        (over (S.state source.old).held.input atc) }
+{
+    let tag = read_bytes::<S, 4>(source, 0)?;
+    if dds::is_dds(&tag) {
+        return dds::size(source);
+    }
+    let header = read_bytes::<S, 8>(source, 0)?;
+    if is_atc(&header) {
+        return pkm::size(source);
+    }
+    pvrtc::older_size(source)
+}

@@ -1,0 +1,122 @@
+//! DirectDraw surfaces, by `DDS_HEADER`, `DDS_PIXELFORMAT` and `DDS_HEADER_DXT10` of the Programming Guide
+//! for DDS (Direct3D).
+ghost use Rattle.std.specs.Prelude.{◌≡◌};
+ghost use Rattle.imagesize_fixed.specs.Dds.{dds, dds_bit_counts, dds_codes, dds_compression, dds_number_of, dxgi_formats, is_dds};
+ghost use Rattle.imagesize_types.specs.Table.{look_up, look_up_text};
+ghost use Rattle.imagesize_source.specs.Layout.{if_there, over};
+ghost use Rattle.imagesize_source.specs.Layout.Layout.{«done»};
+ghost use Rattle.imagesize_source.specs.State.{Runs};
+
+use imagesize_source::ImageResult;
+use imagesize_source::source::Source;
+use imagesize_source::util::{Endian, read_if_there, read_u32};
+use imagesize_types::compression::DdsCompression;
+use imagesize_types::size::ImageSize;
+
+/// Whether the magic number stands first.
+#[inline(always)]
+pub fn matches(head: &[u8; 12]) -> bool
+    ensures { result ≡ is_dds head.now }
+{
+    is_dds(head)
+}
+
+// Whether the magic number stands first.
+#[inline(always)]
+#[tactic(auto, unfolding(crate::specs::Dds::is_dds))]
+pub(super) fn is_dds(header: &[u8]) -> bool
+    ensures { result ≡ is_dds header.now }
+{
+    matches!(header, [b'D', b'D', b'S', b' ', ..])
+}
+
+/// How the pixels are stored, by the four-character code where it is there.
+#[tactic(auto, using(imagesize_source::proofs::Runs::steps), unfolding(crate::specs::Dds::dds_compression))]
+pub fn detect_compression<S: Source>(source: &mut S) -> ImageResult<DdsCompression>
+    ensures { Runs (S.state source.old) (S.state source.new) result
+        (over (S.state source.old).held.input dds_compression) }
+{
+    let Some(code) = read_if_there::<S, 4>(source, 84)? else {
+        return Ok(DdsCompression::Unknown);
+    };
+    if code == *b"DX10" {
+        return extended_compression(source);
+    }
+    if code == [0; 4] {
+        return plain_compression(source);
+    }
+    Ok(code_compression(&code))
+}
+
+// How the pixels are stored, by the format of the extended header where it is there.
+#[tactic(auto, using(imagesize_source::proofs::Runs::steps, imagesize_source::proofs::Numbers::little_4))]
+fn extended_compression<S: Source>(source: &mut S) -> ImageResult<DdsCompression>
+    ensures { Runs (S.state source.old) (S.state source.new) result
+        (over (S.state source.old).held.input (if_there 128 4 (λ bs. done (dds_number_of dxgi_formats bs)))) }
+{
+    match read_if_there::<S, 4>(source, 128)? {
+        Some(format) => Ok(format_compression(u32::from_le_bytes(format))),
+        None => Ok(DdsCompression::Unknown),
+    }
+}
+
+// How the pixels are stored, by the bits of a pixel where they are there.
+#[tactic(auto, using(imagesize_source::proofs::Runs::steps, imagesize_source::proofs::Numbers::little_4))]
+fn plain_compression<S: Source>(source: &mut S) -> ImageResult<DdsCompression>
+    ensures { Runs (S.state source.old) (S.state source.new) result
+        (over (S.state source.old).held.input (if_there 88 4 (λ bs. done (dds_number_of dds_bit_counts bs)))) }
+{
+    match read_if_there::<S, 4>(source, 88)? {
+        Some(bits) => Ok(bits_compression(u32::from_le_bytes(bits))),
+        None => Ok(DdsCompression::Unknown),
+    }
+}
+
+// How the pixels of a four-character code are stored.
+fn code_compression(code: &[u8; 4]) -> DdsCompression
+    ensures { result ≡ look_up_text dds_codes DdsCompression.Unknown code.now }
+{
+    match code {
+        b"DXT1" => DdsCompression::Bc1,
+        b"DXT3" => DdsCompression::Bc2,
+        b"DXT5" => DdsCompression::Bc3,
+        b"ATI1" | b"BC4U" | b"BC4S" => DdsCompression::Bc4,
+        b"ATI2" | b"BC5U" | b"BC5S" => DdsCompression::Bc5,
+        b"BC6H" => DdsCompression::Bc6h,
+        b"BC7U" | b"BC7L" => DdsCompression::Bc7,
+        _ => DdsCompression::Unknown,
+    }
+}
+
+// How the pixels of a DXGI format are stored.
+fn format_compression(format: u32) -> DdsCompression
+    ensures { result ≡ look_up dxgi_formats DdsCompression.Unknown format }
+{
+    match format {
+        95 | 96 => DdsCompression::Bc6h,
+        98 | 99 => DdsCompression::Bc7,
+        _ => DdsCompression::Unknown,
+    }
+}
+
+// How pixels of so many bits are stored.
+fn bits_compression(bits: u32) -> DdsCompression
+    ensures { result ≡ look_up dds_bit_counts DdsCompression.Unknown bits }
+{
+    match bits {
+        32 => DdsCompression::Rgba32,
+        24 => DdsCompression::Rgb24,
+        _ => DdsCompression::Unknown,
+    }
+}
+
+/// The height and the width.
+#[tactic(auto, using(imagesize_source::proofs::Runs::steps))]
+pub fn size<S: Source>(source: &mut S) -> ImageResult<ImageSize>
+    ensures { Runs (S.state source.old) (S.state source.new) result
+        (over (S.state source.old).held.input dds) }
+{
+    let height = read_u32(source, 12, Endian::Little)? as usize;
+    let width = read_u32(source, 16, Endian::Little)? as usize;
+    Ok(ImageSize { width, height })
+}

@@ -1,0 +1,110 @@
+//! PowerVR textures, by the PVR File Format Specification (version 3) and its appendix on the older header.
+ghost use Rattle.std.specs.Prelude.{◌≡◌};
+ghost use Rattle.imagesize_fixed.specs.Pvrtc.{is_pvr3, is_pvrtc, pvr2, pvr3, pvrtc, pvrtc_compression, pvrtc_format_of, pvrtc_formats};
+ghost use Rattle.imagesize_types.specs.Table.{look_up};
+ghost use Rattle.imagesize_source.specs.Layout.{if_there, over};
+ghost use Rattle.imagesize_source.specs.Layout.Layout.{«done»};
+ghost use Rattle.imagesize_source.specs.State.{Runs};
+
+use imagesize_source::ImageResult;
+use imagesize_source::source::Source;
+use imagesize_source::util::{Endian, read_bytes, read_if_there, read_u32};
+use imagesize_types::compression::PvrtcCompression;
+use imagesize_types::size::ImageSize;
+
+/// Whether the length of the older header stands first, or the version of the newer.
+#[inline]
+#[tactic(auto, unfolding(crate::specs::Pvrtc::is_pvrtc))]
+pub fn matches(head: &[u8; 12]) -> bool
+    ensures { result ≡ is_pvrtc head.now }
+{
+    matches!(head, [52, 0, 0, 0, ..]) || is_version_3(head)
+}
+
+#[inline]
+#[tactic(auto, unfolding(crate::specs::Pvrtc::is_pvr3))]
+fn is_version_3(header: &[u8]) -> bool
+    ensures { result ≡ is_pvr3 header.now }
+{
+    matches!(header, [b'P', b'V', b'R', 3, ..])
+}
+
+/// How the pixels are stored, which the newer header tells.
+#[tactic(auto, using(imagesize_source::proofs::Runs::steps), unfolding(crate::specs::Pvrtc::pvrtc_compression))]
+pub fn detect_compression<S: Source>(source: &mut S) -> ImageResult<PvrtcCompression>
+    ensures { Runs (S.state source.old) (S.state source.new) result
+        (over (S.state source.old).held.input pvrtc_compression) }
+{
+    let Some(tag) = read_if_there::<S, 4>(source, 0)? else {
+        return Ok(PvrtcCompression::Unknown);
+    };
+    if !is_version_3(&tag) {
+        return Ok(PvrtcCompression::Unknown);
+    }
+    format(source)
+}
+
+// How the pixels are stored, by the format where it is there.
+#[tactic(auto, using(imagesize_source::proofs::Runs::steps, imagesize_source::proofs::Numbers::little_8))]
+fn format<S: Source>(source: &mut S) -> ImageResult<PvrtcCompression>
+    ensures { Runs (S.state source.old) (S.state source.new) result
+        (over (S.state source.old).held.input (if_there 8 8 (λ bs. done (pvrtc_format_of bs)))) }
+{
+    match read_if_there::<S, 8>(source, 8)? {
+        Some(format) => Ok(format_compression(u64::from_le_bytes(format))),
+        None => Ok(PvrtcCompression::Unknown),
+    }
+}
+
+// How the pixels of a format are stored.
+fn format_compression(format: u64) -> PvrtcCompression
+    ensures { result ≡ look_up pvrtc_formats PvrtcCompression.Unknown format }
+{
+    match format {
+        0 => PvrtcCompression::Pvrtc2BppRgb,
+        1 => PvrtcCompression::Pvrtc2BppRgba,
+        2 => PvrtcCompression::Pvrtc4BppRgb,
+        3 => PvrtcCompression::Pvrtc4BppRgba,
+        22 => PvrtcCompression::Etc2Rgb,
+        23 => PvrtcCompression::Etc2Rgba,
+        24 => PvrtcCompression::Etc2RgbA1,
+        25 => PvrtcCompression::EacR11,
+        26 => PvrtcCompression::EacRg11,
+        _ => PvrtcCompression::Unknown,
+    }
+}
+
+/// The height and the width, by the header that is there.
+#[tactic(auto, using(imagesize_source::proofs::Runs::steps))]
+pub fn size<S: Source>(source: &mut S) -> ImageResult<ImageSize>
+    ensures { Runs (S.state source.old) (S.state source.new) result
+        (over (S.state source.old).held.input pvrtc) }
+{
+    let tag = read_bytes::<S, 4>(source, 0)?;
+    if is_version_3(&tag) {
+        return newer_size(source);
+    }
+    older_size(source)
+}
+
+// The height and the width of the newer header.
+#[tactic(auto, using(imagesize_source::proofs::Runs::steps))]
+fn newer_size<S: Source>(source: &mut S) -> ImageResult<ImageSize>
+    ensures { Runs (S.state source.old) (S.state source.new) result
+        (over (S.state source.old).held.input pvr3) }
+{
+    let height = read_u32(source, 24, Endian::Little)? as usize;
+    let width = read_u32(source, 28, Endian::Little)? as usize;
+    Ok(ImageSize { width, height })
+}
+
+// The height and the width of the older header.
+#[tactic(auto, using(imagesize_source::proofs::Runs::steps))]
+pub(super) fn older_size<S: Source>(source: &mut S) -> ImageResult<ImageSize>
+    ensures { Runs (S.state source.old) (S.state source.new) result
+        (over (S.state source.old).held.input pvr2) }
+{
+    let height = read_u32(source, 4, Endian::Little)? as usize;
+    let width = read_u32(source, 8, Endian::Little)? as usize;
+    Ok(ImageSize { width, height })
+}

@@ -1,0 +1,13 @@
+//! The formats at fixed places.
+
+pub mod aseprite;
+pub mod astc;
+pub mod bmp;
+pub mod farbfeld;
+pub mod gif;
+pub mod ktx2;
+pub mod psd;
+pub mod qoi;
+pub mod tga;
+pub mod vtf;
+pub mod webp;

@@ -1,0 +1,30 @@
+//! Sprites of the editor Aseprite, by the header of "Aseprite File Format (.ase/.aseprite) Specifications".
+ghost use Rattle.std.specs.Prelude.{◌≡◌};
+ghost use Rattle.imagesize_fixed.specs.Aseprite.{is_aseprite, aseprite};
+ghost use Rattle.imagesize_source.specs.Layout.{over};
+ghost use Rattle.imagesize_source.specs.State.{Runs};
+
+use imagesize_source::ImageResult;
+use imagesize_source::source::Source;
+use imagesize_source::util::{Endian, read_u16};
+use imagesize_types::size::ImageSize;
+
+/// Whether the magic number 0xA5E0 stands behind the length of the file.
+#[inline]
+#[tactic(auto, unfolding(crate::specs::Aseprite::is_aseprite))]
+pub fn matches(head: &[u8; 12]) -> bool
+    ensures { result ≡ is_aseprite head.now }
+{
+    matches!(head, [_, _, _, _, 0xE0, 0xA5, ..])
+}
+
+/// The width and the height of the sprite.
+#[tactic(auto, using(imagesize_source::proofs::Runs::steps))]
+pub fn size<S: Source>(source: &mut S) -> ImageResult<ImageSize>
+    ensures { Runs (S.state source.old) (S.state source.new) result
+        (over (S.state source.old).held.input aseprite) }
+{
+    let width = read_u16(source, 8, Endian::Little)? as usize;
+    let height = read_u16(source, 10, Endian::Little)? as usize;
+    Ok(ImageSize { width, height })
+}

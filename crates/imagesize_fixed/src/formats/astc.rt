@@ -1,0 +1,30 @@
+//! Textures in ASTC, by the header of the files of `astcenc` ("The .astc File Format").
+ghost use Rattle.std.specs.Prelude.{◌≡◌};
+ghost use Rattle.imagesize_fixed.specs.Astc.{is_astc, astc};
+ghost use Rattle.imagesize_source.specs.Layout.{over};
+ghost use Rattle.imagesize_source.specs.State.{Runs};
+
+use imagesize_source::ImageResult;
+use imagesize_source::source::Source;
+use imagesize_source::util::{Endian, read_u24};
+use imagesize_types::size::ImageSize;
+
+/// Whether the magic number stands first.
+#[inline]
+#[tactic(auto, unfolding(crate::specs::Astc::is_astc))]
+pub fn matches(head: &[u8; 12]) -> bool
+    ensures { result ≡ is_astc head.now }
+{
+    matches!(head, [0x13, 0xAB, 0xA1 | 0xA0, 0x5C, ..])
+}
+
+/// The first two of the three dimensions.
+#[tactic(auto, using(imagesize_source::proofs::Runs::steps))]
+pub fn size<S: Source>(source: &mut S) -> ImageResult<ImageSize>
+    ensures { Runs (S.state source.old) (S.state source.new) result
+        (over (S.state source.old).held.input astc) }
+{
+    let width = read_u24(source, 7, Endian::Little)? as usize;
+    let height = read_u24(source, 10, Endian::Little)? as usize;
+    Ok(ImageSize { width, height })
+}

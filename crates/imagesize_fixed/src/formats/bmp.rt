@@ -1,0 +1,30 @@
+//! Windows bitmaps, by `BITMAPFILEHEADER` and `BITMAPINFOHEADER` of the Windows GDI reference ("Bitmap Storage").
+ghost use Rattle.std.specs.Prelude.{◌≡◌};
+ghost use Rattle.imagesize_fixed.specs.Bmp.{is_bmp, bmp};
+ghost use Rattle.imagesize_source.specs.Layout.{over};
+ghost use Rattle.imagesize_source.specs.State.{Runs};
+
+use imagesize_source::ImageResult;
+use imagesize_source::source::Source;
+use imagesize_source::util::{Endian, read_u32};
+use imagesize_types::size::ImageSize;
+
+/// Whether the file is of the type `BM`.
+#[inline]
+#[tactic(auto, unfolding(crate::specs::Bmp::is_bmp))]
+pub fn matches(head: &[u8; 12]) -> bool
+    ensures { result ≡ is_bmp head.now }
+{
+    matches!(head, [b'B', b'M', ..])
+}
+
+/// The width and the height, which is read as a number without a sign.
+#[tactic(auto, using(imagesize_source::proofs::Runs::steps))]
+pub fn size<S: Source>(source: &mut S) -> ImageResult<ImageSize>
+    ensures { Runs (S.state source.old) (S.state source.new) result
+        (over (S.state source.old).held.input bmp) }
+{
+    let width = read_u32(source, 18, Endian::Little)? as usize;
+    let height = read_u32(source, 22, Endian::Little)? as usize;
+    Ok(ImageSize { width, height })
+}

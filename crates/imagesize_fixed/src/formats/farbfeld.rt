@@ -1,0 +1,30 @@
+//! Farbfeld, by "FORMAT" of the manual page farbfeld(5).
+ghost use Rattle.std.specs.Prelude.{◌≡◌};
+ghost use Rattle.imagesize_fixed.specs.Farbfeld.{is_farbfeld, farbfeld};
+ghost use Rattle.imagesize_source.specs.Layout.{over};
+ghost use Rattle.imagesize_source.specs.State.{Runs};
+
+use imagesize_source::ImageResult;
+use imagesize_source::source::Source;
+use imagesize_source::util::{Endian, read_u32};
+use imagesize_types::size::ImageSize;
+
+/// Whether the magic value stands first.
+#[inline]
+#[tactic(auto, unfolding(crate::specs::Farbfeld::is_farbfeld))]
+pub fn matches(head: &[u8; 12]) -> bool
+    ensures { result ≡ is_farbfeld head.now }
+{
+    matches!(head, [b'f', b'a', b'r', b'b', b'f', b'e', b'l', b'd', ..])
+}
+
+/// The width and the height.
+#[tactic(auto, using(imagesize_source::proofs::Runs::steps))]
+pub fn size<S: Source>(source: &mut S) -> ImageResult<ImageSize>
+    ensures { Runs (S.state source.old) (S.state source.new) result
+        (over (S.state source.old).held.input farbfeld) }
+{
+    let width = read_u32(source, 8, Endian::Big)? as usize;
+    let height = read_u32(source, 12, Endian::Big)? as usize;
+    Ok(ImageSize { width, height })
+}

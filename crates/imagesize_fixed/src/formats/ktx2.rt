@@ -1,0 +1,35 @@
+//! KTX 2.0, by the fields `identifier`, `pixelWidth` and `pixelHeight` of the Khronos KTX File Format Specification.
+ghost use Rattle.std.specs.Prelude.{◌≡◌};
+ghost use Rattle.imagesize_fixed.specs.Ktx2.{is_ktx2, ktx2};
+ghost use Rattle.imagesize_source.specs.Layout.{over};
+ghost use Rattle.imagesize_source.specs.State.{Runs};
+
+use imagesize_source::ImageResult;
+use imagesize_source::source::Source;
+use imagesize_source::util::{Endian, read_u32};
+use imagesize_types::size::ImageSize;
+
+/// Whether the identifier stands first.
+#[inline]
+#[tactic(auto, unfolding(crate::specs::Ktx2::is_ktx2))]
+pub fn matches(head: &[u8; 12]) -> bool
+    ensures { result ≡ is_ktx2 head.now }
+{
+    matches!(
+        head,
+        [
+            0xAB, 0x4B, 0x54, 0x58, 0x20, 0x32, 0x30, 0xBB, 0x0D, 0x0A, 0x1A, 0x0A
+        ]
+    )
+}
+
+/// The width and the height of the texture at its first level.
+#[tactic(auto, using(imagesize_source::proofs::Runs::steps))]
+pub fn size<S: Source>(source: &mut S) -> ImageResult<ImageSize>
+    ensures { Runs (S.state source.old) (S.state source.new) result
+        (over (S.state source.old).held.input ktx2) }
+{
+    let width = read_u32(source, 20, Endian::Little)? as usize;
+    let height = read_u32(source, 24, Endian::Little)? as usize;
+    Ok(ImageSize { width, height })
+}

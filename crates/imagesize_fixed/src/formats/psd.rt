@@ -1,0 +1,30 @@
+//! Photoshop documents, by "File Header Section" of the Adobe Photoshop File Formats Specification.
+ghost use Rattle.std.specs.Prelude.{◌≡◌};
+ghost use Rattle.imagesize_fixed.specs.Psd.{is_psd, psd};
+ghost use Rattle.imagesize_source.specs.Layout.{over};
+ghost use Rattle.imagesize_source.specs.State.{Runs};
+
+use imagesize_source::ImageResult;
+use imagesize_source::source::Source;
+use imagesize_source::util::{Endian, read_u32};
+use imagesize_types::size::ImageSize;
+
+/// Whether the signature stands first.
+#[inline]
+#[tactic(auto, unfolding(crate::specs::Psd::is_psd))]
+pub fn matches(head: &[u8; 12]) -> bool
+    ensures { result ≡ is_psd head.now }
+{
+    matches!(head, [b'8', b'B', b'P', b'S', ..])
+}
+
+/// The height and the width.
+#[tactic(auto, using(imagesize_source::proofs::Runs::steps))]
+pub fn size<S: Source>(source: &mut S) -> ImageResult<ImageSize>
+    ensures { Runs (S.state source.old) (S.state source.new) result
+        (over (S.state source.old).held.input psd) }
+{
+    let height = read_u32(source, 14, Endian::Big)? as usize;
+    let width = read_u32(source, 18, Endian::Big)? as usize;
+    Ok(ImageSize { width, height })
+}

@@ -1,0 +1,30 @@
+//! QOI, by the header of the Quite OK Image Format Specification 1.0.
+ghost use Rattle.std.specs.Prelude.{◌≡◌};
+ghost use Rattle.imagesize_fixed.specs.Qoi.{is_qoi, qoi};
+ghost use Rattle.imagesize_source.specs.Layout.{over};
+ghost use Rattle.imagesize_source.specs.State.{Runs};
+
+use imagesize_source::ImageResult;
+use imagesize_source::source::Source;
+use imagesize_source::util::{Endian, read_u32};
+use imagesize_types::size::ImageSize;
+
+/// Whether the magic bytes stand first.
+#[inline]
+#[tactic(auto, unfolding(crate::specs::Qoi::is_qoi))]
+pub fn matches(head: &[u8; 12]) -> bool
+    ensures { result ≡ is_qoi head.now }
+{
+    matches!(head, [b'q', b'o', b'i', b'f', ..])
+}
+
+/// The width and the height.
+#[tactic(auto, using(imagesize_source::proofs::Runs::steps))]
+pub fn size<S: Source>(source: &mut S) -> ImageResult<ImageSize>
+    ensures { Runs (S.state source.old) (S.state source.new) result
+        (over (S.state source.old).held.input qoi) }
+{
+    let width = read_u32(source, 4, Endian::Big)? as usize;
+    let height = read_u32(source, 8, Endian::Big)? as usize;
+    Ok(ImageSize { width, height })
+}

@@ -1,0 +1,30 @@
+//! Valve textures, by "VTF header" of the Valve Texture Format.
+ghost use Rattle.std.specs.Prelude.{◌≡◌};
+ghost use Rattle.imagesize_fixed.specs.Vtf.{is_vtf, vtf};
+ghost use Rattle.imagesize_source.specs.Layout.{over};
+ghost use Rattle.imagesize_source.specs.State.{Runs};
+
+use imagesize_source::ImageResult;
+use imagesize_source::source::Source;
+use imagesize_source::util::{Endian, read_u16};
+use imagesize_types::size::ImageSize;
+
+/// Whether the signature stands first.
+#[inline]
+#[tactic(auto, unfolding(crate::specs::Vtf::is_vtf))]
+pub fn matches(head: &[u8; 12]) -> bool
+    ensures { result ≡ is_vtf head.now }
+{
+    matches!(head, [b'V', b'T', b'F', 0, ..])
+}
+
+/// The width and the height of the largest mipmap.
+#[tactic(auto, using(imagesize_source::proofs::Runs::steps))]
+pub fn size<S: Source>(source: &mut S) -> ImageResult<ImageSize>
+    ensures { Runs (S.state source.old) (S.state source.new) result
+        (over (S.state source.old).held.input vtf) }
+{
+    let width = read_u16(source, 16, Endian::Little)? as usize;
+    let height = read_u16(source, 18, Endian::Little)? as usize;
+    Ok(ImageSize { width, height })
+}

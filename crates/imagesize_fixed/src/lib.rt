@@ -1,0 +1,5 @@
+//! Formats whose sizes stand at fixed places.
+#![tactic(auto)]
+
+pub mod container;
+pub mod formats;

@@ -1,0 +1,36 @@
+-- Layouts that answer whatever they read, as those of the kinds within a type do.
+use Rattle.std.proofs.Common.{◌≡◌, ℕ, List, Ok, refl}
+use Rattle.imagesize_source.specs.Counts.{AtMost}
+use Rattle.imagesize_source.specs.Layout.{Layout, done, refuse, field, reading, over, bind}
+use Rattle.imagesize_source.specs.Input.{part}
+use Rattle.imagesize_source.specs.Reading.{AllOf, PartOf, TextOf, text_part}
+
+-- the layout always answers, and with what P holds of
+abbrev pub Always : {X : Type 0} → (X → Type 0) → Layout X → Type 0
+Always P (done x) = P x
+Always P (refuse e) = ⊥
+Always P (field order place n f) = ⊥
+Always P (reading (AllOf n) place f) = ⊥
+Always P (reading (PartOf n) place f) = (bs : List ℕ) → Always P (f bs)
+Always P (reading (TextOf t n) place f) = (bs : List ℕ) → Always P (f bs)
+
+pub always : {X : Type 0} (P : X → Type 0) (d : List ℕ) (t : Layout X) → Always P t → (x : X) × ((over d t).answer ≡ Ok x) × P x
+always P d (done x) h = (x, refl, h)
+always P d (refuse e) h = absurd h
+always P d (field order place n f) h = absurd h
+always P d (reading (AllOf n) place f) h = absurd h
+always P d (reading (PartOf n) place f) h = always P d (f (part d place n)) (h (part d place n))
+always P d (reading (TextOf t n) place f) h = always P d (f (text_part d t place n)) (h (text_part d t place n))
+
+pub always_bind : {X Y : Type 0} (P : Y → Type 0) (t : Layout X) (g : X → Layout Y) → Always (λ _. Unit {0}) t → ((x : X) → Always P (g x)) → Always P (bind t g)
+always_bind P (done x) g h next = next x
+always_bind P (refuse e) g h next = absurd h
+always_bind P (field order place n f) g h next = absurd h
+always_bind P (reading (AllOf n) place f) g h next = absurd h
+always_bind P (reading (PartOf n) place f) g h next = λ bs. always_bind P (f bs) g (h bs) next
+always_bind P (reading (TextOf t n) place f) g h next = λ bs. always_bind P (f bs) g (h bs) next
+
+-- Of what tells a kind within a type: it is read from at most so many bytes, and there is always an answer.
+pub record KindLaws {X : Type 0} (k : ℕ) (t : Layout X) : Type 0 where
+  pub few : AtMost k t
+  pub answers : Always (λ _. Unit {0}) t

@@ -1,0 +1,23 @@
+-- The ways in which the formats tell their answers.
+use Rattle.std.specs.Prelude.{ℕ, ◌+◌, ◌*◌, List, length}
+use Rattle.imagesize_source.specs.Layout.{Layout, over}
+use Rattle.imagesize_source.specs.Reading.{Reads}
+
+-- An answer stands at fixed places; or behind records, each of which is read from at most so many bytes, with how many
+-- of an input's are begun; or in texts, as long as they may be.
+pub data Way (X : Type 0) : Type 0 where
+  Fixed : Layout X → Way X
+  Recorded : ℕ → (List ℕ → Reads X) → (List ℕ → ℕ) → Way X
+  Texts : (List ℕ → Reads X) → Way X
+
+-- what an input says that is read in this way
+abbrev pub by_way : {X : Type 0} → Way X → List ℕ → Reads X
+by_way (Fixed layout) d = over d layout
+by_way (Recorded each reads begun) d = reads d
+by_way (Texts reads) d = reads d
+
+-- how many bytes a type and its answer are at most read from, in all
+abbrev pub stated_by : {X : Type 0} → Way X → List ℕ → ℕ
+stated_by (Fixed layout) d = 41
+stated_by (Recorded each reads begun) d = 64 + each * begun d
+stated_by (Texts reads) d = length d + 64

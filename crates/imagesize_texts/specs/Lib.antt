@@ -1,0 +1,3 @@
+pub mod Exr
+pub mod Hdr
+pub mod Pnm

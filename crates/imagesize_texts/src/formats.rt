@@ -1,0 +1,5 @@
+//! The formats of texts.
+
+pub mod exr;
+pub mod hdr;
+pub mod pnm;

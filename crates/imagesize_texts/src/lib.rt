@@ -1,0 +1,4 @@
+//! Formats whose sizes stand in texts.
+#![tactic(auto)]
+
+pub mod formats;

@@ -1,0 +1,5 @@
+pub mod Comparisons
+pub mod Head
+pub mod Largest
+pub mod Order
+pub mod Table

@@ -1,0 +1,67 @@
+//! The size of an image.
+ghost use Rattle.std.specs.Prelude.{◌≡◌, ◌<◌};
+ghost use Rattle.std.proofs.Common.{rules};
+ghost use Rattle.std.specs.Cmp.{partial_order_from_own_ties};
+ghost use Rattle.std.specs.Cmp.Rules.{comparing};
+ghost use Rattle.imagesize_types.specs.Order.{area_of};
+
+use std::cmp::Ordering;
+
+/// The size of an image, in pixels.
+///
+/// Sizes are ordered by area, then by width, then by height.
+#[derive(Clone, Copy, Debug, PartialEq, Eq, Hash)]
+pub struct ImageSize {
+    /// The width in pixels.
+    pub width: usize,
+    /// The height in pixels.
+    pub height: usize,
+}
+
+/// How many pixels a size has, which 64 bits need not hold.
+#[inline(always)]
+pub fn area(size: &ImageSize) -> u128
+    ensures { result ≡ area_of size.now }
+{
+    size.width as u128 * size.height as u128
+}
+
+impl Ord for ImageSize {
+    ghost use Rattle.std.specs.Ordering.{MatchOrdering};
+    ghost use Rattle.imagesize_types.specs.Order.{IsBelow, size_cmp};
+
+    ghost cmp = { size_cmp };
+
+    ghost total = { Prim.search (comparing, rules) };
+
+    ghost matches_partial_cmp = { Prim.search (comparing, rules) };
+
+    ghost matches_eq = { Prim.search (comparing, rules) };
+
+    fn cmp(&self, other: &ImageSize) -> Ordering
+        ensures value { result ≡ size_cmp self.now other.now }
+
+        // Less and Greater say which size is below the other, and Equal that they are one size.
+        ensures order { MatchOrdering result
+            (IsBelow self.now other.now) (self.now ≡ other.now) (IsBelow other.now self.now) }
+        ensures greater_area { area_of other.now < area_of self.now → result ≡ Ordering.Greater }
+    {
+        area(self)
+            .cmp(&area(other))
+            .then(self.width.cmp(&other.width))
+            .then(self.height.cmp(&other.height))
+    }
+}
+
+impl PartialOrd for ImageSize {
+    ghost use Rattle.std.specs.Ordering.{as_partial_cmp};
+    ghost use Rattle.imagesize_types.specs.Order.{size_cmp};
+
+    ghost partial_cmp = { as_partial_cmp size_cmp };
+
+    ghost laws = { partial_order_from_own_ties (Prim.search (comparing, rules)) (Prim.search (comparing, rules)) };
+
+    fn partial_cmp(&self, other: &ImageSize) -> Option<Ordering> {
+        Some(self.cmp(other))
+    }
+}

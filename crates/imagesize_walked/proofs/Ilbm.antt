@@ -1,0 +1,77 @@
+-- ILBM: how a walk along its chunks goes, how many bytes they are read from, and what it sees of an input.
+use Rattle.std.proofs.Common.{ℕ, ◌+◌, ◌*◌, ◌^◌, ◌<◌, ◌≤◌, true, List, length, Ok, Err, ap, ◌∙◌, arith}
+use Rattle.imagesize_walked.specs.Ilbm.{ilbm, ilbm_chunks, ilbm_chunk, ilbm_named, bitmap_header, chunk_bytes, chunk_length, is_bitmap_header, is_body}
+use Rattle.imagesize_types.specs.declared.size.ImageSize.{ImageSize}
+use Rattle.imagesize_source.specs.declared.error.ImageError.{ImageError}
+use Rattle.imagesize_source.specs.declared.error.ImageError.TheVariants.{CorruptedImage}
+use Rattle.imagesize_source.specs.Agreement.{Local}
+use Rattle.imagesize_source.specs.Chain.{Said, Decided, Next, Advances, records}
+use Rattle.imagesize_source.specs.Counts.{AtMost}
+use Rattle.imagesize_source.specs.Extension.{Plain, Lasts}
+use Rattle.imagesize_source.specs.Layout.{Layout, over, refuse, done}
+use Rattle.imagesize_source.specs.Reading.{end_of_input}
+use Rattle.imagesize_source.specs.State.{State, Runs, total}
+use Rattle.imagesize_source.proofs.Advances.{Tells, advances}
+use Rattle.imagesize_source.proofs.Ahead.{Ahead, chain_ahead}
+use Rattle.imagesize_source.proofs.PastTheEnd.{bytes_beyond}
+use Rattle.imagesize_source.proofs.ChainLaws.{local_chain, lasts_chain, chain_cost}
+use Rattle.imagesize_source.proofs.Tests.{on_test}
+use Rattle.imagesize_source.proofs.Way.{RecordedLaws}
+use Rattle.imagesize_source.proofs.Walks.{Walks, walks_start, walks_on, walks_stop, walks_out, walks_past}
+
+-- what holds of each chunk, by its name
+by_name : (P : Layout (Said (Unit {0}) ImageSize) → Type 0) (place : ℕ) (head : List ℕ) → P (refuse CorruptedImage) → P (bitmap_header place) → P (done (Next tt (place + chunk_bytes (chunk_length head)))) → P (ilbm_named place head)
+by_name P place head body header other =
+    on_test P (is_bitmap_header head) (bitmap_header place) _ (λ _. header)
+    (λ _. on_test P (is_body head) (refuse CorruptedImage) (done (Next tt (place + chunk_bytes (chunk_length head)))) (λ _. body) (λ _. other))
+
+ilbm_advances : (d : List ℕ) → Advances ilbm_chunks d
+ilbm_advances = advances ilbm_chunks
+    (λ passed place head. by_name (Tells (λ p. place < p)) place head tt (λ width height. tt) (omega arith))
+    (λ passed place. (omega arith, omega arith))
+
+pub ilbm_local : Local ilbm
+ilbm_local = local_chain ilbm_chunks ilbm_advances
+
+pub ilbm_lasts : Lasts ilbm
+ilbm_lasts = lasts_chain ilbm_chunks ilbm_advances (λ passed place head. by_name Plain place head tt (λ width height. tt) tt)
+
+-- a chunk is read from at most 12 bytes
+pub ilbm_cost : (d : List ℕ) → total (ilbm d).marks ≤ 12 * records ilbm_chunks d
+ilbm_cost d = chain_cost ilbm_chunks d (ilbm_advances d) 12
+    (λ passed place. (omega arith, λ head. by_name (AtMost 4) place head tt (omega arith, λ width. (omega arith, λ height. tt)) tt))
+
+-- the chunks are read from at most the bytes behind the form's type
+pub ilbm_within : (d : List ℕ) → total (ilbm d).marks ≤ length d
+ilbm_within d =
+    let most = chain_ahead ilbm_chunks d (ilbm_advances d)
+    (λ passed place. (omega arith, λ head. by_name (Ahead (place + 8)) place head tt (omega arith, λ width. (omega arith, λ height. tt)) (omega arith))) in
+    omega arith
+
+-- how far a walk has come
+abbrev pub IlbmWalks : State → State → ℕ → Type 0
+IlbmWalks a b place = Walks ilbm_chunks (λ passed. Unit {0}) a b place
+
+pub ilbm_start : (a : State) → IlbmWalks a a 12
+ilbm_start a = walks_start ilbm_chunks (λ passed. Unit {0}) a tt
+
+pub ilbm_on : {a b end : State} (place next : ℕ) → IlbmWalks a b place → Runs b end (Ok (Next tt next)) (over b.held.input (ilbm_chunk place)) → IlbmWalks a end next
+ilbm_on place next w run = walks_on ilbm_chunks ilbm_advances (λ passed. Unit {0}) w (λ passed. Unit {0}) tt next (λ passed _. run) (λ passed _. tt)
+
+pub ilbm_stop : {a b end : State} (place : ℕ) (size : ImageSize) → IlbmWalks a b place → Runs b end (Ok (Decided size)) (over b.held.input (ilbm_chunk place)) → Runs a end (Ok size) (ilbm a.held.input)
+ilbm_stop place size w run = walks_stop ilbm_chunks ilbm_advances (λ passed. Unit {0}) w size (λ passed _. run)
+
+pub ilbm_out : {a b end : State} (place : ℕ) (e : ImageError) → IlbmWalks a b place → Runs b end (Err e) (over b.held.input (ilbm_chunk place)) → Runs a end (Err e) (ilbm a.held.input)
+ilbm_out place e w run = walks_out ilbm_chunks ilbm_advances (λ passed. Unit {0}) w e (λ passed _. run)
+
+pub ilbm_past : {a b : State} (place : ℕ) → IlbmWalks a b place → 2 ^ 64 ≤ place → Runs a b (Err end_of_input) (ilbm a.held.input)
+ilbm_past place w far = walks_past ilbm_chunks ilbm_advances (λ passed. Unit {0}) w (omega arith) (omega arith)
+    (λ passed d _ h. bytes_beyond d place 8 (λ head. ilbm_named place head) h (omega arith))
+
+pub ilbm_laws : RecordedLaws 12 true 20 ilbm (records ilbm_chunks)
+ilbm_laws = record {
+  local = ilbm_local;
+  cost = λ d. omega (arith, ilbm_cost d);
+  within = λ d. omega (arith, ilbm_within d);
+  lasts = λ _ d x v is. ap (λ r. r.answer) (ilbm_lasts d x v is) ∙ is;
+}

@@ -1,0 +1,53 @@
+-- Windows icons, by ICONDIR and ICONDIRENTRY of "Icons" (Win32).
+use Rattle.std.specs.Prelude.{ℕ, ◌+◌, ◌==◌, min, Bool, List, [], ◌∷◌, length, slice_index, if◌then◌else◌, Option, None, Some, Result, Ok, Err}
+use Rattle.imagesize_types.specs.Head.{begins}
+use Rattle.imagesize_types.specs.Largest.{last_largest}
+use Rattle.imagesize_types.specs.declared.size.ImageSize.{ImageSize}
+use Rattle.imagesize_source.specs.declared.error.ImageError.TheVariants.{CorruptedImage}
+use Rattle.imagesize_source.specs.declared.error.ImageError.{ImageError}
+use Rattle.imagesize_source.specs.declared.util.Endian.TheVariants.{Little}
+use Rattle.imagesize_source.specs.Chain.{Said, Decided, Next, Chain, chain_at, records}
+use Rattle.imagesize_source.specs.Layout.{Layout, if_there}
+use Rattle.imagesize_source.specs.Layout.Layout.{refuse, «done»}
+use Rattle.imagesize_source.specs.Reading.{Reads, and_then, number_read, number_at}
+
+-- no reserved byte is set, and the images are icons
+unfoldable pub is_ico : List ℕ → Bool
+is_ico head = begins (0 ∷ 0 ∷ 1 ∷ 0 ∷ []) head
+
+-- one byte (bWidth, bHeight), of which 0 stands for 256
+abbrev pub icon_side : ℕ → ℕ
+icon_side byte = if byte == 0 then 256 else byte
+
+-- the size that an entry begins with
+abbrev pub icon_size : List ℕ → ImageSize
+icon_size bytes = record { width = icon_side (slice_index bytes 0); height = icon_side (slice_index bytes 1) }
+
+-- what is answered at the end of the list: of the entries that are there those of greatest area, and of these
+-- the last
+abbrev pub icon_answer : Option ImageSize → Layout (Said ImageSize ImageSize)
+icon_answer None = refuse CorruptedImage
+icon_answer (Some size) = done (Decided size)
+
+-- an entry, behind those of these sizes: 16 bytes; the end of the input ends the list
+abbrev pub icon_entry : List ImageSize → ℕ → Option (List ℕ) → Layout (Said ImageSize ImageSize)
+icon_entry sizes place None = icon_answer (last_largest sizes)
+icon_entry sizes place (Some bytes) = done (Next (icon_size bytes) (place + 16))
+
+-- as many entries as there are images (idCount), behind the count
+abbrev pub icon_entries : ℕ → Chain ImageSize ImageSize
+icon_entries count = record {
+  first = 6;
+  said = λ sizes place. if length sizes == count then icon_answer (last_largest sizes) else if_there place 2 (icon_entry sizes place);
+}
+
+abbrev pub ico : List ℕ → Reads ImageSize
+ico d = and_then (number_read d Little 4 2) (λ count. chain_at (icon_entries count) d)
+
+-- how many entries are begun: the end of the list begins none
+abbrev pub begun_of : List ℕ → Result ℕ ImageError → ℕ
+begun_of d (Ok count) = min count (records (icon_entries count) d)
+begun_of d (Err e) = 0
+
+abbrev pub entries_begun : List ℕ → ℕ
+entries_begun d = begun_of d (number_at d Little 4 2)

@@ -1,0 +1,59 @@
+-- Interleaved bitmaps, by "EA IFF 85" and its supplement "ILBM".
+use Rattle.std.specs.Prelude.{ℕ, ◌+◌, ◌%◌, Bool, List, codes, drop, ◌||◌, ◌&&◌, if◌then◌else◌}
+use Rattle.imagesize_types.specs.Head.{begins, stands_at}
+use Rattle.imagesize_walked.specs.declared.formats.ilbm.Chunk.{Chunk}
+use Rattle.imagesize_walked.specs.declared.formats.ilbm.Chunk.TheVariants.{Header, Other}
+use Rattle.imagesize_types.specs.declared.size.ImageSize.{ImageSize}
+use Rattle.imagesize_source.specs.declared.error.ImageError.TheVariants.{CorruptedImage}
+use Rattle.imagesize_source.specs.declared.util.Endian.TheVariants.{Big}
+use Rattle.imagesize_source.specs.Chain.{Said, Decided, Next, Chain, chain_at}
+use Rattle.imagesize_source.specs.Layout.{Layout, bytes}
+use Rattle.imagesize_source.specs.Layout.Layout.{field, refuse, «done»}
+use Rattle.imagesize_source.specs.Numbers.{number}
+use Rattle.imagesize_source.specs.Reading.{Reads}
+
+-- an IFF form of the type ILBM or PBM
+unfoldable pub is_ilbm : List ℕ → Bool
+is_ilbm head = begins (codes "FORM") head && (stands_at 8 (codes "ILBM") head || stands_at 8 (codes "PBM ") head)
+
+-- the first two fields of the bitmap header ("ILBM", section 2.2, BMHD)
+abbrev pub bitmap_header : ℕ → Layout (Said (Unit {0}) ImageSize)
+bitmap_header place = field Big (place + 8) 2 (λ width. field Big (place + 10) 2 (λ height. done (Decided (record { width = width; height = height }))))
+
+-- how many bytes a chunk has: its name and its length, its data, and behind odd data a byte of padding
+-- ("EA IFF 85", section 3, Chunks)
+abbrev pub chunk_bytes : ℕ → ℕ
+chunk_bytes length = 8 + (length + length % 2)
+
+-- the names of the bitmap header and of the pixels, which follow it
+abbrev pub is_bitmap_header : List ℕ → Bool
+is_bitmap_header head = begins (codes "BMHD") head
+
+abbrev pub is_body : List ℕ → Bool
+is_body head = begins (codes "BODY") head
+
+-- the length of a chunk's data
+unfoldable pub chunk_length : List ℕ → ℕ
+chunk_length head = number Big (drop 4 head)
+
+abbrev pub ilbm_named : ℕ → List ℕ → Layout (Said (Unit {0}) ImageSize)
+ilbm_named place head =
+    if is_bitmap_header head then bitmap_header place
+    else if is_body head then refuse CorruptedImage
+    else done (Next tt (place + chunk_bytes (chunk_length head)))
+
+abbrev pub ilbm_chunk : ℕ → Layout (Said (Unit {0}) ImageSize)
+ilbm_chunk place = bytes place 8 (λ head. ilbm_named place head)
+
+-- the chunks behind the form's type
+abbrev pub ilbm_chunks : Chain (Unit {0}) ImageSize
+ilbm_chunks = record { first = 12; said = λ passed place. ilbm_chunk place }
+
+-- the first bitmap header before the pixels
+abbrev pub ilbm : List ℕ → Reads ImageSize
+ilbm d = chain_at ilbm_chunks d
+
+-- what a chunk at a place says
+abbrev pub chunk_said : ℕ → Chunk → Said (Unit {0}) ImageSize
+chunk_said place (Header size) = Decided size
+chunk_said place (Other length) = Next tt (place + chunk_bytes length)

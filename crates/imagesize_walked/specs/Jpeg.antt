@@ -1,0 +1,81 @@
+-- JPEG, by ITU-T T.81, annex B.
+use Rattle.std.specs.Prelude.{◌≡◌, ℕ, ◌+◌, ◌-◌, ◌<◌, Bool, ◌&&◌, ◌||◌, not, List, [], ◌∷◌, ◌==◌, nat_le, if◌then◌else◌, slice_index, count_by}
+use Rattle.imagesize_types.specs.Head.{begins}
+use Rattle.imagesize_walked.specs.declared.formats.jpeg.Segment.{Segment}
+use Rattle.imagesize_walked.specs.declared.formats.jpeg.Segment.TheVariants.{Frame, Other}
+use Rattle.imagesize_types.specs.declared.size.ImageSize.{ImageSize}
+use Rattle.imagesize_source.specs.declared.error.ImageError.TheVariants.{CorruptedImage}
+use Rattle.imagesize_source.specs.declared.util.Endian.TheVariants.{Big}
+use Rattle.imagesize_source.specs.Chain.{Said, Decided, Next, Chain, chain_at}
+use Rattle.imagesize_source.specs.Layout.{Layout, bytes}
+use Rattle.imagesize_source.specs.Layout.Layout.{field, refuse, «done»}
+use Rattle.imagesize_source.specs.Reading.{Reads}
+
+-- the start of the image, and the start of another marker
+unfoldable pub is_jpeg : List ℕ → Bool
+is_jpeg head = begins (0xFF ∷ 0xD8 ∷ 0xFF ∷ []) head
+
+-- The markers that start a frame (table B.1): those from C0 to CF, but for the ones of Huffman tables, of
+-- extensions and of arithmetic coding conditions.
+abbrev pub is_frame : ℕ → Bool
+is_frame marker = nat_le 0xC0 marker && nat_le marker 0xCF && not (marker == 0xC4 || marker == 0xC8 || marker == 0xCC)
+
+-- how many images were started by segments with these markers (B.1.1.3, SOI)
+abbrev pub started : List ℕ → ℕ
+started markers = count_by (λ marker. marker == 0xD8) markers
+
+-- and how many were ended (B.1.1.3, EOI)
+abbrev pub ended : List ℕ → ℕ
+ended markers = count_by (λ marker. marker == 0xD9) markers
+
+-- how deep within the image, as that of a thumbnail, the segment behind such segments stands
+abbrev pub depth : List ℕ → ℕ
+depth markers = started markers - ended markers
+
+-- the header of a frame: behind its length and its precision the number of lines and the samples of a line (B.2.2)
+abbrev pub jpeg_frame : ℕ → Layout (Said ℕ ImageSize)
+jpeg_frame place = field Big (place + 5) 2 (λ height. field Big (place + 7) 2 (λ width. done (Decided (record { width = width; height = height }))))
+
+-- any other segment: its length counts the bytes behind the marker (B.1.1.4)
+abbrev pub jpeg_other : ℕ → ℕ → Layout (Said ℕ ImageSize)
+jpeg_other place marker = field Big (place + 2) 2 (λ length. done (Next marker (place + (2 + length))))
+
+-- a frame of the image itself, and its end
+abbrev pub is_own_frame : ℕ → ℕ → Bool
+is_own_frame depth marker = depth == 0 && is_frame marker
+
+abbrev pub is_own_end : ℕ → ℕ → Bool
+is_own_end depth marker = depth == 0 && marker == 0xD9
+
+abbrev pub jpeg_marked : ℕ → ℕ → ℕ → Layout (Said ℕ ImageSize)
+jpeg_marked depth place marker =
+    if is_own_frame depth marker then jpeg_frame place
+    else if is_own_end depth marker then refuse CorruptedImage
+    else jpeg_other place marker
+
+-- a segment begins with FF and its marker (B.1.1.2)
+abbrev pub jpeg_segment : ℕ → ℕ → Layout (Said ℕ ImageSize)
+jpeg_segment depth place = bytes place 2 (λ head.
+    if slice_index head 0 == 0xFF then jpeg_marked depth place (slice_index head 1) else refuse CorruptedImage)
+
+-- the segments behind the start of the image, which hold their markers
+abbrev pub jpeg_segments : Chain ℕ ImageSize
+jpeg_segments = record { first = 2; said = λ markers place. jpeg_segment (depth markers) place }
+
+-- the first frame that is of the image itself
+abbrev pub jpeg : List ℕ → Reads ImageSize
+jpeg d = chain_at jpeg_segments d
+
+-- what a segment at a place says
+abbrev pub segment_said : ℕ → Segment → Said ℕ ImageSize
+segment_said place (Frame size) = Decided size
+segment_said place (Other marker length) = Next marker (place + (2 + length))
+
+-- an image that ends, and is not the whole, was started
+abbrev pub EndsInner : ℕ → Segment → Type 0
+EndsInner depth (Frame size) = Unit {0}
+EndsInner depth (Other marker length) = marker ≡ 0xD9 → 0 < depth
+
+-- the depth behind a segment
+abbrev pub depth_behind : ℕ → ℕ → ℕ
+depth_behind depth marker = if marker == 0xD8 then depth + 1 else if marker == 0xD9 then depth - 1 else depth

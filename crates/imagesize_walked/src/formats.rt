@@ -1,0 +1,6 @@
+//! The formats of records.
+
+pub mod ico;
+pub mod ilbm;
+pub mod jpeg;
+pub mod tiff;

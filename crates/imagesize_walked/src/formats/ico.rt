@@ -1,0 +1,95 @@
+//! Windows icons, by `ICONDIR` and `ICONDIRENTRY` of "Icons" (Win32).
+ghost use Rattle.std.specs.Prelude.{◌≡◌, ◌+◌, ◌*◌, Some, ok_or};
+ghost use Rattle.imagesize_walked.specs.Ico.{ico, icon_entries, icon_side, icon_size, is_ico};
+ghost use Rattle.imagesize_types.specs.Largest.{later_largest};
+ghost use Rattle.imagesize_source.specs.declared.error.ImageError.TheVariants as error;
+ghost use Rattle.imagesize_source.specs.Chain.{chain_at};
+ghost use Rattle.imagesize_source.specs.Layout.{if_there, over};
+ghost use Rattle.imagesize_source.specs.Layout.Layout.{«done»};
+ghost use Rattle.imagesize_source.specs.State.{Runs, Sound};
+
+use imagesize_source::source::Source;
+use imagesize_source::util::{Endian, read_if_there, read_u16};
+use imagesize_source::{ImageError, ImageResult};
+use imagesize_types::size::{ImageSize, area};
+
+/// Whether a directory of icons stands first.
+#[inline]
+#[tactic(auto, unfolding(crate::specs::Ico::is_ico))]
+pub fn matches(head: &[u8; 12]) -> bool
+    ensures { result ≡ is_ico head.now }
+{
+    matches!(head, [0, 0, 1, 0, ..])
+}
+
+/// The width and the height of the image of greatest area, and of several the last.
+#[tactic(auto, using(imagesize_source::proofs::Runs::steps))]
+pub fn size<S: Source>(source: &mut S) -> ImageResult<ImageSize>
+    ensures { Runs (S.state source.old) (S.state source.new) result (ico (S.state source.old).held.input) }
+{
+    let count = read_u16(source, 4, Endian::Little)?;
+    largest(source, count)
+}
+
+// The largest of so many images, of which those count whose entries are there.
+fn largest<S: Source>(source: &mut S, count: u16) -> ImageResult<ImageSize>
+    requires { Sound (S.state source.old) }
+    ensures { Runs (S.state source.old) (S.state source.new) result
+        (chain_at (icon_entries count) (S.state source.old).held.input) }
+{
+    let mut best: Option<ImageSize> = None;
+    for index in 0..count {
+        let Some(bytes) = read_entry(source, index)? else {
+            return answer(best);
+        };
+        best = Some(larger(best, icon_size(bytes)));
+    }
+    answer(best)
+}
+
+// The first two bytes of an entry, or none where the input ends before the second.
+#[inline]
+fn read_entry<S: Source>(source: &mut S, index: u16) -> ImageResult<Option<[u8; 2]>>
+    ensures { Runs (S.state source.old) (S.state source.new) result
+        (over (S.state source.old).held.input (if_there (6 + 16 * index) 2 done)) }
+{
+    read_if_there::<S, 2>(source, 6 + 16 * index as u64)
+}
+
+// What is answered at the end of the list.
+fn answer(best: Option<ImageSize>) -> ImageResult<ImageSize>
+    ensures { result ≡ ok_or best error.CorruptedImage }
+{
+    best.ok_or(ImageError::CorruptedImage)
+}
+
+// The one of greater area, and of two that are alike the second.
+fn larger(best: Option<ImageSize>, size: ImageSize) -> ImageSize
+    ensures { Some result ≡ later_largest best size }
+{
+    match best {
+        Some(best) if area(&best) > area(&size) => best,
+        _ => size,
+    }
+}
+
+// The size that an entry begins with.
+fn icon_size(bytes: [u8; 2]) -> ImageSize
+    ensures { result ≡ icon_size bytes }
+{
+    let [width, height] = bytes;
+    ImageSize {
+        width: icon_side(width),
+        height: icon_side(height),
+    }
+}
+
+// A width or a height, of which 0 stands for 256.
+fn icon_side(byte: u8) -> usize
+    ensures { result ≡ icon_side byte }
+{
+    if byte == 0 { 256 } else { byte as usize }
+}
+
+#[cfg(test)]
+mod tests;

@@ -1,0 +1,111 @@
+//! JPEG, by ITU-T T.81, annex B: its segments up to the first frame that is of the image itself.
+ghost use Rattle.std.specs.Prelude.{◌≡◌, ◌<◌, ◌+◌, ◌^◌, IfOk};
+ghost use Rattle.imagesize_walked.specs.Jpeg.{EndsInner, depth_behind, is_frame, is_jpeg, is_own_end, is_own_frame, jpeg, jpeg_segment, segment_said};
+ghost use Rattle.imagesize_source.specs.Layout.{over};
+ghost use Rattle.imagesize_source.specs.Paying.{Nears};
+ghost use Rattle.imagesize_source.specs.Reading.{seen};
+ghost use Rattle.imagesize_source.specs.State.{Runs};
+
+use imagesize_source::source::Source;
+use imagesize_source::util::{Endian, place_behind, read_bytes, read_u16_behind};
+use imagesize_source::{ImageError, ImageResult};
+use imagesize_types::size::ImageSize;
+
+/// Whether the start of the image stands first, and another marker behind it.
+#[inline]
+#[tactic(auto, unfolding(crate::specs::Jpeg::is_jpeg))]
+pub fn matches(head: &[u8; 12]) -> bool
+    ensures { result ≡ is_jpeg head.now }
+{
+    matches!(head, [0xFF, 0xD8, 0xFF, ..])
+}
+
+/// The lines, and the samples of a line, of the first frame that is not that of an image within the image.
+pub fn size<S: Source>(source: &mut S) -> ImageResult<ImageSize>
+    ensures { Runs (S.state source.old) (S.state source.new) result (jpeg (S.state source.old).held.input) }
+{
+    let mut place: u64 = 2;
+    let mut depth: u64 = 0;
+    loop {
+        match read_segment(source, place, depth)? {
+            Segment::Frame(size) => return Ok(size),
+            Segment::Other { marker, length } => {
+                depth = depth_behind(depth, marker);
+                place = place_behind(place, 2 + length as u64)?;
+            }
+        }
+    }
+}
+
+// What a segment says.
+enum Segment {
+    // The size, by the frame of the image itself.
+    Frame(ImageSize),
+    // Nothing of the size. The next segment stands so many bytes behind the marker.
+    Other { marker: u8, length: u16 },
+}
+
+// The segment at a place, which stands so deep within the image.
+#[tactic(auto, using(imagesize_source::proofs::Runs::steps))]
+fn read_segment<S: Source>(source: &mut S, place: u64, depth: u64) -> ImageResult<Segment>
+    ensures nears { IfOk result (λ found. Nears (S.state source.old) (S.state source.new) place (segment_said place found)) }
+    ensures inner { IfOk result (λ found. EndsInner depth found) }
+    ensures runs { Runs (S.state source.old) (S.state source.new) (seen (λ found. segment_said place found) result)
+        (over (S.state source.old).held.input (jpeg_segment depth place)) }
+{
+    let [first, marker] = read_bytes::<S, 2>(source, place)?;
+    if first != 0xFF {
+        return Err(ImageError::CorruptedImage);
+    }
+    if is_own_frame(depth, marker) {
+        let height = read_u16_behind(source, place, 5, Endian::Big)? as usize;
+        let width = read_u16_behind(source, place, 7, Endian::Big)? as usize;
+        return Ok(Segment::Frame(ImageSize { width, height }));
+    }
+    if is_own_end(depth, marker) {
+        return Err(ImageError::CorruptedImage);
+    }
+    let length = read_u16_behind(source, place, 2, Endian::Big)?;
+    Ok(Segment::Other { marker, length })
+}
+
+// Whether a marker starts a frame.
+#[inline]
+fn is_frame(marker: u8) -> bool
+    ensures { result ≡ is_frame marker }
+{
+    matches!(marker, 0xC0..=0xCF) && !matches!(marker, 0xC4 | 0xC8 | 0xCC)
+}
+
+// Whether a marker starts a frame of the image itself.
+#[inline]
+fn is_own_frame(depth: u64, marker: u8) -> bool
+    ensures { result ≡ is_own_frame depth marker }
+{
+    depth == 0 && is_frame(marker)
+}
+
+// Whether a marker ends the image itself.
+#[inline]
+fn is_own_end(depth: u64, marker: u8) -> bool
+    ensures { result ≡ is_own_end depth marker }
+{
+    depth == 0 && marker == 0xD9
+}
+
+// The depth behind a segment with this marker.
+#[inline]
+fn depth_behind(depth: u64, marker: u8) -> u64
+    requires fits { depth + 1 < 2 ^ 64 }
+    requires inner { marker ≡ 0xD9 → 0 < depth }
+    ensures { result ≡ depth_behind depth marker }
+{
+    match marker {
+        0xD8 => depth + 1,
+        0xD9 => depth - 1,
+        _ => depth,
+    }
+}
+
+#[cfg(test)]
+mod tests;

@@ -1,0 +1,4 @@
+//! Formats whose sizes stand behind records.
+#![tactic(auto)]
+
+pub mod formats;
