@@ -18,6 +18,7 @@ use Rattle.imagesize_source.specs.declared.util.Endian.TheVariants.{Little, Big}
 use Rattle.imagesize_source.specs.Chain.{Said, Decided, Next, Chain, chain_at, records}
 use Rattle.imagesize_source.specs.Layout.{Layout, over, bind, if_there, bytes}
 use Rattle.imagesize_source.specs.Layout.Layout.{field, refuse, «done»}
+
 use Rattle.imagesize_source.specs.Numbers.{number}
 use Rattle.imagesize_source.specs.Reading.{Reads, and_then, number_at, number_read}
 
