@@ -18,6 +18,7 @@ use Rattle.imagesize_fixed.proofs.Webp.{webp_laws}
 use Rattle.imagesize_walked.proofs.Ico.{ico_laws}
 use Rattle.imagesize_walked.proofs.Ilbm.{ilbm_laws}
 use Rattle.imagesize_walked.proofs.Jpeg.{jpeg_laws}
+use Rattle.imagesize_walked.proofs.Tiff.{tiff_laws}
 use Rattle.imagesize.proofs.Detection.{kind_cost}
 use Rattle.imagesize.specs.Counts.{lasts}
 use Rattle.imagesize.specs.Meaning.{way_of}
@@ -48,6 +49,6 @@ laws_of (Pvrtc _) = pvrtc_laws
 laws_of Psd = psd_laws
 laws_of Qoi = qoi_laws
 laws_of Tga = tga_laws
-laws_of Tiff = record { few = tt; plain = tt }
+laws_of Tiff = tiff_laws
 laws_of Vtf = vtf_laws
 laws_of Webp = webp_laws

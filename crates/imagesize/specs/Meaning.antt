@@ -11,6 +11,7 @@ use Rattle.imagesize_fixed.specs.Gif.{gif}
 use Rattle.imagesize_walked.specs.Ico.{ico, entries_begun}
 use Rattle.imagesize_walked.specs.Ilbm.{ilbm, ilbm_chunks}
 use Rattle.imagesize_walked.specs.Jpeg.{jpeg, jpeg_segments}
+use Rattle.imagesize_walked.specs.Tiff.{tiff, entries_begun as tiff_begun}
 use Rattle.imagesize.specs.Kind.{kind}
 use Rattle.imagesize_fixed.specs.Ktx2.{ktx2}
 use Rattle.imagesize_fixed.specs.Pkm.{pkm}
@@ -62,7 +63,7 @@ way_of (Pvrtc _) = Fixed pvrtc
 way_of Psd = Fixed psd
 way_of Qoi = Fixed qoi
 way_of Tga = Fixed tga
-way_of Tiff = unread
+way_of Tiff = Recorded 20 tiff tiff_begun
 way_of Vtf = Fixed vtf
 way_of Webp = Fixed webp
 

@@ -1,1 +1,5 @@
+pub mod Fields
+pub mod Heads
+pub mod Jxl
+pub mod Places
 pub mod Heif

@@ -4,9 +4,13 @@
 #[cfg(test)]
 mod calls;
 #[cfg(test)]
+mod heif;
+#[cfg(test)]
 mod long;
 pub mod readers;
 #[cfg(test)]
 mod rows;
 #[cfg(test)]
 mod strange;
+#[cfg(test)]
+mod tiff;

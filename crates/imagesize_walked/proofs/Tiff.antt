@@ -15,29 +15,32 @@ use Rattle.imagesize_walked.specs.declared.formats.tiff.Version.TheVariants.{Tif
 use Rattle.imagesize_types.specs.declared.size.ImageSize.{ImageSize}
 use Rattle.imagesize_source.specs.declared.error.ImageError.{ImageError}
 use Rattle.imagesize_source.specs.declared.error.ImageError.TheVariants.{IoError}
-use Rattle.imagesize_source.specs.declared.error.Reason.TheVariants.{InvalidIfdOffset, InvalidIfdValueLength, NoDimensionsInIfd}
+use Rattle.imagesize_source.specs.declared.error.Reason.TheVariants.{InvalidIfdValueLength, NoDimensionsInIfd}
 use Rattle.imagesize_source.specs.declared.util.Endian.{Endian}
 use Rattle.imagesize_source.specs.Agreement.{Local}
 use Rattle.imagesize_source.specs.Chain.{Said, Decided, Next, Along, Advances, start, next_record, records, records_from, verdict, chain_at}
 use Rattle.imagesize_source.specs.Counts.{AtMost}
+use Rattle.imagesize_source.specs.Extension.{Never, Plain}
 use Rattle.imagesize_source.specs.Input.{span_of}
 use Rattle.imagesize_source.specs.Layout.{Layout, over, bind, whole}
 use Rattle.imagesize_source.specs.Layout.Layout.{field, refuse, «done»}
-use Rattle.imagesize_source.specs.Reading.{onward, end_of_input, number_at, number_read}
+use Rattle.imagesize_source.specs.Numbers.{number}
+use Rattle.imagesize_source.specs.Reading.{and_then, onward, end_of_input, number_at, number_read, seen}
 use Rattle.imagesize_source.specs.State.{State, Runs, Sound, total}
 use Rattle.imagesize_source.proofs.Advances.{Tells, Begins, advances}
 use Rattle.imagesize_source.proofs.Ahead.{Ahead, chain_ahead}
 use Rattle.imagesize_source.proofs.PastTheEnd.{bytes_beyond}
-use Rattle.imagesize_source.proofs.ChainLaws.{local_chain, chain_cost, chain_induction}
+use Rattle.imagesize_source.proofs.ChainLaws.{local_chain, lasts_chain, chain_cost, chain_induction}
 use Rattle.imagesize_source.proofs.Chains.{records_next, records_stop}
 use Rattle.imagesize_source.proofs.Counts.{at_most, at_most_bind, then_within, total-span_of, total_behind}
 use Rattle.imagesize_source.proofs.Answered.{on_answer}
 use Rattle.imagesize_source.proofs.Layouts.{runs_as}
 use Rattle.imagesize_source.proofs.Agreement.{local_layout, local_number, local_then}
-use Rattle.imagesize_source.proofs.Extension.{number_ok}
+use Rattle.imagesize_source.proofs.Extension.{bytes_more, more, number_ok}
 use Rattle.imagesize_source.proofs.Reached.{runs_bind, refused_bind}
 use Rattle.imagesize_source.proofs.Runs.{total-append}
 use Rattle.imagesize_source.proofs.Tests.{on_test}
+use Rattle.imagesize_source.proofs.Way.{RecordedLaws}
 use Rattle.imagesize_source.proofs.Walks.{Walks, walks_start, walks_on, walks_stop, walks_out, walks_now}
 
 -- what holds of a refusal and of what goes on
@@ -46,7 +49,7 @@ by_accepted P (Ok x) f g out on = on x
 by_accepted P (Err e) f g out on = out e
 
 -- and of a value that is cut, and of one that is whole
-by_whole : {Y Z : Type 0} (P : Layout Z → Type 0) (found : Option (List ℕ)) (f : List ℕ → Layout Y) (g : Y → Layout Z) → P (refuse (IoError InvalidIfdValueLength)) → ((value : List ℕ) → P (bind (f value) g)) → P (bind (bind (whole_value found) f) g)
+by_whole : {Y Z : Type 0} (P : Layout Z → Type 0) (found : Option (List ℕ)) (f : List ℕ → Layout Y) (g : Y → Layout Z) → P (refuse (IoError InvalidIfdValueLength)) → ((value : List ℕ) → P (bind (f value) g)) → P (bind (bind (accepted (whole_value found) done) f) g)
 by_whole P None f g cut on = cut
 by_whole P (Some value) f g cut on = on (take 4 value)
 
@@ -83,7 +86,7 @@ by_completed P (Some x) entry next stop on = stop x
 -- and where the value is cut, where the entry completes the size and where it does not
 by_value : (P : Layout (Said Entry ImageSize) → Type 0) (header : Header) (entries : List Entry) (place : ℕ) (head : List ℕ) (kind : Kind) (value : List ℕ) → P (refuse (IoError InvalidIfdValueLength))
     → ((size : ImageSize) → P (done (Decided size))) → ((entry : Entry) → P (done (Next entry (place + entry_bytes header.version))))
-    → P (bind (bind (whole_value (whole (value_bytes header.version) value)) (λ value. done (entry_of header head kind value))) (says header entries place))
+    → P (bind (bind (accepted (whole_value (whole (value_bytes header.version) value)) done) (λ value. done (entry_of header head kind value))) (says header entries place))
 by_value P header entries place head kind value cut stop on =
     by_whole P (whole (value_bytes header.version) value) (λ value. done (entry_of header head kind value)) (says header entries place) cut
     (λ value. let entry : Entry = entry_of header head kind value in by_completed P (size_in (entries ++ entry ∷ [])) entry (place + entry_bytes header.version) stop (on entry))
@@ -244,17 +247,21 @@ record_at_most : (header : Header) (entries : List Entry) (place : ℕ) → AtMo
 unfolding tiff_entry tiff_head tiff_value
 record_at_most header entries place =
     let behind_head : ℕ = 20 - head_bytes header.version in
-    let behind_value : ℕ = behind_head - value_bytes header.version in
-    (omega (arith, entry_few header.version), λ head. by_kind (AtMost behind_head) header entries place (take 4 head) (λ e. tt)
-    (λ kind. (omega (arith, entry_few header.version), λ value. by_value (AtMost behind_value) header entries place (take 4 head) kind value tt (λ size. tt) (λ entry. tt))))
+    let behind_value : ℕ = behind_head - value_bytes header.version in (
+      omega (arith, entry_few header.version),
+      λ head. by_kind (AtMost behind_head) header entries place (take 4 head) (λ e. tt)
+          (λ kind. (omega (arith, entry_few header.version), λ value. by_value (AtMost behind_value) header entries place (take 4 head) kind value tt (λ size. tt) (λ entry. tt))),
+    )
 
 record_ahead : (header : Header) (entries : List Entry) (place : ℕ) → Ahead place (record_behind header entries place)
 unfolding tiff_entry tiff_head tiff_value
 record_ahead header entries place =
     let behind_head : ℕ = place + head_bytes header.version in
-    let behind_value : ℕ = behind_head + value_bytes header.version in
-    (omega arith, λ head. by_kind (Ahead behind_head) header entries place (take 4 head) (λ e. tt)
-    (λ kind. (omega arith, λ value. by_value (Ahead behind_value) header entries place (take 4 head) kind value tt (λ size. tt) (λ entry. omega arith))))
+    let behind_value : ℕ = behind_head + value_bytes header.version in (
+      omega arith,
+      λ head. by_kind (Ahead behind_head) header entries place (take 4 head) (λ e. tt)
+          (λ kind. (omega arith, λ value. by_value (Ahead behind_value) header entries place (take 4 head) kind value tt (λ size. tt) (λ entry. omega arith))),
+    )
 
 entries_within : (header : Header) (count : ℕ) (d : List ℕ) → total (chain_at (tiff_entries header count) d).marks ≤ length d - (header.directory + count_bytes header.version)
 entries_within header count d = chain_ahead (tiff_entries header count) d (entries_advance header count d)
@@ -273,22 +280,33 @@ directory_within d header =
     omega arith)
     (λ e is. omega arith)
 
+-- the header whose directory stands at a place
+abbrev placed : Endian → Version → ℕ → Layout Header
+placed order version place = accepted (directory_at order version place) done
+
 stated_at_most : (order : Endian) (version : Version) → AtMost 12 (stated_place order version)
 unfolding stated_place
 stated_at_most order Tiff = (omega arith, λ place. tt)
-stated_at_most order BigTiff =
-    (omega arith, λ size. on_test (AtMost 10) (eqb size 8) _ _
-    (λ _. (omega arith, λ zeros. on_test (AtMost 8) (eqb zeros 0) (field order 8 8 done) _ (λ _. (omega arith, λ place. tt)) (λ _. tt)))
-    (λ _. tt))
+stated_at_most order BigTiff = (
+  omega arith,
+  λ size. on_test (AtMost 10) (eqb size 8) _ _
+      (λ _. (omega arith, λ zeros. on_test (AtMost 8) (eqb zeros 0) (field order 8 8 done) _ (λ _. (omega arith, λ place. tt)) (λ _. tt)))
+      (λ _. tt),
+)
 
 -- the header is read from at most 16 bytes
 header_at_most : AtMost 16 tiff_header
 unfolding tiff_header
-header_at_most =
-    (omega arith, λ mark. accepted_at_most 14 (byte_order mark) (λ order. field order 2 2 (λ number. accepted (version_of number) (λ version. bind (stated_place order version) (directory_at order version))))
-    (λ order. (omega arith, λ number. accepted_at_most 12 (version_of number) (λ version. bind (stated_place order version) (directory_at order version))
-    (λ version. at_most_bind 12 0 (stated_place order version) (directory_at order version) (stated_at_most order version)
-    (λ place. on_test (AtMost 0) (eqb place 0) (refuse (IoError InvalidIfdOffset)) (done (record { order = order; version = version; directory = place })) (λ _. tt) (λ _. tt))))))
+header_at_most = (
+  omega arith,
+  λ mark. accepted_at_most 14 (byte_order mark) (λ order. field order 2 2 (λ number. accepted (version_of number) (λ version. bind (stated_place order version) (placed order version))))
+      (λ order. (
+        omega arith,
+        λ number. accepted_at_most 12 (version_of number) (λ version. bind (stated_place order version) (placed order version))
+            (λ version. at_most_bind 12 0 (stated_place order version) (placed order version) (stated_at_most order version)
+            (λ place. accepted_at_most 0 (directory_at order version place) done (λ header. tt))),
+      )),
+)
 
 -- header and directory are read from at most 16 bytes more than the input has, since the directory may stand in the header
 pub tiff_within : (d : List ℕ) → total (tiff d).marks ≤ length d + 20
@@ -336,3 +354,65 @@ tiff_cost d = cost_by (over d tiff_header).answer where
       let rest = directory_cost d header in
       omega arith
   cost_by (Err e) = let first = at_most d 16 tiff_header header_at_most in omega arith
+
+-- a value that is cut is refused
+cut_never : {Y Z : Type 0} (k : ℕ) (value : List ℕ) (f : List ℕ → Layout Y) (g : Y → Layout Z) → length value < k → Never (bind (bind (accepted (whole_value (whole k value)) done) f) g)
+cut_never k value f g short =
+    let none : whole k value ≡ None = grind (arith, nat_tests) in
+    subst (λ found. Never (bind (bind (accepted (whole_value found) done) f) g)) (sym none) tt
+
+record_plain : (header : Header) (entries : List Entry) (place : ℕ) → Plain (record_behind header entries place)
+unfolding tiff_entry tiff_head tiff_value
+record_plain header entries place = λ head. by_kind Plain header entries place (take 4 head) (λ e. tt)
+    (λ kind value. (
+      cut_never (value_bytes header.version) value (λ value. done (entry_of header (take 4 head) kind value)) (says header entries place),
+      by_value Plain header entries place (take 4 head) kind value tt (λ size. tt) (λ entry. tt),
+    ))
+
+accepted_plain : {X Y : Type 0} (r : Result X ImageError) (f : X → Layout Y) → ((x : X) → Plain (f x)) → Plain (accepted r f)
+accepted_plain (Ok x) f each = each x
+accepted_plain (Err e) f each = tt
+
+stated_plain : (order : Endian) (version : Version) → Plain (bind (stated_place order version) (placed order version))
+unfolding stated_place
+stated_plain order Tiff = λ place. accepted_plain (directory_at order Tiff place) done (λ header. tt)
+stated_plain order BigTiff = λ size. on_test (λ t. Plain (bind t (placed order BigTiff))) (eqb size 8) _ _
+    (λ _ zeros. on_test (λ t. Plain (bind t (placed order BigTiff))) (eqb zeros 0) (field order 8 8 done) _ (λ _ place. accepted_plain (directory_at order BigTiff place) done (λ header. tt)) (λ _. tt))
+    (λ _. tt)
+
+header_plain : Plain tiff_header
+unfolding tiff_header
+header_plain = λ mark. accepted_plain (byte_order mark) (λ order. field order 2 2 (λ number. accepted (version_of number) (λ version. bind (stated_place order version) (placed order version))))
+    (λ order number. accepted_plain (version_of number) (λ version. bind (stated_place order version) (placed order version))
+    (λ version. stated_plain order version))
+
+-- bytes that follow change no number that was there
+count_more : (d x : List ℕ) (order : Endian) (place k count : ℕ) → number_at d order place k ≡ Ok count → number_at (d ++ x) order place k ≡ Ok count
+unfolding number_at
+count_more d x order place k count is = ap (seen (number order)) (bytes_more d x place k (number_ok d order place k count is)) ∙ is
+
+directory_lasts : (d x : List ℕ) (header : Header) (size : ImageSize) → (tiff_directory d header).answer ≡ Ok size → (tiff_directory (d ++ x) header).answer ≡ Ok size
+directory_lasts d x header size = by_count_read (number_at d header.order header.directory (count_bytes header.version)) refl where
+  by_count_read : (r : Result ℕ ImageError) → number_at d header.order header.directory (count_bytes header.version) ≡ r → (onward (span_of d header.directory (count_bytes header.version)) r (λ count. chain_at (tiff_entries header count) d)).answer ≡ Ok size → (tiff_directory (d ++ x) header).answer ≡ Ok size
+  by_count_read (Ok count) read is =
+      let read_more = count_more d x header.order header.directory (count_bytes header.version) count read in
+      let same = lasts_chain (tiff_entries header count) (entries_advance header count) (λ entries place. by_count Plain header count entries place tt (record_plain header entries place)) d x size is in
+      ap (λ r. (onward (span_of (d ++ x) header.directory (count_bytes header.version)) r (λ count. chain_at (tiff_entries header count) (d ++ x))).answer) read_more ∙ ap (λ w. w.answer) same ∙ is
+  by_count_read (Err e) read is = absurd cc
+
+-- bytes that follow change no size
+pub tiff_lasts : (d x : List ℕ) (size : ImageSize) → (tiff d).answer ≡ Ok size → (tiff (d ++ x)).answer ≡ Ok size
+tiff_lasts d x size = by_header (over d tiff_header).answer refl where
+  by_header : (r : Result Header ImageError) → (over d tiff_header).answer ≡ r → (onward (over d tiff_header).marks r (tiff_directory d)).answer ≡ Ok size → (tiff (d ++ x)).answer ≡ Ok size
+  by_header (Ok header) read is =
+      let same = more d x tiff_header header header_plain read in
+      ap (λ w. (and_then w (tiff_directory (d ++ x))).answer) same ∙ ap (λ r. (onward (over d tiff_header).marks r (tiff_directory (d ++ x))).answer) read ∙ directory_lasts d x header size is
+  by_header (Err e) read is = absurd cc
+
+pub tiff_laws : RecordedLaws 12 true 20 tiff entries_begun
+tiff_laws = record {
+  local = tiff_local;
+  cost = λ d. omega (arith, tiff_cost d);
+  within = tiff_within;
+  lasts = λ _. tiff_lasts;
+}

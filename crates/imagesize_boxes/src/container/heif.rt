@@ -16,7 +16,7 @@ use imagesize_types::compression::Compression;
 use imagesize_types::size::{ImageSize, area};
 
 /// Whether a box of the type of files stands first.
-#[inline]
+#[inline(always)]
 #[tactic(auto, unfolding(crate::specs::Heif::is_heif))]
 pub fn matches(head: &[u8; 12]) -> bool
     ensures { result ≡ is_heif head.now }
@@ -62,6 +62,7 @@ fn compatible_compression(brands: &[u8; 12]) -> Compression
     brand_compression(&brands[4..8])
 }
 
+#[inline(always)]
 #[tactic(auto, unfolding(crate::specs::Heif::is_general))]
 fn is_general(brand: &[u8]) -> bool
     ensures { result ≡ is_general brand.now }
