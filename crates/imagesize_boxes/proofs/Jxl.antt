@@ -20,7 +20,7 @@ use Rattle.imagesize_source.specs.State.{State, Runs, EndedBy, Sound, total}
 use Rattle.imagesize_source.proofs.Advances.{Tells, advances}
 use Rattle.imagesize_source.proofs.Ahead.{Ahead, chain_ahead}
 use Rattle.imagesize_source.proofs.ChainLaws.{local_chain, chain_cost}
-use Rattle.imagesize_source.proofs.Local.{local_layout, local_then}
+use Rattle.imagesize_source.proofs.Agreement.{local_layout, local_then}
 use Rattle.imagesize_source.proofs.Reached.{reads_nothing}
 use Rattle.imagesize_source.proofs.Runs.{runs_then, runs_refused, total-append}
 use Rattle.imagesize_source.proofs.Tests.{on_test}

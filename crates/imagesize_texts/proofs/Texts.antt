@@ -22,7 +22,7 @@ use Rattle.imagesize_source.specs.Reading.{Reads, and_then, onward, refuses, beh
 use Rattle.imagesize_source.specs.State.{State, Runs, EndedBy}
 use Rattle.imagesize_source.specs.Text.{is_ended, skipped, delimits}
 use Rattle.imagesize_source.proofs.Advances.{Tells, Begins}
-use Rattle.imagesize_source.proofs.Count.{text_length}
+use Rattle.imagesize_source.proofs.Counts.{text_length}
 use Rattle.imagesize_source.proofs.Layouts.{runs_as}
 use Rattle.imagesize_source.proofs.Runs.{answered, part_is, part_length}
 use Rattle.imagesize_source.proofs.Spends.{Onto}

@@ -17,11 +17,11 @@ use Rattle.imagesize_source.specs.Layout.{Layout, over, refuse, done}
 use Rattle.imagesize_source.specs.Reading.{Reads, behind, bytes_at, number_at, end_of_input}
 use Rattle.imagesize_source.specs.State.{State, Runs, total}
 use Rattle.imagesize_source.proofs.Advances.{Tells, advances, tells}
-use Rattle.imagesize_source.proofs.Beyond.{bytes_beyond}
+use Rattle.imagesize_source.proofs.PastTheEnd.{bytes_beyond}
 use Rattle.imagesize_source.proofs.ChainLaws.{local_chain, lasts_chain, chain_cost, chain_within}
-use Rattle.imagesize_source.proofs.Count.{at_most, total-span_of}
-use Rattle.imagesize_source.proofs.Found.{bytes_is, part_first, big_pair, on_answer}
-use Rattle.imagesize_source.proofs.More.{bytes_ok, number_ok}
+use Rattle.imagesize_source.proofs.Counts.{at_most, total-span_of}
+use Rattle.imagesize_source.proofs.Answered.{bytes_is, part_first, big_pair, on_answer}
+use Rattle.imagesize_source.proofs.Extension.{bytes_ok, number_ok}
 use Rattle.imagesize_source.proofs.Runs.{total-append}
 use Rattle.imagesize_source.proofs.Tests.{on_test}
 use Rattle.imagesize_source.proofs.Way.{RecordedLaws}

@@ -32,9 +32,12 @@ unfolding span_of
 total-span_of d place k = let n = total-span_at place (min k (length d - place)) in omega arith
 
 -- it has those of them that are there
-pub total_behind : (d : List ℕ) (place k : ℕ) → total (span_of d place k) ≡ min k (length d - place)
+pub total_there : (d : List ℕ) (place k : ℕ) → total (span_of d place k) ≡ min k (length d - place)
 unfolding span_of
-total_behind d place k = total-span_at place (min k (length d - place))
+total_there d place k = total-span_at place (min k (length d - place))
+
+pub total_behind : (d : List ℕ) (place k : ℕ) → total (span_of d place k) ≤ length d - place
+total_behind d place k = omega (arith, total_there d place k)
 
 -- a text is no longer than the part that it is looked for in
 pub text_length : (d : List ℕ) (t : Text) (place k : ℕ) → length (text_part d t place k) ≤ length (part d place k)
@@ -79,23 +82,6 @@ at_most_bind j k (done x) g h rest = at_most_more k (j + k) (g x) (omega arith) 
 at_most_bind j k (refuse e) g h rest = tt
 at_most_bind j k (field order place n f) g h rest = let here = h.0 in (omega arith, λ v. at_most_more (j - n + k) (j + k - n) (bind (f v) g) (omega arith) (at_most_bind (j - n) k (f v) g (h.1 v) rest))
 at_most_bind j k (reading r place f) g h rest = let here = h.0 in (omega arith, λ bs. at_most_more (j - most r + k) (j + k - most r) (bind (f bs) g) (omega arith) (at_most_bind (j - most r) k (f bs) g (h.1 bs) rest))
-
--- readings change nothing of the frame
-pub past-frame : (a : State) (spans : List Span) → (past a spans).frame ≡ a.frame
-unfolding past
-past-frame a [] = refl
-past-frame a (s ∷ spans) = past-frame (step a s) spans
-
-step_taken : (a : State) (s : Span) → (step a s).taken ≤ a.taken + s.len
-step_taken a s =
-    let Goal : Bool → Type 0 = λ b. cond b (a.taken + fresh a.front s.start s.len) a.taken ≤ a.taken + s.len in
-    elim a.frame.counts as Goal [ true ↦ omega arith | false ↦ omega arith ]
-
--- readings take at most the bytes of their spans
-pub taken_past : (a : State) (spans : List Span) → (past a spans).taken ≤ a.taken + total spans
-unfolding past
-taken_past a [] = omega arith
-taken_past a (s ∷ spans) = let here = step_taken a s in let rest = taken_past (step a s) spans in omega arith
 
 count-cons : (p : ℕ → Bool) (x : ℕ) (xs : List ℕ) → count_by p (x ∷ xs) ≡ cond (p x) 1 0 + count_by p xs
 count-cons p x xs = sum_by-cons (λ y. cond (p y) 1 0) x xs

@@ -10,7 +10,7 @@ use Rattle.imagesize_source.specs.declared.util.Endian.TheVariants.{Big}
 use Rattle.imagesize_source.specs.Input.{part}
 use Rattle.imagesize_source.specs.Numbers.{number}
 use Rattle.imagesize_source.specs.Reading.{Reads, onward, behind, bytes_at, number_at}
-use Rattle.imagesize_source.proofs.More.{bytes_ok, number_ok}
+use Rattle.imagesize_source.proofs.Extension.{bytes_ok, number_ok}
 use Rattle.imagesize_source.proofs.Runs.{part_length}
 
 -- the bytes that are read
