@@ -1,4 +1,4 @@
-//! Worked inputs with their answers, and readers that cut, count, interrupt, fail and lie.
+//! Worked inputs with their answers, and readers that cut, count, interrupt, fail, lie and never end.
 #![tactic(auto)]
 
 #[cfg(test)]
