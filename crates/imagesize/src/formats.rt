@@ -112,21 +112,23 @@ pub(crate) fn size<S: Source>(source: &mut S, kind: ImageType) -> ImageResult<Im
         ImageType::Bmp => bmp::size(source),
         ImageType::Dds(_) => dds::size(source),
         ImageType::Eac(_) | ImageType::Etc2(_) => pkm::size(source),
+        ImageType::Exr => exr::size(source),
         ImageType::Farbfeld => farbfeld::size(source),
         ImageType::Gif => gif::size(source),
+        ImageType::Hdr => hdr::size(source),
         ImageType::Heif(_) => heif::size(source),
         ImageType::Ico => ico::size(source),
         ImageType::Ilbm => ilbm::size(source),
         ImageType::Jpeg => jpeg::size(source),
         ImageType::Ktx2 => ktx2::size(source),
+        ImageType::Pnm => pnm::size(source),
         ImageType::Pvrtc(_) => pvrtc::size(source),
         ImageType::Psd => psd::size(source),
         ImageType::Qoi => qoi::size(source),
         ImageType::Tga => tga::size(source),
         ImageType::Vtf => vtf::size(source),
         ImageType::Webp => webp::size(source),
-        ImageType::Exr | ImageType::Hdr | ImageType::Jxl | ImageType::Pnm | ImageType::Tiff =>
-            unsupported(source),
+        ImageType::Jxl | ImageType::Tiff => unsupported(source),
     }
 }
 

@@ -10,3 +10,5 @@ pub mod readers;
 mod rows;
 #[cfg(test)]
 mod strange;
+#[cfg(test)]
+mod texts;
