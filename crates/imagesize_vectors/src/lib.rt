@@ -19,6 +19,8 @@ mod rows;
 #[cfg(test)]
 mod strange;
 #[cfg(test)]
+mod texts;
+#[cfg(test)]
 mod tiff;
 #[cfg(test)]
 mod told;
