@@ -3,3 +3,5 @@ pub mod Kind
 pub mod Meaning
 pub mod Probed
 pub mod Queries
+pub mod Ranks
+pub mod Traced

@@ -1,5 +1,7 @@
 -- The size of an input.
 use Rattle.std.specs.Prelude.{ℕ, List, length}
+use Rattle.imagesize_boxes.specs.Jxl.{jxl, jxl_boxes}
+use Rattle.imagesize_boxes.specs.Heif.{heif, heif_boxes}
 use Rattle.imagesize_fixed.specs.Aseprite.{aseprite}
 use Rattle.imagesize_fixed.specs.Astc.{astc}
 use Rattle.imagesize_fixed.specs.Atc.{atc}
@@ -10,6 +12,7 @@ use Rattle.imagesize_fixed.specs.Gif.{gif}
 use Rattle.imagesize_walked.specs.Ico.{ico, entries_begun}
 use Rattle.imagesize_walked.specs.Ilbm.{ilbm, ilbm_chunks}
 use Rattle.imagesize_walked.specs.Jpeg.{jpeg, jpeg_segments}
+use Rattle.imagesize_walked.specs.Tiff.{tiff, entries_begun as tiff_begun}
 use Rattle.imagesize.specs.Kind.{kind}
 use Rattle.imagesize_fixed.specs.Ktx2.{ktx2}
 use Rattle.imagesize_fixed.specs.Pkm.{pkm}
@@ -50,18 +53,18 @@ way_of Exr = unread
 way_of Farbfeld = Fixed farbfeld
 way_of Gif = Fixed gif
 way_of Hdr = unread
-way_of (Heif _) = unread
+way_of (Heif _) = Recorded 20 heif heif_boxes
 way_of Ico = Recorded 20 ico entries_begun
 way_of Ilbm = Recorded 20 ilbm (records ilbm_chunks)
 way_of Jpeg = Recorded 20 jpeg (records jpeg_segments)
-way_of Jxl = unread
+way_of Jxl = Recorded 20 jxl jxl_boxes
 way_of Ktx2 = Fixed ktx2
 way_of Pnm = unread
 way_of (Pvrtc _) = Fixed pvrtc
 way_of Psd = Fixed psd
 way_of Qoi = Fixed qoi
 way_of Tga = Fixed tga
-way_of Tiff = unread
+way_of Tiff = Recorded 20 tiff tiff_begun
 way_of Vtf = Fixed vtf
 way_of Webp = Fixed webp
 

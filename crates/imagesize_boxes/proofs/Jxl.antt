@@ -18,8 +18,8 @@ use Rattle.imagesize_source.specs.State.{total}
 use Rattle.imagesize_source.proofs.Ahead.{Ahead, chain_ahead}
 use Rattle.imagesize_source.proofs.ChainLaws.{chain_induction, local_chain}
 use Rattle.imagesize_source.proofs.Chains.{chain_next, chain_stop, records_next, records_stop}
-use Rattle.imagesize_source.proofs.Count.{at_most, at_most_more, then_within, total-span_of, total_behind}
-use Rattle.imagesize_source.proofs.Local.{local_layout, local_then}
+use Rattle.imagesize_source.proofs.Counts.{at_most, at_most_more, then_within, total-span_of, total_behind}
+use Rattle.imagesize_source.proofs.Agreement.{local_layout, local_then}
 use Rattle.imagesize_source.proofs.Runs.{part_length, total-append}
 use Rattle.imagesize_source.proofs.Tests.{on_test}
 use Rattle.imagesize_source.proofs.Way.{RecordedLaws}

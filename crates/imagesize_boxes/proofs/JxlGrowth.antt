@@ -17,10 +17,10 @@ use Rattle.imagesize_source.specs.Layout.{Layout, over, bind, bytes, there}
 use Rattle.imagesize_source.specs.Layout.Layout.{field, «done»}
 use Rattle.imagesize_source.specs.Numbers.{number}
 use Rattle.imagesize_source.specs.Reading.{Reads, onward, gives, bytes_at, number_at, seen, end_of_input}
-use Rattle.imagesize_source.proofs.Beyond.{bytes_beyond}
+use Rattle.imagesize_source.proofs.PastTheEnd.{bytes_beyond}
 use Rattle.imagesize_source.proofs.ChainLaws.{chain_induction}
 use Rattle.imagesize_source.proofs.Chains.{chain_next, chain_stop}
-use Rattle.imagesize_source.proofs.More.{bytes_ok, number_ok, bytes_more}
+use Rattle.imagesize_source.proofs.Extension.{bytes_ok, number_ok, bytes_more}
 use Rattle.imagesize_source.proofs.Runs.{part_length}
 use Rattle.imagesize_source.proofs.Tests.{on_test}
 use Rattle.imagesize_boxes.specs.declared.formats.jxl.boxes.BoxHead.{BoxHead}

@@ -1,13 +1,29 @@
 -- HEIF, and AVIF and HEIC in it.
-use Rattle.std.specs.Prelude.{ℕ, ◌+◌, Bool, List, [], ◌∷◌, codes, if◌then◌else◌, Option, None, Some}
-use Rattle.std.specs.List.{list_any}
+use Rattle.std.specs.Prelude.{ℕ, ◌+◌, ◌-◌, ◌≤◌, ◌==◌, ◌||◌, nat_lt, nat_le, Bool, List, [], ◌∷◌, codes, slice_index, flat_map, if◌then◌else◌, Option, None, Some, unwrap_or, ok_or, option_map, Result, Ok, Err}
+use Rattle.std.specs.List.{list_any, find, last_or, sum_by}
 use Rattle.std.specs.Str.{bytes_eq}
 use Rattle.imagesize_types.specs.Head.{stands_at, four_at}
+use Rattle.imagesize_types.specs.Largest.{greatest_area, area_if_some}
+use Rattle.imagesize_types.specs.Order.{area_of}
 use Rattle.imagesize_types.specs.Table.{look_up_text}
 use Rattle.imagesize_types.specs.declared.compression.Compression.{Compression}
 use Rattle.imagesize_types.specs.declared.compression.Compression.TheVariants.{Av1, Hevc, Jpeg, Unknown}
-use Rattle.imagesize_source.specs.Layout.{Layout, if_there}
-use Rattle.imagesize_source.specs.Layout.Layout.{«done»}
+use Rattle.imagesize_types.specs.declared.size.ImageSize.{ImageSize}
+use Rattle.imagesize_boxes.specs.declared.container.heif.FoundBox.{FoundBox}
+use Rattle.imagesize_boxes.specs.declared.container.heif.Gathered.{Gathered}
+use Rattle.imagesize_boxes.specs.declared.container.heif.Property.{Property}
+use Rattle.imagesize_boxes.specs.declared.container.heif.Property.TheVariants.{Extents, Rotation, Skipped}
+use Rattle.imagesize_boxes.specs.declared.container.heif.Searched.{Searched}
+use Rattle.imagesize_boxes.specs.declared.container.heif.Searched.TheVariants.{Found, Other}
+use Rattle.imagesize_source.specs.declared.error.ImageError.{ImageError}
+use Rattle.imagesize_source.specs.declared.error.ImageError.TheVariants.{CorruptedImage, IoError}
+use Rattle.imagesize_source.specs.declared.error.Reason.TheVariants.{InvalidHeifBoxSize, NotEnoughData}
+use Rattle.imagesize_source.specs.declared.util.Endian.TheVariants.{Big}
+use Rattle.imagesize_source.specs.Chain.{Said, Decided, Next, Chain, chain_at, records}
+use Rattle.imagesize_source.specs.Layout.{Layout, bind, bytes, if_there}
+use Rattle.imagesize_source.specs.Layout.Layout.{refuse, «done»}
+use Rattle.imagesize_source.specs.Numbers.{number}
+use Rattle.imagesize_source.specs.Reading.{Reads, and_then, bytes_at, bytes_read, number_at, number_read}
 
 -- a box of the type of files
 unfoldable pub is_heif : List ℕ → Bool
@@ -41,3 +57,169 @@ unfoldable pub heif_compression : ℕ → List ℕ → Layout Compression
 heif_compression place head =
     if is_general (four_at 8 head) then if_there (place + 12) 12 (λ more. done (compatible_compression more))
     else done (brand_compression (four_at 8 head))
+
+-- a box begins with its size, which counts its own bytes too, and with its name (ISO/IEC 14496-12, 4.2)
+unfoldable pub box_size : List ℕ → ℕ
+box_size head = number Big (four_at 0 head)
+
+unfoldable pub is_named : List ℕ → List ℕ → Bool
+is_named tag head = bytes_eq (four_at 4 head) tag
+
+-- what a box says to a search for a name: it is found, or the next box stands behind it
+abbrev pub box_searched : List ℕ → ℕ → List ℕ → Layout (Said (Unit {0}) FoundBox)
+box_searched tag place head =
+    if is_named tag head then done (Decided (record { place = place; size = box_size head }))
+    else if nat_lt (box_size head) 8 then refuse (IoError (InvalidHeifBoxSize (box_size head)))
+    else done (Next tt (place + box_size head))
+
+abbrev pub searched_box : List ℕ → ℕ → Layout (Said (Unit {0}) FoundBox)
+searched_box tag place = bytes place 8 (λ head. box_searched tag place head)
+
+-- the boxes from a place on, up to the first of a name
+abbrev pub search_for : List ℕ → ℕ → Chain (Unit {0}) FoundBox
+search_for tag place = record { first = place; said = λ passed q. searched_box tag q }
+
+-- the width and the height of an image's extents, behind four bytes of a version and flags (ISO/IEC 23008-12, 6.5.3)
+unfoldable pub extents_size : List ℕ → ImageSize
+extents_size content = record { width = number Big (four_at 4 content); height = number Big (four_at 8 content) }
+
+-- The property at a place of the list, or its end. Extents and a rotation (ISO/IEC 23008-12, 6.5.10) are read
+-- whatever their size is; any other box is passed where it is smaller than the bytes that are left.
+abbrev pub property_named : ℕ → ℕ → List ℕ → Layout (Option Property)
+property_named left place head =
+    if nat_lt (box_size head) 8 then (if is_named (codes "mdat") head then done None else refuse CorruptedImage)
+    else if is_named (codes "ispe") head then bytes (place + 8) 12 (λ content. done (Some (Extents (extents_size content))))
+    else if is_named (codes "irot") head then bytes (place + 8) 1 (λ content. done (Some (Rotation (slice_index content 0))))
+    else if nat_le left (box_size head) then done None
+    else done (Some (Skipped (box_size head)))
+
+-- where the input ends before the eight bytes, the list ends
+abbrev pub property_found : ℕ → ℕ → Option (List ℕ) → Layout (Option Property)
+property_found left place None = done None
+property_found left place (Some head) = property_named left place head
+
+abbrev pub property_at : ℕ → ℕ → Layout (Option Property)
+property_at left place = if_there place 8 (property_found left place)
+
+-- how many bytes lead to the next
+abbrev pub property_bytes : Property → ℕ
+property_bytes (Extents size) = 20
+property_bytes (Rotation turn) = 9
+property_bytes (Skipped size) = size
+
+-- of the properties of a list: the extents, the rotations, and the bytes of the others
+abbrev pub extents_of : Property → List ImageSize
+extents_of (Extents size) = size ∷ []
+extents_of (Rotation turn) = []
+extents_of (Skipped size) = []
+
+abbrev pub rotations_of : Property → List ℕ
+rotations_of (Extents size) = []
+rotations_of (Rotation turn) = turn ∷ []
+rotations_of (Skipped size) = []
+
+abbrev pub skipped_bytes : Property → ℕ
+skipped_bytes (Extents size) = 0
+skipped_bytes (Rotation turn) = 0
+skipped_bytes (Skipped size) = size
+
+abbrev pub no_pixels : ImageSize
+no_pixels = record { width = 0; height = 0 }
+
+-- the first of greatest area, and no pixels where no extents have any
+abbrev pub first_largest : List ImageSize → ImageSize
+first_largest sizes = if greatest_area sizes == 0 then no_pixels else unwrap_or (find (λ size. area_of size == greatest_area sizes) sizes) no_pixels
+
+abbrev pub largest_extents : List ImageSize → Option ImageSize
+largest_extents [] = None
+largest_extents (size ∷ sizes) = Some (first_largest (size ∷ sizes))
+
+-- a quarter and three quarters of a turn exchange width and height
+abbrev pub turned : Option ℕ → ImageSize → ImageSize
+turned None size = size
+turned (Some turn) size = if turn == 1 || turn == 3 then record { width = size.height; height = size.width } else size
+
+-- what is answered at the end of the list
+abbrev pub heif_answer : Option ImageSize → Option ℕ → Layout (Said Property ImageSize)
+heif_answer None turn = refuse (IoError NotEnoughData)
+heif_answer (Some size) turn = done (Decided (turned turn size))
+
+-- a property, or by those before it the answer
+abbrev pub listed : List Property → ℕ → Option Property → Layout (Said Property ImageSize)
+listed held place None = heif_answer (largest_extents (flat_map extents_of held)) (last_or None (flat_map rotations_of held))
+listed held place (Some property) = done (Next property (place + property_bytes property))
+
+-- the properties from a place on, in a box of so many bytes (ISO/IEC 23008-12, 9.3)
+abbrev pub properties : ℕ → ℕ → Chain Property ImageSize
+properties all place = record { first = place; said = λ held q. bind (property_at (all - sum_by skipped_bytes held) q) (listed held q) }
+
+-- In `iprp` stands `ipco`, which holds the properties (ISO/IEC 23008-12, 9.3).
+abbrev pub heif_in_iprp : FoundBox → List ℕ → Reads ImageSize
+heif_in_iprp iprp d =
+    and_then (chain_at (search_for (codes "ipco") (iprp.place + 8)) d) (λ ipco.
+    chain_at (properties ipco.size (ipco.place + 8)) d)
+
+-- in `meta`, behind its version and flags, `iprp` (ISO/IEC 14496-12, 8.11.1)
+abbrev pub heif_in_meta : FoundBox → List ℕ → Reads ImageSize
+heif_in_meta meta d =
+    and_then (bytes_read d (meta.place + 8) 4) (λ version.
+    and_then (chain_at (search_for (codes "iprp") (meta.place + 12)) d) (λ iprp.
+    heif_in_iprp iprp d))
+
+-- and `meta` behind the first box
+abbrev pub heif : List ℕ → Reads ImageSize
+heif d =
+    and_then (number_read d Big 0 4) (λ first.
+    and_then (chain_at (search_for (codes "meta") first) d) (λ meta.
+    heif_in_meta meta d))
+
+-- what a box says to a search, and a property to the list
+abbrev pub searched_said : ℕ → Searched → Said (Unit {0}) FoundBox
+searched_said place (Found found) = Decided found
+searched_said place (Other size) = Next tt (place + size)
+
+abbrev pub property_said : ℕ → Option Property → Said Property (Unit {0})
+property_said place None = Decided tt
+property_said place (Some property) = Next property (place + property_bytes property)
+
+-- a box that is passed is smaller than the bytes that are left
+abbrev pub Fits : ℕ → Option Property → Type 0
+Fits left None = Unit {0}
+Fits left (Some property) = skipped_bytes property ≤ left
+
+-- the second, unless the first is as large
+abbrev pub earlier_largest : Option ImageSize → ImageSize → ImageSize
+earlier_largest first second = if nat_lt (area_if_some first) (area_of second) then second else unwrap_or first no_pixels
+
+-- what the properties so far amount to, with one more
+abbrev pub gathered_with : Gathered → Property → Gathered
+gathered_with g (Extents size) = record g { best = Some (earlier_largest g.best size) }
+gathered_with g (Rotation turn) = record g { turn = Some turn }
+gathered_with g (Skipped size) = record g { left = g.left - size }
+
+-- and what they answer at the end of the list
+abbrev pub gathered_answer : Gathered → Result ImageSize ImageError
+gathered_answer g = ok_or (option_map (turned g.turn) g.best) (IoError NotEnoughData)
+
+-- how many boxes are begun: of what an answer leads to, and none behind a refusal
+abbrev pub begun : {X : Type 0} → Result X ImageError → (X → ℕ) → ℕ
+begun (Ok x) count = count x
+begun (Err e) count = 0
+
+-- those of the three searches, and of the list
+abbrev pub boxes_in_iprp : FoundBox → List ℕ → ℕ
+boxes_in_iprp iprp d =
+    records (search_for (codes "ipco") (iprp.place + 8)) d + begun (chain_at (search_for (codes "ipco") (iprp.place + 8)) d).answer (λ ipco.
+    records (properties ipco.size (ipco.place + 8)) d)
+
+abbrev pub boxes_in_meta : FoundBox → List ℕ → ℕ
+boxes_in_meta meta d =
+    begun (bytes_at d (meta.place + 8) 4) (λ version.
+    records (search_for (codes "iprp") (meta.place + 12)) d + begun (chain_at (search_for (codes "iprp") (meta.place + 12)) d).answer (λ iprp.
+    boxes_in_iprp iprp d))
+
+abbrev pub heif_boxes : List ℕ → ℕ
+heif_boxes d =
+    begun (number_at d Big 0 4) (λ first.
+    records (search_for (codes "meta") first) d + begun (chain_at (search_for (codes "meta") first) d).answer (λ meta.
+    boxes_in_meta meta d))

@@ -13,8 +13,11 @@ pub is_tga_few : (n : ℕ) (head : List ℕ) → AtMost 25 (is_tga n head)
 unfolding is_tga
 is_tga_few n head =
     on_test (AtMost 25) (may_be_tga head && leb 18 n) _ _
-    (λ _. (omega arith, λ footer. on_test (AtMost 7) (is_tga_footer footer) _ _ (λ _. tt)
-    (λ _. on_test (AtMost 7) (lacks_its_map head) _ _ (λ _. tt) (λ _. header_few head))))
+    (λ _. (
+      omega arith,
+      λ footer. on_test (AtMost 7) (is_tga_footer footer) _ _ (λ _. tt)
+          (λ _. on_test (AtMost 7) (lacks_its_map head) _ _ (λ _. tt) (λ _. header_few head)),
+    ))
     (λ _. tt)
 
 pub tga_laws : FixedLaws 37 tga

@@ -10,7 +10,7 @@ use Rattle.imagesize_types.specs.declared.compression.AtcCompression.{AtcCompres
 use Rattle.imagesize_types.specs.declared.compression.AtcCompression.TheVariants.{Rgb, RgbaExplicit, RgbaInterpolated, Unknown}
 use Rattle.imagesize_source.specs.declared.util.Endian.TheVariants.{Big}
 use Rattle.imagesize_source.specs.Numbers.{number}
-use Rattle.imagesize_source.specs.Layout.{Layout, bytes, if_there}
+use Rattle.imagesize_source.specs.Layout.{Layout, if_there, bytes}
 use Rattle.imagesize_source.specs.Layout.Layout.{«done»}
 
 -- a PKM file of an ATC data type

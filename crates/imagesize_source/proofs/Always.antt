@@ -2,7 +2,8 @@
 use Rattle.std.proofs.Common.{◌≡◌, ℕ, List, Ok, refl}
 use Rattle.imagesize_source.specs.Counts.{AtMost}
 use Rattle.imagesize_source.specs.Layout.{Layout, done, refuse, field, reading, over, bind}
-use Rattle.imagesize_source.specs.Reading.{AllOf, PartOf, TextOf}
+use Rattle.imagesize_source.specs.Input.{part}
+use Rattle.imagesize_source.specs.Reading.{AllOf, PartOf, TextOf, text_part}
 
 -- the layout always answers, and with what P holds of
 abbrev pub Always : {X : Type 0} → (X → Type 0) → Layout X → Type 0
@@ -18,8 +19,8 @@ always P d (done x) h = (x, refl, h)
 always P d (refuse e) h = absurd h
 always P d (field order place n f) h = absurd h
 always P d (reading (AllOf n) place f) h = absurd h
-always P d (reading (PartOf n) place f) h = always P d (f _) (h _)
-always P d (reading (TextOf t n) place f) h = always P d (f _) (h _)
+always P d (reading (PartOf n) place f) h = always P d (f (part d place n)) (h (part d place n))
+always P d (reading (TextOf t n) place f) h = always P d (f (text_part d t place n)) (h (text_part d t place n))
 
 pub always_bind : {X Y : Type 0} (P : Y → Type 0) (t : Layout X) (g : X → Layout Y) → Always (λ _. Unit {0}) t → ((x : X) → Always P (g x)) → Always P (bind t g)
 always_bind P (done x) g h next = next x

@@ -10,7 +10,7 @@ use Rattle.imagesize_source.specs.Reading.{Reads, is_fault, is_stop, is_memory, 
 use Rattle.imagesize_source.specs.ReaderState.{start_state, Opens}
 use Rattle.imagesize_source.specs.State.{State, Held, Runs, past, total}
 use Rattle.imagesize_source.specs.Telling.{Telling, IsHonest, at_place}
-use Rattle.imagesize_source.proofs.Count.{places_past}
+use Rattle.imagesize_source.proofs.Counts.{places_past}
 
 few_leb : (n : ℕ) → n ≤ 64 → leb (n + 0) 64 ≡ true
 few_leb n h = grind (arith, nat_tests)
@@ -45,7 +45,7 @@ start_holds t count home honest =
     rw (waits, short, same, none) refl
 
 -- a stop is a failure, a spent budget or refused memory
-stop_cases : (e : ImageError) → is_stop e ≡ true → (is_fault e ≡ true) ⊎ (((n : ℕ) × (spent e ≡ Some n)) ⊎ (is_memory e ≡ true))
+pub stop_cases : (e : ImageError) → is_stop e ≡ true → (is_fault e ≡ true) ⊎ (((n : ℕ) × (spent e ≡ Some n)) ⊎ (is_memory e ≡ true))
 stop_cases NotSupported stops = absurd cc
 stop_cases CorruptedImage stops = absurd cc
 stop_cases (IoError (Fault f)) stops = inl refl
@@ -53,7 +53,7 @@ stop_cases (IoError (BudgetSpent n)) stops = inr (inl (n, refl))
 stop_cases (IoError Memory) stops = inr (inr refl)
 stop_cases (IoError _) stops = absurd cc
 
-some_spent : (o : Option ℕ) (n : ℕ) (P : ℕ → Type 0) → o ≡ Some n → IfSome o P → P n
+pub some_spent : (o : Option ℕ) (n : ℕ) (P : ℕ → Type 0) → o ≡ Some n → IfSome o P → P n
 some_spent o n P is h = subst (λ v. IfSome v P) is h
 
 -- what is known of a state that a call began with, over an honest reader
@@ -75,7 +75,7 @@ fault_only {X} t a b e reads starts h small stops =
             let named = some_spent (spent e) spent_all.0 (λ n. (b.frame.counts ≡ true) × (n ≡ b.frame.budget) × (n ≡ b.taken)) spent_all.1 h.ended.budget in
             absurd (omega (arith, named.1, named.2, ap (λ f. f.budget) h.frame, starts.budget, starts.taken, h.within honest, small))
         | inr refused ↦
-            let on : b.frame.records ≡ true = h.ended.memory refused in
+            let on : b.frame.records ≡ true = (h.ended.memory refused).0 in
             let off : b.frame.records ≡ false = ap (λ f. f.records) h.frame ∙ starts.records in
             absurd cc
       ]

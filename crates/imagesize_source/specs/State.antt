@@ -1,5 +1,5 @@
 -- What stands behind a source of bytes, and what readings do to it.
-use Rattle.std.specs.Prelude.{◌≡◌, ℕ, ◌+◌, ◌-◌, ◌^◌, ◌<◌, ◌≤◌, min, max, Bool, true, false, List, [], ◌∷◌, ◌++◌, length, nat_le, if◌then◌else◌, Option, None, Result, IfErr, IfSome, option_map}
+use Rattle.std.specs.Prelude.{◌≡◌, ℕ, ◌+◌, ◌-◌, ◌^◌, ◌<◌, ◌≤◌, min, max, Bool, true, false, List, [], ◌∷◌, ◌++◌, length, nat_le, if◌then◌else◌, Option, None, Some, Result, IfErr, IfSome, option_map}
 use Rattle.imagesize_source.specs.declared.error.ImageError.{ImageError}
 use Rattle.imagesize_source.specs.declared.span.Span.{Span}
 use Rattle.imagesize_source.specs.Reading.{Reads, stopped, faulted, is_memory, spent}
@@ -61,10 +61,10 @@ abbrev pub Sound : State → Type 0
 Sound a = a.held.honest ≡ true → (a.frame.told ≡ length a.held.input) × (length a.held.input < 2 ^ 63)
 
 -- A spent budget is only answered by a source that counts, and names the bytes taken; refused memory only
--- by one that records.
+-- by one that records, and over an input that has a byte.
 pub record EndedBy (b : State) (e : ImageError) : Type 0 where
   pub budget : IfSome (spent e) (λ n. (b.frame.counts ≡ true) × (n ≡ b.frame.budget) × (n ≡ b.taken))
-  pub memory : is_memory e ≡ true → b.frame.records ≡ true
+  pub memory : is_memory e ≡ true → (b.frame.records ≡ true) × (0 < length b.held.input)
 
 -- A call led from one state to another and gave this answer, as these readings say. Where the source is
 -- honest, it has taken no more than the readings' spans; where nothing stopped it, the answer is theirs, and
@@ -88,4 +88,14 @@ slice_state d = record {
   front = 0;
   taken = 0;
   recorded = None;
+}
+
+-- a slice whose readings' spans are recorded behind these
+abbrev pub recording_state : List ℕ → List Span → State
+recording_state d spans = record {
+  frame = record { told = length d; budget = 0; counts = false; records = true; home = 0; since = None };
+  held = record { honest = true; input = d; can_fail = false };
+  front = 0;
+  taken = 0;
+  recorded = Some spans;
 }

@@ -8,6 +8,7 @@ use crate::{ImageResult, Text};
 
 pub mod progress;
 pub mod reader;
+pub mod recording;
 pub mod slice;
 mod window;
 

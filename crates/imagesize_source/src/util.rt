@@ -19,6 +19,7 @@ pub enum Endian {
 }
 
 /// The `N` bytes from a place on.
+#[inline(always)]
 pub fn read_bytes<S: Source, const N: usize>(source: &mut S, place: u64) -> ImageResult<[u8; N]>
     ensures pays { IfOk result (λ bytes. 0 < N → Paid (S.state source.old) (S.state source.new) place) }
     ensures runs { Runs (S.state source.old) (S.state source.new) result (bytes_read (S.state source.old).held.input place N) }
@@ -31,7 +32,7 @@ pub fn read_bytes<S: Source, const N: usize>(source: &mut S, place: u64) -> Imag
 }
 
 /// The `N` bytes from a place on, or none where the input ends before the last of them.
-#[inline]
+#[inline(always)]
 pub fn read_if_there<S: Source, const N: usize>(
     source: &mut S,
     place: u64,
@@ -46,6 +47,7 @@ pub fn read_if_there<S: Source, const N: usize>(
 }
 
 /// The byte at a place, as a number.
+#[inline(always)]
 #[tactic(auto, using(crate::proofs::Runs::number_there, crate::proofs::Runs::number_missing, crate::proofs::Numbers::little_1))]
 pub fn read_u8<S: Source>(source: &mut S, place: u64) -> ImageResult<u8>
     ensures { Runs (S.state source.old) (S.state source.new) result (number_read (S.state source.old).held.input Endian.Little place 1) }
@@ -55,6 +57,7 @@ pub fn read_u8<S: Source>(source: &mut S, place: u64) -> ImageResult<u8>
 }
 
 /// The number of the two bytes from a place on.
+#[inline(always)]
 #[tactic(auto, using(crate::proofs::Runs::number_there, crate::proofs::Runs::number_missing, crate::proofs::Numbers::little_2, crate::proofs::Numbers::big_2))]
 pub fn read_u16<S: Source>(source: &mut S, place: u64, endian: Endian) -> ImageResult<u16>
     ensures { Runs (S.state source.old) (S.state source.new) result (number_read (S.state source.old).held.input endian place 2) }
@@ -68,6 +71,7 @@ pub fn read_u16<S: Source>(source: &mut S, place: u64, endian: Endian) -> ImageR
 
 /// The number of the two bytes that stand so far behind a place. A place above 2^64 - 1 is behind the end of
 /// every input.
+#[inline(always)]
 pub fn read_u16_behind<S: Source>(
     source: &mut S,
     place: u64,
@@ -80,7 +84,7 @@ pub fn read_u16_behind<S: Source>(
 }
 
 /// The place so far behind another. One above 2^64 - 1 is behind the end of every input.
-#[inline]
+#[inline(always)]
 pub fn place_behind(place: u64, distance: u64) -> ImageResult<u64>
     ensures next { IfOk result (λ next. (next ≡ place + distance) × (next < 2 ^ 64)) }
     ensures beyond { IfErr result (λ e. (e ≡ end_of_input) × (2 ^ 64 ≤ place + distance)) }
@@ -92,6 +96,7 @@ pub fn place_behind(place: u64, distance: u64) -> ImageResult<u64>
 }
 
 /// The number of the three bytes from a place on.
+#[inline(always)]
 #[tactic(auto, using(crate::proofs::Runs::number_there, crate::proofs::Runs::number_missing, crate::proofs::Numbers::little_3, crate::proofs::Numbers::big_3))]
 pub fn read_u24<S: Source>(source: &mut S, place: u64, endian: Endian) -> ImageResult<u32>
     ensures { Runs (S.state source.old) (S.state source.new) result (number_read (S.state source.old).held.input endian place 3) }
@@ -104,6 +109,7 @@ pub fn read_u24<S: Source>(source: &mut S, place: u64, endian: Endian) -> ImageR
 }
 
 /// The number of the four bytes from a place on.
+#[inline(always)]
 #[tactic(auto, using(crate::proofs::Runs::number_there, crate::proofs::Runs::number_missing, crate::proofs::Numbers::little_4, crate::proofs::Numbers::big_4))]
 pub fn read_u32<S: Source>(source: &mut S, place: u64, endian: Endian) -> ImageResult<u32>
     ensures { Runs (S.state source.old) (S.state source.new) result (number_read (S.state source.old).held.input endian place 4) }
@@ -116,6 +122,7 @@ pub fn read_u32<S: Source>(source: &mut S, place: u64, endian: Endian) -> ImageR
 }
 
 /// The number of the eight bytes from a place on.
+#[inline(always)]
 #[tactic(auto, using(crate::proofs::Runs::number_there, crate::proofs::Runs::number_missing, crate::proofs::Numbers::little_8, crate::proofs::Numbers::big_8))]
 pub fn read_u64<S: Source>(source: &mut S, place: u64, endian: Endian) -> ImageResult<u64>
     ensures { Runs (S.state source.old) (S.state source.new) result (number_read (S.state source.old).held.input endian place 8) }

@@ -1,7 +1,68 @@
--- Radiance RGBE.
-use Rattle.std.specs.Prelude.{ℕ, Bool, List, codes, [], ◌∷◌, ◌++◌, ◌||◌}
+-- Radiance RGBE, by "Picture File Format" of the Radiance reference manual.
+use Rattle.std.specs.Prelude.{ℕ, ◌+◌, Bool, List, codes, [], ◌∷◌, ◌++◌, ◌||◌, ◌==◌, length, slice_index_or, if◌then◌else◌, Option, None, Some, Result, Ok, Err}
 use Rattle.imagesize_types.specs.Head.{begins}
+use Rattle.imagesize_types.specs.declared.size.ImageSize.{ImageSize}
+use Rattle.imagesize_source.specs.declared.error.ImageError.{ImageError}
+use Rattle.imagesize_source.specs.declared.error.ImageError.TheVariants.{IoError}
+use Rattle.imagesize_source.specs.declared.error.Reason.TheVariants.{InvalidHdrIdentifier, InvalidHdrDimensionsLine, HdrDimensionsNotFound}
+use Rattle.imagesize_source.specs.Chain.{Said, Decided, Next, Chain, chain_at}
+use Rattle.imagesize_source.specs.Layout.{Layout, over}
+use Rattle.imagesize_source.specs.Layout.Layout.{refuse, «done»}
+use Rattle.imagesize_source.specs.Reading.{Reads, and_then}
+use Rattle.imagesize_texts.specs.declared.formats.hdr.Part.{Part}
+use Rattle.imagesize_texts.specs.declared.formats.hdr.Part.TheVariants.{Size, Passed}
+use Rattle.imagesize_texts.specs.Contents.{number_text, words}
+use Rattle.imagesize_texts.specs.Texts.{found, line}
 
 -- the first line
 unfoldable pub is_hdr : List ℕ → Bool
 is_hdr head = begins (codes "#?RADIANCE" ++ 0x0A ∷ []) head || begins (codes "#?RGBE" ++ 0x0A ∷ []) head
+
+-- the identifier of the format, which begins the first line
+unfoldable pub is_identifier : List ℕ → Bool
+is_identifier text = begins (codes "#?RADIANCE") text || begins (codes "#?RGBE") text
+
+abbrev pub identified : List ℕ → Layout ℕ
+identified text = if is_identifier text then done (length text + 1) else refuse (IoError InvalidHdrIdentifier)
+
+-- how many bytes the first line takes, of 11 at most
+abbrev pub hdr_identifier : Layout ℕ
+hdr_identifier = line 0x0A 0 11 identified
+
+-- a line gives the resolution where it begins with an axis and its direction
+unfoldable pub is_resolution : List ℕ → Bool
+is_resolution text = (begins (codes "-Y") text || begins (codes "+Y") text) || (begins (codes "-X") text || begins (codes "+X") text)
+
+-- both numbers, or neither is known
+abbrev pub hdr_size : Option ℕ → Option ℕ → Result ImageSize ImageError
+hdr_size (Some height) (Some width) = Ok (record { width = width; height = height })
+hdr_size (Some height) None = Err (IoError HdrDimensionsNotFound)
+hdr_size None width = Err (IoError HdrDimensionsNotFound)
+
+-- the second and the fourth of four words: two axes, each with its length
+unfoldable pub second_and_fourth : List (List ℕ) → Option (List ℕ × List ℕ)
+second_and_fourth ws = if length ws == 4 then Some (slice_index_or ws 1 [], slice_index_or ws 3 []) else None
+
+abbrev pub hdr_lengths : Option (List ℕ × List ℕ) → Result ImageSize ImageError
+hdr_lengths None = Err (IoError InvalidHdrDimensionsLine)
+hdr_lengths (Some lengths) = hdr_size (number_text lengths.0) (number_text lengths.1)
+
+-- the size by such a line, whatever its axes are: the first length is the height
+abbrev pub resolution : List ℕ → Result ImageSize ImageError
+resolution text = hdr_lengths (second_and_fourth (words text))
+
+abbrev pub hdr_line : ℕ → List ℕ → Layout (Said (Unit {0}) ImageSize)
+hdr_line place text = if is_resolution text then found (resolution text) (λ size. done (Decided size)) else done (Next tt (place + (length text + 1)))
+
+-- the lines behind the first, each of 256 bytes at most
+abbrev pub hdr_lines : ℕ → Chain (Unit {0}) ImageSize
+hdr_lines first = record { first = first; said = λ passed place. line 0x0A place 256 (hdr_line place) }
+
+-- the first of them that gives the resolution
+abbrev pub hdr : List ℕ → Reads ImageSize
+hdr d = and_then (over d hdr_identifier) (λ first. chain_at (hdr_lines first) d)
+
+-- what a part at a place says
+abbrev pub part_said : ℕ → Part → Said (Unit {0}) ImageSize
+part_said place (Size size) = Decided size
+part_said place (Passed taken) = Next tt (place + taken)

@@ -1,3 +1,5 @@
+pub mod Contents
 pub mod Exr
 pub mod Hdr
 pub mod Pnm
+pub mod Texts

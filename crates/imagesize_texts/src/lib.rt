@@ -2,3 +2,4 @@
 #![tactic(auto)]
 
 pub mod formats;
+pub mod util;

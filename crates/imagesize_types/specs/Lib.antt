@@ -2,4 +2,5 @@ pub mod Comparisons
 pub mod Head
 pub mod Largest
 pub mod Order
+pub mod Ranks
 pub mod Table

@@ -18,9 +18,9 @@ pub enum AtcCompression {
 pub enum DdsCompression {
     /// BC1, which is DXT1.
     Bc1,
-    /// BC2, which is DXT2 and DXT3.
+    /// BC2, which is DXT3. The same with premultiplied alpha, DXT2, is `Unknown`.
     Bc2,
-    /// BC3, which is DXT4 and DXT5.
+    /// BC3, which is DXT5. The same with premultiplied alpha, DXT4, is `Unknown`.
     Bc3,
     /// BC4, of one channel.
     Bc4,

@@ -1,6 +1,7 @@
 //! Laws of the comparisons and the hashes of the public types. A law is what the contract of a
 //! function says, and the function itself does nothing.
-ghost use Rattle.imagesize_types.specs.Comparisons.{IsLawfulHash, IsLawfulOrder};
+ghost use Rattle.imagesize_types.specs.Comparisons.{IsLawfulHash, IsLawfulOrder, RankedBy};
+ghost use Rattle.imagesize_types.specs.Ranks.{atc_rank, dds_rank, heif_rank, pkm_rank, pvrtc_rank};
 
 use crate::compression::{
     AtcCompression, Compression, DdsCompression, PkmCompression, PvrtcCompression,
@@ -13,6 +14,7 @@ fn atc_compression_laws()
         ⟦<AtcCompression as PartialEq>⟧.eq ⟦<AtcCompression as Hash>⟧.hash_input }
     ensures order { IsLawfulOrder
         ⟦<AtcCompression as Ord>⟧.cmp ⟦<AtcCompression as PartialOrd>⟧.partial_cmp }
+    ensures ranked { RankedBy atc_rank ⟦<AtcCompression as Ord>⟧.cmp }
 {}
 
 fn dds_compression_laws()
@@ -20,12 +22,14 @@ fn dds_compression_laws()
         ⟦<DdsCompression as PartialEq>⟧.eq ⟦<DdsCompression as Hash>⟧.hash_input }
     ensures order { IsLawfulOrder
         ⟦<DdsCompression as Ord>⟧.cmp ⟦<DdsCompression as PartialOrd>⟧.partial_cmp }
+    ensures ranked { RankedBy dds_rank ⟦<DdsCompression as Ord>⟧.cmp }
 {}
 
 fn compression_laws()
     ensures hash { IsLawfulHash ⟦<Compression as PartialEq>⟧.eq ⟦<Compression as Hash>⟧.hash_input }
     ensures order { IsLawfulOrder
         ⟦<Compression as Ord>⟧.cmp ⟦<Compression as PartialOrd>⟧.partial_cmp }
+    ensures ranked { RankedBy heif_rank ⟦<Compression as Ord>⟧.cmp }
 {}
 
 fn pkm_compression_laws()
@@ -33,6 +37,7 @@ fn pkm_compression_laws()
         ⟦<PkmCompression as PartialEq>⟧.eq ⟦<PkmCompression as Hash>⟧.hash_input }
     ensures order { IsLawfulOrder
         ⟦<PkmCompression as Ord>⟧.cmp ⟦<PkmCompression as PartialOrd>⟧.partial_cmp }
+    ensures ranked { RankedBy pkm_rank ⟦<PkmCompression as Ord>⟧.cmp }
 {}
 
 fn pvrtc_compression_laws()
@@ -40,6 +45,7 @@ fn pvrtc_compression_laws()
         ⟦<PvrtcCompression as PartialEq>⟧.eq ⟦<PvrtcCompression as Hash>⟧.hash_input }
     ensures order { IsLawfulOrder
         ⟦<PvrtcCompression as Ord>⟧.cmp ⟦<PvrtcCompression as PartialOrd>⟧.partial_cmp }
+    ensures ranked { RankedBy pvrtc_rank ⟦<PvrtcCompression as Ord>⟧.cmp }
 {}
 
 fn image_size_laws()

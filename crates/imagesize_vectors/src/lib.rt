@@ -4,9 +4,23 @@
 #[cfg(test)]
 mod calls;
 #[cfg(test)]
+mod counts;
+#[cfg(test)]
+mod failures;
+#[cfg(test)]
+mod heif;
+#[cfg(test)]
 mod long;
+#[cfg(test)]
+mod queries;
 pub mod readers;
 #[cfg(test)]
 mod rows;
 #[cfg(test)]
 mod strange;
+#[cfg(test)]
+mod tiff;
+#[cfg(test)]
+mod told;
+#[cfg(test)]
+mod types;

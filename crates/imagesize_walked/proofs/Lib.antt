@@ -1,3 +1,4 @@
 pub mod Ico
 pub mod Ilbm
 pub mod Jpeg
+pub mod Tiff

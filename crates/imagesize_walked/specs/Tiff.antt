@@ -1,7 +1,169 @@
--- TIFF.
-use Rattle.std.specs.Prelude.{ℕ, Bool, List, codes, [], ◌∷◌, ◌++◌, ◌||◌}
+-- TIFF, by "TIFF Revision 6.0" (section 2), and BigTIFF, by "The BigTIFF File Format".
+use Rattle.std.specs.Prelude.{ℕ, ◌+◌, ◌==◌, min, Bool, List, codes, [], ◌∷◌, ◌++◌, ◌||◌, length, take, drop, filter, if◌then◌else◌, Option, None, Some, option_and_then, Result, Ok, Err}
+use Rattle.std.specs.List.{last_or}
 use Rattle.imagesize_types.specs.Head.{begins}
+use Rattle.imagesize_types.specs.Table.{look_up}
+use Rattle.imagesize_types.specs.declared.size.ImageSize.{ImageSize}
+use Rattle.imagesize_walked.specs.declared.formats.tiff.Entry.{Entry}
+use Rattle.imagesize_walked.specs.declared.formats.tiff.Header.{Header}
+use Rattle.imagesize_walked.specs.declared.formats.tiff.Kind.{Kind}
+use Rattle.imagesize_walked.specs.declared.formats.tiff.Kind.TheVariants.{Short, Long, Other}
+use Rattle.imagesize_walked.specs.declared.formats.tiff.Version.{Version}
+use Rattle.imagesize_walked.specs.declared.formats.tiff.Version.TheVariants.{Tiff, BigTiff}
+use Rattle.imagesize_source.specs.declared.error.ImageError.{ImageError}
+use Rattle.imagesize_source.specs.declared.error.ImageError.TheVariants.{IoError}
+use Rattle.imagesize_source.specs.declared.error.Reason.TheVariants.{InvalidTiffHeader, BigTiffOffsetSize, InvalidBigTiffHeader, InvalidIfdOffset, IfdTypeForStandardTiff, InvalidIfdType, InvalidIfdValueLength, NoDimensionsInIfd}
+use Rattle.imagesize_source.specs.declared.util.Endian.{Endian}
+use Rattle.imagesize_source.specs.declared.util.Endian.TheVariants.{Little, Big}
+use Rattle.imagesize_source.specs.Chain.{Said, Decided, Next, Chain, chain_at, records}
+use Rattle.imagesize_source.specs.Layout.{Layout, over, bind, bytes, if_there}
+use Rattle.imagesize_source.specs.Layout.Layout.{field, refuse, «done»}
+use Rattle.imagesize_source.specs.Numbers.{number}
+use Rattle.imagesize_source.specs.Reading.{Reads, and_then, number_at, number_read}
 
 -- the order of the bytes, and 42 or 43 in that order
 unfoldable pub is_tiff : List ℕ → Bool
 is_tiff head = (begins (codes "II" ++ 42 ∷ 0 ∷ []) head || begins (codes "II" ++ 43 ∷ 0 ∷ []) head) || (begins (codes "MM" ++ 0 ∷ 42 ∷ []) head || begins (codes "MM" ++ 0 ∷ 43 ∷ []) head)
+
+-- what goes on where something is accepted
+abbrev pub accepted : {X Y : Type 0} → Result X ImageError → (X → Layout Y) → Layout Y
+accepted (Ok x) f = f x
+accepted (Err e) f = refuse e
+
+-- the order of all numbers, by the first two bytes
+abbrev pub byte_order : List ℕ → Result Endian ImageError
+byte_order mark = if begins (codes "II") mark then Ok Little else if begins (codes "MM") mark then Ok Big else Err (IoError InvalidTiffHeader)
+
+-- the number behind the order: 42, and 43 of BigTIFF
+abbrev pub version_of : ℕ → Result Version ImageError
+version_of number = if number == 42 then Ok Tiff else if number == 43 then Ok BigTiff else Err (IoError InvalidTiffHeader)
+
+-- the place of the first directory; in BigTIFF behind the size of a place, which is 8, and two bytes that are zero
+unfoldable pub stated_place : Endian → Version → Layout ℕ
+stated_place order Tiff = field order 4 4 done
+stated_place order BigTiff = field order 4 2 (λ size.
+    if size == 8 then field order 6 2 (λ zeros. if zeros == 0 then field order 8 8 done else refuse (IoError InvalidBigTiffHeader))
+    else refuse (IoError BigTiffOffsetSize))
+
+-- it is never 0
+abbrev pub directory_at : Endian → Version → ℕ → Result Header ImageError
+directory_at order version place = if place == 0 then Err (IoError InvalidIfdOffset) else Ok (record { order = order; version = version; directory = place })
+
+-- the header ("Image File Header")
+unfoldable pub tiff_header : Layout Header
+tiff_header =
+    bytes 0 2 (λ mark. accepted (byte_order mark) (λ order.
+    field order 2 2 (λ number. accepted (version_of number) (λ version.
+    bind (stated_place order version) (λ place. accepted (directory_at order version place) done)))))
+
+-- how many bytes the count of a directory's entries has ("Image File Directory")
+abbrev pub count_bytes : Version → ℕ
+count_bytes Tiff = 2
+count_bytes BigTiff = 8
+
+-- the head of an entry ("IFD Entry"): its tag, its kind, and how many values it has
+abbrev pub head_bytes : Version → ℕ
+head_bytes Tiff = 8
+head_bytes BigTiff = 12
+
+-- and what stands behind it: the values, or where they stand
+abbrev pub value_bytes : Version → ℕ
+value_bytes Tiff = 4
+value_bytes BigTiff = 8
+
+abbrev pub entry_bytes : Version → ℕ
+entry_bytes version = head_bytes version + value_bytes version
+
+-- Kinds ("Types"): 1 BYTE, 2 ASCII, 3 SHORT, 4 LONG, 5 RATIONAL, 6 SBYTE, 7 UNDEFINED, 8 SSHORT, 9 SLONG,
+-- 10 SRATIONAL, 11 FLOAT, 12 DOUBLE, and 13 IFD of the first technical note. All numbers are read without a sign.
+abbrev pub tiff_kinds : List (ℕ × Result Kind ImageError)
+tiff_kinds =
+    (1, Ok Other) ∷ (2, Ok Other) ∷ (3, Ok Short) ∷ (4, Ok Long) ∷ (5, Ok Other) ∷ (6, Ok Other) ∷ (7, Ok Other)
+    ∷ (8, Ok Short) ∷ (9, Ok Long) ∷ (10, Ok Other) ∷ (11, Ok Long) ∷ (12, Ok Other) ∷ (13, Ok Long) ∷ []
+
+-- those that BigTIFF has besides: 16 LONG8, 17 SLONG8, 18 IFD8
+abbrev pub wide_kinds : Version → List (ℕ × Result Kind ImageError)
+wide_kinds Tiff = (16, Err (IoError IfdTypeForStandardTiff)) ∷ (17, Err (IoError IfdTypeForStandardTiff)) ∷ (18, Err (IoError IfdTypeForStandardTiff)) ∷ []
+wide_kinds BigTiff = (16, Ok Other) ∷ (17, Ok Other) ∷ (18, Ok Other) ∷ []
+
+abbrev pub kind_of : Version → ℕ → Result Kind ImageError
+kind_of version kind = look_up (tiff_kinds ++ wide_kinds version) (Err (IoError InvalidIfdType)) kind
+
+-- what stands in the head: first the tag, then the kind
+abbrev pub tag_in : Endian → List ℕ → ℕ
+tag_in order head = number order (take 2 head)
+
+abbrev pub kind_in : Endian → List ℕ → ℕ
+kind_in order head = number order (drop 2 head)
+
+-- the number that a value's first four bytes begin with, where its kind has one
+abbrev pub value_of : Endian → Kind → List ℕ → Option ℕ
+value_of order Short value = Some (number order (take 2 value))
+value_of order Long value = Some (number order value)
+value_of order Other value = None
+
+-- an entry's head is read whole; the first four bytes of it count
+unfoldable pub tiff_head : Version → ℕ → Layout (List ℕ)
+tiff_head version place = bytes place (head_bytes version) (λ head. done (take 4 head))
+
+-- and so is its value, which the end of the input may cut
+abbrev pub whole_value : Option (List ℕ) → Result (List ℕ) ImageError
+whole_value None = Err (IoError InvalidIfdValueLength)
+whole_value (Some value) = Ok (take 4 value)
+
+unfoldable pub tiff_value : Version → ℕ → Layout (List ℕ)
+tiff_value version place = if_there place (value_bytes version) (λ found. accepted (whole_value found) done)
+
+-- an entry: its kind is judged before its value is read
+unfoldable pub tiff_entry : Header → ℕ → Layout Entry
+tiff_entry header place =
+    bind (tiff_head header.version place) (λ head.
+    accepted (kind_of header.version (kind_in header.order head)) (λ kind.
+    bind (tiff_value header.version (place + head_bytes header.version)) (λ value.
+    done (record { tag = tag_in header.order head; value = value_of header.order kind value }))))
+
+-- the value of the last entry of a tag
+abbrev pub last_value : ℕ → List Entry → Option ℕ
+last_value tag entries = option_and_then (λ entry. entry.value) (last_or None (filter (λ entry. entry.tag == tag) entries))
+
+-- a size, where both sides are known
+abbrev pub size_of_sides : Option ℕ → Option ℕ → Option ImageSize
+size_of_sides (Some width) (Some height) = Some (record { width = width; height = height })
+size_of_sides _ _ = None
+
+-- the size that entries give (section 3, ImageWidth and ImageLength)
+abbrev pub size_in : List Entry → Option ImageSize
+size_in entries = size_of_sides (last_value 0x100 entries) (last_value 0x101 entries)
+
+-- an entry decides that completes the size
+abbrev pub completed : Option ImageSize → Entry → ℕ → Said Entry ImageSize
+completed (Some size) entry next = Decided size
+completed None entry next = Next entry next
+
+-- as many entries as the count says, behind it and without gaps
+abbrev pub tiff_entries : Header → ℕ → Chain Entry ImageSize
+tiff_entries header count = record {
+  first = header.directory + count_bytes header.version;
+  said = λ entries place.
+      if length entries == count then refuse (IoError NoDimensionsInIfd)
+      else bind (tiff_entry header place) (λ entry. done (completed (size_in (entries ++ entry ∷ [])) entry (place + entry_bytes header.version)));
+}
+
+-- the directory
+abbrev pub tiff_directory : List ℕ → Header → Reads ImageSize
+tiff_directory d header = and_then (number_read d header.order header.directory (count_bytes header.version)) (λ count. chain_at (tiff_entries header count) d)
+
+abbrev pub tiff : List ℕ → Reads ImageSize
+tiff d = and_then (over d tiff_header) (tiff_directory d)
+
+-- how many entries are begun: the end of the directory begins none
+abbrev pub begun_of : List ℕ → Header → Result ℕ ImageError → ℕ
+begun_of d header (Ok count) = min count (records (tiff_entries header count) d)
+begun_of d header (Err e) = 0
+
+abbrev pub begun_behind : List ℕ → Result Header ImageError → ℕ
+begun_behind d (Ok header) = begun_of d header (number_at d header.order header.directory (count_bytes header.version))
+begun_behind d (Err e) = 0
+
+abbrev pub entries_begun : List ℕ → ℕ
+entries_begun d = begun_behind d (over d tiff_header).answer

@@ -1,18 +1,22 @@
-//! HEIF and AVIF, by ISO/IEC 14496-12, section 4.3 (`ftyp`), and the brands of ISO/IEC 23008-12 and of the
-//! AV1 Image File Format.
-ghost use Rattle.std.specs.Prelude.{◌≡◌, ◌+◌};
-ghost use Rattle.imagesize_boxes.specs.Heif.{brand_compression, compatible_compression, heif_compression, is_general, is_heif};
+//! HEIF and AVIF, by ISO/IEC 14496-12, sections 4.2 (boxes), 4.3 (`ftyp`) and 8.11.1 (`meta`), and ISO/IEC 23008-12
+//! (the brands, the properties and their list); the brands of AVIF by the AV1 Image File Format.
+ghost use Rattle.std.specs.Prelude.{◌≡◌, ◌+◌, ◌<◌, ◌≤◌, Some, codes, IfOk, IfSome};
+ghost use Rattle.imagesize_boxes.specs.Heif.{Fits, box_size, brand_compression, compatible_compression, earlier_largest, extents_size, gathered_answer, gathered_with, heif, heif_compression, heif_in_iprp, heif_in_meta, is_general, is_heif, is_named, properties, property_at, property_bytes, property_said, search_for, searched_box, searched_said, skipped_bytes, turned};
+ghost use Rattle.imagesize_source.specs.Chain.{chain_at};
 ghost use Rattle.imagesize_source.specs.Layout.{if_there, over};
 ghost use Rattle.imagesize_source.specs.Layout.Layout.{«done»};
+ghost use Rattle.imagesize_source.specs.Paying.{Nears, Paid};
+ghost use Rattle.imagesize_source.specs.Reading.{bytes_read, seen};
 ghost use Rattle.imagesize_source.specs.State.{Runs, Sound};
 
-use imagesize_source::ImageResult;
 use imagesize_source::source::Source;
-use imagesize_source::util::read_if_there;
+use imagesize_source::util::{Endian, place_behind, read_bytes, read_if_there, read_u32};
+use imagesize_source::{ImageError, ImageResult, Reason};
 use imagesize_types::compression::Compression;
+use imagesize_types::size::{ImageSize, area};
 
 /// Whether a box of the type of files stands first.
-#[inline]
+#[inline(always)]
 #[tactic(auto, unfolding(crate::specs::Heif::is_heif))]
 pub fn matches(head: &[u8; 12]) -> bool
     ensures { result ≡ is_heif head.now }
@@ -58,6 +62,7 @@ fn compatible_compression(brands: &[u8; 12]) -> Compression
     brand_compression(&brands[4..8])
 }
 
+#[inline(always)]
 #[tactic(auto, unfolding(crate::specs::Heif::is_general))]
 fn is_general(brand: &[u8]) -> bool
     ensures { result ≡ is_general brand.now }
@@ -76,5 +81,319 @@ fn brand_compression(brand: &[u8]) -> Compression
         b"avif" | b"avio" | b"avis" | b"MA1A" | b"MA1B" => Compression::Av1,
         b"jpeg" | b"jpgs" => Compression::Jpeg,
         _ => Compression::Unknown,
+    }
+}
+
+/// The width and the height of the largest extents among the properties, of several the first, exchanged where the
+/// last rotation is a quarter or three quarters of a turn.
+#[tactic(auto, using(imagesize_source::proofs::Runs::steps))]
+pub fn size<S: Source>(source: &mut S) -> ImageResult<ImageSize>
+    ensures { Runs (S.state source.old) (S.state source.new) result (heif (S.state source.old).held.input) }
+{
+    let first = read_u32(source, 0, Endian::Big)? as u64;
+    let meta = search_from(source, first, b"meta")?;
+    size_in_meta(source, meta)
+}
+
+// The size by the box of metadata, which begins with its version and flags.
+#[inline(always)]
+#[tactic(auto, using(imagesize_source::proofs::Runs::steps))]
+fn size_in_meta<S: Source>(source: &mut S, meta: FoundBox) -> ImageResult<ImageSize>
+    ensures { Runs (S.state source.old) (S.state source.new) result (heif_in_meta meta (S.state source.old).held.input) }
+{
+    read_content::<S, 4>(source, meta.place)?;
+    let iprp = search(source, meta.place, 12, b"iprp")?;
+    size_in_iprp(source, iprp)
+}
+
+// The size by the box of item properties.
+#[inline(always)]
+#[tactic(auto, using(imagesize_source::proofs::Runs::steps))]
+fn size_in_iprp<S: Source>(source: &mut S, iprp: FoundBox) -> ImageResult<ImageSize>
+    ensures { Runs (S.state source.old) (S.state source.new) result (heif_in_iprp iprp (S.state source.old).held.input) }
+{
+    let ipco = search(source, iprp.place, 8, b"ipco")?;
+    largest(source, ipco)
+}
+
+// A box that a search has found.
+#[derive(Clone, Copy)]
+struct FoundBox {
+    place: u64,
+    size: u32,
+}
+
+// What a box says to a search.
+enum Searched {
+    // It is the one that is wanted.
+    Found(FoundBox),
+    // The next stands behind it. It has so many bytes.
+    Other { size: u32 },
+}
+
+// The first box of a name, from so far behind a place on. A place above 2^64 - 1 is behind the end of every input.
+#[inline(always)]
+#[tactic(auto, using(crate::proofs::Heif::search_saturated))]
+fn search<S: Source>(
+    source: &mut S,
+    place: u64,
+    distance: u64,
+    name: &[u8; 4],
+) -> ImageResult<FoundBox>
+    ensures { Runs (S.state source.old) (S.state source.new) result
+        (chain_at (search_for name.now (place + distance)) (S.state source.old).held.input) }
+{
+    search_from(source, place.saturating_add(distance), name)
+}
+
+// The first box of a name, from a place on.
+fn search_from<S: Source>(source: &mut S, from: u64, name: &[u8; 4]) -> ImageResult<FoundBox>
+    ensures { Runs (S.state source.old) (S.state source.new) result
+        (chain_at (search_for name.now from) (S.state source.old).held.input) }
+{
+    let mut place = from;
+    loop {
+        match read_box(source, place, name)? {
+            Searched::Found(found) => return Ok(found),
+            Searched::Other { size } => place = place_behind(place, size as u64)?,
+        }
+    }
+}
+
+// The box at a place.
+#[inline(always)]
+#[tactic(auto, using(imagesize_source::proofs::Runs::steps))]
+fn read_box<S: Source>(source: &mut S, place: u64, name: &[u8; 4]) -> ImageResult<Searched>
+    ensures nears { IfOk result (λ found. Nears (S.state source.old) (S.state source.new) place (searched_said place found)) }
+    ensures runs { Runs (S.state source.old) (S.state source.new) (seen (λ found. searched_said place found) result)
+        (over (S.state source.old).held.input (searched_box name.now place)) }
+{
+    let head = read_bytes::<S, 8>(source, place)?;
+    let size = box_size(&head);
+    if is_named(&head, name) {
+        return Ok(Searched::Found(FoundBox { place, size }));
+    }
+    if size < 8 {
+        return Err(ImageError::IoError(Reason::InvalidHeifBoxSize { size }));
+    }
+    Ok(Searched::Other { size })
+}
+
+// How many bytes a box has, by its first four.
+#[inline(always)]
+#[tactic(auto, using(crate::proofs::Heif::big_four), unfolding(crate::specs::Heif::box_size))]
+fn box_size(head: &[u8; 8]) -> u32
+    ensures { result ≡ box_size head.now }
+{
+    u32::from_be_bytes([head[0], head[1], head[2], head[3]])
+}
+
+// Whether a box has a name.
+#[inline(always)]
+#[tactic(auto, unfolding(crate::specs::Heif::is_named))]
+fn is_named(head: &[u8; 8], name: &[u8; 4]) -> bool
+    ensures { result ≡ is_named name.now head.now }
+{
+    head[4..] == name[..]
+}
+
+// The first bytes of what a box holds, behind its size and its name.
+#[inline(always)]
+#[tactic(auto, using(crate::proofs::Heif::bytes_saturated))]
+fn read_content<S: Source, const N: usize>(source: &mut S, place: u64) -> ImageResult<[u8; N]>
+    requires { 0 < N }
+    ensures { Runs (S.state source.old) (S.state source.new) result
+        (bytes_read (S.state source.old).held.input (place + 8) N) }
+{
+    read_bytes::<S, N>(source, place.saturating_add(8))
+}
+
+// What a property says.
+#[derive(Clone, Copy)]
+enum Property {
+    // The size of an image.
+    Extents(ImageSize),
+    // So many quarters of a turn.
+    Rotation(u8),
+    // Neither. It has so many bytes.
+    Skipped(u32),
+}
+
+// What the properties so far amount to.
+#[derive(Clone, Copy)]
+struct Gathered {
+    // How many bytes of the list the boxes that were passed have left.
+    left: u32,
+    // The largest extents.
+    best: Option<ImageSize>,
+    // The last rotation, in quarters of a turn.
+    turn: Option<u8>,
+}
+
+// The size by the properties in this box.
+#[inline(always)]
+#[tactic(auto, using(crate::proofs::Heif::list_saturated))]
+fn largest<S: Source>(source: &mut S, ipco: FoundBox) -> ImageResult<ImageSize>
+    ensures { Runs (S.state source.old) (S.state source.new) result
+        (chain_at (properties ipco.size (ipco.place + 8)) (S.state source.old).held.input) }
+{
+    largest_from(source, ipco.place.saturating_add(8), ipco.size)
+}
+
+// The size by the properties from a place on, in a box of so many bytes.
+fn largest_from<S: Source>(source: &mut S, from: u64, all: u32) -> ImageResult<ImageSize>
+    ensures { Runs (S.state source.old) (S.state source.new) result
+        (chain_at (properties all from) (S.state source.old).held.input) }
+{
+    let mut place = from;
+    let mut gathered = Gathered {
+        left: all,
+        best: None,
+        turn: None,
+    };
+    loop {
+        let Some(property) = read_property(source, place, gathered.left)? else {
+            return answer(gathered);
+        };
+        gathered = gather(gathered, property);
+        match place.checked_add(property_bytes(property)) {
+            Some(next) => place = next,
+            None => return answer(gathered),
+        }
+    }
+}
+
+// The property at a place, or none where the list ends: so many bytes are left for the boxes that are passed.
+#[inline(always)]
+#[tactic(auto, using(imagesize_source::proofs::Runs::steps))]
+fn read_property<S: Source>(source: &mut S, place: u64, left: u32) -> ImageResult<Option<Property>>
+    ensures nears { IfOk result (λ found. Nears (S.state source.old) (S.state source.new) place (property_said place found)) }
+    ensures fits { IfOk result (λ found. Fits left found) }
+    ensures runs { Runs (S.state source.old) (S.state source.new) result
+        (over (S.state source.old).held.input (property_at left place)) }
+{
+    let Some(head) = read_head(source, place)? else {
+        return Ok(None);
+    };
+    let size = box_size(&head);
+    if size < 8 {
+        return if is_named(&head, b"mdat") {
+            Ok(None)
+        } else {
+            Err(ImageError::CorruptedImage)
+        };
+    }
+    if is_named(&head, b"ispe") {
+        let content = read_content::<S, 12>(source, place)?;
+        return Ok(Some(Property::Extents(extents_size(&content))));
+    }
+    if is_named(&head, b"irot") {
+        let [quarters] = read_content::<S, 1>(source, place)?;
+        return Ok(Some(Property::Rotation(quarters)));
+    }
+    if left <= size {
+        return Ok(None);
+    }
+    Ok(Some(Property::Skipped(size)))
+}
+
+// The eight bytes that a box begins with, or none where the input ends before the last of them.
+#[inline(always)]
+fn read_head<S: Source>(source: &mut S, place: u64) -> ImageResult<Option<[u8; 8]>>
+    ensures pays { IfOk result (λ found. IfSome found (λ head. Paid (S.state source.old) (S.state source.new) place)) }
+    ensures runs { Runs (S.state source.old) (S.state source.new) result
+        (over (S.state source.old).held.input (if_there place 8 done)) }
+{
+    let mut room = [0u8; 8];
+    if source.read_at(place, &mut room)? < 8 {
+        return Ok(None);
+    }
+    Ok(Some(room))
+}
+
+// How far behind a property the next stands.
+#[inline(always)]
+fn property_bytes(property: Property) -> u64
+    ensures { result ≡ property_bytes property }
+{
+    match property {
+        Property::Extents(_) => 20,
+        Property::Rotation(_) => 9,
+        Property::Skipped(size) => size as u64,
+    }
+}
+
+// With one property more.
+#[inline(always)]
+fn gather(gathered: Gathered, property: Property) -> Gathered
+    requires { skipped_bytes property ≤ gathered.left }
+    ensures { result ≡ gathered_with gathered property }
+{
+    match property {
+        Property::Extents(size) => Gathered {
+            best: Some(larger(gathered.best, size)),
+            ..gathered
+        },
+        Property::Rotation(quarters) => Gathered {
+            turn: Some(quarters),
+            ..gathered
+        },
+        Property::Skipped(size) => Gathered {
+            left: gathered.left - size,
+            ..gathered
+        },
+    }
+}
+
+// The width and the height of an image's extents.
+#[inline(always)]
+#[tactic(auto, using(crate::proofs::Heif::big_four), unfolding(crate::specs::Heif::extents_size))]
+fn extents_size(content: &[u8; 12]) -> ImageSize
+    ensures { result ≡ extents_size content.now }
+{
+    ImageSize {
+        width: u32::from_be_bytes([content[4], content[5], content[6], content[7]]) as usize,
+        height: u32::from_be_bytes([content[8], content[9], content[10], content[11]]) as usize,
+    }
+}
+
+// The one of greater area, and of two that are alike the first. One without pixels is no better than none.
+#[inline(always)]
+fn larger(best: Option<ImageSize>, size: ImageSize) -> ImageSize
+    ensures { result ≡ earlier_largest best size }
+{
+    let best = best.unwrap_or(ImageSize {
+        width: 0,
+        height: 0,
+    });
+    if area(&size) > area(&best) {
+        size
+    } else {
+        best
+    }
+}
+
+// What is answered at the end of the list.
+#[inline(always)]
+fn answer(gathered: Gathered) -> ImageResult<ImageSize>
+    ensures { result ≡ gathered_answer gathered }
+{
+    match gathered.best {
+        Some(size) => Ok(turned(size, gathered.turn)),
+        None => Err(ImageError::IoError(Reason::NotEnoughData)),
+    }
+}
+
+// A quarter and three quarters of a turn exchange width and height.
+#[inline(always)]
+fn turned(size: ImageSize, turn: Option<u8>) -> ImageSize
+    ensures { result ≡ turned turn size }
+{
+    match turn {
+        Some(1 | 3) => ImageSize {
+            width: size.height,
+            height: size.width,
+        },
+        _ => size,
     }
 }

@@ -16,7 +16,7 @@ use imagesize_source::util::read_bytes;
 use imagesize_types::size::ImageSize;
 
 /// Whether a codestream or a signature box stands first.
-#[inline]
+#[inline(always)]
 #[tactic(auto, unfolding(crate::specs::Jxl::is_jxl))]
 pub fn matches(head: &[u8; 12]) -> bool
     ensures { result ≡ is_jxl head.now }

@@ -12,7 +12,7 @@ use imagesize_types::compression::PkmCompression;
 use imagesize_types::size::ImageSize;
 
 /// Whether the tag stands first, and a version behind it.
-#[inline]
+#[inline(always)]
 pub fn matches(head: &[u8; 12]) -> bool
     ensures { result ≡ is_pkm head.now }
 {
@@ -20,7 +20,7 @@ pub fn matches(head: &[u8; 12]) -> bool
 }
 
 /// Whether the data type is one of EAC.
-#[inline]
+#[inline(always)]
 #[tactic(auto, unfolding(crate::specs::Pkm::is_eac))]
 pub fn matches_eac(head: &[u8; 12]) -> bool
     ensures { result ≡ is_eac head.now }
@@ -29,7 +29,7 @@ pub fn matches_eac(head: &[u8; 12]) -> bool
 }
 
 /// Whether these bytes begin with the tag, and a version behind it.
-#[inline]
+#[inline(always)]
 #[tactic(auto, unfolding(crate::specs::Pkm::is_pkm))]
 pub fn is_pkm(header: &[u8]) -> bool
     ensures { result ≡ is_pkm header.now }
@@ -38,6 +38,7 @@ pub fn is_pkm(header: &[u8]) -> bool
 }
 
 /// How the pixels are stored, by the data type where it is there.
+#[inline(always)]
 #[tactic(auto, using(imagesize_source::proofs::Runs::steps, imagesize_source::proofs::Numbers::big_2), unfolding(crate::specs::Pkm::pkm_compression))]
 pub fn detect_compression<S: Source>(source: &mut S) -> ImageResult<PkmCompression>
     ensures { Runs (S.state source.old) (S.state source.new) result
@@ -50,6 +51,7 @@ pub fn detect_compression<S: Source>(source: &mut S) -> ImageResult<PkmCompressi
 }
 
 // How the pixels of a data type are stored.
+#[inline(always)]
 fn compression(data_type: u16) -> PkmCompression
     ensures { result ≡ look_up pkm_data_types PkmCompression.Unknown data_type }
 {
@@ -67,6 +69,7 @@ fn compression(data_type: u16) -> PkmCompression
 }
 
 /// The width and the height. Those that are rounded up to whole blocks are read too.
+#[inline(always)]
 #[tactic(auto, using(imagesize_source::proofs::Runs::steps))]
 pub fn size<S: Source>(source: &mut S) -> ImageResult<ImageSize>
     ensures { Runs (S.state source.old) (S.state source.new) result

@@ -13,7 +13,7 @@ use imagesize_types::compression::PvrtcCompression;
 use imagesize_types::size::ImageSize;
 
 /// Whether the length of the older header stands first, or the version of the newer.
-#[inline]
+#[inline(always)]
 #[tactic(auto, unfolding(crate::specs::Pvrtc::is_pvrtc))]
 pub fn matches(head: &[u8; 12]) -> bool
     ensures { result ≡ is_pvrtc head.now }
@@ -21,7 +21,7 @@ pub fn matches(head: &[u8; 12]) -> bool
     matches!(head, [52, 0, 0, 0, ..]) || is_version_3(head)
 }
 
-#[inline]
+#[inline(always)]
 #[tactic(auto, unfolding(crate::specs::Pvrtc::is_pvr3))]
 fn is_version_3(header: &[u8]) -> bool
     ensures { result ≡ is_pvr3 header.now }
@@ -30,6 +30,7 @@ fn is_version_3(header: &[u8]) -> bool
 }
 
 /// How the pixels are stored, which the newer header tells.
+#[inline(always)]
 #[tactic(auto, using(imagesize_source::proofs::Runs::steps), unfolding(crate::specs::Pvrtc::pvrtc_compression))]
 pub fn detect_compression<S: Source>(source: &mut S) -> ImageResult<PvrtcCompression>
     ensures { Runs (S.state source.old) (S.state source.new) result
@@ -45,6 +46,7 @@ pub fn detect_compression<S: Source>(source: &mut S) -> ImageResult<PvrtcCompres
 }
 
 // How the pixels are stored, by the format where it is there.
+#[inline(always)]
 #[tactic(auto, using(imagesize_source::proofs::Runs::steps, imagesize_source::proofs::Numbers::little_8))]
 fn format<S: Source>(source: &mut S) -> ImageResult<PvrtcCompression>
     ensures { Runs (S.state source.old) (S.state source.new) result
@@ -57,6 +59,7 @@ fn format<S: Source>(source: &mut S) -> ImageResult<PvrtcCompression>
 }
 
 // How the pixels of a format are stored.
+#[inline(always)]
 fn format_compression(format: u64) -> PvrtcCompression
     ensures { result ≡ look_up pvrtc_formats PvrtcCompression.Unknown format }
 {
@@ -75,6 +78,7 @@ fn format_compression(format: u64) -> PvrtcCompression
 }
 
 /// The height and the width, by the header that is there.
+#[inline(always)]
 #[tactic(auto, using(imagesize_source::proofs::Runs::steps))]
 pub fn size<S: Source>(source: &mut S) -> ImageResult<ImageSize>
     ensures { Runs (S.state source.old) (S.state source.new) result
@@ -88,6 +92,7 @@ pub fn size<S: Source>(source: &mut S) -> ImageResult<ImageSize>
 }
 
 // The height and the width of the newer header.
+#[inline(always)]
 #[tactic(auto, using(imagesize_source::proofs::Runs::steps))]
 fn newer_size<S: Source>(source: &mut S) -> ImageResult<ImageSize>
     ensures { Runs (S.state source.old) (S.state source.new) result
@@ -99,6 +104,7 @@ fn newer_size<S: Source>(source: &mut S) -> ImageResult<ImageSize>
 }
 
 // The height and the width of the older header.
+#[inline(always)]
 #[tactic(auto, using(imagesize_source::proofs::Runs::steps))]
 pub(super) fn older_size<S: Source>(source: &mut S) -> ImageResult<ImageSize>
     ensures { Runs (S.state source.old) (S.state source.new) result

@@ -10,7 +10,7 @@ use imagesize_source::util::{Endian, read_u16};
 use imagesize_types::size::ImageSize;
 
 /// Whether the magic number 0xA5E0 stands behind the length of the file.
-#[inline]
+#[inline(always)]
 #[tactic(auto, unfolding(crate::specs::Aseprite::is_aseprite))]
 pub fn matches(head: &[u8; 12]) -> bool
     ensures { result ≡ is_aseprite head.now }
@@ -19,6 +19,7 @@ pub fn matches(head: &[u8; 12]) -> bool
 }
 
 /// The width and the height of the sprite.
+#[inline(always)]
 #[tactic(auto, using(imagesize_source::proofs::Runs::steps))]
 pub fn size<S: Source>(source: &mut S) -> ImageResult<ImageSize>
     ensures { Runs (S.state source.old) (S.state source.new) result

@@ -10,7 +10,7 @@ use imagesize_source::util::{Endian, read_u24};
 use imagesize_types::size::ImageSize;
 
 /// Whether the magic number stands first.
-#[inline]
+#[inline(always)]
 #[tactic(auto, unfolding(crate::specs::Astc::is_astc))]
 pub fn matches(head: &[u8; 12]) -> bool
     ensures { result ≡ is_astc head.now }
@@ -19,6 +19,7 @@ pub fn matches(head: &[u8; 12]) -> bool
 }
 
 /// The first two of the three dimensions.
+#[inline(always)]
 #[tactic(auto, using(imagesize_source::proofs::Runs::steps))]
 pub fn size<S: Source>(source: &mut S) -> ImageResult<ImageSize>
     ensures { Runs (S.state source.old) (S.state source.new) result

@@ -10,7 +10,7 @@ use imagesize_source::util::{Endian, read_u16};
 use imagesize_types::size::ImageSize;
 
 /// Whether the signature stands first, of either version.
-#[inline]
+#[inline(always)]
 #[tactic(auto, unfolding(crate::specs::Gif::is_gif))]
 pub fn matches(head: &[u8; 12]) -> bool
     ensures { result ≡ is_gif head.now }
@@ -19,6 +19,7 @@ pub fn matches(head: &[u8; 12]) -> bool
 }
 
 /// The width and the height of the logical screen.
+#[inline(always)]
 #[tactic(auto, using(imagesize_source::proofs::Runs::steps))]
 pub fn size<S: Source>(source: &mut S) -> ImageResult<ImageSize>
     ensures { Runs (S.state source.old) (S.state source.new) result

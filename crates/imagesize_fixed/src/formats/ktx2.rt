@@ -10,7 +10,7 @@ use imagesize_source::util::{Endian, read_u32};
 use imagesize_types::size::ImageSize;
 
 /// Whether the identifier stands first.
-#[inline]
+#[inline(always)]
 #[tactic(auto, unfolding(crate::specs::Ktx2::is_ktx2))]
 pub fn matches(head: &[u8; 12]) -> bool
     ensures { result ≡ is_ktx2 head.now }
@@ -24,6 +24,7 @@ pub fn matches(head: &[u8; 12]) -> bool
 }
 
 /// The width and the height of the texture at its first level.
+#[inline(always)]
 #[tactic(auto, using(imagesize_source::proofs::Runs::steps))]
 pub fn size<S: Source>(source: &mut S) -> ImageResult<ImageSize>
     ensures { Runs (S.state source.old) (S.state source.new) result

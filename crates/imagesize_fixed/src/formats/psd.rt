@@ -10,7 +10,7 @@ use imagesize_source::util::{Endian, read_u32};
 use imagesize_types::size::ImageSize;
 
 /// Whether the signature stands first.
-#[inline]
+#[inline(always)]
 #[tactic(auto, unfolding(crate::specs::Psd::is_psd))]
 pub fn matches(head: &[u8; 12]) -> bool
     ensures { result ≡ is_psd head.now }
@@ -19,6 +19,7 @@ pub fn matches(head: &[u8; 12]) -> bool
 }
 
 /// The height and the width.
+#[inline(always)]
 #[tactic(auto, using(imagesize_source::proofs::Runs::steps))]
 pub fn size<S: Source>(source: &mut S) -> ImageResult<ImageSize>
     ensures { Runs (S.state source.old) (S.state source.new) result

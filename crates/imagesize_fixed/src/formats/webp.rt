@@ -10,7 +10,7 @@ use imagesize_source::{ImageError, ImageResult, Reason};
 use imagesize_types::size::ImageSize;
 
 /// Whether a RIFF form of the type `WEBP` stands first.
-#[inline]
+#[inline(always)]
 #[tactic(auto, unfolding(crate::specs::Webp::is_webp))]
 pub fn matches(head: &[u8; 12]) -> bool
     ensures { result ≡ is_webp head.now }
@@ -22,6 +22,7 @@ pub fn matches(head: &[u8; 12]) -> bool
 }
 
 /// The width and the height of the canvas, or of the one image.
+#[inline(always)]
 #[tactic(auto, using(imagesize_source::proofs::Runs::steps))]
 pub fn size<S: Source>(source: &mut S) -> ImageResult<ImageSize>
     ensures { Runs (S.state source.old) (S.state source.new) result
@@ -37,6 +38,7 @@ pub fn size<S: Source>(source: &mut S) -> ImageResult<ImageSize>
 }
 
 // Of each dimension the low 14 bits; above them stands how to scale it.
+#[inline(always)]
 #[tactic(auto, using(imagesize_source::proofs::Runs::steps))]
 fn lossy_size<S: Source>(source: &mut S) -> ImageResult<ImageSize>
     ensures { Runs (S.state source.old) (S.state source.new) result
@@ -48,6 +50,7 @@ fn lossy_size<S: Source>(source: &mut S) -> ImageResult<ImageSize>
 }
 
 // 14 bits each for the width less one and the height less one.
+#[inline(always)]
 #[tactic(auto, using(imagesize_source::proofs::Runs::steps))]
 fn lossless_size<S: Source>(source: &mut S) -> ImageResult<ImageSize>
     ensures { Runs (S.state source.old) (S.state source.new) result
@@ -60,6 +63,7 @@ fn lossless_size<S: Source>(source: &mut S) -> ImageResult<ImageSize>
 }
 
 // 24 bits each for the width less one and the height less one.
+#[inline(always)]
 #[tactic(auto, using(imagesize_source::proofs::Runs::steps))]
 fn extended_size<S: Source>(source: &mut S) -> ImageResult<ImageSize>
     ensures { Runs (S.state source.old) (S.state source.new) result
@@ -70,7 +74,7 @@ fn extended_size<S: Source>(source: &mut S) -> ImageResult<ImageSize>
     Ok(ImageSize { width, height })
 }
 
-#[inline]
+#[inline(always)]
 fn low_14_bits(number: u32) -> usize
     ensures { result ≡ number % 2 ^ 14 }
 {

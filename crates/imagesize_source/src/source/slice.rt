@@ -62,7 +62,7 @@ pub(crate) fn copy_part(bytes: &[u8], place: u64, room: &mut [u8]) -> usize
 }
 
 /// The text from a place on, of at most so many bytes.
-fn text_at(bytes: &[u8], place: u64, text: Text, most: usize) -> &[u8]
+pub(crate) fn text_at(bytes: &[u8], place: u64, text: Text, most: usize) -> &[u8]
     ensures text { result.now ≡ text_part bytes.now text place most }
     ensures fits { length result.now ≤ most }
     ensures there { 0 < length result.now → place < length bytes.now }

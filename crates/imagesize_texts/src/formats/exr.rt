@@ -3,7 +3,7 @@ ghost use Rattle.std.specs.Prelude.{◌≡◌};
 ghost use Rattle.imagesize_texts.specs.Exr.{is_exr};
 
 /// Whether the magic number stands first.
-#[inline]
+#[inline(always)]
 #[tactic(auto, unfolding(crate::specs::Exr::is_exr))]
 pub fn matches(head: &[u8; 12]) -> bool
     ensures { result ≡ is_exr head.now }

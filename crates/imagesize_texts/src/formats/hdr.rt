@@ -1,9 +1,22 @@
 //! Radiance RGBE, by "Picture File Format" of the Radiance reference manual.
-ghost use Rattle.std.specs.Prelude.{◌≡◌};
-ghost use Rattle.imagesize_texts.specs.Hdr.{is_hdr};
+ghost use Rattle.std.specs.Prelude.{◌≡◌, IfOk, option_map};
+ghost use Rattle.imagesize_source.specs.Chain.{chain_at};
+ghost use Rattle.imagesize_source.specs.Layout.{over};
+ghost use Rattle.imagesize_source.specs.Paying.{Nears};
+ghost use Rattle.imagesize_source.specs.Reading.{seen};
+ghost use Rattle.imagesize_source.specs.State.{Runs};
+ghost use Rattle.imagesize_texts.specs.Contents.{words};
+ghost use Rattle.imagesize_texts.specs.Hdr.{hdr, hdr_identifier, hdr_line, hdr_lines, hdr_size, is_hdr, is_identifier, is_resolution, part_said, second_and_fourth};
+ghost use Rattle.imagesize_texts.specs.Texts.{line};
+
+use crate::util::{number, read_line_capped};
+use imagesize_source::source::Source;
+use imagesize_source::util::place_behind;
+use imagesize_source::{ImageError, ImageResult, Reason};
+use imagesize_types::size::ImageSize;
 
 /// Whether the first line is the identifier.
-#[inline]
+#[inline(always)]
 #[tactic(auto, unfolding(crate::specs::Hdr::is_hdr))]
 pub fn matches(head: &[u8; 12]) -> bool
     ensures { result ≡ is_hdr head.now }
@@ -25,4 +38,127 @@ pub fn matches(head: &[u8; 12]) -> bool
             ..
         ]
     ) || matches!(head, [b'#', b'?', b'R', b'G', b'B', b'E', b'\n', ..])
+}
+
+/// The height and the width, which are the second and the fourth word of the first line that begins with an axis.
+#[tactic(auto, using(imagesize_source::proofs::Runs::steps))]
+pub fn size<S: Source>(source: &mut S) -> ImageResult<ImageSize>
+    ensures { Runs (S.state source.old) (S.state source.new) result (hdr (S.state source.old).held.input) }
+{
+    let first = read_identifier(source)?;
+    find_resolution(source, first)
+}
+
+// How many bytes the first line takes, which has to be the identifier.
+#[tactic(auto, using(imagesize_source::proofs::Runs::steps))]
+fn read_identifier<S: Source>(source: &mut S) -> ImageResult<u64>
+    ensures { Runs (S.state source.old) (S.state source.new) result (over (S.state source.old).held.input hdr_identifier) }
+{
+    let mut room = [0u8; 11];
+    let line = read_line_capped(source, 0, b'\n', &mut room)?;
+    if !is_identifier(line) {
+        return Err(ImageError::IoError(Reason::InvalidHdrIdentifier));
+    }
+    Ok(line.len() as u64 + 1)
+}
+
+// The size by the lines from a place on.
+fn find_resolution<S: Source>(source: &mut S, first: u64) -> ImageResult<ImageSize>
+    ensures { Runs (S.state source.old) (S.state source.new) result
+        (chain_at (hdr_lines first) (S.state source.old).held.input) }
+{
+    let mut place = first;
+    loop {
+        match read_part(source, place)? {
+            Part::Size(size) => return Ok(size),
+            Part::Passed { taken } => place = place_behind(place, taken)?,
+        }
+    }
+}
+
+// What a line says.
+enum Part {
+    // The size, by the resolution.
+    Size(ImageSize),
+    // Nothing of the size. It takes so many bytes.
+    Passed { taken: u64 },
+}
+
+// The line at a place.
+#[tactic(auto, using(imagesize_source::proofs::Runs::steps))]
+fn read_part<S: Source>(source: &mut S, place: u64) -> ImageResult<Part>
+    ensures nears { IfOk result (λ part. Nears (S.state source.old) (S.state source.new) place (part_said place part)) }
+    ensures runs { Runs (S.state source.old) (S.state source.new) (seen (λ part. part_said place part) result)
+        (over (S.state source.old).held.input (line 0x0A place 256 (hdr_line place))) }
+{
+    let mut room = [0u8; 256];
+    let line = read_line_capped(source, place, b'\n', &mut room)?;
+    if is_resolution(line) {
+        let Some((height, width)) = lengths(line) else {
+            return Err(ImageError::IoError(Reason::InvalidHdrDimensionsLine));
+        };
+        let size = hdr_size(number(height), number(width))?;
+        return Ok(Part::Size(size));
+    }
+    Ok(Part::Passed {
+        taken: line.len() as u64 + 1,
+    })
+}
+
+// Whether a line begins with an identifier of the format.
+#[inline]
+#[tactic(auto, unfolding(crate::specs::Hdr::is_identifier))]
+fn is_identifier(text: &str) -> bool
+    ensures { result ≡ is_identifier text.now }
+{
+    matches!(
+        text.as_bytes(),
+        [
+            b'#',
+            b'?',
+            b'R',
+            b'A',
+            b'D',
+            b'I',
+            b'A',
+            b'N',
+            b'C',
+            b'E',
+            ..
+        ]
+    ) || matches!(text.as_bytes(), [b'#', b'?', b'R', b'G', b'B', b'E', ..])
+}
+
+// Whether a line begins with an axis and its direction.
+#[inline]
+#[tactic(auto, unfolding(crate::specs::Hdr::is_resolution))]
+fn is_resolution(text: &str) -> bool
+    ensures { result ≡ is_resolution text.now }
+{
+    matches!(text.as_bytes(), [b'-' | b'+', b'X' | b'Y', ..])
+}
+
+// The second and the fourth of exactly four words.
+fn lengths(text: &str) -> Option<(&str, &str)>
+    ensures { option_map (λ lengths. (lengths.0.now, lengths.1.now)) result ≡ second_and_fourth (words text.now) }
+{
+    let mut words = text.split_whitespace();
+    words.next()?;
+    let height = words.next()?;
+    words.next()?;
+    let width = words.next()?;
+    match words.next() {
+        Some(_) => None,
+        None => Some((height, width)),
+    }
+}
+
+// The size of these sides.
+fn hdr_size(height: Option<usize>, width: Option<usize>) -> ImageResult<ImageSize>
+    ensures { result ≡ hdr_size height width }
+{
+    match (height, width) {
+        (Some(height), Some(width)) => Ok(ImageSize { width, height }),
+        _ => Err(ImageError::IoError(Reason::HdrDimensionsNotFound)),
+    }
 }

@@ -1,12 +1,100 @@
 //! The portable bitmaps, by the manual pages pbm(5), pgm(5) and ppm(5) of Netpbm.
-ghost use Rattle.std.specs.Prelude.{◌≡◌};
-ghost use Rattle.imagesize_texts.specs.Pnm.{is_pnm};
+ghost use Rattle.std.specs.Prelude.{◌≡◌, IfOk};
+ghost use Rattle.imagesize_source.specs.Layout.{over};
+ghost use Rattle.imagesize_source.specs.Paying.{Nears};
+ghost use Rattle.imagesize_source.specs.Reading.{seen};
+ghost use Rattle.imagesize_source.specs.State.{Runs};
+ghost use Rattle.imagesize_texts.specs.Pnm.{is_blank, is_comment, is_pnm, part_said, pnm, pnm_size, pnm_word};
+ghost use Rattle.imagesize_texts.specs.Texts.{word};
+
+use crate::util::{WORD_ROOM, number, pass_line_behind, read_word, read_word_behind};
+use imagesize_source::source::Source;
+use imagesize_source::util::place_behind;
+use imagesize_source::{ImageError, ImageResult, Reason};
+use imagesize_types::size::ImageSize;
 
 /// Whether a magic number from `P1` to `P6` stands first.
-#[inline]
+#[inline(always)]
 #[tactic(auto, unfolding(crate::specs::Pnm::is_pnm))]
 pub fn matches(head: &[u8; 12]) -> bool
     ensures { result ≡ is_pnm head.now }
 {
     matches!(head, [b'P', b'1'..=b'6', ..])
+}
+
+/// The width and the height, which are the first two words that are neither in a comment nor blank.
+pub fn size<S: Source>(source: &mut S) -> ImageResult<ImageSize>
+    ensures { Runs (S.state source.old) (S.state source.new) result (pnm (S.state source.old).held.input) }
+{
+    let mut place: u64 = 2;
+    loop {
+        match read_part(source, place)? {
+            Part::Size(size) => return Ok(size),
+            Part::Passed { taken } => place = place_behind(place, taken)?,
+        }
+    }
+}
+
+// What a word and what goes with it say.
+enum Part {
+    // The size, where the word is the width.
+    Size(ImageSize),
+    // Nothing of the size. It takes so many bytes.
+    Passed { taken: u64 },
+}
+
+// The word at a place: with the height, where it is the width, and where it begins a comment with the rest of that.
+#[tactic(auto, using(imagesize_source::proofs::Runs::steps))]
+fn read_part<S: Source>(source: &mut S, place: u64) -> ImageResult<Part>
+    ensures nears { IfOk result (λ part. Nears (S.state source.old) (S.state source.new) place (part_said place part)) }
+    ensures runs { Runs (S.state source.old) (S.state source.new) (seen (λ part. part_said place part) result)
+        (over (S.state source.old).held.input (word place (pnm_word place))) }
+{
+    let mut room = [0u8; WORD_ROOM];
+    let word = read_word(source, place, &mut room)?;
+    let taken = word.taken as u64;
+    if is_comment(word.text) {
+        if word.ended_by == b'\n' {
+            return Ok(Part::Passed { taken });
+        }
+        let rest = pass_line_behind(source, place, taken, b'\n', &mut room)?;
+        return Ok(Part::Passed {
+            taken: taken + rest as u64,
+        });
+    }
+    if is_blank(word.text) {
+        return Ok(Part::Passed { taken });
+    }
+    let width = number(word.text);
+    let next = read_word_behind(source, place, taken, &mut room)?;
+    let size = pnm_size(width, number(next.text.trim()))?;
+    Ok(Part::Size(size))
+}
+
+// Whether a word begins a comment.
+#[inline]
+#[tactic(auto, unfolding(crate::specs::Pnm::is_comment))]
+fn is_comment(text: &str) -> bool
+    ensures { result ≡ is_comment text.now }
+{
+    matches!(text.trim().as_bytes(), [b'#', ..])
+}
+
+// Whether a word is white space alone.
+#[inline]
+#[tactic(auto, unfolding(crate::specs::Pnm::is_blank))]
+fn is_blank(text: &str) -> bool
+    ensures { result ≡ is_blank text.now }
+{
+    text.trim().is_empty()
+}
+
+// The size of these sides.
+fn pnm_size(width: Option<usize>, height: Option<usize>) -> ImageResult<ImageSize>
+    ensures { result ≡ pnm_size width height }
+{
+    match (width, height) {
+        (Some(width), Some(height)) => Ok(ImageSize { width, height }),
+        _ => Err(ImageError::IoError(Reason::PnmDimensionsNotFound)),
+    }
 }

@@ -14,7 +14,7 @@ use imagesize_source::{ImageError, ImageResult};
 use imagesize_types::size::{ImageSize, area};
 
 /// Whether a directory of icons stands first.
-#[inline]
+#[inline(always)]
 #[tactic(auto, unfolding(crate::specs::Ico::is_ico))]
 pub fn matches(head: &[u8; 12]) -> bool
     ensures { result ≡ is_ico head.now }
@@ -90,6 +90,3 @@ fn icon_side(byte: u8) -> usize
 {
     if byte == 0 { 256 } else { byte as usize }
 }
-
-#[cfg(test)]
-mod tests;

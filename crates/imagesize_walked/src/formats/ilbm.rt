@@ -12,7 +12,7 @@ use imagesize_source::{ImageError, ImageResult};
 use imagesize_types::size::ImageSize;
 
 /// Whether a form of the type `ILBM` or `PBM ` stands first.
-#[inline]
+#[inline(always)]
 #[tactic(auto, unfolding(crate::specs::Ilbm::is_ilbm))]
 pub fn matches(head: &[u8; 12]) -> bool
     ensures { result ≡ is_ilbm head.now }
@@ -64,14 +64,14 @@ fn read_chunk<S: Source>(source: &mut S, place: u64) -> ImageResult<Chunk>
     })
 }
 
-#[inline]
+#[inline(always)]
 fn is_bitmap_header(head: &[u8; 8]) -> bool
     ensures { result ≡ is_bitmap_header head.now }
 {
     matches!(head, [b'B', b'M', b'H', b'D', ..])
 }
 
-#[inline]
+#[inline(always)]
 fn is_body(head: &[u8; 8]) -> bool
     ensures { result ≡ is_body head.now }
 {
@@ -79,7 +79,7 @@ fn is_body(head: &[u8; 8]) -> bool
 }
 
 // The length of a chunk's data.
-#[inline]
+#[inline(always)]
 #[tactic(auto, using(imagesize_source::proofs::Bytes::last_four), unfolding(crate::specs::Ilbm::chunk_length))]
 fn chunk_length(head: &[u8; 8]) -> u32
     ensures { result ≡ chunk_length head.now }
@@ -88,13 +88,10 @@ fn chunk_length(head: &[u8; 8]) -> u32
 }
 
 // How many bytes a chunk has whose data is so long, with its name, its length and the padding of odd data.
-#[inline]
+#[inline(always)]
 fn chunk_bytes(length: u32) -> u64
     ensures { result ≡ chunk_bytes length }
 {
     let length = length as u64;
     8 + (length + length % 2)
 }
-
-#[cfg(test)]
-mod tests;

@@ -1,5 +1,5 @@
 //! JPEG, by ITU-T T.81, annex B: its segments up to the first frame that is of the image itself.
-ghost use Rattle.std.specs.Prelude.{◌≡◌, ◌<◌, ◌+◌, ◌^◌, IfOk};
+ghost use Rattle.std.specs.Prelude.{◌≡◌, ◌↔◌, ◌<◌, ◌+◌, ◌^◌, IfOk, IsTrue};
 ghost use Rattle.imagesize_walked.specs.Jpeg.{EndsInner, depth_behind, is_frame, is_jpeg, is_own_end, is_own_frame, jpeg, jpeg_segment, segment_said};
 ghost use Rattle.imagesize_source.specs.Layout.{over};
 ghost use Rattle.imagesize_source.specs.Paying.{Nears};
@@ -12,7 +12,7 @@ use imagesize_source::{ImageError, ImageResult};
 use imagesize_types::size::ImageSize;
 
 /// Whether the start of the image stands first, and another marker behind it.
-#[inline]
+#[inline(always)]
 #[tactic(auto, unfolding(crate::specs::Jpeg::is_jpeg))]
 pub fn matches(head: &[u8; 12]) -> bool
     ensures { result ≡ is_jpeg head.now }
@@ -45,7 +45,37 @@ enum Segment {
     Other { marker: u8, length: u16 },
 }
 
+// What a marker is to the image itself.
+#[derive(Clone, Copy)]
+enum Role {
+    // It starts a frame of the image.
+    Frame,
+    // It ends the image.
+    End,
+    // Neither.
+    Other,
+}
+
+// What a marker is that stands so deep within the image. Most are none of those from C0 to D9.
+#[inline(always)]
+fn role_of(depth: u64, marker: u8) -> Role
+    ensures frame { (result ≡ Role.Frame) ↔ IsTrue (is_own_frame depth marker) }
+    ensures end { (result ≡ Role.End) ↔ IsTrue (is_own_end depth marker) }
+{
+    if !matches!(marker, 0xC0..=0xD9) {
+        return Role::Other;
+    }
+    if is_own_frame(depth, marker) {
+        return Role::Frame;
+    }
+    if is_own_end(depth, marker) {
+        return Role::End;
+    }
+    Role::Other
+}
+
 // The segment at a place, which stands so deep within the image.
+#[inline]
 #[tactic(auto, using(imagesize_source::proofs::Runs::steps))]
 fn read_segment<S: Source>(source: &mut S, place: u64, depth: u64) -> ImageResult<Segment>
     ensures nears { IfOk result (λ found. Nears (S.state source.old) (S.state source.new) place (segment_said place found)) }
@@ -57,20 +87,21 @@ fn read_segment<S: Source>(source: &mut S, place: u64, depth: u64) -> ImageResul
     if first != 0xFF {
         return Err(ImageError::CorruptedImage);
     }
-    if is_own_frame(depth, marker) {
-        let height = read_u16_behind(source, place, 5, Endian::Big)? as usize;
-        let width = read_u16_behind(source, place, 7, Endian::Big)? as usize;
-        return Ok(Segment::Frame(ImageSize { width, height }));
-    }
-    if is_own_end(depth, marker) {
-        return Err(ImageError::CorruptedImage);
+    match role_of(depth, marker) {
+        Role::Frame => {
+            let height = read_u16_behind(source, place, 5, Endian::Big)? as usize;
+            let width = read_u16_behind(source, place, 7, Endian::Big)? as usize;
+            return Ok(Segment::Frame(ImageSize { width, height }));
+        }
+        Role::End => return Err(ImageError::CorruptedImage),
+        Role::Other => {}
     }
     let length = read_u16_behind(source, place, 2, Endian::Big)?;
     Ok(Segment::Other { marker, length })
 }
 
 // Whether a marker starts a frame.
-#[inline]
+#[inline(always)]
 fn is_frame(marker: u8) -> bool
     ensures { result ≡ is_frame marker }
 {
@@ -78,7 +109,7 @@ fn is_frame(marker: u8) -> bool
 }
 
 // Whether a marker starts a frame of the image itself.
-#[inline]
+#[inline(always)]
 fn is_own_frame(depth: u64, marker: u8) -> bool
     ensures { result ≡ is_own_frame depth marker }
 {
@@ -86,7 +117,7 @@ fn is_own_frame(depth: u64, marker: u8) -> bool
 }
 
 // Whether a marker ends the image itself.
-#[inline]
+#[inline(always)]
 fn is_own_end(depth: u64, marker: u8) -> bool
     ensures { result ≡ is_own_end depth marker }
 {
@@ -94,7 +125,7 @@ fn is_own_end(depth: u64, marker: u8) -> bool
 }
 
 // The depth behind a segment with this marker.
-#[inline]
+#[inline(always)]
 fn depth_behind(depth: u64, marker: u8) -> u64
     requires fits { depth + 1 < 2 ^ 64 }
     requires inner { marker ≡ 0xD9 → 0 < depth }
@@ -106,6 +137,3 @@ fn depth_behind(depth: u64, marker: u8) -> u64
         _ => depth,
     }
 }
-
-#[cfg(test)]
-mod tests;

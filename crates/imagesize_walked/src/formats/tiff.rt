@@ -1,9 +1,20 @@
-//! TIFF and BigTIFF, by section 2 (Image File Header) of TIFF 6.0 and by the BigTIFF proposal.
-ghost use Rattle.std.specs.Prelude.{◌≡◌};
-ghost use Rattle.imagesize_walked.specs.Tiff.{is_tiff};
+//! TIFF, by "TIFF Revision 6.0" (section 2), and BigTIFF, by "The BigTIFF File Format".
+ghost use Rattle.std.specs.Prelude.{◌≡◌, ◌+◌, ◌*◌, ◌-◌, ◌^◌, ◌≤◌, ◌==◌, if◌then◌else◌, min, take};
+ghost use Rattle.imagesize_walked.specs.Tiff.{byte_order, count_bytes, directory_at, entry_bytes, head_bytes, is_tiff, kind_in, kind_of, size_of_sides, stated_place, tag_in, tiff, tiff_entries, tiff_entry, tiff_head, tiff_header, tiff_value, value_of, version_of, whole_value};
+ghost use Rattle.imagesize_source.specs.Chain.{chain_at};
+ghost use Rattle.imagesize_source.specs.Layout.{if_there, over};
+ghost use Rattle.imagesize_source.specs.Layout.Layout.{«done»};
+ghost use Rattle.imagesize_source.specs.Numbers.{number};
+ghost use Rattle.imagesize_source.specs.Reading.{number_read};
+ghost use Rattle.imagesize_source.specs.State.{Runs, Sound};
+
+use imagesize_source::source::Source;
+use imagesize_source::util::{Endian, read_bytes, read_if_there, read_u16, read_u32, read_u64};
+use imagesize_source::{ImageError, ImageResult, Reason};
+use imagesize_types::size::ImageSize;
 
 /// Whether the order of the bytes stands first, and the version behind it.
-#[inline]
+#[inline(always)]
 #[tactic(auto, unfolding(crate::specs::Tiff::is_tiff))]
 pub fn matches(head: &[u8; 12]) -> bool
     ensures { result ≡ is_tiff head.now }
@@ -12,4 +23,368 @@ pub fn matches(head: &[u8; 12]) -> bool
         head,
         [b'I', b'I', 42 | 43, 0, ..] | [b'M', b'M', 0, 42 | 43, ..]
     )
+}
+
+/// The width and the height, by the first entry of the first directory behind which both are known.
+#[tactic(auto, using(imagesize_source::proofs::Runs::steps))]
+pub fn size<S: Source>(source: &mut S) -> ImageResult<ImageSize>
+    ensures { Runs (S.state source.old) (S.state source.new) result (tiff (S.state source.old).held.input) }
+{
+    let header = read_header(source)?;
+    let count = read_count(source, &header)?;
+    find_size(source, &header, count)
+}
+
+// Which of the two formats it is.
+#[derive(Clone, Copy)]
+enum Version {
+    Tiff,
+    BigTiff,
+}
+
+// The order of all numbers, which format it is, and where the first directory stands.
+#[derive(Clone, Copy)]
+struct Header {
+    order: Endian,
+    version: Version,
+    directory: u64,
+}
+
+// The header.
+#[tactic(auto, using(imagesize_source::proofs::Runs::steps, imagesize_source::proofs::Layouts::binding), unfolding(crate::specs::Tiff::tiff_header))]
+fn read_header<S: Source>(source: &mut S) -> ImageResult<Header>
+    ensures { Runs (S.state source.old) (S.state source.new) result
+        (over (S.state source.old).held.input tiff_header) }
+{
+    let mark = read_bytes::<S, 2>(source, 0)?;
+    let order = byte_order(mark)?;
+    let version = version_of(read_u16(source, 2, order)?)?;
+    let place = read_place(source, order, version)?;
+    let header = directory_at(order, version, place)?;
+    Ok(header)
+}
+
+// The order of all numbers, by the first two bytes.
+#[inline(always)]
+fn byte_order(mark: [u8; 2]) -> ImageResult<Endian>
+    ensures { result ≡ byte_order mark }
+{
+    match mark {
+        [b'I', b'I'] => Ok(Endian::Little),
+        [b'M', b'M'] => Ok(Endian::Big),
+        _ => Err(ImageError::IoError(Reason::InvalidTiffHeader)),
+    }
+}
+
+// The format, by the number behind the order.
+#[inline(always)]
+fn version_of(number: u16) -> ImageResult<Version>
+    ensures { result ≡ version_of number }
+{
+    match number {
+        42 => Ok(Version::Tiff),
+        43 => Ok(Version::BigTiff),
+        _ => Err(ImageError::IoError(Reason::InvalidTiffHeader)),
+    }
+}
+
+// The header whose directory stands at a place, which is never 0.
+#[inline(always)]
+fn directory_at(order: Endian, version: Version, place: u64) -> ImageResult<Header>
+    ensures { result ≡ directory_at order version place }
+{
+    if place == 0 {
+        return Err(ImageError::IoError(Reason::InvalidIfdOffset));
+    }
+    Ok(Header {
+        order,
+        version,
+        directory: place,
+    })
+}
+
+// The place of the first directory, as it is stated.
+#[tactic(auto, using(imagesize_source::proofs::Runs::steps), unfolding(crate::specs::Tiff::stated_place))]
+fn read_place<S: Source>(source: &mut S, order: Endian, version: Version) -> ImageResult<u64>
+    ensures { Runs (S.state source.old) (S.state source.new) result
+        (over (S.state source.old).held.input (stated_place order version)) }
+{
+    match version {
+        Version::Tiff => {
+            let place = read_u32(source, 4, order)?;
+            Ok(place as u64)
+        }
+        Version::BigTiff => read_big_place(source, order),
+    }
+}
+
+// The same of BigTIFF, behind the size of a place and two bytes that are zero.
+#[tactic(auto, using(imagesize_source::proofs::Runs::steps), unfolding(crate::specs::Tiff::stated_place))]
+fn read_big_place<S: Source>(source: &mut S, order: Endian) -> ImageResult<u64>
+    ensures { Runs (S.state source.old) (S.state source.new) result
+        (over (S.state source.old).held.input (stated_place order Version.BigTiff)) }
+{
+    if read_u16(source, 4, order)? != 8 {
+        return Err(ImageError::IoError(Reason::BigTiffOffsetSize));
+    }
+    if read_u16(source, 6, order)? != 0 {
+        return Err(ImageError::IoError(Reason::InvalidBigTiffHeader));
+    }
+    let place = read_u64(source, 8, order)?;
+    Ok(place)
+}
+
+// How many entries the directory says that it has.
+#[tactic(auto, using(imagesize_source::proofs::Runs::steps))]
+fn read_count<S: Source>(source: &mut S, header: &Header) -> ImageResult<u64>
+    ensures { Runs (S.state source.old) (S.state source.new) result
+        (number_read (S.state source.old).held.input header.now.order header.now.directory (count_bytes header.now.version)) }
+{
+    match header.version {
+        Version::Tiff => {
+            let count = read_u16(source, header.directory, header.order)?;
+            Ok(count as u64)
+        }
+        Version::BigTiff => read_u64(source, header.directory, header.order),
+    }
+}
+
+// The size by the first so many entries of the directory.
+fn find_size<S: Source>(source: &mut S, header: &Header, count: u64) -> ImageResult<ImageSize>
+    requires { Sound (S.state source.old) }
+    ensures { Runs (S.state source.old) (S.state source.new) result
+        (chain_at (tiff_entries header.now count) (S.state source.old).held.input) }
+{
+    let mut width: Option<u32> = None;
+    let mut height: Option<u32> = None;
+    for index in 0..count {
+        let entry = read_entry(source, header, entry_place(header, index))?;
+        width = side_behind(0x100, width, &entry);
+        height = side_behind(0x101, height, &entry);
+        if let Some(size) = size_of_sides(width, height) {
+            return Ok(size);
+        }
+    }
+    Err(ImageError::IoError(Reason::NoDimensionsInIfd))
+}
+
+// Where an entry stands. A place above 2^64 - 1 is behind the end of every input.
+#[inline(always)]
+fn entry_place(header: &Header, index: u64) -> u64
+    ensures { result ≡ min (header.now.directory + count_bytes header.now.version + entry_bytes header.now.version * index) (2 ^ 64 - 1) }
+{
+    let first = header.directory.saturating_add(count_bytes(header.version));
+    first.saturating_add(index.saturating_mul(entry_bytes(header.version)))
+}
+
+#[inline(always)]
+fn count_bytes(version: Version) -> u64
+    ensures { result ≡ count_bytes version }
+{
+    match version {
+        Version::Tiff => 2,
+        Version::BigTiff => 8,
+    }
+}
+
+#[inline(always)]
+fn entry_bytes(version: Version) -> u64
+    ensures { result ≡ entry_bytes version }
+{
+    match version {
+        Version::Tiff => 12,
+        Version::BigTiff => 20,
+    }
+}
+
+// What an entry says: its tag, and its value where its kind has one that a side can be.
+#[derive(Clone, Copy)]
+struct Entry {
+    tag: u16,
+    value: Option<u32>,
+}
+
+// A side of the image behind an entry: where it has the side's tag its value, also where it has none.
+#[inline(always)]
+fn side_behind(tag: u16, side: Option<u32>, entry: &Entry) -> Option<u32>
+    ensures { result ≡ (if entry.now.tag == tag then entry.now.value else side) }
+{
+    if entry.tag == tag { entry.value } else { side }
+}
+
+// The size, where both sides are known.
+#[inline(always)]
+fn size_of_sides(width: Option<u32>, height: Option<u32>) -> Option<ImageSize>
+    ensures { result ≡ size_of_sides width height }
+{
+    match (width, height) {
+        (Some(width), Some(height)) => Some(ImageSize {
+            width: width as usize,
+            height: height as usize,
+        }),
+        _ => None,
+    }
+}
+
+// The entry at a place. Its kind is judged before its value is read.
+#[inline(always)]
+#[tactic(auto, using(imagesize_source::proofs::Runs::steps, imagesize_source::proofs::Layouts::binding), unfolding(crate::specs::Tiff::tiff_entry))]
+fn read_entry<S: Source>(source: &mut S, header: &Header, place: u64) -> ImageResult<Entry>
+    ensures { Runs (S.state source.old) (S.state source.new) result
+        (over (S.state source.old).held.input (tiff_entry header.now place)) }
+{
+    let head = read_head(source, header.version, place)?;
+    let kind = kind_of(header.version, kind_in(header.order, head))?;
+    let value = read_value(source, header.version, place)?;
+    Ok(Entry {
+        tag: tag_in(header.order, head),
+        value: value_of(header.order, kind, value),
+    })
+}
+
+// The first four bytes of an entry's head, which is read whole.
+#[inline(always)]
+#[tactic(auto, using(imagesize_source::proofs::Runs::steps), unfolding(crate::specs::Tiff::tiff_head))]
+fn read_head<S: Source>(source: &mut S, version: Version, place: u64) -> ImageResult<[u8; 4]>
+    ensures { Runs (S.state source.old) (S.state source.new) result
+        (over (S.state source.old).held.input (tiff_head version place)) }
+{
+    match version {
+        Version::Tiff => {
+            let head = read_bytes::<S, 8>(source, place)?;
+            Ok(first_four(head))
+        }
+        Version::BigTiff => {
+            let head = read_bytes::<S, 12>(source, place)?;
+            Ok(first_four(head))
+        }
+    }
+}
+
+// The first four bytes of the value of the entry at a place, which is read whole.
+#[inline(always)]
+#[tactic(auto, using(imagesize_source::proofs::Runs::steps), unfolding(crate::specs::Tiff::tiff_value))]
+fn read_value<S: Source>(source: &mut S, version: Version, place: u64) -> ImageResult<[u8; 4]>
+    ensures { Runs (S.state source.old) (S.state source.new) result
+        (over (S.state source.old).held.input (tiff_value version (place + head_bytes version))) }
+{
+    match version {
+        Version::Tiff => {
+            let value = whole_value(read_behind::<S, 4>(source, place, 8)?)?;
+            Ok(value)
+        }
+        Version::BigTiff => {
+            let value = whole_value(read_behind::<S, 8>(source, place, 12)?)?;
+            Ok(value)
+        }
+    }
+}
+
+// The first four bytes of a value that the end of the input does not cut.
+#[inline(always)]
+fn whole_value<const N: usize>(found: Option<[u8; N]>) -> ImageResult<[u8; 4]>
+    requires { 4 ≤ N }
+    ensures { result ≡ whole_value found.entry }
+{
+    match found {
+        Some(value) => Ok(first_four(value)),
+        None => Err(ImageError::IoError(Reason::InvalidIfdValueLength)),
+    }
+}
+
+// The `N` bytes so far behind a place, or none where the input ends before the last of them.
+#[inline(always)]
+fn read_behind<S: Source, const N: usize>(
+    source: &mut S,
+    place: u64,
+    distance: u64,
+) -> ImageResult<Option<[u8; N]>>
+    ensures { Runs (S.state source.old) (S.state source.new) result
+        (over (S.state source.old).held.input (if_there (place + distance) N done)) }
+{
+    read_if_there::<S, N>(source, place.saturating_add(distance))
+}
+
+#[inline(always)]
+fn first_four<const N: usize>(bytes: [u8; N]) -> [u8; 4]
+    requires { 4 ≤ N }
+    ensures { result ≡ take 4 bytes.entry }
+{
+    [bytes[0], bytes[1], bytes[2], bytes[3]]
+}
+
+#[inline(always)]
+fn tag_in(order: Endian, head: [u8; 4]) -> u16
+    ensures { result ≡ tag_in order head }
+{
+    let [first, second, _, _] = head;
+    number_of_two(order, [first, second])
+}
+
+#[inline(always)]
+fn kind_in(order: Endian, head: [u8; 4]) -> u16
+    ensures { result ≡ kind_in order head }
+{
+    let [_, _, first, second] = head;
+    number_of_two(order, [first, second])
+}
+
+// What an entry's value is, by its kind.
+#[derive(Clone, Copy)]
+enum Kind {
+    // A number of two bytes.
+    Short,
+    // A number of four bytes.
+    Long,
+    // Anything else.
+    Other,
+}
+
+// What the value of a kind is. Three kinds are those of BigTIFF alone.
+fn kind_of(version: Version, kind: u16) -> ImageResult<Kind>
+    ensures { result ≡ kind_of version kind }
+{
+    match (kind, version) {
+        (3 | 8, _) => Ok(Kind::Short),
+        (4 | 9 | 11 | 13, _) => Ok(Kind::Long),
+        (1 | 2 | 5 | 6 | 7 | 10 | 12, _) => Ok(Kind::Other),
+        (16..=18, Version::BigTiff) => Ok(Kind::Other),
+        (16..=18, Version::Tiff) => Err(ImageError::IoError(Reason::IfdTypeForStandardTiff)),
+        _ => Err(ImageError::IoError(Reason::InvalidIfdType)),
+    }
+}
+
+// The number that the first four bytes of a value begin with.
+#[inline(always)]
+fn value_of(order: Endian, kind: Kind, value: [u8; 4]) -> Option<u32>
+    ensures { result ≡ value_of order kind value }
+{
+    let [first, second, _, _] = value;
+    match kind {
+        Kind::Short => Some(number_of_two(order, [first, second]) as u32),
+        Kind::Long => Some(number_of_four(order, value)),
+        Kind::Other => None,
+    }
+}
+
+#[inline(always)]
+#[tactic(auto, using(imagesize_source::proofs::Numbers::little_2, imagesize_source::proofs::Numbers::big_2))]
+fn number_of_two(order: Endian, bytes: [u8; 2]) -> u16
+    ensures { result ≡ number order bytes }
+{
+    match order {
+        Endian::Little => u16::from_le_bytes(bytes),
+        Endian::Big => u16::from_be_bytes(bytes),
+    }
+}
+
+#[inline(always)]
+#[tactic(auto, using(imagesize_source::proofs::Numbers::little_4, imagesize_source::proofs::Numbers::big_4))]
+fn number_of_four(order: Endian, bytes: [u8; 4]) -> u32
+    ensures { result ≡ number order bytes }
+{
+    match order {
+        Endian::Little => u32::from_le_bytes(bytes),
+        Endian::Big => u32::from_be_bytes(bytes),
+    }
 }

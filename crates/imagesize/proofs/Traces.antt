@@ -1,0 +1,53 @@
+-- What a recording slice shows of an answer.
+use Rattle.std.proofs.Common.{◌≡◌, ℕ, Bool, true, false, List, [], Result, Ok, Err, refl, sym, ap, ◌∙◌, inl, inr}
+use Rattle.imagesize.specs.Meaning.{kind_of, meaning, size_of}
+use Rattle.imagesize.specs.Probed.{FindsKind}
+use Rattle.imagesize.specs.Traced.{IsSame, Traces, lacks_memory}
+use Rattle.imagesize.specs.declared.trace.Trace.{Trace}
+use Rattle.imagesize_types.specs.declared.size.ImageSize.{ImageSize}
+use Rattle.imagesize.proofs.Locality.{local_kind, local_meaning}
+use Rattle.imagesize_source.proofs.Agreement.{agrees_first}
+use Rattle.imagesize_source.proofs.Openings.{stop_cases, some_spent}
+use Rattle.imagesize_source.proofs.Recordings.{past-recording}
+use Rattle.imagesize_source.specs.Agreement.{Agrees}
+use Rattle.imagesize_source.specs.Reading.{Reads, stopped, is_stop, spent}
+use Rattle.imagesize_source.specs.State.{State, Runs, recording_state}
+use Rattle.imagesize_source.specs.declared.error.ImageError.{ImageError}
+use Rattle.imagesize_source.specs.declared.span.Span.{Span}
+
+-- one state has one list of spans
+spans_of : {d e : List ℕ} {s t : List Span} → recording_state e s ≡ recording_state d t → s ≡ t
+spans_of e = let same = ap (λ (a : State). a.recorded) e in (cc)
+
+unless : (b : Bool) → (b ≡ true → ⊥) → b ≡ false
+unless true h = absurd (h refl)
+unless false h = refl
+
+-- over a slice no failure and no spent budget ends a call
+goes_on : (d after : List ℕ) (spans : List Span) (r : Result ImageSize ImageError) (reads : Reads ImageSize) → Runs (recording_state d []) (recording_state after spans) r reads → lacks_memory r ≡ false → stopped r ≡ false
+goes_on d after spans (Ok _) reads h memory = refl
+goes_on d after spans (Err e) reads h memory = unless (is_stop e) (λ stops. elim (stop_cases e stops) [
+  | inl faults ↦ let no : false ≡ true = h.fault refl faults in (cc)
+  | inr other ↦ elim other [
+    | inl all ↦ let no : false ≡ true = (some_spent (spent e) all.0 (λ n. (false ≡ true) × (n ≡ 0) × (n ≡ 0)) all.1 h.ended.budget).0 in (cc)
+    | inr refused ↦ (cc)
+  ]
+])
+
+-- where memory was found, the spans are those of the readings
+pub traced : {A : Type 0} (d after : List ℕ) (t : Trace A) → Runs (recording_state d []) (recording_state after t.spans.items) t.answer (meaning d 0) → FindsKind (recording_state d []) 0 t.kind t.answer → lacks_memory t.answer ≡ false → Traces d t
+traced d after t h finds memory =
+    let on = goes_on d after t.spans.items t.answer (meaning d 0) h memory in
+    record {
+      kind = finds.whole refl on;
+      answer = sym (h.answer refl on);
+      spans = spans_of (h.state refl on ∙ past-recording d [] (meaning d 0).marks);
+    }
+
+-- an input that agrees on the marks is the same
+pub same : (d e : List ℕ) → Agrees d e (meaning d 0).marks → IsSame d e
+unfolding meaning
+same d e agrees = record {
+  kind = local_kind 0 d e (agrees_first (kind_of d 0).marks (kind_of d 0).answer (λ found. size_of found d) agrees);
+  meaning = local_meaning 0 d e agrees;
+}

@@ -1,0 +1,64 @@
+//! The bytes that an answer rests on.
+ghost use Rattle.std.specs.Prelude.{◌≡◌, ℕ, IfOk, IsOk, List, length};
+ghost use Rattle.imagesize.specs.Meaning.{meaning};
+ghost use Rattle.imagesize.specs.Traced.{IsSame, Traces, lacks_memory};
+ghost use Rattle.imagesize_source.specs.Agreement.{Agrees};
+
+use crate::calls::probe;
+use crate::types::ImageType;
+use crate::{ImageError, ImageResult, Reason, Span};
+use imagesize_source::source::recording::RecordingSource;
+use imagesize_types::size::ImageSize;
+use std::alloc::{AllocError, Allocator};
+
+/// What a slice was found to hold, and the bytes that this rests on.
+#[derive(Debug, Drop)]
+pub struct Trace<A: Allocator> {
+    /// The type; none exactly where no type was found, and then the answer is that refusal.
+    pub kind: Option<ImageType>,
+    /// The size in pixels, or why there is none.
+    pub answer: ImageResult<ImageSize>,
+    /// The spans of the readings in their order, repeats kept. Another input of the same length that has the same
+    /// bytes at these places has the same type, answer and spans.
+    pub spans: Vec<Span, A>,
+}
+
+/// The type and the size of the image that a slice's bytes hold, and the spans of the readings that tell them.
+///
+/// Errors: `AllocError` where memory for the spans was refused; nothing is left behind then.
+///
+/// ```
+/// use imagesize::blob_trace;
+///
+/// let trace = blob_trace(alloc, b"GIF89a\x80\x02\xe0\x01\0\0")?;
+/// assert_eq!(trace.spans.len(), 3);
+/// ```
+pub fn blob_trace<A: Allocator>(alloc: A, data: &[u8]) -> Result<Trace<A>, AllocError>
+    ensures traces { IfOk result (Traces «data».now) }
+    ensures empty { length «data».now ≡ 0 → IsOk result }
+
+    // Another input of this length that agrees on the marks, which are the spans where there are some, has the same
+    // type, the same answer and the same marks.
+    ensures local { (e : List ℕ) → Agrees «data».now e (meaning «data».now 0).marks → IsSame «data».now e }
+{
+    let mut source = RecordingSource {
+        bytes: data,
+        spans: Vec::new(alloc),
+    };
+    let (kind, answer) = probe(&mut source, 0);
+    if lacks_memory(&answer) {
+        return Err(AllocError);
+    }
+    Ok(Trace {
+        kind,
+        answer,
+        spans: source.spans,
+    })
+}
+
+// Whether memory was refused.
+fn lacks_memory(answer: &ImageResult<ImageSize>) -> bool
+    ensures { result ≡ lacks_memory answer.now }
+{
+    matches!(answer, Err(ImageError::IoError(Reason::Memory)))
+}

@@ -1,0 +1,9 @@
+use Rattle.std.proofs.Common.{arith}
+use Rattle.imagesize_source.proofs.Recordings.{recording_reads_text}
+use Rattle.imagesize_source.proofs.source.recording.RecordingSourceSource.read_text.Goals as goal
+
+pub returns-clause-runs : goal.returns-clause-runs
+returns-clause-runs g c =
+    recording_reads_text c.args.self.now.bytes.now c.args.room.now c.copy_from_slice.new.self c.text_at-found.result.now c.args.text
+    c.args.self.now.spans.items c.record.new.spans.items c.args.place
+    (omega arith) c.text_at-found.ensures.text c.text_at-found.ensures.fits c.copy_from_slice.ensures.after c.in_ok-record.ensures.recorded

@@ -1,0 +1,4 @@
+pub mod Hdr
+pub mod Pnm
+pub mod Texts
+pub mod Words

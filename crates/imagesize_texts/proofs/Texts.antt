@@ -1,0 +1,357 @@
+-- Texts that were read: what was made of them, and what holds of layouts that read them.
+use Rattle.std.proofs.Common.{◌≡◌, ℕ, zero, suc, ◌+◌, ◌-◌, ◌^◌, ◌<◌, ◌≤◌, min, Bool, true, false, ◌||◌, not, cond, eqb, leb, ltb, List, [], ◌∷◌, ◌++◌, length, take, drop, slice_index, Option, None, Some, Result, Ok, Err, IfErr, IfOk, IfSome, refl, sym, ap, ◌∙◌, subst, arith}
+use Rattle.std.proofs.lemmas.Bool.Decides.{nat_tests}
+use Rattle.std.proofs.lemmas.List.{length-take}
+use Rattle.std.specs.Char.{is_ascii_whitespace}
+use Rattle.std.specs.List.{list_any, position_or_len}
+use Rattle.std.specs.Prelude.{◌&&◌}
+use Rattle.std.specs.Str.{is_utf8}
+use Rattle.imagesize_source.specs.declared.error.ImageError.{ImageError}
+use Rattle.imagesize_source.specs.declared.error.ImageError.TheVariants.{IoError}
+use Rattle.imagesize_source.specs.declared.error.Reason.TheVariants.{NoDelimiter, NotUtf8}
+use Rattle.imagesize_source.specs.declared.text.Text.{Text}
+use Rattle.imagesize_source.specs.declared.text.Text.TheVariants.{Line, Word}
+use Rattle.imagesize_source.specs.Chain.{Said}
+use Rattle.imagesize_source.specs.Counts.{AtMost}
+use Rattle.imagesize_source.specs.Extension.{Plain, Never, Lasts}
+use Rattle.imagesize_source.specs.Input.{part, span_at}
+use Rattle.imagesize_source.specs.Layout.{Layout, over}
+use Rattle.imagesize_source.specs.Layout.Layout.{refuse}
+use Rattle.imagesize_source.specs.Paying.{Paid}
+use Rattle.imagesize_source.specs.Reading.{Reads, and_then, onward, refuses, behind, text_part, text_read, is_stop, seen, is_fault, is_memory, spent, stopped, faulted, end_of_input}
+use Rattle.imagesize_source.specs.State.{State, Runs, EndedBy}
+use Rattle.imagesize_source.specs.Text.{is_ended, skipped, delimits}
+use Rattle.imagesize_source.proofs.Advances.{Tells, Begins}
+use Rattle.imagesize_source.proofs.Counts.{text_length}
+use Rattle.imagesize_source.proofs.Layouts.{runs_as}
+use Rattle.imagesize_source.proofs.Runs.{answered, part_is, part_length}
+use Rattle.imagesize_source.proofs.Spends.{Onto}
+use Rattle.imagesize_source.proofs.Tests.{on_test}
+use Rattle.imagesize_texts.specs.Contents.{WordRead, word_room, last_byte, before_last, last_passes, no_end, utf8, line_text, line_length, word_text, ended_word, word_of, word_at, is_word_end, unspaced}
+use Rattle.imagesize_texts.specs.Texts.{found, line, passed_line, word, text_as, line_read, length_read, word_read}
+
+-- a refusal by what was read, and none that ends a call at once
+pub record Harmless (e : ImageError) : Type 0 where
+  pub goes_on : is_stop e ≡ false
+  pub no_fault : is_fault e ≡ false
+  pub none_spent : spent e ≡ None
+  pub memory : is_memory e ≡ false
+
+-- an answer, or such a refusal
+abbrev pub Judged : {X : Type 0} → Result X ImageError → Type 0
+Judged (Ok x) = Unit {0}
+Judged (Err e) = Harmless e
+
+judged_goes_on : {X : Type 0} (r : Result X ImageError) → Judged r → stopped r ≡ false
+judged_goes_on (Ok x) h = refl
+judged_goes_on (Err e) h = h.goes_on
+
+judged_no_fault : {X : Type 0} (r : Result X ImageError) → Judged r → faulted r ≡ false
+judged_no_fault (Ok x) h = refl
+judged_no_fault (Err e) h = h.no_fault
+
+judged_ended : {X : Type 0} (b : State) (r : Result X ImageError) → Judged r → IfErr r (EndedBy b)
+judged_ended b (Ok x) h = tt
+judged_ended b (Err e) h = record {
+  budget = subst (λ s. IfSome s (λ n. (b.frame.counts ≡ true) × (n ≡ b.frame.budget) × (n ≡ b.taken))) (sym h.none_spent) tt;
+  memory = λ is. absurd (let no = h.memory in cc);
+}
+
+-- what is made of a text that was read
+pub text_judged : {X : Type 0} {a b : State} (d : List ℕ) (t : Text) (place k : ℕ) (bs : List ℕ) (f : List ℕ → Result X ImageError) (r : Result X ImageError) → Runs a b (Ok bs) (text_read d t place k) → r ≡ f bs → Judged (f bs) → Runs a b r (text_as d t place k f)
+text_judged {X} {a} {b} d t place k bs f r h is fine =
+    let fine_r : Judged r = subst Judged (sym is) fine in
+    answered r (text_as d t place k f) h refl (λ read. ap f (part_is read) ∙ sym is) (judged_goes_on r fine_r) (judged_no_fault r fine_r) (judged_ended b r fine_r)
+
+-- nothing is made of one whose reading was stopped
+pub text_stopped : {X : Type 0} {a b : State} (d : List ℕ) (t : Text) (place k : ℕ) (e : ImageError) (f : List ℕ → Result X ImageError) → Runs {X = List ℕ} a b (Err e) (text_read d t place k) → Runs {X = X} a b (Err e) (text_as d t place k f)
+text_stopped d t place k e f h = record {
+  sound = h.sound;
+  sound_after = h.sound_after;
+  frame = h.frame;
+  taken = h.taken;
+  within = h.within;
+  answer = λ honest goes_on. absurd (let no = h.answer honest goes_on in cc);
+  state = h.state;
+  fault = h.fault;
+  ended = h.ended;
+}
+
+no_end_harmless : (most count : ℕ) → Harmless (no_end most count)
+no_end_harmless most count = on_test Harmless (eqb count most) (IoError (NoDelimiter most)) end_of_input
+    (λ _. record { goes_on = refl; no_fault = refl; none_spent = refl; memory = refl }) (λ _. record { goes_on = refl; no_fault = refl; none_spent = refl; memory = refl })
+
+utf8_judged : (bs : List ℕ) → Judged (utf8 bs)
+unfolding utf8
+utf8_judged bs = on_test Judged (is_utf8 bs) (Ok bs) (Err (IoError NotUtf8)) (λ _. tt) (λ _. record { goes_on = refl; no_fault = refl; none_spent = refl; memory = refl })
+
+line_judged : (delimiter most : ℕ) (bs : List ℕ) → Judged (line_text delimiter most bs)
+unfolding line_text
+line_judged delimiter most bs = on_test Judged (last_passes (λ b. eqb b delimiter) bs) (utf8 (before_last bs)) (Err (no_end most (length bs))) (λ _. utf8_judged (before_last bs)) (λ _. no_end_harmless most (length bs))
+
+length_judged : (delimiter most : ℕ) (bs : List ℕ) → Judged (line_length delimiter most bs)
+unfolding line_length
+length_judged delimiter most bs = on_test Judged (last_passes (λ b. eqb b delimiter) bs) (Ok (length bs)) (Err (no_end most (length bs))) (λ _. tt) (λ _. no_end_harmless most (length bs))
+
+seen_judged : {X Y : Type 0} (f : X → Y) (r : Result X ImageError) → Judged r → Judged (seen f r)
+seen_judged f (Ok x) h = tt
+seen_judged f (Err e) h = h
+
+word_judged : (bs : List ℕ) → Judged (word_text bs)
+unfolding word_text ended_word
+word_judged bs = on_test Judged (last_passes (λ b. is_word_end b (length bs)) (unspaced bs)) (word_of (length bs) (unspaced bs)) (Err (no_end word_room (length bs)))
+    (λ _. seen_judged (word_at (length bs) (unspaced bs)) (utf8 (before_last (unspaced bs))) (utf8_judged (before_last (unspaced bs)))) (λ _. no_end_harmless word_room (length bs))
+
+-- the three readings of texts, of which each is judged
+module _ {a b : State} (d room : List ℕ) (place most n : ℕ) (long : length room ≡ most) where
+  judged_room : {X : Type 0} (t : Text) (f : List ℕ → Result X ImageError) (r : Result X ImageError) → Runs a b (Ok (take n room)) (text_read d t place (length room)) → r ≡ f (take n room) → Judged (f (take n room)) → Runs a b r (text_as d t place most f)
+  judged_room t f r h is fine = text_judged d t place most (take n room) f r (subst (λ k. Runs a b (Ok (take n room)) (text_read d t place k)) long h) is fine
+
+  pub line_runs : (delimiter : ℕ) (r : Result (List ℕ) ImageError) → Runs a b (Ok (take n room)) (text_read d (Line delimiter) place (length room)) → r ≡ line_text delimiter most (take n room) → Runs a b r (line_read d delimiter place most)
+  line_runs delimiter r h is = judged_room (Line delimiter) (line_text delimiter most) r h is (line_judged delimiter most (take n room))
+
+  pub length_runs : (delimiter : ℕ) (r : Result ℕ ImageError) → Runs a b (Ok (take n room)) (text_read d (Line delimiter) place (length room)) → r ≡ line_length delimiter most (take n room) → Runs a b r (length_read d delimiter place most)
+  length_runs delimiter r h is = judged_room (Line delimiter) (line_length delimiter most) r h is (length_judged delimiter most (take n room))
+
+pub word_runs : {a b : State} (d room : List ℕ) (place n : ℕ) (r : Result WordRead ImageError) → length room ≡ word_room → Runs a b (Ok (take n room)) (text_read d Word place (length room)) → r ≡ word_text (take n room) → Runs a b r (word_read d place)
+word_runs d room place n r long h is = judged_room d room place word_room n long Word word_text r h is (word_judged (take n room))
+
+first_of : (a b : Bool) → a && b ≡ true → a ≡ true
+first_of true b is = refl
+first_of false b is = absurd cc
+
+second_of : (a b : Bool) → a && b ≡ true → b ≡ true
+second_of true b is = is
+second_of false b is = absurd cc
+
+-- a text has bytes where something was made of it
+passes_some : (p : ℕ → Bool) (bs : List ℕ) → last_passes p bs ≡ true → 0 < length bs
+passes_some p bs is = by_test (ltb 0 (length bs)) refl where
+  by_test : (b : Bool) → ltb 0 (length bs) ≡ b → 0 < length bs
+  by_test true some = grind (arith, nat_tests)
+  by_test false none = absurd (let no : false ≡ true = ap (λ b. b && p (last_byte bs)) (sym none) ∙ is in cc)
+
+passes_last : (p : ℕ → Bool) (bs : List ℕ) → last_passes p bs ≡ true → p (last_byte bs) ≡ true
+passes_last p bs is = by_test (ltb 0 (length bs)) refl where
+  by_test : (b : Bool) → ltb 0 (length bs) ≡ b → p (last_byte bs) ≡ true
+  by_test true some = ap (λ b. b && p (last_byte bs)) (sym some) ∙ is
+  by_test false none = absurd (let no : false ≡ true = ap (λ b. b && p (last_byte bs)) (sym none) ∙ is in cc)
+
+utf8_same : (bs text : List ℕ) → utf8 bs ≡ Ok text → bs ≡ text
+unfolding utf8
+utf8_same bs text = on_test (λ r. r ≡ Ok text → bs ≡ text) (is_utf8 bs) (Ok bs) (Err (IoError NotUtf8)) (λ _ is. cc) (λ _ is. absurd cc)
+
+-- a line takes one byte more than its text has, and the byte that ends it is among them
+pub line_ok : (delimiter most : ℕ) (bs text : List ℕ) → line_text delimiter most bs ≡ Ok text → (length bs ≡ length text + 1) × (last_passes (λ b. eqb b delimiter) bs ≡ true)
+unfolding line_text
+line_ok delimiter most bs text = on_test (λ r. r ≡ Ok text → (length bs ≡ length text + 1) × (last_passes (λ b. eqb b delimiter) bs ≡ true)) (last_passes (λ b. eqb b delimiter) bs) (utf8 (before_last bs)) (Err (no_end most (length bs)))
+    (λ ends is.
+    let some = passes_some (λ b. eqb b delimiter) bs ends in
+    let same = ap length (utf8_same (before_last bs) text is) in
+    let front = length-take (length bs - 1) bs in
+    (omega arith, ends))
+    (λ _ is. absurd cc)
+
+pub length_ok : (delimiter most : ℕ) (bs : List ℕ) (n : ℕ) → line_length delimiter most bs ≡ Ok n → (length bs ≡ n) × (last_passes (λ b. eqb b delimiter) bs ≡ true)
+unfolding line_length
+length_ok delimiter most bs n = on_test (λ r. r ≡ Ok n → (length bs ≡ n) × (last_passes (λ b. eqb b delimiter) bs ≡ true)) (last_passes (λ b. eqb b delimiter) bs) (Ok (length bs)) (Err (no_end most (length bs)))
+    (λ ends is. (cc, ends))
+    (λ _ is. absurd cc)
+
+seen_ok : {X Y : Type 0} (f : X → Y) (r : Result X ImageError) (y : Y) → seen f r ≡ Ok y → (x : X) × (y ≡ f x)
+seen_ok f (Ok x) y is = (x, cc)
+seen_ok f (Err e) y is = absurd cc
+
+unspaced_le : (bs : List ℕ) → length (unspaced bs) ≤ length bs
+unspaced_le [] = omega arith
+unspaced_le (b ∷ bs) = on_test (λ rest. length rest ≤ length (b ∷ bs)) (is_ascii_whitespace b) (unspaced bs) (b ∷ bs) (λ _. omega (arith, unspaced_le bs)) (λ _. omega arith)
+
+-- a word takes the bytes that were read, of which there are some, and white space ends it
+pub word_ok : (bs : List ℕ) (w : WordRead) → word_text bs ≡ Ok w → (length bs ≡ w.taken) × (0 < length bs) × (last_passes (λ b. is_word_end b (length bs)) (unspaced bs) ≡ true)
+unfolding word_text ended_word
+word_ok bs w = on_test (λ r. r ≡ Ok w → (length bs ≡ w.taken) × (0 < length bs) × (last_passes (λ b. is_word_end b (length bs)) (unspaced bs) ≡ true)) (last_passes (λ b. is_word_end b (length bs)) (unspaced bs)) (word_of (length bs) (unspaced bs)) (Err (no_end word_room (length bs)))
+    (λ ends is.
+    let text = seen_ok (word_at (length bs) (unspaced bs)) (utf8 (before_last (unspaced bs))) w is in
+    let some = passes_some (λ b. is_word_end b (length bs)) (unspaced bs) ends in
+    (sym (ap (λ w. w.taken) text.1), omega (arith, some, unspaced_le bs), ends))
+    (λ _ is. absurd cc)
+
+below_room : (last count : ℕ) → is_word_end last count ≡ true → count < word_room
+below_room last count is = let few : ltb count word_room ≡ true = second_of (is_ascii_whitespace last) (ltb count word_room) is in grind (arith, nat_tests)
+
+-- so what was read of it was paid for
+pub line_pays : {A P : Type 0} (v : A → List ℕ) (delimiter most : ℕ) (room : List ℕ) (n : ℕ) (r : Result A ImageError) → seen v r ≡ line_text delimiter most (take n room) → (0 < n → P) → IfOk r (λ _. P)
+line_pays v delimiter most room n (Ok x) is pays = pays (omega (arith, (line_ok delimiter most (take n room) (v x) (sym is)).0, length-take n room))
+line_pays v delimiter most room n (Err e) is pays = tt
+
+pub word_pays : {A P : Type 0} (v : A → WordRead) (room : List ℕ) (n : ℕ) (r : Result A ImageError) → seen v r ≡ word_text (take n room) → (0 < n → P) → IfOk r (λ _. P)
+word_pays v room n (Ok x) is pays = pays (omega (arith, (word_ok (take n room) (v x) (sym is)).1, length-take n room))
+word_pays v room n (Err e) is pays = tt
+
+-- a line is no longer than there is room for, and a word takes some bytes, and fewer
+pub length_bound : (delimiter most : ℕ) (room : List ℕ) (n : ℕ) (r : Result ℕ ImageError) → length room ≡ most → r ≡ line_length delimiter most (take n room) → IfOk r (λ count. count ≤ most)
+length_bound delimiter most room n (Ok count) long is = omega (arith, (length_ok delimiter most (take n room) count (sym is)).0, length-take n room)
+length_bound delimiter most room n (Err e) long is = tt
+
+pub word_bound : {A : Type 0} (v : A → WordRead) (room : List ℕ) (n : ℕ) (r : Result A ImageError) → seen v r ≡ word_text (take n room) → IfOk r (λ w. (0 < (v w).taken) × ((v w).taken < word_room))
+word_bound v room n (Ok x) is =
+    let ok = word_ok (take n room) (v x) (sym is) in
+    let ends = passes_last (λ b. is_word_end b (length (take n room))) (unspaced (take n room)) ok.2 in
+    let few = below_room (last_byte (unspaced (take n room))) (length (take n room)) ends in
+    (omega (arith, ok.0, ok.1), omega (arith, ok.0, few))
+word_bound v room n (Err e) is = tt
+
+any_at : (p : ℕ → Bool) (bs : List ℕ) (i : ℕ) → i < length bs → p (slice_index bs i) ≡ true → list_any p bs ≡ true
+any_at p [] i h is = absurd (omega arith)
+any_at p (b ∷ bs) zero h is = ap (λ test. test || list_any p bs) is
+any_at p (b ∷ bs) (suc i) h is =
+    let rest = any_at p bs i (omega arith) is in
+    let Goal : Bool → Type 0 = λ test. test || list_any p bs ≡ true in
+    elim (p b) as Goal [ true ↦ refl | false ↦ rest ]
+
+any_last : (p : ℕ → Bool) (bs : List ℕ) → last_passes p bs ≡ true → list_any p bs ≡ true
+any_last p bs is = any_at p bs (length bs - 1) (omega (arith, passes_some p bs is)) (passes_last p bs is)
+
+-- the text ended where a byte that ends it is the last
+line_ended : (delimiter most : ℕ) (bs : List ℕ) → last_passes (λ b. eqb b delimiter) bs ≡ true → is_ended (Line delimiter) bs ≡ true
+unfolding is_ended
+line_ended delimiter most bs is = any_last (λ b. eqb b delimiter) bs is
+
+skipped_unspaced : (bs : List ℕ) → drop (skipped Word bs) bs ≡ unspaced bs
+skipped_unspaced [] = refl
+skipped_unspaced (b ∷ bs) =
+    let one : 1 + skipped Word bs ≡ suc (skipped Word bs) = omega arith in
+    let Goal : Bool → Type 0 = λ is. drop (cond (not (not is)) (1 + skipped Word bs) 0) (b ∷ bs) ≡ cond is (unspaced bs) (b ∷ bs) in
+    elim (is_ascii_whitespace b) as Goal [ true ↦ ap (λ n. drop n (b ∷ bs)) one ∙ skipped_unspaced bs | false ↦ refl ]
+
+any_white : (count : ℕ) (bs : List ℕ) → last_passes (λ b. is_word_end b count) bs ≡ true → list_any is_ascii_whitespace bs ≡ true
+any_white count bs is = any_at is_ascii_whitespace bs (length bs - 1) (omega (arith, passes_some (λ b. is_word_end b count) bs is)) (first_of (is_ascii_whitespace (last_byte bs)) (ltb count word_room) (passes_last (λ b. is_word_end b count) bs is))
+
+word_ended : (bs : List ℕ) → last_passes (λ b. is_word_end b (length bs)) (unspaced bs) ≡ true → is_ended Word bs ≡ true
+unfolding is_ended
+word_ended bs is = ap (list_any is_ascii_whitespace) (skipped_unspaced bs) ∙ any_white (length bs) (unspaced bs) is
+
+-- what holds of what goes on and of a refusal
+pub found_by : {X Y : Type 0} (P : Layout Y → Type 0) (r : Result X ImageError) (f : X → Layout Y) → ((x : X) → r ≡ Ok x → P (f x)) → ((e : ImageError) → P (refuse e)) → P (found r f)
+found_by P (Ok x) f goes_on out = goes_on x refl
+found_by P (Err e) f goes_on out = out e
+
+-- lines
+module _ {X : Type 0} (delimiter place most : ℕ) (f : List ℕ → Layout X) where
+  pub line_at_most : (k : ℕ) → most ≤ k → ((text : List ℕ) → AtMost (k - most) (f text)) → AtMost k (line delimiter place most f)
+  line_at_most k few rest = (few, λ bs. found_by (AtMost (k - most)) (line_text delimiter most bs) f (λ text _. rest text) (λ e. tt))
+
+  pub line_onto : (to : X → Option ℕ) (q : ℕ) → q ≤ place → ((text : List ℕ) → Onto to (place + (length text + 1)) (f text)) → Onto to q (line delimiter place most f)
+  line_onto to q here rest = (
+    here,
+    λ bs. found_by (Onto to (place + length bs)) (line_text delimiter most bs) f
+        (λ text is. subst (λ n. Onto to (place + n) (f text)) (sym (line_ok delimiter most bs text is).0) (rest text)) (λ e. tt),
+  )
+
+  pub line_plain : ((text : List ℕ) → Plain (f text)) → Plain (line delimiter place most f)
+  line_plain rest = λ bs. (
+    (λ open_end _. found_by Never (line_text delimiter most bs) f (λ text is. absurd (let ended = line_ended delimiter most bs (line_ok delimiter most bs text is).1 in cc)) (λ e. tt)),
+    found_by Plain (line_text delimiter most bs) f (λ text _. rest text) (λ e. tt),
+  )
+
+module _ {C X : Type 0} (delimiter place most : ℕ) (f : List ℕ → Layout (Said C X)) where
+  pub line_tells : (P : ℕ → Type 0) → ((text : List ℕ) → Tells P (f text)) → Tells P (line delimiter place most f)
+  line_tells P rest = λ bs. found_by (Tells P) (line_text delimiter most bs) f (λ text _. rest text) (λ e. tt)
+
+  pub line_begins : (q : ℕ) → q ≤ place → Begins q (line delimiter place most f)
+  line_begins q here = (here, found_by (Tells (λ _. ⊥)) (line_text delimiter most []) f (λ text is. absurd (omega (arith, (line_ok delimiter most [] text is).0))) (λ e. tt))
+
+-- lines that are passed
+module _ {X : Type 0} (delimiter place most : ℕ) (f : ℕ → Layout X) where
+  pub passed_onto : (to : X → Option ℕ) (q : ℕ) → q ≤ place → ((n : ℕ) → Onto to (place + n) (f n)) → Onto to q (passed_line delimiter place most f)
+  passed_onto to q here rest = (
+    here,
+    λ bs. found_by (Onto to (place + length bs)) (line_length delimiter most bs) f
+        (λ n is. subst (λ k. Onto to (place + k) (f n)) (sym (length_ok delimiter most bs n is).0) (rest n)) (λ e. tt),
+  )
+
+  pub passed_plain : ((n : ℕ) → Plain (f n)) → Plain (passed_line delimiter place most f)
+  passed_plain rest = λ bs. (
+    (λ open_end _. found_by Never (line_length delimiter most bs) f (λ n is. absurd (let ended = line_ended delimiter most bs (length_ok delimiter most bs n is).1 in cc)) (λ e. tt)),
+    found_by Plain (line_length delimiter most bs) f (λ n _. rest n) (λ e. tt),
+  )
+
+pub passed_tells : {C X : Type 0} (delimiter place most : ℕ) (f : ℕ → Layout (Said C X)) (P : ℕ → Type 0) → ((n : ℕ) → Tells P (f n)) → Tells P (passed_line delimiter place most f)
+passed_tells delimiter place most f P rest = λ bs. found_by (Tells P) (line_length delimiter most bs) f (λ n _. rest n) (λ e. tt)
+
+-- words
+module _ {X : Type 0} (place : ℕ) (f : WordRead → Layout X) where
+  pub word_onto : (to : X → Option ℕ) (q : ℕ) → q ≤ place → ((w : WordRead) → Onto to (place + w.taken) (f w)) → Onto to q (word place f)
+  word_onto to q here rest = (
+    here,
+    λ bs. found_by (Onto to (place + length bs)) (word_text bs) f
+        (λ w is. subst (λ n. Onto to (place + n) (f w)) (sym (word_ok bs w is).0) (rest w)) (λ e. tt),
+  )
+
+  pub word_plain : ((w : WordRead) → Plain (f w)) → Plain (word place f)
+  word_plain rest = λ bs. (
+    (λ open_end _. found_by Never (word_text bs) f (λ w is. absurd (let ended = word_ended bs (word_ok bs w is).2 in cc)) (λ e. tt)),
+    found_by Plain (word_text bs) f (λ w _. rest w) (λ e. tt),
+  )
+
+module _ {C X : Type 0} (place : ℕ) (f : WordRead → Layout (Said C X)) where
+  pub word_tells : (P : ℕ → Type 0) → ((w : WordRead) → 0 < w.taken → Tells P (f w)) → Tells P (word place f)
+  word_tells P rest = λ bs. found_by (Tells P) (word_text bs) f (λ w is. let ok = word_ok bs w is in rest w (omega (arith, ok.0, ok.1))) (λ e. tt)
+
+  pub word_begins : (q : ℕ) → q ≤ place → Begins q (word place f)
+  word_begins q here = (here, found_by (Tells (λ _. ⊥)) (word_text []) f (λ w is. absurd (omega (arith, (word_ok [] w is).1))) (λ e. tt))
+
+-- beyond the end of the input a text has no byte
+none_left : (bs : List ℕ) → length bs ≡ 0 → bs ≡ []
+none_left [] is = refl
+none_left (b ∷ bs) is = absurd (omega arith)
+
+text_none : (d : List ℕ) (t : Text) (place k : ℕ) → length d ≤ place → text_part d t place k ≡ []
+text_none d t place k h = none_left (text_part d t place k) (omega (arith, text_length d t place k, part_length d place k))
+
+line_none : (delimiter most : ℕ) → 0 < most → line_text delimiter most [] ≡ Err end_of_input
+unfolding line_text
+line_none delimiter most some = let test : eqb 0 most ≡ false = grind (arith, nat_tests) in ap (λ b. Err (cond b (IoError (NoDelimiter most)) end_of_input)) test
+
+word_none : word_text [] ≡ Err end_of_input
+unfolding word_text ended_word
+word_none = refl
+
+-- what a layout says behind such bytes
+over_text : {X : Type 0} → List ℕ → ℕ → List ℕ → Layout X → Reads X
+over_text d place bs t = behind (span_at place (length bs)) (over d t)
+
+-- and a layout that reads one there is refused, with no mark of it
+pub line_beyond : {X : Type 0} (d : List ℕ) (delimiter place most : ℕ) (f : List ℕ → Layout X) → length d ≤ place → 0 < most → over d (line delimiter place most f) ≡ refuses end_of_input
+unfolding span_at over_text
+line_beyond d delimiter place most f h some =
+    ap (λ bs. over_text d place bs (found (line_text delimiter most bs) f)) (text_none d (Line delimiter) place most h)
+    ∙ ap (λ r. over d (found r f)) (line_none delimiter most some)
+
+pub word_beyond : {X : Type 0} (d : List ℕ) (place : ℕ) (f : WordRead → Layout X) → length d ≤ place → over d (word place f) ≡ refuses end_of_input
+unfolding span_at over_text
+word_beyond d place f h =
+    ap (λ bs. over_text d place bs (found (word_text bs) f)) (text_none d Word place word_room h)
+    ∙ ap (λ r. over d (found r f)) word_none
+
+as_beyond : {X : Type 0} (d : List ℕ) (t : Text) (place k : ℕ) (f : List ℕ → Result X ImageError) → length d ≤ place → text_as d t place k f ≡ record { answer = f []; marks = [] }
+unfolding span_at
+as_beyond d t place k f h = ap (λ bs. record { answer = f bs; marks = span_at place (length bs) }) (text_none d t place k h)
+
+within_64_bits : {X : Type 0} (d : List ℕ) (t : Text) (place k : ℕ) (f : List ℕ → Result X ImageError) → length d < 2 ^ 63 → (is_within : Bool) → leb place (2 ^ 64 - 1) ≡ is_within → text_as d t (min place (2 ^ 64 - 1)) k f ≡ text_as d t place k f
+within_64_bits d t place k f short true within = ap (λ p. text_as d t p k f) (grind (arith, nat_tests))
+within_64_bits d t place k f short false beyond = as_beyond d t (min place (2 ^ 64 - 1)) k f (grind (arith, nat_tests)) ∙ sym (as_beyond d t place k f (grind (arith, nat_tests)))
+
+-- no input is so long that a text stands beyond 64 bits
+pub text_saturated : {X : Type 0} {a b : State} {r : Result X ImageError} (t : Text) (place k : ℕ) (f : List ℕ → Result X ImageError) → Runs a b r (text_as a.held.input t (min place (2 ^ 64 - 1)) k f) → Runs a b r (text_as a.held.input t place k f)
+text_saturated {X} {a} t place k f h = runs_as (text_as a.held.input t place k f) h (λ honest. within_64_bits a.held.input t place k f (h.sound honest).1 (leb place (2 ^ 64 - 1)) refl)
+
+-- readings behind readings last where both do
+pub lasts_then : {X Y : Type 0} (r : List ℕ → Reads X) (f : X → List ℕ → Reads Y) → Lasts r → ((y : X) → Lasts (f y)) → Lasts (λ d. and_then (r d) (λ y. f y d))
+lasts_then {X} {Y} r f first rest d x v is = by_answer (r d).answer refl where
+  by_answer : (a : Result X ImageError) → (r d).answer ≡ a → and_then (r (d ++ x)) (λ y. f y (d ++ x)) ≡ and_then (r d) (λ y. f y d)
+  by_answer (Ok y) got =
+      let ends : (f y d).answer ≡ Ok v = sym (ap (λ a. (onward (r d).marks a (λ y. f y d)).answer) got) ∙ is in
+      ap (λ w. and_then w (λ y. f y (d ++ x))) (first d x y got) ∙ ap (λ a. onward (r d).marks a (λ y. f y (d ++ x))) got
+      ∙ ap (behind (r d).marks) (rest y d x v ends) ∙ sym (ap (λ a. onward (r d).marks a (λ y. f y d)) got)
+  by_answer (Err e) got = absurd (let no : ◌≡◌ {A = Result Y ImageError} (Err e) (Ok v) = sym (ap (λ a. (onward (r d).marks a (λ y. f y d)).answer) got) ∙ is in cc)

@@ -1,0 +1,155 @@
+-- Text, words and numbers, as std reads them.
+use Rattle.std.proofs.Common.{◌≡◌, ℕ, suc, ◌+◌, ◌-◌, ◌^◌, ◌<◌, ◌≤◌, Bool, true, false, cond, not, ltb, List, [], ◌∷◌, ◌++◌, map, length, take, drop, Option, None, Some, Result, Ok, Err, refl, sym, ap, ◌∙◌, subst, append_assoc, arith}
+use Rattle.std.specs.Prelude.{filter, ◌&&◌}
+use Rattle.std.proofs.lemmas.Bool.Decides.{nat_tests}
+use Rattle.std.proofs.lemmas.List.{append-nil}
+use Rattle.std.proofs.lemmas.List.Splits.{slice_split-cons_yes, slice_split-cons_no}
+use Rattle.std.proofs.lemmas.Str.{IsUtf8-from_is_utf8, is_utf8-from_IsUtf8, IsUtf8-past_char, chars_from_encodes, chars_past_char, chars-nil, encodes-append, encodes-chars}
+use Rattle.std.proofs.lemmas.Str.Ascii.{trim_ascii_start_is}
+use Rattle.std.proofs.lemmas.Str.Parse.{IsNumeralModel, numerals_by_value, tells_all_ascii_digits}
+use Rattle.std.specs.Char.{is_ascii_whitespace, is_whitespace, is_not_whitespace, encode_utf8}
+use Rattle.std.specs.List.{prefix_len, slice_split, onto_first}
+use Rattle.std.specs.Result.{OkIff, result_ok}
+use Rattle.std.specs.Str.{IsUtf8, is_utf8, chars, encode_utf8_all, all_ascii_digits, NoCharPasses, NonePass, EmptyOrStartsWithPassing, IsTrimAsciiStart}
+use Rattle.std.specs.Str.Iter.{split_whitespace_rest, split_whitespace_steps}
+use Rattle.std.specs.Borrow.{Bor}
+use Rattle.std.specs.Str.Parse.{ParsesUnsigned, IsNumeral, digits_value, without_leading_plus, AllDigits}
+use Rattle.imagesize_source.specs.declared.error.ImageError.{ImageError}
+use Rattle.imagesize_source.specs.declared.error.ImageError.TheVariants.{IoError}
+use Rattle.imagesize_source.specs.declared.error.Reason.TheVariants.{NotUtf8}
+use Rattle.imagesize_source.proofs.Tests.{on_test}
+use Rattle.imagesize_texts.specs.Contents.{utf8, unspaced, is_number, number_text, char_words, words}
+
+-- bytes that are text
+pub is_text : (bs : List ℕ) → IsUtf8 bs → utf8 bs ≡ Ok bs
+unfolding utf8
+is_text bs is = ap (λ b. cond b (Ok bs) (Err (IoError NotUtf8))) (is_utf8-from_IsUtf8 bs is)
+
+-- and that are none
+pub no_text : (bs : List ℕ) → ¬ (IsUtf8 bs) → utf8 bs ≡ Err (IoError NotUtf8)
+unfolding utf8
+no_text bs none = on_test (λ r. r ≡ Err (IoError NotUtf8)) (is_utf8 bs) (Ok bs) (Err (IoError NotUtf8)) (λ is. absurd (none (IsUtf8-from_is_utf8 bs is))) (λ _. refl)
+
+-- the white space before a word, as std trims it
+unspaced-prefix : (bs : List ℕ) → drop (prefix_len is_ascii_whitespace bs) bs ≡ unspaced bs
+unspaced-prefix [] = refl
+unspaced-prefix (b ∷ bs) =
+    let one : 1 + prefix_len is_ascii_whitespace bs ≡ suc (prefix_len is_ascii_whitespace bs) = omega arith in
+    let Goal : Bool → Type 0 = λ is. drop (cond is (1 + prefix_len is_ascii_whitespace bs) 0) (b ∷ bs) ≡ cond is (unspaced bs) (b ∷ bs) in
+    elim (is_ascii_whitespace b) as Goal [ true ↦ ap (λ n. drop n (b ∷ bs)) one ∙ unspaced-prefix bs | false ↦ refl ]
+
+pub unspaced_is : (bs rest : List ℕ) → IsTrimAsciiStart bs rest → rest ≡ unspaced bs
+unspaced_is bs rest is = trim_ascii_start_is bs rest is ∙ unspaced-prefix bs
+
+digits_are : IsNumeralModel (λ ds. all_ascii_digits ds ≡ true) (digits_value 10)
+digits_are = numerals_by_value (λ ds. all_ascii_digits ds ≡ true) tells_all_ascii_digits
+
+-- a text is a number where it is digits of a number of 64 bits
+number_is : (text : List ℕ) → IsNumeral 10 (without_leading_plus text) → digits_value 10 (without_leading_plus text) < 2 ^ 64 → is_number text ≡ true
+unfolding is_number
+number_is text is small =
+    let some = is.0 in
+    let digits : all_ascii_digits (without_leading_plus text) ≡ true = digits_are.from (without_leading_plus text) is.1 in
+    rw digits (grind (arith, nat_tests))
+
+below : (a b : ℕ) → ltb a b ≡ true → a < b
+below a b is = grind (arith, nat_tests)
+
+both : (a b : Bool) → a && b ≡ true → (a ≡ true) × (b ≡ true)
+both true b is = (refl, is)
+both false b is = absurd cc
+
+is_numeral : (text : List ℕ) → is_number text ≡ true → IsNumeral 10 (without_leading_plus text) × (digits_value 10 (without_leading_plus text) < 2 ^ 64)
+unfolding is_number
+is_numeral text is =
+    let ds : List ℕ = without_leading_plus text in
+    let parts : (ltb 0 (length ds) && all_ascii_digits ds ≡ true) × (ltb (digits_value 10 ds) (2 ^ 64) ≡ true) = both (ltb 0 (length ds) && all_ascii_digits ds) (ltb (digits_value 10 ds) (2 ^ 64)) is in
+    let digits : (ltb 0 (length ds) ≡ true) × (all_ascii_digits ds ≡ true) = both (ltb 0 (length ds)) (all_ascii_digits ds) parts.0 in
+    ((below 0 (length ds) digits.0, digits_are.to ds digits.1), below (digits_value 10 ds) (2 ^ 64) parts.1)
+
+-- what std parses as a number
+pub parsed : {E : Type 0} (text : List ℕ) (r : Result ℕ E) → ParsesUnsigned 64 10 text r → result_ok r ≡ number_text text
+unfolding number_text
+parsed {E} text (Ok v) is = let test = number_is text is.0.0 is.0.1 in ap Some is.1 ∙ sym (ap (λ b. cond b (Some (digits_value 10 (without_leading_plus text))) None) test)
+parsed {E} text (Err e) is = sym (on_test (λ r. r ≡ None) (is_number text) (Some (digits_value 10 (without_leading_plus text))) None (λ test. absurd (is (is_numeral text test))) (λ _. refl))
+
+-- white space before the words of some characters
+char_words_gap : (gap cs : List ℕ) → NonePass is_not_whitespace gap → char_words (gap ++ cs) ≡ char_words cs
+char_words_gap [] cs none = refl
+char_words_gap (c ∷ gap) cs none =
+    let white : is_whitespace c ≡ true = grind (arith, nat_tests) in
+    ap (filter (λ word. ltb 0 (length word))) (slice_split-cons_yes is_whitespace c (gap ++ cs) white) ∙ char_words_gap gap cs none.1
+
+split_word : (word cs : List ℕ) (parts : List (List ℕ)) → NonePass is_whitespace word → slice_split is_whitespace cs ≡ [] ∷ parts → slice_split is_whitespace (word ++ cs) ≡ word ∷ parts
+split_word [] cs parts none is = is
+split_word (c ∷ word) cs parts none is = slice_split-cons_no is_whitespace c (word ++ cs) none.0 ∙ ap (onto_first c) (split_word word cs parts none.1 is)
+
+-- a word before them
+char_words_word : (word cs : List ℕ) (parts : List (List ℕ)) → 0 < length word → NonePass is_whitespace word → slice_split is_whitespace cs ≡ [] ∷ parts → char_words (word ++ cs) ≡ word ∷ char_words cs
+char_words_word [] cs parts some none is = absurd (omega (arith, some))
+char_words_word (c ∷ word) cs parts some none is =
+    let has : ltb 0 (length (c ∷ word)) ≡ true = grind (arith, nat_tests) in
+    let rest : List (List ℕ) = filter (λ word. ltb 0 (length word)) parts in
+    ap (filter (λ word. ltb 0 (length word))) (split_word (c ∷ word) cs parts none is)
+    ∙ ap (λ test. cond test ((c ∷ word) ∷ rest) rest) has
+    ∙ ap (λ words. (c ∷ word) ∷ words) (sym (ap (filter (λ word. ltb 0 (length word))) is))
+
+-- the text behind some characters of a text is text
+rest_utf8 : (cs : List ℕ) (text rest : List ℕ) → IsUtf8 text → text ≡ encode_utf8_all cs ++ rest → IsUtf8 rest
+rest_utf8 [] text rest utf is = subst IsUtf8 is utf
+rest_utf8 (c ∷ cs) text rest utf is = rest_utf8 cs (encode_utf8_all cs ++ rest) rest (IsUtf8-past_char text (encode_utf8_all cs ++ rest) c utf (is ∙ append_assoc (encode_utf8 c) (encode_utf8_all cs) rest)) refl
+
+-- a text that begins with white space, or is empty, has no first part
+split_starts : (rest more : List ℕ) → IsUtf8 rest → EmptyOrStartsWithPassing is_whitespace rest more → (parts : List (List ℕ)) × (slice_split is_whitespace (chars rest) ≡ [] ∷ parts)
+split_starts [] more utf starts = ([], ap (slice_split is_whitespace) chars-nil)
+split_starts (b ∷ rest) more utf starts =
+    let first = starts (omega arith) in
+    (slice_split is_whitespace (chars more), ap (slice_split is_whitespace) (chars_past_char (b ∷ rest) more first.0 utf first.2) ∙ slice_split-cons_yes is_whitespace first.0 (chars more) first.1)
+
+some_chars : (cs bs : List ℕ) → encode_utf8_all cs ≡ bs → 0 < length bs → 0 < length cs
+some_chars [] bs is some = absurd (omega (arith, ap length is))
+some_chars (c ∷ cs) bs is some = omega arith
+
+-- the words of a text are the first and those of what follows it
+pub word_first : (text gap word rest more : List ℕ) → IsUtf8 text → text ≡ gap ++ (word ++ rest) → 0 < length word → NoCharPasses is_not_whitespace gap → NoCharPasses is_whitespace word → EmptyOrStartsWithPassing is_whitespace rest more → (words text ≡ word ∷ words rest) × IsUtf8 rest
+unfolding words
+word_first text gap word rest more utf is some gaps letters starts =
+    let gs : List ℕ = gaps.0 in
+    let ws : List ℕ = letters.0 in
+    let whole : text ≡ encode_utf8_all (gs ++ ws) ++ rest =
+    is ∙ ap (λ g. g ++ (word ++ rest)) (sym gaps.1) ∙ ap (λ w. encode_utf8_all gs ++ (w ++ rest)) (sym letters.1)
+    ∙ sym (append_assoc (encode_utf8_all gs) (encode_utf8_all ws) rest) ∙ ap (λ bs. bs ++ rest) (sym (encodes-append gs ws)) in
+    let utf_rest : IsUtf8 rest = rest_utf8 (gs ++ ws) text rest utf whole in
+    let all : encode_utf8_all ((gs ++ ws) ++ chars rest) ≡ text = encodes-append (gs ++ ws) (chars rest) ∙ ap (λ bs. encode_utf8_all (gs ++ ws) ++ bs) (encodes-chars rest utf_rest) ∙ sym whole in
+    let cs : (gs ++ ws) ++ chars rest ≡ chars text = chars_from_encodes ((gs ++ ws) ++ chars rest) text utf all in
+    let parts = split_starts rest more utf_rest starts in (
+      ap (λ cs. map encode_utf8_all (char_words cs)) (sym cs ∙ append_assoc gs ws (chars rest))
+          ∙ ap (map encode_utf8_all) (char_words_gap gs (ws ++ chars rest) gaps.2 ∙ char_words_word ws (chars rest) parts.0 (some_chars ws word letters.1 some) letters.2 parts.1)
+          ∙ ap (λ w. w ∷ map encode_utf8_all (char_words (chars rest))) letters.1,
+      utf_rest,
+    )
+
+-- a text of white space has none
+pub word_none : (text : List ℕ) → IsUtf8 text → NoCharPasses is_not_whitespace text → words text ≡ []
+unfolding words
+word_none text utf none =
+    let is : none.0 ≡ chars text = chars_from_encodes none.0 text utf none.1 in
+    ap (λ cs. map encode_utf8_all (char_words cs)) (sym is ∙ sym (append-nil none.0)) ∙ ap (map encode_utf8_all) (char_words_gap none.0 [] none.2)
+
+-- Some words were taken off a text, and these bytes are left.
+pub record Taken (text : List ℕ) (ws : List (List ℕ)) (rest : List ℕ) : Type 0 where
+  pub is : words text ≡ ws ++ words rest
+  pub utf : IsUtf8 rest
+
+pub taken_start : (text rest : List ℕ) → IsUtf8 text → rest ≡ text → Taken text [] rest
+taken_start text rest utf is = record { is = ap words (sym is); utf = subst IsUtf8 (sym is) utf }
+
+-- one more is
+pub taken_next : {text : List ℕ} {ws : List (List ℕ)} (s t : _) (x : Bor (List ℕ)) → Taken text ws (split_whitespace_rest s) → split_whitespace_steps s (Some x) t → Taken text (ws ++ x.now ∷ []) (split_whitespace_rest t)
+taken_next {text} {ws} s t x taken step =
+    let next = word_first (split_whitespace_rest s) step.0 x.now (split_whitespace_rest t) step.5.0 taken.utf step.1 step.2 step.3 step.4 step.5.1 in
+    record { is = taken.is ∙ ap (λ more. ws ++ more) next.0 ∙ sym (append_assoc ws (x.now ∷ []) (words (split_whitespace_rest t))); utf = next.1 }
+
+-- or none is left
+pub taken_end : {text : List ℕ} {ws : List (List ℕ)} (s t : _) → Taken text ws (split_whitespace_rest s) → split_whitespace_steps s None t → words text ≡ ws
+taken_end {text} {ws} s t taken step = taken.is ∙ ap (λ more. ws ++ more) (word_none (split_whitespace_rest s) taken.utf step.1) ∙ append-nil ws

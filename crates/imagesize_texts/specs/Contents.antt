@@ -1,0 +1,87 @@
+-- What the bytes of a text hold.
+use Rattle.std.specs.Prelude.{ℕ, ◌-◌, ◌^◌, Bool, ◌&&◌, List, [], ◌∷◌, take, map, filter, length, slice_index, nat_lt, ◌==◌, if◌then◌else◌, Option, None, Some, Result, Ok, Err}
+use Rattle.std.specs.Char.{is_ascii_whitespace, is_whitespace}
+use Rattle.std.specs.List.{slice_split}
+use Rattle.std.specs.Str.{is_utf8, chars, encode_utf8_all, all_ascii_digits}
+use Rattle.std.specs.Str.Parse.{digits_value, without_leading_plus}
+use Rattle.imagesize_source.specs.declared.error.ImageError.{ImageError}
+use Rattle.imagesize_source.specs.declared.error.ImageError.TheVariants.{IoError}
+use Rattle.imagesize_source.specs.declared.error.Reason.TheVariants.{NoDelimiter, NotUtf8}
+use Rattle.imagesize_source.specs.Reading.{seen, end_of_input}
+
+-- the last byte, and the bytes before it
+abbrev pub last_byte : List ℕ → ℕ
+last_byte bs = slice_index bs (length bs - 1)
+
+abbrev pub before_last : List ℕ → List ℕ
+before_last bs = take (length bs - 1) bs
+
+-- there is a last byte, and it passes
+abbrev pub last_passes : (ℕ → Bool) → List ℕ → Bool
+last_passes p bs = nat_lt 0 (length bs) && p (last_byte bs)
+
+-- why a text has no end: none of the first `most` bytes ends it, or the input ends before them
+abbrev pub no_end : ℕ → ℕ → ImageError
+no_end most count = if count == most then IoError (NoDelimiter most) else end_of_input
+
+-- the bytes as text (RFC 3629, section 3)
+unfoldable pub utf8 : List ℕ → Result (List ℕ) ImageError
+utf8 bs = if is_utf8 bs then Ok bs else Err (IoError NotUtf8)
+
+-- the text of a line of at most so many bytes, without the delimiter that ends it
+unfoldable pub line_text : ℕ → ℕ → List ℕ → Result (List ℕ) ImageError
+line_text delimiter most bs = if last_passes (λ b. b == delimiter) bs then utf8 (before_last bs) else Err (no_end most (length bs))
+
+-- how many bytes such a line takes, whether or not they are text
+unfoldable pub line_length : ℕ → ℕ → List ℕ → Result ℕ ImageError
+line_length delimiter most bs = if last_passes (λ b. b == delimiter) bs then Ok (length bs) else Err (no_end most (length bs))
+
+-- A word: its text, the white space that ends it, and how many bytes it takes, with the white space before it and
+-- the one that ends it.
+pub record WordRead : Type 0 where
+  pub text : List ℕ
+  pub ended_by : ℕ
+  pub taken : ℕ
+
+-- a word may take fewer bytes than this
+abbrev pub word_room : ℕ
+word_room = 1024
+
+-- the bytes behind the white space before a word
+abbrev pub unspaced : List ℕ → List ℕ
+unspaced [] = []
+unspaced (b ∷ bs) = if is_ascii_whitespace b then unspaced bs else b ∷ bs
+
+-- the word of these bytes, of so many with the white space before them
+abbrev pub word_at : ℕ → List ℕ → List ℕ → WordRead
+word_at count bs text = record { text = text; ended_by = last_byte bs; taken = count }
+
+abbrev pub word_of : ℕ → List ℕ → Result WordRead ImageError
+word_of count bs = seen (word_at count bs) (utf8 (before_last bs))
+
+-- white space ends it, as one of fewer bytes than there is room for
+abbrev pub is_word_end : ℕ → ℕ → Bool
+is_word_end byte count = is_ascii_whitespace byte && nat_lt count word_room
+
+-- the word that begins these bytes, of so many with the white space before them
+unfoldable pub ended_word : ℕ → List ℕ → Result WordRead ImageError
+ended_word count bs = if last_passes (λ b. is_word_end b count) bs then word_of count bs else Err (no_end word_room count)
+
+-- a word behind white space
+unfoldable pub word_text : List ℕ → Result WordRead ImageError
+word_text bs = ended_word (length bs) (unspaced bs)
+
+-- the text is a number of 64 bits: digits, before which one `+` may stand
+unfoldable pub is_number : List ℕ → Bool
+is_number text = (nat_lt 0 (length (without_leading_plus text)) && all_ascii_digits (without_leading_plus text)) && nat_lt (digits_value 10 (without_leading_plus text)) (2 ^ 64)
+
+-- the number that a text is
+unfoldable pub number_text : List ℕ → Option ℕ
+number_text text = if is_number text then Some (digits_value 10 (without_leading_plus text)) else None
+
+-- the words of a text: what stands between white space (White_Space of the Unicode Character Database)
+abbrev pub char_words : List ℕ → List (List ℕ)
+char_words cs = filter (λ word. nat_lt 0 (length word)) (slice_split is_whitespace cs)
+
+unfoldable pub words : List ℕ → List (List ℕ)
+words text = map encode_utf8_all (char_words (chars text))

@@ -1,0 +1,46 @@
+-- Texts as readings: lines of at most so many bytes, and words.
+use Rattle.std.specs.Prelude.{ℕ, List, length, Result, Ok, Err}
+use Rattle.imagesize_source.specs.declared.error.ImageError.{ImageError}
+use Rattle.imagesize_source.specs.declared.text.Text.{Text}
+use Rattle.imagesize_source.specs.declared.text.Text.TheVariants.{Line, Word}
+use Rattle.imagesize_source.specs.Input.{span_at}
+use Rattle.imagesize_source.specs.Layout.{Layout, text}
+use Rattle.imagesize_source.specs.Layout.Layout.{refuse}
+use Rattle.imagesize_source.specs.Reading.{Reads, text_part}
+use Rattle.imagesize_texts.specs.declared.util.Word as declared
+use Rattle.imagesize_texts.specs.Contents.{WordRead, word_room, line_text, line_length, word_text}
+
+-- what goes on from what was found; a refusal ends it
+abbrev pub found : {X Y : Type 0} → Result X ImageError → (X → Layout Y) → Layout Y
+found (Ok x) f = f x
+found (Err e) f = refuse e
+
+-- the text of a line of at most so many bytes, which a delimiter ends
+abbrev pub line : {X : Type 0} → ℕ → ℕ → ℕ → (List ℕ → Layout X) → Layout X
+line delimiter place most f = text (Line delimiter) place most (λ bs. found (line_text delimiter most bs) f)
+
+-- how many bytes such a line takes, whether or not it is text
+abbrev pub passed_line : {X : Type 0} → ℕ → ℕ → ℕ → (ℕ → Layout X) → Layout X
+passed_line delimiter place most f = text (Line delimiter) place most (λ bs. found (line_length delimiter most bs) f)
+
+-- a word, behind white space
+abbrev pub word : {X : Type 0} → ℕ → (WordRead → Layout X) → Layout X
+word place f = text Word place word_room (λ bs. found (word_text bs) f)
+
+-- what is made of a text that was read
+abbrev pub text_as : {X : Type 0} → List ℕ → Text → ℕ → ℕ → (List ℕ → Result X ImageError) → Reads X
+text_as d t place k f = record { answer = f (text_part d t place k); marks = span_at place (length (text_part d t place k)) }
+
+-- the readings of these three
+abbrev pub line_read : List ℕ → ℕ → ℕ → ℕ → Reads (List ℕ)
+line_read d delimiter place most = text_as d (Line delimiter) place most (line_text delimiter most)
+
+abbrev pub length_read : List ℕ → ℕ → ℕ → ℕ → Reads ℕ
+length_read d delimiter place most = text_as d (Line delimiter) place most (line_length delimiter most)
+
+abbrev pub word_read : List ℕ → ℕ → Reads WordRead
+word_read d place = text_as d Word place word_room word_text
+
+-- a word that was read
+abbrev pub read_word_of : declared.Word → WordRead
+read_word_of word = record { text = word.text.now; ended_by = word.ended_by; taken = word.taken }

@@ -1,0 +1,208 @@
+//! Texts: lines up to a delimiter and words between white space, each of so many bytes at most.
+ghost use Rattle.std.specs.Prelude.{◌≡◌, ◌+◌, ◌<◌, ◌≤◌, length, IfOk};
+ghost use Rattle.imagesize_source.specs.Paying.{Paid};
+ghost use Rattle.imagesize_source.specs.Reading.{seen};
+ghost use Rattle.imagesize_source.specs.State.{Runs};
+ghost use Rattle.imagesize_texts.specs.Contents.{ended_word, is_word_end, line_length, line_text, no_end, number_text, utf8, word_text};
+ghost use Rattle.imagesize_texts.specs.Texts.{length_read, line_read, read_word_of, word_read};
+
+use imagesize_source::source::Source;
+use imagesize_source::{ImageError, ImageResult, Reason, Text};
+
+/// How many bytes of an input a word may take, less one.
+pub const WORD_ROOM: usize = 1024;
+
+/// A word of an input.
+#[derive(Clone, Copy, Debug)]
+pub struct Word<'a> {
+    /// Its text.
+    pub text: &'a str,
+    /// The white space that ends it.
+    pub ended_by: u8,
+    /// How many bytes it takes, with the white space before it and the one that ends it.
+    pub taken: usize,
+}
+
+/// The text from a place on up to a delimiter, which stands among as many bytes as there is room for.
+///
+/// # Errors
+///
+/// `NoDelimiter` where none of these bytes is the delimiter, `EndOfInput` where the input ends before one,
+/// and `NotUtf8` where the bytes before it are no text.
+pub fn read_line_capped<'a, S: Source>(
+    source: &mut S,
+    place: u64,
+    delimiter: u8,
+    room: &'a mut [u8],
+) -> ImageResult<&'a str>
+    ensures pays { IfOk result (λ text. Paid (S.state source.old) (S.state source.new) place) }
+    ensures runs { Runs (S.state source.old) (S.state source.new) (seen (λ text. text.now) result)
+        (line_read (S.state source.old).held.input delimiter place (length room.old)) }
+{
+    let most = room.len();
+    let count = source.read_text(place, Text::Line { delimiter }, room)?;
+    line_text(&room[..count], delimiter, most)
+}
+
+/// The text from a place on up to a byte 0, as `read_line_capped`.
+pub fn read_null_terminated_string<'a, S: Source>(
+    source: &mut S,
+    place: u64,
+    room: &'a mut [u8],
+) -> ImageResult<&'a str>
+    ensures pays { IfOk result (λ text. Paid (S.state source.old) (S.state source.new) place) }
+    ensures runs { Runs (S.state source.old) (S.state source.new) (seen (λ text. text.now) result)
+        (line_read (S.state source.old).held.input 0 place (length room.old)) }
+{
+    read_line_capped(source, place, 0, room)
+}
+
+/// How many bytes there are from a place on up to a delimiter, and with it, as `read_line_capped`, but for a
+/// line that need not be text.
+pub fn pass_line_capped<S: Source>(
+    source: &mut S,
+    place: u64,
+    delimiter: u8,
+    room: &mut [u8],
+) -> ImageResult<usize>
+    ensures bound { IfOk result (λ n. n ≤ length room.old) }
+    ensures runs { Runs (S.state source.old) (S.state source.new) result
+        (length_read (S.state source.old).held.input delimiter place (length room.old)) }
+{
+    let most = room.len();
+    let count = source.read_text(place, Text::Line { delimiter }, room)?;
+    line_length(&room[..count], delimiter, most)
+}
+
+/// The word from a place on, behind ASCII white space. The white space that ends it is byte 1023 from the place
+/// on, or an earlier one.
+///
+/// # Errors
+///
+/// `NoDelimiter` where 1024 bytes have no such end, `EndOfInput` where the input ends before one, and
+/// `NotUtf8` where the word is no text.
+pub fn read_word<'a, S: Source>(
+    source: &mut S,
+    place: u64,
+    room: &'a mut [u8; WORD_ROOM],
+) -> ImageResult<Word<'a>>
+    ensures bound { IfOk result (λ word. (0 < word.taken) × (word.taken < 1024)) }
+    ensures pays { IfOk result (λ word. Paid (S.state source.old) (S.state source.new) place) }
+    ensures runs { Runs (S.state source.old) (S.state source.new) (seen (λ word. read_word_of word) result)
+        (word_read (S.state source.old).held.input place) }
+{
+    let count = source.read_text(place, Text::Word, room)?;
+    word_text(&room[..count])
+}
+
+/// How many bytes the line so far behind a place takes, as `pass_line_capped`. A place above 2^64 - 1 is behind
+/// the end of every input.
+pub fn pass_line_behind<S: Source>(
+    source: &mut S,
+    place: u64,
+    distance: u64,
+    delimiter: u8,
+    room: &mut [u8],
+) -> ImageResult<usize>
+    ensures bound { IfOk result (λ n. n ≤ length room.old) }
+    ensures runs { Runs (S.state source.old) (S.state source.new) result
+        (length_read (S.state source.old).held.input delimiter (place + distance) (length room.old)) }
+{
+    pass_line_capped(source, place.saturating_add(distance), delimiter, room)
+}
+
+/// The word so far behind a place. A place above 2^64 - 1 is behind the end of every input.
+pub fn read_word_behind<'a, S: Source>(
+    source: &mut S,
+    place: u64,
+    distance: u64,
+    room: &'a mut [u8; WORD_ROOM],
+) -> ImageResult<Word<'a>>
+    ensures { Runs (S.state source.old) (S.state source.new) (seen (λ word. read_word_of word) result)
+        (word_read (S.state source.old).held.input (place + distance)) }
+{
+    read_word(source, place.saturating_add(distance), room)
+}
+
+// The text of a line, without the delimiter that ends it, where there is room for so many bytes.
+#[tactic(auto, unfolding(crate::specs::Contents::line_text))]
+fn line_text(bytes: &[u8], delimiter: u8, most: usize) -> ImageResult<&str>
+    ensures { seen (λ text. text.now) result ≡ line_text delimiter most bytes.now }
+{
+    match bytes {
+        [text @ .., last] if *last == delimiter => text_of(text),
+        _ => Err(no_end(bytes.len(), most)),
+    }
+}
+
+// How many bytes a line takes, where there is room for so many.
+#[tactic(auto, unfolding(crate::specs::Contents::line_length))]
+fn line_length(bytes: &[u8], delimiter: u8, most: usize) -> ImageResult<usize>
+    ensures { result ≡ line_length delimiter most bytes.now }
+{
+    match bytes {
+        [.., last] if *last == delimiter => Ok(bytes.len()),
+        _ => Err(no_end(bytes.len(), most)),
+    }
+}
+
+// The word that stands behind white space.
+#[tactic(auto, using(crate::proofs::Words::unspaced_is), unfolding(crate::specs::Contents::word_text))]
+fn word_text(bytes: &[u8]) -> ImageResult<Word<'_>>
+    ensures { seen (λ word. read_word_of word) result ≡ word_text bytes.now }
+{
+    ended_word(bytes.trim_ascii_start(), bytes.len())
+}
+
+// The word that begins the bytes, of so many with the white space before them.
+#[tactic(auto, unfolding(crate::specs::Contents::ended_word))]
+fn ended_word(bytes: &[u8], taken: usize) -> ImageResult<Word<'_>>
+    ensures { seen (λ word. read_word_of word) result ≡ ended_word taken bytes.now }
+{
+    match bytes {
+        [text @ .., last] if is_word_end(*last, taken) => Ok(Word {
+            text: text_of(text)?,
+            ended_by: *last,
+            taken,
+        }),
+        _ => Err(no_end(taken, WORD_ROOM)),
+    }
+}
+
+// Whether a byte ends a word that takes so many bytes.
+#[inline]
+fn is_word_end(byte: u8, taken: usize) -> bool
+    ensures { result ≡ is_word_end byte taken }
+{
+    byte.is_ascii_whitespace() && taken < WORD_ROOM
+}
+
+// Why a text of so many bytes has no end, where there is room for so many.
+#[inline]
+fn no_end(count: usize, most: usize) -> ImageError
+    ensures { result ≡ no_end most count }
+{
+    if count == most {
+        return ImageError::IoError(Reason::NoDelimiter { max_size: most });
+    }
+    ImageError::IoError(Reason::EndOfInput)
+}
+
+// The bytes as text.
+#[tactic(auto, using(crate::proofs::Words::is_text, crate::proofs::Words::no_text))]
+fn text_of(bytes: &[u8]) -> ImageResult<&str>
+    ensures { seen (λ text. text.now) result ≡ utf8 bytes.now }
+{
+    match str::from_utf8(bytes) {
+        Ok(text) => Ok(text),
+        Err(_) => Err(ImageError::IoError(Reason::NotUtf8)),
+    }
+}
+
+/// The number that a text is: digits, before which one `+` may stand.
+#[tactic(auto, using(crate::proofs::Words::parsed))]
+pub fn number(text: &str) -> Option<usize>
+    ensures { result ≡ number_text text.now }
+{
+    text.parse().ok()
+}
