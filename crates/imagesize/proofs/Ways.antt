@@ -1,5 +1,6 @@
 -- What holds of the size of each type.
 use Rattle.imagesize_boxes.proofs.Heif.{heif_laws}
+use Rattle.imagesize_boxes.proofs.Jxl.{jxl_laws}
 use Rattle.imagesize_fixed.proofs.Aseprite.{aseprite_laws}
 use Rattle.imagesize_fixed.proofs.Astc.{astc_laws}
 use Rattle.imagesize_fixed.proofs.Atc.{atc_laws}
@@ -21,6 +22,7 @@ use Rattle.imagesize_texts.proofs.Pnm.{pnm_laws}
 use Rattle.imagesize_walked.proofs.Ico.{ico_laws}
 use Rattle.imagesize_walked.proofs.Ilbm.{ilbm_laws}
 use Rattle.imagesize_walked.proofs.Jpeg.{jpeg_laws}
+use Rattle.imagesize_walked.proofs.Tiff.{tiff_laws}
 use Rattle.imagesize.proofs.Detection.{kind_cost}
 use Rattle.imagesize.specs.Counts.{lasts}
 use Rattle.imagesize.specs.Meaning.{way_of}
@@ -44,13 +46,13 @@ laws_of (Heif _) = heif_laws
 laws_of Ico = ico_laws
 laws_of Ilbm = ilbm_laws
 laws_of Jpeg = jpeg_laws
-laws_of Jxl = record { few = tt; plain = tt }
+laws_of Jxl = jxl_laws
 laws_of Ktx2 = ktx2_laws
 laws_of Pnm = pnm_laws
 laws_of (Pvrtc _) = pvrtc_laws
 laws_of Psd = psd_laws
 laws_of Qoi = qoi_laws
 laws_of Tga = tga_laws
-laws_of Tiff = record { few = tt; plain = tt }
+laws_of Tiff = tiff_laws
 laws_of Vtf = vtf_laws
 laws_of Webp = webp_laws

@@ -1,5 +1,6 @@
 -- The size of an input.
 use Rattle.std.specs.Prelude.{ℕ, List, length}
+use Rattle.imagesize_boxes.specs.Jxl.{jxl, jxl_boxes}
 use Rattle.imagesize_boxes.specs.Heif.{heif, heif_boxes}
 use Rattle.imagesize_fixed.specs.Aseprite.{aseprite}
 use Rattle.imagesize_fixed.specs.Astc.{astc}
@@ -11,6 +12,7 @@ use Rattle.imagesize_fixed.specs.Gif.{gif}
 use Rattle.imagesize_walked.specs.Ico.{ico, entries_begun}
 use Rattle.imagesize_walked.specs.Ilbm.{ilbm, ilbm_chunks}
 use Rattle.imagesize_walked.specs.Jpeg.{jpeg, jpeg_segments}
+use Rattle.imagesize_walked.specs.Tiff.{tiff, entries_begun as tiff_begun}
 use Rattle.imagesize.specs.Kind.{kind}
 use Rattle.imagesize_fixed.specs.Ktx2.{ktx2}
 use Rattle.imagesize_fixed.specs.Pkm.{pkm}
@@ -28,18 +30,12 @@ use Rattle.imagesize.specs.declared.types.ImageType.TheVariants.{Aseprite, Astc,
 use Rattle.imagesize.specs.declared.types.ImageType.{ImageType}
 use Rattle.imagesize_source.specs.Chain.{records}
 use Rattle.imagesize_source.specs.Layout.{over}
-use Rattle.imagesize_source.specs.Layout.Layout.{refuse}
 use Rattle.imagesize_source.specs.Reading.{Reads, and_then}
 use Rattle.imagesize_source.specs.Way.{Way, Fixed, Recorded, Texts, by_way}
-use Rattle.imagesize_source.specs.declared.error.ImageError.TheVariants.{NotSupported}
 
 -- the type that an input has at a place
 abbrev pub kind_of : List ℕ → ℕ → Reads ImageType
 kind_of d place = over d (kind (length d) place)
-
--- a size that is not read yet
-abbrev pub unread : Way ImageSize
-unread = Fixed (refuse NotSupported)
 
 -- how the size of each type is told
 abbrev pub way_of : ImageType → Way ImageSize
@@ -58,14 +54,14 @@ way_of (Heif _) = Recorded 20 heif heif_boxes
 way_of Ico = Recorded 20 ico entries_begun
 way_of Ilbm = Recorded 20 ilbm (records ilbm_chunks)
 way_of Jpeg = Recorded 20 jpeg (records jpeg_segments)
-way_of Jxl = unread
+way_of Jxl = Recorded 20 jxl jxl_boxes
 way_of Ktx2 = Fixed ktx2
 way_of Pnm = Texts pnm
 way_of (Pvrtc _) = Fixed pvrtc
 way_of Psd = Fixed psd
 way_of Qoi = Fixed qoi
 way_of Tga = Fixed tga
-way_of Tiff = unread
+way_of Tiff = Recorded 20 tiff tiff_begun
 way_of Vtf = Fixed vtf
 way_of Webp = Fixed webp
 

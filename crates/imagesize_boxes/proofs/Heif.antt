@@ -1,6 +1,6 @@
 -- HEIF: how its searches and the walk along its properties go, how many bytes they are read from, and what they see
 -- of an input.
-use Rattle.std.proofs.Common.{◌≡◌, ℕ, zero, suc, ◌+◌, ◌-◌, ◌*◌, ◌^◌, ◌<◌, ◌≤◌, min, max, Bool, true, false, cond, eqb, leb, List, [], ◌∷◌, ◌++◌, length, take, drop, map, Option, Some, None, Result, Ok, Err, is_some, refl, sym, ap, ◌∙◌, subst, arith, slice_index, slice_index_or}
+use Rattle.std.proofs.Common.{◌≡◌, ℕ, ◌+◌, ◌-◌, ◌*◌, ◌^◌, ◌<◌, ◌≤◌, min, max, Bool, true, false, cond, eqb, leb, List, [], ◌∷◌, ◌++◌, length, take, drop, map, Option, Some, None, Result, Ok, Err, is_some, refl, sym, ap, ◌∙◌, subst, arith, slice_index, slice_index_or}
 use Rattle.std.proofs.lemmas.Bool.Decides.{nat_tests}
 use Rattle.std.proofs.Math.Nat.{add-zero}
 use Rattle.std.proofs.lemmas.Grind.{flat_map-append}
@@ -26,24 +26,22 @@ use Rattle.imagesize_source.specs.declared.error.Reason.TheVariants.{InvalidHeif
 use Rattle.imagesize_source.specs.declared.span.Span.{Span}
 use Rattle.imagesize_source.specs.declared.util.Endian.TheVariants.{Big}
 use Rattle.imagesize_source.specs.Agreement.{Local}
-use Rattle.imagesize_source.specs.Chain.{Said, Decided, Next, Chain, Along, Advances, start, next_record, verdict, records, records_from, chain_from, chain_at}
+use Rattle.imagesize_source.specs.Chain.{Said, Decided, Next, Advances, start, verdict, records, chain_from, chain_at}
 use Rattle.imagesize_source.specs.Counts.{AtMost}
 use Rattle.imagesize_source.specs.Input.{part, span_at, span_of}
-use Rattle.imagesize_source.specs.Layout.{Layout, bytes, refuse, done, over, bind, if_there, whole}
+use Rattle.imagesize_source.specs.Layout.{Layout, bytes, refuse, done, over, bind, whole}
 use Rattle.imagesize_source.specs.Numbers.{number}
 use Rattle.imagesize_source.specs.Reading.{Reads, and_then, onward, bytes_at, bytes_read, number_at, number_read, refuses, end_of_input, faulted}
-use Rattle.imagesize_source.specs.State.{State, Runs, EndedBy, Sound, total}
+use Rattle.imagesize_source.specs.State.{State, Runs, EndedBy, total}
 use Rattle.imagesize_source.proofs.Always.{KindLaws}
-use Rattle.imagesize_source.proofs.Advances.{Tells, Begins, advances}
-use Rattle.imagesize_source.proofs.Ahead.{Ahead, ahead_next, chain_ahead, total_behind}
-use Rattle.imagesize_source.proofs.Beyond.{bytes_beyond}
-use Rattle.imagesize_source.proofs.ChainLaws.{local_chain, chain_cost, chain_induction}
-use Rattle.imagesize_source.proofs.Chains.{chain_next, chain_stop}
-use Rattle.imagesize_source.proofs.Count.{then_within, total-span_of}
-use Rattle.imagesize_source.proofs.Found.{on_answer}
+use Rattle.imagesize_source.proofs.Advances.{Tells, advances}
+use Rattle.imagesize_source.proofs.Spends.{Spends, Onto, chain_onto, left, said_to, spends_then}
+use Rattle.imagesize_source.proofs.PastTheEnd.{bytes_beyond}
+use Rattle.imagesize_source.proofs.ChainLaws.{local_chain, chain_cost}
+use Rattle.imagesize_source.proofs.Chains.{chain_stop}
+use Rattle.imagesize_source.proofs.Counts.{then_within, total-span_of, total_behind}
 use Rattle.imagesize_source.proofs.Layouts.{runs_as}
-use Rattle.imagesize_source.proofs.Local.{local_then, local_number, same_span, same_bytes}
-use Rattle.imagesize_source.proofs.More.{bytes_ok}
+use Rattle.imagesize_source.proofs.Agreement.{local_then, local_number, same_span, same_bytes}
 use Rattle.imagesize_source.proofs.Numbers.{big_4}
 use Rattle.imagesize_source.proofs.Reached.{runs_bind, refused_bind, reached_now}
 use Rattle.imagesize_source.proofs.Runs.{part_length, total-append}
@@ -417,82 +415,46 @@ heif_cost d =
           (total-span_of d 0 4) rest,
     )
 
--- what is left behind the head of a box that was found
-abbrev left_behind : List ℕ → Result FoundBox ImageError → ℕ
-left_behind d (Ok found) = length d - (found.place + 8)
-left_behind d (Err e) = 0
+-- what follows is read behind the head of a box that was found
+abbrev behind_head : FoundBox → Option ℕ
+behind_head found = Some (found.place + 8)
 
--- the box that ends a search is read from the bytes up to there
-last_spends : (tag : List ℕ) (d : List ℕ) (place : ℕ) (r : Result FoundBox ImageError) → verdict (over d (searched_box tag place)).answer ≡ Some r → total (over d (searched_box tag place)).marks + left_behind d r ≤ length d - place
-last_spends tag d place r =
-    let few = total-span_of d place 8 in
-    let behind = total_behind d place 8 in
-    let none = total-append (span_of d place 8) [] in
-    on_answer (λ w. verdict w.answer ≡ Some r → total w.marks + left_behind d r ≤ length d - place) (span_of d place 8) (bytes_at d place 8) (λ head. over d (box_searched tag place head))
-    (λ head got. by_searched (λ t. verdict (over d t).answer ≡ Some r → total (span_of d place 8 ++ (over d t).marks) + left_behind d r ≤ length d - place) tag place head
-    (λ is. let same : Ok (record { place = place; size = box_size head }) ≡ r = cc in
-    let left : length d - (place + 8) ≡ left_behind d r = ap (left_behind d) same in
-    let there = bytes_ok d head place 8 got in omega arith)
-    (λ is. let same : Err (IoError (InvalidHeifBoxSize (box_size head))) ≡ r = cc in
-    let left : 0 ≡ left_behind d r = ap (left_behind d) same in omega arith)
-    (λ big is. absurd cc))
-    (λ e got is. let same : Err e ≡ r = cc in let left : 0 ≡ left_behind d r = ap (left_behind d) same in omega arith)
+search_spends : (tag : List ℕ) (first : ℕ) (d : List ℕ) → Spends (length d) first behind_head (chain_at (search_for tag first) d)
+search_spends tag first d = chain_onto (search_for tag first) d behind_head (search_advances tag first d)
+    (λ held q. (omega arith, λ head. by_searched (Onto (said_to behind_head) (q + 8)) tag q head (omega arith) tt (λ big. omega arith)))
 
-search_spends : (tag : List ℕ) (first : ℕ) (d : List ℕ) → total (chain_at (search_for tag first) d).marks + left_behind d (chain_at (search_for tag first) d).answer ≤ length d - first
-search_spends tag first d =
-    let c = search_for tag first in
-    chain_induction c d (λ t. total (chain_from c d t).marks + left_behind d (chain_from c d t).answer ≤ length d - t.place) (search_advances tag first d)
-    (λ t v place is later.
-    let u : Along (Unit {0}) = record { held = t.held ++ v ∷ []; place = place } in
-    let next = chain_next c d t v place (search_advances tag first d) is in
-    let all : total (chain_from c d t).marks ≡ total (next_record c d t).marks + total (chain_from c d u).marks = ap (λ w. total w.marks) next ∙ total-append (next_record c d t).marks (chain_from c d u).marks in
-    let same : left_behind d (chain_from c d t).answer ≡ left_behind d (chain_from c d u).answer = ap (λ w. left_behind d w.answer) next in
-    let here = ahead_next d t.place (searched_box tag t.place) v place (omega arith, λ head. by_searched (Ahead (t.place + 8)) tag t.place head tt tt (λ big. omega arith)) is in
-    omega arith)
-    (λ t r is.
-    let stop = chain_stop c d t r is in
-    let all : total (chain_from c d t).marks ≡ total (next_record c d t).marks = ap (λ w. total w.marks) stop in
-    let same : left_behind d (chain_from c d t).answer ≡ left_behind d r = ap (λ w. left_behind d w.answer) stop in
-    let here = last_spends tag d t.place r is in
-    omega arith)
-    (start c)
+-- what goes on nowhere
+abbrev ends : ImageSize → Option ℕ
+ends size = None
 
--- and what is found in the box
-found_spends : {Y : Type 0} (d : List ℕ) (n : ℕ) (spans : List Span) (r : Result FoundBox ImageError) (f : FoundBox → Reads Y) → total spans + left_behind d r ≤ n → ((found : FoundBox) → total (f found).marks ≤ length d - (found.place + 8)) → total (onward spans r f).marks ≤ n
-found_spends d n spans (Ok found) f here rest = let all = total-append spans (f found).marks in let more = rest found in omega arith
-found_spends d n spans (Err e) f here rest = omega arith
+properties_spend : (all place : ℕ) (d : List ℕ) → Spends (length d) place ends (chain_at (properties all place) d)
+properties_spend all place d = chain_onto (properties all place) d ends (properties_advance all place d)
+    (λ held q. (omega arith, λ bs. by_listed (Onto (said_to ends) (q + 8)) held (all - sum_by skipped_bytes held) q (whole 8 bs) (λ e. tt) (λ size. tt) (omega arith, λ content. omega arith) (omega arith, λ content. omega arith) (λ size big. omega arith)))
 
-properties_within : (all place : ℕ) (d : List ℕ) → total (chain_at (properties all place) d).marks ≤ length d - place
-properties_within all place d = chain_ahead (properties all place) d (properties_advance all place d)
-    (λ held q. (omega arith, λ bs. by_listed (Ahead (q + 8)) held (all - sum_by skipped_bytes held) q (whole 8 bs) (λ e. tt) (λ size. tt) (omega arith, λ content. omega arith) (omega arith, λ content. omega arith) (λ size big. omega arith)))
+version_spends : (d : List ℕ) (place : ℕ) (r : Result (List ℕ) ImageError) → total (span_of d place 4) + left (length d) (λ _. Some (place + 4)) r ≤ length d - place
+version_spends d place (Ok version) = omega (arith, total_behind d place 4, total-span_of d place 4)
+version_spends d place (Err e) = omega (arith, total_behind d place 4)
 
-in_iprp_within : (iprp : FoundBox) (d : List ℕ) → total (heif_in_iprp iprp d).marks ≤ length d - (iprp.place + 8)
-in_iprp_within iprp d =
-    let reads = chain_at (search_for (codes "ipco") (iprp.place + 8)) d in
-    found_spends d (length d - (iprp.place + 8)) reads.marks reads.answer (λ ipco. chain_at (properties ipco.size (ipco.place + 8)) d)
-    (search_spends (codes "ipco") (iprp.place + 8) d) (λ ipco. properties_within ipco.size (ipco.place + 8) d)
+in_iprp_spends : (iprp : FoundBox) (d : List ℕ) → Spends (length d) (iprp.place + 8) ends (heif_in_iprp iprp d)
+in_iprp_spends iprp d = spends_then (length d) (iprp.place + 8) (λ ipco. ipco.place + 8) ends (chain_at (search_for (codes "ipco") (iprp.place + 8)) d) (λ ipco. chain_at (properties ipco.size (ipco.place + 8)) d)
+    (search_spends (codes "ipco") (iprp.place + 8) d) (λ ipco _. properties_spend ipco.size (ipco.place + 8) d)
 
-bytes_then : {X Y : Type 0} (d : List ℕ) (place k : ℕ) (r : Result X ImageError) (f : X → Reads Y) → ((x : X) → total (f x).marks ≤ length d - (place + k)) → total (onward (span_of d place k) r f).marks ≤ length d - place
-bytes_then d place k (Ok x) f rest =
-    let all = total-append (span_of d place k) (f x).marks in let more = rest x in
-    let few = total-span_of d place k in let behind = total_behind d place k in omega arith
-bytes_then d place k (Err e) f rest = total_behind d place k
-
-in_meta_within : (meta : FoundBox) (d : List ℕ) → total (heif_in_meta meta d).marks ≤ length d - (meta.place + 8)
-in_meta_within meta d =
-    let reads = chain_at (search_for (codes "iprp") (meta.place + 12)) d in
-    let spends = search_spends (codes "iprp") (meta.place + 12) d in
-    bytes_then d (meta.place + 8) 4 (bytes_at d (meta.place + 8) 4) (λ version. and_then reads (λ iprp. heif_in_iprp iprp d))
-    (λ version. found_spends d (length d - (meta.place + 8 + 4)) reads.marks reads.answer (λ iprp. heif_in_iprp iprp d) (omega arith) (λ iprp. in_iprp_within iprp d))
+in_meta_spends : (meta : FoundBox) (d : List ℕ) → Spends (length d) (meta.place + 8) ends (heif_in_meta meta d)
+in_meta_spends meta d = spends_then (length d) (meta.place + 8) (λ version. meta.place + 8 + 4) ends (bytes_read d (meta.place + 8) 4) (λ version. and_then (chain_at (search_for (codes "iprp") (meta.place + 12)) d) (λ iprp. heif_in_iprp iprp d))
+    (version_spends d (meta.place + 8) (bytes_at d (meta.place + 8) 4))
+    (λ version _. let here : meta.place + 8 + 4 ≡ meta.place + 12 = omega arith in rw here (spends_then (length d) (meta.place + 12) (λ iprp. iprp.place + 8) ends (chain_at (search_for (codes "iprp") (meta.place + 12)) d) (λ iprp. heif_in_iprp iprp d)
+    (search_spends (codes "iprp") (meta.place + 12) d) (λ iprp _. in_iprp_spends iprp d)))
 
 -- the boxes are read from at most 4 bytes more than the input has: the first four may be read twice
 pub heif_within : (d : List ℕ) → total (heif d).marks ≤ length d + 4
 heif_within d = omega (
   arith,
   then_within (number_read d Big 0 4) (λ first. and_then (chain_at (search_for (codes "meta") first) d) (λ meta. heif_in_meta meta d)) 4 (length d) (total-span_of d 0 4)
-      (λ first _. let reads = chain_at (search_for (codes "meta") first) d in
-      let spends = search_spends (codes "meta") first d in
-      found_spends d (length d) reads.marks reads.answer (λ meta. heif_in_meta meta d) (omega arith) (λ meta. in_meta_within meta d)),
+      (λ first _. omega (
+        arith,
+        spends_then (length d) first (λ meta. meta.place + 8) ends (chain_at (search_for (codes "meta") first) d) (λ meta. heif_in_meta meta d)
+            (search_spends (codes "meta") first d) (λ meta _. in_meta_spends meta d),
+      )),
 )
 
 -- the properties may go on in bytes that follow

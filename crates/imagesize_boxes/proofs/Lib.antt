@@ -1,1 +1,7 @@
+pub mod Fields
+pub mod Heads
 pub mod Heif
+pub mod Jxl
+pub mod JxlBoxes
+pub mod JxlGrowth
+pub mod Places

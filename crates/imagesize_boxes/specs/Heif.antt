@@ -20,8 +20,8 @@ use Rattle.imagesize_source.specs.declared.error.ImageError.TheVariants.{Corrupt
 use Rattle.imagesize_source.specs.declared.error.Reason.TheVariants.{InvalidHeifBoxSize, NotEnoughData}
 use Rattle.imagesize_source.specs.declared.util.Endian.TheVariants.{Big}
 use Rattle.imagesize_source.specs.Chain.{Said, Decided, Next, Chain, chain_at, records}
-use Rattle.imagesize_source.specs.Layout.{Layout, bind, if_there}
-use Rattle.imagesize_source.specs.Layout.Layout.{bytes, refuse, «done»}
+use Rattle.imagesize_source.specs.Layout.{Layout, bind, bytes, if_there}
+use Rattle.imagesize_source.specs.Layout.Layout.{refuse, «done»}
 use Rattle.imagesize_source.specs.Numbers.{number}
 use Rattle.imagesize_source.specs.Reading.{Reads, and_then, bytes_at, bytes_read, number_at, number_read}
 

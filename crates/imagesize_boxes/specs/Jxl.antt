@@ -1,7 +1,190 @@
--- JPEG XL.
-use Rattle.std.specs.Prelude.{ℕ, Bool, List, codes, [], ◌∷◌, ◌++◌, ◌||◌}
+-- JPEG XL, by ISO/IEC 18181-1 (the codestream) and 18181-2 (the boxes around it).
+use Rattle.std.specs.Prelude.{◌<◌, ◌≤◌, min, take, drop, slice_index, Option, None, Some, ℕ, ◌+◌, ◌-◌, ◌*◌, ◌/◌, ◌^◌, ◌==◌, Bool, false, List, codes, [], ◌∷◌, ◌++◌, ◌||◌, ◌&&◌, not, length, nat_le, nat_lt, if◌then◌else◌, Result, Ok, Err}
+use Rattle.std.specs.List.{concat}
+use Rattle.imagesize_boxes.specs.Fields.{Fields, found, bits, after, found_by, field_at, bits_of}
+use Rattle.imagesize_boxes.specs.declared.formats.jxl.boxes.BoxHead.{BoxHead}
+use Rattle.imagesize_boxes.specs.declared.formats.jxl.boxes.Found.{Found}
+use Rattle.imagesize_boxes.specs.declared.formats.jxl.boxes.Found.TheVariants.{Whole, Passed}
+use Rattle.imagesize_boxes.specs.declared.formats.jxl.header.Side.{Side}
+use Rattle.imagesize_source.specs.Chain.{Said, Decided, Next, Chain, chain_at, records}
+use Rattle.imagesize_source.specs.Layout.{Layout, over, bind, bytes, there}
+use Rattle.imagesize_source.specs.Layout.Layout.{field, refuse, «done»}
+use Rattle.imagesize_source.specs.Numbers.{number}
+use Rattle.imagesize_source.specs.Reading.{Reads, gives, and_then, end_of_input}
+use Rattle.imagesize_source.specs.declared.util.Endian.TheVariants.{Big}
 use Rattle.imagesize_types.specs.Head.{begins}
+use Rattle.imagesize_types.specs.declared.size.ImageSize.{ImageSize}
+use Rattle.imagesize_source.specs.declared.error.ImageError.{ImageError}
+use Rattle.imagesize_source.specs.declared.error.ImageError.TheVariants.{CorruptedImage, IoError}
+use Rattle.imagesize_source.specs.declared.error.Reason.TheVariants.{InvalidJxlBoxSize, InvalidJxlSignature}
+
+-- the signature of a codestream
+abbrev pub has_signature : List ℕ → Bool
+has_signature front = begins (0xFF ∷ 0x0A ∷ []) front
 
 -- the signature of a codestream, or the signature box of a container
 unfoldable pub is_jxl : List ℕ → Bool
 is_jxl head = begins (0xFF ∷ 0x0A ∷ []) head || begins (0 ∷ 0 ∷ 0 ∷ 0x0C ∷ (codes "JXL " ++ 0x0D ∷ 0x0A ∷ 0x87 ∷ 0x0A ∷ [])) head
+
+-- The size in the header (18181-1, annex D, SizeHeader).
+
+-- a side of a small image, in units of eight pixels
+abbrev pub small_side : ℕ → Fields Side
+small_side from = bits from 5 (λ units. found (record { length = (units + 1) * 8; end = from + 5 }))
+
+-- how many bits the field of a side has, by its selector
+abbrev pub side_bits : ℕ → ℕ
+side_bits selector = if selector == 0 then 9 else if selector == 1 then 13 else if selector == 2 then 18 else 30
+
+-- a side of any other: a selector, then the side less one
+abbrev pub large_side : ℕ → Fields Side
+large_side from = bits from 2 (λ selector. bits (from + 2) (side_bits selector) (λ less_one. found (record { length = less_one + 1; end = from + 2 + side_bits selector })))
+
+abbrev pub side : Bool → ℕ → Fields Side
+side small from = if small then small_side from else large_side from
+
+-- the width by its ratio to the height
+abbrev pub width_by : ℕ → ℕ → ℕ
+width_by ratio height =
+    if ratio == 1 then height
+    else if ratio == 2 then height * 12 / 10
+    else if ratio == 3 then height * 4 / 3
+    else if ratio == 4 then height * 3 / 2
+    else if ratio == 5 then height * 16 / 9
+    else if ratio == 6 then height * 5 / 4
+    else height * 2
+
+-- behind the height: a ratio, or 0 and a side of its own
+abbrev pub width_side : Bool → Side → Fields Side
+width_side small height = bits height.end 3 (λ ratio.
+    if ratio == 0 then side small (height.end + 3) else found (record { length = width_by ratio height.length; end = height.end + 3 }))
+
+-- behind the size (ImageMetadata): all is default, or there are extra fields and the first is the orientation.
+-- Those from the fifth on exchange width and height.
+abbrev pub exchanged : ℕ → Fields Bool
+exchanged from = bits from 1 (λ all_default.
+    if all_default == 1 then found false
+    else bits (from + 1) 1 (λ extra. if extra == 0 then found false else bits (from + 2) 3 (λ orientation. found (nat_le 4 orientation))))
+
+abbrev pub size_of_sides : Bool → ℕ → ℕ → ImageSize
+size_of_sides exchanged width height = if exchanged then record { width = height; height = width } else record { width = width; height = height }
+
+-- whether the image is small, its height, its width and its orientation, behind the signature
+abbrev pub jxl_header : Fields ImageSize
+jxl_header = bits 16 1 (λ small.
+    after (side (small == 1) 17) (λ height.
+    after (width_side (small == 1) height) (λ width.
+    after (exchanged width.end) (λ exchanged. found (size_of_sides exchanged width.length height.length)))))
+
+-- the size by the first bytes of a codestream
+unfoldable pub jxl_size : List ℕ → Result ImageSize ImageError
+jxl_size front =
+    if nat_lt (length front) 2 then Err CorruptedImage
+    else if has_signature front then found_by (field_at (bits_of front)) jxl_header
+    else Err (IoError InvalidJxlSignature)
+
+-- The bytes of a codestream.
+
+-- what is there of so many bytes; of none there is no reading
+unfoldable pub piece_at : ℕ → ℕ → Layout (List ℕ)
+piece_at place count = if count == 0 then done [] else there place count (λ piece. done piece)
+
+-- a box ends within 64 bits, and not before its head does; an open one has the size 0
+abbrev pub box_checked : ℕ → BoxHead → Result BoxHead ImageError
+box_checked place head =
+    if nat_lt (2 ^ 64 - 1) (place + head.size) then Err CorruptedImage
+    else if not (head.size == 0) && nat_lt head.size head.length then Err (IoError (InvalidJxlBoxSize head.tag head.size))
+    else Ok head
+
+abbrev pub answer : {X : Type 0} → Result X ImageError → Layout X
+answer (Ok x) = done x
+answer (Err e) = refuse e
+
+-- the size and the tag; the size 1 stands for one of eight bytes behind them (ISO/IEC 14496-12, section 4.2)
+unfoldable pub box_head : ℕ → Layout BoxHead
+box_head place = bytes place 8 (λ head.
+    if number Big (take 4 head) == 1 then field Big (place + 8) 8 (λ size. answer (box_checked place (record { tag = drop 4 head; size = size; length = 16 })))
+    else answer (box_checked place (record { tag = drop 4 head; size = number Big (take 4 head); length = 8 })))
+
+-- how many bytes of content a box has; of an open one sixteen are enough
+abbrev pub box_room : BoxHead → ℕ
+box_room head = if head.size == 0 then 16 else head.size - head.length
+
+-- what a box with this piece says, behind these bytes: an open box is the last
+abbrev pub said_behind : List ℕ → ℕ → BoxHead → List ℕ → Said (List ℕ) (List ℕ)
+said_behind held place head piece = if head.size == 0 then Decided (held ++ piece) else Next piece (place + head.size)
+
+-- the codestream (box `jxlc`)
+abbrev pub codestream_box : ℕ → BoxHead → Layout (Said (List ℕ) (List ℕ))
+codestream_box place head = bind (piece_at (place + head.length) (min 16 (box_room head))) (λ front. done (Decided front))
+
+-- what a piece says: it is the last wanted where it is the sixteenth byte's, or where the high bit of its index is set
+abbrev pub partial_said : List ℕ → ℕ → BoxHead → List ℕ → List ℕ → Said (List ℕ) (List ℕ)
+partial_said held place head index piece = if length held + length piece == 16 || nat_le 0x80 (slice_index index 0) then Decided (held ++ piece) else said_behind held place head piece
+
+-- a part of the codestream behind its index (box `jxlp`)
+abbrev pub partial_box : List ℕ → ℕ → BoxHead → Layout (Said (List ℕ) (List ℕ))
+partial_box held place head =
+    if nat_lt (box_room head) 4 then refuse end_of_input
+    else bytes (place + head.length) 4 (λ index.
+    bind (piece_at (place + (head.length + 4)) (min (box_room head - 4) (16 - length held))) (λ piece. done (partial_said held place head index piece)))
+
+abbrev pub box_content : List ℕ → ℕ → BoxHead → Layout (Said (List ℕ) (List ℕ))
+box_content held place head =
+    if begins (codes "jxlc") head.tag then codestream_box place head
+    else if begins (codes "jxlp") head.tag then partial_box held place head
+    else done (said_behind held place head [])
+
+-- a box, behind those that hold these bytes
+abbrev pub jxl_box : List ℕ → ℕ → Layout (Said (List ℕ) (List ℕ))
+jxl_box held place = bind (box_head place) (λ head. box_content held place head)
+
+-- the boxes behind the signature box, each of which holds a piece of the codestream
+abbrev pub jxl_chain : Chain (List ℕ) (List ℕ)
+jxl_chain = record { first = 12; said = λ pieces place. jxl_box (concat pieces) place }
+
+-- the first bytes of a codestream that stands alone; none where boxes stand
+abbrev pub jxl_start : Layout (Option (List ℕ))
+jxl_start = bytes 0 2 (λ start. if has_signature start then there 2 14 (λ more. done (Some (start ++ more))) else done None)
+
+-- the first bytes of the codestream: those, or the pieces in the boxes joined
+abbrev pub codestream : List ℕ → Option (List ℕ) → Reads (List ℕ)
+codestream d (Some front) = gives front
+codestream d None = chain_at jxl_chain d
+
+abbrev pub jxl_codestream : List ℕ → Reads (List ℕ)
+jxl_codestream d = and_then (over d jxl_start) (codestream d)
+
+-- by them the size
+abbrev pub jxl : List ℕ → Reads ImageSize
+jxl d = and_then (jxl_codestream d) (λ front. record { answer = jxl_size front; marks = [] })
+
+-- how many boxes are begun
+abbrev pub begun_behind : List ℕ → Result (Option (List ℕ)) ImageError → ℕ
+begun_behind d (Ok None) = records jxl_chain d
+begun_behind d (Ok (Some front)) = 0
+begun_behind d (Err e) = 0
+
+abbrev pub jxl_boxes : List ℕ → ℕ
+jxl_boxes d = begun_behind d (over d jxl_start).answer
+
+-- what a box that was found says
+abbrev pub box_said : Found → Said (List ℕ) (List ℕ)
+box_said (Whole front) = Decided front.items
+box_said (Passed piece next) = Next piece.items next
+
+-- the next box stands behind the place
+abbrev pub IsFurther : ℕ → Found → Type 0
+IsFurther place (Whole front) = Unit {0}
+IsFurther place (Passed piece next) = place < next
+
+-- there is room for the piece behind these bytes
+abbrev pub FitsBehind : List ℕ → Found → Type 0
+FitsBehind held (Whole front) = Unit {0}
+FitsBehind held (Passed piece next) = length held + length piece.items ≤ 16
+
+-- Such a head was checked.
+pub record IsHead (place : ℕ) (head : BoxHead) : Type 0 where
+  pub within : place + head.size < 2 ^ 64
+  pub whole : 0 < head.size → head.length ≤ head.size
+  pub short : head.length ≤ 16

@@ -21,8 +21,8 @@ use Rattle.imagesize_source.specs.State.{State, Runs, total}
 use Rattle.imagesize_source.proofs.Advances.{Tells, advances}
 use Rattle.imagesize_source.proofs.Ahead.{Ahead, chain_ahead}
 use Rattle.imagesize_source.proofs.ChainLaws.{local_chain, lasts_chain, chain_cost}
-use Rattle.imagesize_source.proofs.Count.{then_within, total-span_of}
-use Rattle.imagesize_source.proofs.Local.{local_then, local_number}
+use Rattle.imagesize_source.proofs.Counts.{then_within, total-span_of}
+use Rattle.imagesize_source.proofs.Agreement.{local_then, local_number}
 use Rattle.imagesize_source.proofs.Numbers.{little_4}
 use Rattle.imagesize_source.proofs.Runs.{total-append}
 use Rattle.imagesize_source.proofs.Spends.{said_to}

@@ -14,8 +14,8 @@ use Rattle.imagesize_source.specs.State.{State, Runs, total}
 use Rattle.imagesize_source.proofs.Advances.{Tells, advances}
 use Rattle.imagesize_source.proofs.Ahead.{Ahead}
 use Rattle.imagesize_source.proofs.ChainLaws.{local_chain, lasts_chain}
-use Rattle.imagesize_source.proofs.Local.{local_then, local_layout}
-use Rattle.imagesize_source.proofs.More.{more}
+use Rattle.imagesize_source.proofs.Agreement.{local_then, local_layout}
+use Rattle.imagesize_source.proofs.Extension.{more}
 use Rattle.imagesize_source.proofs.Spends.{Onto, said_to, spends, spends_then, chain_onto}
 use Rattle.imagesize_source.proofs.Tests.{on_test}
 use Rattle.imagesize_source.proofs.Walks.{Walks, walks_start, walks_on, walks_stop, walks_out, walks_past}

@@ -23,9 +23,9 @@ use Rattle.imagesize_source.specs.Reading.{Reads, gives, and_then, onward, bytes
 use Rattle.imagesize_source.specs.State.{State, Runs, EndedBy}
 use Rattle.imagesize_source.specs.Text.{is_ended, skipped}
 use Rattle.imagesize_source.proofs.Advances.{Tells, Begins}
-use Rattle.imagesize_source.proofs.Count.{text_length}
+use Rattle.imagesize_source.proofs.Counts.{text_length}
 use Rattle.imagesize_source.proofs.Layouts.{runs_as}
-use Rattle.imagesize_source.proofs.More.{more}
+use Rattle.imagesize_source.proofs.Extension.{more}
 use Rattle.imagesize_source.proofs.Runs.{answered, part_is, part_length}
 use Rattle.imagesize_source.proofs.Spends.{Onto}
 use Rattle.imagesize_source.proofs.Tests.{on_test}

@@ -15,7 +15,7 @@ use Rattle.imagesize_walked.specs.declared.formats.tiff.Version.TheVariants.{Tif
 use Rattle.imagesize_types.specs.declared.size.ImageSize.{ImageSize}
 use Rattle.imagesize_source.specs.declared.error.ImageError.{ImageError}
 use Rattle.imagesize_source.specs.declared.error.ImageError.TheVariants.{IoError}
-use Rattle.imagesize_source.specs.declared.error.Reason.TheVariants.{InvalidIfdOffset, InvalidIfdValueLength, NoDimensionsInIfd}
+use Rattle.imagesize_source.specs.declared.error.Reason.TheVariants.{InvalidIfdValueLength, NoDimensionsInIfd}
 use Rattle.imagesize_source.specs.declared.util.Endian.{Endian}
 use Rattle.imagesize_source.specs.Agreement.{Local}
 use Rattle.imagesize_source.specs.Chain.{Said, Decided, Next, Along, Advances, start, next_record, records, records_from, verdict, chain_at}
@@ -29,14 +29,14 @@ use Rattle.imagesize_source.specs.Reading.{and_then, onward, end_of_input, numbe
 use Rattle.imagesize_source.specs.State.{State, Runs, Sound, total}
 use Rattle.imagesize_source.proofs.Advances.{Tells, Begins, advances}
 use Rattle.imagesize_source.proofs.Ahead.{Ahead, chain_ahead}
-use Rattle.imagesize_source.proofs.Beyond.{bytes_beyond}
+use Rattle.imagesize_source.proofs.PastTheEnd.{bytes_beyond}
 use Rattle.imagesize_source.proofs.ChainLaws.{local_chain, lasts_chain, chain_cost, chain_induction}
 use Rattle.imagesize_source.proofs.Chains.{records_next, records_stop}
-use Rattle.imagesize_source.proofs.Count.{at_most, at_most_bind, then_within, total-span_of, total_behind}
-use Rattle.imagesize_source.proofs.Found.{on_answer}
+use Rattle.imagesize_source.proofs.Counts.{at_most, at_most_bind, then_within, total-span_of, total_behind}
+use Rattle.imagesize_source.proofs.Answered.{on_answer}
 use Rattle.imagesize_source.proofs.Layouts.{runs_as}
-use Rattle.imagesize_source.proofs.Local.{local_layout, local_number, local_then}
-use Rattle.imagesize_source.proofs.More.{bytes_more, more, number_ok}
+use Rattle.imagesize_source.proofs.Agreement.{local_layout, local_number, local_then}
+use Rattle.imagesize_source.proofs.Extension.{bytes_more, more, number_ok}
 use Rattle.imagesize_source.proofs.Reached.{runs_bind, refused_bind}
 use Rattle.imagesize_source.proofs.Runs.{total-append}
 use Rattle.imagesize_source.proofs.Tests.{on_test}
@@ -49,7 +49,7 @@ by_accepted P (Ok x) f g out on = on x
 by_accepted P (Err e) f g out on = out e
 
 -- and of a value that is cut, and of one that is whole
-by_whole : {Y Z : Type 0} (P : Layout Z → Type 0) (found : Option (List ℕ)) (f : List ℕ → Layout Y) (g : Y → Layout Z) → P (refuse (IoError InvalidIfdValueLength)) → ((value : List ℕ) → P (bind (f value) g)) → P (bind (bind (whole_value found) f) g)
+by_whole : {Y Z : Type 0} (P : Layout Z → Type 0) (found : Option (List ℕ)) (f : List ℕ → Layout Y) (g : Y → Layout Z) → P (refuse (IoError InvalidIfdValueLength)) → ((value : List ℕ) → P (bind (f value) g)) → P (bind (bind (accepted (whole_value found) done) f) g)
 by_whole P None f g cut on = cut
 by_whole P (Some value) f g cut on = on (take 4 value)
 
@@ -86,7 +86,7 @@ by_completed P (Some x) entry next stop on = stop x
 -- and where the value is cut, where the entry completes the size and where it does not
 by_value : (P : Layout (Said Entry ImageSize) → Type 0) (header : Header) (entries : List Entry) (place : ℕ) (head : List ℕ) (kind : Kind) (value : List ℕ) → P (refuse (IoError InvalidIfdValueLength))
     → ((size : ImageSize) → P (done (Decided size))) → ((entry : Entry) → P (done (Next entry (place + entry_bytes header.version))))
-    → P (bind (bind (whole_value (whole (value_bytes header.version) value)) (λ value. done (entry_of header head kind value))) (says header entries place))
+    → P (bind (bind (accepted (whole_value (whole (value_bytes header.version) value)) done) (λ value. done (entry_of header head kind value))) (says header entries place))
 by_value P header entries place head kind value cut stop on =
     by_whole P (whole (value_bytes header.version) value) (λ value. done (entry_of header head kind value)) (says header entries place) cut
     (λ value. let entry : Entry = entry_of header head kind value in by_completed P (size_in (entries ++ entry ∷ [])) entry (place + entry_bytes header.version) stop (on entry))
@@ -280,6 +280,10 @@ directory_within d header =
     omega arith)
     (λ e is. omega arith)
 
+-- the header whose directory stands at a place
+abbrev placed : Endian → Version → ℕ → Layout Header
+placed order version place = accepted (directory_at order version place) done
+
 stated_at_most : (order : Endian) (version : Version) → AtMost 12 (stated_place order version)
 unfolding stated_place
 stated_at_most order Tiff = (omega arith, λ place. tt)
@@ -295,12 +299,12 @@ header_at_most : AtMost 16 tiff_header
 unfolding tiff_header
 header_at_most = (
   omega arith,
-  λ mark. accepted_at_most 14 (byte_order mark) (λ order. field order 2 2 (λ number. accepted (version_of number) (λ version. bind (stated_place order version) (directory_at order version))))
+  λ mark. accepted_at_most 14 (byte_order mark) (λ order. field order 2 2 (λ number. accepted (version_of number) (λ version. bind (stated_place order version) (placed order version))))
       (λ order. (
         omega arith,
-        λ number. accepted_at_most 12 (version_of number) (λ version. bind (stated_place order version) (directory_at order version))
-            (λ version. at_most_bind 12 0 (stated_place order version) (directory_at order version) (stated_at_most order version)
-            (λ place. on_test (AtMost 0) (eqb place 0) (refuse (IoError InvalidIfdOffset)) (done (record { order = order; version = version; directory = place })) (λ _. tt) (λ _. tt))),
+        λ number. accepted_at_most 12 (version_of number) (λ version. bind (stated_place order version) (placed order version))
+            (λ version. at_most_bind 12 0 (stated_place order version) (placed order version) (stated_at_most order version)
+            (λ place. accepted_at_most 0 (directory_at order version place) done (λ header. tt))),
       )),
 )
 
@@ -352,10 +356,10 @@ tiff_cost d = cost_by (over d tiff_header).answer where
   cost_by (Err e) = let first = at_most d 16 tiff_header header_at_most in omega arith
 
 -- a value that is cut is refused
-cut_never : {Y Z : Type 0} (k : ℕ) (value : List ℕ) (f : List ℕ → Layout Y) (g : Y → Layout Z) → length value < k → Never (bind (bind (whole_value (whole k value)) f) g)
+cut_never : {Y Z : Type 0} (k : ℕ) (value : List ℕ) (f : List ℕ → Layout Y) (g : Y → Layout Z) → length value < k → Never (bind (bind (accepted (whole_value (whole k value)) done) f) g)
 cut_never k value f g short =
     let none : whole k value ≡ None = grind (arith, nat_tests) in
-    subst (λ found. Never (bind (bind (whole_value found) f) g)) (sym none) tt
+    subst (λ found. Never (bind (bind (accepted (whole_value found) done) f) g)) (sym none) tt
 
 record_plain : (header : Header) (entries : List Entry) (place : ℕ) → Plain (record_behind header entries place)
 unfolding tiff_entry tiff_head tiff_value
@@ -369,20 +373,17 @@ accepted_plain : {X Y : Type 0} (r : Result X ImageError) (f : X → Layout Y) �
 accepted_plain (Ok x) f each = each x
 accepted_plain (Err e) f each = tt
 
-directory_plain : (order : Endian) (version : Version) (place : ℕ) → Plain (directory_at order version place)
-directory_plain order version place = on_test Plain (eqb place 0) (refuse (IoError InvalidIfdOffset)) (done (record { order = order; version = version; directory = place })) (λ _. tt) (λ _. tt)
-
-stated_plain : (order : Endian) (version : Version) → Plain (bind (stated_place order version) (directory_at order version))
+stated_plain : (order : Endian) (version : Version) → Plain (bind (stated_place order version) (placed order version))
 unfolding stated_place
-stated_plain order Tiff = λ place. directory_plain order Tiff place
-stated_plain order BigTiff = λ size. on_test (λ t. Plain (bind t (directory_at order BigTiff))) (eqb size 8) _ _
-    (λ _ zeros. on_test (λ t. Plain (bind t (directory_at order BigTiff))) (eqb zeros 0) (field order 8 8 done) _ (λ _ place. directory_plain order BigTiff place) (λ _. tt))
+stated_plain order Tiff = λ place. accepted_plain (directory_at order Tiff place) done (λ header. tt)
+stated_plain order BigTiff = λ size. on_test (λ t. Plain (bind t (placed order BigTiff))) (eqb size 8) _ _
+    (λ _ zeros. on_test (λ t. Plain (bind t (placed order BigTiff))) (eqb zeros 0) (field order 8 8 done) _ (λ _ place. accepted_plain (directory_at order BigTiff place) done (λ header. tt)) (λ _. tt))
     (λ _. tt)
 
 header_plain : Plain tiff_header
 unfolding tiff_header
-header_plain = λ mark. accepted_plain (byte_order mark) (λ order. field order 2 2 (λ number. accepted (version_of number) (λ version. bind (stated_place order version) (directory_at order version))))
-    (λ order number. accepted_plain (version_of number) (λ version. bind (stated_place order version) (directory_at order version))
+header_plain = λ mark. accepted_plain (byte_order mark) (λ order. field order 2 2 (λ number. accepted (version_of number) (λ version. bind (stated_place order version) (placed order version))))
+    (λ order number. accepted_plain (version_of number) (λ version. bind (stated_place order version) (placed order version))
     (λ version. stated_plain order version))
 
 -- bytes that follow change no number that was there

@@ -46,15 +46,15 @@ stated_place order BigTiff = field order 4 2 (λ size.
     else refuse (IoError BigTiffOffsetSize))
 
 -- it is never 0
-abbrev pub directory_at : Endian → Version → ℕ → Layout Header
-directory_at order version place = if place == 0 then refuse (IoError InvalidIfdOffset) else done (record { order = order; version = version; directory = place })
+abbrev pub directory_at : Endian → Version → ℕ → Result Header ImageError
+directory_at order version place = if place == 0 then Err (IoError InvalidIfdOffset) else Ok (record { order = order; version = version; directory = place })
 
 -- the header ("Image File Header")
 unfoldable pub tiff_header : Layout Header
 tiff_header =
     bytes 0 2 (λ mark. accepted (byte_order mark) (λ order.
     field order 2 2 (λ number. accepted (version_of number) (λ version.
-    bind (stated_place order version) (directory_at order version)))))
+    bind (stated_place order version) (λ place. accepted (directory_at order version place) done)))))
 
 -- how many bytes the count of a directory's entries has ("Image File Directory")
 abbrev pub count_bytes : Version → ℕ
@@ -107,12 +107,12 @@ unfoldable pub tiff_head : Version → ℕ → Layout (List ℕ)
 tiff_head version place = bytes place (head_bytes version) (λ head. done (take 4 head))
 
 -- and so is its value, which the end of the input may cut
-abbrev pub whole_value : Option (List ℕ) → Layout (List ℕ)
-whole_value None = refuse (IoError InvalidIfdValueLength)
-whole_value (Some value) = done (take 4 value)
+abbrev pub whole_value : Option (List ℕ) → Result (List ℕ) ImageError
+whole_value None = Err (IoError InvalidIfdValueLength)
+whole_value (Some value) = Ok (take 4 value)
 
 unfoldable pub tiff_value : Version → ℕ → Layout (List ℕ)
-tiff_value version place = if_there place (value_bytes version) whole_value
+tiff_value version place = if_there place (value_bytes version) (λ found. accepted (whole_value found) done)
 
 -- an entry: its kind is judged before its value is read
 unfoldable pub tiff_entry : Header → ℕ → Layout Entry

@@ -1,6 +1,19 @@
-//! JPEG XL, by ISO/IEC 18181-1 (the signature of a codestream) and 18181-2 (the signature box).
-ghost use Rattle.std.specs.Prelude.{◌≡◌};
-ghost use Rattle.imagesize_boxes.specs.Jxl.{is_jxl};
+//! JPEG XL, by ISO/IEC 18181-1 (the codestream) and 18181-2 (the boxes around it).
+ghost use Rattle.std.specs.Prelude.{◌≡◌, ◌≤◌, ◌++◌, length, option_map};
+ghost use Rattle.imagesize_boxes.specs.Jxl.{is_jxl, jxl, jxl_codestream, jxl_start};
+ghost use Rattle.imagesize_source.specs.Layout.{over};
+ghost use Rattle.imagesize_source.specs.Reading.{seen};
+ghost use Rattle.imagesize_source.specs.State.{Runs};
+
+mod bits;
+mod boxes;
+mod header;
+
+use boxes::Codestream;
+use imagesize_source::ImageResult;
+use imagesize_source::source::Source;
+use imagesize_source::util::read_bytes;
+use imagesize_types::size::ImageSize;
 
 /// Whether a codestream or a signature box stands first.
 #[inline(always)]
@@ -15,4 +28,51 @@ pub fn matches(head: &[u8; 12]) -> bool
                 0, 0, 0, 0x0C, b'J', b'X', b'L', b' ', 0x0D, 0x0A, 0x87, 0x0A
             ]
         )
+}
+
+/// The width and the height in the header of the codestream, as the image is shown: where its orientation says
+/// so, they are exchanged.
+pub fn size<S: Source>(source: &mut S) -> ImageResult<ImageSize>
+    ensures { Runs (S.state source.old) (S.state source.new) result (jxl (S.state source.old).held.input) }
+{
+    let codestream = read_codestream(source)?;
+    header::codestream_size(codestream.as_slice())
+}
+
+// The first bytes of the codestream, which stands alone or in boxes.
+#[tactic(auto, using(imagesize_source::proofs::Runs::steps))]
+fn read_codestream<S: Source>(source: &mut S) -> ImageResult<Codestream>
+    ensures { Runs (S.state source.old) (S.state source.new) (seen (λ found. found.items) result)
+        (jxl_codestream (S.state source.old).held.input) }
+{
+    match read_start(source)? {
+        Some(codestream) => Ok(codestream),
+        None => boxes::read_codestream(source),
+    }
+}
+
+// The first bytes of a codestream that stands alone; none where boxes stand.
+#[tactic(auto, using(imagesize_source::proofs::Runs::steps))]
+fn read_start<S: Source>(source: &mut S) -> ImageResult<Option<Codestream>>
+    ensures { Runs (S.state source.old) (S.state source.new) (seen (λ found. option_map (λ front. front.items) found) result)
+        (over (S.state source.old).held.input jxl_start) }
+{
+    let start = read_bytes::<S, 2>(source, 0)?;
+    if !header::has_signature(&start) {
+        return Ok(None);
+    }
+    let mut room = [0u8; 14];
+    let there = source.read_at(2, &mut room)?;
+    Ok(Some(joined(&start, &room[..there])))
+}
+
+// The two bytes, and those behind them.
+fn joined(start: &[u8; 2], more: &[u8]) -> Codestream
+    requires { length more.now ≤ 14 }
+    ensures { result.items ≡ start.now ++ more.now }
+{
+    let mut all = Codestream::new();
+    let _ = all.try_extend_from_slice(start);
+    let _ = all.try_extend_from_slice(more);
+    all
 }

@@ -1,6 +1,6 @@
 //! TIFF, by "TIFF Revision 6.0" (section 2), and BigTIFF, by "The BigTIFF File Format".
 ghost use Rattle.std.specs.Prelude.{◌≡◌, ◌+◌, ◌*◌, ◌-◌, ◌^◌, ◌≤◌, ◌==◌, if◌then◌else◌, min, take};
-ghost use Rattle.imagesize_walked.specs.Tiff.{byte_order, count_bytes, entry_bytes, head_bytes, is_tiff, kind_in, kind_of, size_of_sides, stated_place, tag_in, tiff, tiff_entries, tiff_entry, tiff_head, tiff_header, tiff_value, value_of, version_of};
+ghost use Rattle.imagesize_walked.specs.Tiff.{byte_order, count_bytes, directory_at, entry_bytes, head_bytes, is_tiff, kind_in, kind_of, size_of_sides, stated_place, tag_in, tiff, tiff_entries, tiff_entry, tiff_head, tiff_header, tiff_value, value_of, version_of, whole_value};
 ghost use Rattle.imagesize_source.specs.Chain.{chain_at};
 ghost use Rattle.imagesize_source.specs.Layout.{if_there, over};
 ghost use Rattle.imagesize_source.specs.Layout.Layout.{«done»};
@@ -59,15 +59,9 @@ fn read_header<S: Source>(source: &mut S) -> ImageResult<Header>
     let mark = read_bytes::<S, 2>(source, 0)?;
     let order = byte_order(mark)?;
     let version = version_of(read_u16(source, 2, order)?)?;
-    let directory = read_place(source, order, version)?;
-    if directory == 0 {
-        return Err(ImageError::IoError(Reason::InvalidIfdOffset));
-    }
-    Ok(Header {
-        order,
-        version,
-        directory,
-    })
+    let place = read_place(source, order, version)?;
+    let header = directory_at(order, version, place)?;
+    Ok(header)
 }
 
 // The order of all numbers, by the first two bytes.
@@ -92,6 +86,21 @@ fn version_of(number: u16) -> ImageResult<Version>
         43 => Ok(Version::BigTiff),
         _ => Err(ImageError::IoError(Reason::InvalidTiffHeader)),
     }
+}
+
+// The header whose directory stands at a place, which is never 0.
+#[inline(always)]
+fn directory_at(order: Endian, version: Version, place: u64) -> ImageResult<Header>
+    ensures { result ≡ directory_at order version place }
+{
+    if place == 0 {
+        return Err(ImageError::IoError(Reason::InvalidIfdOffset));
+    }
+    Ok(Header {
+        order,
+        version,
+        directory: place,
+    })
 }
 
 // The place of the first directory, as it is stated.
@@ -260,14 +269,26 @@ fn read_value<S: Source>(source: &mut S, version: Version, place: u64) -> ImageR
         (over (S.state source.old).held.input (tiff_value version (place + head_bytes version))) }
 {
     match version {
-        Version::Tiff => match read_behind::<S, 4>(source, place, 8)? {
-            Some(value) => Ok(first_four(value)),
-            None => Err(ImageError::IoError(Reason::InvalidIfdValueLength)),
-        },
-        Version::BigTiff => match read_behind::<S, 8>(source, place, 12)? {
-            Some(value) => Ok(first_four(value)),
-            None => Err(ImageError::IoError(Reason::InvalidIfdValueLength)),
-        },
+        Version::Tiff => {
+            let value = whole_value(read_behind::<S, 4>(source, place, 8)?)?;
+            Ok(value)
+        }
+        Version::BigTiff => {
+            let value = whole_value(read_behind::<S, 8>(source, place, 12)?)?;
+            Ok(value)
+        }
+    }
+}
+
+// The first four bytes of a value that the end of the input does not cut.
+#[inline(always)]
+fn whole_value<const N: usize>(found: Option<[u8; N]>) -> ImageResult<[u8; 4]>
+    requires { 4 ≤ N }
+    ensures { result ≡ whole_value found.entry }
+{
+    match found {
+        Some(value) => Ok(first_four(value)),
+        None => Err(ImageError::IoError(Reason::InvalidIfdValueLength)),
     }
 }
 

@@ -1,4 +1,4 @@
-use Rattle.std.proofs.Common.{ℕ, ◌+◌, ◌^◌, ◌<◌, ◌≤◌, arith, rules}
+use Rattle.std.proofs.Common.{ℕ, ◌+◌, ◌<◌, arith, rules}
 use Rattle.imagesize_boxes.proofs.Heif.{search_start, search_on, search_stop, search_out, search_past}
 use Rattle.imagesize_boxes.proofs.container.heif.search_from.Goals as goal
 

@@ -1,0 +1,162 @@
+-- Fields of bits: what more bits leave, and the bits as a number.
+use Rattle.std.proofs.Common.{◌≡◌, ℕ, zero, suc, ◌+◌, ◌-◌, ◌*◌, ◌/◌, ◌%◌, ◌^◌, ◌<◌, ◌≤◌, Bool, true, false, cond, leb, List, [], ◌∷◌, ◌++◌, length, take, drop, get_or, replicate, bit_and, Result, Ok, Err, refl, sym, ap, ◌∙◌, add-one, arith}
+use Rattle.std.proofs.lemmas.Bool.Decides.{nat_tests}
+use Rattle.std.proofs.lemmas.List.{length-append, length-drop, drop-append-le, take-append-le, drop-replicate}
+use Rattle.std.proofs.Math.Numerals.{one-add}
+use Rattle.std.proofs.lemmas.Nat.{and_mask, one_shl, pow_pos, mod-pow-add, shr-shr}
+use Rattle.std.specs.Int.{w128, from_le_bytes}
+use Rattle.imagesize_source.specs.declared.error.ImageError.{ImageError}
+use Rattle.imagesize_source.specs.declared.error.ImageError.TheVariants.{CorruptedImage}
+use Rattle.imagesize_source.specs.declared.util.Endian.TheVariants.{Little}
+use Rattle.imagesize_source.specs.Numbers.{number, little}
+use Rattle.imagesize_boxes.specs.Fields.{low_bits, bits_of, binary, field_at, Fields, found, bits, with_found, found_by, after, field_in}
+
+-- the mask of so many bits leaves these of a number
+pub masked : (n count : ℕ) → count ≤ 30 → bit_and n (1 * 2 ^ count % 2 ^ 128 - 1) ≡ n % 2 ^ count
+masked n count few = rw (one_shl count 128 (omega arith)) (and_mask n count)
+
+pub little_16 : (bs : List ℕ) → length bs ≡ 16 → from_le_bytes w128 bs ≡ number Little bs
+unfolding number
+little_16 [] is = absurd (omega (arith, is))
+little_16 (a ∷ []) is = absurd (omega (arith, is))
+little_16 (a ∷ b ∷ []) is = absurd (omega (arith, is))
+little_16 (a ∷ b ∷ c ∷ []) is = absurd (omega (arith, is))
+little_16 (a ∷ b ∷ c ∷ d ∷ []) is = absurd (omega (arith, is))
+little_16 (a ∷ b ∷ c ∷ d ∷ e ∷ []) is = absurd (omega (arith, is))
+little_16 (a ∷ b ∷ c ∷ d ∷ e ∷ f ∷ []) is = absurd (omega (arith, is))
+little_16 (a ∷ b ∷ c ∷ d ∷ e ∷ f ∷ g ∷ []) is = absurd (omega (arith, is))
+little_16 (a ∷ b ∷ c ∷ d ∷ e ∷ f ∷ g ∷ h ∷ []) is = absurd (omega (arith, is))
+little_16 (a ∷ b ∷ c ∷ d ∷ e ∷ f ∷ g ∷ h ∷ i ∷ []) is = absurd (omega (arith, is))
+little_16 (a ∷ b ∷ c ∷ d ∷ e ∷ f ∷ g ∷ h ∷ i ∷ j ∷ []) is = absurd (omega (arith, is))
+little_16 (a ∷ b ∷ c ∷ d ∷ e ∷ f ∷ g ∷ h ∷ i ∷ j ∷ k ∷ []) is = absurd (omega (arith, is))
+little_16 (a ∷ b ∷ c ∷ d ∷ e ∷ f ∷ g ∷ h ∷ i ∷ j ∷ k ∷ l ∷ []) is = absurd (omega (arith, is))
+little_16 (a ∷ b ∷ c ∷ d ∷ e ∷ f ∷ g ∷ h ∷ i ∷ j ∷ k ∷ l ∷ m ∷ []) is = absurd (omega (arith, is))
+little_16 (a ∷ b ∷ c ∷ d ∷ e ∷ f ∷ g ∷ h ∷ i ∷ j ∷ k ∷ l ∷ m ∷ n ∷ []) is = absurd (omega (arith, is))
+little_16 (a ∷ b ∷ c ∷ d ∷ e ∷ f ∷ g ∷ h ∷ i ∷ j ∷ k ∷ l ∷ m ∷ n ∷ o ∷ []) is = absurd (omega (arith, is))
+little_16 (a ∷ b ∷ c ∷ d ∷ e ∷ f ∷ g ∷ h ∷ i ∷ j ∷ k ∷ l ∷ m ∷ n ∷ o ∷ p ∷ []) is = omega arith
+little_16 (a ∷ b ∷ c ∷ d ∷ e ∷ f ∷ g ∷ h ∷ i ∷ j ∷ k ∷ l ∷ m ∷ n ∷ o ∷ p ∷ x ∷ rest) is = absurd (omega (arith, is))
+
+-- what goes on alike is found alike
+alike : {X Y : Type 0} (r : Result X ImageError) (f g : X → Result Y ImageError) → ((x : X) → f x ≡ g x) → with_found r f ≡ with_found r g
+alike (Ok x) f g same = same x
+alike (Err e) f g same = refl
+
+found_twice : {X Y Z : Type 0} (r : Result X ImageError) (f : X → Result Y ImageError) (g : Y → Result Z ImageError) → with_found r (λ x. with_found (f x) g) ≡ with_found (with_found r f) g
+found_twice (Ok x) f g = refl
+found_twice (Err e) f g = refl
+
+-- what is found by fields that are read alike
+pub found_alike : {X : Type 0} (f g : ℕ → ℕ → Result ℕ ImageError) (t : Fields X) → ((from count : ℕ) → f from count ≡ g from count) → found_by f t ≡ found_by g t
+found_alike f g (found x) same = refl
+found_alike f g (bits from count h) same = rw (same from count) (alike (g from count) (λ n. found_by f (h n)) (λ n. found_by g (h n)) (λ n. found_alike f g (h n) same))
+
+-- what goes on is found behind what it goes on from
+pub found-after : {X Y : Type 0} (field : ℕ → ℕ → Result ℕ ImageError) (t : Fields X) (g : X → Fields Y) → found_by field (after t g) ≡ with_found (found_by field t) (λ x. found_by field (g x))
+found-after field (found x) g = refl
+found-after field (bits from count f) g =
+    alike (field from count) (λ n. found_by field (after (f n) g)) (λ n. with_found (found_by field (f n)) (λ x. found_by field (g x))) (λ n. found-after field (f n) g)
+    ∙ found_twice (field from count) (λ n. found_by field (f n)) (λ x. found_by field (g x))
+
+pub ruleset fields = (found-after)
+
+-- Each number of the list is a bit.
+data AreBits : List ℕ → Type 0 where
+  no_bits : AreBits []
+  one_bit : {b : ℕ} {rest : List ℕ} → b < 2 → AreBits rest → AreBits (b ∷ rest)
+
+are_bits : (bytes : List ℕ) → AreBits (bits_of bytes)
+unfolding bits_of low_bits
+are_bits [] = no_bits
+are_bits (b ∷ bytes) =
+    one_bit (omega arith) (one_bit (omega arith) (one_bit (omega arith) (one_bit (omega arith)
+    (one_bit (omega arith) (one_bit (omega arith) (one_bit (omega arith) (one_bit (omega arith) (are_bits bytes))))))))
+
+pub length-bits_of : (bytes : List ℕ) → length (bits_of bytes) ≡ 8 * length bytes
+unfolding bits_of low_bits
+length-bits_of [] = refl
+length-bits_of (b ∷ bytes) = let rest = length-bits_of bytes in omega arith
+
+-- the number of the bits of bytes is that of the bytes
+binary_of : (bytes : List ℕ) → ((i : ℕ) → get_or bytes i 0 < 256) → binary (bits_of bytes) ≡ little bytes
+unfolding bits_of low_bits binary
+binary_of [] small = refl
+binary_of (b ∷ bytes) small =
+    let here : b < 256 = small 0 in
+    let rest = binary_of bytes (λ i. small (suc i)) in
+    omega arith
+
+-- the lowest bits of a number are its rest by a power of two
+binary_take : (k : ℕ) (list : List ℕ) → AreBits list → binary (take k list) ≡ binary list % 2 ^ k
+unfolding binary
+binary_take zero list h = omega arith
+binary_take (suc k) [] h = let some = pow_pos (suc k) in omega arith
+binary_take (suc k) (b ∷ list) (one_bit is rest) =
+    let lower = binary_take k list rest in
+    let n : ℕ = b + 2 * binary list in
+    let half : n / 2 ≡ binary list = omega arith in
+    let all : n % 2 ^ suc k ≡ (n / 2 % 2 ^ k) * 2 + n % 2 = ap (λ e. n % 2 ^ e) (sym (add-one k)) ∙ mod-pow-add n k 1 in
+    let same : n / 2 % 2 ^ k ≡ binary list % 2 ^ k = ap (λ m. m % 2 ^ k) half in
+    omega arith
+
+-- and what is behind them is what it holds of it
+binary_drop : (k : ℕ) (list : List ℕ) → AreBits list → binary (drop k list) ≡ binary list / 2 ^ k
+unfolding binary
+binary_drop zero list h = omega arith
+binary_drop (suc k) [] h = let some = pow_pos (suc k) in omega arith
+binary_drop (suc k) (b ∷ list) (one_bit is rest) =
+    let n : ℕ = b + 2 * binary list in
+    let half : n / 2 ≡ binary list = omega arith in
+    binary_drop k list rest ∙ ap (λ m. m / 2 ^ k) (sym half) ∙ shr-shr n 1 k ∙ ap (λ e. n / 2 ^ e) (one-add k)
+
+drop_bits : (k : ℕ) (list : List ℕ) → AreBits list → AreBits (drop k list)
+drop_bits zero list h = h
+drop_bits (suc k) [] h = no_bits
+drop_bits (suc k) (b ∷ list) (one_bit is rest) = drop_bits k list rest
+
+-- a field of the bits of bytes is that of their number
+pub field_same : (bytes : List ℕ) → ((i : ℕ) → get_or bytes i 0 < 256) → (from count : ℕ) → field_at (bits_of bytes) from count ≡ field_in (little bytes) (8 * length bytes) from count
+unfolding field_at
+field_same bytes small from count =
+    let long = length-bits_of bytes in
+    let value : binary (take count (drop from (bits_of bytes))) ≡ little bytes / 2 ^ from % 2 ^ count =
+    binary_take count (drop from (bits_of bytes)) (drop_bits from (bits_of bytes) (are_bits bytes))
+    ∙ ap (λ n. n % 2 ^ count) (binary_drop from (bits_of bytes) (are_bits bytes) ∙ ap (λ n. n / 2 ^ from) (binary_of bytes small)) in
+    rw (long, value) refl
+
+is_there : (b : Bool) (m n : ℕ) → ◌≡◌ {A = Result ℕ ImageError} (cond b (Ok m) (Err CorruptedImage)) (Ok n) → b ≡ true
+is_there true m n is = refl
+is_there false m n is = absurd cc
+
+-- more bits leave a field that is there
+field_more : (list more : List ℕ) (from count n : ℕ) → field_at list from count ≡ Ok n → field_at (list ++ more) from count ≡ Ok n
+unfolding field_at
+field_more list more from count n is =
+    let long = length-append list more in
+    let test = is_there (leb (from + count) (length list)) (binary (take count (drop from list))) n is in
+    let here : from + count ≤ length list = grind (arith, nat_tests) in
+    let after : leb (from + count) (length (list ++ more)) ≡ true = grind (arith, nat_tests) in
+    let rest = length-drop from list in
+    let same : take count (drop from (list ++ more)) ≡ take count (drop from list) = ap (take count) (drop-append-le from list more (omega arith)) ∙ take-append-le count (drop from list) more (omega arith) in
+    rw (after, same) (ap (λ b. cond b (Ok (binary (take count (drop from list)))) (Err CorruptedImage)) (sym test) ∙ is)
+
+found_on : {X : Type 0} (r : Result ℕ ImageError) (other : Result ℕ ImageError) (f g : ℕ → Result X ImageError) (v : X) → ((n : ℕ) → r ≡ Ok n → other ≡ Ok n) → ((n : ℕ) → f n ≡ Ok v → g n ≡ Ok v) → with_found r f ≡ Ok v → with_found other g ≡ Ok v
+found_on (Ok n) other f g v same rest is = rw (same n refl) (rest n is)
+found_on (Err e) other f g v same rest is = absurd cc
+
+-- and what was found
+pub found_more : {X : Type 0} (list more : List ℕ) (t : Fields X) (v : X) → found_by (field_at list) t ≡ Ok v → found_by (field_at (list ++ more)) t ≡ Ok v
+found_more list more (found x) v is = is
+found_more list more (bits from count f) v is =
+    found_on (field_at list from count) (field_at (list ++ more) from count) (λ n. found_by (field_at list) (f n)) (λ n. found_by (field_at (list ++ more)) (f n)) v
+    (λ n at. field_more list more from count n at) (λ n at. found_more list more (f n) v at) is
+
+-- bytes that are 0 count nothing
+little_zeros : (bytes : List ℕ) (k : ℕ) → little (bytes ++ replicate k 0) ≡ little bytes
+little_zeros [] zero = refl
+little_zeros [] (suc k) = let rest = little_zeros [] k in omega arith
+little_zeros (b ∷ bytes) k = ap (λ n. b + 256 * n) (little_zeros bytes k)
+
+-- sixteen bytes, of which those behind some are 0
+pub number_padded : (bytes : List ℕ) → number Little (bytes ++ drop (length bytes) (replicate 16 0)) ≡ number Little bytes
+unfolding number
+number_padded bytes = ap (λ rest. little (bytes ++ rest)) (drop-replicate (length bytes) 16 0) ∙ little_zeros bytes (16 - length bytes)

@@ -1,0 +1,50 @@
+-- Fields of bits, and what is found by them.
+use Rattle.std.specs.Prelude.{ℕ, zero, suc, ◌+◌, ◌*◌, ◌/◌, ◌%◌, ◌^◌, List, [], ◌∷◌, length, take, drop, nat_le, if◌then◌else◌, Result, Ok, Err, flat_map}
+use Rattle.imagesize_source.specs.declared.error.ImageError.{ImageError}
+use Rattle.imagesize_source.specs.declared.error.ImageError.TheVariants.{CorruptedImage}
+
+-- so many bits of a number, the lowest first
+unfoldable pub low_bits : ℕ → ℕ → List ℕ
+low_bits zero n = []
+low_bits (suc k) n = n % 2 ∷ low_bits k (n / 2)
+
+-- the bits of bytes, the lowest of a byte first
+unfoldable pub bits_of : List ℕ → List ℕ
+bits_of bytes = flat_map (λ byte. low_bits 8 byte) bytes
+
+-- the number of bits: the first counts 1, and each other twice the one before it
+unfoldable pub binary : List ℕ → ℕ
+binary [] = 0
+binary (bit ∷ bits) = bit + 2 * binary bits
+
+-- the number of so many bits from one on, where all are there
+unfoldable pub field_at : List ℕ → ℕ → ℕ → Result ℕ ImageError
+field_at bits from count = if nat_le (from + count) (length bits) then Ok (binary (take count (drop from bits))) else Err CorruptedImage
+
+-- What is found: a value at once, or by the number of so many bits from one on.
+pub data Fields (X : Type 0) : Type 0 where
+  found : X → Fields X
+  bits : ℕ → ℕ → (ℕ → Fields X) → Fields X
+
+-- what goes on from what was found
+abbrev pub with_found : {X Y : Type 0} → Result X ImageError → (X → Result Y ImageError) → Result Y ImageError
+with_found (Ok x) f = f x
+with_found (Err e) f = Err e
+
+-- what is found, where a field is read so
+abbrev pub found_by : {X : Type 0} → (ℕ → ℕ → Result ℕ ImageError) → Fields X → Result X ImageError
+found_by field (found x) = Ok x
+found_by field (bits from count f) = with_found (field from count) (λ n. found_by field (f n))
+
+-- fields, and those that go on from what they found
+abbrev pub after : {X Y : Type 0} → Fields X → (X → Fields Y) → Fields Y
+after (found x) g = g x
+after (bits from count f) g = bits from count (λ n. after (f n) g)
+
+-- a field of a number, of whose lowest bits so many are there
+abbrev pub field_in : ℕ → ℕ → ℕ → ℕ → Result ℕ ImageError
+field_in number there from count = if nat_le (from + count) there then Ok (number / 2 ^ from % 2 ^ count) else Err CorruptedImage
+
+-- what is found in such a number
+abbrev pub found_in : {X : Type 0} → ℕ → ℕ → Fields X → Result X ImageError
+found_in number there fields = found_by (field_in number there) fields

@@ -1,0 +1,146 @@
+//! The header of a JPEG XL codestream, by ISO/IEC 18181-1, annex D: the size and the orientation of the image.
+ghost use Rattle.std.specs.Prelude.{◌≡◌, ◌+◌, ◌*◌, ◌^◌, ◌<◌, ◌≤◌, length, IfOk};
+ghost use Rattle.imagesize_boxes.specs.Fields.{found_in};
+ghost use Rattle.imagesize_boxes.specs.Jxl.{exchanged, has_signature, jxl_header, jxl_size, side, side_bits, size_of_sides, width_by, width_side};
+
+use super::bits::Bits;
+use imagesize_source::{ImageError, ImageResult, Reason};
+use imagesize_types::size::ImageSize;
+
+// A width or a height, and the bit behind it.
+#[derive(Clone, Copy)]
+pub(super) struct Side {
+    pub(super) length: u64,
+    pub(super) end: u32,
+}
+
+// The size by the first bytes of a codestream.
+pub(super) fn codestream_size(codestream: &[u8]) -> ImageResult<ImageSize>
+    requires { length codestream.now ≤ 16 }
+    ensures { result ≡ jxl_size codestream.now }
+{
+    if codestream.len() < 2 {
+        return Err(ImageError::CorruptedImage);
+    }
+    if !has_signature(codestream) {
+        return Err(ImageError::IoError(Reason::InvalidJxlSignature));
+    }
+    header_size(&Bits::of(codestream))
+}
+
+// Whether the signature of a codestream stands first.
+#[inline]
+pub(super) fn has_signature(bytes: &[u8]) -> bool
+    requires { 2 ≤ length bytes.now }
+    ensures { result ≡ has_signature bytes.now }
+{
+    matches!(bytes, [0xFF, 0x0A, ..])
+}
+
+// The size as an image is shown.
+#[tactic(auto, using(crate::proofs::Fields::fields))]
+fn header_size(bits: &Bits) -> ImageResult<ImageSize>
+    ensures { result ≡ found_in bits.now.number bits.now.count jxl_header }
+{
+    let small = bits.field(16, 1)? == 1;
+    let height = read_side(bits, small, 17)?;
+    let width = read_width(bits, small, &height)?;
+    let exchanged = read_exchanged(bits, width.end)?;
+    Ok(size_of_sides(exchanged, width.length, height.length))
+}
+
+// A side whose field begins at a bit.
+fn read_side(bits: &Bits, small: bool, from: u32) -> ImageResult<Side>
+    requires { from ≤ 100 }
+    ensures found { result ≡ found_in bits.now.number bits.now.count (side small from) }
+    ensures length { IfOk result (λ side. side.length ≤ 2 ^ 30) }
+    ensures end { IfOk result (λ side. side.end ≤ from + 32) }
+{
+    if small {
+        let units = bits.field(from, 5)?;
+        return Ok(Side {
+            length: (units as u64 + 1) * 8,
+            end: from + 5,
+        });
+    }
+    let count = side_bits(bits.field(from, 2)?);
+    let less_one = bits.field(from + 2, count)?;
+    Ok(Side {
+        length: less_one as u64 + 1,
+        end: from + 2 + count,
+    })
+}
+
+// How many bits a side has, by its selector.
+fn side_bits(selector: u32) -> u32
+    ensures is { result ≡ side_bits selector }
+    ensures some { 0 < result }
+    ensures few { result ≤ 30 }
+{
+    match selector {
+        0 => 9,
+        1 => 13,
+        2 => 18,
+        _ => 30,
+    }
+}
+
+// The width, by its ratio to the height or as a side of its own.
+fn read_width(bits: &Bits, small: bool, height: &Side) -> ImageResult<Side>
+    requires length { height.now.length ≤ 2 ^ 30 }
+    requires end { height.now.end ≤ 60 }
+    ensures found { result ≡ found_in bits.now.number bits.now.count (width_side small height.now) }
+    ensures length { IfOk result (λ side. side.length < 2 ^ 35) }
+    ensures end { IfOk result (λ side. side.end ≤ 100) }
+{
+    let ratio = bits.field(height.end, 3)?;
+    if ratio == 0 {
+        return read_side(bits, small, height.end + 3);
+    }
+    Ok(Side {
+        length: width_by(ratio, height.length),
+        end: height.end + 3,
+    })
+}
+
+// The width that has a ratio to the height.
+fn width_by(ratio: u32, height: u64) -> u64
+    requires { height ≤ 2 ^ 30 }
+    ensures is { result ≡ width_by ratio height }
+    ensures few { result < 2 ^ 35 }
+{
+    match ratio {
+        1 => height,
+        2 => height * 12 / 10,
+        3 => height * 4 / 3,
+        4 => height * 3 / 2,
+        5 => height * 16 / 9,
+        6 => height * 5 / 4,
+        _ => height * 2,
+    }
+}
+
+// Whether the orientation exchanges width and height.
+fn read_exchanged(bits: &Bits, from: u32) -> ImageResult<bool>
+    requires { from ≤ 100 }
+    ensures { result ≡ found_in bits.now.number bits.now.count (exchanged from) }
+{
+    if bits.field(from, 1)? == 1 || bits.field(from + 1, 1)? == 0 {
+        return Ok(false);
+    }
+    Ok(bits.field(from + 2, 3)? >= 4)
+}
+
+// The size of an image of these sides, which are exchanged or not.
+fn size_of_sides(exchanged: bool, width: u64, height: u64) -> ImageSize
+    ensures { result ≡ size_of_sides exchanged width height }
+{
+    let (width, height) = (width as usize, height as usize);
+    if exchanged {
+        return ImageSize {
+            width: height,
+            height: width,
+        };
+    }
+    ImageSize { width, height }
+}
