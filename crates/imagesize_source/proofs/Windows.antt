@@ -66,7 +66,7 @@ past-span a place zero counts bare =
 past-span a place (suc n) counts bare = ap (past a) (span-suc place n) ∙ step_is a _ counts bare
 
 -- no more of a part is there than its input has
-part-min : (d : List ℕ) (place k n : ℕ) → n ≡ min k (length d - place) → part d place k ≡ part d place n
+pub part-min : (d : List ℕ) (place k n : ℕ) → n ≡ min k (length d - place) → part d place k ≡ part d place n
 unfolding part
 part-min d place k n is = sym (take_min k (drop place d)) ∙ ap (λ i. take i (drop place d)) (ap (min k) (length-drop place d) ∙ sym is)
 

@@ -25,6 +25,7 @@ pub struct ReaderSource<'a, R: Told> {
 
 impl<'a, R: Told> ReaderSource<'a, R> {
     /// The reader of an input of this told length. It stands at the end.
+    #[inline(always)]
     pub fn new(reader: &'a mut R, told: u64) -> Self
         ensures same_reference { result.reader.ghost_name ≡ reader.entry.ghost_name }
         ensures state { reader_state (R.telling result.reader.now) (R.count result.reader.now) result.reader.ghost_name
@@ -60,6 +61,7 @@ impl<R: Told> Source for ReaderSource<'_, R> {
         self.progress.taken
     }
 
+    #[inline(always)]
     fn read_at(&mut self, place: u64, room: &mut [u8]) -> ImageResult<usize> {
         read_on(
             self.reader,
@@ -85,6 +87,7 @@ pub struct Opened {
 }
 
 /// Asks a reader where it stands, and for its length. It stands at the end then.
+#[inline]
 pub fn open<R: Told>(reader: &mut R) -> ImageResult<Opened>
     ensures told { Opens (R.telling reader.old) (R.telling reader.new) result }
     ensures counts { R.count reader.new ≡ R.count reader.old }
@@ -97,6 +100,7 @@ pub fn open<R: Told>(reader: &mut R) -> ImageResult<Opened>
 }
 
 // A seek, whose error is a fault.
+#[inline(always)]
 fn seek<R: Told>(reader: &mut R, to: SeekFrom) -> ImageResult<u64>
     ensures told { SeekTells (R.telling reader.old) (R.telling reader.new) to result }
     ensures counts { R.count reader.new ≡ R.count reader.old }
@@ -111,6 +115,7 @@ fn seek<R: Told>(reader: &mut R, to: SeekFrom) -> ImageResult<u64>
 const MAX_RETRIES: u64 = 64;
 
 // What a stop ends the call with after so many tries; nothing where the read may be tried again.
+#[cold]
 fn ending(stop: Stop, tries: u64) -> Option<ImageError>
     ensures { result ≡ ending_of stop tries }
 {
@@ -122,6 +127,7 @@ fn ending(stop: Stop, tries: u64) -> Option<ImageError>
 }
 
 // One read, tried again where it is interrupted.
+#[inline(always)]
 fn read_retrying<R: Told>(reader: &mut R, retries: &mut u64, room: &mut [u8]) -> ImageResult<usize>
     ensures bound { IfOk result (λ n. n ≤ length room.new) }
     ensures steady { GivesSome (steady (R.telling reader.old) retries.old) (steady (R.telling reader.new) retries.new) room.new result }
@@ -142,36 +148,84 @@ fn read_retrying<R: Told>(reader: &mut R, retries: &mut u64, room: &mut [u8]) ->
     }
 }
 
-// One read of at most what the budget leaves. It is counted, and moves the place on.
+// One read, which is counted and moves the place on.
+#[inline(always)]
+fn read_counted<R: Told>(
+    reader: &mut R,
+    progress: &mut Progress,
+    room: &mut [u8],
+) -> ImageResult<usize>
+    requires { progress.old.taken + length room.old ≤ progress.old.budget }
+    ensures bound { IfOk result (λ n. n ≤ length room.new) }
+    ensures stand { GivesSome (stand (R.telling reader.old) progress.old) (stand (R.telling reader.new) progress.new) room.new result }
+    ensures taken { progress.new.taken ≡ progress.old.taken + given result }
+    ensures place { IfOk result (λ n. progress.new.place ≡ min (progress.old.place + n) (2 ^ 64 - 1)) }
+    ensures since { since (R.count reader.new) progress.new.taken ≡ since (R.count reader.old) progress.old.taken }
+    ensures tries { OnOk result (Tries (R.telling reader.old) progress.old.retries (R.telling reader.new) progress.new.retries) }
+    ensures keeps { Keeps progress.old progress.new }
+    ensures fault { IfErr result (λ e. is_fault e ≡ true) }
+{
+    let count = read_retrying(reader, &mut progress.retries, room)?;
+    progress.taken += count as u64;
+    progress.place = progress.place.saturating_add(count as u64);
+    Ok(count)
+}
+
+// One read of at most what the budget leaves.
+#[inline(always)]
 fn read_some<R: Told>(
     reader: &mut R,
     progress: &mut Progress,
     room: &mut [u8],
 ) -> ImageResult<usize>
     ensures bound { IfOk result (λ n. n ≤ length room.new) }
-    ensures stand { 0 < length room.new → GivesSome (stand (R.telling reader.old) progress.old)
-        (stand (R.telling reader.new) progress.new) room.new result }
+    ensures stand { GivesSome (stand (R.telling reader.old) progress.old) (stand (R.telling reader.new) progress.new) room.new result }
     ensures taken { progress.new.taken ≡ progress.old.taken + given result }
-    ensures place { IfOk result (λ n. progress.new.place ≡ min (progress.old.place + n) (2 ^ 64 - 1)) }
     ensures since { since (R.count reader.new) progress.new.taken ≡ since (R.count reader.old) progress.old.taken }
     ensures tries { OnOk result (Tries (R.telling reader.old) progress.old.retries (R.telling reader.new) progress.new.retries) }
     ensures keeps { Keeps progress.old progress.new }
     ensures stops { IfErr result (StopsBy progress.new) }
 {
     let left = progress.budget - progress.taken;
+    if room.len() as u64 <= left {
+        return read_counted(reader, progress, room);
+    }
     if left == 0 {
         let budget = progress.budget;
         return Err(ImageError::IoError(Reason::BudgetSpent { budget }));
     }
-    let most = room.len().min(left as usize);
-    let count = read_retrying(reader, &mut progress.retries, &mut room[..most])?;
-    progress.taken += count as u64;
-    progress.place = progress.place.saturating_add(count as u64);
-    Ok(count)
+    read_counted(reader, progress, &mut room[..left as usize])
 }
 
 // Reads until the room is full or the bytes end.
+#[inline(always)]
 fn fill<R: Told>(reader: &mut R, progress: &mut Progress, room: &mut [u8]) -> ImageResult<usize>
+    ensures bound { IfOk result (λ n. n ≤ length room.new) }
+    ensures stand { GivesAll (stand (R.telling reader.old) progress.old)
+        (stand (R.telling reader.new) progress.new) room.new result }
+    ensures taken { IfOk result (λ n. progress.new.taken ≡ progress.old.taken + n) }
+    ensures within { IfSome (stand (R.telling reader.old) progress.old)
+        (λ s. progress.new.taken ≤ progress.old.taken + min (length room.new) (length s.bytes - s.place)) }
+    ensures since { since (R.count reader.new) progress.new.taken ≡ since (R.count reader.old) progress.old.taken }
+    ensures keeps { Keeps progress.old progress.new }
+    ensures stops { IfErr result (StopsBy progress.new) }
+{
+    let count = read_some(reader, progress, room)?;
+    if count == room.len() || count == 0 {
+        return Ok(count);
+    }
+    let rest = fill_rest(reader, progress, &mut room[count..])?;
+    Ok(count + rest)
+}
+
+// Reads on until the room is full or the bytes end, one read after another.
+#[cold]
+#[inline(never)]
+fn fill_rest<R: Told>(
+    reader: &mut R,
+    progress: &mut Progress,
+    room: &mut [u8],
+) -> ImageResult<usize>
     ensures bound { IfOk result (λ n. n ≤ length room.new) }
     ensures stand { GivesAll (stand (R.telling reader.old) progress.old)
         (stand (R.telling reader.new) progress.new) room.new result }
@@ -195,6 +249,7 @@ fn fill<R: Told>(reader: &mut R, progress: &mut Progress, room: &mut [u8]) -> Im
 
 // Goes to a place, and answers whether the reader stands there: it does not go above the told length. What the
 // seek answers is not asked.
+#[inline(always)]
 fn go_to<R: Told>(reader: &mut R, progress: &mut Progress, place: u64) -> ImageResult<bool>
     ensures stand { GoesTo (stand (R.telling reader.old) progress.old) (stand (R.telling reader.new) progress.new) place progress.new.place result }
     ensures asked { IfOk result (λ there. there ≡ true → progress.new.place ≡ place) }
@@ -218,6 +273,7 @@ fn go_to<R: Told>(reader: &mut R, progress: &mut Progress, place: u64) -> ImageR
 }
 
 // Reads from a place on until the room is full or the bytes end.
+#[inline(always)]
 #[tactic(auto, using(crate::proofs::Standings::not_reached, crate::proofs::Standings::from_there, crate::proofs::Standings::fails_there, crate::proofs::Standings::within_reached))]
 fn read_from<R: Told>(
     reader: &mut R,
@@ -244,6 +300,7 @@ fn read_from<R: Told>(
 }
 
 // Reads from a place on: what the window has of it, and what follows from the reader.
+#[inline(always)]
 fn read_windowed<R: Told>(
     reader: &mut R,
     progress: &mut Progress,
@@ -272,6 +329,7 @@ fn read_windowed<R: Told>(
 
 // Reads from a place on. Above the told length it goes on only where the last reading ended: elsewhere it sees
 // the end of the input, also where the window has bytes.
+#[inline(always)]
 fn read_on<R: Told>(
     reader: &mut R,
     progress: &mut Progress,
