@@ -1,17 +1,17 @@
 //! A reader as a source.
-ghost use Rattle.std.specs.Prelude.{◌≡◌, ℕ, max, ◌+◌, ◌-◌, ◌^◌, ◌<◌, ◌≤◌, ◌≢◌, min, take, length, IfOk, IfErr, OnOk, IfSome, true, false};
+ghost use Rattle.std.specs.Prelude.{◌≡◌, ℕ, max, ◌+◌, ◌-◌, ◌^◌, ◌<◌, ◌≤◌, ◌≢◌, min, take, length, IfOk, IfErr, OnOk, OnSome, IfSome, true, false};
 ghost use Rattle.imagesize_source.specs.Reading.{is_fault, is_memory, seen, part_read};
 ghost use Rattle.imagesize_source.specs.ReaderState.{held_at, reader_state, start_state, Opens};
 ghost use Rattle.imagesize_source.specs.State.{Runs};
 ghost use Rattle.imagesize_source.specs.Telling.{counted, given, SeekTells};
-ghost use Rattle.imagesize_source.specs.Standing.{Standing, steady, stand, GivesSome, GivesAll, StopsBy, Keeps, Tries, since, GoesTo, GivesFrom};
+ghost use Rattle.imagesize_source.specs.Standing.{Standing, steady, stand, GivesSome, GivesAll, StopsBy, Keeps, Tries, since, error_at, named, given_or, GoesTo, GivesFrom};
 ghost use Rattle.imagesize_source.specs.StopOf.{ending_of};
 
 use super::Source;
 use super::progress::Progress;
 use super::window::{Window, copy_kept, keep};
 use crate::{ImageError, ImageResult, Reason, Stop, Told};
-use std::io::SeekFrom;
+use std::io::{self, ErrorKind, SeekFrom};
 
 /// A reader that is read by place. It takes bytes within a budget, and keeps the first 32 of the input.
 #[derive(Drop)]
@@ -38,6 +38,7 @@ impl<'a, R: Told> ReaderSource<'a, R> {
             taken: 0,
             place: told,
             retries: 0,
+            fault: io::Error::from(ErrorKind::Other),
         };
         ReaderSource {
             reader,
@@ -111,37 +112,67 @@ fn seek<R: Told>(reader: &mut R, to: SeekFrom) -> ImageResult<u64>
     Ok(place)
 }
 
+// Why a reading was stopped. The error of a call that failed is kept beside the reader, so that what each layer
+// of a reading answers is small.
+#[derive(Clone, Copy)]
+enum Halt {
+    // A call of the reader failed.
+    Failed,
+    // The budget is spent.
+    Spent,
+}
+
+// The error that a halt ends the call with.
+#[cold]
+fn error_of(halt: Halt, progress: &Progress) -> ImageError
+    ensures { result ≡ error_at progress.now halt }
+{
+    match halt {
+        Halt::Failed => ImageError::from(progress.fault),
+        Halt::Spent => ImageError::IoError(Reason::BudgetSpent {
+            budget: progress.budget,
+        }),
+    }
+}
+
 // How many interruptions of reads are tried again in one call.
 const MAX_RETRIES: u64 = 64;
 
 // What a stop ends the call with after so many tries; nothing where the read may be tried again.
 #[cold]
-fn ending(stop: Stop, tries: u64) -> Option<ImageError>
+fn ending(stop: Stop, tries: u64) -> Option<io::Error>
     ensures { result ≡ ending_of stop tries }
 {
     match stop {
-        Stop::Fault(error) => Some(ImageError::from(error)),
+        Stop::Fault(error) => Some(error),
         Stop::Interrupted(_) if tries < MAX_RETRIES => None,
-        Stop::Interrupted(error) => Some(ImageError::from(error)),
+        Stop::Interrupted(error) => Some(error),
     }
 }
 
-// One read, tried again where it is interrupted.
+// One read, tried again where it is interrupted; or none, and the error of the read that failed.
 #[inline(always)]
-fn read_retrying<R: Told>(reader: &mut R, retries: &mut u64, room: &mut [u8]) -> ImageResult<usize>
-    ensures bound { IfOk result (λ n. n ≤ length room.new) }
-    ensures steady { GivesSome (steady (R.telling reader.old) retries.old) (steady (R.telling reader.new) retries.new) room.new result }
-    ensures counts { R.count reader.new ≡ counted (R.count reader.old) result }
+fn read_retrying<R: Told>(
+    reader: &mut R,
+    retries: &mut u64,
+    fault: &mut io::Error,
+    room: &mut [u8],
+) -> Option<usize>
+    ensures bound { IfSome result (λ n. n ≤ length room.new) }
+    ensures steady { GivesSome (steady (R.telling reader.old) retries.old) (steady (R.telling reader.new) retries.new) room.new (given_or fault.new result) }
+    ensures counts { R.count reader.new ≡ counted (R.count reader.old) (given_or fault.new result) }
     ensures tried { retries.old ≤ retries.new }
     ensures limit { retries.old ≤ 64 → retries.new ≤ 64 }
-    ensures tries { OnOk result (Tries (R.telling reader.old) retries.old (R.telling reader.new) retries.new) }
-    ensures fault { IfErr result (λ e. is_fault e ≡ true) }
+    ensures tries { OnSome result (Tries (R.telling reader.old) retries.old (R.telling reader.new) retries.new) }
 {
     loop {
         match reader.read_told(room) {
-            Ok(count) => return Ok(count),
+            Ok(count) => return Some(count),
             Err(stop) => match ending(stop, *retries) {
-                Some(error) => return Err(error),
+                Some(error) => {
+                    *fault = error;
+                    return None;
+                }
                 None => *retries += 1,
             },
         }
@@ -154,18 +185,20 @@ fn read_counted<R: Told>(
     reader: &mut R,
     progress: &mut Progress,
     room: &mut [u8],
-) -> ImageResult<usize>
+) -> Result<usize, Halt>
     requires { progress.old.taken + length room.old ≤ progress.old.budget }
     ensures bound { IfOk result (λ n. n ≤ length room.new) }
-    ensures stand { GivesSome (stand (R.telling reader.old) progress.old) (stand (R.telling reader.new) progress.new) room.new result }
+    ensures stand { GivesSome (stand (R.telling reader.old) progress.old) (stand (R.telling reader.new) progress.new) room.new (named progress.new result) }
     ensures taken { progress.new.taken ≡ progress.old.taken + given result }
     ensures place { IfOk result (λ n. progress.new.place ≡ min (progress.old.place + n) (2 ^ 64 - 1)) }
     ensures since { since (R.count reader.new) progress.new.taken ≡ since (R.count reader.old) progress.old.taken }
     ensures tries { OnOk result (Tries (R.telling reader.old) progress.old.retries (R.telling reader.new) progress.new.retries) }
     ensures keeps { Keeps progress.old progress.new }
-    ensures fault { IfErr result (λ e. is_fault e ≡ true) }
+    ensures failed { IfErr result (λ halt. halt ≡ Halt.Failed) }
 {
-    let count = read_retrying(reader, &mut progress.retries, room)?;
+    let Some(count) = read_retrying(reader, &mut progress.retries, &mut progress.fault, room) else {
+        return Err(Halt::Failed);
+    };
     progress.taken += count as u64;
     progress.place = progress.place.saturating_add(count as u64);
     Ok(count)
@@ -177,38 +210,37 @@ fn read_some<R: Told>(
     reader: &mut R,
     progress: &mut Progress,
     room: &mut [u8],
-) -> ImageResult<usize>
+) -> Result<usize, Halt>
     ensures bound { IfOk result (λ n. n ≤ length room.new) }
-    ensures stand { GivesSome (stand (R.telling reader.old) progress.old) (stand (R.telling reader.new) progress.new) room.new result }
+    ensures stand { GivesSome (stand (R.telling reader.old) progress.old) (stand (R.telling reader.new) progress.new) room.new (named progress.new result) }
     ensures taken { progress.new.taken ≡ progress.old.taken + given result }
     ensures since { since (R.count reader.new) progress.new.taken ≡ since (R.count reader.old) progress.old.taken }
     ensures tries { OnOk result (Tries (R.telling reader.old) progress.old.retries (R.telling reader.new) progress.new.retries) }
     ensures keeps { Keeps progress.old progress.new }
-    ensures stops { IfErr result (StopsBy progress.new) }
+    ensures stops { IfErr (named progress.new result) (StopsBy progress.new) }
 {
     let left = progress.budget - progress.taken;
     if room.len() as u64 <= left {
         return read_counted(reader, progress, room);
     }
     if left == 0 {
-        let budget = progress.budget;
-        return Err(ImageError::IoError(Reason::BudgetSpent { budget }));
+        return Err(Halt::Spent);
     }
     read_counted(reader, progress, &mut room[..left as usize])
 }
 
 // Reads until the room is full or the bytes end.
 #[inline(always)]
-fn fill<R: Told>(reader: &mut R, progress: &mut Progress, room: &mut [u8]) -> ImageResult<usize>
+fn fill<R: Told>(reader: &mut R, progress: &mut Progress, room: &mut [u8]) -> Result<usize, Halt>
     ensures bound { IfOk result (λ n. n ≤ length room.new) }
     ensures stand { GivesAll (stand (R.telling reader.old) progress.old)
-        (stand (R.telling reader.new) progress.new) room.new result }
+        (stand (R.telling reader.new) progress.new) room.new (named progress.new result) }
     ensures taken { IfOk result (λ n. progress.new.taken ≡ progress.old.taken + n) }
     ensures within { IfSome (stand (R.telling reader.old) progress.old)
         (λ s. progress.new.taken ≤ progress.old.taken + min (length room.new) (length s.bytes - s.place)) }
     ensures since { since (R.count reader.new) progress.new.taken ≡ since (R.count reader.old) progress.old.taken }
     ensures keeps { Keeps progress.old progress.new }
-    ensures stops { IfErr result (StopsBy progress.new) }
+    ensures stops { IfErr (named progress.new result) (StopsBy progress.new) }
 {
     let count = read_some(reader, progress, room)?;
     if count == room.len() || count == 0 {
@@ -225,16 +257,16 @@ fn fill_rest<R: Told>(
     reader: &mut R,
     progress: &mut Progress,
     room: &mut [u8],
-) -> ImageResult<usize>
+) -> Result<usize, Halt>
     ensures bound { IfOk result (λ n. n ≤ length room.new) }
     ensures stand { GivesAll (stand (R.telling reader.old) progress.old)
-        (stand (R.telling reader.new) progress.new) room.new result }
+        (stand (R.telling reader.new) progress.new) room.new (named progress.new result) }
     ensures taken { IfOk result (λ n. progress.new.taken ≡ progress.old.taken + n) }
     ensures within { IfSome (stand (R.telling reader.old) progress.old)
         (λ s. progress.new.taken ≤ progress.old.taken + min (length room.new) (length s.bytes - s.place)) }
     ensures since { since (R.count reader.new) progress.new.taken ≡ since (R.count reader.old) progress.old.taken }
     ensures keeps { Keeps progress.old progress.new }
-    ensures stops { IfErr result (StopsBy progress.new) }
+    ensures stops { IfErr (named progress.new result) (StopsBy progress.new) }
 {
     let mut filled = 0;
     while filled < room.len() {
@@ -250,8 +282,8 @@ fn fill_rest<R: Told>(
 // Goes to a place, and answers whether the reader stands there: it does not go above the told length. What the
 // seek answers is not asked.
 #[inline(always)]
-fn go_to<R: Told>(reader: &mut R, progress: &mut Progress, place: u64) -> ImageResult<bool>
-    ensures stand { GoesTo (stand (R.telling reader.old) progress.old) (stand (R.telling reader.new) progress.new) place progress.new.place result }
+fn go_to<R: Told>(reader: &mut R, progress: &mut Progress, place: u64) -> Result<bool, Halt>
+    ensures stand { GoesTo (stand (R.telling reader.old) progress.old) (stand (R.telling reader.new) progress.new) place progress.new.place (named progress.new result) }
     ensures asked { IfOk result (λ there. there ≡ true → progress.new.place ≡ place) }
     ensures short { IfOk result (λ there. there ≡ true → place ≤ max progress.old.told progress.old.place) }
     ensures far { IfOk result (λ there. there ≡ false → progress.old.told < place) }
@@ -259,7 +291,7 @@ fn go_to<R: Told>(reader: &mut R, progress: &mut Progress, place: u64) -> ImageR
     ensures since { since (R.count reader.new) progress.new.taken ≡ since (R.count reader.old) progress.old.taken }
     ensures taken { progress.new.taken ≡ progress.old.taken }
     ensures keeps { Keeps progress.old progress.new }
-    ensures stops { IfErr result (StopsBy progress.new) }
+    ensures stops { IfErr (named progress.new result) (StopsBy progress.new) }
 {
     if progress.place == place {
         return Ok(true);
@@ -267,7 +299,10 @@ fn go_to<R: Told>(reader: &mut R, progress: &mut Progress, place: u64) -> ImageR
     if place > progress.told {
         return Ok(false);
     }
-    reader.seek_told(SeekFrom::Start(place))?;
+    if let Err(error) = reader.seek_told(SeekFrom::Start(place)) {
+        progress.fault = error;
+        return Err(Halt::Failed);
+    }
     progress.place = place;
     Ok(true)
 }
@@ -280,17 +315,17 @@ fn read_from<R: Told>(
     progress: &mut Progress,
     place: u64,
     room: &mut [u8],
-) -> ImageResult<usize>
+) -> Result<usize, Halt>
     ensures bound { IfOk result (λ n. n ≤ length room.new) }
     ensures stand { GivesFrom (stand (R.telling reader.old) progress.old)
-        (stand (R.telling reader.new) progress.new) place progress.new.place room.new result }
+        (stand (R.telling reader.new) progress.new) place progress.new.place room.new (named progress.new result) }
     ensures taken { IfOk result (λ n. progress.new.taken ≡ progress.old.taken + n) }
     ensures within { IfSome (stand (R.telling reader.old) progress.old)
         (λ s. progress.new.taken ≤ progress.old.taken + min (length room.new) (length s.bytes - place)) }
     ensures pays { IfOk result (λ n. progress.old.told < place → 0 < n → progress.old.taken < progress.new.taken) }
     ensures since { since (R.count reader.new) progress.new.taken ≡ since (R.count reader.old) progress.old.taken }
     ensures keeps { Keeps progress.old progress.new }
-    ensures stops { IfErr result (StopsBy progress.new) }
+    ensures stops { IfErr (named progress.new result) (StopsBy progress.new) }
 {
     if !go_to(reader, progress, place)? {
         return Ok(0);
@@ -307,14 +342,14 @@ fn read_windowed<R: Told>(
     window: &mut Window,
     place: u64,
     room: &mut [u8],
-) -> ImageResult<usize>
+) -> Result<usize, Halt>
     ensures bound { IfOk result (λ n. n ≤ length room.new) }
     ensures pays { IfOk result (λ n. 0 < n → max progress.old.told 32 < place → (progress.old.taken < progress.new.taken) × (progress.new.taken ≤ progress.old.budget)) }
     ensures keeps { Keeps progress.old progress.new }
     ensures runs { (home : ℕ) → Runs
         (reader_state (R.telling reader.old) (R.count reader.old) home progress.old window.old.items)
         (reader_state (R.telling reader.new) (R.count reader.new) home progress.new window.new.items)
-        (seen (λ n. take n room.new) result)
+        (seen (λ n. take n room.new) (named progress.new result))
         (part_read (held_at (stand (R.telling reader.old) progress.old) window.old.items).input place (length room.new)) }
 {
     let copied = copy_kept(window, place, room);
@@ -353,7 +388,11 @@ fn read_on<R: Told>(
     if place > progress.told && place != *present {
         return Ok(0);
     }
-    let count = read_windowed(reader, progress, window, place, room)?;
-    *present = place.saturating_add(count as u64);
-    Ok(count)
+    match read_windowed(reader, progress, window, place, room) {
+        Ok(count) => {
+            *present = place.saturating_add(count as u64);
+            Ok(count)
+        }
+        Err(halt) => Err(error_of(halt, progress)),
+    }
 }

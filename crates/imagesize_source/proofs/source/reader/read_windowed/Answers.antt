@@ -1,4 +1,6 @@
-use Rattle.std.proofs.Common.{◌+◌, refl, ap, ◌∙◌, arith, rules}
+use Rattle.std.proofs.Common.{◌≡◌, ℕ, Result, Err, ◌+◌, refl, ap, ◌∙◌, arith, rules}
+use Rattle.imagesize_source.specs.declared.source.reader.Halt.{Halt}
+use Rattle.imagesize_source.specs.Standing.{named}
 use Rattle.imagesize_source.specs.ReaderState.{kept_window}
 use Rattle.imagesize_source.proofs.Filling.{put_there}
 use Rattle.imagesize_source.proofs.Windows.{in_window, behind_window, behind_stopped, told_by, same_frame, ended_by}
@@ -14,7 +16,8 @@ pub returns-in_err-count-clause-runs : goal.returns-in_err-count-clause-runs
 returns-in_err-count-clause-runs g c = λ home.
     let copy = c.copy_kept-copied in
     let read = c.in_err-count.ensures in
-    behind_stopped _ c.from_residual.result (record {
+    let is : ◌≡◌ {A = Result ℕ Halt} c.from_residual.result (Err c.in_err-count.field-0.0) = search rules in
+    behind_stopped _ (named c.read_from.new.progress c.from_residual.result) (record {
       told = told_by (g.R.Told.count c.args.reader.now) home (g.R.Told.telling c.args.reader.now) c.args.progress.now;
       told_after = told_by (g.R.Told.count c.read_from.new.reader) home (g.R.Told.telling c.read_from.new.reader) c.read_from.new.progress;
       frame = same_frame (g.R.Told.count c.args.reader.now) (g.R.Told.count c.read_from.new.reader) home c.args.progress.now c.read_from.new.progress read.keeps read.since;
@@ -27,7 +30,7 @@ returns-in_err-count-clause-runs g c = λ home.
       within = read.within;
       stops = read.stops.stops;
       ended = ended_by (g.R.Told.count c.read_from.new.reader) home c.read_from.new.progress _ _ _ read.stops;
-    }) (search rules)
+    }) (ap (named c.read_from.new.progress) is)
 
 pub returns-clause-runs : goal.returns-clause-runs
 returns-clause-runs g c = λ home.
