@@ -6,6 +6,7 @@ use Rattle.std.specs.List.{slice_range}
 use borrow.Rule.Slice.PartMut.{put_mid}
 use Rattle.imagesize_source.specs.declared.source.progress.Progress.{Progress}
 use Rattle.imagesize_source.specs.Input.{part}
+use Rattle.imagesize_source.proofs.Standings.{keeps_both}
 use Rattle.imagesize_source.specs.Standing.{Standing, onto, GivesSome, GivesAll, Keeps, since}
 
 -- so many bytes of the room are the next of the bytes that the reader stood at first
@@ -74,7 +75,7 @@ filling_more {first} {now} {next} {filled = filled} {room = room} more n h enoug
   reached = reached_more first now next room more filled n h.fits enough h.reached gave;
   taken = omega (arith, h.taken);
   counts = same ∙ h.counts;
-  keeps = record { told = keeps.told ∙ h.keeps.told; budget = keeps.budget ∙ h.keeps.budget; taken = omega (arith, keeps.taken, h.keeps.taken); retries = omega (arith, keeps.retries, h.keeps.retries); limit = λ few. keeps.limit (h.keeps.limit few) };
+  keeps = keeps_both h.keeps keeps;
 }
 
 ends : (first now next : Option Standing) (room more : List ℕ) (filled : ℕ) → filled ≤ length room → Filled first now filled room → filled < length room → length more ≡ length room - filled → GivesSome now next more (Ok 0) → GivesAll first next (put_mid filled (length room - filled) room more) (Ok filled)

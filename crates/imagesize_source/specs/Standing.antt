@@ -1,5 +1,5 @@
 -- What a reader claims, as far as the numbers kept beside it agree with what it tells.
-use Rattle.std.specs.Prelude.{◌≡◌, ℕ, ◌+◌, ◌-◌, ◌^◌, ◌<◌, ◌≤◌, min, Bool, true, false, ◌||◌, ◌&&◌, List, length, take, nat_le, nat_lt, ◌==◌, if◌then◌else◌, Option, None, Some, Result, Ok, Err, IfSome, IsSomeAnd, option_map, ⊤}
+use Rattle.std.specs.Prelude.{◌≡◌, ℕ, ◌+◌, ◌-◌, ◌^◌, ◌<◌, ◌≤◌, min, Bool, true, false, ◌||◌, ◌&&◌, List, length, take, nat_le, nat_lt, ◌==◌, if◌then◌else◌, Option, None, Some, Result, Ok, Err, IfSome, IfOk, IfErr, IsSomeAnd, option_map, ⊤}
 use Rattle.imagesize_source.specs.declared.error.ImageError.{ImageError}
 use Rattle.imagesize_source.specs.declared.error.ImageError.TheVariants.{IoError}
 use Rattle.imagesize_source.specs.declared.error.Reason.TheVariants.{BudgetSpent}
@@ -108,3 +108,14 @@ pub record Keeps (old new : Progress) : Type 0 where
   pub taken : old.taken ≤ new.taken
   pub retries : old.retries ≤ new.retries
   pub limit : old.retries ≤ 64 → new.retries ≤ 64
+
+-- what a reading from a place on did, over every reader
+pub record ReadsFrom (old new : Progress) (before after : Option Standing) (count count' : Option ℕ) (place : ℕ) (room : List ℕ) (r : Result ℕ ImageError) : Type 0 where
+  pub bound : IfOk r (λ n. n ≤ length room)
+  pub stand : GivesFrom before after place new.place room r
+  pub taken : IfOk r (λ n. new.taken ≡ old.taken + n)
+  pub within : IfSome before (λ s. new.taken ≤ old.taken + min (length room) (length s.bytes - place))
+  pub pays : IfOk r (λ n. old.told < place → 0 < n → old.taken < new.taken)
+  pub since : since count' new.taken ≡ since count old.taken
+  pub keeps : Keeps old new
+  pub stops : IfErr r (StopsBy new)

@@ -4,7 +4,7 @@ ghost use Rattle.imagesize_source.specs.Reading.{is_fault, is_memory, seen, part
 ghost use Rattle.imagesize_source.specs.ReaderState.{held_at, reader_state, start_state, Opens};
 ghost use Rattle.imagesize_source.specs.State.{Runs};
 ghost use Rattle.imagesize_source.specs.Telling.{counted, given, SeekTells};
-ghost use Rattle.imagesize_source.specs.Standing.{Standing, steady, stand, GivesSome, GivesAll, StopsBy, Keeps, Tries, since, error_at, named, given_or, GoesTo, GivesFrom};
+ghost use Rattle.imagesize_source.specs.Standing.{Standing, steady, stand, GivesSome, GivesAll, StopsBy, Keeps, Tries, since, error_at, named, given_or, GoesTo, ReadsFrom};
 ghost use Rattle.imagesize_source.specs.StopOf.{ending_of};
 
 use super::Source;
@@ -124,6 +124,7 @@ enum Halt {
 
 // The error that a halt ends the call with.
 #[cold]
+#[inline(never)]
 fn error_of(halt: Halt, progress: &Progress) -> ImageError
     ensures { result ≡ error_at progress.now halt }
 {
@@ -140,6 +141,7 @@ const MAX_RETRIES: u64 = 64;
 
 // What a stop ends the call with after so many tries; nothing where the read may be tried again.
 #[cold]
+#[inline(never)]
 fn ending(stop: Stop, tries: u64) -> Option<io::Error>
     ensures { result ≡ ending_of stop tries }
 {
@@ -309,23 +311,14 @@ fn go_to<R: Told>(reader: &mut R, progress: &mut Progress, place: u64) -> Result
 
 // Reads from a place on until the room is full or the bytes end.
 #[inline(always)]
-#[tactic(auto, using(crate::proofs::Standings::not_reached, crate::proofs::Standings::from_there, crate::proofs::Standings::fails_there, crate::proofs::Standings::within_reached))]
 fn read_from<R: Told>(
     reader: &mut R,
     progress: &mut Progress,
     place: u64,
     room: &mut [u8],
 ) -> Result<usize, Halt>
-    ensures bound { IfOk result (λ n. n ≤ length room.new) }
-    ensures stand { GivesFrom (stand (R.telling reader.old) progress.old)
-        (stand (R.telling reader.new) progress.new) place progress.new.place room.new (named progress.new result) }
-    ensures taken { IfOk result (λ n. progress.new.taken ≡ progress.old.taken + n) }
-    ensures within { IfSome (stand (R.telling reader.old) progress.old)
-        (λ s. progress.new.taken ≤ progress.old.taken + min (length room.new) (length s.bytes - place)) }
-    ensures pays { IfOk result (λ n. progress.old.told < place → 0 < n → progress.old.taken < progress.new.taken) }
-    ensures since { since (R.count reader.new) progress.new.taken ≡ since (R.count reader.old) progress.old.taken }
-    ensures keeps { Keeps progress.old progress.new }
-    ensures stops { IfErr (named progress.new result) (StopsBy progress.new) }
+    ensures { ReadsFrom progress.old progress.new (stand (R.telling reader.old) progress.old) (stand (R.telling reader.new) progress.new)
+        (R.count reader.old) (R.count reader.new) place room.new (named progress.new result) }
 {
     if !go_to(reader, progress, place)? {
         return Ok(0);
@@ -334,9 +327,35 @@ fn read_from<R: Told>(
     Ok(count)
 }
 
-// Reads from a place on: what the window has of it, and what follows from the reader.
+// Reads from a place on: from the reader alone where it lies behind the window. What follows the window is kept.
 #[inline(always)]
 fn read_windowed<R: Told>(
+    reader: &mut R,
+    progress: &mut Progress,
+    window: &mut Window,
+    place: u64,
+    room: &mut [u8],
+) -> Result<usize, Halt>
+    ensures bound { IfOk result (λ n. n ≤ length room.new) }
+    ensures pays { IfOk result (λ n. 0 < n → max progress.old.told 32 < place → (progress.old.taken < progress.new.taken) × (progress.new.taken ≤ progress.old.budget)) }
+    ensures keeps { Keeps progress.old progress.new }
+    ensures runs { (home : ℕ) → Runs
+        (reader_state (R.telling reader.old) (R.count reader.old) home progress.old window.old.items)
+        (reader_state (R.telling reader.new) (R.count reader.new) home progress.new window.new.items)
+        (seen (λ n. take n room.new) (named progress.new result))
+        (part_read (held_at (stand (R.telling reader.old) progress.old) window.old.items).input place (length room.new)) }
+{
+    if place < window.len() as u64 || room.is_empty() {
+        return read_within(reader, progress, window, place, room);
+    }
+    let count = read_from(reader, progress, place, room)?;
+    keep(window, place, &room[..count]);
+    Ok(count)
+}
+
+// Reads from a place on: what the window has of it, and what follows from the reader.
+#[inline(always)]
+fn read_within<R: Told>(
     reader: &mut R,
     progress: &mut Progress,
     window: &mut Window,
@@ -357,9 +376,24 @@ fn read_windowed<R: Told>(
         return Ok(copied);
     }
     let next = place + copied as u64;
-    let count = read_from(reader, progress, next, &mut room[copied..])?;
+    let count = read_across(reader, progress, next, &mut room[copied..])?;
     keep(window, next, &room[copied..copied + count]);
     Ok(copied + count)
+}
+
+// A reading that began in the window goes on behind it.
+#[cold]
+#[inline(never)]
+fn read_across<R: Told>(
+    reader: &mut R,
+    progress: &mut Progress,
+    place: u64,
+    room: &mut [u8],
+) -> Result<usize, Halt>
+    ensures { ReadsFrom progress.old progress.new (stand (R.telling reader.old) progress.old) (stand (R.telling reader.new) progress.new)
+        (R.count reader.old) (R.count reader.new) place room.new (named progress.new result) }
+{
+    read_from(reader, progress, place, room)
 }
 
 // Reads from a place on. Above the told length it goes on only where the last reading ended: elsewhere it sees
