@@ -2,11 +2,13 @@
 #![tactic(auto)]
 
 pub mod error;
+pub mod kept;
 pub mod source;
 pub mod span;
 pub mod told;
 pub mod util;
 
 pub use error::{ImageError, ImageResult, Reason};
+pub use kept::KeptReader;
 pub use span::Span;
 pub use told::{Stop, Told};

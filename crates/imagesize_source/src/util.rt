@@ -19,16 +19,16 @@ pub enum Endian {
 }
 
 /// The `N` bytes from a place on.
-#[inline(always)]
 pub fn read_bytes<S: Source, const N: usize>(source: &mut S, place: u64) -> ImageResult<[u8; N]>
     ensures pays { IfOk result (λ bytes. 0 < N → Paid (S.state source.old) (S.state source.new) place) }
     ensures runs { Runs (S.state source.old) (S.state source.new) result (bytes_read (S.state source.old).held.input place N) }
 {
     let mut room = [0u8; N];
-    if source.read_at(place, &mut room)? < N {
-        return Err(end_of_input());
+    match source.read_at(place, &mut room) {
+        Ok(count) if count >= N => Ok(room),
+        Ok(_) => Err(end_of_input()),
+        Err(error) => Err(error),
     }
-    Ok(room)
 }
 
 // The refusal where the input ends. It is made apart, so that a reading that succeeds is short.

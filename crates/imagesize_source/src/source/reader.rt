@@ -122,18 +122,18 @@ enum Halt {
     Spent,
 }
 
-// The error that a halt ends the call with.
+// What a halt ends the call with. It is made apart, so that a reading that succeeds is short.
 #[cold]
 #[inline(never)]
-fn error_of(halt: Halt, progress: &Progress) -> ImageError
-    ensures { result ≡ error_at progress.now halt }
+fn refused(halt: Halt, progress: &Progress) -> ImageResult<usize>
+    ensures { result ≡ Err (error_at progress.now halt) }
 {
-    match halt {
+    Err(match halt {
         Halt::Failed => ImageError::from(progress.fault),
         Halt::Spent => ImageError::IoError(Reason::BudgetSpent {
             budget: progress.budget,
         }),
-    }
+    })
 }
 
 // How many interruptions of reads are tried again in one call.
@@ -427,6 +427,6 @@ fn read_on<R: Told>(
             *present = place.saturating_add(count as u64);
             Ok(count)
         }
-        Err(halt) => Err(error_of(halt, progress)),
+        Err(halt) => refused(halt, progress),
     }
 }

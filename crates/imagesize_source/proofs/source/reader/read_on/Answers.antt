@@ -7,4 +7,4 @@ returns-then-place-present-clause-runs g c = λ home.
     behind_end _ _ _ _ _ told c.if-place-progress.true
 
 pub returns-in-Err-clause-runs : goal.returns-in-Err-clause-runs
-returns-in-Err-clause-runs g c = λ home. rw c.error_of.ensures (c.in-Err.ensures.runs home)
+returns-in-Err-clause-runs g c = λ home. rw c.refused.ensures (c.in-Err.ensures.runs home)
