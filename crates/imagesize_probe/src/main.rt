@@ -8,6 +8,7 @@ mod names;
 mod report;
 
 use imagesize::{ImageError, ImageResult, Reason};
+use imagesize_source::KeptReader;
 use std::io::{self, BufReader, BufWriter, Write};
 use std::process::ExitCode;
 use std::rt::{Env, Files};
@@ -70,12 +71,12 @@ fn probe_file<R: Files + AllocGlobal, W: Write>(
 }
 
 // Opens a file behind a buffer.
-fn open<R: Files + AllocGlobal>(rt: &R, name: &str) -> ImageResult<BufReader<R::File>>
+fn open<R: Files + AllocGlobal>(rt: &R, name: &str) -> ImageResult<KeptReader<R::File>>
     ensures { IfErr result (λ e. IsTrue (is_fault e || is_memory e)) }
 {
     let file = fs::open(rt, name)?;
     match BufReader::new(rt.alloc(), file) {
-        Ok(reader) => Ok(reader),
+        Ok(reader) => Ok(KeptReader::new(reader)),
         Err(_) => Err(ImageError::IoError(Reason::Memory)),
     }
 }

@@ -2,6 +2,7 @@
 
 use super::*;
 use std::io::Cursor;
+use std::process::Abort;
 use std::test::Fail;
 
 // Counts the calls that reach it.
@@ -27,7 +28,7 @@ impl Seek for Counted<'_> {
 }
 
 // Walks over a hundred places that are so far apart, and answers how many reads and seeks that made.
-fn walk(rt: HostRuntime, bytes: &[u8], step: u64) -> Result<(u64, u64), Fail> {
+fn walk<H: AllocGlobal + Abort>(rt: &H, bytes: &[u8], step: u64) -> Result<(u64, u64), Fail> {
     let inner = Counted {
         inner: Cursor::new(bytes),
         reads: 0,
@@ -52,7 +53,7 @@ fn walk(rt: HostRuntime, bytes: &[u8], step: u64) -> Result<(u64, u64), Fail> {
 #[test]
 fn a_walk_in_a_block_makes_four_calls(rt: HostRuntime) -> Result<(), Fail> {
     let bytes = [7u8; 4096];
-    let (reads, seeks) = walk(rt, &bytes, 40)?;
+    let (reads, seeks) = walk(&rt, &bytes, 40)?;
     assert_eq!(rt; reads, 1);
     assert_eq!(rt; seeks, 3);
     Ok(())
@@ -61,7 +62,7 @@ fn a_walk_in_a_block_makes_four_calls(rt: HostRuntime) -> Result<(), Fail> {
 #[test]
 fn a_walk_over_blocks_makes_two_calls_a_place(rt: HostRuntime) -> Result<(), Fail> {
     let bytes = Vec::from_elem(rt.alloc(), 7u8, 1_000_000)?;
-    let (reads, seeks) = walk(rt, bytes.as_slice(), 10_000)?;
+    let (reads, seeks) = walk(&rt, bytes.as_slice(), 10_000)?;
     assert_eq!(rt; reads, 100);
     assert_eq!(rt; seeks, 102);
     Ok(())
