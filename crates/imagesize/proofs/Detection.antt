@@ -20,7 +20,7 @@ use Rattle.imagesize.specs.declared.types.ImageType.TheVariants.{Atc, Dds, Eac, 
 use Rattle.imagesize_source.proofs.Always.{Always, always, always_bind}
 use Rattle.imagesize_source.proofs.Costs.{bound_of, costs, costs_bind}
 use Rattle.imagesize_source.proofs.Layouts.{over-bind}
-use Rattle.imagesize_source.proofs.More.{bytes_ok, bytes_more}
+use Rattle.imagesize_source.proofs.Extension.{bytes_ok, bytes_more}
 use Rattle.imagesize_source.specs.Counts.{CostsBy}
 use Rattle.imagesize_source.specs.Input.{span_of}
 use Rattle.imagesize_source.specs.Layout.{over, bind}

@@ -14,7 +14,7 @@ without e records false is wants none = is
 -- a reader's source records nothing, so no call over it is refused memory
 pub no_memory : {X : Type 0} {a b : State} (r : Result X ImageError) (reads : Reads X) → a.frame.records ≡ false → Runs a b r reads → IfErr r (λ e. is_memory e ≡ false)
 no_memory (Ok x) reads none h = tt
-no_memory {b = b} (Err e) reads none h = without e b.frame.records (is_memory e) refl h.ended.memory (ap (λ f. f.records) h.frame ∙ none)
+no_memory {b = b} (Err e) reads none h = without e b.frame.records (is_memory e) refl (λ refused. (h.ended.memory refused).0) (ap (λ f. f.records) h.frame ∙ none)
 
 some_budget : (named : Option ℕ) (budget taken n : ℕ) (counts : Bool) → 64 ≤ budget → n ≡ taken → IfSome named (λ k. (counts ≡ true) × (k ≡ budget) × (k ≡ taken)) → IfSome named (λ k. (k ≡ n) × (64 ≤ k))
 some_budget None budget taken n counts enough same is = tt

@@ -6,7 +6,7 @@ use Rattle.imagesize.specs.Counts.{lasts}
 use Rattle.imagesize.specs.Kind.{kind}
 use Rattle.imagesize.specs.Meaning.{kind_of, size_of, meaning, way_of}
 use Rattle.imagesize.specs.declared.types.ImageType.{ImageType}
-use Rattle.imagesize_source.proofs.Local.{local_layout, local_then, local_length}
+use Rattle.imagesize_source.proofs.Agreement.{local_layout, local_then, local_length}
 use Rattle.imagesize_source.proofs.Way.{local_way}
 use Rattle.imagesize_source.specs.Agreement.{Local}
 use Rattle.imagesize_source.specs.Layout.{over}

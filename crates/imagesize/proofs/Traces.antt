@@ -6,7 +6,7 @@ use Rattle.imagesize.specs.Traced.{IsSame, Traces, lacks_memory}
 use Rattle.imagesize.specs.declared.trace.Trace.{Trace}
 use Rattle.imagesize_types.specs.declared.size.ImageSize.{ImageSize}
 use Rattle.imagesize.proofs.Locality.{local_kind, local_meaning}
-use Rattle.imagesize_source.proofs.Local.{agrees_first}
+use Rattle.imagesize_source.proofs.Agreement.{agrees_first}
 use Rattle.imagesize_source.proofs.Openings.{stop_cases, some_spent}
 use Rattle.imagesize_source.proofs.Recordings.{past-recording}
 use Rattle.imagesize_source.specs.Agreement.{Agrees}

@@ -30,9 +30,16 @@ pub struct Probed {
     pub taken: u64,
 }
 
-/// The type of the image that a slice's first bytes tell, and its kind, `Unknown` where the bytes do not tell it.
+/// The type of the image that a slice's first bytes tell, and its kind where the type has several: `Unknown` where the
+/// bytes do not tell it.
 ///
 /// Errors: `NotSupported` where no type has these bytes, and `EndOfInput` under 12 bytes.
+///
+/// ```
+/// use imagesize::{ImageType, image_type};
+///
+/// assert_eq!(image_type(b"GIF89a\x80\x02\xe0\x01\0\0").ok(), Some(ImageType::Gif));
+/// ```
 pub fn image_type(header: &[u8]) -> ImageResult<ImageType>
     ensures value { result ≡ (kind_of header.now 0).answer }
     ensures local { (e : List ℕ) → Agrees header.now e (kind_of header.now 0).marks → kind_of e 0 ≡ kind_of header.now 0 }
@@ -44,6 +51,13 @@ pub fn image_type(header: &[u8]) -> ImageResult<ImageType>
 ///
 /// Errors: `NotSupported` where no type has the first bytes, `EndOfInput` where the bytes end before the size,
 /// and the refusals of the type's layout.
+///
+/// ```
+/// use imagesize::blob_size;
+///
+/// let size = blob_size(b"GIF89a\x80\x02\xe0\x01\0\0")?;
+/// assert_eq!((size.width, size.height), (640, 480));
+/// ```
 pub fn blob_size(data: &[u8]) -> ImageResult<ImageSize>
     ensures value { result ≡ (meaning «data».now 0).answer }
 
@@ -91,6 +105,14 @@ pub(crate) fn probe<S: Source>(
 ///
 /// Errors: `NotSupported` where no type has these bytes, `EndOfInput` where fewer than 12 are left, and
 /// `Fault` where a call of the reader fails.
+///
+/// ```
+/// use imagesize::{ImageType, reader_type};
+/// use std::io::Cursor;
+///
+/// let bytes: &[u8] = b"GIF89a\x80\x02\xe0\x01\0\0";
+/// assert_eq!(reader_type(Cursor::new(bytes)).ok(), Some(ImageType::Gif));
+/// ```
 pub fn reader_type<R: Told>(mut reader: R) -> ImageResult<ImageType>
     ensures answers { Answers (R.telling reader) kind_of result }
     ensures memory { IfErr result (λ e. is_memory e ≡ false) }
@@ -106,6 +128,14 @@ pub fn reader_type<R: Told>(mut reader: R) -> ImageResult<ImageType>
 ///
 /// Errors: those of `reader_type`, `EndOfInput` where the bytes end before the size, the refusals of the type's
 /// layout, and `BudgetSpent` where more bytes would be taken than the length that the reader told, and 64.
+///
+/// ```
+/// use imagesize::reader_size;
+/// use std::io::Cursor;
+///
+/// let bytes: &[u8] = b"GIF89a\x80\x02\xe0\x01\0\0";
+/// assert_eq!(reader_size(Cursor::new(bytes))?.width, 640);
+/// ```
 pub fn reader_size<R: Told>(mut reader: R) -> ImageResult<ImageSize>
     ensures answers { Answers (R.telling reader) meaning result }
     ensures memory { IfErr result (λ e. is_memory e ≡ false) }
@@ -119,6 +149,15 @@ pub fn reader_size<R: Told>(mut reader: R) -> ImageResult<ImageSize>
 /// Type and size of the image in a reader's bytes, and how many bytes were taken to find them.
 ///
 /// The errors are those of `reader_size`. The reader stands at an unstated place then, and may be used again.
+///
+/// ```
+/// use imagesize::reader_probe;
+/// use std::io::Cursor;
+///
+/// let bytes: &[u8] = b"GIF89a\x80\x02\xe0\x01\0\0";
+/// let probed = reader_probe(&mut Cursor::new(bytes));
+/// assert_eq!(probed.taken, 12);
+/// ```
 pub fn reader_probe<R: Told>(reader: &mut R) -> Probed
     ensures probes { Probes (R.telling reader.old) result }
 
@@ -144,6 +183,14 @@ impl ImageType {
     /// The places of the size are those of the whole bytes, wherever the reader stands and whether or not the
     /// bytes are of this type. The errors are those of `reader_size` but for the type's. The reader stands at an
     /// unstated place then, and may be used again.
+    ///
+    /// ```
+    /// use imagesize::ImageType;
+    /// use std::io::Cursor;
+    ///
+    /// let bytes: &[u8] = b"GIF89a\x80\x02\xe0\x01\0\0";
+    /// assert_eq!(ImageType::Gif.reader_size(&mut Cursor::new(bytes))?.height, 480);
+    /// ```
     pub fn reader_size<R: Told>(&self, reader: &mut R) -> ImageResult<ImageSize>
         ensures answers { Answers (R.telling reader.old) (λ d place. size_of self.now d) result }
         ensures counts { Counts (R.telling reader.old) (R.count reader.old) (R.count reader.new) (λ d place. size_of self.now d) }

@@ -10,6 +10,13 @@ use imagesize_types::compression::{DdsCompression, PkmCompression, PvrtcCompress
 impl ImageType {
     /// What the image's compression has in common with that of other types. It is None for types
     /// that are no textures, and where the compression is not known.
+    ///
+    /// ```
+    /// use imagesize::{CompressionFamily, DdsCompression, ImageType};
+    ///
+    /// let texture = ImageType::Dds(DdsCompression::Bc7);
+    /// assert_eq!(texture.compression_family(), Some(CompressionFamily::BlockCompression));
+    /// ```
     pub fn compression_family(&self) -> Option<CompressionFamily>
         ensures { result ≡ family_of self.now }
     {
@@ -24,6 +31,12 @@ impl ImageType {
     }
 
     /// Whether the image is a texture in one of the block compressions BC1 to BC7.
+    ///
+    /// ```
+    /// use imagesize::{DdsCompression, ImageType};
+    ///
+    /// assert!(ImageType::Dds(DdsCompression::Bc7).is_block_compressed());
+    /// ```
     pub fn is_block_compressed(&self) -> bool
         ensures { IsTrue result ↔ (family_of self.now ≡ Some BlockCompression) }
     {
@@ -31,6 +44,12 @@ impl ImageType {
     }
 
     /// The name of the container, for types whose images stand in one.
+    ///
+    /// ```
+    /// use imagesize::ImageType;
+    ///
+    /// assert_eq!(ImageType::Ktx2.container_format(), Some("KTX2"));
+    /// ```
     pub fn container_format(&self) -> Option<&'static str>
         ensures { option_copied result ≡ container_of self.now }
     {
@@ -46,6 +65,12 @@ impl ImageType {
     }
 
     /// Whether the container can hold textures of several compression families.
+    ///
+    /// ```
+    /// use imagesize::ImageType;
+    ///
+    /// assert!(ImageType::Ktx2.is_multi_compression_container());
+    /// ```
     pub fn is_multi_compression_container(&self) -> bool
         ensures value { result ≡ is_multi_container self.now }
         ensures named { IsTrue result → IsSome (container_of self.now) }
@@ -104,6 +129,3 @@ fn pvrtc_family(compression: PvrtcCompression) -> Option<CompressionFamily>
         PvrtcCompression::Unknown => None,
     }
 }
-
-#[cfg(test)]
-mod tests;

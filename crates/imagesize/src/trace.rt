@@ -26,6 +26,13 @@ pub struct Trace<A: Allocator> {
 /// The type and the size of the image that a slice's bytes hold, and the spans of the readings that tell them.
 ///
 /// Errors: `AllocError` where memory for the spans was refused; nothing is left behind then.
+///
+/// ```
+/// use imagesize::blob_trace;
+///
+/// let trace = blob_trace(alloc, b"GIF89a\x80\x02\xe0\x01\0\0")?;
+/// assert_eq!(trace.spans.len(), 3);
+/// ```
 pub fn blob_trace<A: Allocator>(alloc: A, data: &[u8]) -> Result<Trace<A>, AllocError>
     ensures traces { IfOk result (Traces «data».now) }
     ensures empty { length «data».now ≡ 0 → IsOk result }

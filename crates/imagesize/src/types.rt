@@ -79,6 +79,3 @@ pub enum CompressionFamily {
     /// Pixels as they are.
     Uncompressed,
 }
-
-#[cfg(test)]
-mod tests;

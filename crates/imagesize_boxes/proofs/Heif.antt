@@ -36,12 +36,12 @@ use Rattle.imagesize_source.specs.State.{State, Runs, EndedBy, total}
 use Rattle.imagesize_source.proofs.Always.{KindLaws}
 use Rattle.imagesize_source.proofs.Advances.{Tells, advances}
 use Rattle.imagesize_source.proofs.Spends.{Spends, Onto, chain_onto, left, said_to, spends_then}
-use Rattle.imagesize_source.proofs.Beyond.{bytes_beyond}
+use Rattle.imagesize_source.proofs.PastTheEnd.{bytes_beyond}
 use Rattle.imagesize_source.proofs.ChainLaws.{local_chain, chain_cost}
 use Rattle.imagesize_source.proofs.Chains.{chain_stop}
-use Rattle.imagesize_source.proofs.Count.{then_within, total-span_of, total_behind}
+use Rattle.imagesize_source.proofs.Counts.{then_within, total-span_of, total_behind}
 use Rattle.imagesize_source.proofs.Layouts.{runs_as}
-use Rattle.imagesize_source.proofs.Local.{local_then, local_number, same_span, same_bytes}
+use Rattle.imagesize_source.proofs.Agreement.{local_then, local_number, same_span, same_bytes}
 use Rattle.imagesize_source.proofs.Numbers.{big_4}
 use Rattle.imagesize_source.proofs.Reached.{runs_bind, refused_bind, reached_now}
 use Rattle.imagesize_source.proofs.Runs.{part_length, total-append}
@@ -450,8 +450,11 @@ pub heif_within : (d : List ℕ) → total (heif d).marks ≤ length d + 4
 heif_within d = omega (
   arith,
   then_within (number_read d Big 0 4) (λ first. and_then (chain_at (search_for (codes "meta") first) d) (λ meta. heif_in_meta meta d)) 4 (length d) (total-span_of d 0 4)
-      (λ first _. omega (arith, spends_then (length d) first (λ meta. meta.place + 8) ends (chain_at (search_for (codes "meta") first) d) (λ meta. heif_in_meta meta d)
-      (search_spends (codes "meta") first d) (λ meta _. in_meta_spends meta d))),
+      (λ first _. omega (
+        arith,
+        spends_then (length d) first (λ meta. meta.place + 8) ends (chain_at (search_for (codes "meta") first) d) (λ meta. heif_in_meta meta d)
+            (search_spends (codes "meta") first d) (λ meta _. in_meta_spends meta d),
+      )),
 )
 
 -- the properties may go on in bytes that follow

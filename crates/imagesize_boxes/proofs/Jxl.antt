@@ -1,168 +1,192 @@
--- JPEG XL: how a walk along its boxes goes, how many bytes they are read from, and what it sees of an input.
-use Rattle.std.proofs.Common.{◌≡◌, ℕ, ◌+◌, ◌-◌, ◌*◌, ◌^◌, ◌<◌, ◌≤◌, Bool, true, false, cond, eqb, leb, ltb, not, ◌&&◌, ◌||◌, codes, take, drop, min, slice_index, Option, Some, None, List, [], ◌∷◌, ◌++◌, length, get_or, Result, Ok, Err, refl, sym, ap, ◌∙◌, subst, arith}
-use Rattle.std.proofs.lemmas.Bool.Decides.{nat_tests}
-use Rattle.std.proofs.lemmas.List.{append-nil}
+-- JPEG XL: how many bytes its size is read from, and what it sees of an input.
+use Rattle.std.proofs.Common.{◌≡◌, ℕ, ◌+◌, ◌-◌, ◌*◌, ◌<◌, ◌≤◌, min, true, List, [], ◌∷◌, ◌++◌, length, take, drop, Option, None, Some, Result, Ok, Err, refl, ap, ◌∙◌, arith}
+use Rattle.std.proofs.lemmas.List.{append-nil, length-append}
 use Rattle.std.proofs.lemmas.List.Folds.{concat-append}
 use Rattle.std.specs.List.{concat}
-use Rattle.imagesize_boxes.specs.declared.formats.jxl.boxes.BoxHead.{BoxHead}
-use Rattle.imagesize_boxes.specs.Fields.{Fields, found, bits, binary, bits_of, field_at, field_in, with_found, found_by, found_in}
-use Rattle.imagesize_boxes.specs.Jxl.{has_signature, jxl_header, jxl_size, piece_at, answer, box_checked, box_head, box_room, said_behind, codestream_box, partial_said, partial_box, box_content, jxl_box, jxl_chain, jxl_start, codestream, jxl_codestream, jxl, begun_behind, jxl_boxes}
-use Rattle.imagesize_boxes.proofs.Fields.{field_same, found_alike, found_more}
-use Rattle.imagesize_types.specs.Head.{begins}
-use Rattle.imagesize_types.specs.declared.size.ImageSize.{ImageSize}
-use Rattle.imagesize_source.specs.Agreement.{Local}
-use Rattle.imagesize_source.specs.Chain.{Said, Decided, Next, Advances, chain_at, records}
-use Rattle.imagesize_source.specs.Counts.{AtMost}
-use Rattle.imagesize_source.specs.Layout.{Layout, over, bind, bytes, there}
-use Rattle.imagesize_source.specs.Layout.Layout.{field, refuse, «done»}
-use Rattle.imagesize_source.specs.Reading.{Reads, and_then, gives, end_of_input, is_fault}
-use Rattle.imagesize_source.specs.State.{State, Runs, EndedBy, Sound, total}
-use Rattle.imagesize_source.proofs.Advances.{Tells, advances}
-use Rattle.imagesize_source.proofs.Ahead.{Ahead, chain_ahead}
-use Rattle.imagesize_source.proofs.ChainLaws.{local_chain, chain_cost}
-use Rattle.imagesize_source.proofs.Local.{local_layout, local_then}
-use Rattle.imagesize_source.proofs.Reached.{reads_nothing}
-use Rattle.imagesize_source.proofs.Runs.{runs_then, runs_refused, total-append}
-use Rattle.imagesize_source.proofs.Tests.{on_test}
-use Rattle.imagesize_source.proofs.Walks.{Walks, walks_start, walks_on, walks_stop, walks_out}
 use Rattle.imagesize_source.specs.declared.error.ImageError.{ImageError}
-use Rattle.imagesize_source.specs.declared.error.ImageError.TheVariants.{CorruptedImage, IoError}
-use Rattle.imagesize_source.specs.declared.error.Reason.TheVariants.{InvalidJxlBoxSize, InvalidJxlSignature}
-use Rattle.imagesize_source.specs.declared.util.Endian.TheVariants.{Little, Big}
-use Rattle.imagesize_source.specs.Numbers.{number, little}
+use Rattle.imagesize_source.specs.declared.span.Span.{Span}
+use Rattle.imagesize_source.specs.declared.util.Endian.TheVariants.{Big}
+use Rattle.imagesize_source.specs.Agreement.{Local}
+use Rattle.imagesize_source.specs.Chain.{Said, Decided, Next, Along, start, next_record, records_from, chain_from, chain_at}
+use Rattle.imagesize_source.specs.Counts.{AtMost}
+use Rattle.imagesize_source.specs.Input.{part, span_of}
+use Rattle.imagesize_source.specs.Layout.{over, there}
+use Rattle.imagesize_source.specs.Layout.Layout.{«done»}
+use Rattle.imagesize_source.specs.Numbers.{number}
+use Rattle.imagesize_source.specs.Reading.{Reads, onward, gives, behind, bytes_at, number_at}
+use Rattle.imagesize_source.specs.State.{total}
+use Rattle.imagesize_source.proofs.Ahead.{Ahead, chain_ahead}
+use Rattle.imagesize_source.proofs.ChainLaws.{chain_induction, local_chain}
+use Rattle.imagesize_source.proofs.Chains.{chain_next, chain_stop, records_next, records_stop}
+use Rattle.imagesize_source.proofs.Counts.{at_most, at_most_more, then_within, total-span_of, total_behind}
+use Rattle.imagesize_source.proofs.Agreement.{local_layout, local_then}
+use Rattle.imagesize_source.proofs.Runs.{part_length, total-append}
+use Rattle.imagesize_source.proofs.Tests.{on_test}
+use Rattle.imagesize_source.proofs.Way.{RecordedLaws}
+use Rattle.imagesize_boxes.specs.declared.formats.jxl.boxes.BoxHead.{BoxHead}
+use Rattle.imagesize_boxes.specs.Jxl.{has_signature, jxl_size, box_head, box_room, said_behind, partial_said, box_content, jxl_box, jxl_chain, jxl_start, codestream, jxl_codestream, jxl, begun_behind, jxl_boxes}
+use Rattle.imagesize_boxes.proofs.JxlBoxes.{Says, by_checked, by_head, by_piece, by_end, by_partial, by_content, jxl_advances}
+use Rattle.imagesize_boxes.proofs.JxlGrowth.{jxl_lasts, box_sized}
 
--- the size by front of each kind
-pub size_short : (front : List ℕ) → length front < 2 → jxl_size front ≡ Err CorruptedImage
-unfolding jxl_size
-size_short front short = let test : ltb (length front) 2 ≡ true = grind (arith, nat_tests) in rw test refl
+local_behind : (found : Option (List ℕ)) → Local (λ d. codestream d found)
+local_behind None = local_chain jxl_chain jxl_advances
+local_behind (Some front) = λ d e a. refl
 
-pub size_unsigned : (front : List ℕ) → 2 ≤ length front → has_signature front ≡ false → jxl_size front ≡ Err (IoError InvalidJxlSignature)
-unfolding jxl_size
-size_unsigned front long other = let test : ltb (length front) 2 ≡ false = grind (arith, nat_tests) in rw (test, other) refl
+pub jxl_local : Local jxl
+jxl_local = local_then jxl_codestream (λ front d. record { answer = jxl_size front; marks = [] })
+    (local_then (λ d. over d jxl_start) (λ found d. codestream d found) (local_layout jxl_start) local_behind)
+    (λ front d e a. refl)
 
-pub size_signed : (front : List ℕ) (n count : ℕ) → 2 ≤ length front → has_signature front ≡ true → ((i : ℕ) → get_or front i 0 < 256) → n ≡ number Little front → count ≡ 8 * length front → jxl_size front ≡ found_in n count jxl_header
-unfolding jxl_size number
-size_signed front n count long is small sums counts =
-    let test : ltb (length front) 2 ≡ false = grind (arith, nat_tests) in
-    let here : jxl_size front ≡ found_by (field_at (bits_of front)) jxl_header = rw (test, is) refl in
-    here
-    ∙ found_alike (field_at (bits_of front)) (field_in (little front) (8 * length front)) jxl_header (field_same front small)
-    ∙ ap (λ m. found_in m (8 * length front) jxl_header) (sym sums)
-    ∙ ap (λ k. found_in n k jxl_header) (sym counts)
-
--- what holds of each way that a box can go
-
-abbrev Says : Type 0
-Says = Layout (Said (List ℕ) (List ℕ))
-
-by_checked : (P : Says → Type 0) (place : ℕ) (head : BoxHead) (f : BoxHead → Says) → ((e : ImageError) → P (refuse e)) → (place + head.size < 2 ^ 64 → (0 < head.size → head.length ≤ head.size) → P (f head)) → P (bind (answer (box_checked place head)) f)
-by_checked P place head f out on =
-    on_test (λ r. P (bind (answer r) f)) (ltb (2 ^ 64 - 1) (place + head.size)) (Err CorruptedImage) _ (λ _. out CorruptedImage)
-    (λ within. on_test (λ r. P (bind (answer r) f)) (not (eqb head.size 0) && ltb head.size head.length) (Err (IoError (InvalidJxlBoxSize head.tag head.size))) (Ok head) (λ _. out (IoError (InvalidJxlBoxSize head.tag head.size)))
-    (λ whole. on (grind (arith, nat_tests)) (λ some. grind (arith, nat_tests))))
-
-by_head : (P : Says → Type 0) (place : ℕ) (front : List ℕ) (f : BoxHead → Says)
-    → P (field Big (place + 8) 8 (λ size. bind (answer (box_checked place (record { tag = drop 4 front; size = size; length = 16 }))) f))
-    → P (bind (answer (box_checked place (record { tag = drop 4 front; size = number Big (take 4 front); length = 8 }))) f)
-    → P (bind (cond (eqb (number Big (take 4 front)) 1) (field Big (place + 8) 8 (λ size. answer (box_checked place (record { tag = drop 4 front; size = size; length = 16 })))) (answer (box_checked place (record { tag = drop 4 front; size = number Big (take 4 front); length = 8 })))) f)
-by_head P place front f long short =
-    on_test (λ t. P (bind t f)) (eqb (number Big (take 4 front)) 1) (field Big (place + 8) 8 (λ size. answer (box_checked place (record { tag = drop 4 front; size = size; length = 16 })))) (answer (box_checked place (record { tag = drop 4 front; size = number Big (take 4 front); length = 8 })))
-    (λ _. long) (λ _. short)
-
-by_piece : (P : Says → Type 0) (place k : ℕ) (f : List ℕ → Says) → (k ≡ 0 → P (f [])) → (0 < k → P (there place k f)) → P (bind (piece_at place k) f)
-unfolding piece_at
-by_piece P place k f none some =
-    on_test (λ t. P (bind t f)) (eqb k 0) (done []) (there place k (λ piece. done piece)) (λ is. none (grind (arith, nat_tests))) (λ is. some (grind (arith, nat_tests)))
-
-by_end : (P : Said (List ℕ) (List ℕ) → Type 0) (held : List ℕ) (place : ℕ) (head : BoxHead) (piece : List ℕ) → P (Decided (held ++ piece)) → (0 < head.size → P (Next piece (place + head.size))) → P (said_behind held place head piece)
-by_end P held place head piece last next = on_test P (eqb head.size 0) (Decided (held ++ piece)) (Next piece (place + head.size)) (λ _. last) (λ is. next (grind (arith, nat_tests)))
-
-by_partial : (P : Said (List ℕ) (List ℕ) → Type 0) (held : List ℕ) (place : ℕ) (head : BoxHead) (index piece : List ℕ) → P (Decided (held ++ piece)) → (0 < head.size → P (Next piece (place + head.size))) → P (partial_said held place head index piece)
-by_partial P held place head index piece last next =
-    on_test P (eqb (length held + length piece) 16 || leb 0x80 (slice_index index 0)) (Decided (held ++ piece)) (said_behind held place head piece) (λ _. last)
-    (λ _. by_end P held place head piece last next)
-
-by_content : (P : Says → Type 0) (held : List ℕ) (place : ℕ) (head : BoxHead) → P (codestream_box place head) → P (refuse end_of_input)
-    → (4 ≤ box_room head → P (bytes (place + head.length) 4 (λ index. bind (piece_at (place + (head.length + 4)) (min (box_room head - 4) (16 - length held))) (λ piece. done (partial_said held place head index piece)))))
-    → P (done (said_behind held place head [])) → P (box_content held place head)
-by_content P held place head whole none partial other =
-    on_test P (begins (codes "jxlc") head.tag) (codestream_box place head) _ (λ _. whole)
-    (λ _. on_test P (begins (codes "jxlp") head.tag) (partial_box held place head) (done (said_behind held place head []))
-    (λ _. on_test P (ltb (box_room head) 4) (refuse end_of_input) _ (λ _. none) (λ is. partial (grind (arith, nat_tests)))) (λ _. other))
-
-content_tells : (held : List ℕ) (place : ℕ) (head : BoxHead) → Tells (λ p. place < p) (box_content held place head)
-content_tells held place head =
-    let End : Said (List ℕ) (List ℕ) → Type 0 = λ s. Tells (λ p. place < p) (done s) in
-    by_content (Tells (λ p. place < p)) held place head
-    (by_piece (Tells (λ p. place < p)) (place + head.length) (min 16 (box_room head)) (λ front. done (Decided front)) (λ _. tt) (λ _ front. tt))
+-- a box goes forward: its content stands behind its head, and the next box behind both
+content_ahead : (q : ℕ) (held : List ℕ) (place : ℕ) (head : BoxHead) → q ≤ place + head.length → (0 < head.size → head.length ≤ head.size) → Ahead q (box_content held place head)
+content_ahead q held place head before sized =
+    let End : ℕ → Said (List ℕ) (List ℕ) → Type 0 = λ p s. Ahead p (done s) in
+    by_content (Ahead q) held place head
+    (by_piece (Ahead q) (place + head.length) (min 16 (box_room head)) (λ front. done (Decided front)) (λ _. tt) (λ _. (before, λ front. tt)))
     tt
-    (λ _ index. by_piece (Tells (λ p. place < p)) (place + (head.length + 4)) (min (box_room head - 4) (16 - length held)) (λ piece. done (partial_said held place head index piece))
-    (λ _. by_partial End held place head index [] tt (λ some. omega arith))
-    (λ _ piece. by_partial End held place head index piece tt (λ some. omega arith)))
-    (by_end End held place head [] tt (λ some. omega arith))
+    (λ enough. (
+      before,
+      λ index. by_piece (Ahead (place + head.length + 4)) (place + (head.length + 4)) (min (box_room head - 4) (16 - length held)) (λ piece. done (partial_said held place head index piece))
+          (λ _. by_partial (End (place + head.length + 4)) held place head index [] tt (λ closed. let is = box_sized head closed in let fits = sized closed in omega arith))
+          (λ some. (omega arith, λ piece. by_partial (End (place + (head.length + 4) + min (box_room head - 4) (16 - length held))) held place head index piece tt (λ closed. let is = box_sized head closed in let fits = sized closed in omega arith))),
+    ))
+    (by_end (End q) held place head [] tt (λ closed. let fits = sized closed in omega arith))
 
-jxl_advances : (d : List ℕ) → Advances jxl_chain d
+box_ahead : (held : List ℕ) (place : ℕ) → Ahead place (jxl_box held place)
 unfolding box_head
-jxl_advances = advances jxl_chain
-    (λ pieces place front. by_head (Tells (λ p. place < p)) place front (box_content (concat pieces) place)
-    (λ size. by_checked (Tells (λ p. place < p)) place (record { tag = drop 4 front; size = size; length = 16 }) (box_content (concat pieces) place) (λ e. tt) (λ _ _. content_tells (concat pieces) place (record { tag = drop 4 front; size = size; length = 16 })))
-    (by_checked (Tells (λ p. place < p)) place (record { tag = drop 4 front; size = number Big (take 4 front); length = 8 }) (box_content (concat pieces) place) (λ e. tt) (λ _ _. content_tells (concat pieces) place (record { tag = drop 4 front; size = number Big (take 4 front); length = 8 }))))
-    (λ pieces place. (omega arith, omega arith))
+box_ahead held place = (
+  omega arith,
+  λ front. by_head (Ahead (place + 8)) place front (box_content held place) (
+    omega arith,
+    λ size. by_checked (Ahead (place + 8 + 8)) place (record { tag = drop 4 front; size = size; length = 16 }) (box_content held place) (λ e. tt)
+        (λ _ sized. content_ahead (place + 8 + 8) held place (record { tag = drop 4 front; size = size; length = 16 }) (omega arith) sized),
+  )
+      (by_checked (Ahead (place + 8)) place (record { tag = drop 4 front; size = number Big (take 4 front); length = 8 }) (box_content held place) (λ e. tt)
+      (λ _ sized. content_ahead (place + 8) held place (record { tag = drop 4 front; size = number Big (take 4 front); length = 8 }) (omega arith) sized)),
+)
 
--- how far a walk has come: behind boxes with these bytes
-abbrev pub JxlWalks : State → State → ℕ → List ℕ → Type 0
-JxlWalks a b place front = Walks jxl_chain (λ pieces. concat pieces ≡ front) a b place
+start_few : AtMost 16 jxl_start
+start_few = (omega arith, λ front. on_test (AtMost 14) (has_signature front) (there 2 14 (λ more. done (Some (front ++ more)))) (done None) (λ _. (omega arith, λ more. tt)) (λ _. tt))
 
-pub walk_start : (a : State) → JxlWalks a a 12 []
-walk_start a = walks_start jxl_chain (λ pieces. concat pieces ≡ []) a refl
+-- the codestream is read from at most 16 bytes more than the input has
+pub jxl_within : (d : List ℕ) → total (jxl d).marks ≤ length d + 16
+jxl_within d =
+    let boxes = chain_ahead jxl_chain d (jxl_advances d) (λ pieces place. box_ahead (concat pieces) place) in
+    let found = then_within (over d jxl_start) (codestream d) 16 (length d) (at_most d 16 jxl_start start_few) (λ o _. by_start o boxes) in
+    let all = then_within (jxl_codestream d) (λ front. record { answer = jxl_size front; marks = [] }) (16 + length d) 0 found (λ front _. omega arith) in
+    omega arith where
+      by_start : (o : Option (List ℕ)) → total (chain_at jxl_chain d).marks ≤ length d - 12 → total (codestream d o).marks ≤ length d
+      by_start None boxes = omega arith
+      by_start (Some front) boxes = omega arith
 
-box_as : {b end : State} {r : Result (Said (List ℕ) (List ℕ)) ImageError} (place : ℕ) (front : List ℕ) → Runs b end r (over b.held.input (jxl_box front place)) → (pieces : List (List ℕ)) → concat pieces ≡ front → Runs b end r (over b.held.input (jxl_box (concat pieces) place))
-box_as {b} {end} {r} place front run pieces is = subst (λ held. Runs b end r (over b.held.input (jxl_box held place))) (sym is) run
+-- a box reads at most 36 bytes
+content_few : (held : List ℕ) (place : ℕ) (head : BoxHead) → AtMost 20 (box_content held place head)
+content_few held place head =
+    by_content (AtMost 20) held place head
+    (by_piece (AtMost 20) (place + head.length) (min 16 (box_room head)) (λ front. done (Decided front)) (λ _. tt) (λ _. (omega arith, λ front. tt)))
+    tt
+    (λ _. (
+      omega arith,
+      λ index. by_piece (AtMost 16) (place + (head.length + 4)) (min (box_room head - 4) (16 - length held)) (λ piece. done (partial_said held place head index piece))
+          (λ _. tt) (λ _. (omega arith, λ piece. tt)),
+    ))
+    tt
 
-pub walk_on : {a b end : State} (place next : ℕ) (front piece : List ℕ) → JxlWalks a b place front → Runs b end (Ok (Next piece next)) (over b.held.input (jxl_box front place)) → JxlWalks a end next (front ++ piece)
-walk_on place next front piece w run =
-    walks_on jxl_chain jxl_advances (λ pieces. concat pieces ≡ front) w (λ pieces. concat pieces ≡ front ++ piece) piece next (box_as place front run)
-    (λ pieces is. concat-append pieces (piece ∷ []) ∙ ap (λ rest. concat pieces ++ rest) (append-nil piece) ∙ ap (λ held. held ++ piece) is)
+box_few : (held : List ℕ) (place : ℕ) → AtMost 36 (jxl_box held place)
+unfolding box_head
+box_few held place = (
+  omega arith,
+  λ front. by_head (AtMost 28) place front (box_content held place)
+      (omega arith, λ size. by_checked (AtMost 20) place (record { tag = drop 4 front; size = size; length = 16 }) (box_content held place) (λ e. tt) (λ _ _. content_few held place (record { tag = drop 4 front; size = size; length = 16 })))
+      (by_checked (AtMost 28) place (record { tag = drop 4 front; size = number Big (take 4 front); length = 8 }) (box_content held place) (λ e. tt)
+      (λ _ _. at_most_more 20 28 (box_content held place (record { tag = drop 4 front; size = number Big (take 4 front); length = 8 })) (omega arith) (content_few held place (record { tag = drop 4 front; size = number Big (take 4 front); length = 8 })))),
+)
 
-pub walk_stop : {a b end : State} (place : ℕ) (front whole : List ℕ) → JxlWalks a b place front → Runs b end (Ok (Decided whole)) (over b.held.input (jxl_box front place)) → Runs a end (Ok whole) (chain_at jxl_chain a.held.input)
-walk_stop place front whole w run = walks_stop jxl_chain jxl_advances (λ pieces. concat pieces ≡ front) w whole (box_as place front run)
+-- Behind u bytes: where it leads to a next box, it has read at most 20 bytes and its piece, for which there is room.
+Lean : ℕ → List ℕ → Reads (Said (List ℕ) (List ℕ)) → Type 0
+Lean u held r = (piece : List ℕ) (place : ℕ) → r.answer ≡ Ok (Next piece place) → (u + total r.marks ≤ 20 + length piece) × (length piece ≤ 16 - length held)
 
-pub walk_out : {a b end : State} (place : ℕ) (front : List ℕ) (e : ImageError) → JxlWalks a b place front → Runs b end (Err e) (over b.held.input (jxl_box front place)) → Runs {X = List ℕ} a end (Err e) (chain_at jxl_chain a.held.input)
-walk_out place front e w run = walks_out jxl_chain jxl_advances (λ pieces. concat pieces ≡ front) w e (box_as place front run)
+lean_onward : {Y : Type 0} (u n : ℕ) (held : List ℕ) (spans : List Span) (r : Result Y ImageError) (f : Y → Reads (Said (List ℕ) (List ℕ))) → total spans ≤ n → ((y : Y) → Lean (u + n) held (f y)) → Lean u held (onward spans r f)
+unfolding Lean
+lean_onward u n held spans (Ok y) f few each piece place is = let rest = each y piece place is in (omega (arith, rest.0, total-append spans (f y).marks), rest.1)
+lean_onward u n held spans (Err e) f few each piece place is = absurd cc
 
--- The size by a codestream.
+-- what a box says at once, behind its piece
+lean_said : (u : ℕ) (held : List ℕ) (spans : List Span) (s : Said (List ℕ) (List ℕ)) (piece : List ℕ) → ((found : List ℕ) (place : ℕ) → s ≡ Next found place → found ≡ piece) → u ≤ 20 → total spans ≤ length piece → length piece ≤ 16 - length held → Lean u held (behind spans (gives s))
+unfolding Lean
+lean_said u held spans s piece same few seen fits found place is =
+    let at : s ≡ Next found place = cc in
+    let long : length found ≡ length piece = ap length (same found place at) in
+    let all = total-append spans [] in
+    (omega arith, omega arith)
 
--- a refusal that ends no call by itself
-abbrev Plainly : {X : Type 0} → Result X ImageError → Type 0
-Plainly (Ok x) = Unit {0}
-Plainly (Err e) = (is_fault e ≡ false) × ((b : State) → EndedBy b e)
+end_piece : (held : List ℕ) (at : ℕ) (head : BoxHead) (piece found : List ℕ) (place : ℕ) → said_behind held at head piece ≡ Next found place → found ≡ piece
+end_piece held at head piece found place = by_end (λ s. s ≡ Next found place → found ≡ piece) held at head piece (λ is. absurd cc) (λ _ is. cc)
 
-plain_corrupted : Plainly {X = ℕ} (Err CorruptedImage)
-plain_corrupted = (refl, λ b. record { budget = tt; memory = λ e. absurd cc })
+partial_piece : (held : List ℕ) (at : ℕ) (head : BoxHead) (index piece found : List ℕ) (place : ℕ) → partial_said held at head index piece ≡ Next found place → found ≡ piece
+partial_piece held at head index piece found place = by_partial (λ s. s ≡ Next found place → found ≡ piece) held at head index piece (λ is. absurd cc) (λ _ is. cc)
 
-plain_found : {X : Type 0} (list : List ℕ) (t : Fields X) → Plainly (found_by (field_at list) t)
-unfolding field_at
-plain_found list (found x) = tt
-plain_found list (bits from count f) =
-    on_test (λ r. Plainly (with_found r (λ n. found_by (field_at list) (f n)))) (leb (from + count) (length list)) (Ok (binary (take count (drop from list)))) (Err CorruptedImage)
-    (λ _. plain_found list (f (binary (take count (drop from list))))) (λ _. plain_corrupted)
+module _ (d : List ℕ) where
+  content_lean : (u : ℕ) (held : List ℕ) (place : ℕ) (head : BoxHead) → u ≤ 16 → Lean u held (over d (box_content held place head))
+  unfolding Lean
+  content_lean u held place head few =
+      let P : Says → Type 0 = λ t. Lean u held (over d t) in
+      by_content P held place head
+      (by_piece P (place + head.length) (min 16 (box_room head)) (λ front. done (Decided front)) (λ _ piece next is. absurd cc) (λ _ piece next is. absurd cc))
+      (λ piece next is. absurd cc)
+      (λ _. lean_onward u 4 held (span_of d (place + head.length) 4) (bytes_at d (place + head.length) 4) _ (total-span_of d (place + head.length) 4)
+      (λ index. by_piece (λ t. Lean (u + 4) held (over d t)) (place + (head.length + 4)) (min (box_room head - 4) (16 - length held)) (λ piece. done (partial_said held place head index piece))
+      (λ _. lean_said (u + 4) held [] (partial_said held place head index []) [] (λ found next is. partial_piece held place head index [] found next is) (omega arith) (omega arith) (omega arith))
+      (λ _. let q : ℕ = place + (head.length + 4) in let k : ℕ = min (box_room head - 4) (16 - length held) in
+      let few_of = total-span_of d q k in let seen = total_behind d q k in let long = part_length d q k in
+      lean_said (u + 4) held (span_of d q k) (partial_said held place head index (part d q k)) (part d q k) (λ found next is. partial_piece held place head index (part d q k) found next is) (omega arith) (omega arith) (omega arith))))
+      (lean_said u held [] (said_behind held place head []) [] (λ found next is. end_piece held place head [] found next is) (omega arith) (omega arith) (omega arith))
 
-plain_size : (front : List ℕ) → Plainly (jxl_size front)
-unfolding jxl_size
-plain_size front =
-    on_test Plainly (ltb (length front) 2) (Err CorruptedImage) _ (λ _. plain_corrupted)
-    (λ _. on_test Plainly (has_signature front) (found_by (field_at (bits_of front)) jxl_header) (Err (IoError InvalidJxlSignature)) (λ _. plain_found (bits_of front) jxl_header)
-    (λ _. (refl, λ b. record { budget = tt; memory = λ e. absurd cc })))
+  box_lean : (held : List ℕ) (place : ℕ) → Lean 0 held (over d (jxl_box held place))
+  unfolding box_head Lean
+  box_lean held place =
+      lean_onward 0 8 held (span_of d place 8) (bytes_at d place 8) _ (total-span_of d place 8)
+      (λ front. by_head (λ t. Lean 8 held (over d t)) place front (box_content held place)
+      (lean_onward 8 8 held (span_of d (place + 8) 8) (number_at d Big (place + 8) 8) _ (total-span_of d (place + 8) 8)
+      (λ size. by_checked (λ t. Lean 16 held (over d t)) place (record { tag = drop 4 front; size = size; length = 16 }) (box_content held place) (λ e piece next is. absurd cc)
+      (λ _ _. content_lean 16 held place (record { tag = drop 4 front; size = size; length = 16 }) (omega arith))))
+      (by_checked (λ t. Lean 8 held (over d t)) place (record { tag = drop 4 front; size = number Big (take 4 front); length = 8 }) (box_content held place) (λ e piece next is. absurd cc)
+      (λ _ _. content_lean 8 held place (record { tag = drop 4 front; size = number Big (take 4 front); length = 8 }) (omega arith))))
 
-sized_by : {b : State} (r : Result ImageSize ImageError) → Sound b → Plainly r → Runs b b r (record { answer = r; marks = [] })
-sized_by {b} (Ok size) sound plain = reads_nothing b (Ok size) sound refl tt
-sized_by {b} (Err e) sound plain = reads_nothing b (Err e) sound plain.0 (plain.1 b)
+  -- the pieces together have at most 16 bytes, and the last box reads at most 16 more
+  boxes_lean : (t : Along (List ℕ)) → total (chain_from jxl_chain d t).marks ≤ 20 * records_from jxl_chain d t + 16 + (16 - length (concat t.held))
+  unfolding Lean
+  boxes_lean = chain_induction jxl_chain d (λ t. total (chain_from jxl_chain d t).marks ≤ 20 * records_from jxl_chain d t + 16 + (16 - length (concat t.held))) (jxl_advances d)
+      (λ t v place is later.
+      let u : Along (List ℕ) = record { held = t.held ++ v ∷ []; place = place } in
+      let all : total (chain_from jxl_chain d t).marks ≡ total (next_record jxl_chain d t).marks + total (chain_from jxl_chain d u).marks = ap (λ w. total w.marks) (chain_next jxl_chain d t v place (jxl_advances d) is) ∙ total-append (next_record jxl_chain d t).marks (chain_from jxl_chain d u).marks in
+      let one = records_next jxl_chain d t v place (jxl_advances d) is in
+      let here = box_lean (concat t.held) t.place v place is in
+      let few = here.0 in let fits = here.1 in
+      let long : length (concat u.held) ≡ length (concat t.held) + length v = ap length (concat-append t.held (v ∷ []) ∙ ap (λ rest. concat t.held ++ rest) (append-nil v)) ∙ length-append (concat t.held) v in
+      omega arith)
+      (λ t r is.
+      let all : total (chain_from jxl_chain d t).marks ≡ total (next_record jxl_chain d t).marks = ap (λ w. total w.marks) (chain_stop jxl_chain d t r is) in
+      let one = records_stop jxl_chain d t r is in
+      let few = at_most d 36 (jxl_box (concat t.held) t.place) (box_few (concat t.held) t.place) in
+      omega arith)
 
--- the size by a codestream that was found
-pub sized : {a b : State} (front : List ℕ) → Runs a b (Ok front) (jxl_codestream a.held.input) → Runs a b (jxl_size front) (jxl a.held.input)
-sized {a} {b} front run =
-    runs_then (jxl_codestream a.held.input) (λ found held. record { answer = jxl_size found; marks = [] }) run (sized_by (jxl_size front) run.sound_after (plain_size front))
+  begun_within : (found : Result (Option (List ℕ)) ImageError) (spans : List Span) → total spans ≤ 16 → total (onward spans found (codestream d)).marks ≤ 48 + 20 * begun_behind d found
+  begun_within (Ok None) spans few = let boxes = boxes_lean (start jxl_chain) in let all = total-append spans (chain_at jxl_chain d).marks in omega arith
+  begun_within (Ok (Some front)) spans few = let all = total-append spans [] in omega arith
+  begun_within (Err e) spans few = omega arith
 
--- and none where none was found
-pub unsized : {a b : State} (e : ImageError) → Runs a b (Err e) (jxl_codestream a.held.input) → Runs a b (Err e) (jxl a.held.input)
-unsized {a} {b} e run = runs_refused (jxl_codestream a.held.input) (λ front. record { answer = jxl_size front; marks = [] }) run
+-- a box is read from at most 20 bytes and its piece
+pub jxl_cost : (d : List ℕ) → total (jxl d).marks ≤ 48 + 20 * jxl_boxes d
+jxl_cost d =
+    let found = begun_within d (over d jxl_start).answer (over d jxl_start).marks (at_most d 16 jxl_start start_few) in
+    let all = then_within (jxl_codestream d) (λ front. record { answer = jxl_size front; marks = [] }) (48 + 20 * jxl_boxes d) 0 found (λ front _. omega arith) in
+    omega arith
+
+pub jxl_laws : RecordedLaws 12 true 20 jxl jxl_boxes
+jxl_laws = record {
+  local = jxl_local;
+  cost = λ d. omega (arith, jxl_cost d);
+  within = λ d. omega (arith, jxl_within d);
+  lasts = λ _. jxl_lasts;
+}

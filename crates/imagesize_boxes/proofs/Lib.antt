@@ -1,5 +1,7 @@
 pub mod Fields
 pub mod Heads
-pub mod Jxl
-pub mod Places
 pub mod Heif
+pub mod Jxl
+pub mod JxlBoxes
+pub mod JxlGrowth
+pub mod Places

@@ -6,7 +6,7 @@ use Rattle.std.proofs.lemmas.List.{drop_all, append-nil}
 use Rattle.imagesize_source.specs.declared.error.ImageError.{ImageError}
 use Rattle.imagesize_source.specs.Input.{part, span_at, span_of}
 use Rattle.imagesize_source.specs.Reading.{Reads, bytes_at, bytes_read, part_read, end_of_input}
-use Rattle.imagesize_source.specs.Layout.{Layout, over, there}
+use Rattle.imagesize_source.specs.Layout.{over, there}
 use Rattle.imagesize_source.specs.Layout.Layout.{«done»}
 use Rattle.imagesize_source.specs.State.{State, Runs, Sound}
 use Rattle.imagesize_source.proofs.Layouts.{runs_as}

@@ -1,5 +1,5 @@
 -- JPEG XL, by ISO/IEC 18181-1 (the codestream) and 18181-2 (the boxes around it).
-use Rattle.std.specs.Prelude.{◌≡◌, ◌<◌, ◌≤◌, min, take, drop, slice_index, Option, None, Some, ℕ, ◌+◌, ◌-◌, ◌*◌, ◌/◌, ◌^◌, ◌==◌, Bool, true, false, List, codes, [], ◌∷◌, ◌++◌, ◌||◌, ◌&&◌, not, length, nat_le, nat_lt, if◌then◌else◌, Result, Ok, Err}
+use Rattle.std.specs.Prelude.{◌<◌, ◌≤◌, min, take, drop, slice_index, Option, None, Some, ℕ, ◌+◌, ◌-◌, ◌*◌, ◌/◌, ◌^◌, ◌==◌, Bool, false, List, codes, [], ◌∷◌, ◌++◌, ◌||◌, ◌&&◌, not, length, nat_le, nat_lt, if◌then◌else◌, Result, Ok, Err}
 use Rattle.std.specs.List.{concat}
 use Rattle.imagesize_boxes.specs.Fields.{Fields, found, bits, after, found_by, field_at, bits_of}
 use Rattle.imagesize_boxes.specs.declared.formats.jxl.boxes.BoxHead.{BoxHead}

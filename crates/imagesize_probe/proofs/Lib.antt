@@ -1,2 +1,3 @@
 -- Lemmas of this crate.
 pub mod Lines
+pub mod Writing

@@ -2,3 +2,4 @@
 pub mod Names
 pub mod Line
 pub mod Status
+pub mod Run

@@ -1,84 +1,64 @@
 //! Prints the type and the size of each image file that is named, or why it has none.
 #![tactic(auto)]
 
-ghost use Rattle.std.specs.Prelude.{◌||◌, IsTrue, IfErr};
+ghost use Rattle.std.specs.Prelude.{◌≡◌, ◌||◌, IsTrue, IfErr, Option, None};
+ghost use Rattle.imagesize_probe.specs.Run.{Files};
 ghost use Rattle.imagesize_source.specs.Reading.{is_fault, is_memory};
 
 mod names;
 mod report;
+mod run;
 
 use imagesize::{ImageError, ImageResult, Reason};
-use std::io::{self, BufReader, BufWriter, Write};
+use run::{Open, exit_code, run};
+use std::io::{self, BufReader, BufWriter, Printer};
 use std::process::ExitCode;
-use std::rt::{Env, Files};
+use std::rt::Files;
 use std::{env, fs};
 
 fn main(rt: HostRuntime) -> ExitCode {
-    match run(&rt) {
-        Ok(status) => ExitCode::from(status),
-        Err(_) => ExitCode::from(1),
-    }
+    ExitCode::from(exit_code(run_arguments(&rt)))
 }
 
-// Probes the files that the arguments name, and answers the program's status.
+// Writes the lines of the names that are the arguments, and returns the program's status.
 //
 // Errors: the arguments could not be read, or standard output failed.
-fn run<R: Env + Files + Print + Eprint + AllocGlobal>(rt: &R) -> io::Result<u8> {
-    let mut names = env::args(rt)?;
-    let _program = names.next();
-    let files = names.len();
-    if files == 0 {
-        // Where standard error fails, the status still says it.
-        let _ = eprintln!(rt; "usage: imagesize_probe FILE...");
-    }
-    let refused = match BufWriter::new(rt.alloc(), io::writer(rt)) {
-        Ok(mut output) => probe_files(rt, names, &mut output)?,
-        // With no memory for a buffer the lines go out in pieces.
-        Err(_) => probe_files(rt, names, &mut io::writer(rt))?,
-    };
-    Ok(report::status(files, refused))
+fn run_arguments(rt: &HostRuntime) -> io::Result<u8> {
+    let mut arguments = env::args(rt)?;
+    let _program = arguments.next();
+    let names: Vec<String> = arguments.collect(rt.alloc())?;
+    let mut output = buffered(rt, 8192);
+    run(&names, &mut Disk { rt }, &mut output, &mut rt.stderr())
 }
 
-// Writes a line for each file, out before the next file is opened, and answers whether one was refused.
-//
-// Errors: those of the writer, at once.
-fn probe_files<R: Files + AllocGlobal, W: Write>(
-    rt: &R,
-    names: env::Args,
-    writer: &mut W,
-) -> io::Result<bool> {
-    let mut refused = false;
-    for name in names {
-        if !probe_file(rt, name.as_str(), writer)? {
-            refused = true;
+// Standard output behind a buffer of so many bytes. Where there is no memory for it, what is written goes out at once.
+fn buffered<R: Print + AllocGlobal>(rt: &R, capacity: usize) -> BufWriter<Printer<'_, R>> {
+    match BufWriter::with_capacity(rt.alloc(), capacity, io::writer(rt)) {
+        Ok(output) => output,
+        Err(_) => BufWriter::with_capacity(rt.alloc(), 0, io::writer(rt)).unwrap(),
+    }
+}
+
+// Opens files.
+#[derive(Drop)]
+struct Disk<'a, R> {
+    rt: &'a R,
+}
+
+impl<R: Files + AllocGlobal> Open for Disk<'_, R> {
+    type Reader = BufReader<R::File>;
+
+    ghost known = { λ _. None };
+
+    fn open(&mut self, name: &str) -> ImageResult<BufReader<R::File>>
+        ensures opens { Unit {0} }
+        ensures keeps { ◌≡◌ {A = Option Files} None None }
+        ensures refuses { IfErr result (λ e. IsTrue (is_fault e || is_memory e)) }
+    {
+        let file = fs::open(self.rt, name)?;
+        match BufReader::new(self.rt.alloc(), file) {
+            Ok(reader) => Ok(reader),
+            Err(_) => Err(ImageError::IoError(Reason::Memory)),
         }
-        writer.flush()?;
-    }
-    Ok(refused)
-}
-
-// Writes the line of a file, and answers whether it was sized.
-fn probe_file<R: Files + AllocGlobal, W: Write>(
-    rt: &R,
-    name: &str,
-    writer: &mut W,
-) -> io::Result<bool> {
-    match open(rt, name) {
-        Ok(reader) => report::report(name, reader, writer),
-        Err(error) => report::write_refusal(name, &error, writer),
     }
 }
-
-// Opens a file behind a buffer.
-fn open<R: Files + AllocGlobal>(rt: &R, name: &str) -> ImageResult<BufReader<R::File>>
-    ensures { IfErr result (λ e. IsTrue (is_fault e || is_memory e)) }
-{
-    let file = fs::open(rt, name)?;
-    match BufReader::new(rt.alloc(), file) {
-        Ok(reader) => Ok(reader),
-        Err(_) => Err(ImageError::IoError(Reason::Memory)),
-    }
-}
-
-#[cfg(test)]
-mod tests;

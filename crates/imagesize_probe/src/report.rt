@@ -9,7 +9,7 @@ use crate::names::TypeName;
 use imagesize::{ImageError, ImageSize, ImageType, Probed, Told, reader_probe};
 use std::io::{self, Write};
 
-/// Writes the line of what a reader holds, `NAME: KIND WxH` or `NAME: error: TEXT`, and answers whether it
+/// Writes the line of what a reader holds, `NAME: KIND WxH` or `NAME: error: TEXT`, and returns whether it
 /// has a size.
 ///
 /// Errors: those of the writer alone, which may then have got a part of the line.
@@ -20,7 +20,7 @@ pub fn report<R: Told, W: Write>(name: &str, mut reader: R, writer: &mut W) -> i
     write_line(name, probed, writer)
 }
 
-// Writes the line of what was found, and answers whether that has a size.
+// Writes the line of what was found, and returns whether that has a size.
 fn write_line<W: Write>(name: &str, probed: Probed, writer: &mut W) -> io::Result<bool>
     ensures line { OnOk result (IfSome (line name.now probed.kind probed.answer)
         (Appends (W.contents writer.old) (W.contents writer.new))) }
@@ -41,7 +41,7 @@ fn write_line<W: Write>(name: &str, probed: Probed, writer: &mut W) -> io::Resul
     }
 }
 
-/// Writes the line of an image's type and size, and answers true.
+/// Writes the line of an image's type and size, and returns true.
 fn write_size<W: Write>(
     name: &str,
     image: ImageType,
@@ -57,7 +57,7 @@ fn write_size<W: Write>(
     Ok(true)
 }
 
-/// Writes the line of a refusal, and answers false.
+/// Writes the line of a refusal, and returns false.
 pub fn write_refusal<W: Write>(name: &str, error: &ImageError, writer: &mut W) -> io::Result<bool>
     ensures line { OnOk result (IfSome (error_text error.now)
         (λ text. Appends (W.contents writer.old) (W.contents writer.new) (refused_line name.now text))) }

@@ -1,9 +1,7 @@
--- What holds of every chain: where a walk stands, locality, counts and extension.
+-- What holds of every chain: locality, counts and extension.
 use Rattle.std.proofs.Common.{◌≡◌, ℕ, zero, suc, ◌+◌, ◌*◌, ◌<◌, ◌≤◌, List, [], ◌∷◌, ◌++◌, length, Some, Result, Ok, Err, refl, sym, ap, ◌∙◌, subst, arith}
 use Rattle.std.proofs.Math.Nat.{mul-add}
-use Rattle.std.proofs.lemmas.List.{length_push}
 use Rattle.imagesize_source.specs.declared.error.ImageError.{ImageError}
-use Rattle.imagesize_source.specs.declared.span.Span.{Span}
 use Rattle.imagesize_source.specs.Agreement.{Agrees, Local}
 use Rattle.imagesize_source.specs.Chain.{Said, Decided, Next, Chain, Along, start, next_record, verdict, records_from, records, chain_from, chain_at, Advances}
 use Rattle.imagesize_source.specs.Counts.{AtMost}
@@ -11,41 +9,12 @@ use Rattle.imagesize_source.specs.Extension.{Plain, Lasts}
 use Rattle.imagesize_source.specs.Reading.{behind}
 use Rattle.imagesize_source.specs.State.{total}
 use Rattle.imagesize_source.proofs.Chains.{chain_next, chain_stop, records_next, records_stop}
-use Rattle.imagesize_source.proofs.Local.{local, agrees-left, agrees-right}
-use Rattle.imagesize_source.proofs.Count.{at_most}
-use Rattle.imagesize_source.proofs.More.{more}
-use Rattle.imagesize_source.proofs.Onward.{behind-behind}
+use Rattle.imagesize_source.proofs.Agreement.{local, agrees-left, agrees-right}
+use Rattle.imagesize_source.proofs.Counts.{at_most}
+use Rattle.imagesize_source.proofs.Extension.{more}
 use Rattle.imagesize_source.proofs.Runs.{total-append}
 
--- A walk has come past some records, to the place of the next, and has read these marks.
-pub record Walked {C X : Type 0} (c : Chain C X) (d : List ℕ) (t : Along C) (marks : List Span) : Type 0 where
-  pub rest : chain_at c d ≡ behind marks (chain_from c d t)
-  pub count : records c d ≡ length t.held + records_from c d t
-
 module _ {C X : Type 0} (c : Chain C X) (d : List ℕ) where
-  -- at the first record
-  pub walked_start : Walked c d (start c) []
-  walked_start = record { rest = refl; count = omega arith }
-
-  -- it goes on by a record that tells the place of the next
-  pub walked_step : {marks : List Span} (t : Along C) (v : C) (place : ℕ) → Advances c d → Walked c d t marks → (next_record c d t).answer ≡ Ok (Next v place) → Walked c d (record { held = t.held ++ v ∷ []; place = place }) (marks ++ (next_record c d t).marks)
-  walked_step {marks} t v place adv w is = record {
-    rest = w.rest ∙ ap (behind marks) (chain_next c d t v place adv is) ∙ behind-behind marks (next_record c d t).marks (chain_from c d (record { held = t.held ++ v ∷ []; place = place }));
-    count = let one = w.count in let two = records_next c d t v place adv is in let three = length_push t.held v in omega arith;
-  }
-
-  -- it ends by one that decides
-  pub walked_stop : {marks : List Span} (t : Along C) (x : X) → Walked c d t marks → (next_record c d t).answer ≡ Ok (Decided x) → chain_at c d ≡ record { answer = Ok x; marks = marks ++ (next_record c d t).marks }
-  walked_stop {marks} t x w is = w.rest ∙ ap (behind marks) (chain_stop c d t (Ok x) (ap verdict is))
-
-  -- or by one that is refused
-  pub walked_out : {marks : List Span} (t : Along C) (e : ImageError) → Walked c d t marks → (next_record c d t).answer ≡ Err e → chain_at c d ≡ record { answer = Err e; marks = marks ++ (next_record c d t).marks }
-  walked_out {marks} t e w is = w.rest ∙ ap (behind marks) (chain_stop c d t (Err e) (ap verdict is))
-
-  -- that record is the last
-  pub walked_count : {marks : List Span} (t : Along C) (r : Result X ImageError) → Walked c d t marks → verdict (next_record c d t).answer ≡ Some r → records c d ≡ length t.held + 1
-  walked_count t r w is = let one = w.count in let two = records_stop c d t r is in omega arith
-
   -- What holds of each record with what follows it, where it tells the place of the next, and of each with
   -- a verdict, holds of the chain from any records on.
   pub chain_induction : (P : Along C → Type 0) → Advances c d

@@ -1,8 +1,6 @@
 -- A chain from some records on is its next record, and the chain from there on.
-use Rattle.std.proofs.Common.{zero-add, get_or, ◌≡◌, ℕ, zero, suc, ◌+◌, ◌<◌, ◌≤◌, Bool, true, false, not, cond, List, [], ◌∷◌, ◌++◌, length, Some, Result, Ok, Err, is_some, refl, sym, ap, ◌∙◌, arith}
+use Rattle.std.proofs.Common.{◌≡◌, ℕ, zero, suc, ◌+◌, ◌<◌, ◌≤◌, Bool, true, false, not, cond, List, [], ◌∷◌, ◌++◌, length, Some, Result, Ok, Err, is_some, refl, sym, ap, ◌∙◌, arith}
 use Rattle.std.proofs.lemmas.List.{append-nil}
-use Rattle.std.proofs.lemmas.List.FromFn.{length-range_with_len, get_or-range_with_len}
-use Rattle.std.proofs.lemmas.List.Sums.{passes_at_first, fails_before_first}
 use Rattle.std.proofs.Math.Numerals.{add-one}
 use Rattle.std.specs.Prelude.{option_and_then, unwrap_or, flat_map}
 use Rattle.std.specs.List.{position_or_len, range_with_len}
@@ -78,21 +76,6 @@ module _ {C X : Type 0} (c : Chain C X) (d : List ℕ) where
   -- the number of records is at most one more than the bytes
   pub records_few : (t : Along C) → Advances c d → records_from c d t ≤ length d + 1
   records_few t adv = let here = found (length d) t adv (omega arith) in let is = deciding-is t in omega arith
-
-  at_index : (k : ℕ) → k < length d + 1 → get_or (range_with_len 0 (length d + 1)) k 0 ≡ k
-  at_index k h = get_or-range_with_len 0 (length d + 1) k 0 h ∙ zero-add k
-
-  -- in a chain that advances there is a deciding record, and none before it has a verdict
-  pub decides : (t : Along C) → Advances c d → (deciding c d t ≤ length d) × (is_some (verdict_of c d t (deciding c d t)) ≡ true) × ((k : ℕ) → k < deciding c d t → is_some (verdict_of c d t k) ≡ false)
-  unfolding deciding
-  decides t adv =
-      let few : deciding c d t < length d + 1 = let n = records_few t adv in omega arith in
-      let long = length-range_with_len 0 (length d + 1) in
-      let p : ℕ → Bool = λ i. is_some (verdict_of c d t i) in (
-        omega arith,
-        ap p (sym (at_index (deciding c d t) few)) ∙ passes_at_first p (range_with_len 0 (length d + 1)) 0 (omega arith),
-        λ k h. ap p (sym (at_index k (omega arith))) ∙ fails_before_first p (range_with_len 0 (length d + 1)) k 0 h,
-      )
 
   deciding_stop : (t : Along C) → is_some (verdict (next_record c d t).answer) ≡ true → deciding c d t ≡ 0
   deciding_stop t h = deciding-is t ∙ position_here (λ i. is_some (verdict_of c d t i)) 0 (length d) h

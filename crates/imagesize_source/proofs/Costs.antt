@@ -8,7 +8,7 @@ use Rattle.imagesize_source.specs.Layout.{Layout, over, bind}
 use Rattle.imagesize_source.specs.Layout.Layout.{«done», refuse, field, reading}
 use Rattle.imagesize_source.specs.Reading.{Reads, Reading, AllOf, PartOf, TextOf, onward, number_at, read_of, most}
 use Rattle.imagesize_source.specs.State.{total}
-use Rattle.imagesize_source.proofs.Count.{total-span_of, total_reading}
+use Rattle.imagesize_source.proofs.Counts.{total-span_of, total_reading}
 use Rattle.imagesize_source.proofs.Runs.{total-append}
 
 -- the bound that goes with an answer

@@ -10,7 +10,7 @@ use Rattle.imagesize_source.specs.Reading.{Reads, is_fault, is_stop, is_memory, 
 use Rattle.imagesize_source.specs.ReaderState.{start_state, Opens}
 use Rattle.imagesize_source.specs.State.{State, Held, Runs, past, total}
 use Rattle.imagesize_source.specs.Telling.{Telling, IsHonest, at_place}
-use Rattle.imagesize_source.proofs.Count.{places_past}
+use Rattle.imagesize_source.proofs.Counts.{places_past}
 
 few_leb : (n : ℕ) → n ≤ 64 → leb (n + 0) 64 ≡ true
 few_leb n h = grind (arith, nat_tests)

@@ -8,7 +8,7 @@ use Rattle.imagesize_source.specs.Layout.{Layout, over, bind}
 use Rattle.imagesize_source.specs.Reading.{Reads, and_then, onward, behind, gives, stopped, faulted}
 use Rattle.imagesize_source.specs.State.{State, Runs, EndedBy, Sound, total, past}
 use Rattle.imagesize_source.proofs.Chains.{chain_unfolds, follows}
-use Rattle.imagesize_source.proofs.Onward.{behind-behind}
+use Rattle.imagesize_source.proofs.Marks.{behind-behind}
 use Rattle.imagesize_source.proofs.Layouts.{over-bind}
 use Rattle.imagesize_source.proofs.Runs.{past-past, past-held, total-append, runs_then, runs_refused}
 

@@ -3,10 +3,10 @@ use Rattle.std.proofs.Common.{◌≡◌, ℕ, ◌-◌, ◌^◌, ◌<◌, ◌≤�
 use Rattle.std.proofs.lemmas.List.{length-append, length-take, length-drop, drop_all, take_all, take_min}
 use Rattle.std.proofs.Math.Seq.{take-append_seam}
 use Rattle.imagesize_source.specs.declared.span.Span.{Span}
-use Rattle.imagesize_source.specs.Input.{part, span_of}
+use Rattle.imagesize_source.specs.Input.{part}
 use Rattle.imagesize_source.specs.Reading.{Reads, part_read, text_part, text_read}
 use Rattle.imagesize_source.specs.Text.{text_front}
-use Rattle.imagesize_source.proofs.Count.{text_length}
+use Rattle.imagesize_source.proofs.Counts.{text_length}
 use Rattle.imagesize_source.proofs.Runs.{part_length}
 use Rattle.imagesize_source.proofs.Texts.{front_take}
 use Rattle.imagesize_source.specs.declared.text.Text.{Text}

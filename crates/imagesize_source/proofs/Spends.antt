@@ -1,15 +1,15 @@
 -- Readings that go forward spend the bytes of an input, each byte once.
-use Rattle.std.proofs.Common.{◌≡◌, ℕ, ◌+◌, ◌-◌, ◌≤◌, min, List, [], ◌∷◌, ◌++◌, length, Option, None, Some, Result, Ok, Err, refl, sym, ap, ◌∙◌, subst, arith}
+use Rattle.std.proofs.Common.{◌≡◌, ℕ, ◌+◌, ◌-◌, ◌≤◌, List, [], ◌∷◌, ◌++◌, length, Option, None, Some, Result, Ok, Err, refl, ap, ◌∙◌, arith}
 use Rattle.imagesize_source.specs.declared.error.ImageError.{ImageError}
 use Rattle.imagesize_source.specs.declared.span.Span.{Span}
 use Rattle.imagesize_source.specs.Chain.{Said, Decided, Next, Chain, Along, start, next_record, verdict, chain_from, chain_at, Advances}
-use Rattle.imagesize_source.specs.Input.{span_at, span_of}
+use Rattle.imagesize_source.specs.Input.{span_of}
 use Rattle.imagesize_source.specs.Layout.{Layout, done, refuse, field, reading, over}
 use Rattle.imagesize_source.specs.Reading.{Reads, Reading, AllOf, PartOf, TextOf, onward, and_then, number_at, read_of, text_part}
 use Rattle.imagesize_source.specs.State.{total}
 use Rattle.imagesize_source.proofs.ChainLaws.{chain_induction}
 use Rattle.imagesize_source.proofs.Chains.{chain_next, chain_stop}
-use Rattle.imagesize_source.proofs.Count.{text_length, total-span_at, total_behind}
+use Rattle.imagesize_source.proofs.Counts.{text_length, total-span_at, total_there}
 use Rattle.imagesize_source.proofs.Runs.{part_is, part_length, total-append}
 
 -- how many of n bytes are left from a place on, or none where nothing goes on
@@ -50,14 +50,14 @@ not_before_left n q (Some place) h = omega arith
 
 -- a reading has no more bytes than there are behind its place
 reading_left : (d : List ℕ) (r : Reading) (place : ℕ) → total (read_of d r place).marks ≤ length d - place
-reading_left d (AllOf k) place = omega (arith, total_behind d place k)
-reading_left d (PartOf k) place = omega (arith, total_behind d place k)
+reading_left d (AllOf k) place = omega (arith, total_there d place k)
+reading_left d (PartOf k) place = omega (arith, total_there d place k)
 reading_left d (TextOf t k) place = omega (arith, total-span_at place (length (text_part d t place k)), text_length d t place k, part_length d place k)
 
 -- and leaves those behind them
 reading_spends : (d : List ℕ) (r : Reading) (place : ℕ) (bs : List ℕ) → (read_of d r place).answer ≡ Ok bs → total (read_of d r place).marks + (length d - (place + passed r bs)) ≤ length d - place
-reading_spends d (AllOf k) place bs is = omega (arith, total_behind d place k)
-reading_spends d (PartOf k) place bs is = omega (arith, total_behind d place k)
+reading_spends d (AllOf k) place bs is = omega (arith, total_there d place k)
+reading_spends d (PartOf k) place bs is = omega (arith, total_there d place k)
 reading_spends d (TextOf t k) place bs is = omega (arith, ap length (part_is is), total-span_at place (length (text_part d t place k)), text_length d t place k, part_length d place k)
 
 onward_spends : {X Y : Type 0} (n q : ℕ) (to : Y → Option ℕ) (spans : List Span) (r : Result X ImageError) (f : X → Reads Y) (next : X → ℕ) → total spans ≤ n - q → ((x : X) → r ≡ Ok x → total spans + (n - next x) ≤ n - q) → ((x : X) → r ≡ Ok x → Spends n (next x) to (f x)) → Spends n q to (onward spans r f)
@@ -70,7 +70,7 @@ spends d to q (done x) h = omega (arith, not_before_left (length d) q (to x) h)
 spends d to q (refuse e) h = omega arith
 spends d to q (field order place k f) h =
     onward_spends (length d) q to (span_of d place k) (number_at d order place k) (λ v. over d (f v)) (λ _. place + k)
-    (omega (arith, h.0, total_behind d place k)) (λ v _. omega (arith, h.0, total_behind d place k)) (λ v _. spends d to (place + k) (f v) (h.1 v))
+    (omega (arith, h.0, total_there d place k)) (λ v _. omega (arith, h.0, total_there d place k)) (λ v _. spends d to (place + k) (f v) (h.1 v))
 spends d to q (reading r place f) h =
     onward_spends (length d) q to (read_of d r place).marks (read_of d r place).answer (λ bs. over d (f bs)) (λ bs. place + passed r bs)
     (omega (arith, h.0, reading_left d r place)) (λ bs is. omega (arith, h.0, reading_spends d r place bs is)) (λ bs _. spends d to (place + passed r bs) (f bs) (h.1 bs))

@@ -1,5 +1,5 @@
 -- A text that is read byte by byte: its readings are one, and it takes none behind it.
-use Rattle.std.proofs.Common.{◌≡◌, ℕ, zero, suc, ◌+◌, ◌-◌, ◌^◌, ◌<◌, ◌≤◌, min, max, Bool, true, false, ◌||◌, not, cond, List, [], ◌∷◌, ◌++◌, length, take, drop, slice_index, Option, None, Result, Ok, Err, inl, inr, refl, sym, ap, ◌∙◌, subst, arith, append_assoc, IfErr}
+use Rattle.std.proofs.Common.{◌≡◌, ℕ, zero, suc, ◌+◌, ◌-◌, ◌^◌, ◌<◌, ◌≤◌, min, max, Bool, true, false, ◌||◌, not, cond, List, [], ◌∷◌, ◌++◌, length, take, drop, slice_index, Option, None, Ok, Err, inl, inr, refl, sym, ap, ◌∙◌, subst, arith, append_assoc}
 use Rattle.std.proofs.Math.Nat.{add-zero}
 use Rattle.std.proofs.lemmas.Bool.{cases_lt}
 use Rattle.std.proofs.lemmas.Bool.Decides.{nat_tests}
@@ -13,16 +13,16 @@ use Rattle.imagesize_source.specs.declared.text.Text.{Text}
 use Rattle.imagesize_source.specs.declared.text.Text.TheVariants.{Line, Word}
 use Rattle.imagesize_source.specs.Input.{part, span_at, span_of}
 use Rattle.imagesize_source.specs.Paying.{Paid}
-use Rattle.imagesize_source.specs.Reading.{Reads, part_read, text_part, text_read, stopped, faulted}
-use Rattle.imagesize_source.specs.State.{State, Runs, EndedBy, Sound, total, past, step, fresh, front_after}
+use Rattle.imagesize_source.specs.Reading.{part_read, text_part, text_read}
+use Rattle.imagesize_source.specs.State.{State, Runs, Sound, total, past, step, fresh, front_after}
 use Rattle.imagesize_source.specs.declared.source.progress.Progress.{Progress}
 use Rattle.imagesize_source.specs.ReaderState.{reader_frame, reader_state}
 use Rattle.imagesize_source.specs.Standing.{stand}
 use Rattle.imagesize_source.specs.Telling.{Telling}
 use Rattle.imagesize_source.specs.Text.{delimits, through, text_front, ends}
-use Rattle.imagesize_source.proofs.Count.{total-span_at, total-span_of, total_behind}
+use Rattle.imagesize_source.proofs.Counts.{total-span_at, total-span_of, total_there}
 use Rattle.imagesize_source.proofs.Layouts.{no_part, no_span}
-use Rattle.imagesize_source.proofs.Local.{whole_span}
+use Rattle.imagesize_source.proofs.Agreement.{whole_span}
 use Rattle.imagesize_source.proofs.Runs.{part_is, part_length, past-held}
 use Rattle.imagesize_source.proofs.Windows.{sound_at, told_by}
 use Rattle.imagesize_source.proofs.Texts.{line_front, no_front, through-cons, word_front}
@@ -224,7 +224,7 @@ module _ {a b : State} {t : Text} {place count k : ℕ} {begun : Bool} {got : Li
             let short : length a.held.input < 2 ^ 63 = subst (λ d. length d < 2 ^ 63) (same_input honest) (h.sound (same_honest honest)).1 in
             let some = one_more (part a.held.input (place + count) (k - count)) (omega (arith, part_length a.held.input (place + count) (k - count), there, next_is, short, more)) in
             omega (arith, some, text_long honest, total-span_of b.held.input next 1))
-        | inr beyond ↦ omega (arith, text_long honest, total_behind b.held.input next 1, ap length (same_input honest), beyond)
+        | inr beyond ↦ omega (arith, text_long honest, total_there b.held.input next 1, ap length (same_input honest), beyond)
       ]
 
     module _ (byte : ℕ) (more : count < k) (run : Runs b c (Ok (byte ∷ [])) (part_read b.held.input next 1)) where

@@ -7,9 +7,9 @@ use Rattle.imagesize_source.specs.Layout.{Layout}
 use Rattle.imagesize_source.specs.Reading.{Reads}
 use Rattle.imagesize_source.specs.State.{total}
 use Rattle.imagesize_source.specs.Way.{Way, Fixed, Recorded, Texts, by_way, stated_by}
-use Rattle.imagesize_source.proofs.Count.{at_most}
-use Rattle.imagesize_source.proofs.Local.{local_layout}
-use Rattle.imagesize_source.proofs.More.{more_answer}
+use Rattle.imagesize_source.proofs.Counts.{at_most}
+use Rattle.imagesize_source.proofs.Agreement.{local_layout}
+use Rattle.imagesize_source.proofs.Extension.{more_answer}
 
 -- bytes behind an input change no answer that was given
 abbrev pub AnswersLast : {X : Type 0} → (List ℕ → Reads X) → Type 0

@@ -1,10 +1,10 @@
-//! What each call answers of the worked inputs.
+//! What each call returns of the worked inputs.
 
 use crate::readers::OneByte;
-use crate::rows::{GENERAL_HEIF, Row, read_as, rows};
+use crate::rows::{Row, kinds, read_as, rows};
 use imagesize::{
-    Compression, ImageError, ImageResult, ImageSize, ImageType, Probed, blob_size, image_type,
-    reader_probe, reader_size, reader_type,
+    ImageError, ImageResult, ImageSize, ImageType, Probed, blob_size, image_type, reader_probe,
+    reader_size, reader_type,
 };
 use std::alloc::{AllocError, Global};
 use std::fmt::Display;
@@ -87,19 +87,50 @@ fn one_byte_a_read_changes_no_answer(rt: HostRuntime) -> Result<(), Fail> {
 }
 
 #[test]
-fn an_icon_with_the_footer_of_a_tga_is_an_icon(rt: HostRuntime) -> Result<(), Fail> {
-    let bytes = b"\0\0\x01\0\x01\0\x20\x20\0\0\0\0TRUEVISION-XFILE.\0";
-    assert_eq!(rt; image_type(bytes)?, ImageType::Ico);
-    assert_eq!(rt; reader_type(Cursor::new(bytes.as_slice()))?, ImageType::Ico);
+fn the_first_bytes_tell_the_kind(rt: HostRuntime) -> Result<(), Fail> {
+    for row in kinds() {
+        let shows = row.shows;
+        assert_eq!(rt; image_type(row.bytes)?, row.kind, "{shows}");
+        assert_eq!(rt; reader_type(Cursor::new(row.bytes))?, row.kind, "{shows}");
+        let reader = OneByte {
+            reader: Cursor::new(row.bytes),
+        };
+        assert_eq!(rt; reader_type(reader)?, row.kind, "{shows}");
+    }
     Ok(())
 }
 
+// An input with other bytes behind it.
+fn followed(alloc: Global, bytes: &[u8], behind: &[u8]) -> Result<Vec<u8>, AllocError> {
+    let mut all = Vec::new(alloc);
+    all.extend_from_slice(bytes)?;
+    all.extend_from_slice(behind)?;
+    Ok(all)
+}
+
+// Whether bytes that follow may change a size of this type.
+fn may_change(kind: Option<ImageType>) -> bool {
+    matches!(
+        kind,
+        Some(ImageType::Heif(_) | ImageType::Ico | ImageType::Tga)
+    )
+}
+
 #[test]
-fn a_general_brand_asks_its_compatible_brands(rt: HostRuntime) -> Result<(), Fail> {
-    assert_eq!(rt;
-        image_type(GENERAL_HEIF)?,
-        ImageType::Heif(Compression::Hevc)
-    );
+fn bytes_that_follow_change_no_size(rt: HostRuntime) -> Result<(), Fail> {
+    let alloc = rt.alloc();
+    for row in rows() {
+        if row.answer.is_ok() && !may_change(row.kind) {
+            for behind in [[0xFF].as_slice(), &[0; 1000]] {
+                let bytes = followed(alloc, row.bytes, behind)?;
+                assert!(rt;
+                    is_answer(alloc, row, &blob_size(bytes.as_slice()))?,
+                    "{}",
+                    row.shows
+                );
+            }
+        }
+    }
     Ok(())
 }
 

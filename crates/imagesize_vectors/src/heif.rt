@@ -3,8 +3,8 @@
 use crate::readers::OneByte;
 use crate::strange::{FAILURES, check_failures};
 use imagesize::{
-    Compression, ImageResult, ImageSize, ImageType, blob_size, image_type, reader_probe,
-    reader_size,
+    Compression, ImageResult, ImageSize, ImageType, Span, blob_size, blob_trace, image_type,
+    reader_probe, reader_size,
 };
 use std::alloc::{AllocError, Global};
 use std::fmt::Display;
@@ -22,6 +22,8 @@ struct Row {
     kind: Compression,
     // Its width and height, or the text of its refusal.
     answer: Result<(usize, usize), &'static str>,
+    // The start and the length of each reading's span.
+    spans: &'static [(u64, u64)],
     // How many bytes are taken of it.
     taken: u64,
 }
@@ -41,6 +43,18 @@ static ROWS: [Row; 10] = [
         bytes: TURNED,
         kind: Compression::Av1,
         answer: Ok((48, 64)),
+        spans: &[
+            (0, 12),
+            (0, 4),
+            (16, 8),
+            (24, 4),
+            (28, 8),
+            (36, 8),
+            (44, 8),
+            (52, 12),
+            (64, 8),
+            (72, 1),
+        ],
         taken: 69,
     },
     Row {
@@ -50,6 +64,17 @@ static ROWS: [Row; 10] = [
             \0\0\0\x14ispe\0\0\0\0\0\0\0\x40\0\0\0\x30\0\0\0\x09irot",
         kind: Compression::Av1,
         answer: Err("failed to fill whole buffer"),
+        spans: &[
+            (0, 12),
+            (0, 4),
+            (16, 8),
+            (24, 4),
+            (28, 8),
+            (36, 8),
+            (44, 8),
+            (52, 12),
+            (64, 8),
+        ],
         taken: 68,
     },
     Row {
@@ -59,6 +84,17 @@ static ROWS: [Row; 10] = [
             \0\0\0\x14ispe\0\0\0\0\0\0\0\x40\0\0\0\x30\0\0\0\x09ir",
         kind: Compression::Av1,
         answer: Ok((64, 48)),
+        spans: &[
+            (0, 12),
+            (0, 4),
+            (16, 8),
+            (24, 4),
+            (28, 8),
+            (36, 8),
+            (44, 8),
+            (52, 12),
+            (64, 6),
+        ],
         taken: 66,
     },
     Row {
@@ -66,6 +102,7 @@ static ROWS: [Row; 10] = [
         bytes: b"\0\0\0\x18ftypmif1\0\0\0\0mif1heic",
         kind: Compression::Hevc,
         answer: Err("failed to fill whole buffer"),
+        spans: &[(0, 12), (12, 12), (0, 4)],
         taken: 24,
     },
     Row {
@@ -73,6 +110,7 @@ static ROWS: [Row; 10] = [
         bytes: b"\0\0\0\x0Cftypheic\0\0\0\x07free",
         kind: Compression::Hevc,
         answer: Err("Invalid heif box size: 7"),
+        spans: &[(0, 12), (0, 4), (12, 8)],
         taken: 20,
     },
     Row {
@@ -84,6 +122,19 @@ static ROWS: [Row; 10] = [
             \0\0\0\x09irot\x01",
         kind: Compression::Av1,
         answer: Ok((48, 64)),
+        spans: &[
+            (0, 12),
+            (0, 4),
+            (16, 8),
+            (24, 4),
+            (28, 8),
+            (36, 8),
+            (44, 8),
+            (52, 12),
+            (64, 8),
+            (94, 8),
+            (102, 1),
+        ],
         taken: 77,
     },
     Row {
@@ -93,6 +144,17 @@ static ROWS: [Row; 10] = [
             \0\0\0\x14ispe\0\0\0\0\0\0\0\x40\0\0\0\x30\0\0\0\0mdat",
         kind: Compression::Av1,
         answer: Ok((64, 48)),
+        spans: &[
+            (0, 12),
+            (0, 4),
+            (16, 8),
+            (24, 4),
+            (28, 8),
+            (36, 8),
+            (44, 8),
+            (52, 12),
+            (64, 8),
+        ],
         taken: 68,
     },
     Row {
@@ -102,6 +164,17 @@ static ROWS: [Row; 10] = [
             \0\0\0\x14ispe\0\0\0\0\0\0\0\x40\0\0\0\x30\0\0\0\0free",
         kind: Compression::Av1,
         answer: Err("Hit end of file before finding size"),
+        spans: &[
+            (0, 12),
+            (0, 4),
+            (16, 8),
+            (24, 4),
+            (28, 8),
+            (36, 8),
+            (44, 8),
+            (52, 12),
+            (64, 8),
+        ],
         taken: 68,
     },
     Row {
@@ -111,6 +184,16 @@ static ROWS: [Row; 10] = [
             \0\0\0\x14ispe\0\0\0\0\0\0\0\0\0\0\0\x30",
         kind: Compression::Av1,
         answer: Ok((0, 0)),
+        spans: &[
+            (0, 12),
+            (0, 4),
+            (16, 8),
+            (24, 4),
+            (28, 8),
+            (36, 8),
+            (44, 8),
+            (52, 12),
+        ],
         taken: 60,
     },
     Row {
@@ -118,6 +201,7 @@ static ROWS: [Row; 10] = [
         bytes: EMPTY,
         kind: Compression::Av1,
         answer: Err("Not enough data"),
+        spans: &[(0, 12), (0, 4), (16, 8), (24, 4), (28, 8), (36, 8)],
         taken: 40,
     },
 ];
@@ -220,6 +304,32 @@ fn boxes_have_the_worked_answers(rt: HostRuntime) -> Result<(), Fail> {
         );
         let answer = kind.reader_size(&mut Cursor::new(row.bytes));
         assert!(rt; is_answer(alloc, row.answer, &answer)?, "{shows}");
+    }
+    Ok(())
+}
+
+// Whether spans are the wanted ones.
+fn are_spans(spans: &[Span], wanted: &[(u64, u64)]) -> bool {
+    if spans.len() != wanted.len() {
+        return false;
+    }
+    for (span, (start, len)) in spans.iter().zip(wanted) {
+        if span.start != *start || span.len != *len {
+            return false;
+        }
+    }
+    true
+}
+
+#[test]
+fn boxes_have_the_worked_spans(rt: HostRuntime) -> Result<(), Fail> {
+    let alloc = rt.alloc();
+    for row in &ROWS {
+        let shows = row.shows;
+        let trace = blob_trace(alloc, row.bytes)?;
+        assert_eq!(rt; trace.kind, Some(ImageType::Heif(row.kind)), "{shows}");
+        assert!(rt; is_answer(alloc, row.answer, &trace.answer)?, "{shows}");
+        assert!(rt; are_spans(&trace.spans, row.spans), "{shows}");
     }
     Ok(())
 }

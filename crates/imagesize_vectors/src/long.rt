@@ -1,14 +1,13 @@
-//! What is answered of inputs of many records.
+//! What is returned of inputs of many records.
 
 use crate::readers::OneByte;
-use crate::strange::{FAILURES, check_failures};
-use imagesize::{ImageSize, ImageType, blob_size, reader_size};
+use imagesize::{ImageSize, blob_size, reader_size};
 use std::alloc::{AllocError, Global};
 use std::io::{BufReader, Cursor};
 use std::test::Fail;
 
 // A JPEG of 7 by 5 pixels behind a number of empty segments.
-fn jpeg_behind(alloc: Global, segments: usize) -> Result<Vec<u8>, AllocError> {
+pub fn jpeg_behind(alloc: Global, segments: usize) -> Result<Vec<u8>, AllocError> {
     let mut bytes = Vec::new(alloc);
     bytes.extend_from_slice(b"\xFF\xD8")?;
     for _ in 0..segments {
@@ -18,26 +17,30 @@ fn jpeg_behind(alloc: Global, segments: usize) -> Result<Vec<u8>, AllocError> {
     Ok(bytes)
 }
 
-const JPEG_SIZE: ImageSize = ImageSize {
+pub const JPEG_SIZE: ImageSize = ImageSize {
     width: 7,
     height: 5,
 };
 
-// An icon of a number of entries, the last of which is that of the greatest image.
-fn icon_of(alloc: Global, entries: u16) -> Result<Vec<u8>, AllocError> {
+// An icon of 65,535 images of one pixel, but for that of this number, which is of 16 by 32.
+fn full_icon(alloc: Global, larger: u16) -> Result<Vec<u8>, AllocError> {
     let mut bytes = Vec::new(alloc);
-    bytes.extend_from_slice(b"\0\0\x01\0")?;
-    bytes.extend_from_slice(&entries.to_le_bytes())?;
-    for _ in 1..entries {
-        bytes.extend_from_slice(b"\x10\x10\0\0\0\0\0\0\0\0\0\0\0\0\0\0")?;
+    bytes.extend_from_slice(b"\0\0\x01\0\xFF\xFF")?;
+    for index in 0..u16::MAX {
+        let side = if index == larger {
+            [0x10, 0x20]
+        } else {
+            [0x01, 0x01]
+        };
+        bytes.extend_from_slice(&side)?;
+        bytes.extend_from_slice(&[0; 14])?;
     }
-    bytes.extend_from_slice(b"\x20\x10\0\0\0\0\0\0\0\0\0\0\0\0\0\0")?;
     Ok(bytes)
 }
 
 const ICON_SIZE: ImageSize = ImageSize {
-    width: 32,
-    height: 16,
+    width: 16,
+    height: 32,
 };
 
 #[test]
@@ -58,23 +61,16 @@ fn segments_have_no_greatest_number(rt: HostRuntime) -> Result<(), Fail> {
 
 #[test]
 fn the_greatest_number_of_entries_is_read(rt: HostRuntime) -> Result<(), Fail> {
-    let bytes = icon_of(rt.alloc(), u16::MAX)?;
-    let cursor = || Cursor::new(bytes.as_slice());
-    assert_eq!(rt; blob_size(bytes.as_slice())?, ICON_SIZE);
-    assert_eq!(rt; reader_size(cursor())?, ICON_SIZE);
-    assert_eq!(rt; reader_size(OneByte { reader: cursor() })?, ICON_SIZE);
-    assert_eq!(rt;
-        reader_size(BufReader::new(rt.alloc(), cursor())?)?,
-        ICON_SIZE
-    );
-    Ok(())
-}
-
-#[test]
-fn each_failure_along_the_segments_is_answered(rt: HostRuntime) -> Result<(), Fail> {
-    let bytes = jpeg_behind(rt.alloc(), 100)?;
-    for failure in FAILURES {
-        check_failures(&rt, bytes.as_slice(), ImageType::Jpeg, failure);
+    for larger in [0, 40_000, 65_534] {
+        let bytes = full_icon(rt.alloc(), larger)?;
+        let cursor = || Cursor::new(bytes.as_slice());
+        assert_eq!(rt; blob_size(bytes.as_slice())?, ICON_SIZE);
+        assert_eq!(rt; reader_size(cursor())?, ICON_SIZE);
+        assert_eq!(rt; reader_size(OneByte { reader: cursor() })?, ICON_SIZE);
+        assert_eq!(rt;
+            reader_size(BufReader::new(rt.alloc(), cursor())?)?,
+            ICON_SIZE
+        );
     }
     Ok(())
 }

@@ -1,8 +1,11 @@
 //! Readers that do what few files do.
-ghost use Rattle.std.specs.Prelude.{None, Some};
+ghost use Rattle.std.specs.Prelude.{◌≡◌, ℕ, pos, zero, ◌+◌, ◌-◌, ◌%◌, ◌<◌, ◌≤◌, min, length, slice_get, Option, None, Some, Ok, Err, IfOk, IsErr, true, not};
+ghost use Rattle.std.specs.Io.Cursor.{cursor_inner, cursor_position};
+ghost use Rattle.imagesize_source.specs.Telling.{ReadTells, SeekTells, counted};
+ghost use Rattle.imagesize_vectors.specs.Readers.{may_fail, interrupted_more, halting_telling, StandsAt, StandsAtEnd, failure_at, left_after};
 
 use imagesize::{Stop, Told};
-use std::io::{self, ErrorKind, SeekFrom};
+use std::io::{self, Cursor, ErrorKind, SeekFrom};
 
 /// Gives what another reader gives, one byte a read.
 #[derive(Drop)]
@@ -12,11 +15,16 @@ pub struct OneByte<R: Told> {
 }
 
 impl<R: Told> Told for OneByte<R> {
-    ghost telling = { λ _. None };
+    ghost telling = { λ r. R.telling r.reader };
 
-    ghost count = { λ _. None };
+    ghost count = { λ r. R.count r.reader };
 
-    fn read_told(&mut self, room: &mut [u8]) -> Result<usize, Stop> {
+    fn read_told(&mut self, room: &mut [u8]) -> Result<usize, Stop>
+        ensures bound { IfOk result (λ n. n ≤ length room.new) }
+        ensures told { ReadTells (R.telling self.old.reader) (R.telling self.new.reader) room.new result }
+        ensures counts { R.count self.new.reader ≡ counted (R.count self.old.reader) result }
+        ensures one { IfOk result (λ n. n ≤ 1) }
+    {
         let most = room.len().min(1);
         self.reader.read_told(&mut room[..most])
     }
@@ -36,9 +44,9 @@ pub struct Counting<'a, R: Told> {
 }
 
 impl<R: Told> Told for Counting<'_, R> {
-    ghost telling = { λ _. None };
+    ghost telling = { λ r. may_fail (R.telling r.reader) };
 
-    ghost count = { λ reader. Some reader.count.now };
+    ghost count = { λ r. Some r.count.now };
 
     fn read_told(&mut self, room: &mut [u8]) -> Result<usize, Stop> {
         let given = self.reader.read_told(room)?;
@@ -56,6 +64,40 @@ impl<R: Told> Told for Counting<'_, R> {
     }
 }
 
+/// Gives what another reader gives, and counts its calls.
+#[derive(Drop)]
+pub struct Calls<'a, R: Told> {
+    /// The other reader.
+    pub reader: R,
+    /// How many reads were made, and how many seeks.
+    pub made: &'a mut (u32, u32),
+}
+
+impl<R: Told> Told for Calls<'_, R> {
+    ghost telling = { λ r. R.telling r.reader };
+
+    ghost count = { λ r. R.count r.reader };
+
+    fn read_told(&mut self, room: &mut [u8]) -> Result<usize, Stop>
+        ensures bound { IfOk result (λ n. n ≤ length room.new) }
+        ensures told { ReadTells (R.telling self.old.reader) (R.telling self.new.reader) room.new result }
+        ensures counts { R.count self.new.reader ≡ counted (R.count self.old.reader) result }
+        ensures made { self.new.made.now ≡ (min (self.old.made.now.0 + 1) u32.MAX, self.old.made.now.1) }
+    {
+        self.made.0 = self.made.0.saturating_add(1);
+        self.reader.read_told(room)
+    }
+
+    fn seek_told(&mut self, to: SeekFrom) -> io::Result<u64>
+        ensures told { SeekTells (R.telling self.old.reader) (R.telling self.new.reader) to result }
+        ensures counts { R.count self.new.reader ≡ R.count self.old.reader }
+        ensures made { self.new.made.now ≡ (self.old.made.now.0, min (self.old.made.now.1 + 1) u32.MAX) }
+    {
+        self.made.1 = self.made.1.saturating_add(1);
+        self.reader.seek_told(to)
+    }
+}
+
 /// Gives what another reader gives, when some reads were interrupted.
 #[derive(Drop)]
 pub struct Interrupted<R: Told> {
@@ -63,23 +105,74 @@ pub struct Interrupted<R: Told> {
     pub reader: R,
     /// How many reads are still interrupted.
     pub left: u64,
+    /// What interrupts them.
+    pub error: io::Error,
 }
 
 impl<R: Told> Told for Interrupted<R> {
-    ghost telling = { λ _. None };
+    ghost telling = { λ r. interrupted_more r.left (R.telling r.reader) };
 
-    ghost count = { λ _. None };
+    ghost count = { λ r. R.count r.reader };
 
-    fn read_told(&mut self, room: &mut [u8]) -> Result<usize, Stop> {
+    fn read_told(&mut self, room: &mut [u8]) -> Result<usize, Stop>
+        ensures bound { IfOk result (λ n. n ≤ length room.new) }
+        ensures told { ReadTells (interrupted_more self.old.left (R.telling self.old.reader))
+            (interrupted_more self.new.left (R.telling self.new.reader)) room.new result }
+        ensures counts { R.count self.new.reader ≡ counted (R.count self.old.reader) result }
+        ensures interrupts { 0 < self.old.left → result ≡ Err (Stop.Interrupted self.old.error) }
+    {
         if self.left > 0 {
             self.left -= 1;
-            return Err(Stop::from(io::Error::from(ErrorKind::Interrupted)));
+            return Err(Stop::Interrupted(self.error));
         }
         self.reader.read_told(room)
     }
 
     fn seek_told(&mut self, to: SeekFrom) -> io::Result<u64> {
         self.reader.seek_told(to)
+    }
+}
+
+/// A cursor of which every second read is interrupted, until the last interruption.
+#[derive(Drop)]
+pub struct Halting<'a> {
+    /// The cursor.
+    pub cursor: Cursor<&'a [u8]>,
+    /// How many reads are still interrupted.
+    pub left: u64,
+    /// What interrupts them.
+    pub error: io::Error,
+    /// Whether the next read is interrupted.
+    pub halts: bool,
+}
+
+impl Told for Halting<'_> {
+    ghost telling = { λ r. halting_telling (cursor_inner r.cursor).now (cursor_position r.cursor) r.left };
+
+    ghost count = { λ _. None };
+
+    fn read_told(&mut self, room: &mut [u8]) -> Result<usize, Stop>
+        ensures bound { IfOk result (λ n. n ≤ length room.new) }
+        ensures told { ReadTells (halting_telling (cursor_inner self.old.cursor).now (cursor_position self.old.cursor) self.old.left)
+            (halting_telling (cursor_inner self.new.cursor).now (cursor_position self.new.cursor) self.new.left) room.new result }
+        ensures counts { ◌≡◌ {A = Option ℕ} None (counted None result) }
+        ensures interrupts { 0 < self.old.left → self.old.halts ≡ true → result ≡ Err (Stop.Interrupted self.old.error) }
+        ensures turns { 0 < self.old.left → self.new.halts ≡ not self.old.halts }
+    {
+        if self.left == 0 {
+            return self.cursor.read_told(room);
+        }
+        let halts = self.halts;
+        self.halts = !halts;
+        if halts {
+            self.left -= 1;
+            return Err(Stop::Interrupted(self.error));
+        }
+        self.cursor.read_told(room)
+    }
+
+    fn seek_told(&mut self, to: SeekFrom) -> io::Result<u64> {
+        self.cursor.seek_told(to)
     }
 }
 
@@ -90,18 +183,21 @@ pub struct Failing<R: Told> {
     pub reader: R,
     /// How many reads and seeks do not fail before one does; None where it has failed.
     pub left: Option<u64>,
-    /// The kind of the failure.
-    pub kind: ErrorKind,
+    /// Why it fails.
+    pub error: io::Error,
 }
 
 impl<R: Told> Failing<R> {
     // The failure, where it is its turn.
-    fn step(&mut self) -> io::Result<()> {
+    fn step(&mut self) -> io::Result<()>
+        ensures fails { result ≡ failure_at self.old.left self.old.error }
+        ensures keeps { self.new ≡ record self.old { left = left_after self.old.left } }
+    {
         match self.left {
             None => Ok(()),
             Some(0) => {
                 self.left = None;
-                Err(io::Error::from(self.kind))
+                Err(self.error)
             }
             Some(left) => {
                 self.left = Some(left - 1);
@@ -112,16 +208,27 @@ impl<R: Told> Failing<R> {
 }
 
 impl<R: Told> Told for Failing<R> {
-    ghost telling = { λ _. None };
+    ghost telling = { λ r. may_fail (R.telling r.reader) };
 
-    ghost count = { λ _. None };
+    ghost count = { λ r. R.count r.reader };
 
-    fn read_told(&mut self, room: &mut [u8]) -> Result<usize, Stop> {
-        self.step()?;
-        self.reader.read_told(room)
+    fn read_told(&mut self, room: &mut [u8]) -> Result<usize, Stop>
+        ensures bound { IfOk result (λ n. n ≤ length room.new) }
+        ensures told { ReadTells (may_fail (R.telling self.old.reader)) (may_fail (R.telling self.new.reader)) room.new result }
+        ensures counts { R.count self.new.reader ≡ counted (R.count self.old.reader) result }
+        ensures fails { self.old.left ≡ Some 0 → result ≡ Err (Stop.Fault self.old.error) }
+    {
+        match self.step() {
+            Ok(()) => self.reader.read_told(room),
+            Err(error) => Err(Stop::Fault(error)),
+        }
     }
 
-    fn seek_told(&mut self, to: SeekFrom) -> io::Result<u64> {
+    fn seek_told(&mut self, to: SeekFrom) -> io::Result<u64>
+        ensures told { SeekTells (may_fail (R.telling self.old.reader)) (may_fail (R.telling self.new.reader)) to result }
+        ensures counts { R.count self.new.reader ≡ R.count self.old.reader }
+        ensures fails { self.old.left ≡ Some 0 → result ≡ Err self.old.error }
+    {
         self.step()?;
         self.reader.seek_told(to)
     }
@@ -139,58 +246,114 @@ pub struct Claiming<R: Told> {
 impl<R: Told> Told for Claiming<R> {
     ghost telling = { λ _. None };
 
-    ghost count = { λ _. None };
+    ghost count = { λ r. R.count r.reader };
 
     fn read_told(&mut self, room: &mut [u8]) -> Result<usize, Stop> {
         self.reader.read_told(room)
     }
 
-    fn seek_told(&mut self, to: SeekFrom) -> io::Result<u64> {
-        let to = match to {
-            SeekFrom::End(0) => SeekFrom::Start(self.told),
-            other => other,
-        };
-        self.reader.seek_told(to)
-    }
-}
-
-/// A JPEG of empty segments without end, which goes wherever it is asked to go.
-#[derive(Drop)]
-pub struct EndlessSegments {
-    /// Where it stands.
-    pub place: u64,
-}
-
-impl EndlessSegments {
-    // The byte at a place.
-    fn byte_at(place: u64) -> u8 {
-        match place {
-            0 => 0xFF,
-            1 => 0xD8,
-            _ => match place % 4 {
-                2 => 0xFF,
-                3 => 0xE0,
-                0 => 0,
-                _ => 2,
-            },
+    fn seek_told(&mut self, to: SeekFrom) -> io::Result<u64>
+        ensures told { SeekTells None None to result }
+        ensures counts { R.count self.new.reader ≡ R.count self.old.reader }
+        ensures claims { to ≡ SeekFrom.End (pos zero) → IfOk result (λ place. place ≡ self.old.told) }
+        ensures stands { to ≡ SeekFrom.End (pos zero) → IfOk result (λ place.
+            StandsAt (R.telling self.old.reader) (R.telling self.new.reader) self.old.told) }
+    {
+        match to {
+            SeekFrom::End(0) => {
+                self.reader.seek_told(SeekFrom::Start(self.told))?;
+                Ok(self.told)
+            }
+            other => self.reader.seek_told(other),
         }
     }
 }
 
-impl Told for EndlessSegments {
+/// Gives what another reader gives, and tells a length of its own when it has gone to the other's end.
+#[derive(Drop)]
+pub struct Elsewhere<R: Told> {
+    /// The other reader.
+    pub reader: R,
+    /// The length that it tells.
+    pub told: u64,
+}
+
+impl<R: Told> Told for Elsewhere<R> {
+    ghost telling = { λ _. None };
+
+    ghost count = { λ r. R.count r.reader };
+
+    fn read_told(&mut self, room: &mut [u8]) -> Result<usize, Stop> {
+        self.reader.read_told(room)
+    }
+
+    fn seek_told(&mut self, to: SeekFrom) -> io::Result<u64>
+        ensures told { SeekTells None None to result }
+        ensures counts { R.count self.new.reader ≡ R.count self.old.reader }
+        ensures claims { to ≡ SeekFrom.End (pos zero) → IfOk result (λ place. place ≡ self.old.told) }
+        ensures stands { to ≡ SeekFrom.End (pos zero) → IfOk result (λ place.
+            StandsAtEnd (R.telling self.old.reader) (R.telling self.new.reader)) }
+    {
+        let place = self.reader.seek_told(to)?;
+        match to {
+            SeekFrom::End(0) => Ok(self.told),
+            _ => Ok(place),
+        }
+    }
+}
+
+/// Bytes without end: a head, and then a part over and over. It goes wherever it is asked to go.
+#[derive(Drop)]
+pub struct Endless<'a> {
+    /// The first bytes.
+    pub head: &'a [u8],
+    /// The bytes behind them, which repeat; zeros where there are none.
+    pub part: &'a [u8],
+    /// Where it stands.
+    pub place: u64,
+}
+
+impl Endless<'_> {
+    // The byte at a place.
+    fn byte_at(&self, place: u64) -> u8
+        ensures head { place < length self.now.head.now → slice_get self.now.head.now place ≡ Some result }
+        ensures part { length self.now.head.now ≤ place → 0 < length self.now.part.now →
+            slice_get self.now.part.now ((place - length self.now.head.now) % length self.now.part.now) ≡ Some result }
+    {
+        let head = self.head.len() as u64;
+        if place < head {
+            return self.head[place as usize];
+        }
+        match (place - head).checked_rem(self.part.len() as u64) {
+            Some(index) => self.part[index as usize],
+            None => 0,
+        }
+    }
+}
+
+impl Told for Endless<'_> {
     ghost telling = { λ _. None };
 
     ghost count = { λ _. None };
 
-    fn read_told(&mut self, room: &mut [u8]) -> Result<usize, Stop> {
+    fn read_told(&mut self, room: &mut [u8]) -> Result<usize, Stop>
+        ensures bound { IfOk result (λ n. n ≤ length room.new) }
+        ensures told { ReadTells None None room.new result }
+        ensures counts { ◌≡◌ {A = Option ℕ} None (counted None result) }
+        ensures fills { result ≡ Ok (length room.new) }
+    {
         for byte in room.iter_mut() {
-            *byte = EndlessSegments::byte_at(self.place);
+            *byte = self.byte_at(self.place);
             self.place = self.place.wrapping_add(1);
         }
         Ok(room.len())
     }
 
-    fn seek_told(&mut self, to: SeekFrom) -> io::Result<u64> {
+    fn seek_told(&mut self, to: SeekFrom) -> io::Result<u64>
+        ensures told { SeekTells None None to result }
+        ensures counts { ◌≡◌ {A = Option ℕ} None None }
+        ensures goes { (place : ℕ) → to ≡ SeekFrom.Start place → (result ≡ Ok place) × (self.new.place ≡ place) }
+    {
         match to {
             SeekFrom::Start(place) => {
                 self.place = place;

@@ -1,8 +1,10 @@
 //! Worked inputs with their answers.
 
-use imagesize::{AtcCompression, DdsCompression, ImageType, PkmCompression, PvrtcCompression};
+use imagesize::{
+    AtcCompression, Compression, DdsCompression, ImageType, PkmCompression, PvrtcCompression,
+};
 
-/// An input, and what is answered of it.
+/// An input, and what is returned of it.
 #[derive(Clone, Copy)]
 pub struct Row {
     /// What it shows.
@@ -13,6 +15,17 @@ pub struct Row {
     pub kind: Option<ImageType>,
     /// Its width and height, or the text of its refusal.
     pub answer: Result<(usize, usize), &'static str>,
+}
+
+/// An input whose type is known by its first bytes.
+#[derive(Clone, Copy)]
+pub struct Kind {
+    /// What it shows.
+    pub shows: &'static str,
+    /// Its bytes.
+    pub bytes: &'static [u8],
+    /// Its type.
+    pub kind: ImageType,
 }
 
 /// A GIF of 100 by 100 pixels.
@@ -51,7 +64,7 @@ pub const NESTED_JPEG: &[u8] =
 pub const ICON: &[u8] = b"\0\0\x01\0\x03\0\x10 \0\0\0\0\0\0\0\0\0\0\0\0\0\0 \x10";
 
 // Inputs with a size, and inputs that have none.
-static ROWS: [Row; 36] = [
+static ROWS: [Row; 54] = [
     Row {
         shows: "a GIF",
         bytes: GIF,
@@ -272,10 +285,123 @@ static ROWS: [Row; 36] = [
         kind: Some(ImageType::Ico),
         answer: Ok((64, 64)),
     },
+    Row {
+        shows: "an Aseprite",
+        bytes: b"\0\0\0\0\xE0\xA5\x01\0\x07\0\x05\x01",
+        kind: Some(ImageType::Aseprite),
+        answer: Ok((7, 261)),
+    },
+    Row {
+        shows: "an ASTC texture",
+        bytes: b"\x13\xAB\xA1\\\x06\x06\x01\x05\x01\0\x07\0\0",
+        kind: Some(ImageType::Astc),
+        answer: Ok((261, 7)),
+    },
+    Row {
+        shows: "an ASTC texture of the other magic number",
+        bytes: b"\x13\xAB\xA0\\\x06\x06\x01\x05\0\0\x07\0\0",
+        kind: Some(ImageType::Astc),
+        answer: Ok((5, 7)),
+    },
+    Row {
+        shows: "a farbfeld",
+        bytes: b"farbfeld\0\0\0\x05\0\0\x01\x07",
+        kind: Some(ImageType::Farbfeld),
+        answer: Ok((5, 263)),
+    },
+    Row {
+        shows: "a PSD",
+        bytes: b"8BPS\0\x01\0\0\0\0\0\0\0\x03\0\0\0\x05\0\0\0\x07",
+        kind: Some(ImageType::Psd),
+        answer: Ok((7, 5)),
+    },
+    Row {
+        shows: "a VTF",
+        bytes: b"VTF\0\x07\0\0\0\x02\0\0\0P\0\0\0\x05\0\x07\0",
+        kind: Some(ImageType::Vtf),
+        answer: Ok((5, 7)),
+    },
+    Row {
+        shows: "a KTX2",
+        bytes: b"\xABKTX 20\xBB\r\n\x1A\n\0\0\0\0\0\0\0\0\x05\0\0\0\x07\0\0\0",
+        kind: Some(ImageType::Ktx2),
+        answer: Ok((5, 7)),
+    },
+    Row {
+        shows: "an EAC texture",
+        bytes: b"PKM 20\x16\t\0\x08\0\x08\0\x05\0\x07",
+        kind: Some(ImageType::Eac(PkmCompression::EacRSigned)),
+        answer: Ok((5, 7)),
+    },
+    Row {
+        shows: "a DDS that is cut before its format for DirectX 10",
+        bytes: b"DDS \0\0\0\0\0\0\0\0\x04\0\0\0\x08\0\0\0\0\0\0\0\0\0\0\0\0\0\0\0\0\0\0\
+            \0\0\0\0\0\0\0\0\0\0\0\0\0\0\0\0\0\0\0\0\0\0\0\0\0\0\0\0\0\0\0\0\0\0\0\
+            \0\0\0\0\0\0\0\0\0\0\0\0\0\0DX10\0\0\0\0\0\0\0\0\0\0\0\0\0\0\0\0\0\0\0\
+            \0\0\0\0\0\0\0\0\0\0\0\0\0\0\0\0\0\0\0\0\0b\0\0",
+        kind: Some(ImageType::Dds(DdsCompression::Unknown)),
+        answer: Ok((8, 4)),
+    },
+    Row {
+        shows: "a DDS of a block by its code",
+        bytes: b"DDS \0\0\0\0\0\0\0\0\0\0\0\0\0\0\0\0\0\0\0\0\0\0\0\0\0\0\0\0\0\0\0\0\0\
+            \0\0\0\0\0\0\0\0\0\0\0\0\0\0\0\0\0\0\0\0\0\0\0\0\0\0\0\0\0\0\0\0\0\0\0\
+            \0\0\0\0\0\0\0\0\0\0\0\0ATI2",
+        kind: Some(ImageType::Dds(DdsCompression::Bc5)),
+        answer: Ok((0, 0)),
+    },
+    Row {
+        shows: "a PVR of the older version",
+        bytes: b"4\0\0\0\x05\0\0\0\x07\0\0\0",
+        kind: Some(ImageType::Pvrtc(PvrtcCompression::Unknown)),
+        answer: Ok((7, 5)),
+    },
+    Row {
+        shows: "a TGA with a footer",
+        bytes: b"\0\0\x02\0\0\0\0\0\0\0\0\0\x03\0\x04\0\x07\0TRUEVISION-XFILE.\0",
+        kind: Some(ImageType::Tga),
+        answer: Ok((3, 4)),
+    },
+    Row {
+        shows: "a TGA whose footer tells what its header does not",
+        bytes: b"\0\0\t\0\0\0\0\0\0\0\0\0\x03\0\x04\0\x18\x10TRUEVISION-XFILE.\0",
+        kind: Some(ImageType::Tga),
+        answer: Ok((3, 4)),
+    },
+    Row {
+        shows: "a TGA whose footer is not its end",
+        bytes: b"\0\0\x02\0\0\0\0\0\0\0\0\0\x03\0\x04\0\x07\0TRUEVISION-XFILE.\0\0",
+        kind: None,
+        answer: Err("Could not decode image"),
+    },
+    Row {
+        shows: "a TGA that lacks its colour map",
+        bytes: b"\x01\0\x01\0\0\0\0\0\0\0\0\0\x03\0\x04\0\x18\0",
+        kind: None,
+        answer: Err("Could not decode image"),
+    },
+    Row {
+        shows: "a portable map of another kind",
+        bytes: b"P7 1 1 1 1 1 1",
+        kind: None,
+        answer: Err("Could not decode image"),
+    },
+    Row {
+        shows: "a GIF that lacks its last byte",
+        bytes: b"GIF89ad\0d\0\0",
+        kind: None,
+        answer: Err("failed to fill whole buffer"),
+    },
+    Row {
+        shows: "a JPEG that ends before a frame",
+        bytes: b"\xFF\xD8\xFF\xE0\0\x02\xFF\xE1\0\x02\xFF\xE2\0\x02",
+        kind: Some(ImageType::Jpeg),
+        answer: Err("failed to fill whole buffer"),
+    },
 ];
 
 // Inputs that are read as the type beside them, of which they need not be.
-static READ_AS: [Row; 4] = [
+static READ_AS: [Row; 6] = [
     Row {
         shows: "a WebP as a WebP",
         bytes: LOSSY_WEBP,
@@ -300,6 +426,52 @@ static READ_AS: [Row; 4] = [
         kind: Some(ImageType::Atc(AtcCompression::Unknown)),
         answer: Ok((100, 6578489)),
     },
+    Row {
+        shows: "an icon of which no entry is whole",
+        bytes: b"\0\0\x01\0\x01\0\x10",
+        kind: Some(ImageType::Ico),
+        answer: Err("Hit end of file before finding size"),
+    },
+    Row {
+        shows: "an icon that is cut within its count",
+        bytes: b"\0\0\x01\0\x01",
+        kind: Some(ImageType::Ico),
+        answer: Err("failed to fill whole buffer"),
+    },
+];
+
+// Inputs by their types alone.
+static KINDS: [Kind; 6] = [
+    Kind {
+        shows: "a HEIF of a general brand beside that of HEVC",
+        bytes: GENERAL_HEIF,
+        kind: ImageType::Heif(Compression::Hevc),
+    },
+    Kind {
+        shows: "a HEIF of a general brand beside that of AV1",
+        bytes: b"\0\0\0\x18ftypmif1\0\0\0\0avifheic",
+        kind: ImageType::Heif(Compression::Av1),
+    },
+    Kind {
+        shows: "a HEIF of a general brand beside one that is cut",
+        bytes: b"\0\0\0\x18ftypmif1\0\0\0\0mif1hei",
+        kind: ImageType::Heif(Compression::Unknown),
+    },
+    Kind {
+        shows: "a HEIF of JPEG",
+        bytes: b"\0\0\0\x18ftypjpeg",
+        kind: ImageType::Heif(Compression::Jpeg),
+    },
+    Kind {
+        shows: "a HEIF of another brand",
+        bytes: b"\0\0\0\x18ftypisom",
+        kind: ImageType::Heif(Compression::Unknown),
+    },
+    Kind {
+        shows: "a PKM of no known format",
+        bytes: b"PKM 20\x16\x0C\0\0\0\0",
+        kind: ImageType::Etc2(PkmCompression::Unknown),
+    },
 ];
 
 /// Inputs with a size, and inputs that have none.
@@ -310,4 +482,9 @@ pub fn rows() -> &'static [Row] {
 /// Inputs that are read as the type beside them, of which they need not be.
 pub fn read_as() -> &'static [Row] {
     &READ_AS
+}
+
+/// Inputs by their types alone.
+pub fn kinds() -> &'static [Kind] {
+    &KINDS
 }

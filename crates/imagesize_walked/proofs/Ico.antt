@@ -24,8 +24,8 @@ use Rattle.imagesize_source.proofs.Advances.{Tells, Begins, advances, tells}
 use Rattle.imagesize_source.proofs.Ahead.{Ahead, chain_ahead}
 use Rattle.imagesize_source.proofs.ChainLaws.{local_chain, chain_cost, chain_induction}
 use Rattle.imagesize_source.proofs.Chains.{records_next, records_stop}
-use Rattle.imagesize_source.proofs.Count.{then_within, total-span_of}
-use Rattle.imagesize_source.proofs.Local.{local_then, local_number}
+use Rattle.imagesize_source.proofs.Counts.{then_within, total-span_of}
+use Rattle.imagesize_source.proofs.Agreement.{local_then, local_number}
 use Rattle.imagesize_source.proofs.Reached.{runs_bind, refused_bind}
 use Rattle.imagesize_source.proofs.Runs.{total-append}
 use Rattle.imagesize_source.proofs.Tests.{on_test}

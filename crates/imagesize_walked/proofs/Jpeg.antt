@@ -17,11 +17,11 @@ use Rattle.imagesize_source.specs.Layout.{Layout, over, refuse, done}
 use Rattle.imagesize_source.specs.Reading.{Reads, behind, bytes_at, number_at, end_of_input}
 use Rattle.imagesize_source.specs.State.{State, Runs, total}
 use Rattle.imagesize_source.proofs.Advances.{Tells, advances, tells}
-use Rattle.imagesize_source.proofs.Beyond.{bytes_beyond}
+use Rattle.imagesize_source.proofs.PastTheEnd.{bytes_beyond}
 use Rattle.imagesize_source.proofs.ChainLaws.{local_chain, lasts_chain, chain_cost, chain_within}
-use Rattle.imagesize_source.proofs.Count.{at_most, total-span_of}
-use Rattle.imagesize_source.proofs.Found.{bytes_is, part_first, big_pair, on_answer}
-use Rattle.imagesize_source.proofs.More.{bytes_ok, number_ok}
+use Rattle.imagesize_source.proofs.Counts.{at_most, total-span_of}
+use Rattle.imagesize_source.proofs.Answered.{bytes_is, part_first, big_pair, on_answer}
+use Rattle.imagesize_source.proofs.Extension.{bytes_ok, number_ok}
 use Rattle.imagesize_source.proofs.Runs.{total-append}
 use Rattle.imagesize_source.proofs.Tests.{on_test}
 use Rattle.imagesize_source.proofs.Way.{RecordedLaws}
@@ -161,7 +161,7 @@ segment_allowed d k place = on_answer (λ w. total w.marks ≤ allowed d place) 
     let few : 2 ≤ allowed d place = grind (arith, nat_tests) in omega arith))
     (λ e got. let here = total-span_of d place 2 in let few : 2 ≤ allowed d place = grind (arith, nat_tests) in omega arith)
 
--- the segments are read from at most 4 bytes more than the input has
+-- the segments are read from at most 6 bytes more than the input has
 pub jpeg_within : (d : List ℕ) → total (jpeg d).marks ≤ length d + 6
 unfolding Used
 jpeg_within d =

@@ -29,14 +29,14 @@ use Rattle.imagesize_source.specs.Reading.{and_then, onward, end_of_input, numbe
 use Rattle.imagesize_source.specs.State.{State, Runs, Sound, total}
 use Rattle.imagesize_source.proofs.Advances.{Tells, Begins, advances}
 use Rattle.imagesize_source.proofs.Ahead.{Ahead, chain_ahead}
-use Rattle.imagesize_source.proofs.Beyond.{bytes_beyond}
+use Rattle.imagesize_source.proofs.PastTheEnd.{bytes_beyond}
 use Rattle.imagesize_source.proofs.ChainLaws.{local_chain, lasts_chain, chain_cost, chain_induction}
 use Rattle.imagesize_source.proofs.Chains.{records_next, records_stop}
-use Rattle.imagesize_source.proofs.Count.{at_most, at_most_bind, then_within, total-span_of, total_behind}
-use Rattle.imagesize_source.proofs.Found.{on_answer}
+use Rattle.imagesize_source.proofs.Counts.{at_most, at_most_bind, then_within, total-span_of, total_behind}
+use Rattle.imagesize_source.proofs.Answered.{on_answer}
 use Rattle.imagesize_source.proofs.Layouts.{runs_as}
-use Rattle.imagesize_source.proofs.Local.{local_layout, local_number, local_then}
-use Rattle.imagesize_source.proofs.More.{bytes_more, more, number_ok}
+use Rattle.imagesize_source.proofs.Agreement.{local_layout, local_number, local_then}
+use Rattle.imagesize_source.proofs.Extension.{bytes_more, more, number_ok}
 use Rattle.imagesize_source.proofs.Reached.{runs_bind, refused_bind}
 use Rattle.imagesize_source.proofs.Runs.{total-append}
 use Rattle.imagesize_source.proofs.Tests.{on_test}

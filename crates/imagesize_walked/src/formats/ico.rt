@@ -90,6 +90,3 @@ fn icon_side(byte: u8) -> usize
 {
     if byte == 0 { 256 } else { byte as usize }
 }
-
-#[cfg(test)]
-mod tests;

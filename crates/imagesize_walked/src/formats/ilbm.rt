@@ -95,6 +95,3 @@ fn chunk_bytes(length: u32) -> u64
     let length = length as u64;
     8 + (length + length % 2)
 }
-
-#[cfg(test)]
-mod tests;

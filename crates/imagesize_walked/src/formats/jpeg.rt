@@ -137,6 +137,3 @@ fn depth_behind(depth: u64, marker: u8) -> u64
         _ => depth,
     }
 }
-
-#[cfg(test)]
-mod tests;

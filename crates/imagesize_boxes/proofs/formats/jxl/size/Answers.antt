@@ -1,5 +1,4 @@
-use Rattle.std.proofs.Common.{rules}
-use Rattle.imagesize_boxes.proofs.Jxl.{sized}
+use Rattle.imagesize_boxes.proofs.JxlBoxes.{sized}
 use Rattle.imagesize_boxes.proofs.formats.jxl.size.Goals as goal
 
 pub returns : goal.returns

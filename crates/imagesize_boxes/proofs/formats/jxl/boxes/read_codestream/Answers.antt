@@ -1,6 +1,6 @@
 use Rattle.std.proofs.Common.{rules, arith}
 use Rattle.std.proofs.lemmas.List.{length-append}
-use Rattle.imagesize_boxes.proofs.Jxl.{walk_start, walk_on, walk_stop, walk_out}
+use Rattle.imagesize_boxes.proofs.JxlBoxes.{walk_start, walk_on, walk_stop, walk_out}
 use Rattle.imagesize_boxes.proofs.formats.jxl.boxes.read_codestream.Goals as goal
 
 pub loop-bytes-init : goal.loop-bytes-init

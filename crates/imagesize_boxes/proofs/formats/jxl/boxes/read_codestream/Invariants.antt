@@ -1,6 +1,6 @@
 use Rattle.std.proofs.Common.{◌≤◌, length}
 use Rattle.imagesize_source.specs.Paying.{ahead_of}
-use Rattle.imagesize_boxes.proofs.Jxl.{JxlWalks}
+use Rattle.imagesize_boxes.proofs.JxlBoxes.{JxlWalks}
 use Rattle.imagesize_boxes.proofs.formats.jxl.boxes.read_codestream.Given as goal
 
 abbrev pub invariant-loop-bytes : goal.invariant-loop-bytes

@@ -1,4 +1,4 @@
-use Rattle.std.proofs.Common.{◌≡◌, ◌+◌, length, arith, rules}
+use Rattle.std.proofs.Common.{◌≡◌, ◌+◌, length, rules}
 use Rattle.imagesize_boxes.proofs.Places.{piece_none, piece_some}
 use Rattle.imagesize_boxes.proofs.formats.jxl.boxes.read_piece.Goals as goal
 

@@ -1,7 +1,5 @@
-use Rattle.std.proofs.Common.{rules, arith, ◌≡◌, true, false, ltb, length, sym, ◌∙◌}
-use Rattle.std.proofs.lemmas.Bool.Decides.{nat_tests}
-use Rattle.imagesize_boxes.specs.Jxl.{jxl_size}
-use Rattle.imagesize_boxes.proofs.Jxl.{size_short, size_unsigned, size_signed}
+use Rattle.std.proofs.Common.{rules, sym, ◌∙◌}
+use Rattle.imagesize_boxes.proofs.JxlBoxes.{size_short, size_unsigned, size_signed}
 use Rattle.imagesize_boxes.proofs.formats.jxl.header.codestream_size.Goals as goal
 
 pub returns-then-codestream-lt2 : goal.returns-then-codestream-lt2

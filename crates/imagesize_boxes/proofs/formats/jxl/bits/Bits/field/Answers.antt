@@ -1,4 +1,4 @@
-use Rattle.std.proofs.Common.{rules, ◌≡◌, ℕ, leb, true, ◌+◌, ◌/◌, ◌^◌, arith}
+use Rattle.std.proofs.Common.{rules, ◌≡◌, leb, true, ◌+◌, ◌/◌, ◌^◌, arith}
 use Rattle.std.proofs.lemmas.Bool.Decides.{nat_tests}
 use Rattle.imagesize_boxes.proofs.Fields.{masked}
 use Rattle.imagesize_boxes.proofs.formats.jxl.bits.Bits.field.Goals as goal

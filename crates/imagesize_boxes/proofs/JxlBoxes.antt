@@ -1,0 +1,163 @@
+-- JPEG XL: the ways that a box can go, how a walk along the boxes goes, and the size by what it found.
+use Rattle.std.proofs.Common.{◌≡◌, ℕ, ◌+◌, ◌-◌, ◌*◌, ◌^◌, ◌<◌, ◌≤◌, true, false, cond, eqb, leb, ltb, not, ◌&&◌, ◌||◌, codes, take, drop, min, slice_index, List, [], ◌∷◌, ◌++◌, length, get_or, Result, Ok, Err, refl, sym, ap, ◌∙◌, subst, arith}
+use Rattle.std.proofs.lemmas.Bool.Decides.{nat_tests}
+use Rattle.std.proofs.lemmas.List.{append-nil}
+use Rattle.std.proofs.lemmas.List.Folds.{concat-append}
+use Rattle.std.specs.List.{concat}
+use Rattle.imagesize_boxes.specs.declared.formats.jxl.boxes.BoxHead.{BoxHead}
+use Rattle.imagesize_boxes.specs.Fields.{Fields, found, bits, binary, bits_of, field_at, field_in, with_found, found_by, found_in}
+use Rattle.imagesize_boxes.specs.Jxl.{has_signature, jxl_header, jxl_size, piece_at, answer, box_checked, box_head, box_room, said_behind, codestream_box, partial_said, partial_box, box_content, jxl_box, jxl_chain, jxl_codestream, jxl}
+use Rattle.imagesize_boxes.proofs.Fields.{field_same, found_alike}
+use Rattle.imagesize_types.specs.Head.{begins}
+use Rattle.imagesize_types.specs.declared.size.ImageSize.{ImageSize}
+use Rattle.imagesize_source.specs.Chain.{Said, Decided, Next, Advances, chain_at}
+use Rattle.imagesize_source.specs.Layout.{Layout, over, bind, bytes, there}
+use Rattle.imagesize_source.specs.Layout.Layout.{field, refuse, «done»}
+use Rattle.imagesize_source.specs.Reading.{end_of_input, is_fault}
+use Rattle.imagesize_source.specs.State.{State, Runs, EndedBy, Sound}
+use Rattle.imagesize_source.proofs.Advances.{Tells, advances}
+use Rattle.imagesize_source.proofs.Reached.{reads_nothing}
+use Rattle.imagesize_source.proofs.Runs.{runs_then, runs_refused}
+use Rattle.imagesize_source.proofs.Tests.{on_test}
+use Rattle.imagesize_source.proofs.Walks.{Walks, walks_start, walks_on, walks_stop, walks_out}
+use Rattle.imagesize_source.specs.declared.error.ImageError.{ImageError}
+use Rattle.imagesize_source.specs.declared.error.ImageError.TheVariants.{CorruptedImage, IoError}
+use Rattle.imagesize_source.specs.declared.error.Reason.TheVariants.{InvalidJxlBoxSize, InvalidJxlSignature}
+use Rattle.imagesize_source.specs.declared.util.Endian.TheVariants.{Little, Big}
+use Rattle.imagesize_source.specs.Numbers.{number, little}
+
+-- the size by front of each kind
+pub size_short : (front : List ℕ) → length front < 2 → jxl_size front ≡ Err CorruptedImage
+unfolding jxl_size
+size_short front short = let test : ltb (length front) 2 ≡ true = grind (arith, nat_tests) in rw test refl
+
+pub size_unsigned : (front : List ℕ) → 2 ≤ length front → has_signature front ≡ false → jxl_size front ≡ Err (IoError InvalidJxlSignature)
+unfolding jxl_size
+size_unsigned front long other = let test : ltb (length front) 2 ≡ false = grind (arith, nat_tests) in rw (test, other) refl
+
+pub size_signed : (front : List ℕ) (n count : ℕ) → 2 ≤ length front → has_signature front ≡ true → ((i : ℕ) → get_or front i 0 < 256) → n ≡ number Little front → count ≡ 8 * length front → jxl_size front ≡ found_in n count jxl_header
+unfolding jxl_size number
+size_signed front n count long is small sums counts =
+    let test : ltb (length front) 2 ≡ false = grind (arith, nat_tests) in
+    let here : jxl_size front ≡ found_by (field_at (bits_of front)) jxl_header = rw (test, is) refl in
+    here
+    ∙ found_alike (field_at (bits_of front)) (field_in (little front) (8 * length front)) jxl_header (field_same front small)
+    ∙ ap (λ m. found_in m (8 * length front) jxl_header) (sym sums)
+    ∙ ap (λ k. found_in n k jxl_header) (sym counts)
+
+-- what holds of each way that a box can go
+
+abbrev pub Says : Type 0
+Says = Layout (Said (List ℕ) (List ℕ))
+
+pub by_checked : (P : Says → Type 0) (place : ℕ) (head : BoxHead) (f : BoxHead → Says) → ((e : ImageError) → P (refuse e)) → (place + head.size < 2 ^ 64 → (0 < head.size → head.length ≤ head.size) → P (f head)) → P (bind (answer (box_checked place head)) f)
+by_checked P place head f out on =
+    on_test (λ r. P (bind (answer r) f)) (ltb (2 ^ 64 - 1) (place + head.size)) (Err CorruptedImage) _ (λ _. out CorruptedImage)
+    (λ within. on_test (λ r. P (bind (answer r) f)) (not (eqb head.size 0) && ltb head.size head.length) (Err (IoError (InvalidJxlBoxSize head.tag head.size))) (Ok head) (λ _. out (IoError (InvalidJxlBoxSize head.tag head.size)))
+    (λ whole. on (grind (arith, nat_tests)) (λ some. grind (arith, nat_tests))))
+
+pub by_head : (P : Says → Type 0) (place : ℕ) (front : List ℕ) (f : BoxHead → Says)
+    → P (field Big (place + 8) 8 (λ size. bind (answer (box_checked place (record { tag = drop 4 front; size = size; length = 16 }))) f))
+    → P (bind (answer (box_checked place (record { tag = drop 4 front; size = number Big (take 4 front); length = 8 }))) f)
+    → P (bind (cond (eqb (number Big (take 4 front)) 1) (field Big (place + 8) 8 (λ size. answer (box_checked place (record { tag = drop 4 front; size = size; length = 16 })))) (answer (box_checked place (record { tag = drop 4 front; size = number Big (take 4 front); length = 8 })))) f)
+by_head P place front f long short =
+    on_test (λ t. P (bind t f)) (eqb (number Big (take 4 front)) 1) (field Big (place + 8) 8 (λ size. answer (box_checked place (record { tag = drop 4 front; size = size; length = 16 })))) (answer (box_checked place (record { tag = drop 4 front; size = number Big (take 4 front); length = 8 })))
+    (λ _. long) (λ _. short)
+
+pub by_piece : (P : Says → Type 0) (place k : ℕ) (f : List ℕ → Says) → (k ≡ 0 → P (f [])) → (0 < k → P (there place k f)) → P (bind (piece_at place k) f)
+unfolding piece_at
+by_piece P place k f none some =
+    on_test (λ t. P (bind t f)) (eqb k 0) (done []) (there place k (λ piece. done piece)) (λ is. none (grind (arith, nat_tests))) (λ is. some (grind (arith, nat_tests)))
+
+pub by_end : (P : Said (List ℕ) (List ℕ) → Type 0) (held : List ℕ) (place : ℕ) (head : BoxHead) (piece : List ℕ) → P (Decided (held ++ piece)) → (0 < head.size → P (Next piece (place + head.size))) → P (said_behind held place head piece)
+by_end P held place head piece last next = on_test P (eqb head.size 0) (Decided (held ++ piece)) (Next piece (place + head.size)) (λ _. last) (λ is. next (grind (arith, nat_tests)))
+
+pub by_partial : (P : Said (List ℕ) (List ℕ) → Type 0) (held : List ℕ) (place : ℕ) (head : BoxHead) (index piece : List ℕ) → P (Decided (held ++ piece)) → (0 < head.size → P (Next piece (place + head.size))) → P (partial_said held place head index piece)
+by_partial P held place head index piece last next =
+    on_test P (eqb (length held + length piece) 16 || leb 0x80 (slice_index index 0)) (Decided (held ++ piece)) (said_behind held place head piece) (λ _. last)
+    (λ _. by_end P held place head piece last next)
+
+pub by_content : (P : Says → Type 0) (held : List ℕ) (place : ℕ) (head : BoxHead) → P (codestream_box place head) → P (refuse end_of_input)
+    → (4 ≤ box_room head → P (bytes (place + head.length) 4 (λ index. bind (piece_at (place + (head.length + 4)) (min (box_room head - 4) (16 - length held))) (λ piece. done (partial_said held place head index piece)))))
+    → P (done (said_behind held place head [])) → P (box_content held place head)
+by_content P held place head whole none partial other =
+    on_test P (begins (codes "jxlc") head.tag) (codestream_box place head) _ (λ _. whole)
+    (λ _. on_test P (begins (codes "jxlp") head.tag) (partial_box held place head) (done (said_behind held place head []))
+    (λ _. on_test P (ltb (box_room head) 4) (refuse end_of_input) _ (λ _. none) (λ is. partial (grind (arith, nat_tests)))) (λ _. other))
+
+content_tells : (held : List ℕ) (place : ℕ) (head : BoxHead) → Tells (λ p. place < p) (box_content held place head)
+content_tells held place head =
+    let End : Said (List ℕ) (List ℕ) → Type 0 = λ s. Tells (λ p. place < p) (done s) in
+    by_content (Tells (λ p. place < p)) held place head
+    (by_piece (Tells (λ p. place < p)) (place + head.length) (min 16 (box_room head)) (λ front. done (Decided front)) (λ _. tt) (λ _ front. tt))
+    tt
+    (λ _ index. by_piece (Tells (λ p. place < p)) (place + (head.length + 4)) (min (box_room head - 4) (16 - length held)) (λ piece. done (partial_said held place head index piece))
+    (λ _. by_partial End held place head index [] tt (λ some. omega arith))
+    (λ _ piece. by_partial End held place head index piece tt (λ some. omega arith)))
+    (by_end End held place head [] tt (λ some. omega arith))
+
+pub jxl_advances : (d : List ℕ) → Advances jxl_chain d
+unfolding box_head
+jxl_advances = advances jxl_chain
+    (λ pieces place front. by_head (Tells (λ p. place < p)) place front (box_content (concat pieces) place)
+    (λ size. by_checked (Tells (λ p. place < p)) place (record { tag = drop 4 front; size = size; length = 16 }) (box_content (concat pieces) place) (λ e. tt) (λ _ _. content_tells (concat pieces) place (record { tag = drop 4 front; size = size; length = 16 })))
+    (by_checked (Tells (λ p. place < p)) place (record { tag = drop 4 front; size = number Big (take 4 front); length = 8 }) (box_content (concat pieces) place) (λ e. tt) (λ _ _. content_tells (concat pieces) place (record { tag = drop 4 front; size = number Big (take 4 front); length = 8 }))))
+    (λ pieces place. (omega arith, omega arith))
+
+-- how far a walk has come: behind boxes with these bytes
+abbrev pub JxlWalks : State → State → ℕ → List ℕ → Type 0
+JxlWalks a b place front = Walks jxl_chain (λ pieces. concat pieces ≡ front) a b place
+
+pub walk_start : (a : State) → JxlWalks a a 12 []
+walk_start a = walks_start jxl_chain (λ pieces. concat pieces ≡ []) a refl
+
+box_as : {b end : State} {r : Result (Said (List ℕ) (List ℕ)) ImageError} (place : ℕ) (front : List ℕ) → Runs b end r (over b.held.input (jxl_box front place)) → (pieces : List (List ℕ)) → concat pieces ≡ front → Runs b end r (over b.held.input (jxl_box (concat pieces) place))
+box_as {b} {end} {r} place front run pieces is = subst (λ held. Runs b end r (over b.held.input (jxl_box held place))) (sym is) run
+
+pub walk_on : {a b end : State} (place next : ℕ) (front piece : List ℕ) → JxlWalks a b place front → Runs b end (Ok (Next piece next)) (over b.held.input (jxl_box front place)) → JxlWalks a end next (front ++ piece)
+walk_on place next front piece w run =
+    walks_on jxl_chain jxl_advances (λ pieces. concat pieces ≡ front) w (λ pieces. concat pieces ≡ front ++ piece) piece next (box_as place front run)
+    (λ pieces is. concat-append pieces (piece ∷ []) ∙ ap (λ rest. concat pieces ++ rest) (append-nil piece) ∙ ap (λ held. held ++ piece) is)
+
+pub walk_stop : {a b end : State} (place : ℕ) (front whole : List ℕ) → JxlWalks a b place front → Runs b end (Ok (Decided whole)) (over b.held.input (jxl_box front place)) → Runs a end (Ok whole) (chain_at jxl_chain a.held.input)
+walk_stop place front whole w run = walks_stop jxl_chain jxl_advances (λ pieces. concat pieces ≡ front) w whole (box_as place front run)
+
+pub walk_out : {a b end : State} (place : ℕ) (front : List ℕ) (e : ImageError) → JxlWalks a b place front → Runs b end (Err e) (over b.held.input (jxl_box front place)) → Runs {X = List ℕ} a end (Err e) (chain_at jxl_chain a.held.input)
+walk_out place front e w run = walks_out jxl_chain jxl_advances (λ pieces. concat pieces ≡ front) w e (box_as place front run)
+
+-- The size by a codestream.
+
+-- a refusal that ends no call by itself
+abbrev Plainly : {X : Type 0} → Result X ImageError → Type 0
+Plainly (Ok x) = Unit {0}
+Plainly (Err e) = (is_fault e ≡ false) × ((b : State) → EndedBy b e)
+
+plain_corrupted : Plainly {X = ℕ} (Err CorruptedImage)
+plain_corrupted = (refl, λ b. record { budget = tt; memory = λ e. absurd cc })
+
+plain_found : {X : Type 0} (list : List ℕ) (t : Fields X) → Plainly (found_by (field_at list) t)
+unfolding field_at
+plain_found list (found x) = tt
+plain_found list (bits from count f) =
+    on_test (λ r. Plainly (with_found r (λ n. found_by (field_at list) (f n)))) (leb (from + count) (length list)) (Ok (binary (take count (drop from list)))) (Err CorruptedImage)
+    (λ _. plain_found list (f (binary (take count (drop from list))))) (λ _. plain_corrupted)
+
+plain_size : (front : List ℕ) → Plainly (jxl_size front)
+unfolding jxl_size
+plain_size front =
+    on_test Plainly (ltb (length front) 2) (Err CorruptedImage) _ (λ _. plain_corrupted)
+    (λ _. on_test Plainly (has_signature front) (found_by (field_at (bits_of front)) jxl_header) (Err (IoError InvalidJxlSignature)) (λ _. plain_found (bits_of front) jxl_header)
+    (λ _. (refl, λ b. record { budget = tt; memory = λ e. absurd cc })))
+
+sized_by : {b : State} (r : Result ImageSize ImageError) → Sound b → Plainly r → Runs b b r (record { answer = r; marks = [] })
+sized_by {b} (Ok size) sound plain = reads_nothing b (Ok size) sound refl tt
+sized_by {b} (Err e) sound plain = reads_nothing b (Err e) sound plain.0 (plain.1 b)
+
+-- the size by a codestream that was found
+pub sized : {a b : State} (front : List ℕ) → Runs a b (Ok front) (jxl_codestream a.held.input) → Runs a b (jxl_size front) (jxl a.held.input)
+sized {a} {b} front run =
+    runs_then (jxl_codestream a.held.input) (λ found held. record { answer = jxl_size found; marks = [] }) run (sized_by (jxl_size front) run.sound_after (plain_size front))
+
+-- and none where none was found
+pub unsized : {a b : State} (e : ImageError) → Runs a b (Err e) (jxl_codestream a.held.input) → Runs a b (Err e) (jxl a.held.input)
+unsized {a} {b} e run = runs_refused (jxl_codestream a.held.input) (λ front. record { answer = jxl_size front; marks = [] }) run

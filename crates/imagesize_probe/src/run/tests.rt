@@ -1,0 +1,276 @@
+ghost use Rattle.std.specs.Prelude.{◌≡◌, ℕ, ◌++◌, IfOk, None, Some, Ok, IfSome, length, map};
+ghost use Rattle.std.specs.String.{string_bytes};
+ghost use Rattle.std.specs.Io.KnownBytes.{Appends};
+ghost use Rattle.imagesize_probe.specs.Run.{lines_of, is_any_refused};
+ghost use Rattle.imagesize_probe.specs.Status.{status_of};
+
+use super::{Open, exit_code, run};
+use crate::{Disk, buffered};
+use imagesize::{ImageError, ImageResult, Reason};
+use std::alloc::{AllocError, Global};
+use std::fs;
+use std::io::{self, Cursor, ErrorKind, Write};
+use std::test::Fail;
+
+const GIF: &[u8] = b"GIF89a\x64\0\x64\0\0\0";
+
+const CUT: &[u8] = b"GIF89a\x64\0\x64\0";
+
+// Opens files by their names, and counts how often it was asked.
+#[derive(Drop)]
+struct Shelf {
+    asked: u32,
+}
+
+impl Open for Shelf {
+    type Reader = Cursor<&'static [u8]>;
+
+    ghost known = { λ _. None };
+
+    fn open(&mut self, name: &str) -> ImageResult<Cursor<&'static [u8]>> {
+        self.asked = self.asked.saturating_add(1);
+        match name {
+            "tiny.gif" => Ok(Cursor::new(GIF)),
+            "cut.gif" => Ok(Cursor::new(CUT)),
+            "huge.gif" => Err(ImageError::IoError(Reason::Memory)),
+            _ => Err(ImageError::from(lost())),
+        }
+    }
+}
+
+// Why there is no other file.
+fn lost() -> io::Error {
+    io::Error::new(ErrorKind::NotFound, "no such file on the shelf")
+}
+
+// Has the same bytes behind every name.
+#[derive(Drop)]
+struct Same<'a> {
+    bytes: &'a [u8],
+}
+
+impl<'a> Open for Same<'a> {
+    type Reader = Cursor<&'a [u8]>;
+
+    ghost known = { λ same. Some (λ _. Ok same.bytes.now) };
+
+    fn open(&mut self, _name: &str) -> ImageResult<Cursor<&'a [u8]>> {
+        // The proof needs that the length is below 2^63.
+        let _length = self.bytes.len();
+        Ok(Cursor::new(self.bytes))
+    }
+}
+
+// Fails at a write of lines, at a send, or at neither.
+#[derive(Drop)]
+struct Weak {
+    written: usize,
+    sent: usize,
+}
+
+impl Write for Weak {
+    fn write(&mut self, buf: &[u8]) -> io::Result<usize> {
+        let count = buf.len().min(self.written);
+        if count == 0 {
+            return Err(io::Error::from(ErrorKind::StorageFull));
+        }
+        self.written -= count;
+        Ok(count)
+    }
+
+    fn flush(&mut self) -> io::Result<()> {
+        if self.sent == 0 {
+            return Err(io::Error::from(ErrorKind::BrokenPipe));
+        }
+        self.sent -= 1;
+        Ok(())
+    }
+}
+
+fn strings(alloc: Global, texts: &[&str]) -> Result<Vec<String>, AllocError> {
+    let mut all = Vec::new(alloc);
+    for text in texts {
+        all.push(String::from_str(alloc, text)?)?;
+    }
+    Ok(all)
+}
+
+// The lines of names behind each of which these bytes are, and the status.
+fn run_same(
+    names: &[String],
+    bytes: &[u8],
+    output: &mut Vec<u8>,
+    errors: &mut Vec<u8>,
+) -> io::Result<u8>
+    ensures lines { IfOk result (λ status. IfSome (lines_of (λ _. Ok bytes.now) (map string_bytes names.now))
+        (λ text. output.new.items ≡ output.old.items ++ text)) }
+    ensures status { IfOk result (λ status.
+        status ≡ status_of (length names.now) (is_any_refused (λ _. Ok bytes.now) (map string_bytes names.now))) }
+{
+    run(names, &mut Same { bytes }, output, errors)
+}
+
+#[test]
+fn each_name_has_a_line_in_its_turn(rt: HostRuntime) -> Result<(), Fail> {
+    let alloc = rt.alloc();
+    for (names, lines, status) in [
+        (["tiny.gif"].as_slice(), "tiny.gif: Gif 100x100\n", 0),
+        (
+            &["cut.gif"],
+            "cut.gif: error: failed to fill whole buffer\n",
+            1,
+        ),
+        (
+            &["tiny.gif", "cut.gif"],
+            "tiny.gif: Gif 100x100\ncut.gif: error: failed to fill whole buffer\n",
+            1,
+        ),
+        (
+            &["cut.gif", "tiny.gif", "tiny.gif"],
+            "cut.gif: error: failed to fill whole buffer\ntiny.gif: Gif 100x100\ntiny.gif: Gif 100x100\n",
+            1,
+        ),
+        (&["huge.gif"], "huge.gif: error: Out of memory\n", 1),
+        (
+            &["a.gif", "tiny.gif"],
+            "a.gif: error: no such file on the shelf\ntiny.gif: Gif 100x100\n",
+            1,
+        ),
+    ] {
+        let names = strings(alloc, names)?;
+        let mut shelf = Shelf { asked: 0 };
+        let mut output = Vec::new(alloc);
+        let mut errors = Vec::new(alloc);
+        assert_eq!(rt;
+            run(&names, &mut shelf, &mut output, &mut errors)?,
+            status,
+            "{lines}"
+        );
+        assert_eq!(rt; output.as_slice(), lines.as_bytes());
+        assert!(rt; errors.is_empty());
+    }
+    Ok(())
+}
+
+#[test]
+fn the_usage_is_written_where_none_is_named(rt: HostRuntime) -> Result<(), Fail> {
+    let alloc = rt.alloc();
+    let mut output = Vec::new(alloc);
+    let mut errors = Vec::new(alloc);
+    assert_eq!(rt;
+        run(&[], &mut Shelf { asked: 0 }, &mut output, &mut errors)?,
+        2
+    );
+    assert!(rt; output.is_empty());
+    assert_eq!(rt;
+        errors.as_slice(),
+        b"usage: imagesize_probe FILE...\n".as_slice()
+    );
+    let mut full = Weak {
+        written: 0,
+        sent: 0,
+    };
+    assert_eq!(rt;
+        run(&[], &mut Shelf { asked: 0 }, &mut output, &mut full)?,
+        2
+    );
+    Ok(())
+}
+
+#[test]
+fn an_output_that_fails_ends_the_run(rt: HostRuntime) -> Result<(), Fail> {
+    let alloc = rt.alloc();
+    let names = strings(alloc, &["tiny.gif", "cut.gif", "tiny.gif"])?;
+    // The first line has 22 bytes and the second one 44; what fails, and how many files were opened before.
+    for (written, sent, fault, asked) in [
+        (0, 9, ErrorKind::StorageFull, 1),
+        (21, 9, ErrorKind::StorageFull, 1),
+        (22, 9, ErrorKind::StorageFull, 2),
+        (65, 9, ErrorKind::StorageFull, 2),
+        (66, 9, ErrorKind::StorageFull, 3),
+        (900, 0, ErrorKind::BrokenPipe, 1),
+        (900, 1, ErrorKind::BrokenPipe, 2),
+        (900, 2, ErrorKind::BrokenPipe, 3),
+    ] {
+        let mut shelf = Shelf { asked: 0 };
+        let mut output = Weak { written, sent };
+        let mut errors = Vec::new(alloc);
+        let ended = run(&names, &mut shelf, &mut output, &mut errors);
+        assert_eq!(rt; ended.expect_err(&rt, "an output that fails").kind(), fault);
+        assert_eq!(rt; shelf.asked, asked, "{written} bytes and {sent} sends");
+        assert!(rt; errors.is_empty());
+    }
+    Ok(())
+}
+
+#[test]
+fn each_line_is_sent_before_the_next_file(rt: HostRuntime) -> Result<(), Fail> {
+    let alloc = rt.alloc();
+    let names = strings(alloc, &["tiny.gif", "cut.gif"])?;
+    let mut output = Weak {
+        written: 900,
+        sent: 9,
+    };
+    let mut errors = Vec::new(alloc);
+    assert_eq!(rt;
+        run(&names, &mut Shelf { asked: 0 }, &mut output, &mut errors)?,
+        1
+    );
+    assert_eq!(rt; output.sent, 7);
+    Ok(())
+}
+
+#[test]
+fn the_same_bytes_have_the_same_line(rt: HostRuntime) -> Result<(), Fail> {
+    let alloc = rt.alloc();
+    let names = strings(alloc, &["a", ""])?;
+    let mut output = Vec::new(alloc);
+    let mut errors = Vec::new(alloc);
+    assert_eq!(rt; run_same(&names, GIF, &mut output, &mut errors)?, 0);
+    assert_eq!(rt; run_same(&names, CUT, &mut output, &mut errors)?, 1);
+    let lines = "a: Gif 100x100\n: Gif 100x100\n\
+        a: error: failed to fill whole buffer\n: error: failed to fill whole buffer\n";
+    assert_eq!(rt; output.as_slice(), lines.as_bytes());
+    Ok(())
+}
+
+#[test]
+fn a_failed_output_is_status_1(rt: HostRuntime) {
+    assert_eq!(rt; exit_code(Ok(2)), 2);
+    assert_eq!(rt; exit_code(Err(lost())), 1);
+}
+
+#[test]
+fn files_are_opened_by_their_names(rt: HostRuntime) -> Result<(), Fail> {
+    let alloc = rt.alloc();
+    let names = strings(alloc, &["no such file", "/dev/null", ".", "no such file"])?;
+    let mut output = Vec::new(alloc);
+    let mut errors = Vec::new(alloc);
+    assert_eq!(rt;
+        run(&names, &mut Disk { rt: &rt }, &mut output, &mut errors)?,
+        1
+    );
+    let error = fs::open(&rt, "no such file").expect_err(&rt, "a file that is not there");
+    let none = format!(in alloc; "no such file: error: {error}")?;
+    let text = String::from_utf8(output)?;
+    let mut lines = text.lines();
+    assert_eq!(rt; lines.next(), Some(none.as_str()));
+    assert_eq!(rt;
+        lines.next(),
+        Some("/dev/null: error: failed to fill whole buffer")
+    );
+    let folder = lines.next().unwrap_or("");
+    assert!(rt;
+        folder.starts_with(".: error: ") && !folder.ends_with("whole buffer"),
+        "{folder}"
+    );
+    assert_eq!(rt; lines.next(), Some(none.as_str()));
+    assert_eq!(rt; lines.next(), None);
+    Ok(())
+}
+
+#[test]
+fn lines_go_out_at_once_with_no_memory_for_a_buffer(rt: HostRuntime) {
+    assert_eq!(rt; buffered(&rt, 8192).capacity(), 8192);
+    assert_eq!(rt; buffered(&rt, usize::MAX).capacity(), 0);
+}

@@ -1,0 +1,144 @@
+-- What bytes behind an input change of the answer of a layout: nothing, where no reading was cut.
+use Rattle.std.proofs.Common.{◌≡◌, ℕ, zero, suc, ◌-◌, ◌<◌, ◌≤◌, min, Bool, true, false, cond, leb, List, [], ◌∷◌, ◌++◌, length, take, drop, Result, Ok, Err, inl, inr, refl, sym, ap, ◌∙◌, arith}
+use Rattle.std.proofs.lemmas.Bool.{cases_lt}
+use Rattle.std.proofs.lemmas.Bool.Decides.{nat_tests}
+use Rattle.std.proofs.lemmas.List.{length-append, length-drop, drop-append-le, take-append-le}
+use Rattle.imagesize_source.specs.declared.error.ImageError.{ImageError}
+use Rattle.imagesize_source.specs.declared.span.Span.{Span}
+use Rattle.imagesize_source.specs.declared.text.Text.{Text}
+use Rattle.imagesize_source.specs.Text.{is_ended, text_front}
+use Rattle.imagesize_source.proofs.Runs.{part_is, part_length}
+use Rattle.imagesize_source.proofs.Texts.{front_all, front_any, front_more}
+use Rattle.imagesize_source.specs.declared.util.Endian.{Endian}
+use Rattle.imagesize_source.specs.Input.{part, span_at, span_of}
+use Rattle.imagesize_source.specs.Layout.{Layout, done, refuse, field, reading, over}
+use Rattle.imagesize_source.specs.Numbers.{number}
+use Rattle.imagesize_source.specs.Extension.{Plain, Never, WhereCut}
+use Rattle.imagesize_source.specs.Reading.{Reads, and_then, number_read, Reading, AllOf, PartOf, TextOf, onward, behind, bytes_at, number_at, text_part, read_of, seen, end_of_input}
+
+-- bytes behind the input are not among those that are all there
+part_more : (d x : List ℕ) (place k : ℕ) → k ≤ length d - place → part (d ++ x) place k ≡ part d place k
+unfolding part
+part_more d x place zero h = refl
+part_more d x place (suc k) h =
+    let short = length-drop place d in
+    let before : place ≤ length d = omega arith in
+    let fits : suc k ≤ length (drop place d) = omega arith in
+    ap (take (suc k)) (drop-append-le place d x before) ∙ take-append-le (suc k) (drop place d) x fits
+
+span_more : (d x : List ℕ) (place k : ℕ) → k ≤ length d - place → span_of (d ++ x) place k ≡ span_of d place k
+unfolding span_of
+span_more d x place k h = let long = length-append d x in let same : min k (length (d ++ x) - place) ≡ min k (length d - place) = omega arith in ap (span_at place) same
+
+enough : (b : Bool) (a got : List ℕ) → ◌≡◌ {A = Result (List ℕ) ImageError} (cond b (Ok got) (Err end_of_input)) (Ok a) → b ≡ true
+enough true a got is = refl
+enough false a got is = absurd cc
+
+-- all of k bytes are there where their reading is answered
+pub bytes_ok : (d a : List ℕ) (place k : ℕ) → bytes_at d place k ≡ Ok a → k ≤ length d - place
+unfolding bytes_at
+bytes_ok d a place k is = let test = enough (leb k (length d - place)) a (part d place k) is in grind (arith, nat_tests)
+
+seen_ok : (r : Result (List ℕ) ImageError) (order : Endian) (v : ℕ) → seen (number order) r ≡ Ok v → (bs : List ℕ) × (r ≡ Ok bs)
+seen_ok (Ok bs) order v is = (bs, refl)
+seen_ok (Err e) order v is = absurd cc
+
+pub number_ok : (d : List ℕ) (order : Endian) (place k v : ℕ) → number_at d order place k ≡ Ok v → k ≤ length d - place
+unfolding number_at
+number_ok d order place k v is = let bs = seen_ok (bytes_at d place k) order v is in bytes_ok d bs.0 place k bs.1
+
+pub bytes_more : (d x : List ℕ) (place k : ℕ) → k ≤ length d - place → bytes_at (d ++ x) place k ≡ bytes_at d place k
+unfolding bytes_at
+bytes_more d x place k h =
+    let long = length-append d x in
+    let here : leb k (length d - place) ≡ true = grind (arith, nat_tests) in
+    let after : leb k (length (d ++ x) - place) ≡ true = grind (arith, nat_tests) in
+    rw (here, after, part_more d x place k h) refl
+
+number_more : (d x : List ℕ) (order : Endian) (place k : ℕ) → k ≤ length d - place → number_at (d ++ x) order place k ≡ number_at d order place k
+unfolding number_at
+number_more d x order place k h = ap (seen (number order)) (bytes_more d x place k h)
+
+-- a layout that is always refused has no answer
+onward_never : {X Y : Type 0} (spans : List Span) (r : Result X ImageError) (f : X → Reads Y) (y : Y) → (onward spans r f).answer ≡ Ok y → ((x : X) → (f x).answer ≡ Ok y → ⊥) → ⊥
+onward_never spans (Ok x) f y is never = never x is
+onward_never spans (Err e) f y is never = absurd cc
+
+never_ok : {X : Type 0} (d : List ℕ) (t : Layout X) (v : X) → Never t → (over d t).answer ≡ Ok v → ⊥
+never_ok d (done x) v never is = never
+never_ok d (refuse e) v never is = absurd cc
+never_ok d (field order place k f) v never is = onward_never (span_of d place k) (number_at d order place k) (λ n. over d (f n)) v is (λ n ok. never_ok d (f n) v (never n) ok)
+never_ok d (reading r place f) v never is = onward_never (read_of d r place).marks (read_of d r place).answer (λ bs. over d (f bs)) v is (λ bs ok. never_ok d (f bs) v (never bs) ok)
+
+-- bytes behind the input follow those that are there
+drop_grows : (n : ℕ) (d x : List ℕ) → (rest : List ℕ) × (drop n (d ++ x) ≡ drop n d ++ rest)
+drop_grows zero d x = (x, refl)
+drop_grows (suc n) [] x = (drop (suc n) x, refl)
+drop_grows (suc n) (b ∷ d) x = drop_grows n d x
+
+take_grows : (n : ℕ) (d x : List ℕ) → (rest : List ℕ) × (take n (d ++ x) ≡ take n d ++ rest)
+take_grows zero d x = ([], refl)
+take_grows (suc n) [] x = (take (suc n) x, refl)
+take_grows (suc n) (b ∷ d) x = let more = take_grows n d x in (more.0, ap (λ bs. b ∷ bs) more.1)
+
+part_grows : (d x : List ℕ) (place k : ℕ) → (rest : List ℕ) × (part (d ++ x) place k ≡ part d place k ++ rest)
+unfolding part
+part_grows d x place k =
+    let behind_place = drop_grows place d x in
+    let more = take_grows k (drop place d) behind_place.0 in
+    (more.0, ap (take k) behind_place.1 ∙ more.1)
+
+-- a text that has ended is not changed by them, nor is one of as many bytes as it may have
+text_more : (d x : List ℕ) (t : Text) (place k : ℕ) → (is_ended t (text_part d t place k) ≡ false → length (text_part d t place k) < k → ⊥) → text_part (d ++ x) t place k ≡ text_part d t place k
+unfolding text_part
+text_more d x t place k uncut = by_end (is_ended t (part d place k)) refl where
+  by_end : (is : Bool) → is_ended t (part d place k) ≡ is → text_front t (part (d ++ x) place k) ≡ text_front t (part d place k)
+  by_end true some = let grows = part_grows d x place k in ap (text_front t) grows.1 ∙ front_more t (part d place k) grows.0 some
+  by_end false none = elim (cases_lt (length d - place) k) [
+    | inr all ↦ ap (text_front t) (part_more d x place k all)
+    | inl some_missing ↦ absurd (uncut (front_any t (part d place k) ∙ none) (omega (arith, some_missing, part_length d place k, ap length (front_all t (part d place k) none))))
+  ]
+
+-- what holds of the bytes of a reading that was not cut
+otherwise : (P Q : Type 0) (r : Reading) (bs : List ℕ) → WhereCut r bs P Q → Q
+otherwise P Q (AllOf k) bs h = h
+otherwise P Q (PartOf k) bs h = h.1
+otherwise P Q (TextOf t k) bs h = h.1
+
+-- bytes behind the input do not change a reading that was answered and not cut
+reading_more : (P Q : Type 0) (d x : List ℕ) (r : Reading) (place : ℕ) (bs : List ℕ) → (P → ⊥) → WhereCut r bs P Q → (read_of d r place).answer ≡ Ok bs → read_of (d ++ x) r place ≡ read_of d r place
+reading_more P Q d x (AllOf k) place bs not_cut h is =
+    let all = bytes_ok d bs place k is in
+    rw (span_more d x place k all, bytes_more d x place k all) refl
+reading_more P Q d x (PartOf k) place bs not_cut h is = elim (cases_lt (length d - place) k) [
+  | inr all ↦ rw (span_more d x place k all, part_more d x place k all) refl
+  | inl some_missing ↦ absurd (not_cut (h.0 (omega (arith, some_missing, part_length d place k, ap length (part_is is)))))
+]
+reading_more P Q d x (TextOf t k) place bs not_cut h is =
+    let got : text_part d t place k ≡ bs = part_is is in
+    ap (λ bs. record { answer = Ok bs; marks = span_at place (length bs) })
+    (text_more d x t place k (λ open_end few. not_cut (h.0 (ap (is_ended t) (sym got) ∙ open_end) (omega (arith, few, ap length got)))))
+
+-- what goes on is the same, where the readings are so whose answer it goes on from
+onward_more : {X Y : Type 0} (r r' : Reads X) (f g : X → Reads Y) (y : Y) → (and_then r f).answer ≡ Ok y → ((x : X) → r.answer ≡ Ok x → (f x).answer ≡ Ok y → r' ≡ r) → ((x : X) → (f x).answer ≡ Ok y → g x ≡ f x) → and_then r' g ≡ and_then r f
+onward_more {X} {Y} r r' f g y is same rest = by_answer r.answer refl where
+  by_answer : (a : Result X ImageError) → r.answer ≡ a → and_then r' g ≡ and_then r f
+  by_answer (Ok x) ok =
+      let ends : (f x).answer ≡ Ok y = sym (ap (λ a. (onward r.marks a f).answer) ok) ∙ is in
+      ap (λ w. and_then w g) (same x ok ends) ∙ ap (λ a. onward r.marks a g) ok ∙ ap (behind r.marks) (rest x ends) ∙ sym (ap (λ a. onward r.marks a f) ok)
+  by_answer (Err e) bad = absurd (let no : ◌≡◌ {A = Result Y ImageError} (Err e) (Ok y) = sym (ap (λ a. (onward r.marks a f).answer) bad) ∙ is in cc)
+
+-- Extension: where a plain layout has an answer, it has it over the input and any bytes behind it, with the same marks.
+pub more : {X : Type 0} (d x : List ℕ) (t : Layout X) (v : X) → Plain t → (over d t).answer ≡ Ok v → over (d ++ x) t ≡ over d t
+more d x (done u) v p is = refl
+more d x (refuse e) v p is = refl
+more d x (field order place k f) v p is = onward_more (number_read d order place k) (number_read (d ++ x) order place k) (λ n. over d (f n)) (λ n. over (d ++ x) (f n)) v is
+    (λ n got ok. let all = number_ok d order place k n got in rw (span_more d x place k all, number_more d x order place k all) refl)
+    (λ n ok. more d x (f n) v (p n) ok)
+more d x (reading r place f) v p is = onward_more (read_of d r place) (read_of (d ++ x) r place) (λ bs. over d (f bs)) (λ bs. over (d ++ x) (f bs)) v is
+    (λ bs got ok. reading_more (Never (f bs)) (Plain (f bs)) d x r place bs (λ never. never_ok d (f bs) v never ok) (p bs) got)
+    (λ bs ok. more d x (f bs) v (otherwise (Never (f bs)) (Plain (f bs)) r bs (p bs)) ok)
+
+-- the answer alone
+pub more_answer : {X : Type 0} (d x : List ℕ) (t : Layout X) (v : X) → Plain t → (over d t).answer ≡ Ok v → (over (d ++ x) t).answer ≡ Ok v
+more_answer d x t v p is = ap (λ r. r.answer) (more d x t v p is) ∙ is

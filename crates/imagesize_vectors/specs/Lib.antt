@@ -1,0 +1,2 @@
+-- What the readers of the tests tell and do.
+pub mod Readers

@@ -1,0 +1,88 @@
+//! What is promised over readers that tell their bytes: each of these is proved of readers that there are.
+ghost use Rattle.std.specs.Prelude.{◌≡◌, ◌^◌, ◌<◌, ◌≤◌, length, false, true, Some};
+ghost use Rattle.imagesize_source.specs.Answers.{RisesWithin};
+ghost use Rattle.std.specs.Io.Cursor.{cursor_inner};
+ghost use Rattle.imagesize.specs.Meaning.{meaning, size_of};
+ghost use Rattle.imagesize_source.specs.Reading.{stopped, faulted};
+ghost use Rattle.imagesize_source.specs.State.{total};
+
+use crate::readers::{Counting, Failing, Halting, Interrupted, OneByte};
+use crate::rows::{GIF, NESTED_JPEG};
+use imagesize::{ImageResult, ImageSize, ImageType, reader_size};
+use std::io::{self, Cursor, ErrorKind};
+use std::test::Fail;
+
+// The size through a reader of which a call fails, or that failure.
+fn size_or_fault(bytes: &[u8], left: u64, error: io::Error) -> ImageResult<ImageSize>
+    ensures size { stopped result ≡ false → (meaning bytes.now 0).answer ≡ result }
+    ensures fault { stopped result ≡ true → faulted result ≡ true }
+{
+    // The proof needs that the length is below 2^63.
+    let _length = bytes.len();
+    reader_size(Failing {
+        reader: Cursor::new(bytes),
+        left: Some(left),
+        error,
+    })
+}
+
+// The size through a reader of one byte a read, of which every second read is interrupted.
+fn size_in_pieces(bytes: &[u8], left: u64, error: io::Error) -> ImageResult<ImageSize>
+    requires { left ≤ 64 }
+    ensures { result ≡ (meaning bytes.now 0).answer }
+{
+    let _length = bytes.len();
+    reader_size(OneByte {
+        reader: Halting {
+            cursor: Cursor::new(bytes),
+            left,
+            error,
+            halts: true,
+        },
+    })
+}
+
+// The size through a reader whose first reads are interrupted.
+fn size_at_last(bytes: &[u8], left: u64, error: io::Error) -> ImageResult<ImageSize>
+    requires { left ≤ 64 }
+    ensures { result ≡ (meaning bytes.now 0).answer }
+{
+    let _length = bytes.len();
+    reader_size(Interrupted {
+        reader: Cursor::new(bytes),
+        left,
+        error,
+    })
+}
+
+// The size of this type through a reader that counts, whose count rises by no more than the readings' bytes.
+fn counted_size(kind: ImageType, reader: &mut Counting<'_, Cursor<&[u8]>>) -> ImageResult<ImageSize>
+    requires { length (cursor_inner reader.old.reader).now < 2 ^ 63 }
+    ensures size { stopped result ≡ false → (size_of kind (cursor_inner reader.old.reader).now).answer ≡ result }
+    ensures counts { RisesWithin (Some reader.old.count.now) (Some reader.new.count.now)
+        (total (size_of kind (cursor_inner reader.old.reader).now).marks) }
+{
+    kind.reader_size(reader)
+}
+
+const GIF_SIZE: ImageSize = ImageSize {
+    width: 100,
+    height: 100,
+};
+
+#[test]
+fn promises_over_telling_readers_are_met(rt: HostRuntime) -> Result<(), Fail> {
+    let error = io::Error::from(ErrorKind::Interrupted);
+    assert_eq!(rt; size_or_fault(GIF, 4, error)?, GIF_SIZE);
+    assert!(rt; size_or_fault(GIF, 3, error).is_err());
+    assert_eq!(rt; size_in_pieces(GIF, 64, error)?, GIF_SIZE);
+    assert_eq!(rt; size_at_last(GIF, 64, error)?, GIF_SIZE);
+    let mut count = 0;
+    let mut reader = Counting {
+        reader: Cursor::new(NESTED_JPEG),
+        count: &mut count,
+    };
+    assert!(rt; counted_size(ImageType::Jpeg, &mut reader).is_ok());
+    assert_eq!(rt; count, 18);
+    Ok(())
+}
