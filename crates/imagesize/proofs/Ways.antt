@@ -16,6 +16,9 @@ use Rattle.imagesize_fixed.proofs.Qoi.{qoi_laws}
 use Rattle.imagesize_fixed.proofs.Tga.{tga_laws}
 use Rattle.imagesize_fixed.proofs.Vtf.{vtf_laws}
 use Rattle.imagesize_fixed.proofs.Webp.{webp_laws}
+use Rattle.imagesize_texts.proofs.Exr.{exr_laws}
+use Rattle.imagesize_texts.proofs.Hdr.{hdr_laws}
+use Rattle.imagesize_texts.proofs.Pnm.{pnm_laws}
 use Rattle.imagesize_walked.proofs.Ico.{ico_laws}
 use Rattle.imagesize_walked.proofs.Ilbm.{ilbm_laws}
 use Rattle.imagesize_walked.proofs.Jpeg.{jpeg_laws}
@@ -35,17 +38,17 @@ laws_of Bmp = bmp_laws
 laws_of (Dds _) = dds_laws
 laws_of (Eac _) = pkm_laws
 laws_of (Etc2 _) = pkm_laws
-laws_of Exr = record { few = tt; plain = tt }
+laws_of Exr = exr_laws
 laws_of Farbfeld = farbfeld_laws
 laws_of Gif = gif_laws
-laws_of Hdr = record { few = tt; plain = tt }
+laws_of Hdr = hdr_laws
 laws_of (Heif _) = heif_laws
 laws_of Ico = ico_laws
 laws_of Ilbm = ilbm_laws
 laws_of Jpeg = jpeg_laws
 laws_of Jxl = jxl_laws
 laws_of Ktx2 = ktx2_laws
-laws_of Pnm = record { few = tt; plain = tt }
+laws_of Pnm = pnm_laws
 laws_of (Pvrtc _) = pvrtc_laws
 laws_of Psd = psd_laws
 laws_of Qoi = qoi_laws

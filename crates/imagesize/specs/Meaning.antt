@@ -22,23 +22,20 @@ use Rattle.imagesize_fixed.specs.Qoi.{qoi}
 use Rattle.imagesize_fixed.specs.Tga.{tga}
 use Rattle.imagesize_fixed.specs.Vtf.{vtf}
 use Rattle.imagesize_fixed.specs.Webp.{webp}
+use Rattle.imagesize_texts.specs.Exr.{exr, attributes_begun}
+use Rattle.imagesize_texts.specs.Hdr.{hdr}
+use Rattle.imagesize_texts.specs.Pnm.{pnm}
 use Rattle.imagesize_types.specs.declared.size.ImageSize.{ImageSize}
 use Rattle.imagesize.specs.declared.types.ImageType.TheVariants.{Aseprite, Astc, Atc, Bmp, Dds, Eac, Etc2, Exr, Farbfeld, Gif, Hdr, Heif, Ico, Ilbm, Jpeg, Jxl, Ktx2, Pnm, Pvrtc, Psd, Qoi, Tga, Tiff, Vtf, Webp}
 use Rattle.imagesize.specs.declared.types.ImageType.{ImageType}
 use Rattle.imagesize_source.specs.Chain.{records}
 use Rattle.imagesize_source.specs.Layout.{over}
-use Rattle.imagesize_source.specs.Layout.Layout.{refuse}
 use Rattle.imagesize_source.specs.Reading.{Reads, and_then}
-use Rattle.imagesize_source.specs.Way.{Way, Fixed, Recorded, by_way}
-use Rattle.imagesize_source.specs.declared.error.ImageError.TheVariants.{NotSupported}
+use Rattle.imagesize_source.specs.Way.{Way, Fixed, Recorded, Texts, by_way}
 
 -- the type that an input has at a place
 abbrev pub kind_of : List ℕ → ℕ → Reads ImageType
 kind_of d place = over d (kind (length d) place)
-
--- a size that is not read yet
-abbrev pub unread : Way ImageSize
-unread = Fixed (refuse NotSupported)
 
 -- how the size of each type is told
 abbrev pub way_of : ImageType → Way ImageSize
@@ -49,17 +46,17 @@ way_of Bmp = Fixed bmp
 way_of (Dds _) = Fixed dds
 way_of (Eac _) = Fixed pkm
 way_of (Etc2 _) = Fixed pkm
-way_of Exr = unread
+way_of Exr = Recorded 540 exr attributes_begun
 way_of Farbfeld = Fixed farbfeld
 way_of Gif = Fixed gif
-way_of Hdr = unread
+way_of Hdr = Texts hdr
 way_of (Heif _) = Recorded 20 heif heif_boxes
 way_of Ico = Recorded 20 ico entries_begun
 way_of Ilbm = Recorded 20 ilbm (records ilbm_chunks)
 way_of Jpeg = Recorded 20 jpeg (records jpeg_segments)
 way_of Jxl = Recorded 20 jxl jxl_boxes
 way_of Ktx2 = Fixed ktx2
-way_of Pnm = unread
+way_of Pnm = Texts pnm
 way_of (Pvrtc _) = Fixed pvrtc
 way_of Psd = Fixed psd
 way_of Qoi = Fixed qoi

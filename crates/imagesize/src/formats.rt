@@ -4,8 +4,6 @@ ghost use Rattle.imagesize.specs.Kind.{first_row, kind, rows, with_kind};
 ghost use Rattle.imagesize.specs.Meaning.{size_of};
 ghost use Rattle.imagesize_source.specs.Layout.{over};
 ghost use Rattle.imagesize_source.specs.State.{Runs, Sound};
-ghost use Rattle.imagesize_source.specs.declared.error.ImageError.TheVariants as error;
-ghost use Rattle.imagesize_source.specs.Reading.{refuses};
 
 use crate::types::ImageType;
 use crate::{ImageError, ImageResult};
@@ -112,14 +110,17 @@ pub(crate) fn size<S: Source>(source: &mut S, kind: ImageType) -> ImageResult<Im
         ImageType::Bmp => bmp::size(source),
         ImageType::Dds(_) => dds::size(source),
         ImageType::Eac(_) | ImageType::Etc2(_) => pkm::size(source),
+        ImageType::Exr => exr::size(source),
         ImageType::Farbfeld => farbfeld::size(source),
         ImageType::Gif => gif::size(source),
+        ImageType::Hdr => hdr::size(source),
         ImageType::Heif(_) => heif::size(source),
         ImageType::Ico => ico::size(source),
         ImageType::Ilbm => ilbm::size(source),
         ImageType::Jpeg => jpeg::size(source),
         ImageType::Jxl => jxl::size(source),
         ImageType::Ktx2 => ktx2::size(source),
+        ImageType::Pnm => pnm::size(source),
         ImageType::Pvrtc(_) => pvrtc::size(source),
         ImageType::Psd => psd::size(source),
         ImageType::Qoi => qoi::size(source),
@@ -127,16 +128,5 @@ pub(crate) fn size<S: Source>(source: &mut S, kind: ImageType) -> ImageResult<Im
         ImageType::Tiff => tiff::size(source),
         ImageType::Vtf => vtf::size(source),
         ImageType::Webp => webp::size(source),
-        ImageType::Exr | ImageType::Hdr | ImageType::Pnm => unsupported(source),
     }
-}
-
-// A type whose size is not read. Nothing is read for it.
-#[tactic(auto, using(imagesize_source::proofs::Runs::steps))]
-fn unsupported<S: Source>(source: &mut S) -> ImageResult<ImageSize>
-    ensures { Runs (S.state source.old) (S.state source.new) result (refuses error.NotSupported) }
-{
-    // The proof needs that the source is sound, which it tells with its length.
-    let _told = source.told();
-    Err(ImageError::NotSupported)
 }

@@ -14,7 +14,8 @@ pub trait Open {
     /// What reads the bytes behind a name.
     type Reader: Told;
 
-    /// What is behind each name, to be read from the first byte on with no fault, or why nothing is; or nothing.
+    /// What is behind each name: bytes that are read from the first on with no fault, or why there are none.
+    /// Or nothing is told.
     ghost known: { Self → Option (List ℕ → Result (List ℕ) ImageError) };
 
     /// Opens what is behind a name.

@@ -1,5 +1,5 @@
 -- HDR: how a walk along its lines goes, how many bytes they are read from, and what it sees of an input.
-use Rattle.std.proofs.Common.{◌≡◌, ◌≢◌, ℕ, ◌+◌, ◌^◌, ◌<◌, ◌≤◌, List, [], ◌∷◌, ◌++◌, length, Option, Some, None, Ok, Err, refl, ap, ◌∙◌, arith}
+use Rattle.std.proofs.Common.{◌≡◌, ◌≢◌, ℕ, ◌+◌, ◌^◌, ◌<◌, ◌≤◌, List, [], ◌∷◌, ◌++◌, length, Option, Some, None, true, Ok, Err, refl, ap, ◌∙◌, arith}
 use Rattle.std.proofs.lemmas.Bool.Decides.{nat_tests}
 use Rattle.imagesize_types.specs.declared.size.ImageSize.{ImageSize}
 use Rattle.imagesize_source.specs.declared.error.ImageError.{ImageError}
@@ -19,6 +19,7 @@ use Rattle.imagesize_source.proofs.Extension.{more}
 use Rattle.imagesize_source.proofs.Spends.{Onto, said_to, spends, spends_then, chain_onto}
 use Rattle.imagesize_source.proofs.Tests.{on_test}
 use Rattle.imagesize_source.proofs.Walks.{Walks, walks_start, walks_on, walks_stop, walks_out, walks_past}
+use Rattle.imagesize_source.proofs.Way.{TextsLaws}
 use Rattle.imagesize_texts.specs.Hdr.{hdr, hdr_identifier, identified, hdr_lines, hdr_line, is_identifier, is_resolution, resolution, second_and_fourth}
 use Rattle.imagesize_texts.specs.Texts.{found, line}
 use Rattle.imagesize_texts.proofs.Texts.{found_by, line_onto, line_plain, line_tells, line_begins, line_beyond, lasts_then}
@@ -61,6 +62,9 @@ hdr_within d =
     (λ passed place. line_onto 0x0A place 256 (hdr_line place) (said_to (λ _. None)) place (omega arith)
     (λ text. by_line (Ahead (place + (length text + 1))) place text (λ size. tt) (λ e. tt) (omega arith)))) in
     omega arith
+
+pub hdr_laws : TextsLaws true hdr
+hdr_laws = record { local = hdr_local; within = hdr_within; lasts = λ _. hdr_lasts }
 
 -- how far a walk has come
 abbrev pub HdrWalks : ℕ → State → State → ℕ → Type 0

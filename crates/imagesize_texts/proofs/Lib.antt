@@ -1,3 +1,4 @@
+pub mod Exr
 pub mod Hdr
 pub mod Pnm
 pub mod Texts

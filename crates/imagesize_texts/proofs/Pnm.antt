@@ -1,5 +1,5 @@
 -- PNM: how a walk along its words goes, how many bytes they are read from, and what it sees of an input.
-use Rattle.std.proofs.Common.{◌≡◌, ℕ, ◌+◌, ◌^◌, ◌<◌, ◌≤◌, eqb, List, ◌++◌, length, Option, None, Ok, Err, ap, ◌∙◌, arith}
+use Rattle.std.proofs.Common.{◌≡◌, ℕ, ◌+◌, ◌^◌, ◌<◌, ◌≤◌, eqb, List, ◌++◌, length, Option, None, true, Ok, Err, ap, ◌∙◌, arith}
 use Rattle.std.specs.Str.{trim}
 use Rattle.imagesize_types.specs.declared.size.ImageSize.{ImageSize}
 use Rattle.imagesize_source.specs.declared.error.ImageError.{ImageError}
@@ -15,6 +15,7 @@ use Rattle.imagesize_source.proofs.ChainLaws.{local_chain, lasts_chain}
 use Rattle.imagesize_source.proofs.Spends.{said_to}
 use Rattle.imagesize_source.proofs.Tests.{on_test}
 use Rattle.imagesize_source.proofs.Walks.{Walks, walks_start, walks_on, walks_stop, walks_out, walks_past}
+use Rattle.imagesize_source.proofs.Way.{TextsLaws}
 use Rattle.imagesize_texts.specs.Contents.{WordRead, number_text}
 use Rattle.imagesize_texts.specs.Pnm.{pnm, pnm_words, pnm_word, pnm_comment, pnm_passed, pnm_height, pnm_size, is_comment, is_blank}
 use Rattle.imagesize_texts.specs.Texts.{found, passed_line, word}
@@ -65,6 +66,9 @@ pnm_within d =
     (word_onto (place + w.taken) (λ next. found (pnm_size (number_text w.text) (number_text (trim next.text))) (λ size. done (Decided size))) (said_to (λ _. None)) (place + w.taken) (omega arith)
     (λ next. by_size (Ahead (place + w.taken + next.taken)) (number_text w.text) (number_text (trim next.text)) (λ size. tt) (λ e. tt))))) in
     omega arith
+
+pub pnm_laws : TextsLaws true pnm
+pnm_laws = record { local = pnm_local; within = pnm_within; lasts = λ _. pnm_lasts }
 
 -- how far a walk has come
 abbrev pub PnmWalks : State → State → ℕ → Type 0

@@ -1,7 +1,7 @@
 -- Texts that were read: what was made of them, and what holds of layouts that read them.
 use Rattle.std.proofs.Common.{◌≡◌, ℕ, zero, suc, ◌+◌, ◌-◌, ◌^◌, ◌<◌, ◌≤◌, min, Bool, true, false, ◌||◌, not, cond, eqb, leb, ltb, List, [], ◌∷◌, ◌++◌, length, take, drop, slice_index, Option, None, Some, Result, Ok, Err, IfErr, IfOk, IfSome, refl, sym, ap, ◌∙◌, subst, arith}
 use Rattle.std.proofs.lemmas.Bool.Decides.{nat_tests}
-use Rattle.std.proofs.lemmas.List.{length-take}
+use Rattle.std.proofs.lemmas.List.{length-take, append-nil}
 use Rattle.std.specs.Char.{is_ascii_whitespace}
 use Rattle.std.specs.List.{list_any, position_or_len}
 use Rattle.std.specs.Prelude.{◌&&◌}
@@ -11,19 +11,22 @@ use Rattle.imagesize_source.specs.declared.error.ImageError.TheVariants.{IoError
 use Rattle.imagesize_source.specs.declared.error.Reason.TheVariants.{NoDelimiter, NotUtf8}
 use Rattle.imagesize_source.specs.declared.text.Text.{Text}
 use Rattle.imagesize_source.specs.declared.text.Text.TheVariants.{Line, Word}
+use Rattle.imagesize_source.specs.declared.span.Span.{Span}
+use Rattle.imagesize_source.specs.declared.util.Endian.{Endian}
 use Rattle.imagesize_source.specs.Chain.{Said}
 use Rattle.imagesize_source.specs.Counts.{AtMost}
 use Rattle.imagesize_source.specs.Extension.{Plain, Never, Lasts}
-use Rattle.imagesize_source.specs.Input.{part, span_at}
+use Rattle.imagesize_source.specs.Input.{part, span_at, span_of}
 use Rattle.imagesize_source.specs.Layout.{Layout, over}
-use Rattle.imagesize_source.specs.Layout.Layout.{refuse}
+use Rattle.imagesize_source.specs.Layout.Layout.{refuse, «done», field}
 use Rattle.imagesize_source.specs.Paying.{Paid}
-use Rattle.imagesize_source.specs.Reading.{Reads, and_then, onward, refuses, behind, text_part, text_read, is_stop, seen, is_fault, is_memory, spent, stopped, faulted, end_of_input}
+use Rattle.imagesize_source.specs.Reading.{Reads, gives, and_then, onward, bytes_at, bytes_read, number_at, number_read, refuses, behind, text_part, text_read, is_stop, seen, is_fault, is_memory, spent, stopped, faulted, end_of_input}
 use Rattle.imagesize_source.specs.State.{State, Runs, EndedBy}
 use Rattle.imagesize_source.specs.Text.{is_ended, skipped, delimits}
 use Rattle.imagesize_source.proofs.Advances.{Tells, Begins}
 use Rattle.imagesize_source.proofs.Counts.{text_length}
 use Rattle.imagesize_source.proofs.Layouts.{runs_as}
+use Rattle.imagesize_source.proofs.Extension.{more}
 use Rattle.imagesize_source.proofs.Runs.{answered, part_is, part_length}
 use Rattle.imagesize_source.proofs.Spends.{Onto}
 use Rattle.imagesize_source.proofs.Tests.{on_test}
@@ -193,6 +196,10 @@ pub length_bound : (delimiter most : ℕ) (room : List ℕ) (n : ℕ) (r : Resul
 length_bound delimiter most room n (Ok count) long is = omega (arith, (length_ok delimiter most (take n room) count (sym is)).0, length-take n room)
 length_bound delimiter most room n (Err e) long is = tt
 
+pub line_bound : {A : Type 0} (v : A → List ℕ) (delimiter most : ℕ) (room : List ℕ) (n : ℕ) (r : Result A ImageError) → length room ≡ most → seen v r ≡ line_text delimiter most (take n room) → IfOk r (λ text. length (v text) < most)
+line_bound v delimiter most room n (Ok x) long is = omega (arith, (line_ok delimiter most (take n room) (v x) (sym is)).0, length-take n room)
+line_bound v delimiter most room n (Err e) long is = tt
+
 pub word_bound : {A : Type 0} (v : A → WordRead) (room : List ℕ) (n : ℕ) (r : Result A ImageError) → seen v r ≡ word_text (take n room) → IfOk r (λ w. (0 < (v w).taken) × ((v w).taken < word_room))
 word_bound v room n (Ok x) is =
     let ok = word_ok (take n room) (v x) (sym is) in
@@ -355,3 +362,29 @@ lasts_then {X} {Y} r f first rest d x v is = by_answer (r d).answer refl where
       ap (λ w. and_then w (λ y. f y (d ++ x))) (first d x y got) ∙ ap (λ a. onward (r d).marks a (λ y. f y (d ++ x))) got
       ∙ ap (behind (r d).marks) (rest y d x v ends) ∙ sym (ap (λ a. onward (r d).marks a (λ y. f y d)) got)
   by_answer (Err e) got = absurd (let no : ◌≡◌ {A = Result Y ImageError} (Err e) (Ok v) = sym (ap (λ a. (onward (r d).marks a (λ y. f y d)).answer) got) ∙ is in cc)
+
+answered_done : {X : Type 0} (marks : List Span) (a : Result X ImageError) → onward marks a gives ≡ record { answer = a; marks = marks }
+answered_done marks (Ok x) = ap (λ m. record { answer = Ok x; marks = m }) (append-nil marks)
+answered_done marks (Err e) = refl
+
+-- one number lasts
+pub number_lasts : (order : Endian) (place k : ℕ) → Lasts (λ d. number_read d order place k)
+number_lasts order place k d x v is =
+    let one = answered_done (span_of d place k) (number_at d order place k) in
+    sym (answered_done (span_of (d ++ x) place k) (number_at (d ++ x) order place k))
+    ∙ more d x (field order place k done) v (λ _. tt) (ap (λ r. r.answer) one ∙ is) ∙ one
+
+-- beyond the end of the input there are no bytes of a reading either
+no_bytes : (d : List ℕ) (place k : ℕ) → length d ≤ place → 0 < k → bytes_read d place k ≡ record { answer = Err end_of_input; marks = [] }
+unfolding bytes_at span_of span_at
+no_bytes d place k far some =
+    let none : min k (length d - place) ≡ 0 = omega arith in
+    let test : leb k (length d - place) ≡ false = grind (arith, nat_tests) in
+    rw (none, test) refl
+
+bytes_within : (d : List ℕ) (place k : ℕ) → length d < 2 ^ 63 → 0 < k → (is_within : Bool) → leb place (2 ^ 64 - 1) ≡ is_within → bytes_read d (min place (2 ^ 64 - 1)) k ≡ bytes_read d place k
+bytes_within d place k short some true within = ap (λ p. bytes_read d p k) (grind (arith, nat_tests))
+bytes_within d place k short some false beyond = no_bytes d (min place (2 ^ 64 - 1)) k (grind (arith, nat_tests)) some ∙ sym (no_bytes d place k (grind (arith, nat_tests)) some)
+
+pub bytes_saturated : {a b : State} {r : Result (List ℕ) ImageError} (place k : ℕ) → 0 < k → Runs a b r (bytes_read a.held.input (min place (2 ^ 64 - 1)) k) → Runs a b r (bytes_read a.held.input place k)
+bytes_saturated {a} place k some h = runs_as (bytes_read a.held.input place k) h (λ honest. bytes_within a.held.input place k (h.sound honest).1 some (leb place (2 ^ 64 - 1)) refl)

@@ -1,12 +1,13 @@
 //! Texts: lines up to a delimiter and words between white space, each of so many bytes at most.
 ghost use Rattle.std.specs.Prelude.{◌≡◌, ◌+◌, ◌<◌, ◌≤◌, length, IfOk};
 ghost use Rattle.imagesize_source.specs.Paying.{Paid};
-ghost use Rattle.imagesize_source.specs.Reading.{seen};
+ghost use Rattle.imagesize_source.specs.Reading.{bytes_read, number_read, seen};
 ghost use Rattle.imagesize_source.specs.State.{Runs};
 ghost use Rattle.imagesize_texts.specs.Contents.{ended_word, is_word_end, line_length, line_text, no_end, number_text, utf8, word_text};
 ghost use Rattle.imagesize_texts.specs.Texts.{length_read, line_read, read_word_of, word_read};
 
 use imagesize_source::source::Source;
+use imagesize_source::util::{Endian, read_bytes, read_u32};
 use imagesize_source::{ImageError, ImageResult, Reason, Text};
 
 /// How many bytes of an input a word may take, less one.
@@ -35,6 +36,7 @@ pub fn read_line_capped<'a, S: Source>(
     delimiter: u8,
     room: &'a mut [u8],
 ) -> ImageResult<&'a str>
+    ensures bound { IfOk result (λ text. length text.now < length room.old) }
     ensures pays { IfOk result (λ text. Paid (S.state source.old) (S.state source.new) place) }
     ensures runs { Runs (S.state source.old) (S.state source.new) (seen (λ text. text.now) result)
         (line_read (S.state source.old).held.input delimiter place (length room.old)) }
@@ -50,6 +52,7 @@ pub fn read_null_terminated_string<'a, S: Source>(
     place: u64,
     room: &'a mut [u8],
 ) -> ImageResult<&'a str>
+    ensures bound { IfOk result (λ text. length text.now < length room.old) }
     ensures pays { IfOk result (λ text. Paid (S.state source.old) (S.state source.new) place) }
     ensures runs { Runs (S.state source.old) (S.state source.new) (seen (λ text. text.now) result)
         (line_read (S.state source.old).held.input 0 place (length room.old)) }
@@ -122,6 +125,32 @@ pub fn read_word_behind<'a, S: Source>(
         (word_read (S.state source.old).held.input (place + distance)) }
 {
     read_word(source, place.saturating_add(distance), room)
+}
+
+/// The number of the four bytes so far behind a place. A place above 2^64 - 1 is behind the end of every input.
+pub fn read_u32_behind<S: Source>(
+    source: &mut S,
+    place: u64,
+    distance: u64,
+    endian: Endian,
+) -> ImageResult<u32>
+    ensures { Runs (S.state source.old) (S.state source.new) result
+        (number_read (S.state source.old).held.input endian (place + distance) 4) }
+{
+    read_u32(source, place.saturating_add(distance), endian)
+}
+
+/// The `N` bytes so far behind a place. A place above 2^64 - 1 is behind the end of every input.
+pub fn read_bytes_behind<S: Source, const N: usize>(
+    source: &mut S,
+    place: u64,
+    distance: u64,
+) -> ImageResult<[u8; N]>
+    requires { 0 < N }
+    ensures { Runs (S.state source.old) (S.state source.new) result
+        (bytes_read (S.state source.old).held.input (place + distance) N) }
+{
+    read_bytes::<S, N>(source, place.saturating_add(distance))
 }
 
 // The text of a line, without the delimiter that ends it, where there is room for so many bytes.

@@ -1,4 +1,4 @@
-//! What each call answers of the worked inputs.
+//! What each call returns of the worked inputs.
 
 use crate::readers::OneByte;
 use crate::rows::{Row, kinds, read_as, rows};

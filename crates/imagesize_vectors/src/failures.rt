@@ -1,4 +1,4 @@
-//! What is answered of readers whose calls fail, and of readers that are interrupted.
+//! What is returned of readers whose calls fail, and of readers that are interrupted.
 
 use crate::long::{JPEG_SIZE, jpeg_behind};
 use crate::readers::{Failing, Halting, Interrupted, OneByte};
@@ -52,7 +52,7 @@ fn is_same(alloc: Global, error: &io::Error, other: &io::Error) -> Result<bool, 
     )
 }
 
-// Errors with a kind alone, a text and a number of the system, one of which other readers answer at their end.
+// Errors with a kind alone, a text and a number of the system, one of which other readers return at their end.
 fn failures() -> [io::Error; 4] {
     [
         io::Error::from(ErrorKind::InvalidData),

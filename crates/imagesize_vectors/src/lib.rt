@@ -1,4 +1,4 @@
-//! Worked inputs with their answers, and readers that cut, count, interrupt, fail and lie.
+//! Worked inputs with their answers, and readers that cut, count, interrupt, fail, lie and never end.
 #![tactic(auto)]
 
 #[cfg(test)]
@@ -18,6 +18,8 @@ pub mod readers;
 mod rows;
 #[cfg(test)]
 mod strange;
+#[cfg(test)]
+mod texts;
 #[cfg(test)]
 mod tiff;
 #[cfg(test)]

@@ -1,4 +1,4 @@
-//! What is answered of inputs of many records.
+//! What is returned of inputs of many records.
 
 use crate::readers::OneByte;
 use imagesize::{ImageSize, blob_size, reader_size};

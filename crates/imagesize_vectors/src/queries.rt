@@ -1,4 +1,4 @@
-//! What a type answers of itself.
+//! What a type returns of itself.
 
 use imagesize::{
     AtcCompression, Compression, CompressionFamily, DdsCompression, ImageType, PkmCompression,

@@ -4,7 +4,7 @@ use imagesize::{
     AtcCompression, Compression, DdsCompression, ImageType, PkmCompression, PvrtcCompression,
 };
 
-/// An input, and what is answered of it.
+/// An input, and what is returned of it.
 #[derive(Clone, Copy)]
 pub struct Row {
     /// What it shows.

@@ -1,4 +1,4 @@
-//! What is answered of readers that lie about their length, stand behind it, or never end.
+//! What is returned of readers that lie about their length, stand behind it, or never end.
 
 use crate::readers::{Claiming, Counting, Elsewhere, Endless};
 use crate::rows::GIF;

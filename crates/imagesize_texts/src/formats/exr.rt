@@ -1,12 +1,199 @@
-//! OpenEXR, by "Magic Number" of OpenEXR File Layout.
-ghost use Rattle.std.specs.Prelude.{◌≡◌};
-ghost use Rattle.imagesize_texts.specs.Exr.{is_exr};
+//! OpenEXR, by "OpenEXR File Layout": its attributes up to the first data window that is not reversed.
+ghost use Rattle.std.specs.Prelude.{◌≡◌, ◌+◌, ◌<◌, ◌≤◌, length, IfOk};
+ghost use Rattle.imagesize_source.specs.Chain.{chain_at};
+ghost use Rattle.imagesize_source.specs.Layout.{over};
+ghost use Rattle.imagesize_source.specs.Paying.{Nears, Paid};
+ghost use Rattle.imagesize_source.specs.Reading.{seen};
+ghost use Rattle.imagesize_source.specs.State.{Runs};
+ghost use Rattle.imagesize_texts.specs.Exr.{attribute_said, box_size, exr, exr_attribute, exr_attributes, is_box, is_data_window, is_exr, name_room, side, signed_at, window_size};
+ghost use Rattle.imagesize_texts.specs.Texts.{line_read};
+
+use crate::util::{read_bytes_behind, read_null_terminated_string, read_u32_behind};
+use imagesize_source::source::Source;
+use imagesize_source::util::{Endian, place_behind, read_u32};
+use imagesize_source::{ImageError, ImageResult, Reason};
+use imagesize_types::size::ImageSize;
 
 /// Whether the magic number stands first.
-#[inline(always)]
+#[inline]
 #[tactic(auto, unfolding(crate::specs::Exr::is_exr))]
 pub fn matches(head: &[u8; 12]) -> bool
     ensures { result ≡ is_exr head.now }
 {
     matches!(head, [0x76, 0x2F, 0x31, 0x01, ..])
+}
+
+/// The sides of the first data window that is not reversed.
+#[tactic(auto, using(imagesize_source::proofs::Runs::steps))]
+pub fn size<S: Source>(source: &mut S) -> ImageResult<ImageSize>
+    ensures { Runs (S.state source.old) (S.state source.new) result (exr (S.state source.old).held.input) }
+{
+    let version = read_u32(source, 4, Endian::Little)?;
+    find_window(source, name_room(version))
+}
+
+// How many bytes a name may have, with the zero that ends it.
+#[inline]
+#[tactic(auto, unfolding(crate::specs::Exr::name_room))]
+fn name_room(version: u32) -> usize
+    ensures value { result ≡ name_room version }
+    ensures some { 0 < result }
+    ensures few { result ≤ 256 }
+{
+    if version & 0x400 == 0 { 32 } else { 256 }
+}
+
+// The size by the attributes, whose names may have so many bytes.
+fn find_window<S: Source>(source: &mut S, names: usize) -> ImageResult<ImageSize>
+    requires some { 0 < names }
+    requires few { names ≤ 256 }
+    ensures { Runs (S.state source.old) (S.state source.new) result
+        (chain_at (exr_attributes names) (S.state source.old).held.input) }
+{
+    let mut place: u64 = 8;
+    loop {
+        match read_attribute(source, place, names)? {
+            Attribute::Window(size) => return Ok(size),
+            Attribute::Other { taken } => place = place_behind(place, taken)?,
+        }
+    }
+}
+
+// What an attribute says.
+enum Attribute {
+    // The size, by the data window.
+    Window(ImageSize),
+    // Nothing of the size. It takes so many bytes.
+    Other { taken: u64 },
+}
+
+// The attribute at a place.
+#[tactic(auto, using(imagesize_source::proofs::Runs::steps))]
+fn read_attribute<S: Source>(source: &mut S, place: u64, names: usize) -> ImageResult<Attribute>
+    requires { names ≤ 256 }
+    ensures nears { IfOk result (λ found. Nears (S.state source.old) (S.state source.new) place (attribute_said place found)) }
+    ensures runs { Runs (S.state source.old) (S.state source.new) (seen (λ found. attribute_said place found) result)
+        (over (S.state source.old).held.input (exr_attribute names place)) }
+{
+    let mut room = [0u8; 256];
+    let name = read_name(source, place, names, &mut room)?;
+    if name.is_empty() {
+        return Err(ImageError::IoError(Reason::DataWindowNotFound));
+    }
+    let is_window = is_data_window(name);
+    let typed = name.len() as u64 + 1;
+    let type_name = read_name_behind(source, place, typed, names, &mut room)?;
+    let is_window = is_window && is_box(type_name);
+    let sized = typed + (type_name.len() as u64 + 1);
+    let size = read_u32_behind(source, place, sized, Endian::Little)?;
+    let taken = sized + 4;
+    if !is_window {
+        return Ok(Attribute::Other {
+            taken: taken + size as u64,
+        });
+    }
+    let window = read_bytes_behind::<S, 16>(source, place, taken)?;
+    Ok(match window_size(&window) {
+        Some(size) => Attribute::Window(size),
+        None => Attribute::Other { taken: taken + 16 },
+    })
+}
+
+// The name at a place, which may have so many bytes.
+fn read_name<'a, S: Source>(
+    source: &mut S,
+    place: u64,
+    names: usize,
+    room: &'a mut [u8; 256],
+) -> ImageResult<&'a str>
+    requires { names ≤ 256 }
+    ensures bound { IfOk result (λ text. length text.now < names) }
+    ensures pays { IfOk result (λ text. Paid (S.state source.old) (S.state source.new) place) }
+    ensures runs { Runs (S.state source.old) (S.state source.new) (seen (λ text. text.now) result)
+        (line_read (S.state source.old).held.input 0 place names) }
+{
+    read_null_terminated_string(source, place, &mut room[..names])
+}
+
+// The name so far behind a place. A place above 2^64 - 1 is behind the end of every input.
+fn read_name_behind<'a, S: Source>(
+    source: &mut S,
+    place: u64,
+    distance: u64,
+    names: usize,
+    room: &'a mut [u8; 256],
+) -> ImageResult<&'a str>
+    requires { names ≤ 256 }
+    ensures bound { IfOk result (λ text. length text.now < names) }
+    ensures runs { Runs (S.state source.old) (S.state source.new) (seen (λ text. text.now) result)
+        (line_read (S.state source.old).held.input 0 (place + distance) names) }
+{
+    read_name(source, place.saturating_add(distance), names, room)
+}
+
+// Whether a name is that of the data window.
+#[inline]
+#[tactic(auto, unfolding(crate::specs::Exr::is_data_window))]
+fn is_data_window(name: &str) -> bool
+    ensures { result ≡ is_data_window name.now }
+{
+    matches!(
+        name.as_bytes(),
+        [b'd', b'a', b't', b'a', b'W', b'i', b'n', b'd', b'o', b'w']
+    )
+}
+
+// Whether a type is that of a box of whole numbers.
+#[inline]
+#[tactic(auto, unfolding(crate::specs::Exr::is_box))]
+fn is_box(type_name: &str) -> bool
+    ensures { result ≡ is_box type_name.now }
+{
+    matches!(type_name.as_bytes(), [b'b', b'o', b'x', b'2', b'i'])
+}
+
+// The size of a window, unless it is reversed.
+#[tactic(auto, unfolding(crate::specs::Exr::window_size))]
+fn window_size(bytes: &[u8; 16]) -> Option<ImageSize>
+    ensures { result ≡ window_size bytes.now }
+{
+    let width = side(signed_at(bytes, 0), signed_at(bytes, 8));
+    let height = side(signed_at(bytes, 4), signed_at(bytes, 12));
+    box_size(width, height)
+}
+
+// The signed number of the four bytes from a place on.
+#[tactic(auto, using(crate::proofs::Exr::signed_four))]
+fn signed_at(bytes: &[u8; 16], place: usize) -> i32
+    requires { place ≤ 12 }
+    ensures { result ≡ signed_at place bytes.now }
+{
+    i32::from_le_bytes([
+        bytes[place],
+        bytes[place + 1],
+        bytes[place + 2],
+        bytes[place + 3],
+    ])
+}
+
+// How many there are from a number to another that is no less, with both.
+#[tactic(auto, unfolding(crate::specs::Exr::side))]
+fn side(low: i32, high: i32) -> Option<usize>
+    ensures { result ≡ side low high }
+{
+    if low > high {
+        return None;
+    }
+    Some(high.abs_diff(low) as usize + 1)
+}
+
+// The size of a box of these sides.
+#[inline]
+fn box_size(width: Option<usize>, height: Option<usize>) -> Option<ImageSize>
+    ensures { result ≡ box_size width height }
+{
+    match (width, height) {
+        (Some(width), Some(height)) => Some(ImageSize { width, height }),
+        _ => None,
+    }
 }

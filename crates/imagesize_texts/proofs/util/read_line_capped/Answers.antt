@@ -1,6 +1,9 @@
 use Rattle.std.proofs.Common.{rules, length, List, ℕ}
-use Rattle.imagesize_texts.proofs.Texts.{line_runs, line_pays}
+use Rattle.imagesize_texts.proofs.Texts.{line_runs, line_bound, line_pays}
 use Rattle.imagesize_texts.proofs.util.read_line_capped.Goals as goal
+
+pub returns-clause-bound : goal.returns-clause-bound
+returns-clause-bound g c = line_bound (λ text. text.now) c.args.delimiter (length c.args.room.now) c.read_text.new.room c.in_ok-count.count c.line_text.result (search rules) c.line_text.ensures
 
 pub returns-clause-pays : goal.returns-clause-pays
 returns-clause-pays g c = line_pays (λ text. text.now) c.args.delimiter (length c.args.room.now) c.read_text.new.room c.in_ok-count.count c.line_text.result c.line_text.ensures c.in_ok-count.ensures.pays
