@@ -1,5 +1,5 @@
 -- EXR: how a walk along its attributes goes, how many bytes they are read from, and what it sees of an input.
-use Rattle.std.proofs.Common.{◌≡◌, ℕ, suc, ◌+◌, ◌-◌, ◌*◌, ◌^◌, ◌<◌, ◌≤◌, Bool, cond, eqb, List, [], ◌∷◌, ◌++◌, length, take, Option, Some, None, Result, Ok, Err, true, refl, sym, ap, ◌∙◌, arith, slice_index_or}
+use Rattle.std.proofs.Common.{◌≡◌, ℕ, suc, ◌+◌, ◌-◌, ◌*◌, ◌^◌, ◌<◌, ◌≤◌, Bool, eqb, List, [], ◌∷◌, ◌++◌, length, take, Option, Some, None, Result, Ok, Err, true, refl, sym, ap, ◌∙◌, arith, slice_index_or}
 use Rattle.std.proofs.Math.Seq.{drop-cons}
 use Rattle.std.specs.Prelude.{◌&&◌}
 use Rattle.std.specs.Int.{w32, cast_signed, from_le_bytes}
@@ -10,13 +10,13 @@ use Rattle.imagesize_source.specs.declared.error.ImageError.TheVariants.{IoError
 use Rattle.imagesize_source.specs.declared.error.Reason.TheVariants.{DataWindowNotFound}
 use Rattle.imagesize_source.specs.declared.util.Endian.TheVariants.{Little}
 use Rattle.imagesize_source.specs.Agreement.{Local}
-use Rattle.imagesize_source.specs.Chain.{Said, Decided, Next, Advances, chain_at, records}
+use Rattle.imagesize_source.specs.Chain.{Said, Decided, Next, Advances, chain_at}
 use Rattle.imagesize_source.specs.Counts.{AtMost}
 use Rattle.imagesize_source.specs.Extension.{Plain, Lasts}
 use Rattle.imagesize_source.specs.Input.{span_of}
-use Rattle.imagesize_source.specs.Layout.{Layout, over, bytes, done, refuse, field}
+use Rattle.imagesize_source.specs.Layout.{Layout, over, bytes, done, refuse}
 use Rattle.imagesize_source.specs.Numbers.{number}
-use Rattle.imagesize_source.specs.Reading.{Reads, onward, number_at, number_read, end_of_input}
+use Rattle.imagesize_source.specs.Reading.{onward, number_at, number_read, end_of_input}
 use Rattle.imagesize_source.specs.State.{State, Runs, total}
 use Rattle.imagesize_source.proofs.Advances.{Tells, advances}
 use Rattle.imagesize_source.proofs.Ahead.{Ahead, chain_ahead}
@@ -25,7 +25,7 @@ use Rattle.imagesize_source.proofs.Counts.{then_within, total-span_of}
 use Rattle.imagesize_source.proofs.Agreement.{local_then, local_number}
 use Rattle.imagesize_source.proofs.Numbers.{little_4}
 use Rattle.imagesize_source.proofs.Runs.{total-append}
-use Rattle.imagesize_source.proofs.Spends.{Onto, said_to}
+use Rattle.imagesize_source.proofs.Spends.{said_to}
 use Rattle.imagesize_source.proofs.Tests.{on_test}
 use Rattle.imagesize_source.proofs.Walks.{Walks, walks_start, walks_on, walks_stop, walks_out, walks_past}
 use Rattle.imagesize_source.proofs.Way.{RecordedLaws}

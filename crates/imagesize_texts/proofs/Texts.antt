@@ -1,9 +1,9 @@
 -- Texts that were read: what was made of them, and what holds of layouts that read them.
-use Rattle.std.proofs.Common.{◌≡◌, ℕ, zero, suc, ◌+◌, ◌-◌, ◌^◌, ◌<◌, ◌≤◌, min, Bool, true, false, ◌||◌, not, cond, eqb, leb, ltb, List, [], ◌∷◌, ◌++◌, length, take, drop, slice_index, Option, None, Some, Result, Ok, Err, IfErr, IfOk, IfSome, refl, sym, ap, ◌∙◌, subst, arith}
+use Rattle.std.proofs.Common.{◌≡◌, ℕ, zero, suc, ◌+◌, ◌-◌, ◌^◌, ◌<◌, ◌≤◌, min, Bool, true, false, ◌||◌, not, cond, eqb, leb, ltb, List, [], ◌∷◌, ◌++◌, length, take, drop, slice_index, Option, None, Result, Ok, Err, IfErr, IfOk, IfSome, refl, sym, ap, ◌∙◌, subst, arith}
 use Rattle.std.proofs.lemmas.Bool.Decides.{nat_tests}
 use Rattle.std.proofs.lemmas.List.{length-take, append-nil}
 use Rattle.std.specs.Char.{is_ascii_whitespace}
-use Rattle.std.specs.List.{list_any, position_or_len}
+use Rattle.std.specs.List.{list_any}
 use Rattle.std.specs.Prelude.{◌&&◌}
 use Rattle.std.specs.Str.{is_utf8}
 use Rattle.imagesize_source.specs.declared.error.ImageError.{ImageError}
@@ -16,13 +16,12 @@ use Rattle.imagesize_source.specs.declared.util.Endian.{Endian}
 use Rattle.imagesize_source.specs.Chain.{Said}
 use Rattle.imagesize_source.specs.Counts.{AtMost}
 use Rattle.imagesize_source.specs.Extension.{Plain, Never, Lasts}
-use Rattle.imagesize_source.specs.Input.{part, span_at, span_of}
+use Rattle.imagesize_source.specs.Input.{span_at, span_of}
 use Rattle.imagesize_source.specs.Layout.{Layout, over}
 use Rattle.imagesize_source.specs.Layout.Layout.{refuse, «done», field}
-use Rattle.imagesize_source.specs.Paying.{Paid}
 use Rattle.imagesize_source.specs.Reading.{Reads, gives, and_then, onward, bytes_at, bytes_read, number_at, number_read, refuses, behind, text_part, text_read, is_stop, seen, is_fault, is_memory, spent, stopped, faulted, end_of_input}
 use Rattle.imagesize_source.specs.State.{State, Runs, EndedBy}
-use Rattle.imagesize_source.specs.Text.{is_ended, skipped, delimits}
+use Rattle.imagesize_source.specs.Text.{is_ended, skipped}
 use Rattle.imagesize_source.proofs.Advances.{Tells, Begins}
 use Rattle.imagesize_source.proofs.Counts.{text_length}
 use Rattle.imagesize_source.proofs.Layouts.{runs_as}

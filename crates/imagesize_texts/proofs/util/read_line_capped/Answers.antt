@@ -1,4 +1,4 @@
-use Rattle.std.proofs.Common.{rules, length, List, ℕ}
+use Rattle.std.proofs.Common.{rules, length}
 use Rattle.imagesize_texts.proofs.Texts.{line_runs, line_bound, line_pays}
 use Rattle.imagesize_texts.proofs.util.read_line_capped.Goals as goal
 

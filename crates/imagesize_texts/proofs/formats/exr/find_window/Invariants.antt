@@ -1,4 +1,3 @@
-use Rattle.std.proofs.Common.{◌<◌, ◌≤◌}
 use Rattle.imagesize_source.specs.Paying.{ahead_of}
 use Rattle.imagesize_texts.proofs.Exr.{ExrWalks}
 use Rattle.imagesize_texts.proofs.formats.exr.find_window.Given as goal

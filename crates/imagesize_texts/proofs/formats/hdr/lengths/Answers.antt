@@ -1,4 +1,4 @@
-use Rattle.std.proofs.Common.{◌≡◌, ◌≢◌, length, None, ap, sym, ◌∙◌, arith, rules, length-append}
+use Rattle.std.proofs.Common.{◌≡◌, length, None, ap, sym, ◌∙◌, arith, rules}
 use Rattle.std.specs.Str.Iter.{split_whitespace_rest}
 use Rattle.imagesize_texts.specs.Contents.{words}
 use Rattle.imagesize_texts.specs.Hdr.{second_and_fourth}
