@@ -1,7 +1,7 @@
 //! What is answered of boxes of HEIF and AVIF.
 
-use crate::readers::OneByte;
 use crate::failures::check_each_failure;
+use crate::readers::OneByte;
 use imagesize::{
     Compression, ImageResult, ImageSize, ImageType, Span, blob_size, blob_trace, image_type,
     reader_probe, reader_size,

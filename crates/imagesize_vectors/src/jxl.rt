@@ -1,7 +1,7 @@
 //! What is answered of codestreams and boxes of JPEG XL.
 
-use crate::readers::OneByte;
 use crate::failures::check_each_failure;
+use crate::readers::OneByte;
 use imagesize::{
     ImageResult, ImageSize, ImageType, Span, blob_size, blob_trace, image_type, reader_probe,
     reader_size,

@@ -1,9 +1,9 @@
 //! What is answered of PNM, HDR and EXR, whose sizes stand in texts.
 ghost use Rattle.std.specs.Prelude.{None};
 
+use crate::failures::check_each_failure;
 use crate::readers::{Counting, OneByte};
 use crate::rows::Row;
-use crate::failures::check_each_failure;
 use imagesize::{
     ImageError, ImageResult, ImageSize, ImageType, Reason, Stop, Told, blob_size, reader_probe,
     reader_size,

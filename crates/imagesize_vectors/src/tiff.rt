@@ -1,8 +1,8 @@
 //! What is answered of directories of TIFF and BigTIFF.
 ghost use Rattle.std.specs.Prelude.{None};
 
-use crate::readers::{Claiming, OneByte};
 use crate::failures::check_each_failure;
+use crate::readers::{Claiming, OneByte};
 use imagesize::{
     ImageError, ImageResult, ImageSize, ImageType, Reason, Stop, Told, blob_size, reader_probe,
     reader_size,
