@@ -1,9 +1,9 @@
 //! What is answered of PNM, HDR and EXR, whose sizes stand in texts.
 ghost use Rattle.std.specs.Prelude.{None};
 
+use crate::failures::check_each_failure;
 use crate::readers::{Counting, OneByte};
 use crate::rows::Row;
-use crate::strange::{FAILURES, check_failures};
 use imagesize::{
     ImageError, ImageResult, ImageSize, ImageType, Reason, Stop, Told, blob_size, reader_probe,
     reader_size,
@@ -460,12 +460,10 @@ fn attributes_have_no_greatest_number(rt: HostRuntime) -> Result<(), Fail> {
 }
 
 #[test]
-fn each_failure_within_texts_is_answered(rt: HostRuntime) {
-    for failure in FAILURES {
-        check_failures(&rt, PNM_WITH_A_COMMENT, ImageType::Pnm, failure);
-        check_failures(&rt, HDR_BEHIND_A_LINE, ImageType::Hdr, failure);
-        check_failures(&rt, EXR_OF_ONE_ATTRIBUTE, ImageType::Exr, failure);
-    }
+fn each_failure_within_texts_is_answered(rt: HostRuntime) -> Result<(), Fail> {
+    check_each_failure(&rt, PNM_WITH_A_COMMENT, ImageType::Pnm)?;
+    check_each_failure(&rt, HDR_BEHIND_A_LINE, ImageType::Hdr)?;
+    check_each_failure(&rt, EXR_OF_ONE_ATTRIBUTE, ImageType::Exr)
 }
 
 // Some bytes, and one more without end. It tells a length, and goes wherever it is asked to go.

@@ -1,8 +1,8 @@
 //! What is answered of directories of TIFF and BigTIFF.
 ghost use Rattle.std.specs.Prelude.{None};
 
+use crate::failures::check_each_failure;
 use crate::readers::{Claiming, OneByte};
-use crate::strange::{FAILURES, check_failures};
 use imagesize::{
     ImageError, ImageResult, ImageSize, ImageType, Reason, Stop, Told, blob_size, reader_probe,
     reader_size,
@@ -284,12 +284,11 @@ fn each_byte_of_a_directory_is_taken_once(rt: HostRuntime) -> Result<(), Fail> {
 }
 
 #[test]
-fn each_failure_along_a_directory_is_answered(rt: HostRuntime) {
+fn each_failure_along_a_directory_is_answered(rt: HostRuntime) -> Result<(), Fail> {
     for bytes in [ROWS[0].bytes, ROWS[3].bytes] {
-        for failure in FAILURES {
-            check_failures(&rt, bytes, ImageType::Tiff, failure);
-        }
+        check_each_failure(&rt, bytes, ImageType::Tiff)?;
     }
+    Ok(())
 }
 
 // The size that stands in the last two of many entries.
