@@ -1,0 +1,72 @@
+-- What `report_spans` writes, by what was found.
+use Rattle.std.proofs.Common.{◌≡◌, ℕ, ◌+◌, ◌<◌, Bool, false, List, [], ◌∷◌, ◌++◌, length, take, get_or, Option, None, Some, Result, Ok, Err, IsOk, IsSome, IsSomeAnd, IfSome, OnOk, is_ok, option_map, refl, rules, append_assoc}
+use Rattle.std.proofs.lemmas.Grind.{take_at_read}
+use Rattle.std.specs.Result.{result_ok}
+use Rattle.std.specs.Io.KnownBytes.{Appends}
+use Rattle.imagesize.specs.Meaning.{kind_of, meaning}
+use Rattle.imagesize.specs.Traced.{Traces}
+use Rattle.imagesize.specs.declared.trace.Trace.{Trace}
+use Rattle.imagesize.specs.declared.types.ImageType.{ImageType}
+use Rattle.imagesize_types.specs.declared.size.ImageSize.{ImageSize}
+use Rattle.imagesize_probe.proofs.Lines.{has_text, sized_kind}
+use Rattle.imagesize_probe.specs.Line.{line, lines, refused_line, span_line, span_lines, TracesTo}
+use Rattle.imagesize_source.specs.Reading.{stopped}
+use Rattle.imagesize_source.specs.Reason.{error_text}
+use Rattle.imagesize_source.specs.declared.error.ImageError.{ImageError}
+use Rattle.imagesize_source.specs.declared.span.Span.{Span}
+
+-- the lines of spans and of one more
+span_lines_push : (spans : List Span) (span : Span) → span_lines (spans ++ span ∷ []) ≡ span_lines spans ++ span_line span
+span_lines_push [] span = search rules
+span_lines_push (first ∷ spans) span = search (rules, span_lines_push spans span, append_assoc)
+
+-- the line of one span more of those that were taken
+pub one_span : (spans : List Span) (i : ℕ) (span : Span) → i < length spans → span ≡ get_or spans i span →
+    span_lines (take (i + 1) spans) ≡ span_lines (take i spans) ++ span_line span
+one_span spans i span there at =
+    let more : take (i + 1) spans ≡ take i spans ++ get_or spans i span ∷ [] = (take_at_read spans i span there).1 in
+    search (rules, more, ← at, span_lines_push (take i spans) span)
+
+-- of an answer that is no failure there is a line
+line_there : (name : List ℕ) (found : Option ImageType) (r : Result ImageSize ImageError) → (IsOk r → IsSome found) →
+    stopped r ≡ false → IsSome (line name found r)
+line_there name (Some image) (Ok size) _ _ = refl
+line_there name None (Ok size) typed _ = (cc (typed refl))
+line_there name found (Err e) _ going = text_there name (error_text e) (has_text e going)
+ where
+  text_there : (name : List ℕ) (text : Option (List ℕ)) → IsSome text → IsSome (option_map (refused_line name) text)
+  text_there name (Some text) _ = refl
+  text_there name None has = (cc)
+
+-- a line that is stated, and more behind it
+more_behind : (text : Option (List ℕ)) (more : List ℕ) (old new : Option (List ℕ)) → IsSome text →
+    IfSome text (λ first. Appends old new (first ++ more)) → IsSomeAnd (option_map (λ first. first ++ more) text) (Appends old new)
+more_behind (Some text) more old new _ wrote = wrote
+more_behind None more old new has _ = (cc)
+
+-- a size stands beside a type
+kind_there : {X : Type 0} (r : Result ImageSize ImageError) (found : Result X ImageError) → (IsOk r → IsOk found) → IsOk r → IsSome (result_ok found)
+kind_there r (Ok image) _ _ = refl
+kind_there r (Err e) typed ok = (cc (typed ok))
+
+pub trace_typed : {A : Type 0} (d : List ℕ) (t : Trace A) → Traces d t → OnOk t.answer (IsSome t.kind)
+trace_typed d t traces = rw traces.answer (rw traces.kind (on_ok (meaning d 0).answer (IsSome (result_ok (kind_of d 0).answer))
+    (kind_there (meaning d 0).answer (kind_of d 0).answer (sized_kind d 0))))
+ where
+  on_ok : (r : Result ImageSize ImageError) (P : Type 0) → (IsOk r → P) → OnOk r P
+  on_ok (Ok size) P holds = holds refl
+  on_ok (Err e) P _ = tt
+
+-- what was written of a trace
+pub traced : {A : Type 0} (d name : List ℕ) (t : Trace A) (old new : Option (List ℕ)) (sized : Bool) → Traces d t →
+    IfSome (line name t.kind t.answer) (λ text. Appends old new (text ++ span_lines t.spans.items)) →
+    sized ≡ is_ok t.answer → TracesTo d name old new sized
+traced d name t old new sized traces wrote is =
+    let kind = traces.kind in let answer = traces.answer in let spans = traces.spans in
+    record {
+      text = more_behind (line name (result_ok (kind_of d 0).answer) (meaning d 0).answer) (span_lines (meaning d 0).marks) old new
+          (line_there name (result_ok (kind_of d 0).answer) (meaning d 0).answer
+          (kind_there (meaning d 0).answer (kind_of d 0).answer (sized_kind d 0)) (rw (← answer) traces.goes))
+          (rw (← kind) (rw (← answer) (rw (← spans) wrote)));
+      size = rw (← answer) is;
+    }
