@@ -138,7 +138,7 @@ module _ (d : List ℕ) where
       (λ index. by_piece (λ t. Lean (u + 4) held (over d t)) (place + (head.length + 4)) (min (box_room head - 4) (16 - length held)) (λ piece. done (partial_said held place head index piece))
       (λ _. lean_said (u + 4) held [] (partial_said held place head index []) [] (λ found next is. partial_piece held place head index [] found next is) (omega arith) (omega arith) (omega arith))
       (λ _. let q : ℕ = place + (head.length + 4) in let k : ℕ = min (box_room head - 4) (16 - length held) in
-      let seen = total_behind d q k in let long = part_length d q k in
+      let few_of = total-span_of d q k in let seen = total_behind d q k in let long = part_length d q k in
       lean_said (u + 4) held (span_of d q k) (partial_said held place head index (part d q k)) (part d q k) (λ found next is. partial_piece held place head index (part d q k) found next is) (omega arith) (omega arith) (omega arith))))
       (lean_said u held [] (said_behind held place head []) [] (λ found next is. end_piece held place head [] found next is) (omega arith) (omega arith) (omega arith))
 
