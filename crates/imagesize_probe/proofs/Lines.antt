@@ -1,5 +1,5 @@
 -- What `report` writes, by what was found.
-use Rattle.std.proofs.Common.{◌≡◌, ℕ, Bool, true, false, List, Option, None, Some, Result, Ok, Err, IsOk, IsErr, IsSome, IsSomeAnd, IfSome, is_ok, option_map, refl, OnOk, IfOk, ◌++◌, IfErr}
+use Rattle.std.proofs.Common.{◌≡◌, ℕ, Bool, true, false, List, Option, None, Some, Result, Ok, Err, IsOk, IsErr, IsSome, IsSomeAnd, IfSome, is_ok, option_map, refl, OnOk, IfOk}
 use mathlib.Core.Logic.{⊎_elim}
 use Rattle.std.specs.declared.io.Error.{Error}
 use Rattle.std.specs.Result.{result_ok}

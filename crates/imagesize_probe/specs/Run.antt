@@ -1,6 +1,6 @@
 -- What the program writes of the names that it is given.
 use Rattle.std.specs.Prelude.{◌≡◌, ℕ, ◌<◌, ◌≤◌, Bool, true, false, if◌then◌else◌, ◌||◌, not, List, [], ◌∷◌, ◌++◌, length, take, ◌⊎◌, Option, None, Some, Result, Ok, Err, IsOkAnd, IsSomeAnd, IfSome, codes, is_ok, option_map}
-use Rattle.core.specs.Str.{bytes_eq}
+use Rattle.std.specs.Str.{bytes_eq}
 use Rattle.std.specs.Result.{result_ok}
 use Rattle.std.specs.Io.KnownBytes.{Appends, Keeps}
 use Rattle.std.specs.declared.io.Error.{Error}

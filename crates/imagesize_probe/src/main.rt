@@ -2,8 +2,8 @@
 //! that this rests on.
 #![tactic(auto)]
 
-ghost use Rattle.std.specs.Prelude.{◌≡◌, ◌||◌, IsTrue, IfErr, Option, None};
-ghost use Rattle.imagesize_probe.specs.Run.{Files};
+ghost use Rattle.std.specs.Prelude.{◌≡◌, ◌||◌, IsTrue, IfOk, IfErr, Option, None};
+ghost use Rattle.imagesize_probe.specs.Run.{Files, Loads, LoadsNone};
 ghost use Rattle.imagesize_source.specs.Reading.{is_fault, is_memory};
 
 mod names;
@@ -68,10 +68,12 @@ impl<R: Files + AllocGlobal> Open for Disk<'_, R> {
             Err(_) => Err(ImageError::IoError(Reason::Memory)),
         }
     }
+
     fn load(&mut self, name: &str) -> ImageResult<Vec<u8>>
-        ensures loads { Unit {0} }
-        ensures refuses { Unit {0} }
+        ensures loads { IfOk result (λ bytes. Loads None name.now bytes.items) }
+        ensures refuses { IfErr result (LoadsNone None name.now) }
         ensures keeps { ◌≡◌ {A = Option Files} None None }
+        ensures fails { IfErr result (λ e. IsTrue (is_fault e || is_memory e)) }
     {
         let file = fs::open(self.rt, name)?;
         let mut bytes = Vec::new(self.rt.alloc());

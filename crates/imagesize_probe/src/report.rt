@@ -1,7 +1,7 @@
 //! The line about one image.
 ghost use Rattle.std.specs.Prelude.{◌≡◌, ◌++◌, IfOk, IfSome, IsSome, OnOk, true, false, is_ok};
 ghost use Rattle.std.specs.Io.KnownBytes.{Appends};
-ghost use Rattle.imagesize_probe.specs.Line.{line, sized_line, refused_line, span_lines, Reports, ReportsSpans};
+ghost use Rattle.imagesize_probe.specs.Line.{line, sized_line, refused_line, span_line, span_lines, Reports, ReportsSpans};
 ghost use Rattle.imagesize_probe.specs.Status.{status_of};
 ghost use Rattle.imagesize_source.specs.Reason.{error_text};
 
@@ -68,10 +68,17 @@ fn write_spans<W: Write>(spans: &[Span], writer: &mut W) -> io::Result<()>
     ensures { OnOk result (Appends (W.contents writer.old) (W.contents writer.new) (span_lines spans.now)) }
 {
     for span in spans {
-        let Span { start, len } = *span;
-        writeln!(writer, "  {start}+{len}")?;
+        write_span(span, writer)?;
     }
     Ok(())
+}
+
+// Writes the line of a span.
+fn write_span<W: Write>(span: &Span, writer: &mut W) -> io::Result<()>
+    ensures { OnOk result (Appends (W.contents writer.old) (W.contents writer.new) (span_line span.now)) }
+{
+    let Span { start, len } = *span;
+    writeln!(writer, "  {start}+{len}")
 }
 
 // Writes the line of what was found, a size beside a type, and returns whether it is a size.

@@ -1,8 +1,10 @@
 //! The lines of many names, and what the program ends with.
-ghost use Rattle.std.specs.Prelude.{◌≡◌, ℕ, List, Option, Result, IfOk, IfErr, map};
+ghost use Rattle.std.specs.Prelude.{◌≡◌, ℕ, List, Option, Result, IfOk, IfErr, OnOk, codes, false, map};
+ghost use Rattle.std.specs.Io.KnownBytes.{Appends};
+ghost use Rattle.imagesize_probe.specs.Line.{refused_line};
 ghost use Rattle.std.specs.String.{string_bytes};
 ghost use Rattle.imagesize_source.specs.declared.error.ImageError.{ImageError};
-ghost use Rattle.imagesize_probe.specs.Run.{IsTooLong, Loads, LoadsNone, OpensTo, ReportsWhole, RunsWith, WritesAll, WritesLine, WritesOne, WritesSpans, exit_code, names_in, wants_spans};
+ghost use Rattle.imagesize_probe.specs.Run.{Loads, LoadsNone, OpensTo, ReportsWhole, RunsWith, WritesAll, WritesLine, WritesOne, WritesSpans, exit_code, names_in, wants_spans};
 
 use crate::report::{report, report_spans, status, write_refusal};
 use imagesize::{ImageResult, Told};
@@ -148,9 +150,11 @@ fn write_whole<A: Allocator, W: Write>(
 
 // Writes the line of a file that is too long, and returns false.
 fn write_too_long<W: Write>(name: &str, output: &mut W) -> io::Result<bool>
-    ensures { IfOk result (IsTooLong name.now (W.contents output.old) (W.contents output.new)) }
+    ensures text { OnOk result (Appends (W.contents output.old) (W.contents output.new)
+        (refused_line name.now (codes "file is longer than 16777216 bytes"))) }
+    ensures refused { IfOk result (λ sized. sized ≡ false) }
 {
-    writeln!(output, "{name}: error: file is longer than {WHOLE} bytes")?;
+    writeln!(output, "{name}: error: file is longer than 16777216 bytes")?;
     Ok(false)
 }
 

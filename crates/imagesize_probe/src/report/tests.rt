@@ -78,12 +78,7 @@ fn lines_of_refusals_say_why(rt: HostRuntime) -> Result<(), Fail> {
 }
 
 // Reports on the bytes of a slice, and on the bytes that this rests on.
-fn report_slice(
-    alloc: Global,
-    name: &str,
-    bytes: &[u8],
-    written: &mut Vec<u8>,
-) -> io::Result<bool>
+fn report_slice(alloc: Global, name: &str, bytes: &[u8], written: &mut Vec<u8>) -> io::Result<bool>
     ensures { IfOk result (ReportsSpans bytes.now name.now (Some written.old.items) (Some written.new.items)) }
 {
     report_spans(alloc, name, bytes, written)
@@ -105,12 +100,7 @@ fn lines_of_spans_stand_below(rt: HostRuntime) -> Result<(), Fail> {
             "cut.gif: error: failed to fill whole buffer\n  0+10\n",
             false,
         ),
-        (
-            "e",
-            b"",
-            "e: error: failed to fill whole buffer\n",
-            false,
-        ),
+        ("e", b"", "e: error: failed to fill whole buffer\n", false),
     ] {
         let mut written = Vec::new(alloc);
         assert_eq!(rt; report_slice(alloc, name, bytes, &mut written)?, sized);

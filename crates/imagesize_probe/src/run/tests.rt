@@ -202,7 +202,13 @@ fn the_usage_is_written_where_none_is_named(rt: HostRuntime) -> Result<(), Fail>
     let mut output = Vec::new(alloc);
     let mut errors = Vec::new(alloc);
     assert_eq!(rt;
-        run(alloc, &[], &mut Shelf { alloc, asked: 0 }, &mut output, &mut errors)?,
+        run(
+            alloc,
+            &[],
+            &mut Shelf { alloc, asked: 0 },
+            &mut output,
+            &mut errors
+        )?,
         2
     );
     assert!(rt; output.is_empty());
@@ -215,7 +221,13 @@ fn the_usage_is_written_where_none_is_named(rt: HostRuntime) -> Result<(), Fail>
         sent: 0,
     };
     assert_eq!(rt;
-        run(alloc, &[], &mut Shelf { alloc, asked: 0 }, &mut output, &mut full)?,
+        run(
+            alloc,
+            &[],
+            &mut Shelf { alloc, asked: 0 },
+            &mut output,
+            &mut full
+        )?,
         2
     );
     Ok(())
@@ -257,7 +269,13 @@ fn each_line_is_sent_before_the_next_file(rt: HostRuntime) -> Result<(), Fail> {
     };
     let mut errors = Vec::new(alloc);
     assert_eq!(rt;
-        run(alloc, &names, &mut Shelf { alloc, asked: 0 }, &mut output, &mut errors)?,
+        run(
+            alloc,
+            &names,
+            &mut Shelf { alloc, asked: 0 },
+            &mut output,
+            &mut errors
+        )?,
         1
     );
     assert_eq!(rt; output.sent, 7);
@@ -362,7 +380,13 @@ fn files_that_cannot_be_loaded_have_a_line(rt: HostRuntime) -> Result<(), Fail> 
     let mut output = Vec::new(alloc);
     let mut errors = Vec::new(alloc);
     assert_eq!(rt;
-        run(alloc, &arguments, &mut Disk { rt: &rt }, &mut output, &mut errors)?,
+        run(
+            alloc,
+            &arguments,
+            &mut Disk { rt: &rt },
+            &mut output,
+            &mut errors
+        )?,
         1
     );
     let error = fs::open(&rt, "no such file").expect_err(&rt, "a file that is not there");
@@ -390,7 +414,13 @@ fn no_more_of_a_file_is_read_than_shows_that_it_is_too_long(rt: HostRuntime) -> 
     let mut output = Vec::new(alloc);
     let mut errors = Vec::new(alloc);
     assert_eq!(rt;
-        run(alloc, &arguments, &mut Disk { rt: &rt }, &mut output, &mut errors)?,
+        run(
+            alloc,
+            &arguments,
+            &mut Disk { rt: &rt },
+            &mut output,
+            &mut errors
+        )?,
         1
     );
     assert_eq!(rt;
@@ -413,7 +443,13 @@ fn files_are_opened_by_their_names(rt: HostRuntime) -> Result<(), Fail> {
     let mut output = Vec::new(alloc);
     let mut errors = Vec::new(alloc);
     assert_eq!(rt;
-        run(alloc, &names, &mut Disk { rt: &rt }, &mut output, &mut errors)?,
+        run(
+            alloc,
+            &names,
+            &mut Disk { rt: &rt },
+            &mut output,
+            &mut errors
+        )?,
         1
     );
     let error = fs::open(&rt, "no such file").expect_err(&rt, "a file that is not there");
