@@ -42,6 +42,7 @@ traced d after t h finds memory =
       kind = finds.whole refl on;
       answer = sym (h.answer refl on);
       spans = spans_of (h.state refl on ∙ past-recording d [] (meaning d 0).marks);
+      goes = on;
     }
 
 -- an input that agrees on the marks is the same

@@ -3,7 +3,7 @@ use Rattle.std.specs.Prelude.{◌≡◌, ℕ, Bool, false, List, Result, Ok, Err
 use Rattle.std.specs.Result.{result_ok}
 use Rattle.imagesize.specs.Meaning.{kind_of, meaning}
 use Rattle.imagesize.specs.declared.trace.Trace.{Trace}
-use Rattle.imagesize_source.specs.Reading.{is_memory}
+use Rattle.imagesize_source.specs.Reading.{is_memory, stopped}
 use Rattle.imagesize_source.specs.declared.error.ImageError.{ImageError}
 
 -- memory was refused
@@ -11,11 +11,13 @@ abbrev pub lacks_memory : {X : Type 0} → Result X ImageError → Bool
 lacks_memory (Ok _) = false
 lacks_memory (Err e) = is_memory e
 
--- type and answer are those of the layouts, and the spans are their marks
+-- type and answer are those of the layouts, and the spans are their marks; no failure, spent budget or want of
+-- memory is an answer
 pub record Traces {A : Type 0} (d : List ℕ) (t : Trace A) : Type 0 where
   pub kind : t.kind ≡ result_ok (kind_of d 0).answer
   pub answer : t.answer ≡ (meaning d 0).answer
   pub spans : t.spans.items ≡ (meaning d 0).marks
+  pub goes : stopped t.answer ≡ false
 
 -- another input has the same type, the same size and the same marks
 pub record IsSame (d e : List ℕ) : Type 0 where

@@ -2,6 +2,7 @@
 #![tactic(auto)]
 
 mod calls;
+mod file;
 mod formats;
 mod laws;
 mod queries;
@@ -9,6 +10,7 @@ mod trace;
 mod types;
 
 pub use calls::{Probed, blob_size, image_type, reader_probe, reader_size, reader_type};
+pub use file::size;
 pub use imagesize_source::{ImageError, ImageResult, Reason, Span, Stop, Told};
 pub use imagesize_types::compression::{
     AtcCompression, Compression, DdsCompression, PkmCompression, PvrtcCompression,

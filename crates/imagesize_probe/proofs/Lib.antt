@@ -1,3 +1,4 @@
 -- Lemmas of this crate.
 pub mod Lines
+pub mod Spans
 pub mod Writing

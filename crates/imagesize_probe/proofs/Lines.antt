@@ -1,5 +1,5 @@
 -- What `report` writes, by what was found.
-use Rattle.std.proofs.Common.{◌≡◌, ℕ, Bool, true, false, ◌&&◌, List, Option, None, Some, Result, Ok, Err, IsOk, IsErr, IsSome, IsSomeAnd, IfSome, is_ok, is_some, option_map, refl, OnOk, IfOk}
+use Rattle.std.proofs.Common.{◌≡◌, ℕ, Bool, true, false, List, Option, None, Some, Result, Ok, Err, IsOk, IsErr, IsSome, IsSomeAnd, IfSome, is_ok, option_map, refl, OnOk, IfOk}
 use mathlib.Core.Logic.{⊎_elim}
 use Rattle.std.specs.declared.io.Error.{Error}
 use Rattle.std.specs.Result.{result_ok}
@@ -20,7 +20,7 @@ use Rattle.imagesize_source.specs.declared.error.ImageError.TheVariants.{NotSupp
 use Rattle.imagesize_source.specs.declared.error.Reason.TheVariants.{Fault, EndOfInput, NotEnoughData, BudgetSpent, Memory, NoDelimiter, NotUtf8, InvalidHeifBoxSize, InvalidJxlBoxSize, InvalidJxlSignature, InvalidTiffHeader, BigTiffOffsetSize, InvalidBigTiffHeader, InvalidIfdOffset, IfdTypeForStandardTiff, InvalidIfdType, InvalidIfdValueLength, NoDimensionsInIfd, InvalidVp8Tag, DataWindowNotFound, InvalidHdrIdentifier, InvalidHdrDimensionsLine, HdrDimensionsNotFound, PnmDimensionsNotFound}
 
 -- a refusal that is no failure has a text
-has_text : (e : ImageError) → is_stop e ≡ false → IsSome (error_text e)
+pub has_text : (e : ImageError) → is_stop e ≡ false → IsSome (error_text e)
 has_text NotSupported _ = refl
 has_text CorruptedImage _ = refl
 has_text (IoError (Fault error)) stops = (cc)
@@ -54,7 +54,7 @@ began marks (Ok x) f _ = refl
 began marks (Err e) f ok = ok
 
 -- where there is a size there is a type
-sized_kind : (d : List ℕ) (place : ℕ) → IsOk (meaning d place).answer → IsOk (kind_of d place).answer
+pub sized_kind : (d : List ℕ) (place : ℕ) → IsOk (meaning d place).answer → IsOk (kind_of d place).answer
 unfolding meaning
 sized_kind d place ok = began (kind_of d place).marks (kind_of d place).answer (λ found. size_of found d) ok
 
@@ -90,47 +90,40 @@ no_failure true can_fail fails faultless = (cc (fails refl))
 no_failure false can_fail _ _ = refl
 
 -- a size is no failure
-size_goes : (r : Result ImageSize ImageError) (other : Bool) → (is_ok r && other) ≡ true → stopped r ≡ false
-size_goes (Ok size) other _ = refl
-size_goes (Err e) other is = (cc)
+size_goes : (r : Result ImageSize ImageError) → is_ok r ≡ true → stopped r ≡ false
+size_goes (Ok size) _ = refl
+size_goes (Err e) is = (cc)
 
-size_is_ok : (r : Result ImageSize ImageError) (other : Bool) → (is_ok r && other) ≡ true → IsOk r
-size_is_ok (Ok size) other _ = refl
-size_is_ok (Err e) other is = (cc)
+size_is_ok : (r : Result ImageSize ImageError) → is_ok r ≡ true → IsOk r
+size_is_ok (Ok size) _ = refl
+size_is_ok (Err e) is = (cc)
 
--- what is no size is a refusal, since a size stands beside a type
-none_is_err : (r : Result ImageSize ImageError) (found : Result ImageType ImageError) → (IsOk r → IsOk found) →
-    (is_ok r && is_some (result_ok found)) ≡ false → IsErr r
-none_is_err (Ok size) (Ok image) _ is = (cc)
-none_is_err (Ok size) (Err e) typed _ = (cc (typed refl))
-none_is_err (Err e) found _ _ = refl
+none_is_err : (r : Result ImageSize ImageError) → is_ok r ≡ false → IsErr r
+none_is_err (Ok size) is = (cc)
+none_is_err (Err e) _ = refl
 
 -- what was written of what was found
 pub reported : (t : Telling) (name : List ℕ) (probed : Probed) (old new : Option (List ℕ)) (sized : Bool) →
     ProbesOf t probed → IfSome (line name probed.kind probed.answer) (Appends old new) →
-    sized ≡ (is_ok probed.answer && is_some probed.kind) → ReportsOf t name old new sized
+    sized ≡ is_ok probed.answer → ReportsOf t name old new sized
 reported t name probed old new sized probes wrote is =
     let going : t.can_fail ≡ false → stopped probed.answer ≡ false =
     no_failure (stopped probed.answer) t.can_fail (λ stops. (probes.answer.fault stops).1) in
-    let ends : sized ≡ true → stopped probed.answer ≡ false =
-    λ so. size_goes probed.answer (is_some probed.kind) (cc) in
-    let typed : IsOk (over_reader t meaning).answer → IsOk (over_reader t kind_of).answer = sized_kind t.bytes t.place in
+    let ends : sized ≡ true → stopped probed.answer ≡ false = λ so. size_goes probed.answer (cc) in
     record {
       text = λ case. found_line t name probed old new probes wrote (⊎_elim going ends case);
       size = λ so.
           let same : (over_reader t meaning).answer ≡ probed.answer = probes.answer.answer (ends so) in
-          rw same (size_is_ok probed.answer (is_some probed.kind) (cc));
+          rw same (size_is_ok probed.answer (cc));
       refusal = λ faultless none.
           let same : (over_reader t meaning).answer ≡ probed.answer = probes.answer.answer (going faultless) in
-          let kind : probed.kind ≡ result_ok (over_reader t kind_of).answer = probes.whole (going faultless) in
-          let is_none : (is_ok probed.answer && is_some (result_ok (over_reader t kind_of).answer)) ≡ false = rw (← kind) (cc) in
-          rw same (none_is_err probed.answer (over_reader t kind_of).answer (rw same at typed) is_none);
+          rw same (none_is_err probed.answer (cc));
     }
 
 -- the same of a reader that may tell nothing
 pub reports : (telling : Option Telling) (name : List ℕ) (probed : Probed) (old new : Option (List ℕ)) (r : Result Bool Error) →
     Probes telling probed → OnOk r (IfSome (line name probed.kind probed.answer) (Appends old new)) →
-    IfOk r (λ sized. sized ≡ (is_ok probed.answer && is_some probed.kind)) →
+    IfOk r (λ sized. sized ≡ is_ok probed.answer) →
     IfOk r (Reports telling name old new)
 reports telling name probed old new (Err e) _ _ _ = tt
 reports None name probed old new (Ok sized) _ _ _ = tt

@@ -1,9 +1,12 @@
 -- The lines of one name more.
-use Rattle.std.proofs.Common.{◌≡◌, ℕ, Bool, true, false, ◌||◌, not, List, [], ◌∷◌, ◌++◌, Option, None, Some, IfSome, refl, rules, ◌+◌, ◌<◌, length, map, take, get_or, append_assoc}
+use Rattle.std.proofs.Common.{◌≡◌, ◌∙◌, ◌≤◌, subst, arith, ℕ, Bool, true, false, ◌||◌, not, List, [], ◌∷◌, ◌++◌, Option, None, Some, Result, Ok, Err, IsOkAnd, IfOk, IfSome, inl, refl, rules, ◌+◌, ◌<◌, length, map, take, get_or, append_assoc}
 use Rattle.std.proofs.lemmas.Grind.{take_at_read}
-use Rattle.std.proofs.lemmas.List.{map-append}
+use Rattle.std.proofs.lemmas.List.{map-append, length-take, take_all}
 use Rattle.std.specs.Io.KnownBytes.{Appends, Keeps}
-use Rattle.imagesize_probe.specs.Run.{Files, WritesLine, WritesLines, line_behind, is_sized, joined, lines_of, is_any_refused}
+use Rattle.std.specs.declared.io.Error.{Error}
+use Rattle.imagesize_source.specs.declared.error.ImageError.{ImageError}
+use Rattle.imagesize_probe.specs.Line.{ReportsSpans}
+use Rattle.imagesize_probe.specs.Run.{Files, WritesAll, WritesEach, WritesLine, WritesLines, WritesOne, WritesSpans, Loads, ReportsWhole, SpansBehind, line_behind, is_sized, joined, lines_of, is_any_refused}
 
 -- three lines are joined in either order
 joined_assoc : (a b c : Option (List ℕ)) → joined (joined a b) c ≡ joined a (joined b c)
@@ -52,21 +55,102 @@ one_name text_of names i name text there at is =
     let more : take (i + 1) names ≡ take i names ++ get_or names i name ∷ [] = (take_at_read names i name there).1 in
     search (rules, more, ← at, is, map-append)
 
+-- the line of one name more was written, and sent on
+one_line : (names : List (List ℕ)) (name : List ℕ) (known : Option Files) (a b c d : Option (List ℕ)) (refused sized after : Bool) →
+    WritesLines known names a b refused → WritesLine known name b c sized → Keeps c d → after ≡ (refused || not sized) →
+    WritesLines known (names ++ name ∷ []) a d after
+one_line names name None a b c d refused sized after _ _ _ _ = tt
+one_line names name (Some files) a b c d refused sized after before wrote kept so =
+    let lines : lines_of files (names ++ name ∷ []) ≡ joined (lines_of files names) (line_behind name (files name)) =
+    lines_push files names name in
+    let both = wrote_both (lines_of files names) (line_behind name (files name)) a b c d before.0 wrote.0 kept in
+    ((rw lines both), search (rules, refused_push, before.1, wrote.1, so))
+
+-- of none before it, one is refused where this one is
+refused_alone : (refused sized after : Bool) → refused ≡ false → after ≡ (refused || not sized) → after ≡ (not sized || false)
+refused_alone refused true after none so = search (rules, none, so)
+refused_alone refused false after none so = search (rules, none, so)
+
+-- one is refused where the first was, or one behind it
+refused_behind : (first refused others sized after : Bool) → refused ≡ (not first || others) → after ≡ (refused || not sized) →
+    after ≡ (not first || (others || not sized))
+refused_behind true refused others sized after some so = search (rules, some, so)
+refused_behind false refused others sized after some so = search (rules, some, so)
+
+-- the lines of one name more and its spans were written, and sent on
+one_spans : (names : List (List ℕ)) (name : List ℕ) (known : Option Files) (a b c d : Option (List ℕ)) (refused sized after : Bool) →
+    WritesEach known names a b refused → WritesSpans known name b c sized → Keeps c d → after ≡ (refused || not sized) →
+    WritesEach known (names ++ name ∷ []) a d after
+one_spans [] name known a b c d refused sized after before wrote kept so = (
+  c,
+  d,
+  sized,
+  false,
+  subst (λ x. WritesSpans known name x c sized) before.0 wrote,
+  kept,
+  (refl, refl),
+  refused_alone refused sized after before.1 so,
+)
+one_spans (first ∷ names) name known a b c d refused sized after (mid, sent, was, others, line, on, rest, some) wrote kept so = (
+  mid,
+  sent,
+  was,
+  (others || not sized),
+  line,
+  on,
+  one_spans names name known sent b c d others sized (others || not sized) rest wrote kept refl,
+  refused_behind was refused others sized after some so,
+)
+
+-- the same, with the spans or without them
+one_written : (spans : Bool) (names : List (List ℕ)) (name : List ℕ) (known : Option Files) (a b c d : Option (List ℕ)) (refused sized after : Bool) →
+    WritesAll spans known names a b refused → WritesOne spans known name b c sized → Keeps c d → after ≡ (refused || not sized) →
+    WritesAll spans known (names ++ name ∷ []) a d after
+one_written false names name known a b c d refused sized after before wrote kept so = one_line names name known a b c d refused sized after before wrote kept so
+one_written true names name known a b c d refused sized after before wrote kept so = one_spans names name known a b c d refused sized after before wrote kept so
+
 -- the lines of one name more were written, and sent on
 pub one_more : {X : Type 0} (text_of : X → List ℕ) (names : List X) (i : ℕ) (name : X) (text : List ℕ) →
     i < length names → name ≡ get_or names i name → text ≡ text_of name →
-    (known : Option Files) (a b c d : Option (List ℕ)) (refused sized after : Bool) →
-    WritesLines known (map text_of (take i names)) a b refused → WritesLine known text b c sized → Keeps c d →
+    (spans : Bool) (known : Option Files) (a b c d : Option (List ℕ)) (refused sized after : Bool) →
+    WritesAll spans known (map text_of (take i names)) a b refused → WritesOne spans known text b c sized → Keeps c d →
     after ≡ (refused || not sized) →
-    WritesLines known (map text_of (take (i + 1) names)) a d after
-one_more text_of names i name text there at is None a b c d refused sized after _ _ _ _ = tt
-one_more text_of names i name text there at is (Some files) a b c d refused sized after before wrote kept so =
+    WritesAll spans known (map text_of (take (i + 1) names)) a d after
+one_more text_of names i name text there at is spans known a b c d refused sized after before wrote kept so =
     let more : map text_of (take (i + 1) names) ≡ map text_of (take i names) ++ text ∷ [] = one_name text_of names i name text there at is in
-    let before_it : List (List ℕ) = map text_of (take i names) in
-    let lines : lines_of files (before_it ++ text ∷ []) ≡ joined (lines_of files before_it) (line_behind text (files text)) =
-    lines_push files before_it text in
-    let both = wrote_both (lines_of files before_it) (line_behind text (files text)) a b c d before.0 wrote.0 kept in
-    rw more ((rw lines both), search (rules, refused_push, before.1, wrote.1, so))
+    rw more (one_written spans (map text_of (take i names)) text known a b c d refused sized after before wrote kept so)
+
+-- none was written yet
+pub none_written : (spans : Bool) (known : Option Files) (a : Option (List ℕ)) → WritesAll spans known [] a a false
+none_written false None a = tt
+none_written false (Some files) None = (tt, refl)
+none_written false (Some files) (Some a) = (search rules, refl)
+none_written true known a = (refl, refl)
+
+-- what is read of bytes shows whether they are too many, and is all of them where they are not
+shows_length : (d : List ℕ) → (16777216 < length d → 16777216 < length (take 16777217 d)) × (length d ≤ 16777216 → take 16777217 d ≡ d)
+shows_length d = (λ long. omega (arith, length-take 16777217 d, long), λ short. take_all 16777217 d (omega (arith, short)))
+
+-- the lines of the bytes that were read are those of all
+whole_read : (d bytes name : List ℕ) (a b : Option (List ℕ)) (sized : Bool) → bytes ≡ take 16777217 d → ReportsWhole bytes name a b sized → ReportsWhole d name a b sized
+whole_read d bytes name a b sized is wrote = record {
+  long = λ long. wrote.long (rw is ((shows_length d).0 long));
+  whole = λ short.
+      let same : bytes ≡ d = is ∙ (shows_length d).1 short in
+      subst (λ x. ReportsSpans x name a b sized) same (wrote.whole (rw same short));
+}
+
+behind_read : (found : Result (List ℕ) ImageError) (bytes name : List ℕ) (a b : Option (List ℕ)) (sized : Bool) →
+    IsOkAnd found (λ d. bytes ≡ take 16777217 d) → ReportsWhole bytes name a b sized → SpansBehind name found a b sized
+behind_read (Ok d) bytes name a b sized is wrote = inl (whole_read d bytes name a b sized is wrote)
+behind_read (Err e) bytes name a b sized is wrote = absurd is
+
+-- the lines of what was read of a name
+pub spans_written : (known : Option Files) (bytes name : List ℕ) (a b : Option (List ℕ)) (r : Result Bool Error) →
+    Loads known name bytes → IfOk r (ReportsWhole bytes name a b) → IfOk r (WritesSpans known name a b)
+spans_written known bytes name a b (Err e) _ _ = tt
+spans_written None bytes name a b (Ok sized) _ _ = tt
+spans_written (Some files) bytes name a b (Ok sized) loads wrote = behind_read (files name) bytes name a b sized loads wrote
 
 -- one is refused where one was, or where this one is
 pub refused_now : (refused sized after : Bool) → sized ≡ false → after ≡ true → after ≡ (refused || not sized)

@@ -1,5 +1,5 @@
 -- The line that is printed of an image.
-use Rattle.std.specs.Prelude.{◌≡◌, ℕ, Bool, true, false, List, ◌++◌, ◌⊎◌, Option, None, Some, Result, Ok, Err, IsOk, IsErr, IsSomeAnd, codes, decimal, option_map}
+use Rattle.std.specs.Prelude.{◌≡◌, ℕ, ◌<◌, Bool, true, false, List, [], ◌∷◌, ◌++◌, length, ◌⊎◌, Option, None, Some, Result, Ok, Err, IsOk, IsErr, IsSomeAnd, codes, decimal, is_ok, option_map}
 use Rattle.std.specs.Result.{result_ok}
 use Rattle.std.specs.Io.KnownBytes.{Appends}
 use Rattle.imagesize.specs.Meaning.{kind_of, meaning}
@@ -10,6 +10,7 @@ use Rattle.imagesize_source.specs.Answers.{over_reader}
 use Rattle.imagesize_source.specs.Reason.{error_text}
 use Rattle.imagesize_source.specs.Telling.{Telling, IsHonest}
 use Rattle.imagesize_source.specs.declared.error.ImageError.{ImageError}
+use Rattle.imagesize_source.specs.declared.span.Span.{Span}
 
 -- a size as it is printed
 abbrev pub size_text : ImageSize → List ℕ
@@ -29,6 +30,23 @@ abbrev pub line : List ℕ → Option ImageType → Result ImageSize ImageError 
 line name found (Ok size) = option_map (λ image. sized_line name image size) found
 line name found (Err e) = option_map (refused_line name) (error_text e)
 
+-- the line of a span: its first place, and how many bytes it has
+abbrev pub span_line : Span → List ℕ
+span_line span = codes "  " ++ (decimal span.start ++ (codes "+" ++ (decimal span.len ++ codes "\n")))
+
+-- the lines of spans, in their order
+abbrev pub span_lines : List Span → List ℕ
+span_lines [] = []
+span_lines (span ∷ spans) = span_line span ++ span_lines spans
+
+-- the line of a name and of bytes
+abbrev pub line_in : List ℕ → List ℕ → Option (List ℕ)
+line_in name d = line name (result_ok (kind_of d 0).answer) (meaning d 0).answer
+
+-- the line of a name and of bytes, and then one for each reading that tells it
+abbrev pub lines : List ℕ → List ℕ → Option (List ℕ)
+lines name d = option_map (λ text. text ++ span_lines (meaning d 0).marks) (line_in name d)
+
 -- the line of a name and of the bytes of a reader, at its place
 abbrev pub line_of : List ℕ → Telling → Option (List ℕ)
 line_of name t = line name (result_ok (over_reader t kind_of).answer) (over_reader t meaning).answer
@@ -44,3 +62,17 @@ pub record ReportsOf (t : Telling) (name : List ℕ) (old new : Option (List ℕ
 abbrev pub Reports : Option Telling → List ℕ → Option (List ℕ) → Option (List ℕ) → Bool → Type 0
 Reports None name old new sized = Unit {0}
 Reports (Some t) name old new sized = IsHonest t → ReportsOf t name old new sized
+
+-- a writer that held these bytes and holds those got the line of want of memory, and there is no size
+pub record LacksMemory (name : List ℕ) (old new : Option (List ℕ)) (sized : Bool) : Type 0 where
+  pub text : Appends old new (refused_line name (codes "Out of memory"))
+  pub refused : sized ≡ false
+
+-- such a writer got the lines of these bytes, and the answer is whether they have a size
+pub record TracesTo (d name : List ℕ) (old new : Option (List ℕ)) (sized : Bool) : Type 0 where
+  pub text : IsSomeAnd (lines name d) (Appends old new)
+  pub size : sized ≡ is_ok (meaning d 0).answer
+
+-- one of both; over no byte always the first
+abbrev pub ReportsSpans : List ℕ → List ℕ → Option (List ℕ) → Option (List ℕ) → Bool → Type 0
+ReportsSpans d name old new sized = TracesTo d name old new sized ⊎ ((0 < length d) × LacksMemory name old new sized)

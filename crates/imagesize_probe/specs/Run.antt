@@ -1,13 +1,17 @@
 -- What the program writes of the names that it is given.
-use Rattle.std.specs.Prelude.{◌≡◌, ℕ, Bool, false, ◌||◌, not, List, [], ◌∷◌, ◌++◌, Option, None, Some, Result, Ok, Err, IsSomeAnd, IfSome, is_ok, option_map}
+use Rattle.std.specs.Prelude.{◌≡◌, ℕ, ◌<◌, ◌≤◌, Bool, true, false, if◌then◌else◌, ◌||◌, not, List, [], ◌∷◌, ◌++◌, length, take, ◌⊎◌, Option, None, Some, Result, Ok, Err, IsOkAnd, IsSomeAnd, IfSome, codes, is_ok, option_map}
+use Rattle.std.specs.Str.{bytes_eq}
 use Rattle.std.specs.Result.{result_ok}
-use Rattle.std.specs.Io.KnownBytes.{Appends}
+use Rattle.std.specs.Io.KnownBytes.{Appends, Keeps}
 use Rattle.std.specs.declared.io.Error.{Error}
 use Rattle.imagesize.specs.Meaning.{kind_of, meaning}
-use Rattle.imagesize_probe.specs.Line.{line, refused_line}
+use Rattle.imagesize_probe.specs.Line.{line, refused_line, LacksMemory, ReportsSpans}
+use Rattle.imagesize_probe.specs.Status.{status_of}
 use Rattle.imagesize_source.specs.Reason.{error_text}
 use Rattle.imagesize_source.specs.Telling.{Telling, IsHonest}
 use Rattle.imagesize_source.specs.declared.error.ImageError.{ImageError}
+use Rattle.imagesize_source.specs.declared.error.ImageError.TheVariants.{IoError}
+use Rattle.imagesize_source.specs.declared.error.Reason.TheVariants.{Memory}
 
 -- what is behind each name: bytes, or why there are none
 abbrev pub Files : Type 0
@@ -68,6 +72,73 @@ abbrev pub WritesLines : Option Files → List (List ℕ) → Option (List ℕ) 
 WritesLines None names old new refused = Unit {0}
 WritesLines (Some files) names old new refused =
     IfSome (lines_of files names) (Appends old new) × (refused ≡ is_any_refused files names)
+
+-- how many bytes a file may have whose spans are shown
+abbrev pub whole_length : ℕ
+whole_length = 16777216
+
+-- the first bytes that are read of what is behind a name: all that it may have, and one that shows that it has more
+abbrev pub Loads : Option Files → List ℕ → List ℕ → Type 0
+Loads None name bytes = Unit {0}
+Loads (Some files) name bytes = IsOkAnd (files name) (λ d. bytes ≡ take 16777217 d)
+
+-- why none were read: there are none, or memory was refused
+abbrev pub LoadsNone : Option Files → List ℕ → ImageError → Type 0
+LoadsNone None name e = Unit {0}
+LoadsNone (Some files) name e = (files name ≡ Err e) ⊎ (e ≡ IoError Memory)
+
+-- a writer that held these bytes and holds those got the line of a file that is too long, and there is no size
+pub record IsTooLong (name : List ℕ) (old new : Option (List ℕ)) (sized : Bool) : Type 0 where
+  pub text : Appends old new (refused_line name (codes "file is longer than 16777216 bytes"))
+  pub refused : sized ≡ false
+
+-- the lines of a name and of its bytes, where there are not too many
+pub record ReportsWhole (d name : List ℕ) (old new : Option (List ℕ)) (sized : Bool) : Type 0 where
+  pub long : whole_length < length d → IsTooLong name old new sized
+  pub whole : length d ≤ whole_length → ReportsSpans d name old new sized
+
+-- the lines of a name, by what is behind it, or the line of want of memory
+abbrev pub SpansBehind : List ℕ → Result (List ℕ) ImageError → Option (List ℕ) → Option (List ℕ) → Bool → Type 0
+SpansBehind name (Ok d) old new sized = ReportsWhole d name old new sized ⊎ LacksMemory name old new sized
+SpansBehind name (Err e) old new sized =
+    (IfSome (error_text e) (λ text. Appends old new (refused_line name text)) × (sized ≡ false)) ⊎ LacksMemory name old new sized
+
+-- the same where it is told what is behind the name
+abbrev pub WritesSpans : Option Files → List ℕ → Option (List ℕ) → Option (List ℕ) → Bool → Type 0
+WritesSpans None name old new sized = Unit {0}
+WritesSpans (Some files) name old new sized = SpansBehind name (files name) old new sized
+
+-- the lines of each name are written and sent on, in their order; and whether one was refused
+abbrev pub WritesEach : Option Files → List (List ℕ) → Option (List ℕ) → Option (List ℕ) → Bool → Type 0
+WritesEach known [] old new refused = (new ≡ old) × (refused ≡ false)
+WritesEach known (name ∷ names) old new refused = (mid sent : Option (List ℕ)) × (sized others : Bool) ×
+    WritesSpans known name old mid sized × Keeps mid sent × WritesEach known names sent new others × (refused ≡ (not sized || others))
+
+-- the lines of a name: with the option those of its spans too
+abbrev pub WritesOne : Bool → Option Files → List ℕ → Option (List ℕ) → Option (List ℕ) → Bool → Type 0
+WritesOne false known = WritesLine known
+WritesOne true known = WritesSpans known
+
+-- the same of the lines of names, of which was answered whether one was refused
+abbrev pub WritesAll : Bool → Option Files → List (List ℕ) → Option (List ℕ) → Option (List ℕ) → Bool → Type 0
+WritesAll false known = WritesLines known
+WritesAll true known = WritesEach known
+
+-- the option is known as the first argument alone
+abbrev pub wants_spans : List (List ℕ) → Bool
+wants_spans [] = false
+wants_spans (first ∷ _) = bytes_eq first (codes "--spans")
+
+-- the names behind the option, where it is there
+abbrev pub names_in : List (List ℕ) → List (List ℕ)
+names_in [] = []
+names_in (first ∷ names) = if bytes_eq first (codes "--spans") then names else first ∷ names
+
+-- what the program does with its arguments: the lines of the names, and the status behind them
+pub record RunsWith (known : Option Files) (arguments : List (List ℕ)) (old new : Option (List ℕ)) (status : ℕ) : Type 0 where
+  pub refused : Bool
+  pub lines : WritesAll (wants_spans arguments) known (names_in arguments) old new refused
+  pub ends : status ≡ status_of (length (names_in arguments)) refused
 
 -- what the program ends with, by what the writing of the lines did
 abbrev pub exit_code : Result ℕ Error → ℕ

@@ -1,8 +1,9 @@
-//! Prints the type and the size of each image file that is named, or why it has none.
+//! Prints the type and the size of each image file that is named, or why it has none; with `--spans` also the bytes
+//! that this rests on.
 #![tactic(auto)]
 
-ghost use Rattle.std.specs.Prelude.{◌≡◌, ◌||◌, IsTrue, IfErr, Option, None};
-ghost use Rattle.imagesize_probe.specs.Run.{Files};
+ghost use Rattle.std.specs.Prelude.{◌≡◌, ◌||◌, IsTrue, IfOk, IfErr, Option, None};
+ghost use Rattle.imagesize_probe.specs.Run.{Files, Loads, LoadsNone};
 ghost use Rattle.imagesize_source.specs.Reading.{is_fault, is_memory};
 
 mod names;
@@ -11,8 +12,8 @@ mod run;
 
 use imagesize::{ImageError, ImageResult, Reason};
 use imagesize_source::KeptReader;
-use run::{Open, exit_code, run};
-use std::io::{self, BufReader, BufWriter, Printer};
+use run::{Open, WHOLE, exit_code, run};
+use std::io::{self, BufReader, BufWriter, ErrorKind, Printer, Read};
 use std::process::ExitCode;
 use std::rt::Files;
 use std::{env, fs};
@@ -27,9 +28,15 @@ fn main(rt: HostRuntime) -> ExitCode {
 fn run_arguments(rt: &HostRuntime) -> io::Result<u8> {
     let mut arguments = env::args(rt)?;
     let _program = arguments.next();
-    let names: Vec<String> = arguments.collect(rt.alloc())?;
+    let arguments: Vec<String> = arguments.collect(rt.alloc())?;
     let mut output = buffered(rt, 8192);
-    run(&names, &mut Disk { rt }, &mut output, &mut rt.stderr())
+    run(
+        rt.alloc(),
+        &arguments,
+        &mut Disk { rt },
+        &mut output,
+        &mut rt.stderr(),
+    )
 }
 
 // Standard output behind a buffer of so many bytes. Where there is no memory for it, what is written goes out at once.
@@ -60,6 +67,23 @@ impl<R: Files + AllocGlobal> Open for Disk<'_, R> {
         match BufReader::new(self.rt.alloc(), file) {
             Ok(reader) => Ok(KeptReader::new(reader)),
             Err(_) => Err(ImageError::IoError(Reason::Memory)),
+        }
+    }
+
+    fn load(&mut self, name: &str) -> ImageResult<Vec<u8>>
+        ensures loads { IfOk result (λ bytes. Loads None name.now bytes.items) }
+        ensures refuses { IfErr result (LoadsNone None name.now) }
+        ensures keeps { ◌≡◌ {A = Option Files} None None }
+        ensures fails { IfErr result (λ e. IsTrue (is_fault e || is_memory e)) }
+    {
+        let file = fs::open(self.rt, name)?;
+        let mut bytes = Vec::new(self.rt.alloc());
+        match file.take(WHOLE as u64 + 1).read_to_end(&mut bytes) {
+            Ok(_) => Ok(bytes),
+            Err(error) if error.kind() == ErrorKind::OutOfMemory => {
+                Err(ImageError::IoError(Reason::Memory))
+            }
+            Err(error) => Err(ImageError::from(error)),
         }
     }
 }

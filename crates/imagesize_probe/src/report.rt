@@ -1,12 +1,16 @@
 //! The line about one image.
-ghost use Rattle.std.specs.Prelude.{◌≡◌, ◌&&◌, IfOk, IfSome, OnOk, true, false, is_ok, is_some};
+ghost use Rattle.std.specs.Prelude.{◌≡◌, ◌++◌, IfOk, IfSome, IsSome, OnOk, true, false, is_ok};
 ghost use Rattle.std.specs.Io.KnownBytes.{Appends};
-ghost use Rattle.imagesize_probe.specs.Line.{line, sized_line, refused_line, Reports};
+ghost use Rattle.imagesize_probe.specs.Line.{line, sized_line, refused_line, span_line, span_lines, Reports, ReportsSpans};
 ghost use Rattle.imagesize_probe.specs.Status.{status_of};
 ghost use Rattle.imagesize_source.specs.Reason.{error_text};
 
 use crate::names::TypeName;
-use imagesize::{ImageError, ImageSize, ImageType, Probed, Told, reader_probe};
+use imagesize::{
+    ImageError, ImageResult, ImageSize, ImageType, Reason, Span, Told, Trace, blob_trace,
+    reader_probe,
+};
+use std::alloc::Allocator;
 use std::io::{self, Write};
 
 /// Writes the line of what a reader holds, `NAME: KIND WxH` or `NAME: error: TEXT`, and returns whether it
@@ -17,26 +21,80 @@ pub fn report<R: Told, W: Write>(name: &str, mut reader: R, writer: &mut W) -> i
     ensures { IfOk result (Reports (R.telling reader) name.now (W.contents writer.old) (W.contents writer.new)) }
 {
     let probed = reader_probe(&mut reader);
-    write_line(name, probed, writer)
+    write_line(name, probed.kind, probed.answer, writer)
 }
 
-// Writes the line of what was found, and returns whether that has a size.
-fn write_line<W: Write>(name: &str, probed: Probed, writer: &mut W) -> io::Result<bool>
-    ensures line { OnOk result (IfSome (line name.now probed.kind probed.answer)
-        (Appends (W.contents writer.old) (W.contents writer.new))) }
-    ensures sized { IfOk result (λ sized. sized ≡ (is_ok probed.answer && is_some probed.kind)) }
+/// Writes the line of what a slice holds, and then for each reading that tells it `  START+LENGTH`, and returns
+/// whether it has a size. Where memory for the spans was refused, writes the line of that alone and returns false.
+///
+/// Errors: those of the writer alone, which may then have got a part of the lines.
+pub fn report_spans<A: Allocator, W: Write>(
+    alloc: A,
+    name: &str,
+    data: &[u8],
+    writer: &mut W,
+) -> io::Result<bool>
+    ensures { IfOk result (ReportsSpans «data».now name.now (W.contents writer.old) (W.contents writer.new)) }
 {
-    let Probed {
+    match blob_trace(alloc, data) {
+        Ok(trace) => write_trace(name, trace, writer),
+        Err(_) => write_refusal(name, &ImageError::IoError(Reason::Memory), writer),
+    }
+}
+
+// Writes the line of what was found and one for each of its spans, and returns whether it has a size.
+fn write_trace<A: Allocator, W: Write>(
+    name: &str,
+    trace: Trace<A>,
+    writer: &mut W,
+) -> io::Result<bool>
+    requires typed { OnOk trace.answer (IsSome trace.kind) }
+    ensures lines { OnOk result (IfSome (line name.now trace.kind trace.answer)
+        (λ text. Appends (W.contents writer.old) (W.contents writer.new) (text ++ span_lines trace.spans.items))) }
+    ensures sized { IfOk result (λ sized. sized ≡ is_ok trace.answer) }
+{
+    let Trace {
         kind,
         answer,
-        taken: _,
-    } = probed;
+        spans,
+    } = trace;
+    let sized = write_line(name, kind, answer, writer)?;
+    write_spans(&spans, writer)?;
+    Ok(sized)
+}
+
+// Writes a line for each span.
+fn write_spans<W: Write>(spans: &[Span], writer: &mut W) -> io::Result<()>
+    ensures { OnOk result (Appends (W.contents writer.old) (W.contents writer.new) (span_lines spans.now)) }
+{
+    for span in spans {
+        write_span(span, writer)?;
+    }
+    Ok(())
+}
+
+// Writes the line of a span.
+fn write_span<W: Write>(span: &Span, writer: &mut W) -> io::Result<()>
+    ensures { OnOk result (Appends (W.contents writer.old) (W.contents writer.new) (span_line span.now)) }
+{
+    let Span { start, len } = *span;
+    writeln!(writer, "  {start}+{len}")
+}
+
+// Writes the line of what was found, a size beside a type, and returns whether it is a size.
+fn write_line<W: Write>(
+    name: &str,
+    kind: Option<ImageType>,
+    answer: ImageResult<ImageSize>,
+    writer: &mut W,
+) -> io::Result<bool>
+    requires typed { OnOk answer (IsSome kind) }
+    ensures line { OnOk result (IfSome (line name.now kind answer)
+        (Appends (W.contents writer.old) (W.contents writer.new))) }
+    ensures sized { IfOk result (λ sized. sized ≡ is_ok answer) }
+{
     match answer {
-        Ok(size) => match kind {
-            Some(image) => write_size(name, image, size, writer),
-            // No type was found, so there is no size of one.
-            None => write_refusal(name, &ImageError::NotSupported, writer),
-        },
+        Ok(size) => write_size(name, kind.unwrap(), size, writer),
         Err(error) => write_refusal(name, &error, writer),
     }
 }

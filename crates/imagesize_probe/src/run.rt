@@ -1,12 +1,14 @@
 //! The lines of many names, and what the program ends with.
-ghost use Rattle.std.specs.Prelude.{◌≡◌, ℕ, List, Option, Result, Bool, IfOk, length, map};
+ghost use Rattle.std.specs.Prelude.{◌≡◌, ℕ, List, Option, Result, IfOk, IfErr, OnOk, codes, false, map};
+ghost use Rattle.std.specs.Io.KnownBytes.{Appends};
+ghost use Rattle.imagesize_probe.specs.Line.{refused_line};
 ghost use Rattle.std.specs.String.{string_bytes};
 ghost use Rattle.imagesize_source.specs.declared.error.ImageError.{ImageError};
-ghost use Rattle.imagesize_probe.specs.Run.{OpensTo, WritesLine, WritesLines, exit_code};
-ghost use Rattle.imagesize_probe.specs.Status.{status_of};
+ghost use Rattle.imagesize_probe.specs.Run.{Loads, LoadsNone, OpensTo, ReportsWhole, RunsWith, WritesAll, WritesLine, WritesOne, WritesSpans, exit_code, names_in, wants_spans};
 
-use crate::report::{report, status, write_refusal};
+use crate::report::{report, report_spans, status, write_refusal};
 use imagesize::{ImageResult, Told};
+use std::alloc::{Allocator, Global};
 use std::io::{self, Write};
 
 /// What opens a reader by its name.
@@ -22,46 +24,86 @@ pub trait Open {
     fn open(&mut self, name: &str) -> ImageResult<Self::Reader>
         ensures opens { OpensTo Self.Reader.telling (known self.old) name.now result }
         ensures keeps { known self.new ≡ known self.old };
+
+    /// The bytes behind a name, one more at most than those whose spans are shown.
+    fn load(&mut self, name: &str) -> ImageResult<Vec<u8>>
+        ensures loads { IfOk result (λ bytes. Loads (known self.old) name.now bytes.items) }
+        ensures refuses { IfErr result (LoadsNone (known self.old) name.now) }
+        ensures keeps { known self.new ≡ known self.old };
 }
 
-/// Writes a line for each name, out before the next name is opened, and returns the program's status.
+/// How many bytes a file may have whose spans are shown.
+pub const WHOLE: usize = 16_777_216;
+
+/// Writes a line for each name, out before the next name is opened, and returns the program's status. Where the first
+/// argument is `--spans`, the others are the names, and the spans of each stand below its line.
 ///
 /// Errors: those of the output, at once. Where the other output fails, the status still says what it would.
 pub fn run<O: Open, W: Write, E: Write>(
-    names: &[String],
+    alloc: Global,
+    arguments: &[String],
     opener: &mut O,
     output: &mut W,
     errors: &mut E,
 ) -> io::Result<u8>
-    ensures { IfOk result (λ status. (refused : Bool)
-        × WritesLines (O.known opener.old) (map string_bytes names.now) (W.contents output.old) (W.contents output.new) refused
-        × (status ≡ status_of (length names.now) refused)) }
+    ensures { IfOk result (RunsWith (O.known opener.old) (map string_bytes arguments.now) (W.contents output.old) (W.contents output.new)) }
 {
+    let (spans, names) = named(arguments);
     let files = names.len();
     if files == 0 {
-        let _ = writeln!(errors, "usage: imagesize_probe FILE...");
+        let _ = writeln!(errors, "usage: imagesize_probe [--spans] FILE...");
     }
-    let refused = write_lines(names, opener, output)?;
+    let refused = write_lines(alloc, spans, names, opener, output)?;
     Ok(status(files, refused))
 }
 
-// Writes a line for each name, out before the next name is opened, and returns whether one was refused.
+// Whether the first argument is the option, and the names.
+fn named(arguments: &[String]) -> (bool, &[String])
+    ensures spans { result.0 ≡ wants_spans (map string_bytes arguments.now) }
+    ensures names { map string_bytes result.1.now ≡ names_in (map string_bytes arguments.now) }
+{
+    match arguments.split_first() {
+        Some((first, names)) if first.as_str() == "--spans" => (true, names),
+        _ => (false, arguments),
+    }
+}
+
+// Writes the lines of each name, out before the next name is opened, and returns whether one was refused.
 fn write_lines<O: Open, W: Write>(
+    alloc: Global,
+    spans: bool,
     names: &[String],
     opener: &mut O,
     output: &mut W,
 ) -> io::Result<bool>
-    ensures { IfOk result (λ refused.
-        WritesLines (O.known opener.old) (map string_bytes names.now) (W.contents output.old) (W.contents output.new) refused) }
+    ensures { IfOk result (WritesAll spans (O.known opener.old) (map string_bytes names.now) (W.contents output.old) (W.contents output.new)) }
 {
     let mut refused = false;
     for name in names {
-        if !write_line(name.as_str(), opener, output)? {
+        if !write_named(alloc, spans, name.as_str(), opener, output)? {
             refused = true;
         }
         output.flush()?;
     }
     Ok(refused)
+}
+
+// Writes the lines of a name, and returns whether what is behind it was sized.
+fn write_named<O: Open, W: Write>(
+    alloc: Global,
+    spans: bool,
+    name: &str,
+    opener: &mut O,
+    output: &mut W,
+) -> io::Result<bool>
+    ensures line { IfOk result (WritesOne spans (O.known opener.old) name.now (W.contents output.old) (W.contents output.new)) }
+    ensures keeps { O.known opener.new ≡ O.known opener.old }
+{
+    if spans {
+        write_with_spans(alloc, name, opener, output)
+    } else {
+        write_line(name, opener, output)
+    }
 }
 
 // Writes the line of a name, and returns whether what is behind it was sized.
@@ -73,6 +115,47 @@ fn write_line<O: Open, W: Write>(name: &str, opener: &mut O, output: &mut W) -> 
         Ok(reader) => report(name, reader, output),
         Err(error) => write_refusal(name, &error, output),
     }
+}
+
+// Writes the line of a name and its spans, and returns whether what is behind it was sized.
+fn write_with_spans<O: Open, W: Write>(
+    alloc: Global,
+    name: &str,
+    opener: &mut O,
+    output: &mut W,
+) -> io::Result<bool>
+    ensures line { IfOk result (WritesSpans (O.known opener.old) name.now (W.contents output.old) (W.contents output.new)) }
+    ensures keeps { O.known opener.new ≡ O.known opener.old }
+{
+    match opener.load(name) {
+        Ok(bytes) => write_whole(alloc, name, &bytes, output),
+        Err(error) => write_refusal(name, &error, output),
+    }
+}
+
+// Writes the line of a name and its bytes and their spans, where there are not too many of them.
+fn write_whole<A: Allocator, W: Write>(
+    alloc: A,
+    name: &str,
+    data: &[u8],
+    output: &mut W,
+) -> io::Result<bool>
+    ensures { IfOk result (ReportsWhole «data».now name.now (W.contents output.old) (W.contents output.new)) }
+{
+    if data.len() > WHOLE {
+        return write_too_long(name, output);
+    }
+    report_spans(alloc, name, data, output)
+}
+
+// Writes the line of a file that is too long, and returns false.
+fn write_too_long<W: Write>(name: &str, output: &mut W) -> io::Result<bool>
+    ensures text { OnOk result (Appends (W.contents output.old) (W.contents output.new)
+        (refused_line name.now (codes "file is longer than 16777216 bytes"))) }
+    ensures refused { IfOk result (λ sized. sized ≡ false) }
+{
+    writeln!(output, "{name}: error: file is longer than 16777216 bytes")?;
+    Ok(false)
 }
 
 /// What the program ends with: its status, or 1 where its output failed.

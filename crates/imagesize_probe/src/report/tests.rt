@@ -1,9 +1,9 @@
-ghost use Rattle.std.specs.Prelude.{◌≡◌, ◌++◌, IfOk, IsSomeAnd, is_ok};
+ghost use Rattle.std.specs.Prelude.{◌≡◌, ◌++◌, IfOk, IsSomeAnd, Some, is_ok};
 ghost use Rattle.std.specs.Result.{result_ok};
 ghost use Rattle.imagesize.specs.Meaning.{kind_of, meaning};
-ghost use Rattle.imagesize_probe.specs.Line.{line};
+ghost use Rattle.imagesize_probe.specs.Line.{line, ReportsSpans};
 
-use super::report;
+use super::{report, report_spans};
 use imagesize::{Stop, Told};
 use std::alloc::Global;
 use std::io::{self, Cursor, ErrorKind, SeekFrom, Write};
@@ -77,6 +77,38 @@ fn lines_of_refusals_say_why(rt: HostRuntime) -> Result<(), Fail> {
     Ok(())
 }
 
+// Reports on the bytes of a slice, and on the bytes that this rests on.
+fn report_slice(alloc: Global, name: &str, bytes: &[u8], written: &mut Vec<u8>) -> io::Result<bool>
+    ensures { IfOk result (ReportsSpans bytes.now name.now (Some written.old.items) (Some written.new.items)) }
+{
+    report_spans(alloc, name, bytes, written)
+}
+
+#[test]
+fn lines_of_spans_stand_below(rt: HostRuntime) -> Result<(), Fail> {
+    let alloc = rt.alloc();
+    for (name, bytes, lines, sized) in [
+        (
+            "tiny.gif",
+            GIF.as_slice(),
+            "tiny.gif: Gif 100x100\n  0+12\n  6+2\n  8+2\n",
+            true,
+        ),
+        (
+            "cut.gif",
+            b"GIF89a\x64\0\x64\0",
+            "cut.gif: error: failed to fill whole buffer\n  0+10\n",
+            false,
+        ),
+        ("e", b"", "e: error: failed to fill whole buffer\n", false),
+    ] {
+        let mut written = Vec::new(alloc);
+        assert_eq!(rt; report_slice(alloc, name, bytes, &mut written)?, sized);
+        assert_eq!(rt; written.as_slice(), lines.as_bytes());
+    }
+    Ok(())
+}
+
 // A reader whose seeks fail.
 #[derive(Drop)]
 struct Unseekable;
@@ -145,4 +177,12 @@ fn fails_where_the_writer_does(rt: HostRuntime) {
     }
     assert!(rt; report_into(0, b"").is_err());
     assert!(rt; matches!(report_into(15, &GIF), Ok(true)));
+    let alloc = rt.alloc();
+    for left in 0..34 {
+        let mut full = Full { left };
+        let error = report_spans(alloc, "a", &GIF, &mut full).expect_err(&rt, "a full writer");
+        assert_eq!(rt; error.kind(), ErrorKind::StorageFull);
+    }
+    let mut full = Full { left: 34 };
+    assert!(rt; matches!(report_spans(alloc, "a", &GIF, &mut full), Ok(true)));
 }

@@ -1,10 +1,11 @@
-ghost use Rattle.std.specs.Prelude.{◌≡◌, ℕ, ◌++◌, IfOk, None, Some, Ok, IfSome, length, map};
+ghost use Rattle.std.specs.Prelude.{◌≡◌, ◌++◌, IfOk, IfErr, None, Some, Ok, IfSome, false, length, map};
 ghost use Rattle.std.specs.String.{string_bytes};
-ghost use Rattle.std.specs.Io.KnownBytes.{Appends};
-ghost use Rattle.imagesize_probe.specs.Run.{lines_of, is_any_refused};
+ghost use Rattle.imagesize_probe.specs.Run.{lines_of, is_any_refused, names_in, wants_spans};
 ghost use Rattle.imagesize_probe.specs.Status.{status_of};
+ghost use Rattle.imagesize_source.specs.declared.error.ImageError.TheVariants.{IoError};
+ghost use Rattle.imagesize_source.specs.declared.error.Reason.TheVariants.{Memory};
 
-use super::{Open, exit_code, run};
+use super::{Open, WHOLE, exit_code, run};
 use crate::{Disk, buffered};
 use imagesize::{ImageError, ImageResult, Reason};
 use std::alloc::{AllocError, Global};
@@ -19,6 +20,7 @@ const CUT: &[u8] = b"GIF89a\x64\0\x64\0";
 // Opens files by their names, and counts how often it was asked.
 #[derive(Drop)]
 struct Shelf {
+    alloc: Global,
     asked: u32,
 }
 
@@ -36,6 +38,40 @@ impl Open for Shelf {
             _ => Err(ImageError::from(lost())),
         }
     }
+
+    fn load(&mut self, name: &str) -> ImageResult<Vec<u8>> {
+        self.asked = self.asked.saturating_add(1);
+        match name {
+            "tiny.gif" => copied(self.alloc, GIF),
+            "cut.gif" => copied(self.alloc, CUT),
+            "e" => copied(self.alloc, b""),
+            "huge.gif" => Err(ImageError::IoError(Reason::Memory)),
+            "16777216" => zeros(self.alloc, 16_777_216),
+            "16777217" => zeros(self.alloc, 16_777_217),
+            _ => Err(ImageError::from(lost())),
+        }
+    }
+}
+
+// These bytes in memory of their own.
+fn copied(alloc: Global, bytes: &[u8]) -> ImageResult<Vec<u8>>
+    ensures same { IfOk result (λ copy. copy.items ≡ bytes.now) }
+    ensures refused { IfErr result (λ e. e ≡ IoError Memory) }
+{
+    let mut copy = Vec::new(alloc);
+    match copy.extend_from_slice(bytes) {
+        Ok(()) => Ok(copy),
+        Err(_) => Err(ImageError::IoError(Reason::Memory)),
+    }
+}
+
+// So many bytes of 0.
+fn zeros(alloc: Global, count: usize) -> ImageResult<Vec<u8>> {
+    let mut bytes = Vec::new(alloc);
+    match bytes.resize(count, 0) {
+        Ok(()) => Ok(bytes),
+        Err(_) => Err(ImageError::IoError(Reason::Memory)),
+    }
 }
 
 // Why there is no other file.
@@ -46,6 +82,7 @@ fn lost() -> io::Error {
 // Has the same bytes behind every name.
 #[derive(Drop)]
 struct Same<'a> {
+    alloc: Global,
     bytes: &'a [u8],
 }
 
@@ -58,6 +95,10 @@ impl<'a> Open for Same<'a> {
         // The proof needs that the length is below 2^63.
         let _length = self.bytes.len();
         Ok(Cursor::new(self.bytes))
+    }
+
+    fn load(&mut self, _name: &str) -> ImageResult<Vec<u8>> {
+        copied(self.alloc, &self.bytes[..self.bytes.len().min(WHOLE + 1)])
     }
 }
 
@@ -97,17 +138,20 @@ fn strings(alloc: Global, texts: &[&str]) -> Result<Vec<String>, AllocError> {
 
 // The lines of names behind each of which these bytes are, and the status.
 fn run_same(
+    alloc: Global,
     names: &[String],
     bytes: &[u8],
     output: &mut Vec<u8>,
     errors: &mut Vec<u8>,
 ) -> io::Result<u8>
-    ensures lines { IfOk result (λ status. IfSome (lines_of (λ _. Ok bytes.now) (map string_bytes names.now))
+    ensures lines { IfOk result (λ status. wants_spans (map string_bytes names.now) ≡ false
+        → IfSome (lines_of (λ _. Ok bytes.now) (names_in (map string_bytes names.now)))
         (λ text. output.new.items ≡ output.old.items ++ text)) }
-    ensures status { IfOk result (λ status.
-        status ≡ status_of (length names.now) (is_any_refused (λ _. Ok bytes.now) (map string_bytes names.now))) }
+    ensures status { IfOk result (λ status. wants_spans (map string_bytes names.now) ≡ false
+        → status ≡ status_of (length (names_in (map string_bytes names.now)))
+        (is_any_refused (λ _. Ok bytes.now) (names_in (map string_bytes names.now)))) }
 {
-    run(names, &mut Same { bytes }, output, errors)
+    run(alloc, names, &mut Same { alloc, bytes }, output, errors)
 }
 
 #[test]
@@ -138,11 +182,11 @@ fn each_name_has_a_line_in_its_turn(rt: HostRuntime) -> Result<(), Fail> {
         ),
     ] {
         let names = strings(alloc, names)?;
-        let mut shelf = Shelf { asked: 0 };
+        let mut shelf = Shelf { alloc, asked: 0 };
         let mut output = Vec::new(alloc);
         let mut errors = Vec::new(alloc);
         assert_eq!(rt;
-            run(&names, &mut shelf, &mut output, &mut errors)?,
+            run(alloc, &names, &mut shelf, &mut output, &mut errors)?,
             status,
             "{lines}"
         );
@@ -158,20 +202,32 @@ fn the_usage_is_written_where_none_is_named(rt: HostRuntime) -> Result<(), Fail>
     let mut output = Vec::new(alloc);
     let mut errors = Vec::new(alloc);
     assert_eq!(rt;
-        run(&[], &mut Shelf { asked: 0 }, &mut output, &mut errors)?,
+        run(
+            alloc,
+            &[],
+            &mut Shelf { alloc, asked: 0 },
+            &mut output,
+            &mut errors
+        )?,
         2
     );
     assert!(rt; output.is_empty());
     assert_eq!(rt;
         errors.as_slice(),
-        b"usage: imagesize_probe FILE...\n".as_slice()
+        b"usage: imagesize_probe [--spans] FILE...\n".as_slice()
     );
     let mut full = Weak {
         written: 0,
         sent: 0,
     };
     assert_eq!(rt;
-        run(&[], &mut Shelf { asked: 0 }, &mut output, &mut full)?,
+        run(
+            alloc,
+            &[],
+            &mut Shelf { alloc, asked: 0 },
+            &mut output,
+            &mut full
+        )?,
         2
     );
     Ok(())
@@ -192,10 +248,10 @@ fn an_output_that_fails_ends_the_run(rt: HostRuntime) -> Result<(), Fail> {
         (900, 1, ErrorKind::BrokenPipe, 2),
         (900, 2, ErrorKind::BrokenPipe, 3),
     ] {
-        let mut shelf = Shelf { asked: 0 };
+        let mut shelf = Shelf { alloc, asked: 0 };
         let mut output = Weak { written, sent };
         let mut errors = Vec::new(alloc);
-        let ended = run(&names, &mut shelf, &mut output, &mut errors);
+        let ended = run(alloc, &names, &mut shelf, &mut output, &mut errors);
         assert_eq!(rt; ended.expect_err(&rt, "an output that fails").kind(), fault);
         assert_eq!(rt; shelf.asked, asked, "{written} bytes and {sent} sends");
         assert!(rt; errors.is_empty());
@@ -213,7 +269,13 @@ fn each_line_is_sent_before_the_next_file(rt: HostRuntime) -> Result<(), Fail> {
     };
     let mut errors = Vec::new(alloc);
     assert_eq!(rt;
-        run(&names, &mut Shelf { asked: 0 }, &mut output, &mut errors)?,
+        run(
+            alloc,
+            &names,
+            &mut Shelf { alloc, asked: 0 },
+            &mut output,
+            &mut errors
+        )?,
         1
     );
     assert_eq!(rt; output.sent, 7);
@@ -226,11 +288,145 @@ fn the_same_bytes_have_the_same_line(rt: HostRuntime) -> Result<(), Fail> {
     let names = strings(alloc, &["a", ""])?;
     let mut output = Vec::new(alloc);
     let mut errors = Vec::new(alloc);
-    assert_eq!(rt; run_same(&names, GIF, &mut output, &mut errors)?, 0);
-    assert_eq!(rt; run_same(&names, CUT, &mut output, &mut errors)?, 1);
+    assert_eq!(rt; run_same(alloc, &names, GIF, &mut output, &mut errors)?, 0);
+    assert_eq!(rt; run_same(alloc, &names, CUT, &mut output, &mut errors)?, 1);
     let lines = "a: Gif 100x100\n: Gif 100x100\n\
         a: error: failed to fill whole buffer\n: error: failed to fill whole buffer\n";
     assert_eq!(rt; output.as_slice(), lines.as_bytes());
+    Ok(())
+}
+
+#[test]
+fn the_option_is_known_as_the_first_argument(rt: HostRuntime) -> Result<(), Fail> {
+    let alloc = rt.alloc();
+    for (arguments, lines, status) in [
+        (
+            ["--spans", "tiny.gif"].as_slice(),
+            "tiny.gif: Gif 100x100\n  0+12\n  6+2\n  8+2\n",
+            0,
+        ),
+        (
+            &["--spans", "cut.gif", "e"],
+            "cut.gif: error: failed to fill whole buffer\n  0+10\ne: error: failed to fill whole buffer\n",
+            1,
+        ),
+        (
+            &["--spans", "--spans"],
+            "--spans: error: no such file on the shelf\n",
+            1,
+        ),
+        (
+            &["tiny.gif", "--spans"],
+            "tiny.gif: Gif 100x100\n--spans: error: no such file on the shelf\n",
+            1,
+        ),
+        (
+            &["--spans", "huge.gif"],
+            "huge.gif: error: Out of memory\n",
+            1,
+        ),
+        (&["--spans"], "", 2),
+        (
+            &["--spans ", "--spans"],
+            "--spans : error: no such file on the shelf\n--spans: error: no such file on the shelf\n",
+            1,
+        ),
+    ] {
+        let arguments = strings(alloc, arguments)?;
+        let mut output = Vec::new(alloc);
+        let mut errors = Vec::new(alloc);
+        let mut shelf = Shelf { alloc, asked: 0 };
+        assert_eq!(rt;
+            run(alloc, &arguments, &mut shelf, &mut output, &mut errors)?,
+            status,
+            "{lines}"
+        );
+        assert_eq!(rt; output.as_slice(), lines.as_bytes());
+        assert_eq!(rt; errors.is_empty(), status != 2);
+    }
+    Ok(())
+}
+
+#[test]
+fn files_are_read_whole_up_to_a_length(rt: HostRuntime) -> Result<(), Fail> {
+    let alloc = rt.alloc();
+    for (name, lines) in [
+        (
+            "16777216",
+            "16777216: error: Could not decode image\n  0+12\n",
+        ),
+        (
+            "16777217",
+            "16777217: error: file is longer than 16777216 bytes\n",
+        ),
+    ] {
+        let arguments = strings(alloc, &["--spans", name])?;
+        let mut output = Vec::new(alloc);
+        let mut errors = Vec::new(alloc);
+        let mut shelf = Shelf { alloc, asked: 0 };
+        assert_eq!(rt;
+            run(alloc, &arguments, &mut shelf, &mut output, &mut errors)?,
+            1
+        );
+        assert_eq!(rt; output.as_slice(), lines.as_bytes());
+    }
+    Ok(())
+}
+
+#[test]
+fn files_that_cannot_be_loaded_have_a_line(rt: HostRuntime) -> Result<(), Fail> {
+    let alloc = rt.alloc();
+    let arguments = strings(alloc, &["--spans", "no such file", "/dev/null", "."])?;
+    let mut output = Vec::new(alloc);
+    let mut errors = Vec::new(alloc);
+    assert_eq!(rt;
+        run(
+            alloc,
+            &arguments,
+            &mut Disk { rt: &rt },
+            &mut output,
+            &mut errors
+        )?,
+        1
+    );
+    let error = fs::open(&rt, "no such file").expect_err(&rt, "a file that is not there");
+    let none = format!(in alloc; "no such file: error: {error}")?;
+    let text = String::from_utf8(output)?;
+    let mut lines = text.lines();
+    assert_eq!(rt; lines.next(), Some(none.as_str()));
+    assert_eq!(rt;
+        lines.next(),
+        Some("/dev/null: error: failed to fill whole buffer")
+    );
+    let folder = lines.next().unwrap_or("");
+    assert!(rt;
+        folder.starts_with(".: error: ") && !folder.ends_with("whole buffer"),
+        "{folder}"
+    );
+    assert_eq!(rt; lines.next(), None);
+    Ok(())
+}
+
+#[test]
+fn no_more_of_a_file_is_read_than_shows_that_it_is_too_long(rt: HostRuntime) -> Result<(), Fail> {
+    let alloc = rt.alloc();
+    let arguments = strings(alloc, &["--spans", "/dev/zero"])?;
+    let mut output = Vec::new(alloc);
+    let mut errors = Vec::new(alloc);
+    assert_eq!(rt;
+        run(
+            alloc,
+            &arguments,
+            &mut Disk { rt: &rt },
+            &mut output,
+            &mut errors
+        )?,
+        1
+    );
+    assert_eq!(rt;
+        output.as_slice(),
+        b"/dev/zero: error: file is longer than 16777216 bytes\n".as_slice()
+    );
     Ok(())
 }
 
@@ -247,7 +443,13 @@ fn files_are_opened_by_their_names(rt: HostRuntime) -> Result<(), Fail> {
     let mut output = Vec::new(alloc);
     let mut errors = Vec::new(alloc);
     assert_eq!(rt;
-        run(&names, &mut Disk { rt: &rt }, &mut output, &mut errors)?,
+        run(
+            alloc,
+            &names,
+            &mut Disk { rt: &rt },
+            &mut output,
+            &mut errors
+        )?,
         1
     );
     let error = fs::open(&rt, "no such file").expect_err(&rt, "a file that is not there");
