@@ -10,7 +10,6 @@ use imagesize_source::util::{Endian, read_bytes, read_u8, read_u16};
 use imagesize_types::size::ImageSize;
 
 /// Whether the footer has the signature, or the header alone can be that of a TGA.
-#[inline(always)]
 pub fn matches<S: Source>(source: &mut S, head: &[u8; 12]) -> ImageResult<bool>
     ensures { Runs (S.state source.old) (S.state source.new) result
         (over (S.state source.old).held.input (is_tga (length (S.state source.old).held.input) head.now)) }
@@ -20,7 +19,6 @@ pub fn matches<S: Source>(source: &mut S, head: &[u8; 12]) -> ImageResult<bool>
 }
 
 // Whether an input of this length, with this head, is a TGA.
-#[inline(always)]
 #[tactic(auto, using(imagesize_source::proofs::Runs::steps), unfolding(crate::specs::Tga::is_tga))]
 fn matches_by_length<S: Source>(source: &mut S, head: &[u8; 12], length: u64) -> ImageResult<bool>
     requires { Sound (S.state source.old) }
@@ -41,7 +39,6 @@ fn matches_by_length<S: Source>(source: &mut S, head: &[u8; 12], length: u64) ->
 }
 
 // Whether the fields of the colour map and of the pixels agree with each other.
-#[inline(always)]
 #[tactic(auto, using(imagesize_source::proofs::Runs::steps))]
 fn has_sound_header<S: Source>(source: &mut S, head: &[u8; 12]) -> ImageResult<bool>
     ensures { Runs (S.state source.old) (S.state source.new) result
@@ -58,7 +55,6 @@ fn has_sound_header<S: Source>(source: &mut S, head: &[u8; 12]) -> ImageResult<b
 }
 
 // Whether the image type and the type of the colour map are known.
-#[inline(always)]
 #[tactic(auto, unfolding(crate::specs::Tga::may_be_tga))]
 fn may_be_tga(head: &[u8; 12]) -> bool
     ensures { result ≡ may_be_tga head.now }
@@ -67,7 +63,6 @@ fn may_be_tga(head: &[u8; 12]) -> bool
 }
 
 // Whether the signature ends the footer.
-#[inline(always)]
 #[tactic(auto, unfolding(crate::specs::Tga::is_tga_footer))]
 fn is_footer(footer: &[u8; 18]) -> bool
     ensures { result ≡ is_tga_footer footer.now }
@@ -76,7 +71,6 @@ fn is_footer(footer: &[u8; 18]) -> bool
 }
 
 // Whether the pixels are indices of a colour map that the file does not have.
-#[inline(always)]
 #[tactic(auto, unfolding(crate::specs::Tga::lacks_its_map))]
 fn lacks_its_map(head: &[u8; 12]) -> bool
     ensures { result ≡ lacks_its_map head.now }
@@ -85,7 +79,6 @@ fn lacks_its_map(head: &[u8; 12]) -> bool
 }
 
 // Whether the fields of the colour map are all zero, or where it has one its entries are of a known size.
-#[inline(always)]
 #[tactic(auto, unfolding(crate::specs::Tga::is_map_sound))]
 fn is_map_sound(map_type: u8, map: &[u8; 4], bits: u8) -> bool
     ensures { result ≡ is_map_sound map_type map.now bits }
@@ -97,7 +90,6 @@ fn is_map_sound(map_type: u8, map: &[u8; 4], bits: u8) -> bool
 }
 
 // Whether the pixels go from left to right, and are of a known size with a known count of alpha bits.
-#[inline(always)]
 #[tactic(auto, unfolding(crate::specs::Tga::is_pixel_sound))]
 fn is_pixel_sound(bits: u8, descriptor: u8) -> bool
     ensures { result ≡ is_pixel_sound bits descriptor }
