@@ -1,6 +1,7 @@
 //! The size of the image in a file.
 
 use crate::{ImageError, ImageResult, Reason, reader_size};
+use imagesize_source::KeptReader;
 use imagesize_types::size::ImageSize;
 use std::alloc::Global;
 use std::fs;
@@ -22,7 +23,7 @@ use std::rt::Files;
 pub fn size<F: Files, P: AsPath + Drop>(rt: &F, alloc: Global, path: P) -> ImageResult<ImageSize> {
     let file = fs::open(rt, path)?;
     match BufReader::new(alloc, file) {
-        Ok(reader) => reader_size(reader),
+        Ok(reader) => reader_size(KeptReader::new(reader)),
         Err(_) => Err(ImageError::IoError(Reason::Memory)),
     }
 }

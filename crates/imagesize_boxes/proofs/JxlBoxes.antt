@@ -17,7 +17,7 @@ use Rattle.imagesize_source.specs.Reading.{end_of_input, is_fault}
 use Rattle.imagesize_source.specs.State.{State, Runs, EndedBy, Sound}
 use Rattle.imagesize_source.proofs.Advances.{Tells, advances}
 use Rattle.imagesize_source.proofs.Reached.{reads_nothing}
-use Rattle.imagesize_source.proofs.Runs.{runs_then, runs_refused}
+use Rattle.imagesize_source.proofs.Runs.{runs_then}
 use Rattle.imagesize_source.proofs.Tests.{on_test}
 use Rattle.imagesize_source.proofs.Walks.{Walks, walks_start, walks_on, walks_stop, walks_out}
 use Rattle.imagesize_source.specs.declared.error.ImageError.{ImageError}
@@ -26,7 +26,7 @@ use Rattle.imagesize_source.specs.declared.error.Reason.TheVariants.{InvalidJxlB
 use Rattle.imagesize_source.specs.declared.util.Endian.TheVariants.{Little, Big}
 use Rattle.imagesize_source.specs.Numbers.{number, little}
 
--- the size by front of each kind
+-- the size by too few bytes, by others than the signature, and by its bits as a number
 pub size_short : (front : List ℕ) → length front < 2 → jxl_size front ≡ Err CorruptedImage
 unfolding jxl_size
 size_short front short = let test : ltb (length front) 2 ≡ true = grind (arith, nat_tests) in rw test refl
@@ -157,7 +157,3 @@ sized_by {b} (Err e) sound plain = reads_nothing b (Err e) sound plain.0 (plain.
 pub sized : {a b : State} (front : List ℕ) → Runs a b (Ok front) (jxl_codestream a.held.input) → Runs a b (jxl_size front) (jxl a.held.input)
 sized {a} {b} front run =
     runs_then (jxl_codestream a.held.input) (λ found held. record { answer = jxl_size found; marks = [] }) run (sized_by (jxl_size front) run.sound_after (plain_size front))
-
--- and none where none was found
-pub unsized : {a b : State} (e : ImageError) → Runs a b (Err e) (jxl_codestream a.held.input) → Runs a b (Err e) (jxl a.held.input)
-unsized {a} {b} e run = runs_refused (jxl_codestream a.held.input) (λ front. record { answer = jxl_size front; marks = [] }) run

@@ -11,6 +11,7 @@ mod report;
 mod run;
 
 use imagesize::{ImageError, ImageResult, Reason};
+use imagesize_source::KeptReader;
 use run::{Open, WHOLE, exit_code, run};
 use std::io::{self, BufReader, BufWriter, ErrorKind, Printer, Read};
 use std::process::ExitCode;
@@ -53,18 +54,18 @@ struct Disk<'a, R> {
 }
 
 impl<R: Files + AllocGlobal> Open for Disk<'_, R> {
-    type Reader = BufReader<R::File>;
+    type Reader = KeptReader<R::File>;
 
     ghost known = { λ _. None };
 
-    fn open(&mut self, name: &str) -> ImageResult<BufReader<R::File>>
+    fn open(&mut self, name: &str) -> ImageResult<KeptReader<R::File>>
         ensures opens { Unit {0} }
         ensures keeps { ◌≡◌ {A = Option Files} None None }
         ensures refuses { IfErr result (λ e. IsTrue (is_fault e || is_memory e)) }
     {
         let file = fs::open(self.rt, name)?;
         match BufReader::new(self.rt.alloc(), file) {
-            Ok(reader) => Ok(reader),
+            Ok(reader) => Ok(KeptReader::new(reader)),
             Err(_) => Err(ImageError::IoError(Reason::Memory)),
         }
     }

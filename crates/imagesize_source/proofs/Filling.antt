@@ -1,11 +1,12 @@
 -- A room that is filled by one read after another.
-use Rattle.std.proofs.Common.{◌≡◌, ℕ, ◌+◌, ◌-◌, ◌<◌, ◌≤◌, List, ◌++◌, length, take, drop, Option, Some, None, Ok, refl, sym, ap, ◌∙◌, subst, arith}
+use Rattle.std.proofs.Common.{◌≡◌, ℕ, ◌+◌, ◌-◌, ◌<◌, ◌≤◌, min, List, ◌++◌, length, take, drop, Option, Some, None, IfSome, Ok, refl, sym, ap, ◌∙◌, subst, arith}
 use Rattle.std.proofs.lemmas.List.{length-append, length-take, length-drop, length-take-le, take-append-le}
 use Rattle.std.proofs.Math.Seq.{take-append-add, take-add, drop-append-add, drop-drop}
 use Rattle.std.specs.List.{slice_range}
 use borrow.Rule.Slice.PartMut.{put_mid}
 use Rattle.imagesize_source.specs.declared.source.progress.Progress.{Progress}
 use Rattle.imagesize_source.specs.Input.{part}
+use Rattle.imagesize_source.proofs.Standings.{keeps_both}
 use Rattle.imagesize_source.specs.Standing.{Standing, onto, GivesSome, GivesAll, Keeps, since}
 
 -- so many bytes of the room are the next of the bytes that the reader stood at first
@@ -74,7 +75,7 @@ filling_more {first} {now} {next} {filled = filled} {room = room} more n h enoug
   reached = reached_more first now next room more filled n h.fits enough h.reached gave;
   taken = omega (arith, h.taken);
   counts = same ∙ h.counts;
-  keeps = record { told = keeps.told ∙ h.keeps.told; budget = keeps.budget ∙ h.keeps.budget; taken = omega (arith, keeps.taken, h.keeps.taken); retries = omega (arith, keeps.retries, h.keeps.retries); limit = λ few. keeps.limit (h.keeps.limit few) };
+  keeps = keeps_both h.keeps keeps;
 }
 
 ends : (first now next : Option Standing) (room more : List ℕ) (filled : ℕ) → filled ≤ length room → Filled first now filled room → filled < length room → length more ≡ length room - filled → GivesSome now next more (Ok 0) → GivesAll first next (put_mid filled (length room - filled) room more) (Ok filled)
@@ -93,3 +94,19 @@ pub filling_ends : {first now : Option Standing} (next : Option Standing) {count
 filling_ends {first} {now} next {filled = filled} {room = room} more n h left long gave none =
     let nothing : GivesSome now next more (Ok 0) = subst (λ k. GivesSome now next more (Ok k)) none gave in
     ends first now next room more filled h.fits h.reached left long nothing
+
+-- a read, and all that follows it
+pub gave_rest : (first now last : Option Standing) (room more : List ℕ) (n k : ℕ) → GivesSome first now room (Ok n) → n ≤ length room → GivesAll now last more (Ok k) → k ≤ length more → length more ≡ length room - n → GivesAll first last (put_mid n (length room - n) room more) (Ok (n + k))
+gave_rest None now last room more n k gave fits rest enough long = tt
+gave_rest (Some s) now last room more n k gave fits rest enough long =
+    let gives : GivesAll (Some (onto s n)) last more (Ok k) = subst (λ w. GivesAll w last more (Ok k)) gave.0 rest in (
+      gives.0 ∙ ap (λ p. Some (record s { place = p })) (omega arith),
+      take_more room more n k fits enough ∙ ap (λ l. l ++ take k more) gave.1 ∙ ap (λ l. part s.bytes s.place n ++ l) gives.1 ∙ part-add s.bytes s.place n k,
+      rw (length-put room more n fits long) (omega (arith, gives.2, gave.2, long)),
+    )
+
+pub within_rest : (first now : Option Standing) (room : List ℕ) (n m long taken mid taken' : ℕ) → GivesSome first now room (Ok n) → mid ≡ taken + n → n ≤ long → m ≡ long - n → IfSome now (λ s. taken' ≤ mid + min m (length s.bytes - s.place)) → IfSome first (λ s. taken' ≤ taken + min long (length s.bytes - s.place))
+within_rest None now room n m long taken mid taken' gave took fits left within = tt
+within_rest (Some s) now room n m long taken mid taken' gave took fits left within =
+    let after : IfSome (Some (onto s n)) (λ s. taken' ≤ mid + min m (length s.bytes - s.place)) = subst (λ w. IfSome w (λ s. taken' ≤ mid + min m (length s.bytes - s.place))) gave.0 within in
+    omega (arith, after, gave.2)

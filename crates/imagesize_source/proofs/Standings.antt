@@ -5,7 +5,7 @@ use Rattle.imagesize_source.specs.declared.error.ImageError.{ImageError}
 use Rattle.imagesize_source.specs.declared.source.progress.Progress.{Progress}
 use Rattle.imagesize_source.specs.Input.{part}
 use Rattle.imagesize_source.specs.Telling.{Telling}
-use Rattle.imagesize_source.specs.Standing.{Standing, steady, in_step, stand_of, stand, GivesAll, GoesTo, GivesFrom, Tries}
+use Rattle.imagesize_source.specs.Standing.{Standing, steady, in_step, stand_of, stand, GivesAll, GoesTo, GivesFrom, Keeps, Tries}
 
 kept_if : (b : Bool) (s t : Standing) → cond b (Some s) None ≡ Some t → (b ≡ true) × (s ≡ t)
 kept_if true s t e = (refl, cc)
@@ -54,6 +54,21 @@ within_reached None mid place at old between new k b goes on same within = tt
 within_reached (Some s) mid place at old between new k b goes on same within =
     subst (λ o. new ≤ o + min k (length s.bytes - place)) same
     (subst (λ w. IfSome w (λ t. new ≤ between + min k (length t.bytes - t.place))) (goes_there s mid place at b goes on) within)
+
+-- nothing was taken
+pub within_none : (first : Option Standing) (old new place k : ℕ) → new ≡ old → IfSome first (λ s. new ≤ old + min k (length s.bytes - place))
+within_none None old new place k same = tt
+within_none (Some s) old new place k same = omega arith
+
+-- what one call keeps after another
+pub keeps_both : {old mid new : Progress} → Keeps old mid → Keeps mid new → Keeps old new
+keeps_both h k = record {
+  told = k.told ∙ h.told;
+  budget = k.budget ∙ h.budget;
+  taken = omega (arith, h.taken, k.taken);
+  retries = omega (arith, h.retries, k.retries);
+  limit = λ few. k.limit (h.limit few);
+}
 
 -- the tries of a read so far
 pub record Retried (first now : Option Telling) (count count' : Option ℕ) (old new : ℕ) : Type 0 where

@@ -66,7 +66,7 @@ past-span a place zero counts bare =
 past-span a place (suc n) counts bare = ap (past a) (span-suc place n) ∙ step_is a _ counts bare
 
 -- no more of a part is there than its input has
-part-min : (d : List ℕ) (place k n : ℕ) → n ≡ min k (length d - place) → part d place k ≡ part d place n
+pub part-min : (d : List ℕ) (place k n : ℕ) → n ≡ min k (length d - place) → part d place k ≡ part d place n
 unfolding part
 part-min d place k n is = sym (take_min k (drop place d)) ∙ ap (λ i. take i (drop place d)) (ap (min k) (length-drop place d) ∙ sym is)
 
@@ -341,6 +341,26 @@ behind_stopped {f} {f'} {st} {st'} {w} {w'} {room} {old} {more} {taken} {taken'}
     let whole : length (put_mid copied (length room - copied) room more) ≡ length room = length-put room more copied (omega (arith, h.count, h.kept)) h.long in
     subst (λ k. Runs (state_at f st w taken) (state_at f' st' w' taken') (seen value r) (part_read (held_at st w).input place k)) (sym whole)
     (subst (λ q. Runs (state_at f st w taken) (state_at f' st' w' taken') (seen value q) (part_read (held_at st w).input place (length room))) (sym is) (halted value h))
+
+-- the window has nothing from a place on that lies behind it
+pub none_in : (w more : List ℕ) (place k : ℕ) → length w ≤ place → more ≡ part w place k ++ drop 0 more
+unfolding part
+none_in w more place k far = ap (λ l. l ++ more) (sym (ap (take k) (drop_all place w far) ∙ take-nil k))
+
+put_whole : (more : List ℕ) → put_mid 0 (length more - 0) more more ≡ more
+put_whole more = ap (λ l. more ++ l) (drop_all (length more - 0) more (omega arith)) ∙ append-nil more
+
+-- a reading of which the window has nothing
+pub straight : {f f' : Frame} {st st' : Option Standing} {w w' more : List ℕ} {taken taken' place now n : ℕ} → Behind f f' st st' w w' more more more taken taken' place now 0 n → Runs (state_at f st w taken) (state_at f' st' w' taken') (Ok (take n more)) (part_read (held_at st w).input place (length more))
+straight {f} {f'} {st} {st'} {w} {w'} {more} {taken} {taken'} {place} {now} {n} h =
+    let sum : 0 + n ≡ n = omega arith in
+    subst (λ l. Runs (state_at f st w taken) (state_at f' st' w' taken') (Ok (take n l)) (part_read (held_at st w).input place (length l))) (put_whole more)
+    (subst (λ m. Runs (state_at f st w taken) (state_at f' st' w' taken') (Ok (take m (put_mid 0 (length more - 0) more more))) (part_read (held_at st w).input place (length (put_mid 0 (length more - 0) more more)))) sum (behind_window h))
+
+-- and one that was stopped
+pub straight_stopped : {f f' : Frame} {st st' : Option Standing} {w w' more : List ℕ} {taken taken' place now : ℕ} {e : ImageError} (value : ℕ → List ℕ) (r : Result ℕ ImageError) → Halted f f' st st' w w' more more more taken taken' place now 0 e → r ≡ Err e → Runs (state_at f st w taken) (state_at f' st' w' taken') (seen value r) (part_read (held_at st w).input place (length more))
+straight_stopped {f} {f'} {st} {st'} {w} {w'} {more} {taken} {taken'} {place} value r h is =
+    subst (λ l. Runs (state_at f st w taken) (state_at f' st' w' taken') (seen value r) (part_read (held_at st w).input place (length l))) (put_whole more) (behind_stopped value r h is)
 
 told_if : (f : Frame) (telling : Option Telling) (p : Progress) (st : Option Standing) → f.told ≡ p.told → stand telling p ≡ st → ToldBy f st
 told_if f telling p None told is = tt

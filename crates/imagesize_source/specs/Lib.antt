@@ -4,6 +4,7 @@ pub mod Chain
 pub mod Counts
 pub mod Extension
 pub mod Input
+pub mod Kept
 pub mod Layout
 pub mod Numbers
 pub mod Paying

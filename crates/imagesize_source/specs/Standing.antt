@@ -1,7 +1,13 @@
 -- What a reader claims, as far as the numbers kept beside it agree with what it tells.
-use Rattle.std.specs.Prelude.{◌≡◌, ℕ, ◌+◌, ◌-◌, ◌^◌, ◌<◌, ◌≤◌, min, Bool, true, false, ◌||◌, ◌&&◌, List, length, take, nat_le, nat_lt, ◌==◌, if◌then◌else◌, Option, None, Some, Result, Ok, Err, IfSome, IsSomeAnd, option_map, ⊤}
+use Rattle.std.specs.Prelude.{◌≡◌, ℕ, ◌+◌, ◌-◌, ◌^◌, ◌<◌, ◌≤◌, min, Bool, true, false, ◌||◌, ◌&&◌, List, length, take, nat_le, nat_lt, ◌==◌, if◌then◌else◌, Option, None, Some, Result, Ok, Err, IfSome, IfOk, IfErr, IsSomeAnd, option_map, ⊤}
 use Rattle.imagesize_source.specs.declared.error.ImageError.{ImageError}
+use Rattle.imagesize_source.specs.declared.error.ImageError.TheVariants.{IoError}
+use Rattle.imagesize_source.specs.declared.error.Reason.TheVariants.{BudgetSpent}
+use Rattle.imagesize_source.specs.declared.source.reader.Halt.{Halt}
+use Rattle.imagesize_source.specs.declared.source.reader.Halt.TheVariants.{Failed, Spent}
 use Rattle.imagesize_source.specs.declared.source.progress.Progress.{Progress}
+use Rattle.std.specs.declared.io.Error.{Error}
+use Rattle.imagesize_source.specs.StopOf.{fault_of}
 use Rattle.imagesize_source.specs.Input.{part}
 use Rattle.imagesize_source.specs.Reading.{is_fault, is_memory, is_stop, spent}
 use Rattle.imagesize_source.specs.Telling.{Telling}
@@ -70,6 +76,21 @@ abbrev pub Tries : Option Telling → ℕ → Option Telling → ℕ → Type 0
 Tries None tries new tries' = ⊤
 Tries (Some t) tries new tries' = IsSomeAnd new (λ u. t.interruptions + tries ≤ u.interruptions + tries')
 
+-- the error that a halt ends a call with
+abbrev pub error_at : Progress → Halt → ImageError
+error_at p Failed = fault_of p.fault
+error_at p Spent = IoError (BudgetSpent p.budget)
+
+-- an answer, with the error of its halt
+abbrev pub named : {X : Type 0} → Progress → Result X Halt → Result X ImageError
+named p (Ok x) = Ok x
+named p (Err halt) = Err (error_at p halt)
+
+-- the bytes that a read gave, or the error that it left
+abbrev pub given_or : Error → Option ℕ → Result ℕ ImageError
+given_or e (Some n) = Ok n
+given_or e None = Err (fault_of e)
+
 -- by how much a count is above a number, and below it
 abbrev pub since : Option ℕ → ℕ → Option (ℕ × ℕ)
 since count taken = option_map (λ c. (c - taken, taken - c)) count
@@ -87,3 +108,14 @@ pub record Keeps (old new : Progress) : Type 0 where
   pub taken : old.taken ≤ new.taken
   pub retries : old.retries ≤ new.retries
   pub limit : old.retries ≤ 64 → new.retries ≤ 64
+
+-- what a reading from a place on did, over every reader
+pub record ReadsFrom (old new : Progress) (before after : Option Standing) (count count' : Option ℕ) (place : ℕ) (room : List ℕ) (r : Result ℕ ImageError) : Type 0 where
+  pub bound : IfOk r (λ n. n ≤ length room)
+  pub stand : GivesFrom before after place new.place room r
+  pub taken : IfOk r (λ n. new.taken ≡ old.taken + n)
+  pub within : IfSome before (λ s. new.taken ≤ old.taken + min (length room) (length s.bytes - place))
+  pub pays : IfOk r (λ n. old.told < place → 0 < n → old.taken < new.taken)
+  pub since : since count' new.taken ≡ since count old.taken
+  pub keeps : Keeps old new
+  pub stops : IfErr r (StopsBy new)

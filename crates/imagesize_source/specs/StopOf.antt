@@ -23,6 +23,6 @@ abbrev pub fault_of : Error → ImageError
 fault_of e = IoError (FaultReason e)
 
 -- What ends a call after so many tries: a fault, and an interruption after 64. One before may be tried again.
-abbrev pub ending_of : Stop → ℕ → Option ImageError
-ending_of (Fault e) tries = Some (fault_of e)
-ending_of (Interrupted e) tries = if nat_lt tries 64 then None else Some (fault_of e)
+abbrev pub ending_of : Stop → ℕ → Option Error
+ending_of (Fault e) tries = Some e
+ending_of (Interrupted e) tries = if nat_lt tries 64 then None else Some e

@@ -2,6 +2,7 @@
 #![tactic(auto)]
 
 pub mod error;
+pub mod kept;
 pub mod source;
 pub mod span;
 pub mod text;
@@ -9,6 +10,7 @@ pub mod told;
 pub mod util;
 
 pub use error::{ImageError, ImageResult, Reason};
+pub use kept::KeptReader;
 pub use span::Span;
 pub use text::Text;
 pub use told::{Stop, Told};

@@ -8,6 +8,7 @@ ghost use Rattle.std.specs.declared.io.Error.{Error};
 ghost use Rattle.imagesize_source.specs.Telling.{Telling, ReadTells, SeekTells, counted};
 ghost use Rattle.imagesize_source.specs.StopOf.{stop_of};
 
+use crate::source::slice::copy_part;
 use std::io::{self, BufReader, Cursor, ErrorKind, Read, Seek, SeekFrom};
 
 /// Why a read gave nothing.
@@ -62,15 +63,28 @@ impl Told for Cursor<&[u8]> {
 
     ghost count = { λ _. None };
 
+    #[inline(always)]
     fn read_told(&mut self, room: &mut [u8]) -> Result<usize, Stop> {
-        Ok(self.read(room)?)
+        let bytes = *self.get_ref();
+        let place = self.position();
+        let count = copy_part(bytes, place, room);
+        self.set_position(place + count as u64);
+        Ok(count)
     }
 
+    #[inline(always)]
     fn seek_told(&mut self, to: SeekFrom) -> io::Result<u64> {
         // The proof needs that the place and the length are below 2^64.
-        let _place = self.position();
-        let _length = self.get_ref().len();
-        self.seek(to)
+        let place = self.position();
+        let length = self.get_ref().len() as u64;
+        let target = match to {
+            SeekFrom::Start(target) => target,
+            SeekFrom::Current(0) => place,
+            SeekFrom::End(0) => length,
+            _ => return self.seek(to),
+        };
+        self.set_position(target);
+        Ok(target)
     }
 }
 

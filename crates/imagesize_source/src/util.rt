@@ -25,10 +25,20 @@ pub fn read_bytes<S: Source, const N: usize>(source: &mut S, place: u64) -> Imag
     ensures runs { Runs (S.state source.old) (S.state source.new) result (bytes_read (S.state source.old).held.input place N) }
 {
     let mut room = [0u8; N];
-    if source.read_at(place, &mut room)? < N {
-        return Err(ImageError::IoError(Reason::EndOfInput));
+    match source.read_at(place, &mut room) {
+        Ok(count) if count >= N => Ok(room),
+        Ok(_) => Err(end_of_input()),
+        Err(error) => Err(error),
     }
-    Ok(room)
+}
+
+// The refusal where the input ends. It is made apart, so that a reading that succeeds is short.
+#[cold]
+#[inline(never)]
+fn end_of_input() -> ImageError
+    ensures { result ≡ end_of_input }
+{
+    ImageError::IoError(Reason::EndOfInput)
 }
 
 /// The `N` bytes from a place on, or none where the input ends before the last of them.

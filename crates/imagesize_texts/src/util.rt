@@ -10,7 +10,7 @@ use imagesize_source::source::Source;
 use imagesize_source::util::{Endian, read_bytes, read_u32};
 use imagesize_source::{ImageError, ImageResult, Reason, Text};
 
-/// How many bytes of an input a word may take, less one.
+/// A word takes fewer bytes of an input than this.
 pub const WORD_ROOM: usize = 1024;
 
 /// A word of an input.

@@ -101,6 +101,20 @@ fn check_failures(
     Ok(())
 }
 
+// The same for each call and each failure.
+pub fn check_each_failure(
+    rt: &(impl Abort + AllocGlobal),
+    bytes: &[u8],
+    kind: ImageType,
+) -> Result<(), Fail> {
+    for failure in failures() {
+        for call in calls(kind) {
+            check_failures(rt, bytes, call, failure)?;
+        }
+    }
+    Ok(())
+}
+
 #[test]
 fn each_failure_in_turn_is_the_fault_that_is_answered(rt: HostRuntime) -> Result<(), Fail> {
     for bytes in [GIF, TGA, PVR, EXTENDED_DDS, ICON, NESTED_JPEG] {

@@ -1,7 +1,7 @@
 //! What is answered of boxes of HEIF and AVIF.
 
+use crate::failures::check_each_failure;
 use crate::readers::OneByte;
-use crate::strange::{FAILURES, check_failures};
 use imagesize::{
     Compression, ImageResult, ImageSize, ImageType, Span, blob_size, blob_trace, image_type,
     reader_probe, reader_size,
@@ -401,10 +401,8 @@ fn bytes_that_follow_may_take_the_size(rt: HostRuntime) -> Result<(), Fail> {
 }
 
 #[test]
-fn each_failure_along_the_boxes_is_answered(rt: HostRuntime) {
-    for failure in FAILURES {
-        check_failures(&rt, TURNED, ImageType::Heif(Compression::Av1), failure);
-    }
+fn each_failure_along_the_boxes_is_answered(rt: HostRuntime) -> Result<(), Fail> {
+    check_each_failure(&rt, TURNED, ImageType::Heif(Compression::Av1))
 }
 
 // An AVIF of 64 by 48 pixels, before and behind whose extents a number of other properties stand.

@@ -10,6 +10,8 @@ mod failures;
 #[cfg(test)]
 mod heif;
 #[cfg(test)]
+mod jxl;
+#[cfg(test)]
 mod long;
 #[cfg(test)]
 mod queries;

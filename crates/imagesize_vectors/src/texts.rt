@@ -1,15 +1,14 @@
 //! What is answered of PNM, HDR and EXR, whose sizes stand in texts.
-ghost use Rattle.std.specs.Prelude.{None};
 
-use crate::readers::{Counting, OneByte};
+use crate::failures::check_each_failure;
+use crate::readers::{Claiming, Counting, Endless, OneByte};
 use crate::rows::Row;
-use crate::strange::{FAILURES, check_failures};
 use imagesize::{
-    ImageError, ImageResult, ImageSize, ImageType, Reason, Stop, Told, blob_size, reader_probe,
-    reader_size,
+    ImageError, ImageResult, ImageSize, ImageType, Reason, Span, blob_size, blob_trace,
+    reader_probe, reader_size,
 };
 use std::alloc::{AllocError, Global};
-use std::io::{self, Cursor, ErrorKind, SeekFrom};
+use std::io::Cursor;
 use std::process::Abort;
 use std::test::Fail;
 
@@ -23,10 +22,11 @@ pub const HDR_BEHIND_A_LINE: &[u8] = b"#?RGBE\n\n-Y 5 +X 7\n";
 pub const EXR_OF_ONE_ATTRIBUTE: &[u8] =
     b"v/1\x01\x02\0\0\0dataWindow\0box2i\0\x10\0\0\0\xFF\xFF\xFF\xFF\xFE\xFF\xFF\xFF\x05\0\0\0\x02\0\0\0";
 
-// An input with its answer, and how many bytes a call takes of it.
+// An input with its answer, the start and the length of each reading's span, and how many bytes a call takes of it.
 #[derive(Clone, Copy)]
 struct TextRow {
     row: Row,
+    spans: &'static [(u64, u64)],
     taken: u64,
 }
 
@@ -38,6 +38,7 @@ static ROWS: [TextRow; 20] = [
             kind: Some(ImageType::Pnm),
             answer: Ok((4, 4)),
         },
+        spans: &[(0, 12), (2, 4), (6, 2), (8, 2)],
         taken: 12,
     },
     TextRow {
@@ -47,6 +48,7 @@ static ROWS: [TextRow; 20] = [
             kind: Some(ImageType::Pnm),
             answer: Ok((12, 34)),
         },
+        spans: &[(0, 12), (2, 4), (6, 3)],
         taken: 12,
     },
     TextRow {
@@ -56,6 +58,7 @@ static ROWS: [TextRow; 20] = [
             kind: Some(ImageType::Hdr),
             answer: Ok((7, 5)),
         },
+        spans: &[(0, 12), (0, 7), (7, 1), (8, 10)],
         taken: 18,
     },
     TextRow {
@@ -65,6 +68,7 @@ static ROWS: [TextRow; 20] = [
             kind: Some(ImageType::Exr),
             answer: Ok((7, 5)),
         },
+        spans: &[(0, 12), (4, 4), (8, 11), (19, 6), (25, 4), (29, 16)],
         taken: 45,
     },
     TextRow {
@@ -74,6 +78,7 @@ static ROWS: [TextRow; 20] = [
             kind: Some(ImageType::Exr),
             answer: Ok((4294967296, 5)),
         },
+        spans: &[(0, 12), (4, 4), (8, 11), (19, 6), (25, 4), (29, 16)],
         taken: 45,
     },
     TextRow {
@@ -83,6 +88,7 @@ static ROWS: [TextRow; 20] = [
             kind: Some(ImageType::Pnm),
             answer: Ok((4, 4)),
         },
+        spans: &[(0, 12), (2, 3), (5, 3)],
         taken: 12,
     },
     TextRow {
@@ -92,6 +98,7 @@ static ROWS: [TextRow; 20] = [
             kind: Some(ImageType::Pnm),
             answer: Err("PNM dimensions not found"),
         },
+        spans: &[(0, 12), (2, 4), (6, 2)],
         taken: 12,
     },
     TextRow {
@@ -101,6 +108,7 @@ static ROWS: [TextRow; 20] = [
             kind: Some(ImageType::Hdr),
             answer: Ok((4, 9)),
         },
+        spans: &[(0, 12), (0, 11), (11, 10)],
         taken: 21,
     },
     TextRow {
@@ -110,6 +118,17 @@ static ROWS: [TextRow; 20] = [
             kind: Some(ImageType::Exr),
             answer: Ok((7, 5)),
         },
+        spans: &[
+            (0, 12),
+            (4, 4),
+            (8, 32),
+            (40, 6),
+            (46, 4),
+            (50, 11),
+            (61, 6),
+            (67, 4),
+            (71, 16),
+        ],
         taken: 87,
     },
     TextRow {
@@ -119,6 +138,18 @@ static ROWS: [TextRow; 20] = [
             kind: Some(ImageType::Exr),
             answer: Ok((7, 5)),
         },
+        spans: &[
+            (0, 12),
+            (4, 4),
+            (8, 11),
+            (19, 6),
+            (25, 4),
+            (29, 16),
+            (45, 11),
+            (56, 6),
+            (62, 4),
+            (66, 16),
+        ],
         taken: 82,
     },
     TextRow {
@@ -128,6 +159,7 @@ static ROWS: [TextRow; 20] = [
             kind: Some(ImageType::Exr),
             answer: Err("Data window not found"),
         },
+        spans: &[(0, 12), (4, 4), (8, 1)],
         taken: 12,
     },
     TextRow {
@@ -137,6 +169,7 @@ static ROWS: [TextRow; 20] = [
             kind: Some(ImageType::Exr),
             answer: Err("invalid utf-8"),
         },
+        spans: &[(0, 12), (4, 4), (8, 2)],
         taken: 12,
     },
     TextRow {
@@ -146,6 +179,17 @@ static ROWS: [TextRow; 20] = [
             kind: Some(ImageType::Exr),
             answer: Ok((7, 5)),
         },
+        spans: &[
+            (0, 12),
+            (4, 4),
+            (8, 32),
+            (40, 6),
+            (46, 4),
+            (50, 11),
+            (61, 6),
+            (67, 4),
+            (71, 16),
+        ],
         taken: 87,
     },
     TextRow {
@@ -155,6 +199,7 @@ static ROWS: [TextRow; 20] = [
             kind: Some(ImageType::Hdr),
             answer: Err("Invalid HDR dimensions line"),
         },
+        spans: &[(0, 12), (0, 7), (7, 8)],
         taken: 15,
     },
     TextRow {
@@ -164,6 +209,7 @@ static ROWS: [TextRow; 20] = [
             kind: Some(ImageType::Hdr),
             answer: Err("HDR dimensions not found"),
         },
+        spans: &[(0, 12), (0, 7), (7, 10)],
         taken: 17,
     },
     TextRow {
@@ -173,6 +219,7 @@ static ROWS: [TextRow; 20] = [
             kind: Some(ImageType::Pnm),
             answer: Ok((4, 4)),
         },
+        spans: &[(0, 12), (2, 4), (6, 2)],
         taken: 12,
     },
     TextRow {
@@ -182,6 +229,7 @@ static ROWS: [TextRow; 20] = [
             kind: Some(ImageType::Pnm),
             answer: Err("PNM dimensions not found"),
         },
+        spans: &[(0, 12), (2, 22), (24, 2)],
         taken: 26,
     },
     TextRow {
@@ -191,6 +239,7 @@ static ROWS: [TextRow; 20] = [
             kind: Some(ImageType::Pnm),
             answer: Err("failed to fill whole buffer"),
         },
+        spans: &[(0, 12), (2, 4), (6, 6)],
         taken: 12,
     },
     TextRow {
@@ -200,6 +249,7 @@ static ROWS: [TextRow; 20] = [
             kind: Some(ImageType::Pnm),
             answer: Ok((4, 4)),
         },
+        spans: &[(0, 12), (2, 4), (6, 2), (8, 2), (10, 2)],
         taken: 12,
     },
     TextRow {
@@ -209,6 +259,7 @@ static ROWS: [TextRow; 20] = [
             kind: Some(ImageType::Exr),
             answer: Err("Delimiter not found within 32 bytes"),
         },
+        spans: &[(0, 12), (4, 4), (8, 32)],
         taken: 40,
     },
 ];
@@ -222,6 +273,7 @@ static READ_AS_HDR: [TextRow; 2] = [
             kind: None,
             answer: Err("Delimiter not found within 11 bytes"),
         },
+        spans: &[(0, 11)],
         taken: 11,
     },
     TextRow {
@@ -231,6 +283,7 @@ static READ_AS_HDR: [TextRow; 2] = [
             kind: None,
             answer: Err("Invalid HDR format identifier"),
         },
+        spans: &[(0, 3)],
         taken: 3,
     },
 ];
@@ -273,7 +326,7 @@ fn check(
 
 #[test]
 fn texts_have_the_worked_answers(rt: HostRuntime) -> Result<(), Fail> {
-    for TextRow { row, taken } in &ROWS {
+    for TextRow { row, taken, .. } in &ROWS {
         let shows = row.shows;
         check(&rt, row.bytes, row.answer)?;
         let probed = reader_probe(&mut Cursor::new(row.bytes));
@@ -287,10 +340,40 @@ fn texts_have_the_worked_answers(rt: HostRuntime) -> Result<(), Fail> {
     Ok(())
 }
 
+// Whether the spans are the wanted ones, in their order.
+fn are_spans(spans: &[Span], wanted: &[(u64, u64)]) -> bool {
+    if spans.len() != wanted.len() {
+        return false;
+    }
+    for (span, (start, len)) in spans.iter().zip(wanted) {
+        if span.start != *start || span.len != *len {
+            return false;
+        }
+    }
+    true
+}
+
+#[test]
+fn each_text_is_one_span(rt: HostRuntime) -> Result<(), Fail> {
+    let alloc = rt.alloc();
+    for TextRow { row, spans, .. } in &ROWS {
+        let shows = row.shows;
+        let trace = blob_trace(alloc, row.bytes)?;
+        assert_eq!(rt; trace.kind, row.kind, "{shows}");
+        assert!(rt; is_answer(alloc, row.answer, &trace.answer)?, "{shows}");
+        assert!(rt; are_spans(&trace.spans, spans), "{shows}");
+    }
+    let spaces = filled(alloc, b"P1", b' ', 1024, b"")?;
+    let trace = blob_trace(alloc, spaces.as_slice())?;
+    assert!(rt; is_answer(alloc, Err(NO_WORD), &trace.answer)?);
+    assert!(rt; are_spans(&trace.spans, &[(0, 12), (2, 1024)]));
+    Ok(())
+}
+
 #[test]
 fn an_hdr_begins_with_its_identifier(rt: HostRuntime) -> Result<(), Fail> {
     let alloc = rt.alloc();
-    for TextRow { row, taken } in &READ_AS_HDR {
+    for TextRow { row, taken, .. } in &READ_AS_HDR {
         let mut count = 0;
         let mut reader = Counting {
             reader: Cursor::new(row.bytes),
@@ -460,65 +543,24 @@ fn attributes_have_no_greatest_number(rt: HostRuntime) -> Result<(), Fail> {
 }
 
 #[test]
-fn each_failure_within_texts_is_answered(rt: HostRuntime) {
-    for failure in FAILURES {
-        check_failures(&rt, PNM_WITH_A_COMMENT, ImageType::Pnm, failure);
-        check_failures(&rt, HDR_BEHIND_A_LINE, ImageType::Hdr, failure);
-        check_failures(&rt, EXR_OF_ONE_ATTRIBUTE, ImageType::Exr, failure);
-    }
-}
-
-// Some bytes, and one more without end. It tells a length, and goes wherever it is asked to go.
-#[derive(Drop)]
-struct Endless {
-    front: &'static [u8],
-    fill: u8,
-    place: u64,
-    told: u64,
-}
-
-impl Told for Endless {
-    ghost telling = { λ _. None };
-
-    ghost count = { λ _. None };
-
-    fn read_told(&mut self, room: &mut [u8]) -> Result<usize, Stop> {
-        for byte in room.iter_mut() {
-            *byte = match usize::try_from(self.place) {
-                Ok(place) if place < self.front.len() => self.front[place],
-                _ => self.fill,
-            };
-            self.place = self.place.wrapping_add(1);
-        }
-        Ok(room.len())
-    }
-
-    fn seek_told(&mut self, to: SeekFrom) -> io::Result<u64> {
-        match to {
-            SeekFrom::Start(place) => {
-                self.place = place;
-                Ok(place)
-            }
-            SeekFrom::End(0) => {
-                self.place = self.told;
-                Ok(self.told)
-            }
-            SeekFrom::Current(0) => Ok(self.place),
-            _ => Err(io::Error::from(ErrorKind::InvalidInput)),
-        }
-    }
+fn each_failure_within_texts_is_answered(rt: HostRuntime) -> Result<(), Fail> {
+    check_each_failure(&rt, PNM_WITH_A_COMMENT, ImageType::Pnm)?;
+    check_each_failure(&rt, HDR_BEHIND_A_LINE, ImageType::Hdr)?;
+    check_each_failure(&rt, EXR_OF_ONE_ATTRIBUTE, ImageType::Exr)
 }
 
 #[test]
 fn texts_without_end_are_read_until_the_budget_is_spent(rt: HostRuntime) {
-    for (front, fill, kind) in [
-        (b"P1".as_slice(), b' ', ImageType::Pnm),
-        (b"#?RGBE\n".as_slice(), b'\n', ImageType::Hdr),
+    for (head, part, kind) in [
+        (b"P1".as_slice(), b" ".as_slice(), ImageType::Pnm),
+        (b"#?RGBE\n".as_slice(), b"\n".as_slice(), ImageType::Hdr),
     ] {
-        let mut reader = Endless {
-            front,
-            fill,
-            place: 0,
+        let mut reader = Claiming {
+            reader: Endless {
+                head,
+                part,
+                place: 0,
+            },
             told: 100,
         };
         let probed = reader_probe(&mut reader);

@@ -1,14 +1,14 @@
 //! What is answered of directories of TIFF and BigTIFF.
 ghost use Rattle.std.specs.Prelude.{None};
 
-use crate::readers::{Claiming, OneByte};
-use crate::strange::{FAILURES, check_failures};
+use crate::failures::check_each_failure;
+use crate::readers::{Claiming, Endless, OneByte};
 use imagesize::{
-    ImageError, ImageResult, ImageSize, ImageType, Reason, Stop, Told, blob_size, reader_probe,
-    reader_size,
+    ImageError, ImageResult, ImageSize, ImageType, Reason, Span, Stop, Told, blob_size, blob_trace,
+    reader_probe, reader_size,
 };
 use std::alloc::{AllocError, Global};
-use std::io::{self, BufReader, Cursor, ErrorKind, SeekFrom};
+use std::io::{self, BufReader, Cursor, SeekFrom};
 use std::test::Fail;
 
 // An input, and what is answered of it.
@@ -22,6 +22,8 @@ struct Row {
     answer: Result<(usize, usize), &'static str>,
     // How many bytes are taken of it: each place that is read, once.
     taken: u64,
+    // The start and the length of each reading's span.
+    spans: &'static [(u64, u64)],
 }
 
 static ROWS: [Row; 25] = [
@@ -33,6 +35,17 @@ static ROWS: [Row; 25] = [
             \x01\x01\x04\0\x01\0\0\0\x07\0\0\0",
         answer: Ok((5, 7)),
         taken: 34,
+        spans: &[
+            (0, 12),
+            (0, 2),
+            (2, 2),
+            (4, 4),
+            (8, 2),
+            (10, 8),
+            (18, 4),
+            (22, 8),
+            (30, 4),
+        ],
     },
     Row {
         shows: "a width whose last entry carries none",
@@ -43,12 +56,26 @@ static ROWS: [Row; 25] = [
             \x01\x01\x04\0\x01\0\0\0\x07\0\0\0",
         answer: Err("No dimensions in IFD tags"),
         taken: 46,
+        spans: &[
+            (0, 12),
+            (0, 2),
+            (2, 2),
+            (4, 4),
+            (8, 2),
+            (10, 8),
+            (18, 4),
+            (22, 8),
+            (30, 4),
+            (34, 8),
+            (42, 4),
+        ],
     },
     Row {
         shows: "a BigTIFF whose directory stands behind every place",
         bytes: b"II+\0\x08\0\0\0\xFF\xFF\xFF\xFF\xFF\xFF\xFF\xFF",
         answer: Err("failed to fill whole buffer"),
         taken: 16,
+        spans: &[(0, 12), (0, 2), (2, 2), (4, 2), (6, 2), (8, 8)],
     },
     Row {
         shows: "a BigTIFF",
@@ -58,6 +85,19 @@ static ROWS: [Row; 25] = [
             \x01\x01\x04\0\x01\0\0\0\0\0\0\0\x07\0\0\0\0\0\0\0",
         answer: Ok((5, 7)),
         taken: 64,
+        spans: &[
+            (0, 12),
+            (0, 2),
+            (2, 2),
+            (4, 2),
+            (6, 2),
+            (8, 8),
+            (16, 8),
+            (24, 12),
+            (36, 8),
+            (44, 12),
+            (56, 8),
+        ],
     },
     Row {
         shows: "a height of a kind that carries none, in BigTIFF",
@@ -67,6 +107,19 @@ static ROWS: [Row; 25] = [
             \x01\x01\x10\0\x01\0\0\0\0\0\0\0\x07\0\0\0\0\0\0\0",
         answer: Err("No dimensions in IFD tags"),
         taken: 64,
+        spans: &[
+            (0, 12),
+            (0, 2),
+            (2, 2),
+            (4, 2),
+            (6, 2),
+            (8, 8),
+            (16, 8),
+            (24, 12),
+            (36, 8),
+            (44, 12),
+            (56, 8),
+        ],
     },
     Row {
         shows: "a kind of BigTIFF in a TIFF",
@@ -76,6 +129,7 @@ static ROWS: [Row; 25] = [
             \x01\x01\x04\0\x01\0\0\0\x07\0\0\0",
         answer: Err("Invalid IFD type for standard TIFF"),
         taken: 18,
+        spans: &[(0, 12), (0, 2), (2, 2), (4, 4), (8, 2), (10, 8)],
     },
     Row {
         shows: "a kind that no TIFF knows",
@@ -85,6 +139,7 @@ static ROWS: [Row; 25] = [
             \x01\x01\x04\0\x01\0\0\0\x07\0\0\0",
         answer: Err("Invalid IFD type"),
         taken: 18,
+        spans: &[(0, 12), (0, 2), (2, 2), (4, 4), (8, 2), (10, 8)],
     },
     Row {
         shows: "a value that is cut before its last byte",
@@ -94,18 +149,49 @@ static ROWS: [Row; 25] = [
             \x01\x01\x04\0\x01\0\0\0\x07\0\0",
         answer: Err("Invalid IFD value length"),
         taken: 33,
+        spans: &[
+            (0, 12),
+            (0, 2),
+            (2, 2),
+            (4, 4),
+            (8, 2),
+            (10, 8),
+            (18, 4),
+            (22, 8),
+            (30, 3),
+        ],
     },
     Row {
         shows: "a value of which no byte is there",
         bytes: b"II*\0\x08\0\0\0\x02\0\0\x01\x03\0\x01\0\0\0\x05\0\0\0\x01\x01\x04\0\x01\0\0\0",
         answer: Err("Invalid IFD value length"),
         taken: 30,
+        spans: &[
+            (0, 12),
+            (0, 2),
+            (2, 2),
+            (4, 4),
+            (8, 2),
+            (10, 8),
+            (18, 4),
+            (22, 8),
+        ],
     },
     Row {
         shows: "an entry whose head is cut",
         bytes: b"II*\0\x08\0\0\0\x02\0\0\x01\x03\0\x01\0\0\0\x05\0\0\0\x01\x01\x04\0\x01\0\0",
         answer: Err("failed to fill whole buffer"),
         taken: 29,
+        spans: &[
+            (0, 12),
+            (0, 2),
+            (2, 2),
+            (4, 4),
+            (8, 2),
+            (10, 8),
+            (18, 4),
+            (22, 7),
+        ],
     },
     Row {
         shows: "a TIFF in big endian",
@@ -115,18 +201,31 @@ static ROWS: [Row; 25] = [
             \x01\x01\0\x04\0\0\0\x01\0\0\0\x07",
         answer: Ok((5, 7)),
         taken: 34,
+        spans: &[
+            (0, 12),
+            (0, 2),
+            (2, 2),
+            (4, 4),
+            (8, 2),
+            (10, 8),
+            (18, 4),
+            (22, 8),
+            (30, 4),
+        ],
     },
     Row {
         shows: "a directory at the first place",
         bytes: b"II*\0\0\0\0\0\0\0\0\0",
         answer: Err("Invalid IFD offset"),
         taken: 12,
+        spans: &[(0, 12), (0, 2), (2, 2), (4, 4)],
     },
     Row {
         shows: "a BigTIFF that claims more entries than there are",
         bytes: b"II+\0\x08\0\0\0\x10\0\0\0\0\0\0\0\xFF\xFF\xFF\xFF\xFF\xFF\xFF\xFF",
         answer: Err("failed to fill whole buffer"),
         taken: 24,
+        spans: &[(0, 12), (0, 2), (2, 2), (4, 2), (6, 2), (8, 8), (16, 8)],
     },
     Row {
         shows: "a BigTIFF whose places have four bytes",
@@ -136,6 +235,7 @@ static ROWS: [Row; 25] = [
             \x01\x01\x04\0\x01\0\0\0\0\0\0\0\x07\0\0\0\0\0\0\0",
         answer: Err("Unrecognised BigTiff offset size"),
         taken: 12,
+        spans: &[(0, 12), (0, 2), (2, 2), (4, 2)],
     },
     Row {
         shows: "a BigTIFF whose two zero bytes are not",
@@ -145,12 +245,14 @@ static ROWS: [Row; 25] = [
             \x01\x01\x04\0\x01\0\0\0\0\0\0\0\x07\0\0\0\0\0\0\0",
         answer: Err("Invalid BigTiff header"),
         taken: 12,
+        spans: &[(0, 12), (0, 2), (2, 2), (4, 2), (6, 2)],
     },
     Row {
         shows: "a BigTIFF whose directory would stand at the last place",
         bytes: b"II+\0\x08\0\0\0\xFE\xFF\xFF\xFF\xFF\xFF\xFF\xFF",
         answer: Err("failed to fill whole buffer"),
         taken: 16,
+        spans: &[(0, 12), (0, 2), (2, 2), (4, 2), (6, 2), (8, 8)],
     },
     Row {
         shows: "a height before the width",
@@ -160,6 +262,17 @@ static ROWS: [Row; 25] = [
             \0\x01\x04\0\x01\0\0\0\x05\0\0\0",
         answer: Ok((5, 7)),
         taken: 34,
+        spans: &[
+            (0, 12),
+            (0, 2),
+            (2, 2),
+            (4, 4),
+            (8, 2),
+            (10, 8),
+            (18, 4),
+            (22, 8),
+            (30, 4),
+        ],
     },
     Row {
         shows: "a BigTIFF in big endian",
@@ -169,6 +282,19 @@ static ROWS: [Row; 25] = [
             \x01\x01\0\x04\0\0\0\0\0\0\0\x01\0\0\0\x07\0\0\0\0",
         answer: Ok((5, 7)),
         taken: 64,
+        spans: &[
+            (0, 12),
+            (0, 2),
+            (2, 2),
+            (4, 2),
+            (6, 2),
+            (8, 8),
+            (16, 8),
+            (24, 12),
+            (36, 8),
+            (44, 12),
+            (56, 8),
+        ],
     },
     Row {
         shows: "numbers with a sign, read without it",
@@ -178,6 +304,17 @@ static ROWS: [Row; 25] = [
             \x01\x01\x09\0\x01\0\0\0\xFF\xFF\xFF\xFF",
         answer: Ok((65535, 4294967295)),
         taken: 34,
+        spans: &[
+            (0, 12),
+            (0, 2),
+            (2, 2),
+            (4, 4),
+            (8, 2),
+            (10, 8),
+            (18, 4),
+            (22, 8),
+            (30, 4),
+        ],
     },
     Row {
         shows: "a width behind one that carries none",
@@ -188,6 +325,19 @@ static ROWS: [Row; 25] = [
             \x01\x01\x03\0\x01\0\0\0\x07\0\0\0",
         answer: Ok((5, 7)),
         taken: 46,
+        spans: &[
+            (0, 12),
+            (0, 2),
+            (2, 2),
+            (4, 4),
+            (8, 2),
+            (10, 8),
+            (18, 4),
+            (22, 8),
+            (30, 4),
+            (34, 8),
+            (42, 4),
+        ],
     },
     Row {
         shows: "an entry behind the size that is not there",
@@ -197,24 +347,38 @@ static ROWS: [Row; 25] = [
             \x01\x01\x04\0\x01\0\0\0\x07\0\0\0",
         answer: Ok((5, 7)),
         taken: 34,
+        spans: &[
+            (0, 12),
+            (0, 2),
+            (2, 2),
+            (4, 4),
+            (8, 2),
+            (10, 8),
+            (18, 4),
+            (22, 8),
+            (30, 4),
+        ],
     },
     Row {
         shows: "a kind that no TIFF knows, its value cut",
         bytes: b"II*\0\x08\0\0\0\x01\0\0\x01\x0E\0\x01\0\0\0\x05",
         answer: Err("Invalid IFD type"),
         taken: 18,
+        spans: &[(0, 12), (0, 2), (2, 2), (4, 4), (8, 2), (10, 8)],
     },
     Row {
         shows: "a directory within the header",
         bytes: b"II*\0\x02\0\0\0\0\0\0\0",
         answer: Err("Invalid IFD type"),
         taken: 12,
+        spans: &[(0, 12), (0, 2), (2, 2), (4, 4), (2, 2), (4, 8)],
     },
     Row {
         shows: "a directory without entries",
         bytes: b"II*\0\x08\0\0\0\0\0\0\0",
         answer: Err("No dimensions in IFD tags"),
         taken: 12,
+        spans: &[(0, 12), (0, 2), (2, 2), (4, 4), (8, 2)],
     },
     Row {
         shows: "a value at the width and height of a float and of a directory",
@@ -224,6 +388,17 @@ static ROWS: [Row; 25] = [
             \x01\x01\x0D\0\x01\0\0\0\x07\0\0\0",
         answer: Ok((5, 7)),
         taken: 34,
+        spans: &[
+            (0, 12),
+            (0, 2),
+            (2, 2),
+            (4, 4),
+            (8, 2),
+            (10, 8),
+            (18, 4),
+            (22, 8),
+            (30, 4),
+        ],
     },
 ];
 
@@ -266,6 +441,31 @@ fn directories_have_the_worked_answers(rt: HostRuntime) -> Result<(), Fail> {
     Ok(())
 }
 
+// Whether spans are the wanted ones.
+fn are_spans(spans: &[Span], wanted: &[(u64, u64)]) -> bool {
+    if spans.len() != wanted.len() {
+        return false;
+    }
+    for (span, (start, len)) in spans.iter().zip(wanted) {
+        if span.start != *start || span.len != *len {
+            return false;
+        }
+    }
+    true
+}
+
+#[test]
+fn directories_have_the_worked_spans(rt: HostRuntime) -> Result<(), Fail> {
+    for row in &ROWS {
+        let shows = row.shows;
+        let trace = blob_trace(rt.alloc(), row.bytes)?;
+        assert_eq!(rt; trace.kind, Some(ImageType::Tiff), "{shows}");
+        assert!(rt; is_answer(rt.alloc(), row, &trace.answer)?, "{shows}");
+        assert!(rt; are_spans(&trace.spans, row.spans), "{shows}");
+    }
+    Ok(())
+}
+
 #[test]
 fn each_byte_of_a_directory_is_taken_once(rt: HostRuntime) -> Result<(), Fail> {
     for row in &ROWS {
@@ -284,12 +484,11 @@ fn each_byte_of_a_directory_is_taken_once(rt: HostRuntime) -> Result<(), Fail> {
 }
 
 #[test]
-fn each_failure_along_a_directory_is_answered(rt: HostRuntime) {
+fn each_failure_along_a_directory_is_answered(rt: HostRuntime) -> Result<(), Fail> {
     for bytes in [ROWS[0].bytes, ROWS[3].bytes] {
-        for failure in FAILURES {
-            check_failures(&rt, bytes, ImageType::Tiff, failure);
-        }
+        check_each_failure(&rt, bytes, ImageType::Tiff)?;
     }
+    Ok(())
 }
 
 // The size that stands in the last two of many entries.
@@ -352,58 +551,20 @@ fn entries_of_a_big_tiff_have_no_greatest_number(rt: HostRuntime) -> Result<(), 
     Ok(())
 }
 
-// A BigTIFF of entries without end, none of which is a side of the image. It goes wherever it is asked to go.
-#[derive(Drop)]
-struct EndlessEntries {
-    // Where it stands.
-    place: u64,
-}
+// The head of a BigTIFF that claims as many entries as it can, and the entries behind it, whose tag is 0 and whose
+// kind is 1.
+const MANY: &[u8] = b"II+\0\x08\0\0\0\x10\0\0\0\0\0\0\0\xFF\xFF\xFF\xFF\xFF\xFF\xFF\xFF";
 
-const ENDLESS_HEAD: [u8; 24] =
-    *b"II+\0\x08\0\0\0\x10\0\0\0\0\0\0\0\xFF\xFF\xFF\xFF\xFF\xFF\xFF\xFF";
-
-impl EndlessEntries {
-    // The byte at a place. Behind the count each tag is 0 and each kind 1.
-    fn byte_at(place: u64) -> u8 {
-        match place {
-            0..=23 => ENDLESS_HEAD[place as usize],
-            _ => match place % 4 {
-                2 => 1,
-                _ => 0,
-            },
-        }
-    }
-}
-
-impl Told for EndlessEntries {
-    ghost telling = { λ _. None };
-
-    ghost count = { λ _. None };
-
-    fn read_told(&mut self, room: &mut [u8]) -> Result<usize, Stop> {
-        for byte in room.iter_mut() {
-            *byte = EndlessEntries::byte_at(self.place);
-            self.place = self.place.wrapping_add(1);
-        }
-        Ok(room.len())
-    }
-
-    fn seek_told(&mut self, to: SeekFrom) -> io::Result<u64> {
-        match to {
-            SeekFrom::Start(place) => {
-                self.place = place;
-                Ok(place)
-            }
-            SeekFrom::Current(0) => Ok(self.place),
-            _ => Err(io::Error::from(ErrorKind::InvalidInput)),
-        }
-    }
-}
+const NO_SIDE: &[u8] = b"\0\0\x01\0\0\0\0\0\0\0\0\0\0\0\0\0\0\0\0\0";
 
 #[test]
 fn endless_entries_are_read_until_the_budget_is_spent(rt: HostRuntime) {
     let mut reader = Claiming {
-        reader: EndlessEntries { place: 0 },
+        reader: Endless {
+            head: MANY,
+            part: NO_SIDE,
+            place: 0,
+        },
         told: 100,
     };
     let probed = reader_probe(&mut reader);

@@ -194,7 +194,7 @@ fn box_size(head: &[u8; 8]) -> u32
 fn is_named(head: &[u8; 8], name: &[u8; 4]) -> bool
     ensures { result ≡ is_named name.now head.now }
 {
-    head[4..] == name[..]
+    head[4] == name[0] && head[5] == name[1] && head[6] == name[2] && head[7] == name[3]
 }
 
 // The first bytes of what a box holds, behind its size and its name.

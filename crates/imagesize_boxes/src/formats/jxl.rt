@@ -30,8 +30,12 @@ pub fn matches(head: &[u8; 12]) -> bool
         )
 }
 
-/// The width and the height in the header of the codestream, as the image is shown: where its orientation says
-/// so, they are exchanged.
+/// The width and the height in pixels, by the header of the codestream, as the image is shown: where its orientation
+/// says so, they are exchanged.
+///
+/// `CorruptedImage` where a box ends above 2^64-1, or the header is not there whole; `InvalidJxlBoxSize` of a box that is
+/// smaller than its head; `InvalidJxlSignature` of a codestream that does not begin with its signature; `EndOfInput` where
+/// the input ends before a codestream.
 pub fn size<S: Source>(source: &mut S) -> ImageResult<ImageSize>
     ensures { Runs (S.state source.old) (S.state source.new) result (jxl (S.state source.old).held.input) }
 {

@@ -1,6 +1,8 @@
 //! What is known beside a reader.
 ghost use Rattle.std.specs.Prelude.{◌≤◌};
 
+use std::io;
+
 /// The numbers that a call keeps beside its reader.
 #[derive(Debug, Drop)]
 pub struct Progress {
@@ -14,5 +16,7 @@ pub struct Progress {
     pub place: u64,
     /// How many interruptions were tried again.
     pub retries: u64,
+    /// The error of the last call that failed.
+    pub fault: io::Error,
     ghost within: { taken ≤ budget },
 }

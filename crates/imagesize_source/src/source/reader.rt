@@ -1,10 +1,10 @@
 //! A reader as a source.
-ghost use Rattle.std.specs.Prelude.{◌≡◌, ℕ, max, ◌+◌, ◌-◌, ◌^◌, ◌<◌, ◌≤◌, ◌≢◌, min, take, length, IfOk, IfErr, OnOk, IfSome, true, false};
+ghost use Rattle.std.specs.Prelude.{◌≡◌, ℕ, max, ◌+◌, ◌-◌, ◌^◌, ◌<◌, ◌≤◌, ◌≢◌, min, take, length, IfOk, IfErr, OnOk, OnSome, IfSome, true, false};
 ghost use Rattle.imagesize_source.specs.Reading.{is_fault, is_memory, seen, part_read};
 ghost use Rattle.imagesize_source.specs.ReaderState.{held_at, reader_state, start_state, Opens};
 ghost use Rattle.imagesize_source.specs.State.{Runs};
 ghost use Rattle.imagesize_source.specs.Telling.{counted, given, SeekTells};
-ghost use Rattle.imagesize_source.specs.Standing.{Standing, steady, stand, GivesSome, GivesAll, StopsBy, Keeps, Tries, since, GoesTo, GivesFrom};
+ghost use Rattle.imagesize_source.specs.Standing.{Standing, steady, stand, GivesSome, GivesAll, StopsBy, Keeps, Tries, since, error_at, named, given_or, GoesTo, ReadsFrom};
 ghost use Rattle.imagesize_source.specs.StopOf.{ending_of};
 
 mod text;
@@ -13,7 +13,7 @@ use super::Source;
 use super::progress::Progress;
 use super::window::{Window, copy_kept, keep};
 use crate::{ImageError, ImageResult, Reason, Stop, Text, Told};
-use std::io::SeekFrom;
+use std::io::{self, ErrorKind, SeekFrom};
 
 /// A reader that is read by place. It takes bytes within a budget, and keeps the first 32 of the input.
 #[derive(Drop)]
@@ -27,6 +27,7 @@ pub struct ReaderSource<'a, R: Told> {
 
 impl<'a, R: Told> ReaderSource<'a, R> {
     /// The reader of an input of this told length. It stands at the end.
+    #[inline(always)]
     pub fn new(reader: &'a mut R, told: u64) -> Self
         ensures same_reference { result.reader.ghost_name ≡ reader.entry.ghost_name }
         ensures state { reader_state (R.telling result.reader.now) (R.count result.reader.now) result.reader.ghost_name
@@ -39,6 +40,7 @@ impl<'a, R: Told> ReaderSource<'a, R> {
             taken: 0,
             place: told,
             retries: 0,
+            fault: io::Error::from(ErrorKind::Other),
         };
         ReaderSource {
             reader,
@@ -62,6 +64,7 @@ impl<R: Told> Source for ReaderSource<'_, R> {
         self.progress.taken
     }
 
+    #[inline(always)]
     fn read_at(&mut self, place: u64, room: &mut [u8]) -> ImageResult<usize> {
         read_on(
             self.reader,
@@ -91,6 +94,7 @@ pub struct Opened {
 }
 
 /// Asks a reader where it stands, and for its length. It stands at the end then.
+#[inline]
 pub fn open<R: Told>(reader: &mut R) -> ImageResult<Opened>
     ensures told { Opens (R.telling reader.old) (R.telling reader.new) result }
     ensures counts { R.count reader.new ≡ R.count reader.old }
@@ -103,6 +107,7 @@ pub fn open<R: Told>(reader: &mut R) -> ImageResult<Opened>
 }
 
 // A seek, whose error is a fault.
+#[inline(always)]
 fn seek<R: Told>(reader: &mut R, to: SeekFrom) -> ImageResult<u64>
     ensures told { SeekTells (R.telling reader.old) (R.telling reader.new) to result }
     ensures counts { R.count reader.new ≡ R.count reader.old }
@@ -113,80 +118,163 @@ fn seek<R: Told>(reader: &mut R, to: SeekFrom) -> ImageResult<u64>
     Ok(place)
 }
 
+// Why a reading was stopped. The error of a call that failed is kept beside the reader, so that what each layer
+// of a reading answers is small.
+#[derive(Clone, Copy)]
+enum Halt {
+    // A call of the reader failed.
+    Failed,
+    // The budget is spent.
+    Spent,
+}
+
+// What a halt ends the call with. It is made apart, so that a reading that succeeds is short.
+#[cold]
+#[inline(never)]
+fn refused(halt: Halt, progress: &Progress) -> ImageResult<usize>
+    ensures { result ≡ Err (error_at progress.now halt) }
+{
+    Err(match halt {
+        Halt::Failed => ImageError::from(progress.fault),
+        Halt::Spent => ImageError::IoError(Reason::BudgetSpent {
+            budget: progress.budget,
+        }),
+    })
+}
+
 // How many interruptions of reads are tried again in one call.
 const MAX_RETRIES: u64 = 64;
 
 // What a stop ends the call with after so many tries; nothing where the read may be tried again.
-fn ending(stop: Stop, tries: u64) -> Option<ImageError>
+#[cold]
+#[inline(never)]
+fn ending(stop: Stop, tries: u64) -> Option<io::Error>
     ensures { result ≡ ending_of stop tries }
 {
     match stop {
-        Stop::Fault(error) => Some(ImageError::from(error)),
+        Stop::Fault(error) => Some(error),
         Stop::Interrupted(_) if tries < MAX_RETRIES => None,
-        Stop::Interrupted(error) => Some(ImageError::from(error)),
+        Stop::Interrupted(error) => Some(error),
     }
 }
 
-// One read, tried again where it is interrupted.
-fn read_retrying<R: Told>(reader: &mut R, retries: &mut u64, room: &mut [u8]) -> ImageResult<usize>
-    ensures bound { IfOk result (λ n. n ≤ length room.new) }
-    ensures steady { GivesSome (steady (R.telling reader.old) retries.old) (steady (R.telling reader.new) retries.new) room.new result }
-    ensures counts { R.count reader.new ≡ counted (R.count reader.old) result }
+// One read, tried again where it is interrupted; or none, and the error of the read that failed.
+#[inline(always)]
+fn read_retrying<R: Told>(
+    reader: &mut R,
+    retries: &mut u64,
+    fault: &mut io::Error,
+    room: &mut [u8],
+) -> Option<usize>
+    ensures bound { IfSome result (λ n. n ≤ length room.new) }
+    ensures steady { GivesSome (steady (R.telling reader.old) retries.old) (steady (R.telling reader.new) retries.new) room.new (given_or fault.new result) }
+    ensures counts { R.count reader.new ≡ counted (R.count reader.old) (given_or fault.new result) }
     ensures tried { retries.old ≤ retries.new }
     ensures limit { retries.old ≤ 64 → retries.new ≤ 64 }
-    ensures tries { OnOk result (Tries (R.telling reader.old) retries.old (R.telling reader.new) retries.new) }
-    ensures fault { IfErr result (λ e. is_fault e ≡ true) }
+    ensures tries { OnSome result (Tries (R.telling reader.old) retries.old (R.telling reader.new) retries.new) }
 {
     loop {
         match reader.read_told(room) {
-            Ok(count) => return Ok(count),
+            Ok(count) => return Some(count),
             Err(stop) => match ending(stop, *retries) {
-                Some(error) => return Err(error),
+                Some(error) => {
+                    *fault = error;
+                    return None;
+                }
                 None => *retries += 1,
             },
         }
     }
 }
 
-// One read of at most what the budget leaves. It is counted, and moves the place on.
-fn read_some<R: Told>(
+// One read, which is counted and moves the place on.
+#[inline(always)]
+fn read_counted<R: Told>(
     reader: &mut R,
     progress: &mut Progress,
     room: &mut [u8],
-) -> ImageResult<usize>
+) -> Result<usize, Halt>
+    requires { progress.old.taken + length room.old ≤ progress.old.budget }
     ensures bound { IfOk result (λ n. n ≤ length room.new) }
-    ensures stand { 0 < length room.new → GivesSome (stand (R.telling reader.old) progress.old)
-        (stand (R.telling reader.new) progress.new) room.new result }
+    ensures stand { GivesSome (stand (R.telling reader.old) progress.old) (stand (R.telling reader.new) progress.new) room.new (named progress.new result) }
     ensures taken { progress.new.taken ≡ progress.old.taken + given result }
     ensures place { IfOk result (λ n. progress.new.place ≡ min (progress.old.place + n) (2 ^ 64 - 1)) }
     ensures since { since (R.count reader.new) progress.new.taken ≡ since (R.count reader.old) progress.old.taken }
     ensures tries { OnOk result (Tries (R.telling reader.old) progress.old.retries (R.telling reader.new) progress.new.retries) }
     ensures keeps { Keeps progress.old progress.new }
-    ensures stops { IfErr result (StopsBy progress.new) }
+    ensures failed { IfErr result (λ halt. halt ≡ Halt.Failed) }
 {
-    let left = progress.budget - progress.taken;
-    if left == 0 {
-        let budget = progress.budget;
-        return Err(ImageError::IoError(Reason::BudgetSpent { budget }));
-    }
-    let most = room.len().min(left as usize);
-    let count = read_retrying(reader, &mut progress.retries, &mut room[..most])?;
+    let Some(count) = read_retrying(reader, &mut progress.retries, &mut progress.fault, room) else {
+        return Err(Halt::Failed);
+    };
     progress.taken += count as u64;
     progress.place = progress.place.saturating_add(count as u64);
     Ok(count)
 }
 
+// One read of at most what the budget leaves.
+#[inline(always)]
+fn read_some<R: Told>(
+    reader: &mut R,
+    progress: &mut Progress,
+    room: &mut [u8],
+) -> Result<usize, Halt>
+    ensures bound { IfOk result (λ n. n ≤ length room.new) }
+    ensures stand { GivesSome (stand (R.telling reader.old) progress.old) (stand (R.telling reader.new) progress.new) room.new (named progress.new result) }
+    ensures taken { progress.new.taken ≡ progress.old.taken + given result }
+    ensures since { since (R.count reader.new) progress.new.taken ≡ since (R.count reader.old) progress.old.taken }
+    ensures tries { OnOk result (Tries (R.telling reader.old) progress.old.retries (R.telling reader.new) progress.new.retries) }
+    ensures keeps { Keeps progress.old progress.new }
+    ensures stops { IfErr (named progress.new result) (StopsBy progress.new) }
+{
+    let left = progress.budget - progress.taken;
+    if room.len() as u64 <= left {
+        return read_counted(reader, progress, room);
+    }
+    if left == 0 {
+        return Err(Halt::Spent);
+    }
+    read_counted(reader, progress, &mut room[..left as usize])
+}
+
 // Reads until the room is full or the bytes end.
-fn fill<R: Told>(reader: &mut R, progress: &mut Progress, room: &mut [u8]) -> ImageResult<usize>
+#[inline(always)]
+fn fill<R: Told>(reader: &mut R, progress: &mut Progress, room: &mut [u8]) -> Result<usize, Halt>
     ensures bound { IfOk result (λ n. n ≤ length room.new) }
     ensures stand { GivesAll (stand (R.telling reader.old) progress.old)
-        (stand (R.telling reader.new) progress.new) room.new result }
+        (stand (R.telling reader.new) progress.new) room.new (named progress.new result) }
     ensures taken { IfOk result (λ n. progress.new.taken ≡ progress.old.taken + n) }
     ensures within { IfSome (stand (R.telling reader.old) progress.old)
         (λ s. progress.new.taken ≤ progress.old.taken + min (length room.new) (length s.bytes - s.place)) }
     ensures since { since (R.count reader.new) progress.new.taken ≡ since (R.count reader.old) progress.old.taken }
     ensures keeps { Keeps progress.old progress.new }
-    ensures stops { IfErr result (StopsBy progress.new) }
+    ensures stops { IfErr (named progress.new result) (StopsBy progress.new) }
+{
+    let count = read_some(reader, progress, room)?;
+    if count == room.len() || count == 0 {
+        return Ok(count);
+    }
+    let rest = fill_rest(reader, progress, &mut room[count..])?;
+    Ok(count + rest)
+}
+
+// Reads on until the room is full or the bytes end, one read after another.
+#[cold]
+#[inline(never)]
+fn fill_rest<R: Told>(
+    reader: &mut R,
+    progress: &mut Progress,
+    room: &mut [u8],
+) -> Result<usize, Halt>
+    ensures bound { IfOk result (λ n. n ≤ length room.new) }
+    ensures stand { GivesAll (stand (R.telling reader.old) progress.old)
+        (stand (R.telling reader.new) progress.new) room.new (named progress.new result) }
+    ensures taken { IfOk result (λ n. progress.new.taken ≡ progress.old.taken + n) }
+    ensures within { IfSome (stand (R.telling reader.old) progress.old)
+        (λ s. progress.new.taken ≤ progress.old.taken + min (length room.new) (length s.bytes - s.place)) }
+    ensures since { since (R.count reader.new) progress.new.taken ≡ since (R.count reader.old) progress.old.taken }
+    ensures keeps { Keeps progress.old progress.new }
+    ensures stops { IfErr (named progress.new result) (StopsBy progress.new) }
 {
     let mut filled = 0;
     while filled < room.len() {
@@ -201,8 +289,9 @@ fn fill<R: Told>(reader: &mut R, progress: &mut Progress, room: &mut [u8]) -> Im
 
 // Goes to a place, and answers whether the reader stands there: it does not go above the told length. What the
 // seek answers is not asked.
-fn go_to<R: Told>(reader: &mut R, progress: &mut Progress, place: u64) -> ImageResult<bool>
-    ensures stand { GoesTo (stand (R.telling reader.old) progress.old) (stand (R.telling reader.new) progress.new) place progress.new.place result }
+#[inline(always)]
+fn go_to<R: Told>(reader: &mut R, progress: &mut Progress, place: u64) -> Result<bool, Halt>
+    ensures stand { GoesTo (stand (R.telling reader.old) progress.old) (stand (R.telling reader.new) progress.new) place progress.new.place (named progress.new result) }
     ensures asked { IfOk result (λ there. there ≡ true → progress.new.place ≡ place) }
     ensures short { IfOk result (λ there. there ≡ true → place ≤ max progress.old.told progress.old.place) }
     ensures far { IfOk result (λ there. there ≡ false → progress.old.told < place) }
@@ -210,7 +299,7 @@ fn go_to<R: Told>(reader: &mut R, progress: &mut Progress, place: u64) -> ImageR
     ensures since { since (R.count reader.new) progress.new.taken ≡ since (R.count reader.old) progress.old.taken }
     ensures taken { progress.new.taken ≡ progress.old.taken }
     ensures keeps { Keeps progress.old progress.new }
-    ensures stops { IfErr result (StopsBy progress.new) }
+    ensures stops { IfErr (named progress.new result) (StopsBy progress.new) }
 {
     if progress.place == place {
         return Ok(true);
@@ -218,29 +307,24 @@ fn go_to<R: Told>(reader: &mut R, progress: &mut Progress, place: u64) -> ImageR
     if place > progress.told {
         return Ok(false);
     }
-    reader.seek_told(SeekFrom::Start(place))?;
+    if let Err(error) = reader.seek_told(SeekFrom::Start(place)) {
+        progress.fault = error;
+        return Err(Halt::Failed);
+    }
     progress.place = place;
     Ok(true)
 }
 
 // Reads from a place on until the room is full or the bytes end.
-#[tactic(auto, using(crate::proofs::Standings::not_reached, crate::proofs::Standings::from_there, crate::proofs::Standings::fails_there, crate::proofs::Standings::within_reached))]
+#[inline(always)]
 fn read_from<R: Told>(
     reader: &mut R,
     progress: &mut Progress,
     place: u64,
     room: &mut [u8],
-) -> ImageResult<usize>
-    ensures bound { IfOk result (λ n. n ≤ length room.new) }
-    ensures stand { GivesFrom (stand (R.telling reader.old) progress.old)
-        (stand (R.telling reader.new) progress.new) place progress.new.place room.new result }
-    ensures taken { IfOk result (λ n. progress.new.taken ≡ progress.old.taken + n) }
-    ensures within { IfSome (stand (R.telling reader.old) progress.old)
-        (λ s. progress.new.taken ≤ progress.old.taken + min (length room.new) (length s.bytes - place)) }
-    ensures pays { IfOk result (λ n. progress.old.told < place → 0 < n → progress.old.taken < progress.new.taken) }
-    ensures since { since (R.count reader.new) progress.new.taken ≡ since (R.count reader.old) progress.old.taken }
-    ensures keeps { Keeps progress.old progress.new }
-    ensures stops { IfErr result (StopsBy progress.new) }
+) -> Result<usize, Halt>
+    ensures { ReadsFrom progress.old progress.new (stand (R.telling reader.old) progress.old) (stand (R.telling reader.new) progress.new)
+        (R.count reader.old) (R.count reader.new) place room.new (named progress.new result) }
 {
     if !go_to(reader, progress, place)? {
         return Ok(0);
@@ -249,21 +333,48 @@ fn read_from<R: Told>(
     Ok(count)
 }
 
-// Reads from a place on: what the window has of it, and what follows from the reader.
+// Reads from a place on: from the reader alone where it lies behind the window. What follows the window is kept.
+#[inline(always)]
 fn read_windowed<R: Told>(
     reader: &mut R,
     progress: &mut Progress,
     window: &mut Window,
     place: u64,
     room: &mut [u8],
-) -> ImageResult<usize>
+) -> Result<usize, Halt>
     ensures bound { IfOk result (λ n. n ≤ length room.new) }
     ensures pays { IfOk result (λ n. 0 < n → max progress.old.told 32 < place → (progress.old.taken < progress.new.taken) × (progress.new.taken ≤ progress.old.budget)) }
     ensures keeps { Keeps progress.old progress.new }
     ensures runs { (home : ℕ) → Runs
         (reader_state (R.telling reader.old) (R.count reader.old) home progress.old window.old.items)
         (reader_state (R.telling reader.new) (R.count reader.new) home progress.new window.new.items)
-        (seen (λ n. take n room.new) result)
+        (seen (λ n. take n room.new) (named progress.new result))
+        (part_read (held_at (stand (R.telling reader.old) progress.old) window.old.items).input place (length room.new)) }
+{
+    if place < window.len() as u64 || room.is_empty() {
+        return read_within(reader, progress, window, place, room);
+    }
+    let count = read_from(reader, progress, place, room)?;
+    keep(window, place, &room[..count]);
+    Ok(count)
+}
+
+// Reads from a place on: what the window has of it, and what follows from the reader.
+#[inline(always)]
+fn read_within<R: Told>(
+    reader: &mut R,
+    progress: &mut Progress,
+    window: &mut Window,
+    place: u64,
+    room: &mut [u8],
+) -> Result<usize, Halt>
+    ensures bound { IfOk result (λ n. n ≤ length room.new) }
+    ensures pays { IfOk result (λ n. 0 < n → max progress.old.told 32 < place → (progress.old.taken < progress.new.taken) × (progress.new.taken ≤ progress.old.budget)) }
+    ensures keeps { Keeps progress.old progress.new }
+    ensures runs { (home : ℕ) → Runs
+        (reader_state (R.telling reader.old) (R.count reader.old) home progress.old window.old.items)
+        (reader_state (R.telling reader.new) (R.count reader.new) home progress.new window.new.items)
+        (seen (λ n. take n room.new) (named progress.new result))
         (part_read (held_at (stand (R.telling reader.old) progress.old) window.old.items).input place (length room.new)) }
 {
     let copied = copy_kept(window, place, room);
@@ -271,13 +382,29 @@ fn read_windowed<R: Told>(
         return Ok(copied);
     }
     let next = place + copied as u64;
-    let count = read_from(reader, progress, next, &mut room[copied..])?;
+    let count = read_across(reader, progress, next, &mut room[copied..])?;
     keep(window, next, &room[copied..copied + count]);
     Ok(copied + count)
 }
 
+// A reading that began in the window goes on behind it.
+#[cold]
+#[inline(never)]
+fn read_across<R: Told>(
+    reader: &mut R,
+    progress: &mut Progress,
+    place: u64,
+    room: &mut [u8],
+) -> Result<usize, Halt>
+    ensures { ReadsFrom progress.old progress.new (stand (R.telling reader.old) progress.old) (stand (R.telling reader.new) progress.new)
+        (R.count reader.old) (R.count reader.new) place room.new (named progress.new result) }
+{
+    read_from(reader, progress, place, room)
+}
+
 // Reads from a place on. Above the told length it goes on only where the last reading ended: elsewhere it sees
 // the end of the input, also where the window has bytes.
+#[inline(always)]
 fn read_on<R: Told>(
     reader: &mut R,
     progress: &mut Progress,
@@ -301,7 +428,11 @@ fn read_on<R: Told>(
     if place > progress.told && place != *present {
         return Ok(0);
     }
-    let count = read_windowed(reader, progress, window, place, room)?;
-    *present = place.saturating_add(count as u64);
-    Ok(count)
+    match read_windowed(reader, progress, window, place, room) {
+        Ok(count) => {
+            *present = place.saturating_add(count as u64);
+            Ok(count)
+        }
+        Err(halt) => refused(halt, progress),
+    }
 }

@@ -341,6 +341,7 @@ enum Kind {
 }
 
 // What the value of a kind is. Three kinds are those of BigTIFF alone.
+#[inline(always)]
 fn kind_of(version: Version, kind: u16) -> ImageResult<Kind>
     ensures { result ≡ kind_of version kind }
 {

@@ -2,8 +2,8 @@ use Rattle.std.proofs.Common.{rules}
 use Rattle.imagesize_source.proofs.Runs.{bytes_there, bytes_missing}
 use Rattle.imagesize_source.proofs.util.read_bytes.Goals as goal
 
-pub returns-then-branch-clause-runs : goal.returns-then-branch-clause-runs
-returns-then-branch-clause-runs g c = bytes_missing _ _ _ _ _ c.in_ok-read_at.ensures.runs (search rules) c.if-branch.true
+pub returns-in-Ok-clause-runs : goal.returns-in-Ok-clause-runs
+returns-in-Ok-clause-runs g c = bytes_there _ _ _ _ _ c.in-Ok.ensures.runs (search rules) c.if-count.true
 
-pub returns-clause-runs : goal.returns-clause-runs
-returns-clause-runs g c = bytes_there _ _ _ _ _ c.in_ok-read_at.ensures.runs (search rules) c.if-branch.false
+pub returns-in-Ok-2-clause-runs : goal.returns-in-Ok-2-clause-runs
+returns-in-Ok-2-clause-runs g c = rw c.end_of_input.ensures (bytes_missing _ _ _ _ _ c.in-Ok.ensures.runs (search rules) c.if-count.false)

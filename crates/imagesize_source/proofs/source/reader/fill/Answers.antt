@@ -1,16 +1,15 @@
-use Rattle.std.proofs.Common.{rules, arith}
-use Rattle.imagesize_source.proofs.Filling.{filled_none, filling_more, filling_ends}
+use Rattle.std.proofs.Common.{rules}
+use Rattle.imagesize_source.proofs.Filling.{gave_rest, within_rest}
 use Rattle.imagesize_source.proofs.source.reader.fill.Goals as goal
 
-pub loop-filled-init : goal.loop-filled-init
-loop-filled-init g c = filled_none _ _ _ _
-
-pub loop-filled-preserved : goal.loop-filled-preserved
-loop-filled-preserved g c =
+pub returns-clause-stand : goal.returns-clause-stand
+returns-clause-stand g c =
     let read = c.in_ok-count.ensures in
-    filling_more _ _ c.loop-filled.invariant read.bound (search rules) (read.stand (omega arith)) read.taken read.since read.keeps
+    let rest = c.in_ok-rest.ensures in
+    gave_rest _ _ _ _ _ _ _ read.stand read.bound rest.stand rest.bound (search rules)
 
-pub returns-then-count-eq0-clause-stand : goal.returns-then-count-eq0-clause-stand
-returns-then-count-eq0-clause-stand g c =
+pub returns-clause-within : goal.returns-clause-within
+returns-clause-within g c =
     let read = c.in_ok-count.ensures in
-    filling_ends _ _ _ c.loop-filled.invariant c.loop-filled-test.true (search rules) (read.stand (omega arith)) c.if-count-eq0.true
+    let rest = c.in_ok-rest.ensures in
+    within_rest _ _ _ _ _ _ _ _ _ read.stand read.taken (search rules) (search rules) rest.within

@@ -4,5 +4,5 @@ use Rattle.imagesize_source.proofs.told.CursorRefSliceU8Told.read_told.Goals as 
 
 pub returns-clause-told : goal.returns-clause-told
 returns-clause-told c =
-    let gives = c.in_ok-read.ensures in
-    read_cursor _ _ _ _ _ _ (ap (λ b. b.now) gives.inner) gives.position gives.bound.0 gives.bytes.0 gives.bytes.1
+    let copy = c.copy_part-count in
+    read_cursor _ _ _ _ _ _ _ _ _ (ap (λ b. b.now) c.get_ref-bytes.ensures) c.position-place.ensures (ap (λ b. b.now) c.set_position.ensures.inner) c.set_position.ensures.position copy.ensures.count copy.ensures.copied copy.auto.room

@@ -1,0 +1,33 @@
+-- What is kept of the place of a buffered reader.
+use Rattle.std.specs.Prelude.{◌≡◌, ℕ, ◌+◌, ◌^◌, ◌<◌, ◌⊎◌, nat_lt, if◌then◌else◌, Option, None, Some, Result, Ok, Err, IfSome, ⊤}
+use Rattle.std.specs.declared.io.traits.SeekFrom.{SeekFrom}
+use Rattle.std.specs.declared.io.traits.SeekFrom.TheVariants.{Start, End, Current}
+
+-- the place n bytes on, where it is known and a place
+abbrev pub place_after : Option ℕ → ℕ → Option ℕ
+place_after None n = None
+place_after (Some place) n = if nat_lt (place + n) (2 ^ 64) then Some (place + n) else None
+
+-- the place after a read; nothing is kept after one that failed
+abbrev pub read_place : {E : Type 0} → Option ℕ → Result ℕ E → Option ℕ
+read_place place (Ok n) = place_after place n
+read_place place (Err e) = None
+
+-- the place after a seek is its answer
+abbrev pub sought_place : {E : Type 0} → Result ℕ E → Option ℕ
+sought_place (Ok n) = Some n
+sought_place (Err e) = None
+
+-- the place that is kept is the position, where both are known
+abbrev pub Agrees : Option ℕ → Option ℕ → Type 0
+Agrees None position = ⊤
+Agrees (Some place) position = IfSome position (λ p. p ≡ place)
+
+-- a seek leads back, or on behind the bytes in the buffer
+abbrev pub LeavesBuffer : Option ℕ → ℕ → SeekFrom → Type 0
+LeavesBuffer (Some place) ahead (Start target) = (target < place) ⊎ (place + ahead < target)
+LeavesBuffer place ahead to = ⊤
+
+-- the position, where it is known, is so far behind a place
+abbrev pub IsBack : Option ℕ → ℕ → ℕ → Type 0
+IsBack position distance target = IfSome position (λ p. p ≡ target + distance)
