@@ -12,8 +12,8 @@ use std::io::Cursor;
 use std::process::Abort;
 use std::test::Fail;
 
-// Whether a size is the wanted one, or a refusal has the wanted text.
-fn is_answer(
+/// Whether a size is the wanted one, or a refusal has the wanted text.
+pub fn is_answer(
     alloc: Global,
     row: &Row,
     answer: &ImageResult<ImageSize>,

@@ -1,4 +1,5 @@
-//! Worked inputs with their answers, and readers that cut, count, interrupt, fail, lie and never end.
+//! Worked inputs with their answers, and readers that cut, count, interrupt, fail, lie and never end. The program prints
+//! the size of one file.
 #![tactic(auto)]
 
 #[cfg(test)]
@@ -27,4 +28,17 @@ mod tiff;
 #[cfg(test)]
 mod told;
 #[cfg(test)]
+mod traces;
+#[cfg(test)]
 mod types;
+
+use imagesize::{ImageSize, size};
+use std::io;
+
+// Prints the size of `tiny.gif`, or why it has none.
+fn main(rt: HostRuntime) -> io::Result<()> {
+    match size(&rt, rt.alloc(), "tiny.gif") {
+        Ok(ImageSize { width, height }) => println!(rt; "{width}x{height}"),
+        Err(error) => println!(rt; "{error}"),
+    }
+}
