@@ -27,18 +27,9 @@ pub fn read_bytes<S: Source, const N: usize>(source: &mut S, place: u64) -> Imag
     let mut room = [0u8; N];
     match source.read_at(place, &mut room) {
         Ok(count) if count >= N => Ok(room),
-        Ok(_) => Err(end_of_input()),
+        Ok(_) => Err(ImageError::IoError(Reason::EndOfInput)),
         Err(error) => Err(error),
     }
-}
-
-// The refusal where the input ends. It is made apart, so that a reading that succeeds is short.
-#[cold]
-#[inline(never)]
-fn end_of_input() -> ImageError
-    ensures { result ≡ end_of_input }
-{
-    ImageError::IoError(Reason::EndOfInput)
 }
 
 /// The `N` bytes from a place on, or none where the input ends before the last of them.

@@ -128,9 +128,8 @@ enum Halt {
     Spent,
 }
 
-// What a halt ends the call with. It is made apart, so that a reading that succeeds is short.
-#[cold]
-#[inline(never)]
+// What a halt ends the call with.
+#[inline(always)]
 fn refused(halt: Halt, progress: &Progress) -> ImageResult<usize>
     ensures { result ≡ Err (error_at progress.now halt) }
 {

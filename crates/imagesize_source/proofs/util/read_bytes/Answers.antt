@@ -6,4 +6,4 @@ pub returns-in-Ok-clause-runs : goal.returns-in-Ok-clause-runs
 returns-in-Ok-clause-runs g c = bytes_there _ _ _ _ _ c.in-Ok.ensures.runs (search rules) c.if-count.true
 
 pub returns-in-Ok-2-clause-runs : goal.returns-in-Ok-2-clause-runs
-returns-in-Ok-2-clause-runs g c = rw c.end_of_input.ensures (bytes_missing _ _ _ _ _ c.in-Ok.ensures.runs (search rules) c.if-count.false)
+returns-in-Ok-2-clause-runs g c = bytes_missing _ _ _ _ _ c.in-Ok.ensures.runs (search rules) c.if-count.false
