@@ -1111,7 +1111,7 @@ static TRACED: [Traced; 91] = [
 ];
 
 /// Inputs whose spans are known.
-pub fn traced() -> &'static [Traced] {
+pub fn traced_rows() -> &'static [Traced] {
     &TRACED
 }
 
@@ -1130,7 +1130,7 @@ fn is_traced<A: Allocator>(
 #[test]
 fn traces_are_the_worked_ones(rt: HostRuntime) -> Result<(), Fail> {
     let alloc = rt.alloc();
-    for wanted in traced() {
+    for wanted in traced_rows() {
         let shows = wanted.row.shows;
         let trace = blob_trace(alloc, wanted.row.bytes)?;
         assert!(rt; is_traced(alloc, wanted, &trace)?, "{shows}");
@@ -1149,7 +1149,7 @@ fn is_free(wanted: &Traced, place: u64) -> bool {
 #[test]
 fn bytes_that_lie_in_no_span_change_nothing(rt: HostRuntime) -> Result<(), Fail> {
     let alloc = rt.alloc();
-    for wanted in traced() {
+    for wanted in traced_rows() {
         let shows = wanted.row.shows;
         for place in 0..wanted.row.bytes.len() {
             if is_free(wanted, place as u64) {
