@@ -1,9 +1,11 @@
 -- Fields of bits: what more bits leave, and the bits as a number.
-use Rattle.std.proofs.Common.{◌≡◌, ℕ, zero, suc, ◌+◌, ◌-◌, ◌*◌, ◌/◌, ◌%◌, ◌^◌, ◌<◌, ◌≤◌, Bool, true, false, cond, leb, List, [], ◌∷◌, ◌++◌, length, take, drop, get_or, replicate, bit_and, Result, Ok, Err, refl, sym, ap, ◌∙◌, add-one, arith}
+use Rattle.std.proofs.Common.{◌≡◌, ℕ, zero, suc, ◌+◌, ◌-◌, ◌*◌, ◌/◌, ◌%◌, ◌^◌, ◌<◌, ◌≤◌, Bool, true, false, cond, leb, List, [], ◌∷◌, ◌++◌, length, take, drop, get_or, slice_index_or, bit_and, Result, Ok, Err, refl, sym, ap, ◌∙◌, add-one, arith}
 use Rattle.std.proofs.lemmas.Bool.Decides.{nat_tests}
-use Rattle.std.proofs.lemmas.List.{length-append, length-drop, drop-append-le, take-append-le, drop-replicate}
+use Rattle.std.proofs.lemmas.List.{append-nil, length-append, length-drop, length-take-le, drop-append-le, take-append-le}
 use Rattle.std.proofs.Math.Numerals.{one-add}
-use Rattle.std.proofs.lemmas.Nat.{and_mask, one_shl, pow_pos, mod-pow-add, shr-shr}
+use Rattle.std.proofs.Math.Pow.{mod-mod-pow}
+use Rattle.std.proofs.Math.Seq.{take-append_seam}
+use Rattle.std.proofs.lemmas.Nat.{and_mask, one_shl, pow_pos, mod-pow-add, shr-shr, field_of}
 use Rattle.std.specs.Int.{w128, from_le_bytes}
 use Rattle.imagesize_source.specs.declared.error.ImageError.{ImageError}
 use Rattle.imagesize_source.specs.declared.error.ImageError.TheVariants.{CorruptedImage}
@@ -12,8 +14,10 @@ use Rattle.imagesize_source.specs.Numbers.{number, little}
 use Rattle.imagesize_boxes.specs.Fields.{low_bits, bits_of, binary, field_at, Fields, found, bits, with_found, found_by, after, field_in}
 
 -- the mask of so many bits leaves these of a number
-pub masked : (n count : ℕ) → count ≤ 30 → bit_and n (1 * 2 ^ count % 2 ^ 128 - 1) ≡ n % 2 ^ count
-masked n count few = rw (one_shl count 128 (omega arith)) (and_mask n count)
+pub masked : (n count : ℕ) → count ≤ 30 → bit_and (n % 2 ^ 64) (1 * 2 ^ count % 2 ^ 64 - 1) ≡ n % 2 ^ count
+masked n count few =
+    let all : (64 - count) + count ≡ 64 = omega arith in
+    rw (one_shl count 64 (omega arith)) (and_mask (n % 2 ^ 64) count ∙ ap (λ e. n % 2 ^ e % 2 ^ count) (sym all) ∙ mod-mod-pow n (64 - count) count)
 
 pub little_16 : (bs : List ℕ) → length bs ≡ 16 → from_le_bytes w128 bs ≡ number Little bs
 unfolding number
@@ -150,13 +154,60 @@ found_more list more (bits from count f) v is =
     found_on (field_at list from count) (field_at (list ++ more) from count) (λ n. found_by (field_at list) (f n)) (λ n. found_by (field_at (list ++ more)) (f n)) v
     (λ n at. field_more list more from count n at) (λ n at. found_more list more (f n) v at) is
 
--- bytes that are 0 count nothing
-little_zeros : (bytes : List ℕ) (k : ℕ) → little (bytes ++ replicate k 0) ≡ little bytes
-little_zeros [] zero = refl
-little_zeros [] (suc k) = let rest = little_zeros [] k in omega arith
-little_zeros (b ∷ bytes) k = ap (λ n. b + 256 * n) (little_zeros bytes k)
+-- bytes that were put in front are taken from there
+pub taken_back : (front rest : List ℕ) → take (length front) (front ++ rest) ≡ front
+taken_back front rest = take-append_seam front rest
 
--- sixteen bytes, of which those behind some are 0
-pub number_padded : (bytes : List ℕ) → number Little (bytes ++ drop (length bytes) (replicate 16 0)) ≡ number Little bytes
-unfolding number
-number_padded bytes = ap (λ rest. little (bytes ++ rest)) (drop-replicate (length bytes) 16 0) ∙ little_zeros bytes (16 - length bytes)
+-- and so are two, and others behind them
+pub taken_behind : (start room : List ℕ) (n : ℕ) → length start ≡ 2 → take (2 + n) (slice_index_or start 0 0 ∷ slice_index_or start 1 0 ∷ (room ++ [])) ≡ start ++ take n room
+taken_behind [] room n is = absurd (omega (arith, is))
+taken_behind (a ∷ []) room n is = absurd (omega (arith, is))
+taken_behind (a ∷ b ∷ []) room n is = let e : 2 + n ≡ suc (suc n) = omega arith in rw (e, append-nil room) refl
+taken_behind (a ∷ b ∷ x ∷ rest) room n is = absurd (omega (arith, is))
+
+-- the first bytes have the lowest bits
+little_take : (k : ℕ) (bytes : List ℕ) → ((i : ℕ) → get_or bytes i 0 < 256) → little (take k bytes) ≡ little bytes % 2 ^ (8 * k)
+little_take zero bytes small = omega arith
+little_take (suc k) [] small = let some = pow_pos (8 * suc k) in omega arith
+little_take (suc k) (b ∷ bytes) small =
+    let here : b < 256 = small 0 in
+    let rest = little_take k bytes (λ i. small (suc i)) in
+    let n : ℕ = b + 256 * little bytes in
+    let e : 8 * suc k ≡ 8 * k + 8 = omega arith in
+    let all : n % 2 ^ (8 * suc k) ≡ (n / 256 % 2 ^ (8 * k)) * 256 + n % 256 = ap (λ m. n % 2 ^ m) e ∙ mod-pow-add n (8 * k) 8 in
+    let high : n / 256 ≡ little bytes = omega arith in
+    let same : n / 256 % 2 ^ (8 * k) ≡ little bytes % 2 ^ (8 * k) = ap (λ m. m % 2 ^ (8 * k)) high in
+    omega arith
+
+-- a field sees no bits behind those that are there
+lowest_alike : (n from count rest : ℕ) → n % 2 ^ (rest + count + from) / 2 ^ from % 2 ^ count ≡ n / 2 ^ from % 2 ^ count
+lowest_alike n from count rest = ap (λ m. m % 2 ^ count) (field_of n (rest + count) from) ∙ mod-mod-pow (n / 2 ^ from) rest count
+
+field_lowest : (n there from count : ℕ) → field_in (n % 2 ^ there) there from count ≡ field_in n there from count
+field_lowest n there from count = by_test (leb (from + count) there) refl where
+  by_test : (within : Bool) → leb (from + count) there ≡ within → field_in (n % 2 ^ there) there from count ≡ field_in n there from count
+  by_test true is =
+      let within : from + count ≤ there = grind (arith, nat_tests) in
+      let all : (there - (from + count)) + count + from ≡ there = omega arith in
+      let same : n % 2 ^ there / 2 ^ from % 2 ^ count ≡ n / 2 ^ from % 2 ^ count = ap (λ e. n % 2 ^ e / 2 ^ from % 2 ^ count) (sym all) ∙ lowest_alike n from count (there - (from + count)) in
+      rw (is, same) refl
+  by_test false is = rw is refl
+
+small_take : (k : ℕ) (bytes : List ℕ) → ((i : ℕ) → get_or bytes i 0 < 256) → (i : ℕ) → get_or (take k bytes) i 0 < 256
+small_take zero bytes small i = omega arith
+small_take (suc k) [] small i = omega arith
+small_take (suc k) (b ∷ bytes) small zero = small 0
+small_take (suc k) (b ∷ bytes) small (suc i) = small_take k bytes (λ j. small (suc j)) i
+
+-- a field of the first bytes is that of the number of all
+pub field_front : (bytes : List ℕ) (len : ℕ) → ((i : ℕ) → get_or bytes i 0 < 256) → len ≤ length bytes → (from count : ℕ) → field_at (bits_of (take len bytes)) from count ≡ field_in (little bytes) (8 * len) from count
+field_front bytes len small within from count =
+    let long : length (take len bytes) ≡ len = length-take-le len bytes within in
+    field_same (take len bytes) (small_take len bytes small) from count
+    ∙ ap (λ k. field_in (little (take len bytes)) (8 * k) from count) long
+    ∙ ap (λ n. field_in n (8 * len) from count) (little_take len bytes small)
+    ∙ field_lowest (little bytes) (8 * len) from count
+
+-- the mask of 64 bits
+pub low_mask : (n : ℕ) → bit_and n (2 ^ 64 - 1) ≡ n % 2 ^ 64
+low_mask n = and_mask n 64

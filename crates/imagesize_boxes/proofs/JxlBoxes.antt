@@ -1,13 +1,13 @@
 -- JPEG XL: the ways that a box can go, how a walk along the boxes goes, and the size by what it found.
 use Rattle.std.proofs.Common.{◌≡◌, ℕ, ◌+◌, ◌-◌, ◌*◌, ◌^◌, ◌<◌, ◌≤◌, true, false, cond, eqb, leb, ltb, not, ◌&&◌, ◌||◌, codes, take, drop, min, slice_index, List, [], ◌∷◌, ◌++◌, length, get_or, Result, Ok, Err, refl, sym, ap, ◌∙◌, subst, arith}
 use Rattle.std.proofs.lemmas.Bool.Decides.{nat_tests}
-use Rattle.std.proofs.lemmas.List.{append-nil}
+use Rattle.std.proofs.lemmas.List.{append-nil, length-take, length-take-le, get_or-take}
 use Rattle.std.proofs.lemmas.List.Folds.{concat-append}
 use Rattle.std.specs.List.{concat}
 use Rattle.imagesize_boxes.specs.declared.formats.jxl.boxes.BoxHead.{BoxHead}
 use Rattle.imagesize_boxes.specs.Fields.{Fields, found, bits, binary, bits_of, field_at, field_in, with_found, found_by, found_in}
 use Rattle.imagesize_boxes.specs.Jxl.{has_signature, jxl_header, jxl_size, piece_at, answer, box_checked, box_head, box_room, said_behind, codestream_box, partial_said, partial_box, box_content, jxl_box, jxl_chain, jxl_codestream, jxl}
-use Rattle.imagesize_boxes.proofs.Fields.{field_same, found_alike}
+use Rattle.imagesize_boxes.proofs.Fields.{field_front, found_alike}
 use Rattle.imagesize_types.specs.Head.{begins}
 use Rattle.imagesize_types.specs.declared.size.ImageSize.{ImageSize}
 use Rattle.imagesize_source.specs.Chain.{Said, Decided, Next, Advances, chain_at}
@@ -27,22 +27,31 @@ use Rattle.imagesize_source.specs.declared.util.Endian.TheVariants.{Little, Big}
 use Rattle.imagesize_source.specs.Numbers.{number, little}
 
 -- the size by too few bytes, by others than the signature, and by its bits as a number
-pub size_short : (front : List ℕ) → length front < 2 → jxl_size front ≡ Err CorruptedImage
+pub size_short : (all : List ℕ) (len : ℕ) → len < 2 → jxl_size (take len all) ≡ Err CorruptedImage
 unfolding jxl_size
-size_short front short = let test : ltb (length front) 2 ≡ true = grind (arith, nat_tests) in rw test refl
+size_short all len short = let long = length-take len all in let test : ltb (length (take len all)) 2 ≡ true = grind (arith, nat_tests) in rw test refl
 
-pub size_unsigned : (front : List ℕ) → 2 ≤ length front → has_signature front ≡ false → jxl_size front ≡ Err (IoError InvalidJxlSignature)
+taken_signature : (all : List ℕ) (len : ℕ) → 2 ≤ len → has_signature (take len all) ≡ has_signature all
+taken_signature all len enough = rw (get_or-take len all 0 0 (omega arith), get_or-take len all 1 0 (omega arith)) refl
+
+pub size_unsigned : (all : List ℕ) (len : ℕ) → 2 ≤ len → len ≤ length all → has_signature all ≡ false → jxl_size (take len all) ≡ Err (IoError InvalidJxlSignature)
 unfolding jxl_size
-size_unsigned front long other = let test : ltb (length front) 2 ≡ false = grind (arith, nat_tests) in rw (test, other) refl
+size_unsigned all len enough within other =
+    let long = length-take-le len all within in
+    let test : ltb (length (take len all)) 2 ≡ false = grind (arith, nat_tests) in
+    let sign : has_signature (take len all) ≡ false = taken_signature all len enough ∙ other in
+    rw (test, sign) refl
 
-pub size_signed : (front : List ℕ) (n count : ℕ) → 2 ≤ length front → has_signature front ≡ true → ((i : ℕ) → get_or front i 0 < 256) → n ≡ number Little front → count ≡ 8 * length front → jxl_size front ≡ found_in n count jxl_header
+pub size_signed : (all : List ℕ) (len n count : ℕ) → 2 ≤ len → len ≤ length all → has_signature all ≡ true → ((i : ℕ) → get_or all i 0 < 256) → n ≡ number Little all → count ≡ 8 * len → jxl_size (take len all) ≡ found_in n count jxl_header
 unfolding jxl_size number
-size_signed front n count long is small sums counts =
-    let test : ltb (length front) 2 ≡ false = grind (arith, nat_tests) in
-    let here : jxl_size front ≡ found_by (field_at (bits_of front)) jxl_header = rw (test, is) refl in
+size_signed all len n count enough within is small sums counts =
+    let long = length-take-le len all within in
+    let test : ltb (length (take len all)) 2 ≡ false = grind (arith, nat_tests) in
+    let sign : has_signature (take len all) ≡ true = taken_signature all len enough ∙ is in
+    let here : jxl_size (take len all) ≡ found_by (field_at (bits_of (take len all))) jxl_header = rw (test, sign) refl in
     here
-    ∙ found_alike (field_at (bits_of front)) (field_in (little front) (8 * length front)) jxl_header (field_same front small)
-    ∙ ap (λ m. found_in m (8 * length front) jxl_header) (sym sums)
+    ∙ found_alike (field_at (bits_of (take len all))) (field_in (little all) (8 * len)) jxl_header (field_front all len small within)
+    ∙ ap (λ m. found_in m (8 * len) jxl_header) (sym sums)
     ∙ ap (λ k. found_in n k jxl_header) (sym counts)
 
 -- what holds of each way that a box can go

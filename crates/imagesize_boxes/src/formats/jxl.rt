@@ -1,15 +1,17 @@
 //! JPEG XL, by ISO/IEC 18181-1 (the codestream) and 18181-2 (the boxes around it).
-ghost use Rattle.std.specs.Prelude.{◌≡◌, ◌≤◌, ◌++◌, length, option_map};
-ghost use Rattle.imagesize_boxes.specs.Jxl.{is_jxl, jxl, jxl_codestream, jxl_start};
+ghost use Rattle.std.specs.Prelude.{◌≡◌, ◌≤◌, ◌++◌, take, option_map};
+ghost use Rattle.imagesize_boxes.specs.Jxl.{is_jxl, jxl, jxl_chain, jxl_codestream, jxl_start};
+ghost use Rattle.imagesize_source.specs.Chain.{chain_at};
 ghost use Rattle.imagesize_source.specs.Layout.{over};
 ghost use Rattle.imagesize_source.specs.Reading.{seen};
 ghost use Rattle.imagesize_source.specs.State.{Runs};
 
 mod bits;
 mod boxes;
+mod front;
 mod header;
 
-use boxes::Codestream;
+use front::Front;
 use imagesize_source::ImageResult;
 use imagesize_source::source::Source;
 use imagesize_source::util::read_bytes;
@@ -39,26 +41,36 @@ pub fn matches(head: &[u8; 12]) -> bool
 pub fn size<S: Source>(source: &mut S) -> ImageResult<ImageSize>
     ensures { Runs (S.state source.old) (S.state source.new) result (jxl (S.state source.old).held.input) }
 {
-    let codestream = read_codestream(source)?;
-    header::codestream_size(codestream.as_slice())
+    let front = read_codestream(source)?;
+    header::codestream_size(&front.bytes, front.len)
 }
 
 // The first bytes of the codestream, which stands alone or in boxes.
 #[tactic(auto, using(imagesize_source::proofs::Runs::steps))]
-fn read_codestream<S: Source>(source: &mut S) -> ImageResult<Codestream>
-    ensures { Runs (S.state source.old) (S.state source.new) (seen (λ found. found.items) result)
+fn read_codestream<S: Source>(source: &mut S) -> ImageResult<Front>
+    ensures { Runs (S.state source.old) (S.state source.new) (seen (λ front. take front.len front.bytes) result)
         (jxl_codestream (S.state source.old).held.input) }
 {
     match read_start(source)? {
-        Some(codestream) => Ok(codestream),
-        None => boxes::read_codestream(source),
+        Some(front) => Ok(front),
+        None => read_boxes(source),
     }
 }
 
-// The first bytes of a codestream that stands alone; none where boxes stand.
+// Those of a codestream in boxes.
 #[tactic(auto, using(imagesize_source::proofs::Runs::steps))]
-fn read_start<S: Source>(source: &mut S) -> ImageResult<Option<Codestream>>
-    ensures { Runs (S.state source.old) (S.state source.new) (seen (λ found. option_map (λ front. front.items) found) result)
+fn read_boxes<S: Source>(source: &mut S) -> ImageResult<Front>
+    ensures { Runs (S.state source.old) (S.state source.new) (seen (λ front. take front.len front.bytes) result)
+        (chain_at jxl_chain (S.state source.old).held.input) }
+{
+    let codestream = boxes::read_codestream(source)?;
+    Ok(Front::of(codestream.as_slice()))
+}
+
+// Those of a codestream that stands alone; none where boxes stand.
+#[tactic(auto, using(imagesize_source::proofs::Runs::steps))]
+fn read_start<S: Source>(source: &mut S) -> ImageResult<Option<Front>>
+    ensures { Runs (S.state source.old) (S.state source.new) (seen (λ found. option_map (λ front. take front.len front.bytes) found) result)
         (over (S.state source.old).held.input jxl_start) }
 {
     let start = read_bytes::<S, 2>(source, 0)?;
@@ -67,16 +79,19 @@ fn read_start<S: Source>(source: &mut S) -> ImageResult<Option<Codestream>>
     }
     let mut room = [0u8; 14];
     let there = source.read_at(2, &mut room)?;
-    Ok(Some(joined(&start, &room[..there])))
+    Ok(Some(joined(start, room, there)))
 }
 
-// The two bytes, and those behind them.
-fn joined(start: &[u8; 2], more: &[u8]) -> Codestream
-    requires { length more.now ≤ 14 }
-    ensures { result.items ≡ start.now ++ more.now }
+// The two bytes, and so many of those behind them.
+#[inline]
+fn joined(start: [u8; 2], room: [u8; 14], there: usize) -> Front
+    requires { there ≤ 14 }
+    ensures { take result.len result.bytes ≡ start ++ take there room }
 {
-    let mut all = Codestream::new();
-    let _ = all.try_extend_from_slice(start);
-    let _ = all.try_extend_from_slice(more);
-    all
+    let mut bytes = [start[0], start[1], 0, 0, 0, 0, 0, 0, 0, 0, 0, 0, 0, 0, 0, 0];
+    bytes[2..].copy_from_slice(&room);
+    Front {
+        bytes,
+        len: 2 + there,
+    }
 }

@@ -1,9 +1,10 @@
 //! Bits of bytes, the lowest of a byte first, by ISO/IEC 18181-1, annex B.
-ghost use Rattle.std.specs.Prelude.{◌≡◌, ℕ, ◌+◌, ◌*◌, ◌^◌, ◌<◌, ◌≤◌, length};
+ghost use Rattle.std.specs.Prelude.{◌≡◌, ℕ, ◌+◌, ◌*◌, ◌%◌, ◌^◌, ◌<◌, ◌≤◌};
 ghost use Rattle.imagesize_boxes.specs.Fields.{field_in};
 ghost use Rattle.imagesize_source.specs.declared.util.Endian.TheVariants as endian;
 ghost use Rattle.imagesize_source.specs.Numbers.{number};
 
+use super::front::MOST;
 use imagesize_source::{ImageError, ImageResult};
 
 // At most 128 bits, as the lowest of a number.
@@ -15,15 +16,16 @@ pub(super) struct Bits {
 }
 
 impl Bits {
-    // The bits of bytes.
-    pub(super) fn of(bytes: &[u8]) -> Bits
-        requires { length bytes.now ≤ 16 }
+    // The bits of the first bytes of a codestream, so many of these. Behind them stand bits that are none of theirs.
+    #[tactic(auto, using(crate::proofs::Fields::little_16))]
+    pub(super) fn of(bytes: &[u8; MOST], len: usize) -> Bits
+        requires { len ≤ 16 }
         ensures number { result.number ≡ number endian.Little bytes.now }
-        ensures count { result.count ≡ 8 * length bytes.now }
+        ensures count { result.count ≡ 8 * len }
     {
         Bits {
-            number: u128::from_le_bytes(padded(bytes)),
-            count: 8 * bytes.len() as u32,
+            number: u128::from_le_bytes(*bytes),
+            count: 8 * len as u32,
         }
     }
 
@@ -37,19 +39,17 @@ impl Bits {
         if from + count > self.count {
             return Err(ImageError::CorruptedImage);
         }
-        let mask = (1u128 << count) - 1;
-        Ok(((self.number >> from) & mask) as u32)
+        let behind = lowest_64(self.number >> from);
+        let mask = (1u64 << count) - 1;
+        Ok((behind & mask) as u32)
     }
 }
 
-// The bytes, and behind them bytes that are 0.
+// The lowest 64 bits.
 #[inline]
-#[tactic(auto, using(crate::proofs::Fields::number_padded))]
-fn padded(bytes: &[u8]) -> [u8; 16]
-    requires { length bytes.now ≤ 16 }
-    ensures { number endian.Little result ≡ number endian.Little bytes.now }
+#[tactic(auto, using(crate::proofs::Fields::low_mask))]
+fn lowest_64(number: u128) -> u64
+    ensures { result ≡ number % 2 ^ 64 }
 {
-    let mut all = [0u8; 16];
-    all[..bytes.len()].copy_from_slice(bytes);
-    all
+    (number & u64::MAX as u128) as u64
 }

@@ -11,13 +11,11 @@ ghost use Rattle.imagesize_source.specs.Reading.{bytes_read, number_read, part_r
 ghost use Rattle.imagesize_source.specs.State.{Runs, Sound};
 ghost use Rattle.imagesize_source.specs.declared.util.Endian.TheVariants as endian;
 
+use super::front::MOST;
 use arrayvec::ArrayVec;
 use imagesize_source::source::Source;
 use imagesize_source::util::{Endian, read_bytes, read_u64};
 use imagesize_source::{ImageError, ImageResult, Reason};
-
-// How many bytes of a codestream are looked at.
-const MOST: usize = 16;
 
 /// The first bytes of a codestream, or a piece of them.
 pub(super) type Codestream = ArrayVec<u8, MOST>;

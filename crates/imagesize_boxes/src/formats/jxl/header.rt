@@ -1,9 +1,10 @@
 //! The header of a JPEG XL codestream, by ISO/IEC 18181-1, annex D: the size and the orientation of the image.
-ghost use Rattle.std.specs.Prelude.{◌≡◌, ◌+◌, ◌*◌, ◌^◌, ◌<◌, ◌≤◌, length, IfOk};
+ghost use Rattle.std.specs.Prelude.{◌≡◌, ◌+◌, ◌*◌, ◌^◌, ◌<◌, ◌≤◌, length, take, IfOk};
 ghost use Rattle.imagesize_boxes.specs.Fields.{found_in};
 ghost use Rattle.imagesize_boxes.specs.Jxl.{exchanged, has_signature, jxl_header, jxl_size, side, side_bits, size_of_sides, width_by, width_side};
 
 use super::bits::Bits;
+use super::front::MOST;
 use imagesize_source::{ImageError, ImageResult, Reason};
 use imagesize_types::size::ImageSize;
 
@@ -14,18 +15,18 @@ pub(super) struct Side {
     pub(super) end: u32,
 }
 
-// The size by the first bytes of a codestream.
-pub(super) fn codestream_size(codestream: &[u8]) -> ImageResult<ImageSize>
-    requires { length codestream.now ≤ 16 }
-    ensures { result ≡ jxl_size codestream.now }
+// The size by the first bytes of a codestream, so many of these.
+pub(super) fn codestream_size(bytes: &[u8; MOST], len: usize) -> ImageResult<ImageSize>
+    requires { len ≤ 16 }
+    ensures { result ≡ jxl_size (take len bytes.now) }
 {
-    if codestream.len() < 2 {
+    if len < 2 {
         return Err(ImageError::CorruptedImage);
     }
-    if !has_signature(codestream) {
+    if !has_signature(bytes) {
         return Err(ImageError::IoError(Reason::InvalidJxlSignature));
     }
-    header_size(&Bits::of(codestream))
+    header_size(&Bits::of(bytes, len))
 }
 
 // Whether the signature of a codestream stands first.
