@@ -62,7 +62,8 @@ impl<R: Read + Seek + Drop> Told for KeptReader<R> {
         ensures place { self.new.place ≡ sought_place result }
 
         // Where it stands already, and ahead in the buffer, the reader below is not called.
-        ensures stands { (place : ℕ) → self.old.place ≡ Some place → to ≡ SeekFrom.Current (pos 0) → (result ≡ Ok place) × (self.new.reader ≡ self.old.reader) }
+        ensures stands { (place : ℕ) → self.old.place ≡ Some place → to ≡ SeekFrom.Current (pos 0) → (result ≡ Ok place)
+            × (self.new.reader ≡ self.old.reader) }
         ensures ahead { (place target : ℕ) → self.old.place ≡ Some place → to ≡ SeekFrom.Start target
             → place ≤ target → target ≤ place + length (reader_buffer self.old.reader)
             → (result ≡ Ok target) × (reader_inner self.new.reader ≡ reader_inner self.old.reader)

@@ -166,7 +166,8 @@ fn read_retrying<R: Told>(
     room: &mut [u8],
 ) -> Option<usize>
     ensures bound { IfSome result (λ n. n ≤ length room.new) }
-    ensures steady { GivesSome (steady (R.telling reader.old) retries.old) (steady (R.telling reader.new) retries.new) room.new (given_or fault.new result) }
+    ensures steady { GivesSome (steady (R.telling reader.old) retries.old) (steady (R.telling reader.new) retries.new)
+        room.new (given_or fault.new result) }
     ensures counts { R.count reader.new ≡ counted (R.count reader.old) (given_or fault.new result) }
     ensures tried { retries.old ≤ retries.new }
     ensures limit { retries.old ≤ 64 → retries.new ≤ 64 }
@@ -195,7 +196,8 @@ fn read_counted<R: Told>(
 ) -> Result<usize, Halt>
     requires { progress.old.taken + length room.old ≤ progress.old.budget }
     ensures bound { IfOk result (λ n. n ≤ length room.new) }
-    ensures stand { GivesSome (stand (R.telling reader.old) progress.old) (stand (R.telling reader.new) progress.new) room.new (named progress.new result) }
+    ensures stand { GivesSome (stand (R.telling reader.old) progress.old) (stand (R.telling reader.new) progress.new)
+        room.new (named progress.new result) }
     ensures taken { progress.new.taken ≡ progress.old.taken + given result }
     ensures place { IfOk result (λ n. progress.new.place ≡ min (progress.old.place + n) (2 ^ 64 - 1)) }
     ensures since { since (R.count reader.new) progress.new.taken ≡ since (R.count reader.old) progress.old.taken }
@@ -219,7 +221,8 @@ fn read_some<R: Told>(
     room: &mut [u8],
 ) -> Result<usize, Halt>
     ensures bound { IfOk result (λ n. n ≤ length room.new) }
-    ensures stand { GivesSome (stand (R.telling reader.old) progress.old) (stand (R.telling reader.new) progress.new) room.new (named progress.new result) }
+    ensures stand { GivesSome (stand (R.telling reader.old) progress.old) (stand (R.telling reader.new) progress.new)
+        room.new (named progress.new result) }
     ensures taken { progress.new.taken ≡ progress.old.taken + given result }
     ensures since { since (R.count reader.new) progress.new.taken ≡ since (R.count reader.old) progress.old.taken }
     ensures tries { OnOk result (Tries (R.telling reader.old) progress.old.retries (R.telling reader.new) progress.new.retries) }
@@ -290,7 +293,8 @@ fn fill_rest<R: Told>(
 // seek answers is not asked.
 #[inline(always)]
 fn go_to<R: Told>(reader: &mut R, progress: &mut Progress, place: u64) -> Result<bool, Halt>
-    ensures stand { GoesTo (stand (R.telling reader.old) progress.old) (stand (R.telling reader.new) progress.new) place progress.new.place (named progress.new result) }
+    ensures stand { GoesTo (stand (R.telling reader.old) progress.old)
+        (stand (R.telling reader.new) progress.new) place progress.new.place (named progress.new result) }
     ensures asked { IfOk result (λ there. there ≡ true → progress.new.place ≡ place) }
     ensures short { IfOk result (λ there. there ≡ true → place ≤ max progress.old.told progress.old.place) }
     ensures far { IfOk result (λ there. there ≡ false → progress.old.told < place) }
@@ -342,7 +346,8 @@ fn read_windowed<R: Told>(
     room: &mut [u8],
 ) -> Result<usize, Halt>
     ensures bound { IfOk result (λ n. n ≤ length room.new) }
-    ensures pays { IfOk result (λ n. 0 < n → max progress.old.told 32 < place → (progress.old.taken < progress.new.taken) × (progress.new.taken ≤ progress.old.budget)) }
+    ensures pays { IfOk result (λ n. 0 < n → max progress.old.told 32 < place → (progress.old.taken < progress.new.taken)
+        × (progress.new.taken ≤ progress.old.budget)) }
     ensures keeps { Keeps progress.old progress.new }
     ensures runs { (home : ℕ) → Runs
         (reader_state (R.telling reader.old) (R.count reader.old) home progress.old window.old.items)
@@ -368,7 +373,8 @@ fn read_within<R: Told>(
     room: &mut [u8],
 ) -> Result<usize, Halt>
     ensures bound { IfOk result (λ n. n ≤ length room.new) }
-    ensures pays { IfOk result (λ n. 0 < n → max progress.old.told 32 < place → (progress.old.taken < progress.new.taken) × (progress.new.taken ≤ progress.old.budget)) }
+    ensures pays { IfOk result (λ n. 0 < n → max progress.old.told 32 < place → (progress.old.taken < progress.new.taken)
+        × (progress.new.taken ≤ progress.old.budget)) }
     ensures keeps { Keeps progress.old progress.new }
     ensures runs { (home : ℕ) → Runs
         (reader_state (R.telling reader.old) (R.count reader.old) home progress.old window.old.items)
@@ -413,11 +419,13 @@ fn read_on<R: Told>(
     room: &mut [u8],
 ) -> ImageResult<usize>
     ensures bound { IfOk result (λ n. n ≤ length room.new) }
-    ensures ends { progress.old.told < place → place ≢ present.old → (result ≡ Ok 0) × (reader.new ≡ reader.old) × (present.new ≡ present.old) }
+    ensures ends { progress.old.told < place → place ≢ present.old → (result ≡ Ok 0) × (reader.new ≡ reader.old)
+        × (present.new ≡ present.old) }
     ensures present { place ≤ progress.old.told → IfOk result (λ n. present.new ≡ min (place + n) (2 ^ 64 - 1)) }
     ensures goes_on { place ≡ present.old → IfOk result (λ n. present.new ≡ min (place + n) (2 ^ 64 - 1)) }
     ensures keeps { Keeps progress.old progress.new }
-    ensures pays { IfOk result (λ n. 0 < n → max progress.old.told 32 < place → (progress.old.taken < progress.new.taken) × (progress.new.taken ≤ progress.old.budget)) }
+    ensures pays { IfOk result (λ n. 0 < n → max progress.old.told 32 < place → (progress.old.taken < progress.new.taken)
+        × (progress.new.taken ≤ progress.old.budget)) }
     ensures runs { (home : ℕ) → Runs
         (reader_state (R.telling reader.old) (R.count reader.old) home progress.old window.old.items)
         (reader_state (R.telling reader.new) (R.count reader.new) home progress.new window.new.items)
