@@ -383,12 +383,10 @@ fn the_properties_tell_the_size(rt: HostRuntime) -> Result<(), Fail> {
 #[test]
 fn bytes_that_follow_may_take_the_size(rt: HostRuntime) -> Result<(), Fail> {
     let alloc = rt.alloc();
-    let bytes = avif_of(
-        alloc,
-        b"\0\0\0\x14ispe\0\0\0\0\0\0\0\x40\0\0\0\x30\0\0\0\x09ir",
-    )?;
+    let properties = b"\0\0\0\x14ispe\0\0\0\0\0\0\0\x40\0\0\0\x30\0\0\0\x09ir";
+    let bytes = avif_of(alloc, properties)?;
     assert!(rt; is_answer(alloc, Ok((64, 48)), &blob_size(bytes.as_slice()))?);
-    let mut more = avif_of(alloc, &bytes[EMPTY.len()..])?;
+    let mut more = avif_of(alloc, properties)?;
     more.extend_from_slice(b"ot")?;
     assert!(rt;
         is_answer(
@@ -406,11 +404,11 @@ fn each_failure_along_the_boxes_is_answered(rt: HostRuntime) -> Result<(), Fail>
 }
 
 // An AVIF of 64 by 48 pixels, before and behind whose extents a number of other properties stand.
-fn avif_of_many(alloc: Global, others: u32) -> Result<Vec<u8>, AllocError> {
+fn avif_of_many(alloc: Global, others: u16) -> Result<Vec<u8>, AllocError> {
     let mut bytes = Vec::new(alloc);
     bytes.extend_from_slice(b"\0\0\0\x10ftypavif\0\0\0\0")?;
     bytes.extend_from_slice(b"\0\0\0\x39meta\0\0\0\0\0\0\0\x2Diprp")?;
-    bytes.extend_from_slice(&(8 + 20 + 9 + 16 * others).to_be_bytes())?;
+    bytes.extend_from_slice(&(8 + 20 + 9 + 16 * others as u32).to_be_bytes())?;
     bytes.extend_from_slice(b"ipco")?;
     for _ in 0..others {
         bytes.extend_from_slice(b"\0\0\0\x08free")?;
