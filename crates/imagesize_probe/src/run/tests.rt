@@ -98,7 +98,11 @@ impl<'a> Open for Same<'a> {
     }
 
     fn load(&mut self, _name: &str) -> ImageResult<Vec<u8>> {
-        copied(self.alloc, &self.bytes[..self.bytes.len().min(WHOLE + 1)])
+        if self.bytes.len() <= WHOLE {
+            let all = copied(self.alloc, self.bytes)?;
+            return Ok(all);
+        }
+        copied(self.alloc, &self.bytes[..WHOLE + 1])
     }
 }
 

@@ -17,6 +17,7 @@ fn check_text(
     most: usize,
     expected: &[u8],
 ) -> Result<u64, Fail> {
+    let most = most.min(16);
     let mut room = [0u8; 16];
     let count = SliceSource { bytes }.read_text(place, text, &mut room[..most])?;
     assert_eq!(rt; &room[..count], expected);
