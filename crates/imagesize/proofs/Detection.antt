@@ -1,11 +1,11 @@
 -- The type at a place: what it is read from, and what bytes that follow leave of it.
 use Rattle.std.proofs.Common.{◌≡◌, ℕ, ◌≤◌, Bool, true, false, List, ◌++◌, length, Option, Some, None, Result, Ok, Err, refl, sym, ap, ◌∙◌, subst, arith}
-use Rattle.imagesize_boxes.proofs.Heif.{heif_kind}
+use Rattle.imagesize_boxes.proofs.Heif.{heif_compression_laws}
 use Rattle.imagesize_boxes.specs.Heif.{heif_compression}
-use Rattle.imagesize_fixed.proofs.Atc.{atc_kind}
-use Rattle.imagesize_fixed.proofs.Dds.{dds_kind}
-use Rattle.imagesize_fixed.proofs.Pkm.{pkm_kind}
-use Rattle.imagesize_fixed.proofs.Pvrtc.{pvrtc_kind}
+use Rattle.imagesize_fixed.proofs.Atc.{atc_compression_laws}
+use Rattle.imagesize_fixed.proofs.Dds.{dds_compression_laws}
+use Rattle.imagesize_fixed.proofs.Pkm.{pkm_compression_laws}
+use Rattle.imagesize_fixed.proofs.Pvrtc.{pvrtc_compression_laws}
 use Rattle.imagesize_fixed.proofs.Tga.{is_tga_few}
 use Rattle.imagesize_fixed.specs.Atc.{atc_compression}
 use Rattle.imagesize_fixed.specs.Dds.{dds_compression}
@@ -13,7 +13,7 @@ use Rattle.imagesize_fixed.specs.Pkm.{pkm_compression}
 use Rattle.imagesize_fixed.specs.Pvrtc.{pvrtc_compression}
 use Rattle.imagesize_fixed.specs.Tga.{is_tga}
 use Rattle.imagesize.specs.Counts.{lasts}
-use Rattle.imagesize.specs.Kind.{kind, kind_by, with_kind, tga_or_none, rows, first_row}
+use Rattle.imagesize.specs.Kind.{kind, kind_by, with_compression, tga_or_none, rows, first_row}
 use Rattle.imagesize.specs.Meaning.{kind_of, way_of}
 use Rattle.imagesize.specs.declared.types.ImageType.{ImageType}
 use Rattle.imagesize.specs.declared.types.ImageType.TheVariants.{Atc, Dds, Eac, Etc2, Heif, Pvrtc, Tga}
@@ -29,7 +29,7 @@ use Rattle.imagesize_source.specs.State.{total}
 use Rattle.imagesize_source.specs.declared.error.ImageError.{ImageError}
 use Rattle.imagesize_source.specs.declared.span.Span.{Span}
 
--- how many bytes a type is read from: the first twelve, then those of the kind within it, or of TGA's own test
+-- how many bytes a type is read from: the first twelve, then those of the compression within it, or of TGA's own test
 abbrev pub kind_cost : ImageType → ℕ
 kind_cost (Heif _) = 24
 kind_cost (Atc _) = 20
@@ -51,14 +51,14 @@ kind_few (Dds _) = omega arith
 kind_few Tga = omega arith
 kind_few _ = omega arith
 
-with_costs : (place : ℕ) (head : List ℕ) (found : ImageType) → CostsBy kind_cost 37 12 (with_kind place head found)
-unfolding with_kind
-with_costs place head (Heif _) = costs_bind kind_cost 37 12 12 (heif_compression place head) _ (heif_kind place head).few (omega arith) (λ _. omega arith)
-with_costs place head (Atc _) = costs_bind kind_cost 37 12 8 atc_compression _ atc_kind.few (omega arith) (λ _. omega arith)
-with_costs place head (Pvrtc _) = costs_bind kind_cost 37 12 12 pvrtc_compression _ pvrtc_kind.few (omega arith) (λ _. omega arith)
-with_costs place head (Eac _) = costs_bind kind_cost 37 12 2 pkm_compression _ pkm_kind.few (omega arith) (λ _. omega arith)
-with_costs place head (Etc2 _) = costs_bind kind_cost 37 12 2 pkm_compression _ pkm_kind.few (omega arith) (λ _. omega arith)
-with_costs place head (Dds _) = costs_bind kind_cost 37 12 8 dds_compression _ dds_kind.few (omega arith) (λ _. omega arith)
+with_costs : (place : ℕ) (head : List ℕ) (found : ImageType) → CostsBy kind_cost 37 12 (with_compression place head found)
+unfolding with_compression
+with_costs place head (Heif _) = costs_bind kind_cost 37 12 12 (heif_compression place head) _ (heif_compression_laws place head).few (omega arith) (λ _. omega arith)
+with_costs place head (Atc _) = costs_bind kind_cost 37 12 8 atc_compression _ atc_compression_laws.few (omega arith) (λ _. omega arith)
+with_costs place head (Pvrtc _) = costs_bind kind_cost 37 12 12 pvrtc_compression _ pvrtc_compression_laws.few (omega arith) (λ _. omega arith)
+with_costs place head (Eac _) = costs_bind kind_cost 37 12 2 pkm_compression _ pkm_compression_laws.few (omega arith) (λ _. omega arith)
+with_costs place head (Etc2 _) = costs_bind kind_cost 37 12 2 pkm_compression _ pkm_compression_laws.few (omega arith) (λ _. omega arith)
+with_costs place head (Dds _) = costs_bind kind_cost 37 12 8 dds_compression _ dds_compression_laws.few (omega arith) (λ _. omega arith)
 with_costs place head Tga = omega arith
 with_costs place head _ = omega arith
 
@@ -85,18 +85,18 @@ few_of (Err e) = omega arith
 pub kind_within : (d : List ℕ) (place : ℕ) → total (kind_of d place).marks ≤ 37
 kind_within d place = omega (arith, kind_at_most d place, few_of (kind_of d place).answer)
 
--- a type whose size is told in the same way, whatever its kind
+-- a type whose size is told in the same way, whatever its compression
 abbrev pub Alike : ImageType → ImageType → Type 0
 Alike found type = way_of type ≡ way_of found
 
-with_alike : (place : ℕ) (head : List ℕ) (found : ImageType) → Always (Alike found) (with_kind place head found)
-unfolding with_kind
-with_alike place head (Heif k) = always_bind (Alike (Heif k)) (heif_compression place head) _ (heif_kind place head).answers (λ _. refl)
-with_alike place head (Atc k) = always_bind (Alike (Atc k)) atc_compression _ atc_kind.answers (λ _. refl)
-with_alike place head (Pvrtc k) = always_bind (Alike (Pvrtc k)) pvrtc_compression _ pvrtc_kind.answers (λ _. refl)
-with_alike place head (Eac k) = always_bind (Alike (Eac k)) pkm_compression _ pkm_kind.answers (λ _. refl)
-with_alike place head (Etc2 k) = always_bind (Alike (Etc2 k)) pkm_compression _ pkm_kind.answers (λ _. refl)
-with_alike place head (Dds k) = always_bind (Alike (Dds k)) dds_compression _ dds_kind.answers (λ _. refl)
+with_alike : (place : ℕ) (head : List ℕ) (found : ImageType) → Always (Alike found) (with_compression place head found)
+unfolding with_compression
+with_alike place head (Heif k) = always_bind (Alike (Heif k)) (heif_compression place head) _ (heif_compression_laws place head).answers (λ _. refl)
+with_alike place head (Atc k) = always_bind (Alike (Atc k)) atc_compression _ atc_compression_laws.answers (λ _. refl)
+with_alike place head (Pvrtc k) = always_bind (Alike (Pvrtc k)) pvrtc_compression _ pvrtc_compression_laws.answers (λ _. refl)
+with_alike place head (Eac k) = always_bind (Alike (Eac k)) pkm_compression _ pkm_compression_laws.answers (λ _. refl)
+with_alike place head (Etc2 k) = always_bind (Alike (Etc2 k)) pkm_compression _ pkm_compression_laws.answers (λ _. refl)
+with_alike place head (Dds k) = always_bind (Alike (Dds k)) dds_compression _ dds_compression_laws.answers (λ _. refl)
 with_alike place head _ = refl
 
 -- an answer behind readings is that behind what they answered
@@ -119,8 +119,8 @@ none_lasts d n place head type is stays =
 by_more : (d x : List ℕ) (place : ℕ) (head : List ℕ) (row : Option ImageType) (type : ImageType) → (over d (kind_by (length d) place head row)).answer ≡ Ok type → lasts type ≡ true → (after : ImageType) × ((over (d ++ x) (kind_by (length (d ++ x)) place head row)).answer ≡ Ok after) × Alike type after
 by_more d x place head None type is stays = absurd (none_lasts d (length d) place head type is stays)
 by_more d x place head (Some found) type is stays =
-    let before = always (Alike found) d (with_kind place head found) (with_alike place head found) in
-    let after = always (Alike found) (d ++ x) (with_kind place head found) (with_alike place head found) in
+    let before = always (Alike found) d (with_compression place head found) (with_alike place head found) in
+    let after = always (Alike found) (d ++ x) (with_compression place head found) (with_alike place head found) in
     let same : before.0 ≡ type = cc in
     let alike : Alike found type = subst (Alike found) same before.2 in
     (after.0, after.1, after.2 ∙ sym alike)

@@ -35,7 +35,7 @@ use Rattle.imagesize_source.specs.Layout.Layout.{refuse, «done»}
 use Rattle.imagesize_source.specs.Layout.{Layout, bind, bytes}
 use Rattle.imagesize_source.specs.declared.error.ImageError.TheVariants.{NotSupported}
 
--- A row of the table: a test of the first twelve bytes, and the type where it holds, its kind still unknown.
+-- A row of the table: a test of the first twelve bytes, and the type where it holds, its compression still unknown.
 pub record Row : Type 0 where
   pub holds : List ℕ → Bool
   pub found : ImageType
@@ -74,22 +74,22 @@ abbrev pub first_row : List Row → List ℕ → Option ImageType
 first_row [] head = None
 first_row (row ∷ rows) head = if row.holds head then Some row.found else first_row rows head
 
--- the same type, with its kind read where it has several
-unfoldable pub with_kind : ℕ → List ℕ → ImageType → Layout ImageType
-with_kind place head (Heif _) = bind (heif_compression place head) (λ compression. done (Heif compression))
-with_kind place head (Atc _) = bind atc_compression (λ compression. done (Atc compression))
-with_kind place head (Pvrtc _) = bind pvrtc_compression (λ compression. done (Pvrtc compression))
-with_kind place head (Eac _) = bind pkm_compression (λ compression. done (Eac compression))
-with_kind place head (Etc2 _) = bind pkm_compression (λ compression. done (Etc2 compression))
-with_kind place head (Dds _) = bind dds_compression (λ compression. done (Dds compression))
-with_kind place head found = done found
+-- the same type, with its compression read where it has several
+unfoldable pub with_compression : ℕ → List ℕ → ImageType → Layout ImageType
+with_compression place head (Heif _) = bind (heif_compression place head) (λ compression. done (Heif compression))
+with_compression place head (Atc _) = bind atc_compression (λ compression. done (Atc compression))
+with_compression place head (Pvrtc _) = bind pvrtc_compression (λ compression. done (Pvrtc compression))
+with_compression place head (Eac _) = bind pkm_compression (λ compression. done (Eac compression))
+with_compression place head (Etc2 _) = bind pkm_compression (λ compression. done (Etc2 compression))
+with_compression place head (Dds _) = bind dds_compression (λ compression. done (Dds compression))
+with_compression place head found = done found
 
 abbrev pub tga_or_none : Bool → Layout ImageType
 tga_or_none is = if is then done Tga else refuse NotSupported
 
 -- what an input of n bytes is at a place with this head: TGA has no signature at its beginning, so it comes last
 abbrev pub kind_by : ℕ → ℕ → List ℕ → Option ImageType → Layout ImageType
-kind_by n place head (Some found) = with_kind place head found
+kind_by n place head (Some found) = with_compression place head found
 kind_by n place head None = bind (is_tga n head) tga_or_none
 
 -- the type that an input of n bytes has at a place

@@ -1,4 +1,4 @@
--- The order of types: that of their list, then that of their kinds.
+-- The order of types: that of their list, then that of their compressions.
 use Rattle.std.specs.Prelude.{◌≡◌, ℕ}
 use Rattle.std.specs.Ordering.{nat_cmp}
 use Rattle.std.specs.declared.cmp.Ordering.{Ordering}
@@ -14,7 +14,7 @@ use Rattle.imagesize_types.specs.declared.compression.DdsCompression.{DdsCompres
 use Rattle.imagesize_types.specs.declared.compression.PkmCompression.{PkmCompression}
 use Rattle.imagesize_types.specs.declared.compression.PvrtcCompression.{PvrtcCompression}
 
--- Each type is less than the next of the list, whatever their kinds. The order is transitive, so each is less than all
+-- Each type is less than the next of the list, whatever their compressions. The order is transitive, so each is less than all
 -- behind it.
 pub record IsListed (cmp : ImageType → ImageType → Ordering) : Type 0 where
   pub aseprite_first : cmp Aseprite Astc ≡ Less
@@ -42,14 +42,14 @@ pub record IsListed (cmp : ImageType → ImageType → Ordering) : Type 0 where
   pub tiff_first : cmp Tiff Vtf ≡ Less
   pub vtf_first : cmp Vtf Webp ≡ Less
 
--- and of one type, they are ordered as their kinds are listed
-pub record IsListedByKind (cmp : ImageType → ImageType → Ordering) : Type 0 where
-  pub atc_kinds : (j k : AtcCompression) → cmp (Atc j) (Atc k) ≡ nat_cmp (atc_rank j) (atc_rank k)
-  pub dds_kinds : (j k : DdsCompression) → cmp (Dds j) (Dds k) ≡ nat_cmp (dds_rank j) (dds_rank k)
-  pub eac_kinds : (j k : PkmCompression) → cmp (Eac j) (Eac k) ≡ nat_cmp (pkm_rank j) (pkm_rank k)
-  pub etc2_kinds : (j k : PkmCompression) → cmp (Etc2 j) (Etc2 k) ≡ nat_cmp (pkm_rank j) (pkm_rank k)
-  pub heif_kinds : (j k : Compression) → cmp (Heif j) (Heif k) ≡ nat_cmp (heif_rank j) (heif_rank k)
-  pub pvrtc_kinds : (j k : PvrtcCompression) → cmp (Pvrtc j) (Pvrtc k) ≡ nat_cmp (pvrtc_rank j) (pvrtc_rank k)
+-- and of one type, they are ordered as their compressions are listed
+pub record IsListedByCompression (cmp : ImageType → ImageType → Ordering) : Type 0 where
+  pub atc_compressions : (j k : AtcCompression) → cmp (Atc j) (Atc k) ≡ nat_cmp (atc_rank j) (atc_rank k)
+  pub dds_compressions : (j k : DdsCompression) → cmp (Dds j) (Dds k) ≡ nat_cmp (dds_rank j) (dds_rank k)
+  pub eac_compressions : (j k : PkmCompression) → cmp (Eac j) (Eac k) ≡ nat_cmp (pkm_rank j) (pkm_rank k)
+  pub etc2_compressions : (j k : PkmCompression) → cmp (Etc2 j) (Etc2 k) ≡ nat_cmp (pkm_rank j) (pkm_rank k)
+  pub heif_compressions : (j k : Compression) → cmp (Heif j) (Heif k) ≡ nat_cmp (heif_rank j) (heif_rank k)
+  pub pvrtc_compressions : (j k : PvrtcCompression) → cmp (Pvrtc j) (Pvrtc k) ≡ nat_cmp (pvrtc_rank j) (pvrtc_rank k)
 
 -- the order of the families
 abbrev pub family_rank : CompressionFamily → ℕ

@@ -30,7 +30,7 @@ pub struct Probed {
     pub taken: u64,
 }
 
-/// The type of the image that a slice's first bytes tell, and its kind where the type has several: `Unknown` where the
+/// The type of the image that a slice's first bytes tell, and its compression where the type has several: `Unknown` where the
 /// bytes do not tell it.
 ///
 /// Errors: `NotSupported` where no type has these bytes, and `EndOfInput` under 12 bytes.

@@ -1,6 +1,6 @@
 //! The formats of images, the table that tells them apart, and the size by each.
 ghost use Rattle.std.specs.Prelude.{◌≡◌, length};
-ghost use Rattle.imagesize.specs.Kind.{first_row, kind, rows, with_kind};
+ghost use Rattle.imagesize.specs.Kind.{first_row, kind, rows, with_compression};
 ghost use Rattle.imagesize.specs.Meaning.{size_of};
 ghost use Rattle.imagesize_source.specs.Layout.{over};
 ghost use Rattle.imagesize_source.specs.State.{Runs, Sound};
@@ -31,7 +31,7 @@ pub(crate) fn detect<S: Source>(source: &mut S, place: u64) -> ImageResult<Image
 {
     let head = read_bytes::<S, 12>(source, place)?;
     if let Some(found) = first_row(&head) {
-        return with_kind(source, place, &head, found);
+        return with_compression(source, place, &head, found);
     }
     if tga::matches(source, &head)? {
         return Ok(ImageType::Tga);
@@ -39,7 +39,7 @@ pub(crate) fn detect<S: Source>(source: &mut S, place: u64) -> ImageResult<Image
     Err(ImageError::NotSupported)
 }
 
-// The type of the first row that holds, its kind still unknown. TGA has no signature at its beginning, so it
+// The type of the first row that holds, its compression still unknown. TGA has no signature at its beginning, so it
 // has no row.
 #[inline(always)]
 fn first_row(head: &[u8; 12]) -> Option<ImageType>
@@ -74,10 +74,10 @@ fn first_row(head: &[u8; 12]) -> Option<ImageType>
     })
 }
 
-// The same type, with its kind read where it has several.
+// The same type, with its compression read where it has several.
 #[inline(always)]
-#[tactic(auto, using(imagesize_source::proofs::Runs::steps), unfolding(crate::specs::Kind::with_kind))]
-fn with_kind<S: Source>(
+#[tactic(auto, using(imagesize_source::proofs::Runs::steps), unfolding(crate::specs::Kind::with_compression))]
+fn with_compression<S: Source>(
     source: &mut S,
     place: u64,
     head: &[u8; 12],
@@ -85,7 +85,7 @@ fn with_kind<S: Source>(
 ) -> ImageResult<ImageType>
     requires { Sound (S.state source.old) }
     ensures { Runs (S.state source.old) (S.state source.new) result
-        (over (S.state source.old).held.input (with_kind place head.now found)) }
+        (over (S.state source.old).held.input (with_compression place head.now found)) }
 {
     match found {
         ImageType::Heif(_)
@@ -98,8 +98,8 @@ fn with_kind<S: Source>(
     }
 }
 
-// The type with its kind read, of which it has several.
-#[tactic(auto, using(imagesize_source::proofs::Runs::steps, imagesize_source::proofs::Layouts::binding), unfolding(crate::specs::Kind::with_kind))]
+// The type with its compression read, of which it has several.
+#[tactic(auto, using(imagesize_source::proofs::Runs::steps, imagesize_source::proofs::Layouts::binding), unfolding(crate::specs::Kind::with_compression))]
 fn read_kind<S: Source>(
     source: &mut S,
     place: u64,
@@ -108,7 +108,7 @@ fn read_kind<S: Source>(
 ) -> ImageResult<ImageType>
     requires { Sound (S.state source.old) }
     ensures { Runs (S.state source.old) (S.state source.new) result
-        (over (S.state source.old).held.input (with_kind place head.now found)) }
+        (over (S.state source.old).held.input (with_compression place head.now found)) }
 {
     Ok(match found {
         ImageType::Heif(_) => ImageType::Heif(heif::detect_compression(source, place, head)?),

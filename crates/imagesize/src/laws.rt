@@ -1,7 +1,7 @@
 //! Laws of the comparisons and the hashes of the public types. A law is what the contract of a
 //! function says, and the function itself does nothing.
 ghost use Rattle.imagesize_types.specs.Comparisons.{IsLawfulHash, IsLawfulOrder, RankedBy};
-ghost use Rattle.imagesize.specs.Ranks.{IsListed, IsListedByKind, family_rank};
+ghost use Rattle.imagesize.specs.Ranks.{IsListed, IsListedByCompression, family_rank};
 
 use crate::types::{CompressionFamily, ImageType};
 use imagesize_source::Span;
@@ -11,7 +11,7 @@ fn image_type_laws()
     ensures hash { IsLawfulHash ⟦<ImageType as PartialEq>⟧.eq ⟦<ImageType as Hash>⟧.hash_input }
     ensures order { IsLawfulOrder ⟦<ImageType as Ord>⟧.cmp ⟦<ImageType as PartialOrd>⟧.partial_cmp }
     ensures listed { IsListed ⟦<ImageType as Ord>⟧.cmp }
-    ensures kinds { IsListedByKind ⟦<ImageType as Ord>⟧.cmp }
+    ensures compressions { IsListedByCompression ⟦<ImageType as Ord>⟧.cmp }
 {}
 
 fn compression_family_laws()

@@ -4,9 +4,9 @@ use imagesize_types::compression::{
     AtcCompression, Compression, DdsCompression, PkmCompression, PvrtcCompression,
 };
 
-/// A type of image, with its kind where a type has several.
+/// A type of image, with its compression where a type has several.
 ///
-/// The order of two types is that of the list below, then that of their kinds.
+/// The order of two types is that of the list below, then that of their compressions.
 #[derive(Clone, Copy, Debug, PartialEq, Eq, PartialOrd, Ord, Hash)]
 pub enum ImageType {
     /// Animated sprites of the editor Aseprite.

@@ -33,7 +33,7 @@ use Rattle.imagesize_source.specs.Layout.{Layout, bytes, refuse, done, over, bin
 use Rattle.imagesize_source.specs.Numbers.{number}
 use Rattle.imagesize_source.specs.Reading.{Reads, and_then, onward, bytes_at, bytes_read, number_at, number_read, refuses, end_of_input, faulted}
 use Rattle.imagesize_source.specs.State.{State, Runs, EndedBy, total}
-use Rattle.imagesize_source.proofs.Always.{KindLaws}
+use Rattle.imagesize_source.proofs.Always.{CompressionLaws}
 use Rattle.imagesize_source.proofs.Advances.{Tells, advances}
 use Rattle.imagesize_source.proofs.Spends.{Spends, Onto, chain_onto, left, said_to, spends_then}
 use Rattle.imagesize_source.proofs.PastTheEnd.{bytes_beyond}
@@ -336,11 +336,11 @@ list_saturated all place h = saturated_by (λ p d. chain_at (properties all p) d
     (record { left = omega arith; best = record { is = refl; first = refl; area = refl; found = λ some. absurd (omega arith) }; turn = refl }))
     h
 
--- the kind is read from at most 12 bytes, and is always told
-pub heif_kind : (place : ℕ) (head : List ℕ) → KindLaws 12 (heif_compression place head)
+-- the compression is read from at most 12 bytes, and is always told
+pub heif_compression_laws : (place : ℕ) (head : List ℕ) → CompressionLaws 12 (heif_compression place head)
 unfolding heif_compression
-heif_kind place head =
-    on_test (KindLaws 12) (is_general (four_at 8 head)) _ _ (λ _. record { few = (omega arith, λ _. tt); answers = λ _. tt }) (λ _. record { few = tt; answers = tt })
+heif_compression_laws place head =
+    on_test (CompressionLaws 12) (is_general (four_at 8 head)) _ _ (λ _. record { few = (omega arith, λ _. tt); answers = λ _. tt }) (λ _. record { few = tt; answers = tt })
 
 -- what is seen of an input
 local_bytes : (place k : ℕ) → Local (λ d. bytes_read d place k)

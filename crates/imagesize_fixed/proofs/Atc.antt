@@ -6,15 +6,15 @@ use Rattle.imagesize_fixed.specs.Pkm.{pkm}
 use Rattle.imagesize_fixed.specs.Pvrtc.{pvr2}
 use Rattle.imagesize_source.specs.Counts.{AtMost}
 use Rattle.imagesize_source.specs.Extension.{Plain}
-use Rattle.imagesize_source.proofs.Always.{KindLaws}
+use Rattle.imagesize_source.proofs.Always.{CompressionLaws}
 use Rattle.imagesize_source.proofs.Tests.{on_test}
 use Rattle.imagesize_source.proofs.Way.{FixedLaws}
 
-pub atc_kind : KindLaws 8 atc_compression
+pub atc_compression_laws : CompressionLaws 8 atc_compression
 unfolding atc_compression
-atc_kind = record { few = (omega arith, λ _. tt); answers = λ _. tt }
+atc_compression_laws = record { few = (omega arith, λ _. tt); answers = λ _. tt }
 
--- with the kind, 40 bytes
+-- with the compression, 40 bytes
 pub atc_laws : FixedLaws 20 atc
 atc_laws = record {
   few = (

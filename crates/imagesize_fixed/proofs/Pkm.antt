@@ -1,12 +1,12 @@
 -- PKM files: what is read of them.
 use Rattle.std.proofs.Common.{arith, rules}
 use Rattle.imagesize_fixed.specs.Pkm.{pkm, pkm_compression}
-use Rattle.imagesize_source.proofs.Always.{KindLaws}
+use Rattle.imagesize_source.proofs.Always.{CompressionLaws}
 use Rattle.imagesize_source.proofs.Way.{FixedLaws}
 
-pub pkm_kind : KindLaws 2 pkm_compression
+pub pkm_compression_laws : CompressionLaws 2 pkm_compression
 unfolding pkm_compression
-pkm_kind = record { few = (omega arith, λ _. tt); answers = λ _. tt }
+pkm_compression_laws = record { few = (omega arith, λ _. tt); answers = λ _. tt }
 
 pub pkm_laws : FixedLaws 14 pkm
 pkm_laws = record { few = search rules; plain = search rules }

@@ -93,21 +93,21 @@ type_name_of Tiff = codes "Tiff"
 type_name_of Vtf = codes "Vtf"
 type_name_of Webp = codes "Webp"
 
--- the name of a type's kind, where it has several
-abbrev pub kind_name_of : ImageType → Option (List ℕ)
-kind_name_of (Atc compression) = Some (atc_name_of compression)
-kind_name_of (Dds compression) = Some (dds_name_of compression)
-kind_name_of (Eac compression) = Some (pkm_name_of compression)
-kind_name_of (Etc2 compression) = Some (pkm_name_of compression)
-kind_name_of (Heif compression) = Some (heif_name_of compression)
-kind_name_of (Pvrtc compression) = Some (pvrtc_name_of compression)
-kind_name_of _ = None
+-- the name of a type's compression, where it has several
+abbrev pub compression_name_of : ImageType → Option (List ℕ)
+compression_name_of (Atc compression) = Some (atc_name_of compression)
+compression_name_of (Dds compression) = Some (dds_name_of compression)
+compression_name_of (Eac compression) = Some (pkm_name_of compression)
+compression_name_of (Etc2 compression) = Some (pkm_name_of compression)
+compression_name_of (Heif compression) = Some (heif_name_of compression)
+compression_name_of (Pvrtc compression) = Some (pvrtc_name_of compression)
+compression_name_of _ = None
 
--- a name, and a kind's in parentheses where there is one
+-- a name, and a compression's in parentheses where there is one
 abbrev pub named : List ℕ → Option (List ℕ) → List ℕ
 named name None = name
-named name (Some kind) = name ++ (codes "(" ++ (kind ++ codes ")"))
+named name (Some compression) = name ++ (codes "(" ++ (compression ++ codes ")"))
 
 -- a type as it is printed
 abbrev pub type_text : ImageType → List ℕ
-type_text image = named (type_name_of image) (kind_name_of image)
+type_text image = named (type_name_of image) (compression_name_of image)

@@ -1,14 +1,14 @@
 //! Types of images as they are printed.
 ghost use Rattle.std.specs.Prelude.{◌≡◌, Some};
 ghost use Rattle.std.specs.Option.{option_copied};
-ghost use Rattle.imagesize_probe.specs.Names.{atc_name_of, dds_name_of, heif_name_of, pkm_name_of, pvrtc_name_of, type_name_of, kind_name_of};
+ghost use Rattle.imagesize_probe.specs.Names.{atc_name_of, dds_name_of, heif_name_of, pkm_name_of, pvrtc_name_of, type_name_of, compression_name_of};
 
 use imagesize::{
     AtcCompression, Compression, DdsCompression, ImageType, PkmCompression, PvrtcCompression,
 };
 use std::fmt;
 
-/// A type as it is printed: its name, and in parentheses that of its kind where it has one.
+/// A type as it is printed: its name, and in parentheses that of its compression where it has one.
 #[derive(Clone, Copy)]
 pub struct TypeName(pub ImageType);
 
@@ -19,8 +19,8 @@ impl fmt::Display for TypeName {
 
     fn fmt<W: fmt::Write>(&self, f: &mut fmt::Formatter<W>) -> fmt::Result {
         let name = type_name(self.0);
-        match kind_name(self.0) {
-            Some(kind) => write!(f, "{name}({kind})"),
+        match compression_name(self.0) {
+            Some(compression) => write!(f, "{name}({compression})"),
             None => f.write_str(name),
         }
     }
@@ -59,9 +59,9 @@ fn type_name(image: ImageType) -> &'static str
     }
 }
 
-// The name of a type's kind, where it has several.
-fn kind_name(image: ImageType) -> Option<&'static str>
-    ensures { option_copied result ≡ kind_name_of image }
+// The name of a type's compression, where it has several.
+fn compression_name(image: ImageType) -> Option<&'static str>
+    ensures { option_copied result ≡ compression_name_of image }
 {
     match image {
         ImageType::Atc(compression) => Some(atc_name(compression)),

@@ -1,4 +1,4 @@
--- Layouts that answer whatever they read, as those of the kinds within a type do.
+-- Layouts that answer whatever they read, as those of the compressions within a type do.
 use Rattle.std.proofs.Common.{◌≡◌, ℕ, List, Ok, refl}
 use Rattle.imagesize_source.specs.Counts.{AtMost}
 use Rattle.imagesize_source.specs.Layout.{Layout, done, refuse, field, reading, over, bind}
@@ -30,7 +30,7 @@ always_bind P (reading (AllOf n) place f) g h next = absurd h
 always_bind P (reading (PartOf n) place f) g h next = λ bs. always_bind P (f bs) g (h bs) next
 always_bind P (reading (TextOf t n) place f) g h next = λ bs. always_bind P (f bs) g (h bs) next
 
--- Of what tells a kind within a type: it is read from at most so many bytes, and there is always an answer.
-pub record KindLaws {X : Type 0} (k : ℕ) (t : Layout X) : Type 0 where
+-- Of what tells the compression within a type: it is read from at most so many bytes, and there is always an answer.
+pub record CompressionLaws {X : Type 0} (k : ℕ) (t : Layout X) : Type 0 where
   pub few : AtMost k t
   pub answers : Always (λ _. Unit {0}) t

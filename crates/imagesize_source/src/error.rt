@@ -36,9 +36,9 @@ pub enum Reason {
     InvalidBigTiffHeader,
     /// A TIFF's directory stands at place 0.
     InvalidIfdOffset,
-    /// A TIFF entry has a kind that only BigTIFF knows.
+    /// A TIFF entry has a field type that only BigTIFF knows.
     IfdTypeForStandardTiff,
-    /// A TIFF entry has a kind that no TIFF knows.
+    /// A TIFF entry has a field type that no TIFF knows.
     InvalidIfdType,
     /// The input ends within a TIFF entry's value.
     InvalidIfdValueLength,

@@ -100,7 +100,7 @@ static ROWS: [Row; 25] = [
         ],
     },
     Row {
-        shows: "a height of a kind that carries none, in BigTIFF",
+        shows: "a height of a field type that carries none, in BigTIFF",
         bytes: b"II+\0\x08\0\0\0\x10\0\0\0\0\0\0\0\
             \x02\0\0\0\0\0\0\0\
             \0\x01\x03\0\x01\0\0\0\0\0\0\0\x05\0\0\0\0\0\0\0\
@@ -122,7 +122,7 @@ static ROWS: [Row; 25] = [
         ],
     },
     Row {
-        shows: "a kind of BigTIFF in a TIFF",
+        shows: "a field type of BigTIFF in a TIFF",
         bytes: b"II*\0\x08\0\0\0\
             \x02\0\
             \0\x01\x10\0\x01\0\0\0\x05\0\0\0\
@@ -132,7 +132,7 @@ static ROWS: [Row; 25] = [
         spans: &[(0, 12), (0, 2), (2, 2), (4, 4), (8, 2), (10, 8)],
     },
     Row {
-        shows: "a kind that no TIFF knows",
+        shows: "a field type that no TIFF knows",
         bytes: b"II*\0\x08\0\0\0\
             \x02\0\
             \0\x01\x0E\0\x01\0\0\0\x05\0\0\0\
@@ -360,7 +360,7 @@ static ROWS: [Row; 25] = [
         ],
     },
     Row {
-        shows: "a kind that no TIFF knows, its value cut",
+        shows: "a field type that no TIFF knows, its value cut",
         bytes: b"II*\0\x08\0\0\0\x01\0\0\x01\x0E\0\x01\0\0\0\x05",
         answer: Err("Invalid IFD type"),
         taken: 18,
@@ -552,7 +552,7 @@ fn entries_of_a_big_tiff_have_no_greatest_number(rt: HostRuntime) -> Result<(), 
 }
 
 // The head of a BigTIFF that claims as many entries as it can, and the entries behind it, whose tag is 0 and whose
-// kind is 1.
+// field type is 1.
 const MANY: &[u8] = b"II+\0\x08\0\0\0\x10\0\0\0\0\0\0\0\xFF\xFF\xFF\xFF\xFF\xFF\xFF\xFF";
 
 const NO_SIDE: &[u8] = b"\0\0\x01\0\0\0\0\0\0\0\0\0\0\0\0\0\0\0\0\0";

@@ -1,4 +1,4 @@
-//! Order, copies and hashes of the types, of their kinds and of sizes.
+//! Order, copies and hashes of the types, of their compressions and of sizes.
 
 use imagesize::{
     AtcCompression, Compression, CompressionFamily, DdsCompression, ImageSize, ImageType,
@@ -97,7 +97,7 @@ fn families() -> &'static [CompressionFamily] {
     &FAMILIES
 }
 
-// All types in their order, those of one type in the order of their kinds.
+// All types in their order, those of one type in the order of their compressions.
 fn types(alloc: Global) -> Result<Vec<ImageType>, AllocError> {
     let mut all = Vec::new(alloc);
     all.extend_from_slice(&[ImageType::Aseprite, ImageType::Astc])?;

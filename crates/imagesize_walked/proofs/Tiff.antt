@@ -6,10 +6,10 @@ use Rattle.std.proofs.lemmas.List.{append-nil, length_push}
 use Rattle.std.proofs.lemmas.List.Elements.{filter-append}
 use Rattle.std.specs.Prelude.{filter, option_and_then}
 use Rattle.std.specs.List.{last_or}
-use Rattle.imagesize_walked.specs.Tiff.{accepted, begun_behind, begun_of, byte_order, completed, count_bytes, directory_at, entries_begun, entry_bytes, head_bytes, kind_in, kind_of, last_value, size_in, size_of_sides, stated_place, tag_in, tiff, tiff_directory, tiff_entries, tiff_entry, tiff_head, tiff_header, tiff_value, value_bytes, value_of, version_of, whole_value}
+use Rattle.imagesize_walked.specs.Tiff.{accepted, begun_behind, begun_of, byte_order, completed, count_bytes, directory_at, entries_begun, entry_bytes, head_bytes, field_type_in, field_type_of, last_value, size_in, size_of_sides, stated_place, tag_in, tiff, tiff_directory, tiff_entries, tiff_entry, tiff_head, tiff_header, tiff_value, value_bytes, value_of, version_of, whole_value}
 use Rattle.imagesize_walked.specs.declared.formats.tiff.Entry.{Entry}
 use Rattle.imagesize_walked.specs.declared.formats.tiff.Header.{Header}
-use Rattle.imagesize_walked.specs.declared.formats.tiff.Kind.{Kind}
+use Rattle.imagesize_walked.specs.declared.formats.tiff.FieldType.{FieldType}
 use Rattle.imagesize_walked.specs.declared.formats.tiff.Version.{Version}
 use Rattle.imagesize_walked.specs.declared.formats.tiff.Version.TheVariants.{Tiff, BigTiff}
 use Rattle.imagesize_types.specs.declared.size.ImageSize.{ImageSize}
@@ -63,8 +63,8 @@ head_some Tiff = omega arith
 head_some BigTiff = omega arith
 
 -- what an entry's head and value say
-abbrev entry_of : Header → List ℕ → Kind → List ℕ → Entry
-entry_of header head kind value = record { tag = tag_in header.order head; value = value_of header.order kind value }
+abbrev entry_of : Header → List ℕ → FieldType → List ℕ → Entry
+entry_of header head field_type value = record { tag = tag_in header.order head; value = value_of header.order field_type value }
 
 abbrev says : Header → List Entry → ℕ → Entry → Layout (Said Entry ImageSize)
 says header entries place entry = done (completed (size_in (entries ++ entry ∷ [])) entry (place + entry_bytes header.version))
@@ -73,23 +73,23 @@ says header entries place entry = done (completed (size_in (entries ++ entry ∷
 abbrev record_behind : Header → List Entry → ℕ → Layout (Said Entry ImageSize)
 record_behind header entries place = bind (tiff_entry header place) (says header entries place)
 
--- what holds where a kind is refused and where its value is read
-by_kind : (P : Layout (Said Entry ImageSize) → Type 0) (header : Header) (entries : List Entry) (place : ℕ) (head : List ℕ) → ((e : ImageError) → P (refuse e))
-    → ((kind : Kind) → P (bind (bind (tiff_value header.version (place + head_bytes header.version)) (λ value. done (entry_of header head kind value))) (says header entries place)))
-    → P (bind (accepted (kind_of header.version (kind_in header.order head)) (λ kind. bind (tiff_value header.version (place + head_bytes header.version)) (λ value. done (entry_of header head kind value)))) (says header entries place))
-by_kind P header entries place head out on = by_accepted P (kind_of header.version (kind_in header.order head)) (λ kind. bind (tiff_value header.version (place + head_bytes header.version)) (λ value. done (entry_of header head kind value))) (says header entries place) out on
+-- what holds where a field type is refused and where its value is read
+by_field_type : (P : Layout (Said Entry ImageSize) → Type 0) (header : Header) (entries : List Entry) (place : ℕ) (head : List ℕ) → ((e : ImageError) → P (refuse e))
+    → ((field_type : FieldType) → P (bind (bind (tiff_value header.version (place + head_bytes header.version)) (λ value. done (entry_of header head field_type value))) (says header entries place)))
+    → P (bind (accepted (field_type_of header.version (field_type_in header.order head)) (λ field_type. bind (tiff_value header.version (place + head_bytes header.version)) (λ value. done (entry_of header head field_type value)))) (says header entries place))
+by_field_type P header entries place head out on = by_accepted P (field_type_of header.version (field_type_in header.order head)) (λ field_type. bind (tiff_value header.version (place + head_bytes header.version)) (λ value. done (entry_of header head field_type value))) (says header entries place) out on
 
 by_completed : (P : Layout (Said Entry ImageSize) → Type 0) (size : Option ImageSize) (entry : Entry) (next : ℕ) → ((x : ImageSize) → P (done (Decided x))) → P (done (Next entry next)) → P (done (completed size entry next))
 by_completed P None entry next stop on = on
 by_completed P (Some x) entry next stop on = stop x
 
 -- and where the value is cut, where the entry completes the size and where it does not
-by_value : (P : Layout (Said Entry ImageSize) → Type 0) (header : Header) (entries : List Entry) (place : ℕ) (head : List ℕ) (kind : Kind) (value : List ℕ) → P (refuse (IoError InvalidIfdValueLength))
+by_value : (P : Layout (Said Entry ImageSize) → Type 0) (header : Header) (entries : List Entry) (place : ℕ) (head : List ℕ) (field_type : FieldType) (value : List ℕ) → P (refuse (IoError InvalidIfdValueLength))
     → ((size : ImageSize) → P (done (Decided size))) → ((entry : Entry) → P (done (Next entry (place + entry_bytes header.version))))
-    → P (bind (bind (accepted (whole_value (whole (value_bytes header.version) value)) done) (λ value. done (entry_of header head kind value))) (says header entries place))
-by_value P header entries place head kind value cut stop on =
-    by_whole P (whole (value_bytes header.version) value) (λ value. done (entry_of header head kind value)) (says header entries place) cut
-    (λ value. let entry : Entry = entry_of header head kind value in by_completed P (size_in (entries ++ entry ∷ [])) entry (place + entry_bytes header.version) stop (on entry))
+    → P (bind (bind (accepted (whole_value (whole (value_bytes header.version) value)) done) (λ value. done (entry_of header head field_type value))) (says header entries place))
+by_value P header entries place head field_type value cut stop on =
+    by_whole P (whole (value_bytes header.version) value) (λ value. done (entry_of header head field_type value)) (says header entries place) cut
+    (λ value. let entry : Entry = entry_of header head field_type value in by_completed P (size_in (entries ++ entry ∷ [])) entry (place + entry_bytes header.version) stop (on entry))
 
 -- what holds of each record
 by_count : (P : Layout (Said Entry ImageSize) → Type 0) (header : Header) (count : ℕ) (entries : List Entry) (place : ℕ) → P (refuse (IoError NoDimensionsInIfd)) → P (record_behind header entries place) → P ((tiff_entries header count).said entries place)
@@ -98,8 +98,8 @@ by_count P header count entries place end entry = on_test P (eqb (length entries
 record_tells : (header : Header) (entries : List Entry) (place : ℕ) → Tells (λ p. place < p) (record_behind header entries place)
 unfolding tiff_entry tiff_head tiff_value
 record_tells header entries place = λ head.
-    by_kind (Tells (λ p. place < p)) header entries place (take 4 head) (λ e. tt)
-    (λ kind value. by_value (Tells (λ p. place < p)) header entries place (take 4 head) kind value tt (λ size. tt) (λ entry. omega (arith, head_some header.version)))
+    by_field_type (Tells (λ p. place < p)) header entries place (take 4 head) (λ e. tt)
+    (λ field_type value. by_value (Tells (λ p. place < p)) header entries place (take 4 head) field_type value tt (λ size. tt) (λ entry. omega (arith, head_some header.version)))
 
 record_begins : (header : Header) (entries : List Entry) (place : ℕ) → Begins place (record_behind header entries place)
 unfolding tiff_entry tiff_head
@@ -167,7 +167,7 @@ tiff_start header count a =
 -- no input is so long that an entry stands beyond 64 bits
 entry_beyond : (d : List ℕ) (header : Header) (place : ℕ) → length d ≤ place → over d (tiff_entry header place) ≡ record { answer = Err end_of_input; marks = [] }
 unfolding tiff_entry tiff_head
-entry_beyond d header place h = bytes_beyond d place (head_bytes header.version) (λ head. accepted (kind_of header.version (kind_in header.order (take 4 head))) (λ kind. bind (tiff_value header.version (place + head_bytes header.version)) (λ value. done (entry_of header (take 4 head) kind value)))) h (head_some header.version)
+entry_beyond d header place h = bytes_beyond d place (head_bytes header.version) (λ head. accepted (field_type_of header.version (field_type_in header.order (take 4 head))) (λ field_type. bind (tiff_value header.version (place + head_bytes header.version)) (λ value. done (entry_of header (take 4 head) field_type value)))) h (head_some header.version)
 
 entry_within_64_bits : (d : List ℕ) (header : Header) (place : ℕ) → length d < 2 ^ 63 → (is_within : Bool) → leb place (2 ^ 64 - 1) ≡ is_within → over d (tiff_entry header (min place (2 ^ 64 - 1))) ≡ over d (tiff_entry header place)
 entry_within_64_bits d header place short true within = ap (λ p. over d (tiff_entry header p)) (grind (arith, nat_tests))
@@ -249,8 +249,8 @@ record_at_most header entries place =
     let behind_head : ℕ = 20 - head_bytes header.version in
     let behind_value : ℕ = behind_head - value_bytes header.version in (
       omega (arith, entry_few header.version),
-      λ head. by_kind (AtMost behind_head) header entries place (take 4 head) (λ e. tt)
-          (λ kind. (omega (arith, entry_few header.version), λ value. by_value (AtMost behind_value) header entries place (take 4 head) kind value tt (λ size. tt) (λ entry. tt))),
+      λ head. by_field_type (AtMost behind_head) header entries place (take 4 head) (λ e. tt)
+          (λ field_type. (omega (arith, entry_few header.version), λ value. by_value (AtMost behind_value) header entries place (take 4 head) field_type value tt (λ size. tt) (λ entry. tt))),
     )
 
 record_ahead : (header : Header) (entries : List Entry) (place : ℕ) → Ahead place (record_behind header entries place)
@@ -259,8 +259,8 @@ record_ahead header entries place =
     let behind_head : ℕ = place + head_bytes header.version in
     let behind_value : ℕ = behind_head + value_bytes header.version in (
       omega arith,
-      λ head. by_kind (Ahead behind_head) header entries place (take 4 head) (λ e. tt)
-          (λ kind. (omega arith, λ value. by_value (Ahead behind_value) header entries place (take 4 head) kind value tt (λ size. tt) (λ entry. omega arith))),
+      λ head. by_field_type (Ahead behind_head) header entries place (take 4 head) (λ e. tt)
+          (λ field_type. (omega arith, λ value. by_value (Ahead behind_value) header entries place (take 4 head) field_type value tt (λ size. tt) (λ entry. omega arith))),
     )
 
 entries_within : (header : Header) (count : ℕ) (d : List ℕ) → total (chain_at (tiff_entries header count) d).marks ≤ length d - (header.directory + count_bytes header.version)
@@ -363,10 +363,10 @@ cut_never k value f g short =
 
 record_plain : (header : Header) (entries : List Entry) (place : ℕ) → Plain (record_behind header entries place)
 unfolding tiff_entry tiff_head tiff_value
-record_plain header entries place = λ head. by_kind Plain header entries place (take 4 head) (λ e. tt)
-    (λ kind value. (
-      cut_never (value_bytes header.version) value (λ value. done (entry_of header (take 4 head) kind value)) (says header entries place),
-      by_value Plain header entries place (take 4 head) kind value tt (λ size. tt) (λ entry. tt),
+record_plain header entries place = λ head. by_field_type Plain header entries place (take 4 head) (λ e. tt)
+    (λ field_type value. (
+      cut_never (value_bytes header.version) value (λ value. done (entry_of header (take 4 head) field_type value)) (says header entries place),
+      by_value Plain header entries place (take 4 head) field_type value tt (λ size. tt) (λ entry. tt),
     ))
 
 accepted_plain : {X Y : Type 0} (r : Result X ImageError) (f : X → Layout Y) → ((x : X) → Plain (f x)) → Plain (accepted r f)

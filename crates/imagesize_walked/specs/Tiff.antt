@@ -6,8 +6,8 @@ use Rattle.imagesize_types.specs.Table.{look_up}
 use Rattle.imagesize_types.specs.declared.size.ImageSize.{ImageSize}
 use Rattle.imagesize_walked.specs.declared.formats.tiff.Entry.{Entry}
 use Rattle.imagesize_walked.specs.declared.formats.tiff.Header.{Header}
-use Rattle.imagesize_walked.specs.declared.formats.tiff.Kind.{Kind}
-use Rattle.imagesize_walked.specs.declared.formats.tiff.Kind.TheVariants.{Short, Long, Other}
+use Rattle.imagesize_walked.specs.declared.formats.tiff.FieldType.{FieldType}
+use Rattle.imagesize_walked.specs.declared.formats.tiff.FieldType.TheVariants.{Short, Long, Other}
 use Rattle.imagesize_walked.specs.declared.formats.tiff.Version.{Version}
 use Rattle.imagesize_walked.specs.declared.formats.tiff.Version.TheVariants.{Tiff, BigTiff}
 use Rattle.imagesize_source.specs.declared.error.ImageError.{ImageError}
@@ -61,7 +61,7 @@ abbrev pub count_bytes : Version → ℕ
 count_bytes Tiff = 2
 count_bytes BigTiff = 8
 
--- the head of an entry ("IFD Entry"): its tag, its kind, and how many values it has
+-- the head of an entry ("IFD Entry"): its tag, its field type, and how many values it has
 abbrev pub head_bytes : Version → ℕ
 head_bytes Tiff = 8
 head_bytes BigTiff = 12
@@ -74,30 +74,30 @@ value_bytes BigTiff = 8
 abbrev pub entry_bytes : Version → ℕ
 entry_bytes version = head_bytes version + value_bytes version
 
--- Kinds ("Types"): 1 BYTE, 2 ASCII, 3 SHORT, 4 LONG, 5 RATIONAL, 6 SBYTE, 7 UNDEFINED, 8 SSHORT, 9 SLONG,
+-- Field types ("Types"): 1 BYTE, 2 ASCII, 3 SHORT, 4 LONG, 5 RATIONAL, 6 SBYTE, 7 UNDEFINED, 8 SSHORT, 9 SLONG,
 -- 10 SRATIONAL, 11 FLOAT, 12 DOUBLE, and 13 IFD of the first technical note. All numbers are read without a sign.
-abbrev pub tiff_kinds : List (ℕ × Result Kind ImageError)
-tiff_kinds =
+abbrev pub field_types : List (ℕ × Result FieldType ImageError)
+field_types =
     (1, Ok Other) ∷ (2, Ok Other) ∷ (3, Ok Short) ∷ (4, Ok Long) ∷ (5, Ok Other) ∷ (6, Ok Other) ∷ (7, Ok Other)
     ∷ (8, Ok Short) ∷ (9, Ok Long) ∷ (10, Ok Other) ∷ (11, Ok Long) ∷ (12, Ok Other) ∷ (13, Ok Long) ∷ []
 
 -- those that BigTIFF has besides: 16 LONG8, 17 SLONG8, 18 IFD8
-abbrev pub wide_kinds : Version → List (ℕ × Result Kind ImageError)
-wide_kinds Tiff = (16, Err (IoError IfdTypeForStandardTiff)) ∷ (17, Err (IoError IfdTypeForStandardTiff)) ∷ (18, Err (IoError IfdTypeForStandardTiff)) ∷ []
-wide_kinds BigTiff = (16, Ok Other) ∷ (17, Ok Other) ∷ (18, Ok Other) ∷ []
+abbrev pub wide_field_types : Version → List (ℕ × Result FieldType ImageError)
+wide_field_types Tiff = (16, Err (IoError IfdTypeForStandardTiff)) ∷ (17, Err (IoError IfdTypeForStandardTiff)) ∷ (18, Err (IoError IfdTypeForStandardTiff)) ∷ []
+wide_field_types BigTiff = (16, Ok Other) ∷ (17, Ok Other) ∷ (18, Ok Other) ∷ []
 
-abbrev pub kind_of : Version → ℕ → Result Kind ImageError
-kind_of version kind = look_up (tiff_kinds ++ wide_kinds version) (Err (IoError InvalidIfdType)) kind
+abbrev pub field_type_of : Version → ℕ → Result FieldType ImageError
+field_type_of version field_type = look_up (field_types ++ wide_field_types version) (Err (IoError InvalidIfdType)) field_type
 
--- what stands in the head: first the tag, then the kind
+-- what stands in the head: first the tag, then the field type
 abbrev pub tag_in : Endian → List ℕ → ℕ
 tag_in order head = number order (take 2 head)
 
-abbrev pub kind_in : Endian → List ℕ → ℕ
-kind_in order head = number order (drop 2 head)
+abbrev pub field_type_in : Endian → List ℕ → ℕ
+field_type_in order head = number order (drop 2 head)
 
--- the number that a value's first four bytes begin with, where its kind has one
-abbrev pub value_of : Endian → Kind → List ℕ → Option ℕ
+-- the number that a value's first four bytes begin with, where its field type has one
+abbrev pub value_of : Endian → FieldType → List ℕ → Option ℕ
 value_of order Short value = Some (number order (take 2 value))
 value_of order Long value = Some (number order value)
 value_of order Other value = None
@@ -114,13 +114,13 @@ whole_value (Some value) = Ok (take 4 value)
 unfoldable pub tiff_value : Version → ℕ → Layout (List ℕ)
 tiff_value version place = if_there place (value_bytes version) (λ found. accepted (whole_value found) done)
 
--- an entry: its kind is judged before its value is read
+-- an entry: its field type is judged before its value is read
 unfoldable pub tiff_entry : Header → ℕ → Layout Entry
 tiff_entry header place =
     bind (tiff_head header.version place) (λ head.
-    accepted (kind_of header.version (kind_in header.order head)) (λ kind.
+    accepted (field_type_of header.version (field_type_in header.order head)) (λ field_type.
     bind (tiff_value header.version (place + head_bytes header.version)) (λ value.
-    done (record { tag = tag_in header.order head; value = value_of header.order kind value }))))
+    done (record { tag = tag_in header.order head; value = value_of header.order field_type value }))))
 
 -- the value of the last entry of a tag
 abbrev pub last_value : ℕ → List Entry → Option ℕ

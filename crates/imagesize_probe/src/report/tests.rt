@@ -24,7 +24,7 @@ fn report_bytes(name: &str, bytes: &[u8], written: &mut Vec<u8>) -> io::Result<b
 const GIF: [u8; 12] = *b"GIF89a\x64\0\x64\0\0\0";
 
 #[test]
-fn lines_of_sizes_name_type_and_kind(rt: HostRuntime) -> Result<(), Fail> {
+fn lines_of_sizes_name_type_and_compression(rt: HostRuntime) -> Result<(), Fail> {
     for (name, bytes, line) in [
         ("tiny.gif", GIF.as_slice(), "tiny.gif: Gif 100x100\n"),
         (

@@ -1,6 +1,6 @@
 //! TIFF, by "TIFF Revision 6.0" (section 2), and BigTIFF, by "The BigTIFF File Format".
 ghost use Rattle.std.specs.Prelude.{◌≡◌, ◌+◌, ◌*◌, ◌-◌, ◌^◌, ◌≤◌, ◌==◌, if◌then◌else◌, min, take};
-ghost use Rattle.imagesize_walked.specs.Tiff.{byte_order, count_bytes, directory_at, entry_bytes, head_bytes, is_tiff, kind_in, kind_of, size_of_sides, stated_place, tag_in, tiff, tiff_entries, tiff_entry, tiff_head, tiff_header, tiff_value, value_of, version_of, whole_value};
+ghost use Rattle.imagesize_walked.specs.Tiff.{byte_order, count_bytes, directory_at, entry_bytes, head_bytes, is_tiff, field_type_in, field_type_of, size_of_sides, stated_place, tag_in, tiff, tiff_entries, tiff_entry, tiff_head, tiff_header, tiff_value, value_of, version_of, whole_value};
 ghost use Rattle.imagesize_source.specs.Chain.{chain_at};
 ghost use Rattle.imagesize_source.specs.Layout.{if_there, over};
 ghost use Rattle.imagesize_source.specs.Layout.Layout.{«done»};
@@ -197,7 +197,7 @@ fn entry_bytes(version: Version) -> u64
     }
 }
 
-// What an entry says: its tag, and its value where its kind has one that a side can be.
+// What an entry says: its tag, and its value where its field type has one that a side can be.
 #[derive(Clone, Copy)]
 struct Entry {
     tag: u16,
@@ -226,7 +226,7 @@ fn size_of_sides(width: Option<u32>, height: Option<u32>) -> Option<ImageSize>
     }
 }
 
-// The entry at a place. Its kind is judged before its value is read.
+// The entry at a place. Its field type is judged before its value is read.
 #[inline(always)]
 #[tactic(auto, using(imagesize_source::proofs::Runs::steps, imagesize_source::proofs::Layouts::binding), unfolding(crate::specs::Tiff::tiff_entry))]
 fn read_entry<S: Source>(source: &mut S, header: &Header, place: u64) -> ImageResult<Entry>
@@ -234,11 +234,11 @@ fn read_entry<S: Source>(source: &mut S, header: &Header, place: u64) -> ImageRe
         (over (S.state source.old).held.input (tiff_entry header.now place)) }
 {
     let head = read_head(source, header.version, place)?;
-    let kind = kind_of(header.version, kind_in(header.order, head))?;
+    let field_type = field_type_of(header.version, field_type_in(header.order, head))?;
     let value = read_value(source, header.version, place)?;
     Ok(Entry {
         tag: tag_in(header.order, head),
-        value: value_of(header.order, kind, value),
+        value: value_of(header.order, field_type, value),
     })
 }
 
@@ -322,16 +322,16 @@ fn tag_in(order: Endian, head: [u8; 4]) -> u16
 }
 
 #[inline(always)]
-fn kind_in(order: Endian, head: [u8; 4]) -> u16
-    ensures { result ≡ kind_in order head }
+fn field_type_in(order: Endian, head: [u8; 4]) -> u16
+    ensures { result ≡ field_type_in order head }
 {
     let [_, _, first, second] = head;
     number_of_two(order, [first, second])
 }
 
-// What an entry's value is, by its kind.
+// What an entry's value is, by its field type.
 #[derive(Clone, Copy)]
-enum Kind {
+enum FieldType {
     // A number of two bytes.
     Short,
     // A number of four bytes.
@@ -340,16 +340,16 @@ enum Kind {
     Other,
 }
 
-// What the value of a kind is. Three kinds are those of BigTIFF alone.
+// What the value of a field type is. Three field types are those of BigTIFF alone.
 #[inline(always)]
-fn kind_of(version: Version, kind: u16) -> ImageResult<Kind>
-    ensures { result ≡ kind_of version kind }
+fn field_type_of(version: Version, field_type: u16) -> ImageResult<FieldType>
+    ensures { result ≡ field_type_of version field_type }
 {
-    match (kind, version) {
-        (3 | 8, _) => Ok(Kind::Short),
-        (4 | 9 | 11 | 13, _) => Ok(Kind::Long),
-        (1 | 2 | 5 | 6 | 7 | 10 | 12, _) => Ok(Kind::Other),
-        (16..=18, Version::BigTiff) => Ok(Kind::Other),
+    match (field_type, version) {
+        (3 | 8, _) => Ok(FieldType::Short),
+        (4 | 9 | 11 | 13, _) => Ok(FieldType::Long),
+        (1 | 2 | 5 | 6 | 7 | 10 | 12, _) => Ok(FieldType::Other),
+        (16..=18, Version::BigTiff) => Ok(FieldType::Other),
         (16..=18, Version::Tiff) => Err(ImageError::IoError(Reason::IfdTypeForStandardTiff)),
         _ => Err(ImageError::IoError(Reason::InvalidIfdType)),
     }
@@ -357,14 +357,14 @@ fn kind_of(version: Version, kind: u16) -> ImageResult<Kind>
 
 // The number that the first four bytes of a value begin with.
 #[inline(always)]
-fn value_of(order: Endian, kind: Kind, value: [u8; 4]) -> Option<u32>
-    ensures { result ≡ value_of order kind value }
+fn value_of(order: Endian, field_type: FieldType, value: [u8; 4]) -> Option<u32>
+    ensures { result ≡ value_of order field_type value }
 {
     let [first, second, _, _] = value;
-    match kind {
-        Kind::Short => Some(number_of_two(order, [first, second]) as u32),
-        Kind::Long => Some(number_of_four(order, value)),
-        Kind::Other => None,
+    match field_type {
+        FieldType::Short => Some(number_of_two(order, [first, second]) as u32),
+        FieldType::Long => Some(number_of_four(order, value)),
+        FieldType::Other => None,
     }
 }
 
