@@ -6,8 +6,9 @@ use Rattle.imagesize_source.specs.declared.error.ImageError.{ImageError}
 use Rattle.imagesize_source.specs.Input.{span_at, span_of}
 use Rattle.imagesize_source.specs.Layout.{Layout, bytes, over}
 use Rattle.imagesize_source.specs.Reading.{bytes_at, number_at, number_read, refuses, end_of_input}
-use Rattle.imagesize_source.specs.State.{State, Runs}
+use Rattle.imagesize_source.specs.State.{State, Sound, Runs, past}
 use Rattle.imagesize_source.proofs.Layouts.{runs_as}
+use Rattle.imagesize_source.proofs.Runs.{past-none}
 
 -- such a reading has no span
 span_beyond : (d : List ℕ) (place k : ℕ) → length d ≤ place → span_of d place k ≡ []
@@ -35,3 +36,19 @@ number_within_64_bits d order place k short some false beyond = number_beyond d 
 -- no input is so long that a number stands beyond 64 bits
 pub number_saturated : {a b : State} {r : Result ℕ ImageError} (order : Endian) (place k : ℕ) → 0 < k → Runs a b r (number_read a.held.input order (min place (2 ^ 64 - 1)) k) → Runs a b r (number_read a.held.input order place k)
 number_saturated {a} order place k some h = runs_as (number_read a.held.input order place k) h (λ honest. number_within_64_bits a.held.input order place k (h.sound honest).1 some (leb place (2 ^ 64 - 1)) refl)
+
+-- a number that would stand beyond 64 bits is refused with no reading
+pub number_refused : {a : State} (order : Endian) (place k : ℕ) → Sound a → 2 ^ 64 ≤ place → 0 < k → Runs {X = ℕ} a a (Err end_of_input) (number_read a.held.input order place k)
+number_refused {a} order place k sound beyond some =
+    let gone = λ (honest : a.held.honest ≡ true). number_beyond a.held.input order place k (omega (arith, (sound honest).1, beyond)) some in
+    record {
+      sound = sound;
+      sound_after = sound;
+      frame = refl;
+      taken = omega arith;
+      within = λ honest. omega arith;
+      answer = λ honest goes_on. ap (λ q. q.answer) (gone honest);
+      state = λ honest goes_on. sym (past-none a) ∙ ap (λ q. past a q.marks) (sym (gone honest));
+      fault = λ honest faults. absurd cc;
+      ended = record { budget = tt; memory = λ e. absurd cc };
+    }
