@@ -66,14 +66,17 @@ impl<R: Told> Source for ReaderSource<'_, R> {
 
     #[inline(always)]
     fn read_at(&mut self, place: u64, room: &mut [u8]) -> ImageResult<usize> {
-        read_on(
+        match read_on(
             self.reader,
             &mut self.progress,
             &mut self.window,
             &mut self.present,
             place,
             room,
-        )
+        ) {
+            Ok(count) => Ok(count),
+            Err(halt) => refused(halt, &self.progress),
+        }
     }
 
     fn read_text(&mut self, place: u64, text: Text, room: &mut [u8]) -> ImageResult<usize> {
@@ -256,8 +259,29 @@ fn fill<R: Told>(reader: &mut R, progress: &mut Progress, room: &mut [u8]) -> Re
     if count == room.len() || count == 0 {
         return Ok(count);
     }
-    let rest = fill_rest(reader, progress, &mut room[count..])?;
+    let rest = fill_behind(reader, progress, &mut room[count..])?;
     Ok(count + rest)
+}
+
+// The same as `fill_rest`. Inlined, so that the room of its answer is made there alone.
+#[inline(always)]
+fn fill_behind<R: Told>(
+    reader: &mut R,
+    progress: &mut Progress,
+    room: &mut [u8],
+) -> Result<usize, Halt>
+    ensures bound { IfOk result (λ n. n ≤ length room.new) }
+    ensures stand { GivesAll (stand (R.telling reader.old) progress.old)
+        (stand (R.telling reader.new) progress.new) room.new (named progress.new result) }
+    ensures taken { IfOk result (λ n. progress.new.taken ≡ progress.old.taken + n) }
+    ensures within { IfSome (stand (R.telling reader.old) progress.old)
+        (λ s. progress.new.taken ≤ progress.old.taken + min (length room.new) (length s.bytes - s.place)) }
+    ensures since { since (R.count reader.new) progress.new.taken ≡ since (R.count reader.old) progress.old.taken }
+    ensures keeps { Keeps progress.old progress.new }
+    ensures stops { IfErr (named progress.new result) (StopsBy progress.new) }
+{
+    let count = fill_rest(reader, progress, room)?;
+    Ok(count)
 }
 
 // Reads on until the room is full or the bytes end, one read after another.
@@ -417,7 +441,7 @@ fn read_on<R: Told>(
     present: &mut u64,
     place: u64,
     room: &mut [u8],
-) -> ImageResult<usize>
+) -> Result<usize, Halt>
     ensures bound { IfOk result (λ n. n ≤ length room.new) }
     ensures ends { progress.old.told < place → place ≢ present.old → (result ≡ Ok 0) × (reader.new ≡ reader.old)
         × (present.new ≡ present.old) }
@@ -429,17 +453,13 @@ fn read_on<R: Told>(
     ensures runs { (home : ℕ) → Runs
         (reader_state (R.telling reader.old) (R.count reader.old) home progress.old window.old.items)
         (reader_state (R.telling reader.new) (R.count reader.new) home progress.new window.new.items)
-        (seen (λ n. take n room.new) result)
+        (seen (λ n. take n room.new) (named progress.new result))
         (part_read (held_at (stand (R.telling reader.old) progress.old) window.old.items).input place (length room.new)) }
 {
     if place > progress.told && place != *present {
         return Ok(0);
     }
-    match read_windowed(reader, progress, window, place, room) {
-        Ok(count) => {
-            *present = place.saturating_add(count as u64);
-            Ok(count)
-        }
-        Err(halt) => refused(halt, progress),
-    }
+    let count = read_windowed(reader, progress, window, place, room)?;
+    *present = place.saturating_add(count as u64);
+    Ok(count)
 }

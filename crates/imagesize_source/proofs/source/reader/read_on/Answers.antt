@@ -1,3 +1,5 @@
+use Rattle.std.proofs.Common.{◌≡◌, ℕ, Result, Err, rules}
+use Rattle.imagesize_source.specs.declared.source.reader.Halt.{Halt}
 use Rattle.imagesize_source.proofs.Windows.{behind_end, told_by}
 use Rattle.imagesize_source.proofs.source.reader.read_on.Goals as goal
 
@@ -6,5 +8,7 @@ returns-then-place-present-clause-runs g c = λ home.
     let told = told_by (g.R.Told.count c.args.reader.now) home (g.R.Told.telling c.args.reader.now) c.args.progress.now in
     behind_end _ _ _ _ _ told c.if-place-progress.true
 
-pub returns-in-Err-clause-runs : goal.returns-in-Err-clause-runs
-returns-in-Err-clause-runs g c = λ home. rw c.refused.ensures (c.in-Err.ensures.runs home)
+pub returns-in_err-count-clause-runs : goal.returns-in_err-count-clause-runs
+returns-in_err-count-clause-runs g c = λ home.
+    let is : ◌≡◌ {A = Result ℕ Halt} c.from_residual.result (Err c.in_err-count.field-0.0) = search rules in
+    rw is (c.in_err-count.ensures.runs home)
