@@ -28,7 +28,7 @@ use Rattle.imagesize_source.specs.declared.util.Endian.TheVariants.{Big}
 use Rattle.imagesize_source.specs.Agreement.{Local}
 use Rattle.imagesize_source.specs.Chain.{Said, Decided, Next, Advances, start, verdict, records, chain_from, chain_at}
 use Rattle.imagesize_source.specs.Counts.{AtMost}
-use Rattle.imagesize_source.specs.Input.{part, span_of}
+use Rattle.imagesize_source.specs.Input.{span_of}
 use Rattle.imagesize_source.specs.Layout.{Layout, bytes, refuse, done, over, bind, whole}
 use Rattle.imagesize_source.specs.Numbers.{number}
 use Rattle.imagesize_source.specs.Reading.{Reads, and_then, onward, bytes_at, bytes_read, number_at, number_read, refuses, end_of_input, faulted}
