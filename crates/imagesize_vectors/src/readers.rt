@@ -34,6 +34,47 @@ impl<R: Told> Told for OneByte<R> {
     }
 }
 
+/// Gives what another reader gives, in pieces of lengths that are listed, over and over.
+#[derive(Drop)]
+pub struct Cutting<'a, R: Told> {
+    /// The other reader.
+    pub reader: R,
+    /// How many bytes a read gives at most; one where this is none.
+    pub lengths: &'a [usize],
+    /// Which of them is next; behind the last one a read gives one byte.
+    pub next: usize,
+}
+
+impl<R: Told> Told for Cutting<'_, R> {
+    ghost telling = { λ r. R.telling r.reader };
+
+    ghost count = { λ r. R.count r.reader };
+
+    fn read_told(&mut self, room: &mut [u8]) -> Result<usize, Stop>
+        ensures bound { IfOk result (λ n. n ≤ length room.new) }
+        ensures told { ReadTells (R.telling self.old.reader) (R.telling self.new.reader) room.new result }
+        ensures counts { R.count self.new.reader ≡ counted (R.count self.old.reader) result }
+        ensures cuts { (most : ℕ) → slice_get self.old.lengths.now self.old.next ≡ Some most → 0 < most
+            → IfOk result (λ n. n ≤ most) }
+    {
+        let most = match self.lengths.get(self.next) {
+            Some(length) => {
+                self.next = self.next.saturating_add(1);
+                room.len().min((*length).max(1))
+            }
+            None => {
+                self.next = 0;
+                room.len().min(1)
+            }
+        };
+        self.reader.read_told(&mut room[..most])
+    }
+
+    fn seek_told(&mut self, to: SeekFrom) -> io::Result<u64> {
+        self.reader.seek_told(to)
+    }
+}
+
 /// Gives what another reader gives, and counts its bytes.
 #[derive(Drop)]
 pub struct Counting<'a, R: Told> {
