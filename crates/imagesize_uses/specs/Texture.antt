@@ -1,0 +1,18 @@
+-- What a texture is that can be loaded.
+use Rattle.std.specs.Prelude.{◌≡◌, ℕ, ◌≤◌, List, Some, Ok, IsTrue, IsOkAnd}
+use Rattle.std.specs.Int.{is_power_of_two}
+use Rattle.imagesize.specs.Meaning.{kind_of, meaning}
+use Rattle.imagesize.specs.Queries.{family_of}
+use Rattle.imagesize.specs.declared.types.CompressionFamily.{CompressionFamily}
+use Rattle.imagesize_types.specs.declared.size.ImageSize.{ImageSize}
+
+-- each side is a power of two, of at most so many pixels
+pub record HasSides (most : ℕ) (size : ImageSize) : Type 0 where
+  pub width : IsTrue (is_power_of_two size.width) × (size.width ≤ most)
+  pub height : IsTrue (is_power_of_two size.height) × (size.height ≤ most)
+
+-- the bytes are a texture of this family and this size, which has such sides
+pub record IsTexture (d : List ℕ) (family : CompressionFamily) (most : ℕ) (found : ImageSize) : Type 0 where
+  pub compression : IsOkAnd (kind_of d 0).answer (λ type. family_of type ≡ Some family)
+  pub size : (meaning d 0).answer ≡ Ok found
+  pub sides : HasSides most found
