@@ -6,8 +6,9 @@ use Rattle.imagesize_source.specs.declared.error.ImageError.{ImageError}
 use Rattle.imagesize_source.specs.Layout.{Layout, bytes, over, if_there, whole}
 use Rattle.imagesize_source.specs.Layout.Layout.{«done»}
 use Rattle.imagesize_source.specs.Reading.{Reads, bytes_at, bytes_read, number_at, number_read, part_read, gives, refuses, end_of_input}
-use Rattle.imagesize_source.specs.State.{State, Runs}
+use Rattle.imagesize_source.specs.State.{State, Sound, Runs, past}
 use Rattle.imagesize_source.proofs.Layouts.{no_part, no_span, runs_as}
+use Rattle.imagesize_source.proofs.Runs.{past-none}
 
 -- Readings that are the same at every place beyond the end: no input is so long that a place beyond 64 bits is within it.
 pub saturated_by : {X : Type 0} {a b : State} {r : Result X ImageError} (f : ℕ → List ℕ → Reads X) (other : Reads X) (place : ℕ) → ((d : List ℕ) (p : ℕ) → length d ≤ p → f p d ≡ other) → Runs a b r (f (min place (2 ^ 64 - 1)) a.held.input) → Runs a b r (f place a.held.input)
@@ -50,3 +51,19 @@ bytes_saturated place k some h = saturated_by (λ p d. bytes_read d p k) (refuse
 
 pub number_saturated : {a b : State} {r : Result ℕ ImageError} (order : Endian) (place k : ℕ) → 0 < k → Runs a b r (number_read a.held.input order (min place (2 ^ 64 - 1)) k) → Runs a b r (number_read a.held.input order place k)
 number_saturated order place k some h = saturated_by (λ p d. number_read d order p k) (refuses end_of_input) place (λ d p far. number_beyond d order p k far some) h
+
+-- a number that would stand beyond 64 bits is refused with no reading
+pub number_refused : {a : State} (order : Endian) (place k : ℕ) → Sound a → 2 ^ 64 ≤ place → 0 < k → Runs {X = ℕ} a a (Err end_of_input) (number_read a.held.input order place k)
+number_refused {a} order place k sound beyond some =
+    let gone = λ (honest : a.held.honest ≡ true). number_beyond a.held.input order place k (omega (arith, (sound honest).1, beyond)) some in
+    record {
+      sound = sound;
+      sound_after = sound;
+      frame = refl;
+      taken = omega arith;
+      within = λ honest. omega arith;
+      answer = λ honest goes_on. ap (λ q. q.answer) (gone honest);
+      state = λ honest goes_on. sym (past-none a) ∙ ap (λ q. past a q.marks) (sym (gone honest));
+      fault = λ honest faults. absurd cc;
+      ended = record { budget = tt; memory = λ e. absurd cc };
+    }

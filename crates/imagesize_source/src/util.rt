@@ -1,7 +1,7 @@
 //! Bytes and numbers of both byte orders.
 ghost use Rattle.std.specs.Prelude.{◌≡◌, ◌+◌, ◌^◌, ◌<◌, ◌≤◌, IfOk, IfErr, IfSome};
 ghost use Rattle.imagesize_source.specs.Paying.{Paid};
-ghost use Rattle.imagesize_source.specs.Reading.{bytes_read, end_of_input, number_read};
+ghost use Rattle.imagesize_source.specs.Reading.{bytes_read, end_of_input, number_read, seen};
 ghost use Rattle.imagesize_source.specs.Layout.{Layout, over, if_there};
 ghost use Rattle.imagesize_source.specs.Layout.Layout.{«done»};
 ghost use Rattle.imagesize_source.specs.State.{Runs};
@@ -28,6 +28,23 @@ pub fn read_bytes<S: Source, const N: usize>(source: &mut S, place: u64) -> Imag
     match source.read_at(place, &mut room) {
         Ok(count) if count >= N => Ok(room),
         Ok(_) => Err(ImageError::IoError(Reason::EndOfInput)),
+        Err(error) => Err(error),
+    }
+}
+
+/// Fills the room with the bytes from a place on.
+#[inline(always)]
+#[tactic(auto, using(crate::proofs::Runs::bytes_there, crate::proofs::Runs::bytes_missing))]
+pub fn read_into<S: Source, const N: usize>(
+    source: &mut S,
+    place: u64,
+    room: &mut [u8; N],
+) -> ImageResult<()>
+    ensures { Runs (S.state source.old) (S.state source.new) (seen (λ _. room.new) result) (bytes_read (S.state source.old).held.input place N) }
+{
+    match source.read_at(place, room) {
+        Ok(count) if count < N => Err(ImageError::IoError(Reason::EndOfInput)),
+        Ok(_) => Ok(()),
         Err(error) => Err(error),
     }
 }
@@ -101,6 +118,7 @@ pub fn read_u16<S: Source>(source: &mut S, place: u64, endian: Endian) -> ImageR
 /// The number of the two bytes that stand so far behind a place. A place above 2^64 - 1 is behind the end of
 /// every input.
 #[inline(always)]
+#[tactic(auto, using(crate::proofs::PastTheEnd::number_refused))]
 pub fn read_u16_behind<S: Source>(
     source: &mut S,
     place: u64,
@@ -109,7 +127,14 @@ pub fn read_u16_behind<S: Source>(
 ) -> ImageResult<u16>
     ensures { Runs (S.state source.old) (S.state source.new) result (number_read (S.state source.old).held.input endian (place + distance) 2) }
 {
-    read_u16(source, place.saturating_add(distance), endian)
+    match place_behind(place, distance) {
+        Ok(next) => read_u16(source, next, endian),
+        Err(error) => {
+            // The proof needs that the input is not so long.
+            let _told = source.told();
+            Err(error)
+        }
+    }
 }
 
 /// The place so far behind another. One above 2^64 - 1 is behind the end of every input.
@@ -118,10 +143,11 @@ pub fn place_behind(place: u64, distance: u64) -> ImageResult<u64>
     ensures next { IfOk result (λ next. (next ≡ place + distance) × (next < 2 ^ 64)) }
     ensures beyond { IfErr result (λ e. (e ≡ end_of_input) × (2 ^ 64 ≤ place + distance)) }
 {
-    match place.checked_add(distance) {
-        Some(next) => Ok(next),
-        None => Err(ImageError::IoError(Reason::EndOfInput)),
+    let next = place.wrapping_add(distance);
+    if next < place {
+        return Err(ImageError::IoError(Reason::EndOfInput));
     }
+    Ok(next)
 }
 
 /// The number of the three bytes from a place on.

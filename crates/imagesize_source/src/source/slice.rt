@@ -51,11 +51,15 @@ pub(crate) fn copy_part(bytes: &[u8], place: u64, room: &mut [u8]) -> usize
     ensures count { result ≡ min (length room.old) (length bytes.now - place) }
     ensures copied { room.new ≡ part bytes.now place (length room.old) ++ drop result room.old }
 {
-    let start = (place as usize).min(bytes.len());
+    let start = place as usize;
+    if start > bytes.len() {
+        return 0;
+    }
+    let count = room.len();
     let rest = &bytes[start..];
-    if let Some(front) = rest.get(..room.len()) {
-        room.copy_from_slice(front);
-        return room.len();
+    if count <= rest.len() {
+        room.copy_from_slice(&rest[..count]);
+        return count;
     }
     room[..rest.len()].copy_from_slice(rest);
     rest.len()

@@ -42,7 +42,7 @@ enum Segment {
     // The size, by the frame of the image itself.
     Frame(ImageSize),
     // Nothing of the size. The next segment stands so many bytes behind the marker.
-    Other { marker: u8, length: u16 },
+    Other { marker: u8, length: u32 },
 }
 
 // What a marker is to the image itself.
@@ -96,7 +96,7 @@ fn read_segment<S: Source>(source: &mut S, place: u64, depth: u64) -> ImageResul
         Role::End => return Err(ImageError::CorruptedImage),
         Role::Other => {}
     }
-    let length = read_u16_behind(source, place, 2, Endian::Big)?;
+    let length = read_u16_behind(source, place, 2, Endian::Big)? as u32;
     Ok(Segment::Other { marker, length })
 }
 

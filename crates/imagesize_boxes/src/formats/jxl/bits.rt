@@ -17,6 +17,7 @@ pub(super) struct Bits {
 
 impl Bits {
     // The bits of the first bytes of a codestream, so many of these. Behind them stand bits that are none of theirs.
+    #[inline(always)]
     #[tactic(auto, using(crate::proofs::Fields::little_16))]
     pub(super) fn of(bytes: &[u8; MOST], len: usize) -> Bits
         requires { len ≤ 16 }
@@ -30,6 +31,7 @@ impl Bits {
     }
 
     // The number of so many bits from one on.
+    #[inline(always)]
     pub(super) fn field(&self, from: u32, count: u32) -> ImageResult<u32>
         requires some { 0 < count }
         requires few { count ≤ 30 }
@@ -46,7 +48,7 @@ impl Bits {
 }
 
 // The lowest 64 bits.
-#[inline]
+#[inline(always)]
 #[tactic(auto, using(crate::proofs::Fields::low_mask))]
 fn lowest_64(number: u128) -> u64
     ensures { result ≡ number % 2 ^ 64 }

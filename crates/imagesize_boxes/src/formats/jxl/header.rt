@@ -16,6 +16,7 @@ pub(super) struct Side {
 }
 
 // The size by the first bytes of a codestream, so many of these.
+#[inline(always)]
 pub(super) fn codestream_size(bytes: &[u8; MOST], len: usize) -> ImageResult<ImageSize>
     requires { len ≤ 16 }
     ensures { result ≡ jxl_size (take len bytes.now) }
@@ -39,6 +40,7 @@ pub(super) fn has_signature(bytes: &[u8]) -> bool
 }
 
 // The size as an image is shown.
+#[inline(always)]
 #[tactic(auto, using(crate::proofs::Fields::fields))]
 fn header_size(bits: &Bits) -> ImageResult<ImageSize>
     ensures { result ≡ found_in bits.now.number bits.now.count jxl_header }
@@ -51,6 +53,7 @@ fn header_size(bits: &Bits) -> ImageResult<ImageSize>
 }
 
 // A side whose field begins at a bit.
+#[inline(always)]
 fn read_side(bits: &Bits, small: bool, from: u32) -> ImageResult<Side>
     requires { from ≤ 100 }
     ensures found { result ≡ found_in bits.now.number bits.now.count (side small from) }
@@ -73,6 +76,7 @@ fn read_side(bits: &Bits, small: bool, from: u32) -> ImageResult<Side>
 }
 
 // How many bits a side has, by its selector.
+#[inline(always)]
 fn side_bits(selector: u32) -> u32
     ensures is { result ≡ side_bits selector }
     ensures some { 0 < result }
@@ -87,6 +91,7 @@ fn side_bits(selector: u32) -> u32
 }
 
 // The width, by its ratio to the height or as a side of its own.
+#[inline(always)]
 fn read_width(bits: &Bits, small: bool, height: &Side) -> ImageResult<Side>
     requires length { height.now.length ≤ 2 ^ 30 }
     requires end { height.now.end ≤ 60 }
@@ -105,6 +110,7 @@ fn read_width(bits: &Bits, small: bool, height: &Side) -> ImageResult<Side>
 }
 
 // The width that has a ratio to the height.
+#[inline(always)]
 fn width_by(ratio: u32, height: u64) -> u64
     requires { height ≤ 2 ^ 30 }
     ensures is { result ≡ width_by ratio height }
@@ -122,6 +128,7 @@ fn width_by(ratio: u32, height: u64) -> u64
 }
 
 // Whether the orientation exchanges width and height.
+#[inline(always)]
 fn read_exchanged(bits: &Bits, from: u32) -> ImageResult<bool>
     requires { from ≤ 100 }
     ensures { result ≡ found_in bits.now.number bits.now.count (exchanged from) }
@@ -133,6 +140,7 @@ fn read_exchanged(bits: &Bits, from: u32) -> ImageResult<bool>
 }
 
 // The size of an image of these sides, which are exchanged or not.
+#[inline(always)]
 fn size_of_sides(exchanged: bool, width: u64, height: u64) -> ImageSize
     ensures { result ≡ size_of_sides exchanged width height }
 {
