@@ -46,7 +46,8 @@ pub fn run<O: Open, W: Write, E: Write>(
     output: &mut W,
     errors: &mut E,
 ) -> io::Result<u8>
-    ensures runs { IfOk result (RunsWith (O.known opener.old) (map string_bytes arguments.now) (W.contents output.old) (W.contents output.new)) }
+    ensures runs { IfOk result
+        (RunsWith (O.known opener.old) (map string_bytes arguments.now) (W.contents output.old) (W.contents output.new)) }
 
     // Where none is named, no output fails it; and where one is, nothing is written to the other output.
     ensures unnamed { length (names_in (map string_bytes arguments.now)) ≡ 0 → result ≡ Ok 2 }
@@ -80,7 +81,8 @@ fn write_lines<O: Open, W: Write>(
     opener: &mut O,
     output: &mut W,
 ) -> io::Result<bool>
-    ensures lines { IfOk result (WritesAll spans (O.known opener.old) (map string_bytes names.now) (W.contents output.old) (W.contents output.new)) }
+    ensures lines { IfOk result
+        (WritesAll spans (O.known opener.old) (map string_bytes names.now) (W.contents output.old) (W.contents output.new)) }
     ensures none { length names.now ≡ 0 → IsOk result }
 {
     let mut refused = false;
