@@ -8,7 +8,7 @@ use imagesize::{ImageSize, ImageType, blob_size, image_type};
 
 /// The size in pixels of the image in a file, by the file's first bytes; none where more bytes are needed to tell it.
 ///
-/// HEIF, icons and TGA have parts that stand anywhere, so their sizes are told by no front.
+/// Bytes that follow may change the size of a HEIF, an icon and a TGA, so no front tells theirs.
 pub fn size_by_front(front: &[u8]) -> Option<ImageSize>
     // A size is that of the file, whatever bytes follow.
     ensures stays { IfSome result (λ size. (rest : List ℕ) → (meaning (front.now ++ rest) 0).answer ≡ Ok size) }

@@ -25,6 +25,8 @@ pub struct Admission {
 }
 
 /// Admits the image in a reader's bytes where it has a size of at most so many pixels.
+///
+/// The reader stands at an unstated place then, and may be used again.
 pub fn admit<R: Told>(reader: &mut R, most_pixels: u64) -> Admission
     ensures admits { Admits (R.telling reader.old) most_pixels result }
 
@@ -82,7 +84,7 @@ impl<R: Told> Told for Limited<'_, R> {
 }
 
 /// Admits as `admit` does an upload that is said to be so many bytes long, and takes no more than these and 64,
-/// whatever the reader does.
+/// whatever the reader does. Where it gives more and the size was not found in these, the refusal is a fault.
 pub fn admit_within<R: Told>(reader: &mut R, length: u64, most_pixels: u64) -> Admission
     ensures admits { Admits (may_fail (R.telling reader.old)) most_pixels result }
 

@@ -4,7 +4,7 @@ ghost use Rattle.std.specs.Option.{option_copied};
 ghost use Rattle.std.specs.Int.{is_power_of_two};
 ghost use Rattle.imagesize.specs.Meaning.{kind_of};
 ghost use Rattle.imagesize.specs.Queries.{container_of};
-ghost use Rattle.imagesize_uses.specs.Texture.{HasSides, IsTexture};
+ghost use Rattle.imagesize_uses.specs.Texture.{HasSides, IsFlaw, IsTexture};
 ghost use Rattle.imagesize_types.specs.declared.size.ImageSize.{ImageSize};
 
 use imagesize::{CompressionFamily, ImageError, ImageSize, ImageType, blob_size, image_type};
@@ -41,6 +41,8 @@ pub struct Texture {
 
 /// The texture that a file's bytes hold, where it is compressed as is wanted and each of its sides is a power of two
 /// of at most so many pixels.
+///
+/// Errors: the first flaw of the type, of its compression, of the size and of the sides.
 pub fn check_texture(
     data: &[u8],
     family: CompressionFamily,
@@ -51,8 +53,9 @@ pub fn check_texture(
     ensures container { IfOk result (λ texture.
         IfOk (kind_of «data».now 0).answer (λ type. option_copied texture.container ≡ container_of type)) }
 
-    // What is refused is not.
-    ensures flaw { IfErr result (λ _. (size : ImageSize) → IsTexture «data».now family most_side size → ⊥) }
+    // What is refused is none, and the flaw is so.
+    ensures flaw { IfErr result (IsFlaw «data».now family most_side) }
+    ensures none { IfErr result (λ _. (size : ImageSize) → IsTexture «data».now family most_side size → ⊥) }
 {
     let kind = image_type(data)?;
     if kind.compression_family() != Some(family) {
