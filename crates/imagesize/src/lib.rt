@@ -5,6 +5,7 @@ mod calls;
 mod file;
 mod formats;
 mod laws;
+mod names;
 mod queries;
 mod trace;
 mod types;
@@ -16,5 +17,6 @@ pub use imagesize_types::compression::{
     AtcCompression, Compression, DdsCompression, PkmCompression, PvrtcCompression,
 };
 pub use imagesize_types::size::ImageSize;
+pub use names::TypeName;
 pub use trace::{Trace, blob_trace};
 pub use types::{CompressionFamily, ImageType};

@@ -1,5 +1,10 @@
-//! The calls of `imagesize` for programs in C and in what speaks with C. `include/imagesize.h` says how they are called.
+//! The calls of `imagesize` for programs in C, and in what calls C. `include/imagesize.h` says how they are called, and
+//! `docs/PROMISES.md` what is proved of them.
 #![tactic(auto)]
 
 pub mod calls;
-pub mod status;
+mod laws;
+mod numbers;
+pub mod queries;
+mod status;
+pub mod texts;

@@ -6,7 +6,6 @@ ghost use Rattle.std.specs.Prelude.{◌≡◌, ◌||◌, IsTrue, IfOk, IfErr, Op
 ghost use Rattle.imagesize_probe.specs.Run.{Files, Loads, LoadsNone};
 ghost use Rattle.imagesize_source.specs.Reading.{is_fault, is_memory};
 
-mod names;
 mod report;
 mod run;
 
