@@ -7,6 +7,7 @@ mod formats;
 mod laws;
 mod names;
 mod queries;
+mod spans;
 mod trace;
 mod types;
 
@@ -18,5 +19,6 @@ pub use imagesize_types::compression::{
 };
 pub use imagesize_types::size::ImageSize;
 pub use names::TypeName;
+pub use spans::blob_spans;
 pub use trace::{Trace, blob_trace};
 pub use types::{CompressionFamily, ImageType};

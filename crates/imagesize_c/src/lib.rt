@@ -6,5 +6,6 @@ pub mod calls;
 mod laws;
 mod numbers;
 pub mod queries;
+pub mod spans;
 mod status;
 pub mod texts;
