@@ -2,8 +2,7 @@
 use Rattle.std.proofs.Common.{◌≡◌, ℕ, ◌+◌, ◌-◌, ◌^◌, ◌<◌, ◌≤◌, min, List, [], ◌∷◌, ◌++◌, length, take, drop, slice_set, Ok, inl, inr, refl, sym, ap, ◌∙◌, append_assoc, add-zero, arith}
 use Rattle.std.proofs.lemmas.Bool.{cases_lt}
 use Rattle.std.proofs.lemmas.Grind.{take-set_at}
-use Rattle.std.proofs.lemmas.List.{append-nil, length-append, length-drop, length-set, take_all, take-append-le}
-use Rattle.std.proofs.Math.Seq.{take-append_seam}
+use Rattle.std.proofs.lemmas.List.{append-nil, length-append, length-set, take_all, take-append-le}
 use Rattle.imagesize_source.specs.declared.span.Span.{Span}
 use Rattle.imagesize_source.specs.declared.text.Text.{Text}
 use Rattle.imagesize_source.specs.Input.{part, span_at, span_of}
@@ -12,7 +11,7 @@ use Rattle.imagesize_source.specs.Reading.{Reads, part_read, text_part, text_rea
 use Rattle.imagesize_source.specs.State.{State, Runs, past, total}
 use Rattle.imagesize_source.proofs.Recordings.{span_is}
 use Rattle.imagesize_source.proofs.Runs.{total-append}
-use Rattle.imagesize_source.proofs.Slices.{front_is}
+use Rattle.imagesize_source.proofs.Slices.{copied_is, front_is, given_runs}
 
 -- the spans of readings are recorded behind those before
 pub past-lent : (d : List ℕ) (home : ℕ) (spans more : List Span) → past (lent_state d spans home) more ≡ lent_state d (spans ++ more) home
@@ -25,17 +24,10 @@ same_state d e spans after home there bytes same name = ap (λ x. lent_state x a
 
 -- readings of a slice whose spans were recorded
 lent_runs : {X : Type 0} {reads : Reads X} (d e : List ℕ) (spans after : List Span) (home there : ℕ) (x : X) → length d < 2 ^ 63 → e ≡ d → there ≡ home → reads.answer ≡ Ok x → after ≡ spans ++ reads.marks → Runs (lent_state d spans home) (lent_state e after there) (Ok x) reads
-lent_runs {X} {reads} d e spans after home there x short bytes name is recorded = record {
-  sound = λ honest. (refl, short);
-  sound_after = λ honest. (refl, omega (arith, ap length bytes, short));
-  frame = ap (λ (a : State). a.frame) (same_state d e spans spans home there bytes refl name);
-  taken = omega arith;
-  within = λ honest. omega arith;
-  answer = λ honest goes_on. is;
-  state = λ honest goes_on. same_state d e (spans ++ reads.marks) after home there bytes recorded name ∙ sym (past-lent d home spans reads.marks);
-  fault = λ honest faults. absurd cc;
-  ended = tt;
-}
+lent_runs {X} {reads} d e spans after home there x short bytes name is recorded =
+    given_runs x (λ honest. (refl, short)) (λ honest. (refl, omega (arith, ap length bytes, short)))
+    (ap (λ (a : State). a.frame) (same_state d e spans spans home there bytes refl name)) refl is
+    (same_state d e (spans ++ reads.marks) after home there bytes recorded name ∙ sym (past-lent d home spans reads.marks))
 
 -- a reading of bytes
 pub lent_reads : (d e room old : List ℕ) (spans after : List Span) (home there : ℕ) (place n : ℕ) → length d < 2 ^ 63 → e ≡ d → there ≡ home → n ≡ min (length old) (length d - place) → room ≡ part d place (length old) ++ drop n old → length room ≡ length old → after ≡ spans ++ span_at place n → Runs (lent_state d spans home) (lent_state e after there) (Ok (take n room)) (part_read d place (length room))
@@ -46,12 +38,10 @@ lent_reads d e room old spans after home there place n short bytes name count co
 -- a reading of a text
 pub lent_reads_text : (d e old copied found : List ℕ) (t : Text) (spans after : List Span) (home there : ℕ) (place : ℕ) → length d < 2 ^ 63 → e ≡ d → there ≡ home → found ≡ text_part d t place (length old) → length found ≤ length old → copied ≡ found → after ≡ spans ++ span_at place (length found) → Runs (lent_state d spans home) (lent_state e after there) (Ok (take (length found) (copied ++ drop (length found) old))) (text_read d t place (length (copied ++ drop (length found) old)))
 lent_reads_text d e old copied found t spans after home there place short bytes name is fits same recorded =
-    let kept : length (copied ++ drop (length found) old) ≡ length old = omega (arith, length-append copied (drop (length found) old), ap length same, length-drop (length found) old, fits) in
-    let front : take (length found) (copied ++ drop (length found) old) ≡ found = ap (λ bs. take (length found) (bs ++ drop (length found) old)) same ∙ take-append_seam found (drop (length found) old) in
-    let seen : found ≡ text_part d t place (length (copied ++ drop (length found) old)) = is ∙ ap (text_part d t place) (sym kept) in
+    let front = copied_is d old copied found t place is fits same in
     lent_runs d e spans after home there (take (length found) (copied ++ drop (length found) old)) short bytes name
-    (ap Ok (sym seen) ∙ ap Ok (sym front))
-    (recorded ∙ ap (λ bs. spans ++ span_at place (length bs)) seen)
+    (ap Ok (sym (front.0 ∙ front.1)))
+    (recorded ∙ ap (λ bs. spans ++ span_at place (length bs)) front.1)
 
 -- one span more is counted
 pub counted_on : (spans log : List Span) (s : Span) (count after : ℕ) → log ≡ spans ++ s ∷ [] → count ≡ min (length spans) (2 ^ 64 - 1) → after ≡ min (count + 1) (2 ^ 64 - 1) → after ≡ min (length log) (2 ^ 64 - 1)
@@ -76,7 +66,7 @@ written_behind room new spans s count short counted before there beyond =
           ∙ take-set_at room count (length (spans ++ s ∷ [])) s (omega (arith, more, all)) fits
           ∙ ap (λ xs. xs ++ s ∷ []) kept
           ∙ sym (take_all (length new) (spans ++ s ∷ []) (omega (arith, more, all, fits, same)))
-        )
+          )
       | inr full ↦ (
           let same : new ≡ room = beyond full in
           let long : length room ≤ length spans = omega (arith, counted, full) in
@@ -86,7 +76,7 @@ written_behind room new spans s count short counted before there beyond =
           ∙ before
           ∙ sym (take-append-le (length room) spans (s ∷ []) long)
           ∙ ap (λ n. take n (spans ++ s ∷ [])) (sym (ap length same))
-        )
+          )
     ]
 
 pub written_on : (room new spans log : List Span) (s : Span) (count : ℕ) → log ≡ spans ++ s ∷ [] → length room < 2 ^ 63 → count ≡ min (length spans) (2 ^ 64 - 1) → take (length spans) room ≡ take (length room) spans → (count < length room → new ≡ slice_set room count s) → (length room ≤ count → new ≡ room) → take (length log) new ≡ take (length new) log
