@@ -7,7 +7,6 @@ ghost use Rattle.std.specs.Io.Buffered.{writer_buffer};
 ghost use Rattle.imagesize_probe.specs.Run.{Files, Loads, LoadsNone};
 ghost use Rattle.imagesize_source.specs.Reading.{is_fault, is_memory};
 
-mod names;
 mod report;
 mod run;
 

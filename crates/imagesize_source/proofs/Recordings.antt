@@ -14,7 +14,8 @@ unfolding past
 past-recording d spans [] = ap (recording_state d) (sym (append-nil spans))
 past-recording d spans (s ∷ more) = past-recording d (spans ++ s ∷ []) more ∙ ap (recording_state d) (append_assoc spans (s ∷ []) more)
 
-span_is : (d : List ℕ) (place k m n : ℕ) → n ≡ min k (length d - place) → m ≡ k → span_at place n ≡ span_of d place m
+-- the span of a reading, by how many bytes it saw
+pub span_is : (d : List ℕ) (place k m n : ℕ) → n ≡ min k (length d - place) → m ≡ k → span_at place n ≡ span_of d place m
 unfolding span_of
 span_is d place k m n count same = ap (span_at place) (count ∙ ap (λ j. min j (length d - place)) (sym same))
 

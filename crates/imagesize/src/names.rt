@@ -1,10 +1,11 @@
-//! Types of images as they are printed.
+//! The names of types of images, and how a type is printed.
 ghost use Rattle.std.specs.Prelude.{◌≡◌, Some};
 ghost use Rattle.std.specs.Option.{option_copied};
-ghost use Rattle.imagesize_probe.specs.Names.{atc_name_of, dds_name_of, heif_name_of, pkm_name_of, pvrtc_name_of, type_name_of, compression_name_of};
+ghost use Rattle.imagesize.specs.Names.{atc_name_of, dds_name_of, heif_name_of, pkm_name_of, pvrtc_name_of, type_name_of, compression_name_of};
 
-use imagesize::{
-    AtcCompression, Compression, DdsCompression, ImageType, PkmCompression, PvrtcCompression,
+use crate::types::ImageType;
+use imagesize_types::compression::{
+    AtcCompression, Compression, DdsCompression, PkmCompression, PvrtcCompression,
 };
 use std::fmt;
 
@@ -13,63 +14,79 @@ use std::fmt;
 pub struct TypeName(pub ImageType);
 
 impl fmt::Display for TypeName {
-    ghost use Rattle.imagesize_probe.specs.Names.{type_text};
+    ghost use Rattle.imagesize.specs.Names.{type_text};
 
     ghost output = { λ shown. Some (type_text shown.0) };
 
     fn fmt<W: fmt::Write>(&self, f: &mut fmt::Formatter<W>) -> fmt::Result {
-        let name = type_name(self.0);
-        match compression_name(self.0) {
+        let name = self.0.name();
+        match self.0.compression_name() {
             Some(compression) => write!(f, "{name}({compression})"),
             None => f.write_str(name),
         }
     }
 }
 
-// The name of a type.
-fn type_name(image: ImageType) -> &'static str
-    ensures { result.now ≡ type_name_of image }
-{
-    match image {
-        ImageType::Aseprite => "Aseprite",
-        ImageType::Astc => "Astc",
-        ImageType::Atc(_) => "Atc",
-        ImageType::Bmp => "Bmp",
-        ImageType::Dds(_) => "Dds",
-        ImageType::Eac(_) => "Eac",
-        ImageType::Etc2(_) => "Etc2",
-        ImageType::Exr => "Exr",
-        ImageType::Farbfeld => "Farbfeld",
-        ImageType::Gif => "Gif",
-        ImageType::Hdr => "Hdr",
-        ImageType::Heif(_) => "Heif",
-        ImageType::Ico => "Ico",
-        ImageType::Ilbm => "Ilbm",
-        ImageType::Jpeg => "Jpeg",
-        ImageType::Jxl => "Jxl",
-        ImageType::Ktx2 => "Ktx2",
-        ImageType::Pnm => "Pnm",
-        ImageType::Pvrtc(_) => "Pvrtc",
-        ImageType::Psd => "Psd",
-        ImageType::Qoi => "Qoi",
-        ImageType::Tga => "Tga",
-        ImageType::Tiff => "Tiff",
-        ImageType::Vtf => "Vtf",
-        ImageType::Webp => "Webp",
+impl ImageType {
+    /// The name of the type, as in this list.
+    ///
+    /// ```
+    /// use imagesize::ImageType;
+    ///
+    /// assert_eq!(ImageType::Gif.name(), "Gif");
+    /// ```
+    pub fn name(&self) -> &'static str
+        ensures { result.now ≡ type_name_of self.now }
+    {
+        match self {
+            ImageType::Aseprite => "Aseprite",
+            ImageType::Astc => "Astc",
+            ImageType::Atc(_) => "Atc",
+            ImageType::Bmp => "Bmp",
+            ImageType::Dds(_) => "Dds",
+            ImageType::Eac(_) => "Eac",
+            ImageType::Etc2(_) => "Etc2",
+            ImageType::Exr => "Exr",
+            ImageType::Farbfeld => "Farbfeld",
+            ImageType::Gif => "Gif",
+            ImageType::Hdr => "Hdr",
+            ImageType::Heif(_) => "Heif",
+            ImageType::Ico => "Ico",
+            ImageType::Ilbm => "Ilbm",
+            ImageType::Jpeg => "Jpeg",
+            ImageType::Jxl => "Jxl",
+            ImageType::Ktx2 => "Ktx2",
+            ImageType::Pnm => "Pnm",
+            ImageType::Pvrtc(_) => "Pvrtc",
+            ImageType::Psd => "Psd",
+            ImageType::Qoi => "Qoi",
+            ImageType::Tga => "Tga",
+            ImageType::Tiff => "Tiff",
+            ImageType::Vtf => "Vtf",
+            ImageType::Webp => "Webp",
+        }
     }
-}
 
-// The name of a type's compression, where it has several.
-fn compression_name(image: ImageType) -> Option<&'static str>
-    ensures { option_copied result ≡ compression_name_of image }
-{
-    match image {
-        ImageType::Atc(compression) => Some(atc_name(compression)),
-        ImageType::Dds(compression) => Some(dds_name(compression)),
-        ImageType::Eac(compression) | ImageType::Etc2(compression) => Some(pkm_name(compression)),
-        ImageType::Heif(compression) => Some(heif_name(compression)),
-        ImageType::Pvrtc(compression) => Some(pvrtc_name(compression)),
-        _ => None,
+    /// The name of the type's compression, where it has several.
+    ///
+    /// ```
+    /// use imagesize::{DdsCompression, ImageType};
+    ///
+    /// assert_eq!(ImageType::Dds(DdsCompression::Bc7).compression_name(), Some("Bc7"));
+    /// ```
+    pub fn compression_name(&self) -> Option<&'static str>
+        ensures { option_copied result ≡ compression_name_of self.now }
+    {
+        match self {
+            ImageType::Atc(compression) => Some(atc_name(*compression)),
+            ImageType::Dds(compression) => Some(dds_name(*compression)),
+            ImageType::Eac(compression) | ImageType::Etc2(compression) => Some(pkm_name(
+                *compression,
+            )),
+            ImageType::Heif(compression) => Some(heif_name(*compression)),
+            ImageType::Pvrtc(compression) => Some(pvrtc_name(*compression)),
+            _ => None,
+        }
     }
 }
 
