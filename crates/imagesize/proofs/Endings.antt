@@ -27,6 +27,14 @@ budget_taken {b = b} told n (Err e) reads start h took =
     let budget : b.frame.budget ≡ min (told + 64) (2 ^ 64 - 1) = ap (λ f. f.budget) h.frame ∙ start in
     some_budget (spent e) b.frame.budget b.taken n b.frame.counts (omega (arith, budget)) took h.ended.budget
 
+least : (named : Option ℕ) (taken : ℕ) → IfSome named (λ k. (k ≡ taken) × (64 ≤ k)) → IfSome named (λ k. 64 ≤ k)
+least None taken is = tt
+least (Some k) taken is = is.1
+
+pub budget_least : {X : Type 0} {a b : State} (told : ℕ) (r : Result X ImageError) (reads : Reads X) → a.frame.budget ≡ min (told + 64) (2 ^ 64 - 1) → Runs a b r reads → IfErr r (λ e. IfSome (spent e) (λ k. 64 ≤ k))
+budget_least told (Ok x) reads start h = tt
+budget_least {b = b} told (Err e) reads start h = least (spent e) b.taken (budget_taken told b.taken (Err e) reads start h refl)
+
 parts : (p q : ℕ × ℕ) → p ≡ q → (p.0 ≡ q.0) × (p.1 ≡ q.1)
 parts p q same = (ap (λ (x : ℕ × ℕ). x.0) same, ap (λ (x : ℕ × ℕ). x.1) same)
 

@@ -1,17 +1,20 @@
 -- What a recording slice shows of an answer.
-use Rattle.std.proofs.Common.{◌≡◌, ℕ, Bool, true, false, List, [], Result, Ok, Err, refl, sym, ap, ◌∙◌, inl, inr}
+use Rattle.std.proofs.Common.{◌≡◌, ℕ, ◌+◌, ◌≤◌, Bool, true, false, List, [], ◌++◌, length, Result, Ok, Err, IfOk, IsTrue, refl, sym, ap, ◌∙◌, inl, inr, arith}
+use Rattle.imagesize.specs.Counts.{lasts_as, stated}
 use Rattle.imagesize.specs.Meaning.{kind_of, meaning, size_of}
 use Rattle.imagesize.specs.Probed.{FindsKind}
 use Rattle.imagesize.specs.Traced.{IsSame, Traces, lacks_memory}
 use Rattle.imagesize.specs.declared.trace.Trace.{Trace}
 use Rattle.imagesize_types.specs.declared.size.ImageSize.{ImageSize}
+use Rattle.imagesize.proofs.Counts.{cost_stated, cost_within}
+use Rattle.imagesize.proofs.Extension.{size_lasts}
 use Rattle.imagesize.proofs.Locality.{local_kind, local_meaning}
 use Rattle.imagesize_source.proofs.Agreement.{agrees_first}
 use Rattle.imagesize_source.proofs.Openings.{stop_cases, some_spent}
 use Rattle.imagesize_source.proofs.Recordings.{past-recording}
 use Rattle.imagesize_source.specs.Agreement.{Agrees}
 use Rattle.imagesize_source.specs.Reading.{Reads, stopped, is_stop, spent}
-use Rattle.imagesize_source.specs.State.{State, Runs, recording_state}
+use Rattle.imagesize_source.specs.State.{State, Runs, recording_state, total}
 use Rattle.imagesize_source.specs.declared.error.ImageError.{ImageError}
 use Rattle.imagesize_source.specs.declared.span.Span.{Span}
 
@@ -35,15 +38,34 @@ goes_on d after spans (Err e) reads h memory = unless (is_stop e) (λ stops. eli
 ])
 
 -- where memory was found, the spans are those of the readings
+marked : (d after : List ℕ) (spans : List Span) (r : Result ImageSize ImageError) → Runs (recording_state d []) (recording_state after spans) r (meaning d 0) → lacks_memory r ≡ false → spans ≡ (meaning d 0).marks
+marked d after spans r h memory = spans_of (h.state refl (goes_on d after spans r (meaning d 0) h memory) ∙ past-recording d [] (meaning d 0).marks)
+
+-- and the answer is theirs
+answered : (d after : List ℕ) (spans : List Span) (r : Result ImageSize ImageError) → Runs (recording_state d []) (recording_state after spans) r (meaning d 0) → lacks_memory r ≡ false → r ≡ (meaning d 0).answer
+answered d after spans r h memory = sym (h.answer refl (goes_on d after spans r (meaning d 0) h memory))
+
 pub traced : {A : Type 0} (d after : List ℕ) (t : Trace A) → Runs (recording_state d []) (recording_state after t.spans.items) t.answer (meaning d 0) → FindsKind (recording_state d []) 0 t.kind t.answer → lacks_memory t.answer ≡ false → Traces d t
 traced d after t h finds memory =
     let on = goes_on d after t.spans.items t.answer (meaning d 0) h memory in
     record {
       kind = finds.whole refl on;
-      answer = sym (h.answer refl on);
-      spans = spans_of (h.state refl on ∙ past-recording d [] (meaning d 0).marks);
+      answer = answered d after t.spans.items t.answer h memory;
+      spans = marked d after t.spans.items t.answer h memory;
       goes = on;
     }
+
+-- the spans are together at most as long as is stated
+pub spans_stated : (d after : List ℕ) (spans : List Span) (r : Result ImageSize ImageError) → Runs (recording_state d []) (recording_state after spans) r (meaning d 0) → lacks_memory r ≡ false → total spans ≤ stated d 0
+spans_stated d after spans r h memory = rw (marked d after spans r h memory) (cost_stated d 0)
+
+-- and as there are bytes and 64 more
+pub spans_within : (d after : List ℕ) (spans : List Span) (r : Result ImageSize ImageError) → Runs (recording_state d []) (recording_state after spans) r (meaning d 0) → lacks_memory r ≡ false → total spans ≤ length d + 64
+spans_within d after spans r h memory = rw (marked d after spans r h memory) (omega (arith, cost_within d 0))
+
+-- a size stays, whatever bytes follow
+pub answer_lasts : (d after : List ℕ) (spans : List Span) (r : Result ImageSize ImageError) → Runs (recording_state d []) (recording_state after spans) r (meaning d 0) → lacks_memory r ≡ false → IsTrue (lasts_as (kind_of d 0).answer) → IfOk r (λ size. (x : List ℕ) → (meaning (d ++ x) 0).answer ≡ Ok size)
+answer_lasts d after spans r h memory = size_lasts d 0 r (answered d after spans r h memory)
 
 -- an input that agrees on the marks is the same
 pub same : (d e : List ℕ) → Agrees d e (meaning d 0).marks → IsSame d e

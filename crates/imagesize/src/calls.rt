@@ -116,6 +116,9 @@ pub(crate) fn probe<S: Source>(
 pub fn reader_type<R: Told>(mut reader: R) -> ImageResult<ImageType>
     ensures answers { Answers (R.telling reader) kind_of result }
     ensures memory { IfErr result (λ e. is_memory e ≡ false) }
+
+    // The budget that is spent is the length that was told, and 64.
+    ensures spent { IfErr result (λ e. IfSome (spent e) (λ budget. 64 ≤ budget)) }
 {
     let opened = open_at_place(&mut reader)?;
     detect(

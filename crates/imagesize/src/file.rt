@@ -1,4 +1,6 @@
 //! The size of the image in a file.
+ghost use Rattle.std.specs.Prelude.{◌≤◌, IfErr, IfSome};
+ghost use Rattle.imagesize_source.specs.Reading.{spent};
 
 use crate::{ImageError, ImageResult, Reason, reader_size};
 use imagesize_source::KeptReader;
@@ -20,7 +22,10 @@ use std::rt::Files;
 /// let size = size(&rt, rt.alloc(), "tiny.gif")?;
 /// assert_eq!((size.width, size.height), (100, 100));
 /// ```
-pub fn size<F: Files, P: AsPath + Drop>(rt: &F, alloc: Global, path: P) -> ImageResult<ImageSize> {
+pub fn size<F: Files, P: AsPath + Drop>(rt: &F, alloc: Global, path: P) -> ImageResult<ImageSize>
+    // The budget that is spent is the length that was told, and 64.
+    ensures spent { IfErr result (λ e. IfSome (spent e) (λ budget. 64 ≤ budget)) }
+{
     let file = fs::open(rt, path)?;
     match BufReader::new(alloc, file) {
         Ok(reader) => reader_size(KeptReader::new(reader)),

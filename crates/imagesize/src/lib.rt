@@ -5,7 +5,9 @@ mod calls;
 mod file;
 mod formats;
 mod laws;
+mod names;
 mod queries;
+mod spans;
 mod trace;
 mod types;
 
@@ -16,5 +18,7 @@ pub use imagesize_types::compression::{
     AtcCompression, Compression, DdsCompression, PkmCompression, PvrtcCompression,
 };
 pub use imagesize_types::size::ImageSize;
+pub use names::TypeName;
+pub use spans::blob_spans;
 pub use trace::{Trace, blob_trace};
 pub use types::{CompressionFamily, ImageType};

@@ -1,8 +1,10 @@
 //! The bytes that an answer rests on.
-ghost use Rattle.std.specs.Prelude.{◌≡◌, ℕ, IfOk, IsOk, List, length};
-ghost use Rattle.imagesize.specs.Meaning.{meaning};
+ghost use Rattle.std.specs.Prelude.{◌≡◌, ℕ, ◌+◌, ◌≤◌, ◌++◌, IfOk, IsOk, IsTrue, List, Ok, length};
+ghost use Rattle.imagesize.specs.Counts.{lasts_as, stated};
+ghost use Rattle.imagesize.specs.Meaning.{kind_of, meaning};
 ghost use Rattle.imagesize.specs.Traced.{IsSame, Traces, lacks_memory};
 ghost use Rattle.imagesize_source.specs.Agreement.{Agrees};
+ghost use Rattle.imagesize_source.specs.State.{total};
 
 use crate::calls::probe;
 use crate::types::ImageType;
@@ -40,6 +42,14 @@ pub fn blob_trace<A: Allocator>(alloc: A, data: &[u8]) -> Result<Trace<A>, Alloc
     // Another input of this length that agrees on the marks, which are the spans where there are some, has the same
     // type, the same answer and the same marks.
     ensures local { (e : List ℕ) → Agrees «data».now e (meaning «data».now 0).marks → IsSame «data».now e }
+
+    // The spans are together at most as long as is stated, and as there are bytes and 64 more.
+    ensures stated { IfOk result (λ t. total t.spans.items ≤ stated «data».now 0) }
+    ensures within { IfOk result (λ t. total t.spans.items ≤ length «data».now + 64) }
+
+    // Bytes that follow change no size, but those of HEIF, of icons and of TGA.
+    ensures lasts { IsTrue (lasts_as (kind_of «data».now 0).answer) → IfOk result (λ t. IfOk t.answer (λ size.
+        (x : List ℕ) → (meaning («data».now ++ x) 0).answer ≡ Ok size)) }
 {
     let mut source = RecordingSource {
         bytes: data,

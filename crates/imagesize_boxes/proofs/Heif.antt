@@ -1,10 +1,10 @@
 -- HEIF: how its searches and the walk along its properties go, how many bytes they are read from, and what they see
 -- of an input.
-use Rattle.std.proofs.Common.{◌≡◌, ℕ, ◌+◌, ◌-◌, ◌*◌, ◌^◌, ◌<◌, ◌≤◌, min, max, Bool, true, false, cond, eqb, leb, List, [], ◌∷◌, ◌++◌, length, take, drop, map, Option, Some, None, Result, Ok, Err, is_some, refl, sym, ap, ◌∙◌, subst, arith, slice_index, slice_index_or}
+use Rattle.std.proofs.Common.{◌≡◌, ℕ, ◌+◌, ◌-◌, ◌*◌, ◌^◌, ◌<◌, ◌≤◌, min, max, Bool, true, false, cond, eqb, List, [], ◌∷◌, ◌++◌, length, drop, map, Option, Some, None, Result, Ok, Err, is_some, refl, sym, ap, ◌∙◌, subst, arith, slice_index, slice_index_or}
 use Rattle.std.proofs.lemmas.Bool.Decides.{nat_tests}
 use Rattle.std.proofs.Math.Nat.{add-zero}
 use Rattle.std.proofs.lemmas.Grind.{flat_map-append}
-use Rattle.std.proofs.lemmas.List.{append-nil, get_or-drop, length-drop, map-append, nil_from_length}
+use Rattle.std.proofs.lemmas.List.{append-nil, get_or-drop, length-drop, map-append}
 use Rattle.std.proofs.lemmas.List.Folds.{find-append}
 use Rattle.std.proofs.lemmas.List.Sums.{fold-append, sum_by_push}
 use Rattle.std.specs.Int.{w32, from_be_bytes}
@@ -28,7 +28,7 @@ use Rattle.imagesize_source.specs.declared.util.Endian.TheVariants.{Big}
 use Rattle.imagesize_source.specs.Agreement.{Local}
 use Rattle.imagesize_source.specs.Chain.{Said, Decided, Next, Advances, start, verdict, records, chain_from, chain_at}
 use Rattle.imagesize_source.specs.Counts.{AtMost}
-use Rattle.imagesize_source.specs.Input.{part, span_at, span_of}
+use Rattle.imagesize_source.specs.Input.{span_of}
 use Rattle.imagesize_source.specs.Layout.{Layout, bytes, refuse, done, over, bind, whole}
 use Rattle.imagesize_source.specs.Numbers.{number}
 use Rattle.imagesize_source.specs.Reading.{Reads, and_then, onward, bytes_at, bytes_read, number_at, number_read, refuses, end_of_input, faulted}
@@ -36,56 +36,24 @@ use Rattle.imagesize_source.specs.State.{State, Runs, EndedBy, total}
 use Rattle.imagesize_source.proofs.Always.{CompressionLaws}
 use Rattle.imagesize_source.proofs.Advances.{Tells, advances}
 use Rattle.imagesize_source.proofs.Spends.{Spends, Onto, chain_onto, left, said_to, spends_then}
-use Rattle.imagesize_source.proofs.PastTheEnd.{bytes_beyond}
+use Rattle.imagesize_source.proofs.PastTheEnd.{bytes_beyond, saturated_by}
 use Rattle.imagesize_source.proofs.ChainLaws.{local_chain, chain_cost}
 use Rattle.imagesize_source.proofs.Chains.{chain_stop}
 use Rattle.imagesize_source.proofs.Counts.{then_within, total-span_of, total_behind}
-use Rattle.imagesize_source.proofs.Layouts.{runs_as}
+use Rattle.imagesize_source.proofs.Bytes.{first_four}
+use Rattle.imagesize_source.proofs.Layouts.{no_part, no_span}
 use Rattle.imagesize_source.proofs.Agreement.{local_then, local_number, same_span, same_bytes}
-use Rattle.imagesize_source.proofs.Numbers.{big_4}
 use Rattle.imagesize_source.proofs.Reached.{runs_bind, refused_bind, reached_now}
-use Rattle.imagesize_source.proofs.Runs.{part_length, total-append}
+use Rattle.imagesize_source.proofs.Runs.{total-append}
 use Rattle.imagesize_source.proofs.Tests.{on_test}
 use Rattle.imagesize_source.proofs.Walks.{Walks, walks_start, walks_on, walks_stop, walks_out, walks_past}
 use Rattle.imagesize_source.proofs.Way.{RecordedLaws}
-
-first_four : (bs : List ℕ) → 4 ≤ length bs → from_be_bytes w32 (slice_index_or bs 0 0 ∷ slice_index_or bs 1 0 ∷ slice_index_or bs 2 0 ∷ slice_index_or bs 3 0 ∷ []) ≡ number Big (take 4 bs)
-first_four [] h = absurd (omega arith)
-first_four (a ∷ []) h = absurd (omega arith)
-first_four (a ∷ b ∷ []) h = absurd (omega arith)
-first_four (a ∷ b ∷ c ∷ []) h = absurd (omega arith)
-first_four (a ∷ b ∷ c ∷ d ∷ rest) h = big_4 (a ∷ b ∷ c ∷ d ∷ []) refl
 
 -- the number of four bytes within others
 pub big_four : (bs : List ℕ) (i : ℕ) → i + 4 ≤ length bs → from_be_bytes w32 (slice_index_or bs i 0 ∷ slice_index_or bs (i + 1) 0 ∷ slice_index_or bs (i + 2) 0 ∷ slice_index_or bs (i + 3) 0 ∷ []) ≡ number Big (four_at i bs)
 big_four bs i h =
     let none : slice_index_or bs i 0 ≡ slice_index_or (drop i bs) 0 0 = ap (λ n. slice_index_or bs n 0) (sym (add-zero i)) ∙ sym (get_or-drop i bs 0 0) in
     rw (← get_or-drop i bs 1 0, ← get_or-drop i bs 2 0, ← get_or-drop i bs 3 0, none) (first_four (drop i bs) (omega (arith, length-drop i bs)))
-
--- A place beyond 64 bits is beyond the end of every input.
-saturated_by : {X : Type 0} {a b : State} {r : Result X ImageError} (f : ℕ → List ℕ → Reads X) (other : Reads X) (place : ℕ) → ((d : List ℕ) (p : ℕ) → length d ≤ p → f p d ≡ other) → Runs a b r (f (min place (2 ^ 64 - 1)) a.held.input) → Runs a b r (f place a.held.input)
-saturated_by {a} f other place beyond h = runs_as (f place a.held.input) h (λ honest. within a.held.input (h.sound honest).1 (leb place (2 ^ 64 - 1)) refl) where
-  within : (d : List ℕ) → length d < 2 ^ 63 → (is_within : Bool) → leb place (2 ^ 64 - 1) ≡ is_within → f (min place (2 ^ 64 - 1)) d ≡ f place d
-  within d short true is = ap (λ p. f p d) (grind (arith, nat_tests))
-  within d short false is = beyond d (min place (2 ^ 64 - 1)) (grind (arith, nat_tests)) ∙ sym (beyond d place (grind (arith, nat_tests)))
-
--- no reading has bytes there
-no_part : (d : List ℕ) (place k : ℕ) → length d ≤ place → part d place k ≡ []
-no_part d place k h = let n = part_length d place k in nil_from_length (part d place k) (omega arith)
-
-no_span : (d : List ℕ) (place k : ℕ) → length d ≤ place → span_of d place k ≡ []
-unfolding span_of span_at
-no_span d place k h = let none : min k (length d - place) ≡ 0 = omega arith in rw none refl
-
-no_bytes : (d : List ℕ) (place k : ℕ) → length d ≤ place → 0 < k → bytes_read d place k ≡ refuses end_of_input
-unfolding bytes_at
-no_bytes d place k h some =
-    let test : leb k (length d - place) ≡ false = grind (arith, nat_tests) in
-    rw (no_span d place k h, test) refl
-
--- bytes behind a place
-pub bytes_saturated : {a b : State} {r : Result (List ℕ) ImageError} (place k : ℕ) → 0 < k → Runs a b r (bytes_read a.held.input (min place (2 ^ 64 - 1)) k) → Runs a b r (bytes_read a.held.input place k)
-bytes_saturated place k some h = saturated_by (λ p d. bytes_read d p k) (refuses end_of_input) place (λ d p far. no_bytes d p k far some) h
 
 -- what holds of each box of a search
 by_searched : (P : Layout (Said (Unit {0}) FoundBox) → Type 0) (tag : List ℕ) (place : ℕ) (head : List ℕ) → P (done (Decided (record { place = place; size = box_size head }))) → P (refuse (IoError (InvalidHeifBoxSize (box_size head)))) → (8 ≤ box_size head → P (done (Next tt (place + box_size head)))) → P (box_searched tag place head)

@@ -1,7 +1,6 @@
 pub mod Fields
-pub mod Heads
 pub mod Heif
 pub mod Jxl
 pub mod JxlBoxes
 pub mod JxlGrowth
-pub mod Places
+pub mod Pieces

@@ -5,7 +5,7 @@ use Rattle.std.specs.Io.KnownBytes.{Appends}
 use Rattle.imagesize.specs.Meaning.{kind_of, meaning}
 use Rattle.imagesize_types.specs.declared.size.ImageSize.{ImageSize}
 use Rattle.imagesize.specs.declared.types.ImageType.{ImageType}
-use Rattle.imagesize_probe.specs.Names.{type_text}
+use Rattle.imagesize.specs.Names.{type_text}
 use Rattle.imagesize_source.specs.Answers.{over_reader}
 use Rattle.imagesize_source.specs.Reason.{error_text}
 use Rattle.imagesize_source.specs.Telling.{Telling, IsHonest}

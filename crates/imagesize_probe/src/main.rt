@@ -2,11 +2,11 @@
 //! that this rests on.
 #![tactic(auto)]
 
-ghost use Rattle.std.specs.Prelude.{◌≡◌, ◌||◌, IsTrue, IfOk, IfErr, Option, None};
+ghost use Rattle.std.specs.Prelude.{◌≡◌, ◌||◌, [], IsTrue, IfOk, IfErr, Option, None};
+ghost use Rattle.std.specs.Io.Buffered.{writer_buffer};
 ghost use Rattle.imagesize_probe.specs.Run.{Files, Loads, LoadsNone};
 ghost use Rattle.imagesize_source.specs.Reading.{is_fault, is_memory};
 
-mod names;
 mod report;
 mod run;
 
@@ -40,7 +40,9 @@ fn run_arguments(rt: &HostRuntime) -> io::Result<u8> {
 }
 
 // Standard output behind a buffer of so many bytes. Where there is no memory for it, what is written goes out at once.
-fn buffered<R: Print + AllocGlobal>(rt: &R, capacity: usize) -> BufWriter<Printer<'_, R>> {
+fn buffered<R: Print + AllocGlobal>(rt: &R, capacity: usize) -> BufWriter<Printer<'_, R>>
+    ensures { writer_buffer result ≡ [] }
+{
     match BufWriter::with_capacity(rt.alloc(), capacity, io::writer(rt)) {
         Ok(output) => output,
         Err(_) => BufWriter::with_capacity(rt.alloc(), 0, io::writer(rt)).unwrap(),

@@ -5,9 +5,8 @@ ghost use Rattle.imagesize_probe.specs.Line.{line, sized_line, refused_line, spa
 ghost use Rattle.imagesize_probe.specs.Status.{status_of};
 ghost use Rattle.imagesize_source.specs.Reason.{error_text};
 
-use crate::names::TypeName;
 use imagesize::{
-    ImageError, ImageResult, ImageSize, ImageType, Reason, Span, Told, Trace, blob_trace,
+    ImageError, ImageResult, ImageSize, ImageType, Reason, Span, Told, Trace, TypeName, blob_trace,
     reader_probe,
 };
 use std::alloc::Allocator;

@@ -1,5 +1,5 @@
 //! The lines of many names, and what the program ends with.
-ghost use Rattle.std.specs.Prelude.{◌≡◌, ℕ, List, Option, Result, IfOk, IfErr, OnOk, codes, false, map};
+ghost use Rattle.std.specs.Prelude.{◌≡◌, ℕ, ◌<◌, List, Option, Result, Ok, IfOk, IfErr, IsOk, OnOk, codes, false, length, map};
 ghost use Rattle.std.specs.Io.KnownBytes.{Appends};
 ghost use Rattle.imagesize_probe.specs.Line.{refused_line};
 ghost use Rattle.std.specs.String.{string_bytes};
@@ -46,7 +46,12 @@ pub fn run<O: Open, W: Write, E: Write>(
     output: &mut W,
     errors: &mut E,
 ) -> io::Result<u8>
-    ensures { IfOk result (RunsWith (O.known opener.old) (map string_bytes arguments.now) (W.contents output.old) (W.contents output.new)) }
+    ensures runs { IfOk result
+        (RunsWith (O.known opener.old) (map string_bytes arguments.now) (W.contents output.old) (W.contents output.new)) }
+
+    // Where none is named, no output fails it; and where one is, nothing is written to the other output.
+    ensures unnamed { length (names_in (map string_bytes arguments.now)) ≡ 0 → result ≡ Ok 2 }
+    ensures quiet { 0 < length (names_in (map string_bytes arguments.now)) → errors.new ≡ errors.old }
 {
     let (spans, names) = named(arguments);
     let files = names.len();
@@ -76,7 +81,9 @@ fn write_lines<O: Open, W: Write>(
     opener: &mut O,
     output: &mut W,
 ) -> io::Result<bool>
-    ensures { IfOk result (WritesAll spans (O.known opener.old) (map string_bytes names.now) (W.contents output.old) (W.contents output.new)) }
+    ensures lines { IfOk result
+        (WritesAll spans (O.known opener.old) (map string_bytes names.now) (W.contents output.old) (W.contents output.new)) }
+    ensures none { length names.now ≡ 0 → IsOk result }
 {
     let mut refused = false;
     for name in names {

@@ -1,5 +1,5 @@
 -- What a layout says of an input.
-use Rattle.std.proofs.Common.{◌≡◌, ℕ, ◌+◌, ◌-◌, ◌^◌, ◌<◌, ◌≤◌, min, Bool, true, false, List, [], ◌++◌, length, take, leb, Option, None, Some, Result, Ok, Err, refl, sym, ap, ◌∙◌, subst, arith, append_assoc}
+use Rattle.std.proofs.Common.{◌≡◌, ℕ, ◌+◌, ◌-◌, ◌<◌, ◌≤◌, min, true, List, [], ◌++◌, length, take, None, Some, Result, Ok, Err, refl, sym, ap, ◌∙◌, subst, arith, append_assoc}
 use Rattle.std.proofs.lemmas.List.{length-take, take_all, drop_all, append-nil}
 use Rattle.std.proofs.Math.Seq.{take-nil}
 use Rattle.std.proofs.lemmas.Bool.Decides.{nat_tests}
@@ -77,16 +77,5 @@ no_part d place k behind = ap (take k) (drop_all place d behind) ∙ take-nil k
 pub no_span : (d : List ℕ) (place k : ℕ) → length d ≤ place → span_of d place k ≡ []
 unfolding span_of span_at
 no_span d place k behind = let none : min k (length d - place) ≡ 0 = omega arith in rw none refl
-
-none_there : (d : List ℕ) (place k : ℕ) → length d ≤ place → over d (if_there place k done) ≡ record { answer = Ok (whole k []); marks = [] }
-none_there d place k behind = rw (no_part d place k behind, no_span d place k behind) refl
-
--- no input is so long that bytes of it stand beyond 64 bits
-within_64_bits : (d : List ℕ) (place k : ℕ) → length d < 2 ^ 63 → (is_within : Bool) → leb place (2 ^ 64 - 1) ≡ is_within → over d (if_there (min place (2 ^ 64 - 1)) k done) ≡ over d (if_there place k done)
-within_64_bits d place k short true within = ap (λ p. over d (if_there p k done)) (grind (arith, nat_tests))
-within_64_bits d place k short false beyond = none_there d (min place (2 ^ 64 - 1)) k (grind (arith, nat_tests)) ∙ sym (none_there d place k (grind (arith, nat_tests)))
-
-pub saturated : {a b : State} {r : Result (Option (List ℕ)) ImageError} (place k : ℕ) → Runs a b r (over a.held.input (if_there (min place (2 ^ 64 - 1)) k done)) → Runs a b r (over a.held.input (if_there place k done))
-saturated {a} place k h = runs_as (over a.held.input (if_there place k done)) h (λ honest. within_64_bits a.held.input place k (h.sound honest).1 (leb place (2 ^ 64 - 1)) refl)
 
 pub ruleset binding = (over-bind)

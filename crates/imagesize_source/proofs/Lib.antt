@@ -12,6 +12,7 @@ mod Cursors
 pub mod Extension
 pub mod Filling
 pub mod Layouts
+pub mod Lendings
 pub mod Marks
 pub mod Numbers
 pub mod Openings

@@ -36,31 +36,33 @@ big_4 (a ∷ b ∷ c ∷ []) is = absurd (omega (arith, is))
 big_4 (a ∷ b ∷ c ∷ d ∷ []) is = omega arith
 big_4 (a ∷ b ∷ c ∷ d ∷ x ∷ rest) is = absurd (omega (arith, is))
 
+-- eight bytes, one by one
+pub data Eight : List ℕ → Type 0 where
+  eight : (a b c d e f g h : ℕ) → Eight (a ∷ b ∷ c ∷ d ∷ e ∷ f ∷ g ∷ h ∷ [])
+
+pub are_eight : (bs : List ℕ) → length bs ≡ 8 → Eight bs
+are_eight [] is = absurd (omega (arith, is))
+are_eight (a ∷ []) is = absurd (omega (arith, is))
+are_eight (a ∷ b ∷ []) is = absurd (omega (arith, is))
+are_eight (a ∷ b ∷ c ∷ []) is = absurd (omega (arith, is))
+are_eight (a ∷ b ∷ c ∷ d ∷ []) is = absurd (omega (arith, is))
+are_eight (a ∷ b ∷ c ∷ d ∷ e ∷ []) is = absurd (omega (arith, is))
+are_eight (a ∷ b ∷ c ∷ d ∷ e ∷ f ∷ []) is = absurd (omega (arith, is))
+are_eight (a ∷ b ∷ c ∷ d ∷ e ∷ f ∷ g ∷ []) is = absurd (omega (arith, is))
+are_eight (a ∷ b ∷ c ∷ d ∷ e ∷ f ∷ g ∷ h ∷ []) is = eight a b c d e f g h
+are_eight (a ∷ b ∷ c ∷ d ∷ e ∷ f ∷ g ∷ h ∷ x ∷ rest) is = absurd (omega (arith, is))
+
 pub little_8 : (bs : List ℕ) → length bs ≡ 8 → from_le_bytes w64 bs ≡ number Little bs
 unfolding number
-little_8 [] is = absurd (omega (arith, is))
-little_8 (a ∷ []) is = absurd (omega (arith, is))
-little_8 (a ∷ b ∷ []) is = absurd (omega (arith, is))
-little_8 (a ∷ b ∷ c ∷ []) is = absurd (omega (arith, is))
-little_8 (a ∷ b ∷ c ∷ d ∷ []) is = absurd (omega (arith, is))
-little_8 (a ∷ b ∷ c ∷ d ∷ e ∷ []) is = absurd (omega (arith, is))
-little_8 (a ∷ b ∷ c ∷ d ∷ e ∷ f ∷ []) is = absurd (omega (arith, is))
-little_8 (a ∷ b ∷ c ∷ d ∷ e ∷ f ∷ g ∷ []) is = absurd (omega (arith, is))
-little_8 (a ∷ b ∷ c ∷ d ∷ e ∷ f ∷ g ∷ h ∷ []) is = omega arith
-little_8 (a ∷ b ∷ c ∷ d ∷ e ∷ f ∷ g ∷ h ∷ x ∷ rest) is = absurd (omega (arith, is))
+little_8 bs is = on_eight bs (are_eight bs is) where
+  on_eight : (bs : List ℕ) → Eight bs → from_le_bytes w64 bs ≡ number Little bs
+  on_eight bs (eight a b c d e f g h) = omega arith
 
 pub big_8 : (bs : List ℕ) → length bs ≡ 8 → from_be_bytes w64 bs ≡ number Big bs
 unfolding number
-big_8 [] is = absurd (omega (arith, is))
-big_8 (a ∷ []) is = absurd (omega (arith, is))
-big_8 (a ∷ b ∷ []) is = absurd (omega (arith, is))
-big_8 (a ∷ b ∷ c ∷ []) is = absurd (omega (arith, is))
-big_8 (a ∷ b ∷ c ∷ d ∷ []) is = absurd (omega (arith, is))
-big_8 (a ∷ b ∷ c ∷ d ∷ e ∷ []) is = absurd (omega (arith, is))
-big_8 (a ∷ b ∷ c ∷ d ∷ e ∷ f ∷ []) is = absurd (omega (arith, is))
-big_8 (a ∷ b ∷ c ∷ d ∷ e ∷ f ∷ g ∷ []) is = absurd (omega (arith, is))
-big_8 (a ∷ b ∷ c ∷ d ∷ e ∷ f ∷ g ∷ h ∷ []) is = omega arith
-big_8 (a ∷ b ∷ c ∷ d ∷ e ∷ f ∷ g ∷ h ∷ x ∷ rest) is = absurd (omega (arith, is))
+big_8 bs is = on_eight bs (are_eight bs is) where
+  on_eight : (bs : List ℕ) → Eight bs → from_be_bytes w64 bs ≡ number Big bs
+  on_eight bs (eight a b c d e f g h) = omega arith
 
 -- one byte is its own number
 pub little_1 : (bs : List ℕ) → length bs ≡ 1 → slice_index_or bs 0 0 ≡ number Little bs

@@ -1,41 +1,56 @@
 -- Readings beyond the end of the input.
-use Rattle.std.proofs.Common.{◌≡◌, ℕ, ◌-◌, ◌^◌, ◌<◌, ◌≤◌, min, Bool, true, false, leb, List, [], length, Result, Err, refl, sym, ap, ◌∙◌, arith}
+use Rattle.std.proofs.Common.{◌≡◌, ℕ, ◌-◌, ◌^◌, ◌<◌, ◌≤◌, min, Bool, true, false, leb, List, [], length, Option, Result, Err, refl, sym, ap, ◌∙◌, arith}
 use Rattle.std.proofs.lemmas.Bool.Decides.{nat_tests}
 use Rattle.imagesize_source.specs.declared.util.Endian.{Endian}
 use Rattle.imagesize_source.specs.declared.error.ImageError.{ImageError}
-use Rattle.imagesize_source.specs.Input.{span_at, span_of}
-use Rattle.imagesize_source.specs.Layout.{Layout, bytes, over}
-use Rattle.imagesize_source.specs.Reading.{bytes_at, number_at, number_read, refuses, end_of_input}
+use Rattle.imagesize_source.specs.Layout.{Layout, bytes, over, if_there, whole}
+use Rattle.imagesize_source.specs.Layout.Layout.{«done»}
+use Rattle.imagesize_source.specs.Reading.{Reads, bytes_at, bytes_read, number_at, number_read, part_read, gives, refuses, end_of_input}
 use Rattle.imagesize_source.specs.State.{State, Sound, Runs, past}
-use Rattle.imagesize_source.proofs.Layouts.{runs_as}
+use Rattle.imagesize_source.proofs.Layouts.{no_part, no_span, runs_as}
 use Rattle.imagesize_source.proofs.Runs.{past-none}
 
--- such a reading has no span
-span_beyond : (d : List ℕ) (place k : ℕ) → length d ≤ place → span_of d place k ≡ []
-unfolding span_of span_at
-span_beyond d place k h =
-    let none : min k (length d - place) ≡ 0 = omega arith in rw none refl
+-- Readings that are the same at every place beyond the end: no input is so long that a place beyond 64 bits is within it.
+pub saturated_by : {X : Type 0} {a b : State} {r : Result X ImageError} (f : ℕ → List ℕ → Reads X) (other : Reads X) (place : ℕ) → ((d : List ℕ) (p : ℕ) → length d ≤ p → f p d ≡ other) → Runs a b r (f (min place (2 ^ 64 - 1)) a.held.input) → Runs a b r (f place a.held.input)
+saturated_by {a} f other place beyond h = runs_as (f place a.held.input) h (λ honest. within a.held.input (h.sound honest).1 (leb place (2 ^ 64 - 1)) refl) where
+  within : (d : List ℕ) → length d < 2 ^ 63 → (is_within : Bool) → leb place (2 ^ 64 - 1) ≡ is_within → f (min place (2 ^ 64 - 1)) d ≡ f place d
+  within d short true is = ap (λ p. f p d) (grind (arith, nat_tests))
+  within d short false is = beyond d (min place (2 ^ 64 - 1)) (grind (arith, nat_tests)) ∙ sym (beyond d place (grind (arith, nat_tests)))
 
--- and no bytes
+-- no byte is there
+part_beyond : (d : List ℕ) (place k : ℕ) → length d ≤ place → part_read d place k ≡ gives []
+part_beyond d place k h = rw (no_part d place k h, no_span d place k h) refl
+
+whole_beyond : (d : List ℕ) (place k : ℕ) → length d ≤ place → over d (if_there place k done) ≡ gives (whole k [])
+whole_beyond d place k h = rw (no_part d place k h, no_span d place k h) refl
+
 bytes_at_beyond : (d : List ℕ) (place k : ℕ) → length d ≤ place → 0 < k → bytes_at d place k ≡ Err end_of_input
 unfolding bytes_at
 bytes_at_beyond d place k h some = let test : leb k (length d - place) ≡ false = grind (arith, nat_tests) in rw test refl
 
 -- a layout that reads bytes beyond the end of the input is refused there, and has no mark of them
 pub bytes_beyond : {X : Type 0} (d : List ℕ) (place k : ℕ) (f : List ℕ → Layout X) → length d ≤ place → 0 < k → over d (bytes place k f) ≡ refuses end_of_input
-bytes_beyond d place k f h some = rw (span_beyond d place k h, bytes_at_beyond d place k h some) refl
+bytes_beyond d place k f h some = rw (no_span d place k h, bytes_at_beyond d place k h some) refl
 
-number_beyond : (d : List ℕ) (order : Endian) (place k : ℕ) → length d ≤ place → 0 < k → number_read d order place k ≡ record { answer = Err end_of_input; marks = [] }
+bytes_read_beyond : (d : List ℕ) (place k : ℕ) → length d ≤ place → 0 < k → bytes_read d place k ≡ refuses end_of_input
+bytes_read_beyond d place k h some = rw (no_span d place k h, bytes_at_beyond d place k h some) refl
+
+number_beyond : (d : List ℕ) (order : Endian) (place k : ℕ) → length d ≤ place → 0 < k → number_read d order place k ≡ refuses end_of_input
 unfolding number_at
-number_beyond d order place k h some = rw (span_beyond d place k h, bytes_at_beyond d place k h some) refl
+number_beyond d order place k h some = rw (no_span d place k h, bytes_at_beyond d place k h some) refl
 
-number_within_64_bits : (d : List ℕ) (order : Endian) (place k : ℕ) → length d < 2 ^ 63 → 0 < k → (is_within : Bool) → leb place (2 ^ 64 - 1) ≡ is_within → number_read d order (min place (2 ^ 64 - 1)) k ≡ number_read d order place k
-number_within_64_bits d order place k short some true within = ap (λ p. number_read d order p k) (grind (arith, nat_tests))
-number_within_64_bits d order place k short some false beyond = number_beyond d order (min place (2 ^ 64 - 1)) k (grind (arith, nat_tests)) some ∙ sym (number_beyond d order place k (grind (arith, nat_tests)) some)
+-- so a place that is held at the greatest of 64 bits serves as well
+pub part_saturated : {a b : State} {r : Result (List ℕ) ImageError} (place k : ℕ) → Runs a b r (part_read a.held.input (min place (2 ^ 64 - 1)) k) → Runs a b r (part_read a.held.input place k)
+part_saturated place k h = saturated_by (λ p d. part_read d p k) (gives []) place (λ d p far. part_beyond d p k far) h
 
--- no input is so long that a number stands beyond 64 bits
+pub whole_saturated : {a b : State} {r : Result (Option (List ℕ)) ImageError} (place k : ℕ) → Runs a b r (over a.held.input (if_there (min place (2 ^ 64 - 1)) k done)) → Runs a b r (over a.held.input (if_there place k done))
+whole_saturated place k h = saturated_by (λ p d. over d (if_there p k done)) (gives (whole k [])) place (λ d p far. whole_beyond d p k far) h
+
+pub bytes_saturated : {a b : State} {r : Result (List ℕ) ImageError} (place k : ℕ) → 0 < k → Runs a b r (bytes_read a.held.input (min place (2 ^ 64 - 1)) k) → Runs a b r (bytes_read a.held.input place k)
+bytes_saturated place k some h = saturated_by (λ p d. bytes_read d p k) (refuses end_of_input) place (λ d p far. bytes_read_beyond d p k far some) h
+
 pub number_saturated : {a b : State} {r : Result ℕ ImageError} (order : Endian) (place k : ℕ) → 0 < k → Runs a b r (number_read a.held.input order (min place (2 ^ 64 - 1)) k) → Runs a b r (number_read a.held.input order place k)
-number_saturated {a} order place k some h = runs_as (number_read a.held.input order place k) h (λ honest. number_within_64_bits a.held.input order place k (h.sound honest).1 some (leb place (2 ^ 64 - 1)) refl)
+number_saturated order place k some h = saturated_by (λ p d. number_read d order p k) (refuses end_of_input) place (λ d p far. number_beyond d order p k far some) h
 
 -- a number that would stand beyond 64 bits is refused with no reading
 pub number_refused : {a : State} (order : Endian) (place k : ℕ) → Sound a → 2 ^ 64 ≤ place → 0 < k → Runs {X = ℕ} a a (Err end_of_input) (number_read a.held.input order place k)

@@ -11,7 +11,7 @@ use Rattle.imagesize_source.proofs.Runs.{part_length}
 use Rattle.imagesize_source.proofs.Texts.{front_take}
 use Rattle.imagesize_source.specs.declared.text.Text.{Text}
 use Rattle.std.proofs.lemmas.Bool.{cases_lt}
-use Rattle.imagesize_source.specs.State.{Runs, past, slice_state}
+use Rattle.imagesize_source.specs.State.{State, Runs, Sound, past, slice_state}
 
 past-slice : (d : List ℕ) (spans : List Span) → past (slice_state d) spans ≡ slice_state d
 unfolding past
@@ -28,19 +28,23 @@ front_is d room old place n count copied kept =
     let same : length (part d place (length old)) ≡ n = length-part d place (length old) ∙ sym count in
     ap (take n) copied ∙ ap (λ k. take k (part d place (length old) ++ drop n old)) (sym same) ∙ take-append_seam (part d place (length old)) (drop n old) ∙ ap (part d place) (sym kept)
 
--- what was copied is what a reading gives
-slice_runs : {reads : Reads (List ℕ)} (d got : List ℕ) → length d < 2 ^ 63 → reads.answer ≡ Ok got → Runs (slice_state d) (slice_state d) (Ok got) reads
-slice_runs {reads} d got short is = record {
-  sound = λ honest. (refl, short);
-  sound_after = λ honest. (refl, short);
-  frame = refl;
-  taken = omega arith;
-  within = λ honest. omega arith;
+-- a reading that was answered, and for which nothing was taken
+pub given_runs : {X : Type 0} {a b : State} {reads : Reads X} (x : X) → Sound a → Sound b → b.frame ≡ a.frame → b.taken ≡ a.taken → reads.answer ≡ Ok x → b ≡ past a reads.marks → Runs a b (Ok x) reads
+given_runs x sound sound_after same none is passed = record {
+  sound = sound;
+  sound_after = sound_after;
+  frame = same;
+  taken = omega (arith, none);
+  within = λ honest. omega (arith, none);
   answer = λ honest goes_on. is;
-  state = λ honest goes_on. sym (past-slice d reads.marks);
+  state = λ honest goes_on. passed;
   fault = λ honest faults. absurd cc;
   ended = tt;
 }
+
+-- what was copied is what a reading gives
+slice_runs : {reads : Reads (List ℕ)} (d got : List ℕ) → length d < 2 ^ 63 → reads.answer ≡ Ok got → Runs (slice_state d) (slice_state d) (Ok got) reads
+slice_runs {reads} d got short is = given_runs got (λ honest. (refl, short)) (λ honest. (refl, short)) refl refl is (sym (past-slice d reads.marks))
 
 -- a reading of a slice
 pub slice_reads : (d room old : List ℕ) (place n : ℕ) → length d < 2 ^ 63 → n ≡ min (length old) (length d - place) → room ≡ part d place (length old) ++ drop n old → length room ≡ length old → Runs (slice_state d) (slice_state d) (Ok (take n room)) (part_read d place (length room))
@@ -75,10 +79,14 @@ slice_text_fits d t place first k n m first_is n_is m_is = omega (arith, ap leng
 pub slice_text_there : (d : List ℕ) (t : Text) (place first k n m : ℕ) → first ≡ min place (length d) → n ≡ min (length (take (length d - first) (drop first d))) k → m ≡ length (text_front t (take n (take (length d - first) (drop first d)))) → 0 < length (take m (take n (take (length d - first) (drop first d)))) → place < length d
 slice_text_there d t place first k n m first_is n_is m_is some = omega (arith, some, ap length (slice_text d t place first k n m first_is n_is m_is), text_length d t place k, part_length d place k)
 
+-- what was copied of a text is the text
+pub copied_is : (d old copied found : List ℕ) (t : Text) (place : ℕ) → found ≡ text_part d t place (length old) → length found ≤ length old → copied ≡ found → (take (length found) (copied ++ drop (length found) old) ≡ found) × (found ≡ text_part d t place (length (copied ++ drop (length found) old)))
+copied_is d old copied found t place is fits same =
+    let kept : length (copied ++ drop (length found) old) ≡ length old = omega (arith, length-append copied (drop (length found) old), ap length same, length-drop (length found) old, fits) in
+    (ap (λ bs. take (length found) (bs ++ drop (length found) old)) same ∙ take-append_seam found (drop (length found) old), is ∙ ap (text_part d t place) (sym kept))
+
 -- the reading of a text of a slice
 pub slice_reads_text : (d old copied found : List ℕ) (t : Text) (place : ℕ) → length d < 2 ^ 63 → found ≡ text_part d t place (length old) → length found ≤ length old → copied ≡ found → Runs (slice_state d) (slice_state d) (Ok (take (length found) (copied ++ drop (length found) old))) (text_read d t place (length (copied ++ drop (length found) old)))
 slice_reads_text d old copied found t place short is fits same =
-    let kept : length (copied ++ drop (length found) old) ≡ length old = omega (arith, length-append copied (drop (length found) old), ap length same, length-drop (length found) old, fits) in
-    let front : take (length found) (copied ++ drop (length found) old) ≡ found = ap (λ bs. take (length found) (bs ++ drop (length found) old)) same ∙ take-append_seam found (drop (length found) old) in
-    slice_runs d (take (length found) (copied ++ drop (length found) old)) short
-    (ap (λ k. Ok (text_part d t place k)) kept ∙ ap Ok (sym is) ∙ ap Ok (sym front))
+    let front = copied_is d old copied found t place is fits same in
+    slice_runs d (take (length found) (copied ++ drop (length found) old)) short (ap Ok (sym (front.0 ∙ front.1)))

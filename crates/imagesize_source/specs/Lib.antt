@@ -6,6 +6,7 @@ pub mod Extension
 pub mod Input
 pub mod Kept
 pub mod Layout
+pub mod Lent
 pub mod Numbers
 pub mod Paying
 pub mod ReaderState

@@ -6,6 +6,7 @@ ghost use Rattle.imagesize_source.specs.State.{State, Runs, Sound};
 
 use crate::{ImageResult, Text};
 
+pub mod lent;
 pub mod progress;
 pub mod reader;
 pub mod recording;

@@ -1,5 +1,5 @@
 //! Bytes and numbers of both byte orders.
-ghost use Rattle.std.specs.Prelude.{◌≡◌, ◌+◌, ◌^◌, ◌<◌, ◌≤◌, IfOk, IfErr};
+ghost use Rattle.std.specs.Prelude.{◌≡◌, ◌+◌, ◌^◌, ◌<◌, ◌≤◌, IfOk, IfErr, IfSome};
 ghost use Rattle.imagesize_source.specs.Numbers.{number};
 ghost use Rattle.imagesize_source.specs.Paying.{Paid};
 ghost use Rattle.imagesize_source.specs.Reading.{bytes_read, end_of_input, number_read, seen};
@@ -56,13 +56,41 @@ pub fn read_if_there<S: Source, const N: usize>(
     source: &mut S,
     place: u64,
 ) -> ImageResult<Option<[u8; N]>>
-    ensures { Runs (S.state source.old) (S.state source.new) result (over (S.state source.old).held.input (if_there place N done)) }
+    ensures pays { IfOk result (λ found. IfSome found (λ bytes. 0 < N → Paid (S.state source.old) (S.state source.new) place)) }
+    ensures runs { Runs (S.state source.old) (S.state source.new) result (over (S.state source.old).held.input (if_there place N done)) }
 {
     let mut room = [0u8; N];
     if source.read_at(place, &mut room)? < N {
         return Ok(None);
     }
     Ok(Some(room))
+}
+
+/// The `N` bytes so far behind a place. A place above 2^64 - 1 is behind the end of every input.
+#[inline(always)]
+pub fn read_bytes_behind<S: Source, const N: usize>(
+    source: &mut S,
+    place: u64,
+    distance: u64,
+) -> ImageResult<[u8; N]>
+    requires { 0 < N }
+    ensures { Runs (S.state source.old) (S.state source.new) result (bytes_read (S.state source.old).held.input (place + distance) N) }
+{
+    read_bytes::<S, N>(source, place.saturating_add(distance))
+}
+
+/// The `N` bytes so far behind a place, or none where the input ends before the last of them. A place above
+/// 2^64 - 1 is behind the end of every input.
+#[inline(always)]
+pub fn read_if_there_behind<S: Source, const N: usize>(
+    source: &mut S,
+    place: u64,
+    distance: u64,
+) -> ImageResult<Option<[u8; N]>>
+    ensures { Runs (S.state source.old) (S.state source.new) result
+        (over (S.state source.old).held.input (if_there (place + distance) N done)) }
+{
+    read_if_there::<S, N>(source, place.saturating_add(distance))
 }
 
 /// The byte at a place, as a number.

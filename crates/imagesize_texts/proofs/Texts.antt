@@ -1,5 +1,5 @@
 -- Texts that were read: what was made of them, and what holds of layouts that read them.
-use Rattle.std.proofs.Common.{◌≡◌, ℕ, zero, suc, ◌+◌, ◌-◌, ◌^◌, ◌<◌, ◌≤◌, min, Bool, true, false, ◌||◌, not, cond, eqb, leb, ltb, List, [], ◌∷◌, ◌++◌, length, take, drop, slice_index, Option, None, Result, Ok, Err, IfErr, IfOk, IfSome, refl, sym, ap, ◌∙◌, subst, arith}
+use Rattle.std.proofs.Common.{◌≡◌, ℕ, zero, suc, ◌+◌, ◌-◌, ◌^◌, ◌<◌, ◌≤◌, min, Bool, true, false, ◌||◌, not, cond, eqb, ltb, List, [], ◌∷◌, ◌++◌, length, take, drop, slice_index, Option, None, Result, Ok, Err, IfErr, IfOk, IfSome, refl, sym, ap, ◌∙◌, subst, arith}
 use Rattle.std.proofs.lemmas.Bool.Decides.{nat_tests}
 use Rattle.std.proofs.lemmas.List.{length-take, append-nil}
 use Rattle.std.specs.Char.{is_ascii_whitespace}
@@ -19,12 +19,12 @@ use Rattle.imagesize_source.specs.Extension.{Plain, Never, Lasts}
 use Rattle.imagesize_source.specs.Input.{span_at, span_of}
 use Rattle.imagesize_source.specs.Layout.{Layout, over}
 use Rattle.imagesize_source.specs.Layout.Layout.{refuse, «done», field}
-use Rattle.imagesize_source.specs.Reading.{Reads, gives, and_then, onward, bytes_at, bytes_read, number_at, number_read, refuses, behind, text_part, text_read, is_stop, seen, is_fault, is_memory, spent, stopped, faulted, end_of_input}
+use Rattle.imagesize_source.specs.Reading.{Reads, gives, and_then, onward, number_at, number_read, refuses, behind, text_part, text_read, is_stop, seen, is_fault, is_memory, spent, stopped, faulted, end_of_input}
 use Rattle.imagesize_source.specs.State.{State, Runs, EndedBy}
 use Rattle.imagesize_source.specs.Text.{is_ended, skipped}
 use Rattle.imagesize_source.proofs.Advances.{Tells, Begins}
 use Rattle.imagesize_source.proofs.Counts.{text_length}
-use Rattle.imagesize_source.proofs.Layouts.{runs_as}
+use Rattle.imagesize_source.proofs.PastTheEnd.{saturated_by}
 use Rattle.imagesize_source.proofs.Extension.{more}
 use Rattle.imagesize_source.proofs.Runs.{answered, part_is, part_length}
 use Rattle.imagesize_source.proofs.Spends.{Onto}
@@ -344,13 +344,9 @@ as_beyond : {X : Type 0} (d : List ℕ) (t : Text) (place k : ℕ) (f : List ℕ
 unfolding span_at
 as_beyond d t place k f h = ap (λ bs. record { answer = f bs; marks = span_at place (length bs) }) (text_none d t place k h)
 
-within_64_bits : {X : Type 0} (d : List ℕ) (t : Text) (place k : ℕ) (f : List ℕ → Result X ImageError) → length d < 2 ^ 63 → (is_within : Bool) → leb place (2 ^ 64 - 1) ≡ is_within → text_as d t (min place (2 ^ 64 - 1)) k f ≡ text_as d t place k f
-within_64_bits d t place k f short true within = ap (λ p. text_as d t p k f) (grind (arith, nat_tests))
-within_64_bits d t place k f short false beyond = as_beyond d t (min place (2 ^ 64 - 1)) k f (grind (arith, nat_tests)) ∙ sym (as_beyond d t place k f (grind (arith, nat_tests)))
-
 -- no input is so long that a text stands beyond 64 bits
 pub text_saturated : {X : Type 0} {a b : State} {r : Result X ImageError} (t : Text) (place k : ℕ) (f : List ℕ → Result X ImageError) → Runs a b r (text_as a.held.input t (min place (2 ^ 64 - 1)) k f) → Runs a b r (text_as a.held.input t place k f)
-text_saturated {X} {a} t place k f h = runs_as (text_as a.held.input t place k f) h (λ honest. within_64_bits a.held.input t place k f (h.sound honest).1 (leb place (2 ^ 64 - 1)) refl)
+text_saturated t place k f h = saturated_by (λ p d. text_as d t p k f) (record { answer = f []; marks = [] }) place (λ d p far. as_beyond d t p k f far) h
 
 -- readings behind readings last where both do
 pub lasts_then : {X Y : Type 0} (r : List ℕ → Reads X) (f : X → List ℕ → Reads Y) → Lasts r → ((y : X) → Lasts (f y)) → Lasts (λ d. and_then (r d) (λ y. f y d))
@@ -372,18 +368,3 @@ number_lasts order place k d x v is =
     let one = answered_done (span_of d place k) (number_at d order place k) in
     sym (answered_done (span_of (d ++ x) place k) (number_at (d ++ x) order place k))
     ∙ more d x (field order place k done) v (λ _. tt) (ap (λ r. r.answer) one ∙ is) ∙ one
-
--- beyond the end of the input there are no bytes of a reading either
-no_bytes : (d : List ℕ) (place k : ℕ) → length d ≤ place → 0 < k → bytes_read d place k ≡ record { answer = Err end_of_input; marks = [] }
-unfolding bytes_at span_of span_at
-no_bytes d place k far some =
-    let none : min k (length d - place) ≡ 0 = omega arith in
-    let test : leb k (length d - place) ≡ false = grind (arith, nat_tests) in
-    rw (none, test) refl
-
-bytes_within : (d : List ℕ) (place k : ℕ) → length d < 2 ^ 63 → 0 < k → (is_within : Bool) → leb place (2 ^ 64 - 1) ≡ is_within → bytes_read d (min place (2 ^ 64 - 1)) k ≡ bytes_read d place k
-bytes_within d place k short some true within = ap (λ p. bytes_read d p k) (grind (arith, nat_tests))
-bytes_within d place k short some false beyond = no_bytes d (min place (2 ^ 64 - 1)) k (grind (arith, nat_tests)) some ∙ sym (no_bytes d place k (grind (arith, nat_tests)) some)
-
-pub bytes_saturated : {a b : State} {r : Result (List ℕ) ImageError} (place k : ℕ) → 0 < k → Runs a b r (bytes_read a.held.input (min place (2 ^ 64 - 1)) k) → Runs a b r (bytes_read a.held.input place k)
-bytes_saturated {a} place k some h = runs_as (bytes_read a.held.input place k) h (λ honest. bytes_within a.held.input place k (h.sound honest).1 some (leb place (2 ^ 64 - 1)) refl)

@@ -1,13 +1,13 @@
 //! Texts: lines up to a delimiter and words between white space, each of so many bytes at most.
 ghost use Rattle.std.specs.Prelude.{◌≡◌, ◌+◌, ◌<◌, ◌≤◌, length, IfOk};
 ghost use Rattle.imagesize_source.specs.Paying.{Paid};
-ghost use Rattle.imagesize_source.specs.Reading.{bytes_read, number_read, seen};
+ghost use Rattle.imagesize_source.specs.Reading.{number_read, seen};
 ghost use Rattle.imagesize_source.specs.State.{Runs};
 ghost use Rattle.imagesize_texts.specs.Contents.{ended_word, is_word_end, line_length, line_text, no_end, number_text, utf8, word_text};
 ghost use Rattle.imagesize_texts.specs.Texts.{length_read, line_read, read_word_of, word_read};
 
 use imagesize_source::source::Source;
-use imagesize_source::util::{Endian, read_bytes, read_u32};
+use imagesize_source::util::{Endian, read_u32};
 use imagesize_source::{ImageError, ImageResult, Reason, Text};
 
 /// A word takes fewer bytes of an input than this.
@@ -138,19 +138,6 @@ pub fn read_u32_behind<S: Source>(
         (number_read (S.state source.old).held.input endian (place + distance) 4) }
 {
     read_u32(source, place.saturating_add(distance), endian)
-}
-
-/// The `N` bytes so far behind a place. A place above 2^64 - 1 is behind the end of every input.
-pub fn read_bytes_behind<S: Source, const N: usize>(
-    source: &mut S,
-    place: u64,
-    distance: u64,
-) -> ImageResult<[u8; N]>
-    requires { 0 < N }
-    ensures { Runs (S.state source.old) (S.state source.new) result
-        (bytes_read (S.state source.old).held.input (place + distance) N) }
-{
-    read_bytes::<S, N>(source, place.saturating_add(distance))
 }
 
 // The text of a line, without the delimiter that ends it, where there is room for so many bytes.

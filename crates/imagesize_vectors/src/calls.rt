@@ -1,10 +1,10 @@
 //! What each call returns of the worked inputs.
 
-use crate::readers::OneByte;
-use crate::rows::{Row, kinds, read_as, rows};
+use crate::readers::{Counting, Cutting, OneByte};
+use crate::rows::{ReadAs, Row, Wanted, kinds, read_as, tables};
 use imagesize::{
-    ImageError, ImageResult, ImageSize, ImageType, Probed, blob_size, image_type, reader_probe,
-    reader_size, reader_type,
+    ImageError, ImageResult, ImageSize, ImageType, Probed, Told, blob_size, image_type,
+    reader_probe, reader_size, reader_type,
 };
 use std::alloc::{AllocError, Global};
 use std::fmt::Display;
@@ -15,73 +15,140 @@ use std::test::Fail;
 /// Whether a size is the wanted one, or a refusal has the wanted text.
 pub fn is_answer(
     alloc: Global,
-    row: &Row,
+    wanted: Wanted<'_>,
     answer: &ImageResult<ImageSize>,
 ) -> Result<bool, AllocError> {
     match answer {
-        Ok(size) => Ok(row.answer == Ok((size.width, size.height))),
-        Err(error) => is_refusal(alloc, row, error),
+        Ok(size) => Ok(wanted == Ok((size.width, size.height))),
+        Err(error) => is_refusal(alloc, wanted, error),
     }
 }
 
-fn is_refusal(alloc: Global, row: &Row, error: &ImageError) -> Result<bool, AllocError> {
+fn is_refusal(alloc: Global, wanted: Wanted<'_>, error: &ImageError) -> Result<bool, AllocError> {
     let text = error.to_string(alloc)?;
-    Ok(row.answer == Err(text.as_str()))
+    Ok(wanted == Err(text.as_str()))
 }
 
 // Whether a type is the wanted one, or its refusal has the wanted text.
-fn is_type(alloc: Global, row: &Row, found: &ImageResult<ImageType>) -> Result<bool, AllocError> {
+fn is_type(
+    alloc: Global,
+    row: &Row<'_>,
+    found: &ImageResult<ImageType>,
+) -> Result<bool, AllocError> {
     match found {
         Ok(kind) => Ok(row.kind == Some(*kind)),
-        Err(error) => Ok(row.kind.is_none() && is_refusal(alloc, row, error)?),
+        Err(error) => Ok(row.kind.is_none() && is_refusal(alloc, row.answer, error)?),
     }
 }
 
-fn is_probed(alloc: Global, row: &Row, probed: &Probed) -> Result<bool, AllocError> {
-    Ok(row.kind == probed.kind && is_answer(alloc, row, &probed.answer)?)
+fn is_probed(alloc: Global, row: &Row<'_>, probed: &Probed) -> Result<bool, AllocError> {
+    Ok(
+        row.kind == probed.kind
+            && row.taken == probed.taken
+            && is_answer(alloc, row.answer, &probed.answer)?,
+    )
+}
+
+// The calls on the slices of these inputs have their answers.
+fn check_slices(rt: &(impl Abort + AllocGlobal), rows: &[Row<'_>]) -> Result<(), Fail> {
+    let alloc = rt.alloc();
+    for row in rows {
+        let shows = row.shows;
+        assert!(rt; is_type(alloc, row, &image_type(row.bytes))?, "{shows}");
+        assert!(rt;
+            is_answer(alloc, row.answer, &blob_size(row.bytes))?,
+            "{shows}"
+        );
+    }
+    Ok(())
 }
 
 #[test]
 fn slices_have_the_worked_answers(rt: HostRuntime) -> Result<(), Fail> {
+    for rows in tables() {
+        check_slices(&rt, rows)?;
+    }
+    Ok(())
+}
+
+// The calls on readers of an input have its answers; each call is given one of them.
+fn check_readers<R: Told>(
+    rt: &(impl Abort + AllocGlobal),
+    row: &Row<'_>,
+    of_type: R,
+    of_size: R,
+    mut of_both: R,
+) -> Result<(), Fail> {
     let alloc = rt.alloc();
-    for row in rows() {
-        let shows = row.shows;
-        assert!(rt; is_type(alloc, row, &image_type(row.bytes))?, "{shows}");
-        assert!(rt; is_answer(alloc, row, &blob_size(row.bytes))?, "{shows}");
+    let shows = row.shows;
+    assert!(rt; is_type(alloc, row, &reader_type(of_type))?, "{shows}");
+    assert!(rt;
+        is_answer(alloc, row.answer, &reader_size(of_size))?,
+        "{shows}"
+    );
+    assert!(rt;
+        is_probed(alloc, row, &reader_probe(&mut of_both))?,
+        "{shows}"
+    );
+    Ok(())
+}
+
+fn check_cursors(rt: &(impl Abort + AllocGlobal), rows: &[Row<'_>]) -> Result<(), Fail> {
+    for row in rows {
+        let cursor = || Cursor::new(row.bytes);
+        check_readers(rt, row, cursor(), cursor(), cursor())?;
     }
     Ok(())
 }
 
 #[test]
 fn readers_have_the_worked_answers(rt: HostRuntime) -> Result<(), Fail> {
-    let alloc = rt.alloc();
-    for row in rows() {
-        let shows = row.shows;
-        let cursor = || Cursor::new(row.bytes);
-        assert!(rt; is_type(alloc, row, &reader_type(cursor()))?, "{shows}");
-        assert!(rt; is_answer(alloc, row, &reader_size(cursor()))?, "{shows}");
-        assert!(rt;
-            is_probed(alloc, row, &reader_probe(&mut cursor()))?,
-            "{shows}"
-        );
+    for rows in tables() {
+        check_cursors(&rt, rows)?;
+    }
+    Ok(())
+}
+
+fn check_one_byte(rt: &(impl Abort + AllocGlobal), rows: &[Row<'_>]) -> Result<(), Fail> {
+    for row in rows {
+        let reader = || OneByte {
+            reader: Cursor::new(row.bytes),
+        };
+        check_readers(rt, row, reader(), reader(), reader())?;
     }
     Ok(())
 }
 
 #[test]
 fn one_byte_a_read_changes_no_answer(rt: HostRuntime) -> Result<(), Fail> {
-    let alloc = rt.alloc();
-    for row in rows() {
-        let shows = row.shows;
-        let reader = || OneByte {
+    for rows in tables() {
+        check_one_byte(&rt, rows)?;
+    }
+    Ok(())
+}
+
+fn check_pieces(
+    rt: &(impl Abort + AllocGlobal),
+    rows: &[Row<'_>],
+    lengths: &[usize],
+) -> Result<(), Fail> {
+    for row in rows {
+        let reader = || Cutting {
             reader: Cursor::new(row.bytes),
+            lengths,
+            next: 0,
         };
-        assert!(rt; is_type(alloc, row, &reader_type(reader()))?, "{shows}");
-        assert!(rt; is_answer(alloc, row, &reader_size(reader()))?, "{shows}");
-        assert!(rt;
-            is_probed(alloc, row, &reader_probe(&mut reader()))?,
-            "{shows}"
-        );
+        check_readers(rt, row, reader(), reader(), reader())?;
+    }
+    Ok(())
+}
+
+#[test]
+fn pieces_of_any_length_change_no_answer(rt: HostRuntime) -> Result<(), Fail> {
+    for rows in tables() {
+        check_pieces(&rt, rows, &[3, 1, 4, 1, 5, 9, 2, 6])?;
+        check_pieces(&rt, rows, &[11, 7, 1])?;
+        check_pieces(&rt, rows, &[13, 2])?;
     }
     Ok(())
 }
@@ -116,20 +183,30 @@ fn may_change(kind: Option<ImageType>) -> bool {
     )
 }
 
+fn check_followed(
+    rt: &(impl Abort + AllocGlobal),
+    rows: &[Row<'_>],
+    behind: &[u8],
+) -> Result<(), Fail> {
+    let alloc = rt.alloc();
+    for row in rows {
+        if row.answer.is_ok() && !may_change(row.kind) {
+            let bytes = followed(alloc, row.bytes, behind)?;
+            assert!(rt;
+                is_answer(alloc, row.answer, &blob_size(bytes.as_slice()))?,
+                "{}",
+                row.shows
+            );
+        }
+    }
+    Ok(())
+}
+
 #[test]
 fn bytes_that_follow_change_no_size(rt: HostRuntime) -> Result<(), Fail> {
-    let alloc = rt.alloc();
-    for row in rows() {
-        if row.answer.is_ok() && !may_change(row.kind) {
-            for behind in [[0xFF].as_slice(), &[0; 1000]] {
-                let bytes = followed(alloc, row.bytes, behind)?;
-                assert!(rt;
-                    is_answer(alloc, row, &blob_size(bytes.as_slice()))?,
-                    "{}",
-                    row.shows
-                );
-            }
-        }
+    for rows in tables() {
+        check_followed(&rt, rows, &[0xFF])?;
+        check_followed(&rt, rows, &[0; 1000])?;
     }
     Ok(())
 }
@@ -151,22 +228,33 @@ fn places_of_a_size_count_from_the_first_byte(rt: HostRuntime) -> Result<(), Fai
 }
 
 // A type reads a size, wherever the reader stands.
-fn check_size_as(rt: &(impl Abort + AllocGlobal), row: &Row) -> Result<(), Fail> {
+fn check_size_as(
+    rt: &(impl Abort + AllocGlobal),
+    bytes: &[u8],
+    kind: ImageType,
+    wanted: Wanted<'_>,
+) -> Result<(), Fail> {
     let alloc = rt.alloc();
-    let shows = row.shows;
-    if let Some(kind) = row.kind {
-        for place in [0, 4, 1000] {
-            let mut cursor = Cursor::new(row.bytes);
-            cursor.set_position(place);
-            assert!(rt;
-                is_answer(alloc, row, &kind.reader_size(&mut cursor))?,
-                "{shows}"
-            );
-            let mut reader = OneByte { reader: cursor };
-            assert!(rt;
-                is_answer(alloc, row, &kind.reader_size(&mut reader))?,
-                "{shows}"
-            );
+    for place in [0, 4, 1000] {
+        let mut cursor = Cursor::new(bytes);
+        cursor.set_position(place);
+        assert!(rt;
+            is_answer(alloc, wanted, &kind.reader_size(&mut cursor))?,
+            "{bytes:?}"
+        );
+        let mut reader = OneByte { reader: cursor };
+        assert!(rt;
+            is_answer(alloc, wanted, &kind.reader_size(&mut reader))?,
+            "{bytes:?}"
+        );
+    }
+    Ok(())
+}
+
+fn check_own_sizes(rt: &(impl Abort + AllocGlobal), rows: &[Row<'_>]) -> Result<(), Fail> {
+    for row in rows {
+        if let Some(kind) = row.kind {
+            check_size_as(rt, row.bytes, kind, row.answer)?;
         }
     }
     Ok(())
@@ -174,11 +262,33 @@ fn check_size_as(rt: &(impl Abort + AllocGlobal), row: &Row) -> Result<(), Fail>
 
 #[test]
 fn a_type_reads_its_size_wherever_the_reader_stands(rt: HostRuntime) -> Result<(), Fail> {
-    for row in rows() {
-        check_size_as(&rt, row)?;
+    for rows in tables() {
+        check_own_sizes(&rt, rows)?;
     }
     for row in read_as() {
-        check_size_as(&rt, row)?;
+        check_size_as(&rt, row.bytes, row.kind, row.answer)?;
+    }
+    Ok(())
+}
+
+#[test]
+fn a_type_takes_what_its_size_is_read_from(rt: HostRuntime) -> Result<(), Fail> {
+    let alloc = rt.alloc();
+    for ReadAs {
+        shows,
+        bytes,
+        kind,
+        answer,
+        taken,
+    } in read_as() {
+        let mut count = 0;
+        let mut reader = Counting {
+            reader: Cursor::new(*bytes),
+            count: &mut count,
+        };
+        let found = kind.reader_size(&mut reader);
+        assert!(rt; is_answer(alloc, *answer, &found)?, "{shows}");
+        assert_eq!(rt; count, *taken, "{shows}");
     }
     Ok(())
 }

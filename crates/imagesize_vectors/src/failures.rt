@@ -2,7 +2,10 @@
 
 use crate::long::{JPEG_SIZE, jpeg_behind};
 use crate::readers::{Failing, Halting, Interrupted, OneByte};
-use crate::rows::{EXTENDED_DDS, GENERAL_HEIF, GIF, ICON, NESTED_JPEG, PVR, TGA};
+use crate::rows::fixed::{GIF, TGA};
+use crate::rows::heif::GENERAL_HEIF;
+use crate::rows::records::{ICON, NESTED_JPEG};
+use crate::rows::textures::{EXTENDED_DDS, PVR};
 use imagesize::{
     ImageError, ImageResult, ImageSize, ImageType, Reason, Told, reader_probe, reader_size,
     reader_type,
@@ -119,11 +122,7 @@ pub fn check_each_failure(
 fn each_failure_in_turn_is_the_fault_that_is_answered(rt: HostRuntime) -> Result<(), Fail> {
     for bytes in [GIF, TGA, PVR, EXTENDED_DDS, ICON, NESTED_JPEG] {
         let kind = reader_type(Cursor::new(bytes))?;
-        for failure in failures() {
-            for call in calls(kind) {
-                check_failures(&rt, bytes, call, failure)?;
-            }
-        }
+        check_each_failure(&rt, bytes, kind)?;
     }
     Ok(())
 }
@@ -139,12 +138,7 @@ fn a_failure_behind_the_first_bytes_is_no_unknown_kind(rt: HostRuntime) -> Resul
 #[test]
 fn each_failure_along_the_segments_is_answered(rt: HostRuntime) -> Result<(), Fail> {
     let bytes = jpeg_behind(rt.alloc(), 100)?;
-    for failure in failures() {
-        for call in calls(ImageType::Jpeg) {
-            check_failures(&rt, bytes.as_slice(), call, failure)?;
-        }
-    }
-    Ok(())
+    check_each_failure(&rt, bytes.as_slice(), ImageType::Jpeg)
 }
 
 #[test]

@@ -1,177 +1,14 @@
-//! What is answered of codestreams and boxes of JPEG XL.
+//! What is answered of the fields and the boxes of JPEG XL.
 
+use crate::calls::is_answer;
 use crate::failures::check_each_failure;
 use crate::readers::OneByte;
-use imagesize::{
-    ImageResult, ImageSize, ImageType, Span, blob_size, blob_trace, image_type, reader_probe,
-    reader_size,
-};
+use crate::rows::Wanted;
+use crate::rows::jxl::{ALONE, IN_A_BOX};
+use imagesize::{ImageSize, ImageType, blob_size, reader_size};
 use std::alloc::{AllocError, Global};
-use std::fmt::Display;
 use std::io::{BufReader, Cursor};
 use std::test::Fail;
-
-// An input, and what is answered of it.
-#[derive(Clone, Copy)]
-struct Row {
-    // What it shows.
-    shows: &'static str,
-    // Its bytes.
-    bytes: &'static [u8],
-    // Its width and height, or the text of its refusal.
-    answer: Result<(usize, usize), &'static str>,
-    // The start and the length of each reading's span.
-    spans: &'static [(u64, u64)],
-    // How many bytes are taken of it.
-    taken: u64,
-}
-
-// A codestream alone, of which four bytes of sixteen are missing.
-const ALONE: &[u8] = b"\xFF\x0A\x43\x02\0\0\0\0\0\0\0\0";
-
-// A codestream in an open box.
-const IN_A_BOX: &[u8] = b"\0\0\0\x0CJXL \x0D\x0A\x87\x0A\
-    \0\0\0\0jxlc\xFF\x0A\x43\x02\0";
-
-static ROWS: [Row; 17] = [
-    Row {
-        shows: "a codestream with fewer than sixteen bytes",
-        bytes: ALONE,
-        answer: Ok((16, 16)),
-        spans: &[(0, 12), (0, 2), (2, 10)],
-        taken: 12,
-    },
-    Row {
-        shows: "a box that ends above 64 bits",
-        bytes: b"\0\0\0\x0CJXL \x0D\x0A\x87\x0A\
-            \0\0\0\x01jxlc\xFF\xFF\xFF\xFF\xFF\xFF\xFF\xFF",
-        answer: Err("Hit end of file before finding size"),
-        spans: &[(0, 12), (0, 2), (12, 8), (20, 8)],
-        taken: 28,
-    },
-    Row {
-        shows: "a box smaller than its head",
-        bytes: b"\0\0\0\x0CJXL \x0D\x0A\x87\x0A\
-            \0\0\0\x07jxlc",
-        answer: Err("Invalid size for jxlc box: 7"),
-        spans: &[(0, 12), (0, 2), (12, 8)],
-        taken: 20,
-    },
-    Row {
-        shows: "a codestream in two pieces",
-        bytes: b"\0\0\0\x0CJXL \x0D\x0A\x87\x0A\
-            \0\0\0\x0Ejxlp\0\0\0\0\xFF\x0A\
-            \0\0\0\x0Ejxlp\x80\0\0\x01\x43\x02",
-        answer: Ok((16, 16)),
-        spans: &[
-            (0, 12),
-            (0, 2),
-            (12, 8),
-            (20, 4),
-            (24, 2),
-            (26, 8),
-            (34, 4),
-            (38, 2),
-        ],
-        taken: 40,
-    },
-    Row {
-        shows: "four thirds of ten pixels",
-        bytes: b"\xFF\x0A\x48\xB0\0\0\0\0\0\0\0\0",
-        answer: Ok((13, 10)),
-        spans: &[(0, 12), (0, 2), (2, 10)],
-        taken: 12,
-    },
-    Row {
-        shows: "a field that ends at the last bit",
-        bytes: b"\0\0\0\x0CJXL \x0D\x0A\x87\x0A\
-            \0\0\0\x0Cjxlc\xFF\x0A\x48\xB0",
-        answer: Ok((13, 10)),
-        spans: &[(0, 12), (0, 2), (12, 8), (20, 4)],
-        taken: 24,
-    },
-    Row {
-        shows: "a codestream in an open box",
-        bytes: IN_A_BOX,
-        answer: Ok((16, 16)),
-        spans: &[(0, 12), (0, 2), (12, 8), (20, 5)],
-        taken: 25,
-    },
-    Row {
-        shows: "a codestream without its signature",
-        bytes: b"\0\0\0\x0CJXL \x0D\x0A\x87\x0A\
-            \0\0\0\x0Ajxlc\0\0",
-        answer: Err("Invalid JXL signature"),
-        spans: &[(0, 12), (0, 2), (12, 8), (20, 2)],
-        taken: 22,
-    },
-    Row {
-        shows: "a piece without room for its index",
-        bytes: b"\0\0\0\x0CJXL \x0D\x0A\x87\x0A\
-            \0\0\0\x0Bjxlp\0\0\0",
-        answer: Err("failed to fill whole buffer"),
-        spans: &[(0, 12), (0, 2), (12, 8)],
-        taken: 20,
-    },
-    Row {
-        shows: "an orientation that exchanges width and height",
-        bytes: b"\xFF\x0A\x48\x70\x09\0\0\0\0\0\0\0",
-        answer: Ok((10, 20)),
-        spans: &[(0, 12), (0, 2), (2, 10)],
-        taken: 12,
-    },
-    Row {
-        shows: "twelve tenths of ten pixels",
-        bytes: b"\xFF\x0A\x48\xA0\0\0\0\0\0\0\0\0",
-        answer: Ok((12, 10)),
-        spans: &[(0, 12), (0, 2), (2, 10)],
-        taken: 12,
-    },
-    Row {
-        shows: "three halves of ten pixels",
-        bytes: b"\xFF\x0A\x48\xC0\0\0\0\0\0\0\0\0",
-        answer: Ok((15, 10)),
-        spans: &[(0, 12), (0, 2), (2, 10)],
-        taken: 12,
-    },
-    Row {
-        shows: "sixteen ninths of ten pixels",
-        bytes: b"\xFF\x0A\x48\xD0\0\0\0\0\0\0\0\0",
-        answer: Ok((17, 10)),
-        spans: &[(0, 12), (0, 2), (2, 10)],
-        taken: 12,
-    },
-    Row {
-        shows: "five quarters of ten pixels",
-        bytes: b"\xFF\x0A\x48\xE0\0\0\0\0\0\0\0\0",
-        answer: Ok((12, 10)),
-        spans: &[(0, 12), (0, 2), (2, 10)],
-        taken: 12,
-    },
-    Row {
-        shows: "sixteen ninths of eight pixels",
-        bytes: b"\xFF\x0A\x41\x03\0\0\0\0\0\0\0\0",
-        answer: Ok((14, 8)),
-        spans: &[(0, 12), (0, 2), (2, 10)],
-        taken: 12,
-    },
-    Row {
-        shows: "a box that ends at the greatest place",
-        bytes: b"\0\0\0\x0CJXL \x0D\x0A\x87\x0A\
-            \0\0\0\x01free\xFF\xFF\xFF\xFF\xFF\xFF\xFF\xF3",
-        answer: Err("failed to fill whole buffer"),
-        spans: &[(0, 12), (0, 2), (12, 8), (20, 8)],
-        taken: 28,
-    },
-    Row {
-        shows: "a box that ends one byte behind it",
-        bytes: b"\0\0\0\x0CJXL \x0D\x0A\x87\x0A\
-            \0\0\0\x01free\xFF\xFF\xFF\xFF\xFF\xFF\xFF\xF4",
-        answer: Err("Hit end of file before finding size"),
-        spans: &[(0, 12), (0, 2), (12, 8), (20, 8)],
-        taken: 28,
-    },
-];
 
 // Of each ratio from 0 to 7, at a small image and at another: first by default, then with an orientation from 4 to 7.
 const RATIOS: [(&[u8], (usize, usize)); 32] = [
@@ -231,7 +68,7 @@ const ORIENTATIONS: [(&[u8], (usize, usize)); 9] = [
 ];
 
 // Boxes behind the signature box, and what is answered of them.
-const BOXES: [(&str, &[u8], Result<(usize, usize), &str>); 11] = [
+const BOXES: [(&str, &[u8], Wanted<'static>); 11] = [
     (
         "a box that is passed",
         b"\0\0\0\x09free\x01\0\0\0\x0Cjxlc\xFF\x0A\x48\xB0",
@@ -289,84 +126,6 @@ const BOXES: [(&str, &[u8], Result<(usize, usize), &str>); 11] = [
         Err("Hit end of file before finding size"),
     ),
 ];
-
-// Whether a size is the wanted one, or a refusal has the wanted text.
-fn is_answer(
-    alloc: Global,
-    wanted: Result<(usize, usize), &str>,
-    answer: &ImageResult<ImageSize>,
-) -> Result<bool, AllocError> {
-    match answer {
-        Ok(size) => Ok(wanted == Ok((size.width, size.height))),
-        Err(error) => {
-            let text = error.to_string(alloc)?;
-            Ok(wanted == Err(text.as_str()))
-        }
-    }
-}
-
-#[test]
-fn a_codestream_has_the_worked_answer(rt: HostRuntime) -> Result<(), Fail> {
-    let alloc = rt.alloc();
-    for row in &ROWS {
-        let shows = row.shows;
-        assert_eq!(rt; image_type(row.bytes)?, ImageType::Jxl, "{shows}");
-        assert!(rt;
-            is_answer(alloc, row.answer, &blob_size(row.bytes))?,
-            "{shows}"
-        );
-        let answer = ImageType::Jxl.reader_size(&mut Cursor::new(row.bytes));
-        assert!(rt; is_answer(alloc, row.answer, &answer)?, "{shows}");
-    }
-    Ok(())
-}
-
-// Whether spans are the wanted ones.
-fn are_spans(spans: &[Span], wanted: &[(u64, u64)]) -> bool {
-    if spans.len() != wanted.len() {
-        return false;
-    }
-    for (span, (start, len)) in spans.iter().zip(wanted) {
-        if span.start != *start || span.len != *len {
-            return false;
-        }
-    }
-    true
-}
-
-#[test]
-fn a_codestream_has_the_worked_spans(rt: HostRuntime) -> Result<(), Fail> {
-    let alloc = rt.alloc();
-    for row in &ROWS {
-        let shows = row.shows;
-        let trace = blob_trace(alloc, row.bytes)?;
-        assert_eq!(rt; trace.kind, Some(ImageType::Jxl), "{shows}");
-        assert!(rt; is_answer(alloc, row.answer, &trace.answer)?, "{shows}");
-        assert!(rt; are_spans(&trace.spans, row.spans), "{shows}");
-    }
-    Ok(())
-}
-
-#[test]
-fn each_byte_of_a_codestream_is_taken_once(rt: HostRuntime) -> Result<(), Fail> {
-    let alloc = rt.alloc();
-    for row in &ROWS {
-        let shows = row.shows;
-        let mut reader = Cursor::new(row.bytes);
-        let probed = reader_probe(&mut reader);
-        assert_eq!(rt; probed.kind, Some(ImageType::Jxl), "{shows}");
-        assert_eq!(rt; probed.taken, row.taken, "{shows}");
-        assert!(rt; is_answer(alloc, row.answer, &probed.answer)?, "{shows}");
-        let mut reader = OneByte {
-            reader: Cursor::new(row.bytes),
-        };
-        let probed = reader_probe(&mut reader);
-        assert_eq!(rt; probed.kind, Some(ImageType::Jxl), "{shows}");
-        assert_eq!(rt; probed.taken, row.taken, "{shows}");
-        assert!(rt; is_answer(alloc, row.answer, &probed.answer)?, "{shows}");
-    }
-    Ok(())
-}
 
 // Whether these codestreams have these sizes, each also by one byte a read.
 fn have_sizes(codestreams: &[(&[u8], (usize, usize))]) -> bool {

@@ -2,6 +2,7 @@
 //! the size of one file.
 #![tactic(auto)]
 
+pub mod allocators;
 #[cfg(test)]
 mod calls;
 #[cfg(test)]
@@ -9,11 +10,15 @@ mod counts;
 #[cfg(test)]
 mod failures;
 #[cfg(test)]
+mod files;
+#[cfg(test)]
 mod heif;
 #[cfg(test)]
 mod jxl;
 #[cfg(test)]
 mod long;
+#[cfg(test)]
+mod memory;
 #[cfg(test)]
 mod queries;
 pub mod readers;

@@ -1,5 +1,5 @@
 //! Readers that do what few files do.
-ghost use Rattle.std.specs.Prelude.{◌≡◌, ℕ, pos, zero, ◌+◌, ◌-◌, ◌%◌, ◌<◌, ◌≤◌, min, length, slice_get, Option, None, Some, Ok, Err, IfOk, IsErr, true, not};
+ghost use Rattle.std.specs.Prelude.{◌≡◌, ◌≢◌, ℕ, pos, zero, ◌+◌, ◌-◌, ◌%◌, ◌^◌, ◌<◌, ◌≤◌, min, length, slice_get, Option, None, Some, Ok, Err, IfOk, IfErr, IsErr, true, not};
 ghost use Rattle.std.specs.Io.Cursor.{cursor_inner, cursor_position};
 ghost use Rattle.imagesize_source.specs.Telling.{ReadTells, SeekTells, counted};
 ghost use Rattle.imagesize_vectors.specs.Readers.{may_fail, interrupted_more, halting_telling, StandsAt, StandsAtEnd, failure_at, left_after};
@@ -34,6 +34,47 @@ impl<R: Told> Told for OneByte<R> {
     }
 }
 
+/// Gives what another reader gives, in pieces of lengths that are listed, over and over.
+#[derive(Drop)]
+pub struct Cutting<'a, R: Told> {
+    /// The other reader.
+    pub reader: R,
+    /// How many bytes a read gives at most; one where this is none.
+    pub lengths: &'a [usize],
+    /// Which of them is next; behind the last one a read gives one byte.
+    pub next: usize,
+}
+
+impl<R: Told> Told for Cutting<'_, R> {
+    ghost telling = { λ r. R.telling r.reader };
+
+    ghost count = { λ r. R.count r.reader };
+
+    fn read_told(&mut self, room: &mut [u8]) -> Result<usize, Stop>
+        ensures bound { IfOk result (λ n. n ≤ length room.new) }
+        ensures told { ReadTells (R.telling self.old.reader) (R.telling self.new.reader) room.new result }
+        ensures counts { R.count self.new.reader ≡ counted (R.count self.old.reader) result }
+        ensures cuts { (most : ℕ) → slice_get self.old.lengths.now self.old.next ≡ Some most → 0 < most
+            → IfOk result (λ n. n ≤ most) }
+    {
+        let most = match self.lengths.get(self.next) {
+            Some(length) => {
+                self.next = self.next.saturating_add(1);
+                room.len().min((*length).max(1))
+            }
+            None => {
+                self.next = 0;
+                room.len().min(1)
+            }
+        };
+        self.reader.read_told(&mut room[..most])
+    }
+
+    fn seek_told(&mut self, to: SeekFrom) -> io::Result<u64> {
+        self.reader.seek_told(to)
+    }
+}
+
 /// Gives what another reader gives, and counts its bytes.
 #[derive(Drop)]
 pub struct Counting<'a, R: Told> {
@@ -48,7 +89,13 @@ impl<R: Told> Told for Counting<'_, R> {
 
     ghost count = { λ r. Some r.count.now };
 
-    fn read_told(&mut self, room: &mut [u8]) -> Result<usize, Stop> {
+    fn read_told(&mut self, room: &mut [u8]) -> Result<usize, Stop>
+        ensures bound { IfOk result (λ n. n ≤ length room.new) }
+        ensures told { ReadTells (may_fail (R.telling self.old.reader)) (may_fail (R.telling self.new.reader)) room.new result }
+        ensures counts { ◌≡◌ {A = Option ℕ} (Some self.new.count.now) (counted (Some self.old.count.now) result) }
+        ensures gives { self.old.count.now + length room.old < 2 ^ 64
+            → ReadTells (R.telling self.old.reader) (R.telling self.new.reader) room.new result }
+    {
         let given = self.reader.read_told(room)?;
         match self.count.checked_add(given as u64) {
             Some(count) => {
@@ -59,7 +106,11 @@ impl<R: Told> Told for Counting<'_, R> {
         }
     }
 
-    fn seek_told(&mut self, to: SeekFrom) -> io::Result<u64> {
+    fn seek_told(&mut self, to: SeekFrom) -> io::Result<u64>
+        ensures told { SeekTells (may_fail (R.telling self.old.reader)) (may_fail (R.telling self.new.reader)) to result }
+        ensures counts { ◌≡◌ {A = Option ℕ} (Some self.new.count.now) (Some self.old.count.now) }
+        ensures goes { SeekTells (R.telling self.old.reader) (R.telling self.new.reader) to result }
+    {
         self.reader.seek_told(to)
     }
 }
@@ -217,6 +268,9 @@ impl<R: Told> Told for Failing<R> {
         ensures told { ReadTells (may_fail (R.telling self.old.reader)) (may_fail (R.telling self.new.reader)) room.new result }
         ensures counts { R.count self.new.reader ≡ counted (R.count self.old.reader) result }
         ensures fails { self.old.left ≡ Some 0 → result ≡ Err (Stop.Fault self.old.error) }
+        ensures gives { failure_at self.old.left self.old.error ≡ Ok tt
+            → ReadTells (R.telling self.old.reader) (R.telling self.new.reader) room.new result }
+        ensures left { self.new.left ≡ left_after self.old.left }
     {
         match self.step() {
             Ok(()) => self.reader.read_told(room),
@@ -228,6 +282,9 @@ impl<R: Told> Told for Failing<R> {
         ensures told { SeekTells (may_fail (R.telling self.old.reader)) (may_fail (R.telling self.new.reader)) to result }
         ensures counts { R.count self.new.reader ≡ R.count self.old.reader }
         ensures fails { self.old.left ≡ Some 0 → result ≡ Err self.old.error }
+        ensures goes { failure_at self.old.left self.old.error ≡ Ok tt
+            → SeekTells (R.telling self.old.reader) (R.telling self.new.reader) to result }
+        ensures left { self.new.left ≡ left_after self.old.left }
     {
         self.step()?;
         self.reader.seek_told(to)
@@ -248,7 +305,12 @@ impl<R: Told> Told for Claiming<R> {
 
     ghost count = { λ r. R.count r.reader };
 
-    fn read_told(&mut self, room: &mut [u8]) -> Result<usize, Stop> {
+    fn read_told(&mut self, room: &mut [u8]) -> Result<usize, Stop>
+        ensures bound { IfOk result (λ n. n ≤ length room.new) }
+        ensures told { ReadTells None None room.new result }
+        ensures counts { R.count self.new.reader ≡ counted (R.count self.old.reader) result }
+        ensures gives { ReadTells (R.telling self.old.reader) (R.telling self.new.reader) room.new result }
+    {
         self.reader.read_told(room)
     }
 
@@ -258,6 +320,9 @@ impl<R: Told> Told for Claiming<R> {
         ensures claims { to ≡ SeekFrom.End (pos zero) → IfOk result (λ place. place ≡ self.old.told) }
         ensures stands { to ≡ SeekFrom.End (pos zero) → IfOk result (λ place.
             StandsAt (R.telling self.old.reader) (R.telling self.new.reader) self.old.told) }
+        ensures ends { to ≡ SeekFrom.End (pos zero) → IfErr result (λ e.
+            SeekTells (R.telling self.old.reader) (R.telling self.new.reader) (SeekFrom.Start self.old.told) (Err e)) }
+        ensures goes { to ≢ SeekFrom.End (pos zero) → SeekTells (R.telling self.old.reader) (R.telling self.new.reader) to result }
     {
         match to {
             SeekFrom::End(0) => {
@@ -283,7 +348,12 @@ impl<R: Told> Told for Elsewhere<R> {
 
     ghost count = { λ r. R.count r.reader };
 
-    fn read_told(&mut self, room: &mut [u8]) -> Result<usize, Stop> {
+    fn read_told(&mut self, room: &mut [u8]) -> Result<usize, Stop>
+        ensures bound { IfOk result (λ n. n ≤ length room.new) }
+        ensures told { ReadTells None None room.new result }
+        ensures counts { R.count self.new.reader ≡ counted (R.count self.old.reader) result }
+        ensures gives { ReadTells (R.telling self.old.reader) (R.telling self.new.reader) room.new result }
+    {
         self.reader.read_told(room)
     }
 
@@ -293,6 +363,9 @@ impl<R: Told> Told for Elsewhere<R> {
         ensures claims { to ≡ SeekFrom.End (pos zero) → IfOk result (λ place. place ≡ self.old.told) }
         ensures stands { to ≡ SeekFrom.End (pos zero) → IfOk result (λ place.
             StandsAtEnd (R.telling self.old.reader) (R.telling self.new.reader)) }
+        ensures ends { to ≡ SeekFrom.End (pos zero) → IfErr result (λ e.
+            SeekTells (R.telling self.old.reader) (R.telling self.new.reader) to (Err e)) }
+        ensures goes { to ≢ SeekFrom.End (pos zero) → SeekTells (R.telling self.old.reader) (R.telling self.new.reader) to result }
     {
         let place = self.reader.seek_told(to)?;
         match to {
@@ -353,6 +426,7 @@ impl Told for Endless<'_> {
         ensures told { SeekTells None None to result }
         ensures counts { ◌≡◌ {A = Option ℕ} None None }
         ensures goes { (place : ℕ) → to ≡ SeekFrom.Start place → (result ≡ Ok place) × (self.new.place ≡ place) }
+        ensures stands { to ≡ SeekFrom.Current (pos zero) → (result ≡ Ok self.old.place) × (self.new.place ≡ self.old.place) }
     {
         match to {
             SeekFrom::Start(place) => {

@@ -1,7 +1,7 @@
 //! What is returned of readers that lie about their length, stand behind it, or never end.
 
-use crate::readers::{Claiming, Counting, Elsewhere, Endless};
-use crate::rows::GIF;
+use crate::readers::{Calls, Claiming, Counting, Elsewhere, Endless};
+use crate::rows::fixed::GIF;
 use imagesize::{
     ImageError, ImageResult, ImageSize, ImageType, Reason, reader_probe, reader_size, reader_type,
 };
@@ -80,6 +80,13 @@ fn a_reader_behind_its_end_is_at_the_end(rt: HostRuntime) {
     assert_eq!(rt; probed.taken, 0);
     assert_eq!(rt; probed.kind, None);
     assert_eq!(rt; count, 0);
+    let mut made = (0, 0);
+    let reader = Calls {
+        reader: behind(),
+        made: &mut made,
+    };
+    assert!(rt; is_end(&reader_type(reader)));
+    assert_eq!(rt; made, (0, 2));
 }
 
 // An input without end, and its type.
@@ -154,5 +161,12 @@ fn an_endless_reader_gives_as_much_as_its_budget(rt: HostRuntime) {
         };
         assert!(rt; is_spent(&reader_size(reader)));
         assert_eq!(rt; count, 164, "{:?}", stream.kind);
+        let mut count = 0;
+        let reader = Counting {
+            reader: endless(stream),
+            count: &mut count,
+        };
+        assert!(rt; matches!(reader_type(reader), Ok(kind) if kind == stream.kind));
+        assert_eq!(rt; count, 12, "{:?}", stream.kind);
     }
 }

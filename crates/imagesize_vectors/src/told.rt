@@ -1,14 +1,15 @@
 //! What is promised over readers that tell their bytes: each of these is proved of readers that there are.
-ghost use Rattle.std.specs.Prelude.{◌≡◌, ◌^◌, ◌<◌, ◌≤◌, length, false, true, Some};
+ghost use Rattle.std.specs.Prelude.{◌≡◌, ◌+◌, ◌^◌, ◌<◌, ◌≤◌, length, false, true, Some};
 ghost use Rattle.imagesize_source.specs.Answers.{RisesWithin};
 ghost use Rattle.std.specs.Io.Cursor.{cursor_inner};
 ghost use Rattle.imagesize.specs.Meaning.{meaning, size_of};
 ghost use Rattle.imagesize_source.specs.Reading.{stopped, faulted};
 ghost use Rattle.imagesize_source.specs.State.{total};
 
-use crate::readers::{Counting, Failing, Halting, Interrupted, OneByte};
-use crate::rows::{GIF, NESTED_JPEG};
-use imagesize::{ImageResult, ImageSize, ImageType, reader_size};
+use crate::readers::{Counting, Cutting, Failing, Halting, Interrupted, OneByte};
+use crate::rows::fixed::GIF;
+use crate::rows::records::NESTED_JPEG;
+use imagesize::{ImageResult, ImageSize, ImageType, Probed, reader_probe, reader_size};
 use std::io::{self, Cursor, ErrorKind};
 use std::test::Fail;
 
@@ -42,6 +43,18 @@ fn size_in_pieces(bytes: &[u8], left: u64, error: io::Error) -> ImageResult<Imag
     })
 }
 
+// The size through a reader whose reads give pieces of these lengths.
+fn size_by_lengths(bytes: &[u8], lengths: &[usize]) -> ImageResult<ImageSize>
+    ensures { result ≡ (meaning bytes.now 0).answer }
+{
+    let _length = bytes.len();
+    reader_size(Cutting {
+        reader: Cursor::new(bytes),
+        lengths,
+        next: 0,
+    })
+}
+
 // The size through a reader whose first reads are interrupted.
 fn size_at_last(bytes: &[u8], left: u64, error: io::Error) -> ImageResult<ImageSize>
     requires { left ≤ 64 }
@@ -65,6 +78,13 @@ fn counted_size(kind: ImageType, reader: &mut Counting<'_, Cursor<&[u8]>>) -> Im
     kind.reader_size(reader)
 }
 
+// What is found through a reader that counts, whose count rises by the bytes that are taken.
+fn counted_probe(reader: &mut Counting<'_, Cursor<&[u8]>>) -> Probed
+    ensures { reader.new.count.now ≡ reader.old.count.now + result.taken }
+{
+    reader_probe(reader)
+}
+
 const GIF_SIZE: ImageSize = ImageSize {
     width: 100,
     height: 100,
@@ -76,6 +96,7 @@ fn promises_over_telling_readers_are_met(rt: HostRuntime) -> Result<(), Fail> {
     assert_eq!(rt; size_or_fault(GIF, 4, error)?, GIF_SIZE);
     assert!(rt; size_or_fault(GIF, 3, error).is_err());
     assert_eq!(rt; size_in_pieces(GIF, 64, error)?, GIF_SIZE);
+    assert_eq!(rt; size_by_lengths(GIF, &[5, 3])?, GIF_SIZE);
     assert_eq!(rt; size_at_last(GIF, 64, error)?, GIF_SIZE);
     let mut count = 0;
     let mut reader = Counting {
@@ -84,5 +105,11 @@ fn promises_over_telling_readers_are_met(rt: HostRuntime) -> Result<(), Fail> {
     };
     assert!(rt; counted_size(ImageType::Jpeg, &mut reader).is_ok());
     assert_eq!(rt; count, 18);
+    let mut reader = Counting {
+        reader: Cursor::new(NESTED_JPEG),
+        count: &mut count,
+    };
+    assert_eq!(rt; counted_probe(&mut reader).taken, 20);
+    assert_eq!(rt; count, 38);
     Ok(())
 }

@@ -1,5 +1,5 @@
 -- TIFF: how a walk along the entries goes, how many bytes they are read from, and what it sees of an input.
-use Rattle.std.proofs.Common.{◌≡◌, ◌≢◌, ℕ, ◌+◌, ◌-◌, ◌*◌, ◌^◌, ◌<◌, ◌≤◌, min, Bool, true, false, cond, eqb, leb, List, [], ◌∷◌, ◌++◌, length, take, Option, Some, None, Result, Ok, Err, refl, sym, ap, ◌∙◌, subst, arith}
+use Rattle.std.proofs.Common.{◌≡◌, ◌≢◌, ℕ, ◌+◌, ◌-◌, ◌*◌, ◌^◌, ◌<◌, ◌≤◌, min, Bool, true, false, cond, eqb, List, [], ◌∷◌, ◌++◌, length, take, Option, Some, None, Result, Ok, Err, refl, sym, ap, ◌∙◌, subst, arith}
 use Rattle.std.proofs.Math.Nat.{mul-add}
 use Rattle.std.proofs.lemmas.Bool.Decides.{nat_tests}
 use Rattle.std.proofs.lemmas.List.{append-nil, length_push}
@@ -25,16 +25,15 @@ use Rattle.imagesize_source.specs.Input.{span_of}
 use Rattle.imagesize_source.specs.Layout.{Layout, over, bind, whole}
 use Rattle.imagesize_source.specs.Layout.Layout.{field, refuse, «done»}
 use Rattle.imagesize_source.specs.Numbers.{number}
-use Rattle.imagesize_source.specs.Reading.{and_then, onward, end_of_input, number_at, number_read, seen}
+use Rattle.imagesize_source.specs.Reading.{and_then, onward, end_of_input, number_at, number_read, refuses, seen}
 use Rattle.imagesize_source.specs.State.{State, Runs, Sound, total}
 use Rattle.imagesize_source.proofs.Advances.{Tells, Begins, advances}
 use Rattle.imagesize_source.proofs.Ahead.{Ahead, chain_ahead}
-use Rattle.imagesize_source.proofs.PastTheEnd.{bytes_beyond}
+use Rattle.imagesize_source.proofs.PastTheEnd.{bytes_beyond, saturated_by}
 use Rattle.imagesize_source.proofs.ChainLaws.{local_chain, lasts_chain, chain_cost, chain_induction}
 use Rattle.imagesize_source.proofs.Chains.{records_next, records_stop}
 use Rattle.imagesize_source.proofs.Counts.{at_most, at_most_bind, then_within, total-span_of, total_behind}
 use Rattle.imagesize_source.proofs.Answered.{on_answer}
-use Rattle.imagesize_source.proofs.Layouts.{runs_as}
 use Rattle.imagesize_source.proofs.Agreement.{local_layout, local_number, local_then}
 use Rattle.imagesize_source.proofs.Extension.{bytes_more, more, number_ok}
 use Rattle.imagesize_source.proofs.Reached.{runs_bind, refused_bind}
@@ -165,16 +164,12 @@ tiff_start header count a =
     (walks_start (tiff_entries header count) (Known 0 None None) a (record { many = refl; wide = refl; high = refl }))
 
 -- no input is so long that an entry stands beyond 64 bits
-entry_beyond : (d : List ℕ) (header : Header) (place : ℕ) → length d ≤ place → over d (tiff_entry header place) ≡ record { answer = Err end_of_input; marks = [] }
+entry_beyond : (d : List ℕ) (header : Header) (place : ℕ) → length d ≤ place → over d (tiff_entry header place) ≡ refuses end_of_input
 unfolding tiff_entry tiff_head
 entry_beyond d header place h = bytes_beyond d place (head_bytes header.version) (λ head. accepted (field_type_of header.version (field_type_in header.order (take 4 head))) (λ field_type. bind (tiff_value header.version (place + head_bytes header.version)) (λ value. done (entry_of header (take 4 head) field_type value)))) h (head_some header.version)
 
-entry_within_64_bits : (d : List ℕ) (header : Header) (place : ℕ) → length d < 2 ^ 63 → (is_within : Bool) → leb place (2 ^ 64 - 1) ≡ is_within → over d (tiff_entry header (min place (2 ^ 64 - 1))) ≡ over d (tiff_entry header place)
-entry_within_64_bits d header place short true within = ap (λ p. over d (tiff_entry header p)) (grind (arith, nat_tests))
-entry_within_64_bits d header place short false beyond = entry_beyond d header (min place (2 ^ 64 - 1)) (grind (arith, nat_tests)) ∙ sym (entry_beyond d header place (grind (arith, nat_tests)))
-
 entry_saturated : {a b : State} {r : Result Entry ImageError} (header : Header) (place : ℕ) → Runs a b r (over a.held.input (tiff_entry header (min place (2 ^ 64 - 1)))) → Runs a b r (over a.held.input (tiff_entry header place))
-entry_saturated {a} header place h = runs_as (over a.held.input (tiff_entry header place)) h (λ honest. entry_within_64_bits a.held.input header place (h.sound honest).1 (leb place (2 ^ 64 - 1)) refl)
+entry_saturated header place h = saturated_by (λ p d. over d (tiff_entry header p)) (refuses end_of_input) place (λ d p far. entry_beyond d header p far) h
 
 -- the record of an entry, where there are more
 more_said : {b end : State} {r : Result (Said Entry ImageSize) ImageError} (header : Header) (count i : ℕ) (entries : List Entry) (place : ℕ) → i < count → length entries ≡ i → Runs b end r (over b.held.input (record_behind header entries place)) → Runs b end r (over b.held.input ((tiff_entries header count).said entries place))

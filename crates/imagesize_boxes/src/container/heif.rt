@@ -1,16 +1,18 @@
 //! HEIF and AVIF, by ISO/IEC 14496-12, sections 4.2 (boxes), 4.3 (`ftyp`) and 8.11.1 (`meta`), and ISO/IEC 23008-12
 //! (the brands, the properties and their list); the brands of AVIF by the AV1 Image File Format.
-ghost use Rattle.std.specs.Prelude.{◌≡◌, ◌+◌, ◌<◌, ◌≤◌, Some, codes, IfOk, IfSome};
+ghost use Rattle.std.specs.Prelude.{◌≡◌, ◌+◌, ◌<◌, ◌≤◌, Some, codes, IfOk};
 ghost use Rattle.imagesize_boxes.specs.Heif.{Fits, box_size, brand_compression, compatible_compression, earlier_largest, extents_size, gathered_answer, gathered_with, heif, heif_compression, heif_in_iprp, heif_in_meta, is_general, is_heif, is_named, properties, property_at, property_bytes, property_said, search_for, searched_box, searched_said, skipped_bytes, turned};
 ghost use Rattle.imagesize_source.specs.Chain.{chain_at};
-ghost use Rattle.imagesize_source.specs.Layout.{if_there, over};
-ghost use Rattle.imagesize_source.specs.Layout.Layout.{«done»};
-ghost use Rattle.imagesize_source.specs.Paying.{Nears, Paid};
+ghost use Rattle.imagesize_source.specs.Layout.{over};
+ghost use Rattle.imagesize_source.specs.Paying.{Nears};
 ghost use Rattle.imagesize_source.specs.Reading.{bytes_read, seen};
 ghost use Rattle.imagesize_source.specs.State.{Runs, Sound};
 
 use imagesize_source::source::Source;
-use imagesize_source::util::{Endian, place_behind, read_bytes, read_if_there, read_u32};
+use imagesize_source::util::{
+    Endian, place_behind, read_bytes, read_bytes_behind, read_if_there, read_if_there_behind,
+    read_u32,
+};
 use imagesize_source::{ImageError, ImageResult, Reason};
 use imagesize_types::compression::Compression;
 use imagesize_types::size::{ImageSize, area};
@@ -39,18 +41,11 @@ pub fn detect_compression<S: Source>(
     if !is_general(brand) {
         return Ok(brand_compression(brand));
     }
-    match read_compatible(source, place)? {
+    // the version and the first two compatible brands
+    match read_if_there_behind::<S, 12>(source, place, 12)? {
         Some(brands) => Ok(compatible_compression(&brands)),
         None => Ok(Compression::Unknown),
     }
-}
-
-// The version and the first two compatible brands behind the twelve bytes at a place.
-fn read_compatible<S: Source>(source: &mut S, place: u64) -> ImageResult<Option<[u8; 12]>>
-    ensures { Runs (S.state source.old) (S.state source.new) result
-        (over (S.state source.old).held.input (if_there (place + 12) 12 done)) }
-{
-    read_if_there::<S, 12>(source, place.saturating_add(12))
 }
 
 fn compatible_compression(brands: &[u8; 12]) -> Compression
@@ -199,13 +194,12 @@ fn is_named(head: &[u8; 8], name: &[u8; 4]) -> bool
 
 // The first bytes of what a box holds, behind its size and its name.
 #[inline(always)]
-#[tactic(auto, using(crate::proofs::Heif::bytes_saturated))]
 fn read_content<S: Source, const N: usize>(source: &mut S, place: u64) -> ImageResult<[u8; N]>
     requires { 0 < N }
     ensures { Runs (S.state source.old) (S.state source.new) result
         (bytes_read (S.state source.old).held.input (place + 8) N) }
 {
-    read_bytes::<S, N>(source, place.saturating_add(8))
+    read_bytes_behind::<S, N>(source, place, 8)
 }
 
 // What a property says.
@@ -272,7 +266,7 @@ fn read_property<S: Source>(source: &mut S, place: u64, left: u32) -> ImageResul
     ensures runs { Runs (S.state source.old) (S.state source.new) result
         (over (S.state source.old).held.input (property_at left place)) }
 {
-    let Some(head) = read_head(source, place)? else {
+    let Some(head) = read_if_there::<S, 8>(source, place)? else {
         return Ok(None);
     };
     let size = box_size(&head);
@@ -295,20 +289,6 @@ fn read_property<S: Source>(source: &mut S, place: u64, left: u32) -> ImageResul
         return Ok(None);
     }
     Ok(Some(Property::Skipped(size)))
-}
-
-// The eight bytes that a box begins with, or none where the input ends before the last of them.
-#[inline(always)]
-fn read_head<S: Source>(source: &mut S, place: u64) -> ImageResult<Option<[u8; 8]>>
-    ensures pays { IfOk result (λ found. IfSome found (λ head. Paid (S.state source.old) (S.state source.new) place)) }
-    ensures runs { Runs (S.state source.old) (S.state source.new) result
-        (over (S.state source.old).held.input (if_there place 8 done)) }
-{
-    let mut room = [0u8; 8];
-    if source.read_at(place, &mut room)? < 8 {
-        return Ok(None);
-    }
-    Ok(Some(room))
 }
 
 // How far behind a property the next stands.

@@ -8,9 +8,9 @@ ghost use Rattle.imagesize_source.specs.State.{Runs};
 ghost use Rattle.imagesize_texts.specs.Exr.{attribute_said, box_size, exr, exr_attribute, exr_attributes, is_box, is_data_window, is_exr, name_room, side, signed_at, window_size};
 ghost use Rattle.imagesize_texts.specs.Texts.{line_read};
 
-use crate::util::{read_bytes_behind, read_null_terminated_string, read_u32_behind};
+use crate::util::{read_null_terminated_string, read_u32_behind};
 use imagesize_source::source::Source;
-use imagesize_source::util::{Endian, place_behind, read_u32};
+use imagesize_source::util::{Endian, place_behind, read_bytes_behind, read_u32};
 use imagesize_source::{ImageError, ImageResult, Reason};
 use imagesize_types::size::ImageSize;
 

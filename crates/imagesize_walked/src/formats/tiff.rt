@@ -2,14 +2,15 @@
 ghost use Rattle.std.specs.Prelude.{◌≡◌, ◌+◌, ◌*◌, ◌-◌, ◌^◌, ◌≤◌, ◌==◌, if◌then◌else◌, min, take};
 ghost use Rattle.imagesize_walked.specs.Tiff.{byte_order, count_bytes, directory_at, entry_bytes, head_bytes, is_tiff, field_type_in, field_type_of, size_of_sides, stated_place, tag_in, tiff, tiff_entries, tiff_entry, tiff_head, tiff_header, tiff_value, value_of, version_of, whole_value};
 ghost use Rattle.imagesize_source.specs.Chain.{chain_at};
-ghost use Rattle.imagesize_source.specs.Layout.{if_there, over};
-ghost use Rattle.imagesize_source.specs.Layout.Layout.{«done»};
+ghost use Rattle.imagesize_source.specs.Layout.{over};
 ghost use Rattle.imagesize_source.specs.Numbers.{number};
 ghost use Rattle.imagesize_source.specs.Reading.{number_read};
 ghost use Rattle.imagesize_source.specs.State.{Runs, Sound};
 
 use imagesize_source::source::Source;
-use imagesize_source::util::{Endian, read_bytes, read_if_there, read_u16, read_u32, read_u64};
+use imagesize_source::util::{
+    Endian, read_bytes, read_if_there_behind, read_u16, read_u32, read_u64,
+};
 use imagesize_source::{ImageError, ImageResult, Reason};
 use imagesize_types::size::ImageSize;
 
@@ -270,11 +271,11 @@ fn read_value<S: Source>(source: &mut S, version: Version, place: u64) -> ImageR
 {
     match version {
         Version::Tiff => {
-            let value = whole_value(read_behind::<S, 4>(source, place, 8)?)?;
+            let value = whole_value(read_if_there_behind::<S, 4>(source, place, 8)?)?;
             Ok(value)
         }
         Version::BigTiff => {
-            let value = whole_value(read_behind::<S, 8>(source, place, 12)?)?;
+            let value = whole_value(read_if_there_behind::<S, 8>(source, place, 12)?)?;
             Ok(value)
         }
     }
@@ -290,19 +291,6 @@ fn whole_value<const N: usize>(found: Option<[u8; N]>) -> ImageResult<[u8; 4]>
         Some(value) => Ok(first_four(value)),
         None => Err(ImageError::IoError(Reason::InvalidIfdValueLength)),
     }
-}
-
-// The `N` bytes so far behind a place, or none where the input ends before the last of them.
-#[inline(always)]
-fn read_behind<S: Source, const N: usize>(
-    source: &mut S,
-    place: u64,
-    distance: u64,
-) -> ImageResult<Option<[u8; N]>>
-    ensures { Runs (S.state source.old) (S.state source.new) result
-        (over (S.state source.old).held.input (if_there (place + distance) N done)) }
-{
-    read_if_there::<S, N>(source, place.saturating_add(distance))
 }
 
 #[inline(always)]

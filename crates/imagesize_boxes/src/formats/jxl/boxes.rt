@@ -7,14 +7,14 @@ ghost use Rattle.imagesize_source.specs.Layout.{over};
 ghost use Rattle.imagesize_source.specs.Layout.Layout.{«done»};
 ghost use Rattle.imagesize_source.specs.Numbers.{number};
 ghost use Rattle.imagesize_source.specs.Paying.{Nears, ahead_of};
-ghost use Rattle.imagesize_source.specs.Reading.{bytes_read, number_read, part_read, seen};
+ghost use Rattle.imagesize_source.specs.Reading.{number_read, part_read, seen};
 ghost use Rattle.imagesize_source.specs.State.{Runs, Sound};
 ghost use Rattle.imagesize_source.specs.declared.util.Endian.TheVariants as endian;
 
 use super::front::MOST;
 use arrayvec::ArrayVec;
 use imagesize_source::source::Source;
-use imagesize_source::util::{Endian, read_bytes, read_u64};
+use imagesize_source::util::{Endian, read_bytes, read_bytes_behind, read_u64};
 use imagesize_source::{ImageError, ImageResult, Reason};
 
 /// The first bytes of a codestream, or a piece of them.
@@ -105,7 +105,7 @@ fn read_head<S: Source>(source: &mut S, place: u64) -> ImageResult<BoxHead>
 
 // The size in the first eight bytes of a box; 1 stands for a longer one behind them.
 #[inline]
-#[tactic(auto, using(crate::proofs::Heads::first_four))]
+#[tactic(auto, using(imagesize_source::proofs::Bytes::first_four))]
 fn short_size(head: &[u8; 8]) -> u32
     ensures { result ≡ number endian.Big (take 4 head.now) }
 {
@@ -113,7 +113,7 @@ fn short_size(head: &[u8; 8]) -> u32
 }
 
 #[inline]
-#[tactic(auto, using(crate::proofs::Heads::the_last_four))]
+#[tactic(auto, using(imagesize_source::proofs::Bytes::the_last_four))]
 fn tag(head: &[u8; 8]) -> [u8; 4]
     ensures { result ≡ drop 4 head.now }
 {
@@ -227,18 +227,10 @@ fn read_partial<S: Source>(
     if room < 4 {
         return Err(ImageError::IoError(Reason::EndOfInput));
     }
-    let index = read_index(source, place, head.length)?;
+    let index = read_bytes_behind::<S, 4>(source, place, head.length)?;
     let most = (room - 4).min(held.remaining_capacity() as u64) as usize;
     let piece = read_piece(source, place, head.length + 4, most)?;
     Ok(behind_piece(place, head, held, index, piece))
-}
-
-// The index of a piece, so far behind a place.
-fn read_index<S: Source>(source: &mut S, place: u64, distance: u64) -> ImageResult<[u8; 4]>
-    ensures { Runs (S.state source.old) (S.state source.new) result
-        (bytes_read (S.state source.old).held.input (place + distance) 4) }
-{
-    read_bytes::<S, 4>(source, place.saturating_add(distance))
 }
 
 // What is there of so many bytes, so far behind a place. No byte is no reading.

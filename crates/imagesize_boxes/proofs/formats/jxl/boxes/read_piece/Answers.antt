@@ -1,5 +1,5 @@
 use Rattle.std.proofs.Common.{◌≡◌, ◌+◌, length, rules}
-use Rattle.imagesize_boxes.proofs.Places.{piece_none, piece_some}
+use Rattle.imagesize_boxes.proofs.Pieces.{piece_none, piece_some}
 use Rattle.imagesize_boxes.proofs.formats.jxl.boxes.read_piece.Goals as goal
 
 pub returns-then-most-eq0-clause-runs : goal.returns-then-most-eq0-clause-runs

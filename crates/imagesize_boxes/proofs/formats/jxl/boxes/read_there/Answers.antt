@@ -1,7 +1,7 @@
 use Rattle.std.proofs.Common.{subst, ℕ, ◌+◌, length, take}
 use Rattle.imagesize_source.specs.Reading.{part_read, seen}
 use Rattle.imagesize_source.specs.State.{Runs}
-use Rattle.imagesize_boxes.proofs.Places.{part_saturated}
+use Rattle.imagesize_source.proofs.PastTheEnd.{part_saturated}
 use Rattle.imagesize_boxes.proofs.formats.jxl.boxes.read_there.Goals as goal
 
 pub returns-clause-runs : goal.returns-clause-runs

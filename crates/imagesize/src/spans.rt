@@ -1,0 +1,42 @@
+//! The bytes that an answer rests on, in room that the caller lends.
+ghost use Rattle.std.specs.Prelude.{◌≡◌, ◌<◌, ◌≤◌, ◌++◌, length, take, drop};
+ghost use Rattle.imagesize.specs.Meaning.{meaning};
+
+use crate::Span;
+use crate::calls::probe;
+use imagesize_source::source::lent::LentSource;
+
+/// How many spans `blob_trace` has of a slice's bytes; where the room has so many, they stand at its front then, in their
+/// order. It takes no memory.
+///
+/// Nothing behind them changes, and nothing at all where the room has fewer.
+///
+/// ```
+/// use imagesize::{Span, blob_spans};
+///
+/// let mut room = [Span { start: 0, len: 0 }; 8];
+/// assert_eq!(blob_spans(b"GIF89a\x80\x02\xe0\x01\0\0", &mut room), 3);
+/// ```
+pub fn blob_spans(data: &[u8], room: &mut [Span]) -> usize
+    ensures count { result ≡ length (meaning «data».now 0).marks }
+    ensures spans { result ≤ length room.old → room.new ≡ (meaning «data».now 0).marks ++ drop result room.old }
+    ensures unchanged { length room.old < result → room.new ≡ room.old }
+{
+    let count = record_spans(data, &mut []);
+    if count <= room.len() {
+        record_spans(data, &mut room[..count]);
+    }
+    count
+}
+
+// Records the spans of a slice's bytes in a room, as far as it goes, and answers how many there are.
+fn record_spans(data: &[u8], room: &mut [Span]) -> usize
+    ensures count { result ≡ length (meaning «data».now 0).marks }
+    ensures spans { take result room.new ≡ take (length room.new) (meaning «data».now 0).marks }
+{
+    // The proof needs that the length is below 2^63.
+    let _length = data.len();
+    let mut source = LentSource::new(data, room);
+    let _ = probe(&mut source, 0);
+    source.count
+}

@@ -1,0 +1,86 @@
+-- What the calls of texts and of queries tell.
+use Rattle.std.specs.Prelude.{◌≡◌, ℕ, Bool, true, false, List, [], ◌∷◌, Option, None, Some, Result, Ok, Err, codes, if◌then◌else◌, option_map}
+use Rattle.imagesize.specs.Names.{compression_name_of}
+use Rattle.imagesize.specs.Queries.{container_of}
+use Rattle.imagesize.specs.declared.types.CompressionFamily.{CompressionFamily}
+use Rattle.imagesize.specs.declared.types.CompressionFamily.TheVariants.{BlockCompression}
+use Rattle.imagesize.specs.declared.types.ImageType.{ImageType}
+use Rattle.imagesize_c.specs.Numbers.{compression_number, type_number, type_numbered}
+use Rattle.imagesize_source.specs.Reason.{error_text, reason_text}
+use Rattle.imagesize_source.specs.declared.error.ImageError.{ImageError}
+use Rattle.imagesize_source.specs.declared.error.ImageError.TheVariants.{NotSupported, CorruptedImage}
+use Rattle.imagesize_source.specs.declared.error.Reason.TheVariants.{EndOfInput, NotEnoughData, Memory, NotUtf8, InvalidJxlSignature, InvalidTiffHeader, BigTiffOffsetSize, InvalidBigTiffHeader, InvalidIfdOffset, IfdTypeForStandardTiff, InvalidIfdType, InvalidIfdValueLength, NoDimensionsInIfd, InvalidVp8Tag, DataWindowNotFound, InvalidHdrIdentifier, InvalidHdrDimensionsLine, HdrDimensionsNotFound, PnmDimensionsNotFound}
+use Rattle.imagesize_types.specs.Table.{look_up}
+use Rattle.imagesize_types.specs.declared.size.ImageSize.{ImageSize}
+
+-- The numbers of a type and of its compression, which were a and c: beside a refusal nothing has changed.
+abbrev pub TellsType : Result ImageType ImageError → ℕ → ℕ → ℕ → ℕ → Type 0
+TellsType (Ok image) a number c compression = (number ≡ type_number image) × (compression ≡ compression_number image)
+TellsType (Err _) a number c compression = (number ≡ a) × (compression ≡ c)
+
+-- The width and the height of a size, which were w and h: beside a refusal nothing has changed.
+abbrev pub TellsSize : Result ImageSize ImageError → ℕ → ℕ → ℕ → ℕ → Type 0
+TellsSize (Ok size) w width h height = (width ≡ size.width) × (height ≡ size.height)
+TellsSize (Err _) w width h height = (width ≡ w) × (height ≡ h)
+
+-- The text of a status: that of the refusal, where the refusal alone tells it. The refusals 8, 10 and 11 print numbers of the
+-- input besides, 6 that of its reader, and 3 what its reader says: their texts have none.
+abbrev pub status_text : ℕ → Option (List ℕ)
+status_text status = look_up (
+    (0, Some (codes "No refusal"))
+    ∷ (1, error_text NotSupported)
+    ∷ (2, error_text CorruptedImage)
+    ∷ (3, Some (codes "A call of the reader failed"))
+    ∷ (4, reason_text EndOfInput)
+    ∷ (5, reason_text NotEnoughData)
+    ∷ (6, Some (codes "Read budget is spent"))
+    ∷ (7, reason_text Memory)
+    ∷ (8, Some (codes "Delimiter not found within the bytes that a text may have"))
+    ∷ (9, reason_text NotUtf8)
+    ∷ (10, Some (codes "Invalid heif box size"))
+    ∷ (11, Some (codes "Invalid size for a JXL box"))
+    ∷ (12, reason_text InvalidJxlSignature)
+    ∷ (13, reason_text InvalidTiffHeader)
+    ∷ (14, reason_text BigTiffOffsetSize)
+    ∷ (15, reason_text InvalidBigTiffHeader)
+    ∷ (16, reason_text InvalidIfdOffset)
+    ∷ (17, reason_text IfdTypeForStandardTiff)
+    ∷ (18, reason_text InvalidIfdType)
+    ∷ (19, reason_text InvalidIfdValueLength)
+    ∷ (20, reason_text NoDimensionsInIfd)
+    ∷ (21, reason_text InvalidVp8Tag)
+    ∷ (22, reason_text DataWindowNotFound)
+    ∷ (23, reason_text InvalidHdrIdentifier)
+    ∷ (24, reason_text InvalidHdrDimensionsLine)
+    ∷ (25, reason_text HdrDimensionsNotFound)
+    ∷ (26, reason_text PnmDimensionsNotFound)
+    ∷ (27, Some (codes "The buffer is too small"))
+    ∷ (28, Some (codes "No type has these numbers"))
+    ∷ (29, Some (codes "No status has this number"))
+    ∷ []) None status
+
+-- nothing of what there is
+abbrev pub or_empty : Option (List ℕ) → List ℕ
+or_empty None = []
+or_empty (Some text) = text
+
+-- a text of a type that has these numbers
+abbrev pub text_of : (ImageType → List ℕ) → ℕ → ℕ → Option (List ℕ)
+text_of text number compression = option_map text (type_numbered number compression)
+
+-- the name of a type's compression, and of its container; empty where it has none
+abbrev pub compression_text : ImageType → List ℕ
+compression_text image = or_empty (compression_name_of image)
+
+abbrev pub container_text : ImageType → List ℕ
+container_text image = or_empty (container_of image)
+
+-- a number of a type: it is told where a type has these numbers, and else nothing has changed
+abbrev pub TellsOf : (ImageType → ℕ) → Option ImageType → ℕ → ℕ → ℕ → Type 0
+TellsOf number None before told status = (status ≡ 28) × (told ≡ before)
+TellsOf number (Some image) before told status = (status ≡ 0) × (told ≡ number image)
+
+-- the family is that of the block compressions
+abbrev pub is_block : Option CompressionFamily → Bool
+is_block (Some BlockCompression) = true
+is_block _ = false

@@ -1,0 +1,59 @@
+//! Type and size of the image in some bytes.
+ghost use Rattle.std.specs.Prelude.{◌≡◌};
+ghost use Rattle.imagesize.specs.Meaning.{kind_of, meaning};
+ghost use Rattle.imagesize_c.specs.Status.{status_of};
+ghost use Rattle.imagesize_c.specs.Told.{TellsSize, TellsType};
+
+use crate::numbers::{compression_number, type_number};
+use crate::status::{ANSWERED, refusal_status};
+use imagesize::{blob_size, image_type};
+
+/// The type of the image whose first bytes these are, and its compression. Beside a refusal both stay as they are.
+#[unsafe(no_mangle)]
+pub extern "C" fn imagesize_type(bytes: &[u8], number: &mut u32, compression: &mut u32) -> u32
+    ensures status { result ≡ status_of (kind_of bytes.now 0).answer }
+    ensures told { TellsType (kind_of bytes.now 0).answer number.old number.new compression.old compression.new }
+{
+    match image_type(bytes) {
+        Ok(image) => {
+            *number = type_number(image);
+            *compression = compression_number(image);
+            ANSWERED
+        }
+        Err(error) => refusal_status(&error),
+    }
+}
+
+/// The size in pixels of the image in some bytes. Beside a refusal width and height stay as they are.
+#[unsafe(no_mangle)]
+pub extern "C" fn imagesize_size(bytes: &[u8], width: &mut u64, height: &mut u64) -> u32
+    ensures status { result ≡ status_of (meaning bytes.now 0).answer }
+    ensures told { TellsSize (meaning bytes.now 0).answer width.old width.new height.old height.new }
+{
+    match blob_size(bytes) {
+        Ok(size) => {
+            *width = size.width as u64;
+            *height = size.height as u64;
+            ANSWERED
+        }
+        Err(error) => refusal_status(&error),
+    }
+}
+
+/// Both at once. Where a type is found and its size is refused, the type is told beside the refusal, and width and height
+/// stay as they are.
+#[unsafe(no_mangle)]
+pub extern "C" fn imagesize_probe(
+    bytes: &[u8],
+    number: &mut u32,
+    compression: &mut u32,
+    width: &mut u64,
+    height: &mut u64,
+) -> u32
+    ensures status { result ≡ status_of (meaning bytes.now 0).answer }
+    ensures kind { TellsType (kind_of bytes.now 0).answer number.old number.new compression.old compression.new }
+    ensures size { TellsSize (meaning bytes.now 0).answer width.old width.new height.old height.new }
+{
+    imagesize_type(bytes, number, compression);
+    imagesize_size(bytes, width, height)
+}

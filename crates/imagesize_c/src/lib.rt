@@ -1,0 +1,11 @@
+//! The calls of `imagesize` for programs in C, and in what calls C. `include/imagesize.h` says how they are called, and
+//! `docs/PROMISES.md` what is proved of them.
+#![tactic(auto)]
+
+pub mod calls;
+mod laws;
+mod numbers;
+pub mod queries;
+pub mod spans;
+mod status;
+pub mod texts;

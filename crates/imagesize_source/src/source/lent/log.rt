@@ -1,0 +1,31 @@
+//! Spans that only proofs read.
+ghost use Rattle.std.specs.Prelude.{◌≡◌, List, [], ◌∷◌, ◌++◌};
+ghost use Rattle.std.specs.Borrow.{ftrue};
+ghost use Rattle.imagesize_source.specs.declared.span.Span.{Span};
+
+use crate::Span;
+use std::marker::Model;
+
+/// The spans that were recorded, in their order. They take no memory, and nothing is done with them when the code runs.
+#[derive(Drop)]
+pub struct SpanLog {
+    pub ghost spans: { List Span },
+}
+
+impl Model for SpanLog {
+    ghost also_owns = { λ _. ftrue };
+}
+
+impl SpanLog {
+    pub(super) fn new() -> SpanLog
+        ensures { result.spans ≡ [] }
+    {
+        SpanLog {}
+    }
+
+    pub(super) fn with(_before: &SpanLog, _span: &Span) -> SpanLog
+        ensures { result.spans ≡ _before.now.spans ++ _span.now ∷ [] }
+    {
+        SpanLog {}
+    }
+}

@@ -1,0 +1,137 @@
+-- The bytes in spans, and what agrees on these.
+use Rattle.std.proofs.Common.{◌≡◌, ℕ, suc, ◌+◌, ◌-◌, ◌<◌, ◌≤◌, min, Bool, true, false, ◌||◌, List, [], ◌∷◌, ◌++◌, length, take, drop, get_or, slice_index, refl, sym, ap, ◌∙◌, subst, arith}
+use Rattle.std.specs.Cmp.Lexicographic.{pointwise, same_text, other_text}
+use Rattle.std.specs.Prelude.{nat_eq}
+use Rattle.std.proofs.lemmas.Bool.Decides.{nat_tests}
+use Rattle.std.proofs.lemmas.Grind.{flat_map-append}
+use Rattle.std.proofs.lemmas.List.{append_assoc, append_cancel_left, append-nil, ext_get_or, get_or-drop, get_or-take, length-drop, length-take, take-append-drop, take_more}
+use Rattle.std.proofs.Math.Seq.{drop-append_seam, drop-cons, take-append_seam}
+use Rattle.imagesize_source.specs.Agreement.{Agrees, covered, has_place}
+use Rattle.imagesize_source.specs.Input.{part}
+use Rattle.imagesize_source.specs.declared.span.Span.{Span}
+use Rattle.imagesize_uses.specs.Cache.{bytes_of}
+
+-- the byte at a place of a part
+part-at : (d : List ℕ) (start k i : ℕ) → i < k → get_or (part d start k) i 0 ≡ slice_index d (start + i)
+unfolding part
+part-at d start k i below = get_or-take k (drop start d) i 0 below ∙ get_or-drop start d i 0
+
+length-part : (d : List ℕ) (start k : ℕ) → length (part d start k) ≡ min k (length d - start)
+unfolding part
+length-part d start k = length-take k (drop start d) ∙ ap (min k) (length-drop start d)
+
+-- parts of inputs of one length are of one length
+as_long : (d e : List ℕ) (start k : ℕ) → length e ≡ length d → length (part e start k) ≡ length (part d start k)
+as_long d e start k long = length-part e start k ∙ ap (λ n. min k (n - start)) long ∙ sym (length-part d start k)
+
+-- lists whose fronts are of one length are the same only where both parts are
+fronts : (a b x y : List ℕ) → length a ≡ length b → a ++ x ≡ b ++ y → a ≡ b
+fronts a b x y long same = sym (take-append_seam a x) ∙ ap (take (length a)) same ∙ ap (λ n. take n (b ++ y)) long ∙ take-append_seam b y
+
+ends : (a b x y : List ℕ) → length a ≡ length b → a ++ x ≡ b ++ y → x ≡ y
+ends a b x y long same = sym (drop-append_seam a x) ∙ ap (drop (length a)) same ∙ ap (λ n. drop n (b ++ y)) long ∙ drop-append_seam b y
+
+-- a place of a span, as numbers
+starts_by : (s : Span) (place : ℕ) → has_place s place ≡ true → s.start ≤ place
+starts_by s place has = grind (arith, nat_tests)
+
+ends_behind : (s : Span) (place : ℕ) → has_place s place ≡ true → place < s.start + s.len
+ends_behind s place has = grind (arith, nat_tests)
+
+has_offset : (s : Span) (i : ℕ) → i < s.len → has_place s (s.start + i) ≡ true
+has_offset s i below = grind (arith, nat_tests)
+
+-- where two inputs have the same part, they have the same byte at each place of it
+same_at : (d e : List ℕ) (s : Span) (place : ℕ) → part e s.start s.len ≡ part d s.start s.len → has_place s place ≡ true → slice_index e place ≡ slice_index d place
+same_at d e s place same has =
+    let i : ℕ = place - s.start in
+    let at : s.start + i ≡ place = omega (arith, starts_by s place has) in
+    let below : i < s.len = omega (arith, starts_by s place has, ends_behind s place has) in
+    subst (λ p. slice_index e p ≡ slice_index d p) at
+    (sym (part-at e s.start s.len i below) ∙ ap (λ bs. get_or bs i 0) same ∙ part-at d s.start s.len i below)
+
+same_byte : (d e : List ℕ) (spans : List Span) (place : ℕ) → length e ≡ length d → bytes_of e spans ≡ bytes_of d spans → covered spans place ≡ true → slice_index e place ≡ slice_index d place
+same_byte d e [] place long same here = absurd cc
+same_byte d e (s ∷ spans) place long same here =
+    let lengths = as_long d e s.start s.len long in
+    let front = fronts (part e s.start s.len) (part d s.start s.len) (bytes_of e spans) (bytes_of d spans) lengths same in
+    let rest = ends (part e s.start s.len) (part d s.start s.len) (bytes_of e spans) (bytes_of d spans) lengths same in
+    let Goal : Bool → Type 0 = λ b. has_place s place ≡ b → b || covered spans place ≡ true → slice_index e place ≡ slice_index d place in
+    let cases : Goal (has_place s place) = elim (has_place s place) as Goal [
+      | true ↦ λ has _. same_at d e s place front has
+      | false ↦ λ _ later. same_byte d e spans place long rest later
+    ] in
+    cases refl here
+
+-- an input of the same length with the same bytes in the spans agrees on these
+pub agrees_by_bytes : (d e : List ℕ) (spans : List Span) → length e ≡ length d → bytes_of e spans ≡ bytes_of d spans → Agrees d e spans
+agrees_by_bytes d e spans long same = record { as_long = long; same_byte = λ place here. same_byte d e spans place long same here }
+
+-- and one that agrees has the same bytes
+same_part : (d e : List ℕ) (s : Span) → length e ≡ length d → ((place : ℕ) → has_place s place ≡ true → slice_index e place ≡ slice_index d place) → part e s.start s.len ≡ part d s.start s.len
+same_part d e s long agrees =
+    ext_get_or 0 (part e s.start s.len) (part d s.start s.len) (as_long d e s.start s.len long)
+    (λ i below.
+    let small : i < s.len = omega (arith, below, length-part e s.start s.len) in
+    part-at e s.start s.len i small ∙ agrees (s.start + i) (has_offset s i small) ∙ sym (part-at d s.start s.len i small))
+
+covered_first : (s : Span) (spans : List Span) (place : ℕ) → has_place s place ≡ true → covered (s ∷ spans) place ≡ true
+covered_first s spans place has = ap (λ b. b || covered spans place) has
+
+covered_later : (s : Span) (spans : List Span) (place : ℕ) → covered spans place ≡ true → covered (s ∷ spans) place ≡ true
+covered_later s spans place here =
+    let Goal : Bool → Type 0 = λ b. b || covered spans place ≡ true in
+    elim (has_place s place) as Goal [ true ↦ refl | false ↦ here ]
+
+pub bytes_by_agreement : (d e : List ℕ) (spans : List Span) → Agrees d e spans → bytes_of e spans ≡ bytes_of d spans
+bytes_by_agreement d e [] agrees = refl
+bytes_by_agreement d e (s ∷ spans) agrees =
+    let front = same_part d e s agrees.as_long (λ place has. agrees.same_byte place (covered_first s spans place has)) in
+    let later : Agrees d e spans = record { as_long = agrees.as_long; same_byte = λ place here. agrees.same_byte place (covered_later s spans place here) } in
+    ap (λ bs. bs ++ bytes_of e spans) front ∙ ap (λ bs. part d s.start s.len ++ bs) (bytes_by_agreement d e spans later)
+
+-- the bytes in a span of these
+abbrev pub bytes_at : List ℕ → List Span → ℕ → Span → List ℕ
+bytes_at d spans i other = part d (get_or spans i other).start (get_or spans i other).len
+
+-- the bytes in the spans before one, in it and behind it
+split_at : (d : List ℕ) (spans : List Span) (i : ℕ) (other : Span) → i < length spans →
+    bytes_of d spans ≡ bytes_of d (take i spans) ++ (bytes_at d spans i other ++ bytes_of d (drop (suc i) spans))
+split_at d spans i other within =
+    ap (bytes_of d) (sym (take-append-drop i spans))
+    ∙ flat_map-append (λ s. part d s.start s.len) (take i spans) (drop i spans)
+    ∙ ap (λ ss. bytes_of d (take i spans) ++ bytes_of d ss) (drop-cons spans i other within)
+
+-- the bytes that are left do not begin with those in the next span, so the bytes in all spans are others
+pub turned_away : (d : List ℕ) (spans : List Span) (i : ℕ) (other : Span) (next rest bytes : List ℕ) → i < length spans →
+    next ≡ bytes_at d spans i other → bytes_of d (take i spans) ++ rest ≡ bytes → pointwise nat_eq (take (length next) rest) next ≡ false →
+    bytes_of d spans ≡ bytes → ⊥
+turned_away d spans i other next rest bytes within is so_far differs same =
+    let behind : rest ≡ bytes_at d spans i other ++ bytes_of d (drop (suc i) spans) =
+    append_cancel_left (bytes_of d (take i spans)) rest (bytes_at d spans i other ++ bytes_of d (drop (suc i) spans))
+    (so_far ∙ sym same ∙ split_at d spans i other within) in
+    let begins : take (length next) rest ≡ next =
+    ap (take (length next)) (behind ∙ ap (λ bs. bs ++ bytes_of d (drop (suc i) spans)) (sym is))
+    ∙ take-append_seam next (bytes_of d (drop (suc i) spans)) in
+    other_text (take (length next) rest) next (sym differs) begins
+
+-- one span more
+bytes_more : (d : List ℕ) (spans : List Span) (i : ℕ) (other : Span) → i < length spans →
+    bytes_of d (take (i + 1) spans) ≡ bytes_of d (take i spans) ++ bytes_at d spans i other
+bytes_more d spans i other within =
+    ap (bytes_of d) (take_more spans i other within)
+    ∙ flat_map-append (λ s. part d s.start s.len) (take i spans) (get_or spans i other ∷ [])
+    ∙ ap (λ bs. bytes_of d (take i spans) ++ bs) (append-nil (bytes_at d spans i other))
+
+-- they begin with those in the next span, and the others are left
+pub one_more : (d : List ℕ) (spans : List Span) (i : ℕ) (other : Span) (next rest behind bytes : List ℕ) → i < length spans →
+    next ≡ bytes_at d spans i other → bytes_of d (take i spans) ++ rest ≡ bytes → pointwise nat_eq (take (length next) rest) next ≡ true →
+    behind ≡ drop (length next) rest → bytes_of d (take (i + 1) spans) ++ behind ≡ bytes
+one_more d spans i other next rest behind bytes within is so_far begins left =
+    let split : next ++ behind ≡ rest =
+    ap (λ bs. next ++ bs) left
+    ∙ ap (λ bs. bs ++ drop (length next) rest) (sym (same_text (take (length next) rest) next (sym begins)))
+    ∙ take-append-drop (length next) rest in
+    ap (λ bs. bs ++ behind) (bytes_more d spans i other within ∙ ap (λ bs. bytes_of d (take i spans) ++ bs) (sym is))
+    ∙ append_assoc (bytes_of d (take i spans)) next behind
+    ∙ ap (λ bs. bytes_of d (take i spans) ++ bs) split ∙ so_far

@@ -1,0 +1,15 @@
+-- The size of an image on a page.
+use Rattle.std.specs.Prelude.{ℕ, ◌*◌}
+use Rattle.std.specs.Int.{div_ceil}
+use Rattle.imagesize_types.specs.declared.size.ImageSize.{ImageSize}
+use Rattle.imagesize_uses.specs.declared.document.PageSize.{PageSize}
+
+-- the least whole points, of which 72 are an inch, that hold so many pixels
+abbrev pub points_of : ℕ → ℕ → ℕ
+points_of pixels_per_inch pixels = div_ceil (pixels * 72) pixels_per_inch
+
+abbrev pub page_size_of : ℕ → ImageSize → PageSize
+page_size_of pixels_per_inch size = record {
+  width = points_of pixels_per_inch size.width;
+  height = points_of pixels_per_inch size.height;
+}

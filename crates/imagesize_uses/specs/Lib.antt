@@ -1,0 +1,4 @@
+pub mod Cache
+pub mod Document
+pub mod Gate
+pub mod Texture

@@ -1,0 +1,101 @@
+//! A gate for uploads: an image is admitted where it has few enough pixels.
+ghost use Rattle.std.specs.Prelude.{◌≡◌, ◌*◌, ◌+◌, ◌-◌, ◌^◌, ◌<◌, ◌≤◌, IfOk, Some, option_map};
+ghost use Rattle.imagesize_uses.specs.Gate.{Admits, IfTooLarge, may_fail, verdict_of};
+
+use imagesize::{ImageError, ImageResult, ImageSize, Stop, Told, reader_probe};
+use imagesize_types::size::area;
+use std::io::{self, SeekFrom};
+
+/// Why an image is not admitted.
+#[derive(Debug, Drop)]
+pub enum Rejection {
+    /// It has a size, of more pixels than may be.
+    TooLarge(ImageSize),
+    /// No size was found, for this reason.
+    NoSize(ImageError),
+}
+
+/// What a gate answers.
+#[derive(Debug, Drop)]
+pub struct Admission {
+    /// The size in pixels of the image that is admitted, or why none is.
+    pub verdict: Result<ImageSize, Rejection>,
+    /// How many bytes of the reader were taken to say so.
+    pub taken: u64,
+}
+
+/// Admits the image in a reader's bytes where it has a size of at most so many pixels.
+///
+/// The reader stands at an unstated place then, and may be used again.
+pub fn admit<R: Told>(reader: &mut R, most_pixels: u64) -> Admission
+    ensures admits { Admits (R.telling reader.old) most_pixels result }
+
+    // Over every reader, also one that lies:
+    ensures few { IfOk result.verdict (λ size. size.width * size.height ≤ most_pixels) }
+    ensures many { IfTooLarge result.verdict (λ size. most_pixels < size.width * size.height) }
+    ensures counts { R.count reader.new ≡ option_map (λ c. c + result.taken) (R.count reader.old) }
+{
+    let probed = reader_probe(reader);
+    Admission {
+        verdict: judge(probed.answer, most_pixels),
+        taken: probed.taken,
+    }
+}
+
+// What a gate says of a size, or of its refusal.
+fn judge(answer: ImageResult<ImageSize>, most_pixels: u64) -> Result<ImageSize, Rejection>
+    ensures { result ≡ verdict_of most_pixels answer }
+{
+    match answer {
+        Ok(size) if area(&size) <= most_pixels as u128 => Ok(size),
+        Ok(size) => Err(Rejection::TooLarge(size)),
+        Err(error) => Err(Rejection::NoSize(error)),
+    }
+}
+
+/// Gives what another reader gives, until so many bytes were given: each read behind them is a fault.
+#[derive(Drop)]
+pub struct Limited<'a, R: Told> {
+    /// The other reader.
+    pub reader: &'a mut R,
+    /// How many bytes may still be given.
+    pub left: u64,
+}
+
+impl<R: Told> Told for Limited<'_, R> {
+    ghost telling = { λ r. may_fail (R.telling r.reader.now) };
+
+    // It rises as what is left falls, so no call gives more than was left.
+    ghost count = { λ r. Some (2 ^ 64 - r.left) };
+
+    fn read_told(&mut self, room: &mut [u8]) -> Result<usize, Stop> {
+        if self.left == 0 {
+            return Err(Stop::Fault(io::Error::other("no more bytes may be taken")));
+        }
+        let most = room.len().min(self.left as usize);
+        let given = self.reader.read_told(&mut room[..most])?;
+        self.left -= given as u64;
+        Ok(given)
+    }
+
+    fn seek_told(&mut self, to: SeekFrom) -> io::Result<u64> {
+        self.reader.seek_told(to)
+    }
+}
+
+/// Admits as `admit` does an upload that is said to be so many bytes long, and takes no more than these and 64,
+/// whatever the reader does. Where it gives more and the size was not found in these, the refusal is a fault.
+pub fn admit_within<R: Told>(reader: &mut R, length: u64, most_pixels: u64) -> Admission
+    ensures admits { Admits (may_fail (R.telling reader.old)) most_pixels result }
+
+    // Over every reader, also one that lies:
+    ensures few { IfOk result.verdict (λ size. size.width * size.height ≤ most_pixels) }
+    ensures many { IfTooLarge result.verdict (λ size. most_pixels < size.width * size.height) }
+    ensures limit { result.taken ≤ length + 64 }
+{
+    let mut limited = Limited {
+        reader,
+        left: length.saturating_add(64),
+    };
+    admit(&mut limited, most_pixels)
+}

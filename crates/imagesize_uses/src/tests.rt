@@ -1,0 +1,95 @@
+//! Each caller once, on worked inputs.
+
+use crate::cache::{keep, still_holds};
+use crate::document::{PageSize, size_on_page};
+use crate::gallery::size_by_front;
+use crate::gate::{Limited, Rejection, admit, admit_within};
+use crate::joined::joined_size;
+use crate::texture::{Flaw, check_texture};
+use imagesize::{CompressionFamily, ImageSize, ImageType};
+use std::io::Cursor;
+use std::test::Fail;
+
+// A GIF of 100 by 100.
+const GIF: &[u8] = b"GIF89ad\0d\0\0\0";
+
+// A size of equal sides.
+fn square(side: usize) -> ImageSize {
+    ImageSize {
+        width: side,
+        height: side,
+    }
+}
+
+#[test]
+fn a_gate_admits_by_the_area(rt: HostRuntime) {
+    let admission = admit(&mut Cursor::new(GIF), 10_000);
+    assert!(rt; matches!(admission.verdict, Ok(size) if size == square(100)));
+    assert_eq!(rt; admission.taken, 12);
+    let admission = admit(&mut Cursor::new(GIF), 9_999);
+    assert!(rt; matches!(admission.verdict, Err(Rejection::TooLarge(size)) if size == square(100)));
+}
+
+#[test]
+fn a_limited_gate_takes_no_more(rt: HostRuntime) {
+    let admission = admit_within(&mut Cursor::new(GIF), 12, 10_000);
+    assert!(rt; matches!(admission.verdict, Ok(size) if size == square(100)));
+    let mut limited = Limited {
+        reader: &mut Cursor::new(GIF),
+        left: 11,
+    };
+    let admission = admit(&mut limited, 10_000);
+    assert!(rt; matches!(admission.verdict, Err(Rejection::NoSize(_))));
+    assert_eq!(rt; admission.taken, 11);
+}
+
+#[test]
+fn a_gallery_knows_which_fronts_tell(rt: HostRuntime) {
+    assert_eq!(rt; size_by_front(GIF), Some(square(100)));
+    assert_eq!(rt; size_by_front(b"GIF89ad\0d\0\0"), None);
+    let tga = b"\0\0\x02\0\0\0\0\0\0\0\0\0\x03\0\x04\0\x18\0";
+    assert_eq!(rt; size_by_front(tga), None);
+}
+
+#[test]
+fn a_cache_sees_the_spans_alone(rt: HostRuntime) -> Result<(), Fail> {
+    let kept = keep(rt.alloc(), b"GIF89ad\0d\0\0\0a")?;
+    assert!(rt; still_holds(&kept, b"GIF89ad\0d\0\0\0b"));
+    assert!(rt; !still_holds(&kept, b"GIF89ae\0d\0\0\0a"));
+    assert!(rt; !still_holds(&kept, GIF));
+    Ok(())
+}
+
+#[test]
+fn a_texture_has_its_compression_and_sides(rt: HostRuntime) {
+    let pkm = b"PKM 20\0\x01\0@\0@\0@\0@";
+    match check_texture(pkm, CompressionFamily::Etc, 64) {
+        Ok(texture) => {
+            assert_eq!(rt; texture.size, square(64));
+            assert_eq!(rt; texture.container, Some("PKM"));
+        }
+        Err(_) => assert!(rt; false),
+    }
+    let refused = check_texture(pkm, CompressionFamily::Etc, 63);
+    assert!(rt; matches!(refused, Err(Flaw::Sides(size)) if size == square(64)));
+    let refused = check_texture(pkm, CompressionFamily::Eac, 64);
+    assert!(rt; matches!(refused, Err(Flaw::OtherCompression(ImageType::Etc2(_)))));
+}
+
+#[test]
+fn a_page_holds_the_pixels(rt: HostRuntime) {
+    for (pixels_per_inch, points) in [(72, 100), (300, 24), (301, 24), (299, 25)] {
+        let page = size_on_page(ImageType::Gif, GIF, pixels_per_inch);
+        let wanted = PageSize {
+            width: points,
+            height: points,
+        };
+        assert!(rt; matches!(page, Ok(page) if page == wanted));
+    }
+}
+
+#[test]
+fn slices_are_read_as_one(rt: HostRuntime) {
+    let size = joined_size(b"GIF89ad", b"\0d\0\0\0");
+    assert!(rt; matches!(size, Ok(size) if size == square(100)));
+}

@@ -1,0 +1,86 @@
+//! A checker of textures: a file is a texture in a compression that is wanted, with sides that are powers of two.
+ghost use Rattle.std.specs.Prelude.{◌≡◌, ◌≤◌, ◌↔◌, IfErr, IfOk, IsTrue};
+ghost use Rattle.std.specs.Option.{option_copied};
+ghost use Rattle.std.specs.Int.{is_power_of_two};
+ghost use Rattle.imagesize.specs.Meaning.{kind_of};
+ghost use Rattle.imagesize.specs.Queries.{container_of};
+ghost use Rattle.imagesize_uses.specs.Texture.{HasSides, IsFlaw, IsTexture};
+ghost use Rattle.imagesize_types.specs.declared.size.ImageSize.{ImageSize};
+
+use imagesize::{CompressionFamily, ImageError, ImageSize, ImageType, blob_size, image_type};
+
+/// Why a file is not the texture that is wanted.
+#[derive(Debug, Drop)]
+pub enum Flaw {
+    /// It is no image, or has no size, for this reason.
+    NoImage(ImageError),
+    /// It is of this type, whose compression is another or not known.
+    OtherCompression(ImageType),
+    /// A side is no power of two, or is too long.
+    Sides(ImageSize),
+}
+
+impl From<ImageError> for Flaw {
+    ghost use Rattle.imagesize_uses.specs.declared.texture.Flaw.TheVariants.{NoImage};
+
+    ghost from_gives = { λ e flaw. flaw ≡ NoImage e };
+
+    fn from(error: ImageError) -> Flaw {
+        Flaw::NoImage(error)
+    }
+}
+
+/// A texture that can be loaded.
+#[derive(Clone, Copy, Debug)]
+pub struct Texture {
+    /// The size in pixels.
+    pub size: ImageSize,
+    /// The name of the container.
+    pub container: Option<&'static str>,
+}
+
+/// The texture that a file's bytes hold, where it is compressed as is wanted and each of its sides is a power of two
+/// of at most so many pixels.
+///
+/// Errors: the first flaw of the type, of its compression, of the size and of the sides.
+pub fn check_texture(
+    data: &[u8],
+    family: CompressionFamily,
+    most_side: usize,
+) -> Result<Texture, Flaw>
+    // A texture that is answered is as wanted, and stands in the container that is named.
+    ensures texture { IfOk result (λ texture. IsTexture «data».now family most_side texture.size) }
+    ensures container { IfOk result (λ texture.
+        IfOk (kind_of «data».now 0).answer (λ type. option_copied texture.container ≡ container_of type)) }
+
+    // What is refused is none, and the flaw is so.
+    ensures flaw { IfErr result (IsFlaw «data».now family most_side) }
+    ensures none { IfErr result (λ _. (size : ImageSize) → IsTexture «data».now family most_side size → ⊥) }
+{
+    let kind = image_type(data)?;
+    if kind.compression_family() != Some(family) {
+        return Err(Flaw::OtherCompression(kind));
+    }
+    let size = blob_size(data)?;
+    if !has_sides(size, most_side) {
+        return Err(Flaw::Sides(size));
+    }
+    Ok(Texture {
+        size,
+        container: kind.container_format(),
+    })
+}
+
+// Whether each side is a power of two of at most so many pixels.
+fn has_sides(size: ImageSize, most_side: usize) -> bool
+    ensures { IsTrue result ↔ HasSides most_side size }
+{
+    is_side(size.width, most_side) && is_side(size.height, most_side)
+}
+
+// Whether a side is a power of two of at most so many pixels.
+fn is_side(side: usize, most_side: usize) -> bool
+    ensures { IsTrue result ↔ (IsTrue (is_power_of_two side) × (side ≤ most_side)) }
+{
+    side.is_power_of_two() && side <= most_side
+}

@@ -1,0 +1,120 @@
+/*
+ * Prints the type and the size of each image file that is named, or why it has none.
+ *
+ *     image [--spans] FILE..
+ *
+ * A line for each file, as "Gif 100x100", "Jpeg: failed to fill whole buffer" or "Could not decode image"; with --spans below
+ * it the bytes that this rests on, as "  0+12" for twelve bytes from place 0 on. The status is 0 where each file was read.
+ */
+#include "imagesize.h"
+
+#include <inttypes.h>
+#include <stdio.h>
+#include <stdlib.h>
+#include <string.h>
+
+/* The longest text of the library has fewer bytes. */
+enum { TEXT_ROOM = 128 };
+
+static void print_status(uint32_t status)
+{
+    uint8_t text[TEXT_ROOM];
+    size_t length = 0;
+    if (imagesize_status_text(status, text, sizeof text, &length) == IMAGESIZE_ANSWERED) {
+        printf("%.*s", (int)length, (const char *)text);
+    } else {
+        printf("status %" PRIu32, status);
+    }
+}
+
+static void print_type(uint32_t type, uint32_t compression)
+{
+    uint8_t text[TEXT_ROOM];
+    size_t length = 0;
+    if (imagesize_type_name(type, compression, text, sizeof text, &length) == IMAGESIZE_ANSWERED) {
+        printf("%.*s", (int)length, (const char *)text);
+    }
+    if (imagesize_compression_name(type, compression, text, sizeof text, &length) == IMAGESIZE_ANSWERED && length > 0) {
+        printf("(%.*s)", (int)length, (const char *)text);
+    }
+}
+
+static void print_image(const uint8_t *bytes, size_t length)
+{
+    uint32_t type = 0;
+    uint32_t compression = 0;
+    uint64_t width = 0;
+    uint64_t height = 0;
+    uint32_t status = imagesize_probe(bytes, length, &type, &compression, &width, &height);
+    if (type != 0) {
+        print_type(type, compression);
+    }
+    if (status == IMAGESIZE_ANSWERED) {
+        printf(" %" PRIu64 "x%" PRIu64 "\n", width, height);
+        return;
+    }
+    printf(type != 0 ? ": " : "");
+    print_status(status);
+    printf("\n");
+}
+
+/* Asks for the count first, and then lends room for just so many. */
+static int print_spans(const uint8_t *bytes, size_t length)
+{
+    imagesize_span none = {0, 0};
+    size_t count = 0;
+    imagesize_spans(bytes, length, &none, 0, &count);
+    imagesize_span *spans = calloc(count + 1, sizeof *spans);
+    if (spans == NULL) {
+        return 1;
+    }
+    if (imagesize_spans(bytes, length, spans, count, &count) == IMAGESIZE_ANSWERED) {
+        for (size_t i = 0; i < count; i++) {
+            printf("  %" PRIu64 "+%" PRIu64 "\n", spans[i].start, spans[i].len);
+        }
+    }
+    free(spans);
+    return 0;
+}
+
+/* All bytes of a file, in memory that the caller frees; NULL where they cannot be read. */
+static uint8_t *read_file(const char *name, size_t *length)
+{
+    FILE *file = fopen(name, "rb");
+    if (file == NULL) {
+        return NULL;
+    }
+    uint8_t *bytes = NULL;
+    long size = fseek(file, 0, SEEK_END) == 0 ? ftell(file) : -1;
+    if (size >= 0 && fseek(file, 0, SEEK_SET) == 0) {
+        bytes = malloc((size_t)size + 1);
+    }
+    if (bytes != NULL && fread(bytes, 1, (size_t)size, file) != (size_t)size) {
+        free(bytes);
+        bytes = NULL;
+    }
+    fclose(file);
+    *length = bytes != NULL ? (size_t)size : 0;
+    return bytes;
+}
+
+int main(int count, char **names)
+{
+    int with_spans = count > 1 && strcmp(names[1], "--spans") == 0;
+    int failed = 0;
+    for (int i = 1 + with_spans; i < count; i++) {
+        size_t length = 0;
+        uint8_t *bytes = read_file(names[i], &length);
+        if (bytes == NULL) {
+            fprintf(stderr, "%s: cannot be read\n", names[i]);
+            failed = 1;
+            continue;
+        }
+        print_image(bytes, length);
+        if (with_spans) {
+            failed |= print_spans(bytes, length);
+        }
+        free(bytes);
+    }
+    return failed;
+}

@@ -1,0 +1,39 @@
+"""Prints the type and the size of each image file that is named, or why it has none.
+
+    python3 image.py [--spans] FILE..
+
+The lines are those of image.c: "Gif 100x100", "Jpeg: failed to fill whole buffer" or "Could not decode image"; with --spans
+below it the bytes that this rests on, as "  0+12" for twelve bytes from place 0 on.
+"""
+
+from __future__ import annotations
+
+import pathlib
+import sys
+
+sys.path.insert(0, str(pathlib.Path(__file__).resolve().parent.parent / "bindings" / "python"))
+
+import imagesize  # noqa: E402
+
+
+def line(data: bytes) -> str:
+    """The line about one image."""
+    try:
+        probed = imagesize.probe(data)
+    except imagesize.ImageError as error:
+        return f"{error.image_type}: {error}" if error.image_type else str(error)
+    return f"{probed.image_type} {probed.size.width}x{probed.size.height}"
+
+
+def main(arguments: list[str]) -> None:
+    with_spans = arguments[:1] == ["--spans"]
+    for name in arguments[with_spans:]:
+        data = pathlib.Path(name).read_bytes()
+        print(line(data))
+        if with_spans:
+            for span in imagesize.spans(data):
+                print(f"  {span.start}+{span.len}")
+
+
+if __name__ == "__main__":
+    main(sys.argv[1:])

@@ -1,0 +1,213 @@
+/*
+ * The type of an image and its width and height in pixels, from a few bytes, with no pixel decoded.
+ *
+ * Each call is proved: it returns, reads no byte but those that are lent, writes nowhere but where it is said here, takes no
+ * memory, keeps nothing between two calls, and answers what docs/LAYOUTS.md says. docs/PROMISES.md has the promises. Calls may
+ * run at the same time on several threads, where none writes what another reads.
+ *
+ * What a caller owes, since nothing can check it:
+ *  - A pointer is never null, not even beside a length of 0 (any pointer that is aligned will do there), and is aligned as its
+ *    type is.
+ *  - Behind a pointer to bytes, to text or to spans stand as many items as the length beside it says, fewer than 2^63 bytes in all;
+ *    what is written to overlaps nothing else that is lent to the call. Text and spans are initialised.
+ *
+ * Each call answers a status: IMAGESIZE_ANSWERED, or one of its own for each refusal. What a call does not say that it writes
+ * stays as it was, beside a refusal too.
+ *
+ * A text is of ASCII characters with no zero behind it. It is written where the buffer has room for all of it, and its length is
+ * told either way; a buffer that is too small (IMAGESIZE_BUFFER_TOO_SMALL) stays as it was. The same holds of spans. A buffer
+ * of length 0 is a way to ask for the length.
+ */
+#ifndef IMAGESIZE_H
+#define IMAGESIZE_H
+
+#include <stddef.h>
+#include <stdint.h>
+
+#ifdef __cplusplus
+extern "C" {
+#endif
+
+/* What a call answers. */
+enum imagesize_status {
+    IMAGESIZE_ANSWERED = 0, /* the call is answered */
+    IMAGESIZE_NOT_SUPPORTED = 1, /* the bytes are of no type that is known */
+    IMAGESIZE_CORRUPTED_IMAGE = 2, /* the type is known, and its records end before one gives the size */
+    IMAGESIZE_FAULT = 3, /* a reader failed; no call of this library answers it */
+    IMAGESIZE_END_OF_INPUT = 4, /* the bytes end before some that the layout needs */
+    IMAGESIZE_NOT_ENOUGH_DATA = 5, /* a HEIF property list holds no image size */
+    IMAGESIZE_BUDGET_SPENT = 6, /* a reader's budget is spent; no call of this library answers it */
+    IMAGESIZE_OUT_OF_MEMORY = 7, /* memory was refused; no call of this library answers it */
+    IMAGESIZE_NO_DELIMITER = 8, /* a text has no delimiter within the bytes that it may have */
+    IMAGESIZE_NOT_UTF8 = 9, /* a text is no UTF-8 */
+    IMAGESIZE_INVALID_HEIF_BOX_SIZE = 10, /* a HEIF box is smaller than its own head */
+    IMAGESIZE_INVALID_JXL_BOX_SIZE = 11, /* a JPEG XL box is smaller than its own head */
+    IMAGESIZE_INVALID_JXL_SIGNATURE = 12, /* a JPEG XL codestream does not begin with its signature */
+    IMAGESIZE_INVALID_TIFF_HEADER = 13, /* a TIFF has no known byte order or version */
+    IMAGESIZE_BIG_TIFF_OFFSET_SIZE = 14, /* a BigTIFF has offsets of another size than 8 bytes */
+    IMAGESIZE_INVALID_BIG_TIFF_HEADER = 15, /* the two bytes of a BigTIFF that are always zero are not */
+    IMAGESIZE_INVALID_IFD_OFFSET = 16, /* a TIFF's directory stands at place 0 */
+    IMAGESIZE_IFD_TYPE_FOR_STANDARD_TIFF = 17, /* a TIFF entry has a field type that only BigTIFF knows */
+    IMAGESIZE_INVALID_IFD_TYPE = 18, /* a TIFF entry has a field type that no TIFF knows */
+    IMAGESIZE_INVALID_IFD_VALUE_LENGTH = 19, /* the bytes end within a TIFF entry's value */
+    IMAGESIZE_NO_DIMENSIONS_IN_IFD = 20, /* a TIFF directory gives no width or no height */
+    IMAGESIZE_INVALID_VP8_TAG = 21, /* a WebP's first chunk is none that is known */
+    IMAGESIZE_DATA_WINDOW_NOT_FOUND = 22, /* an EXR header ends before a data window */
+    IMAGESIZE_INVALID_HDR_IDENTIFIER = 23, /* an HDR does not begin with its identifier */
+    IMAGESIZE_INVALID_HDR_DIMENSIONS_LINE = 24, /* an HDR's line of sizes has not four words */
+    IMAGESIZE_HDR_DIMENSIONS_NOT_FOUND = 25, /* the sizes in an HDR's line are no numbers */
+    IMAGESIZE_PNM_DIMENSIONS_NOT_FOUND = 26, /* the words of a PNM's size are no numbers */
+    IMAGESIZE_BUFFER_TOO_SMALL = 27, /* the answer has more items than the buffer has room for */
+    IMAGESIZE_UNKNOWN_TYPE = 28, /* no type has these numbers */
+    IMAGESIZE_UNKNOWN_STATUS = 29 /* no status has this number */
+};
+
+/* The types of images. */
+enum imagesize_type_number {
+    IMAGESIZE_ASEPRITE = 1, /* animated sprites of the editor Aseprite */
+    IMAGESIZE_ASTC = 2, /* adaptive scalable texture compression */
+    IMAGESIZE_ATC = 3, /* a texture in ATC, in a PKM file; it has a compression */
+    IMAGESIZE_BMP = 4, /* Windows bitmap */
+    IMAGESIZE_DDS = 5, /* DirectDraw surface; it has a compression */
+    IMAGESIZE_EAC = 6, /* a texture in EAC, in a PKM file; it has a compression */
+    IMAGESIZE_ETC2 = 7, /* a texture in ETC1 or ETC2, in a PKM file; it has a compression */
+    IMAGESIZE_EXR = 8, /* OpenEXR */
+    IMAGESIZE_FARBFELD = 9, /* farbfeld */
+    IMAGESIZE_GIF = 10, /* graphics interchange format */
+    IMAGESIZE_HDR = 11, /* Radiance RGBE */
+    IMAGESIZE_HEIF = 12, /* HEIC and AVIF; it has a compression */
+    IMAGESIZE_ICO = 13, /* Windows icon */
+    IMAGESIZE_ILBM = 14, /* interleaved bitmap, in an IFF file */
+    IMAGESIZE_JPEG = 15, /* JPEG */
+    IMAGESIZE_JXL = 16, /* JPEG XL */
+    IMAGESIZE_KTX2 = 17, /* Khronos texture, version 2 */
+    IMAGESIZE_PNM = 18, /* PBM, PGM and PPM */
+    IMAGESIZE_PVRTC = 19, /* PowerVR texture; it has a compression */
+    IMAGESIZE_PSD = 20, /* Photoshop document */
+    IMAGESIZE_QOI = 21, /* quite OK image */
+    IMAGESIZE_TGA = 22, /* Truevision TGA */
+    IMAGESIZE_TIFF = 23, /* TIFF, BigTIFF among them */
+    IMAGESIZE_VTF = 24, /* Valve texture */
+    IMAGESIZE_WEBP = 25 /* WebP */
+};
+
+/* The compressions of the types that have one. */
+enum imagesize_compression_number {
+    IMAGESIZE_NO_COMPRESSION = 0, /* the type has none */
+    IMAGESIZE_UNKNOWN_COMPRESSION = 1, /* the type has one, and it is none of those below */
+    IMAGESIZE_ATC_RGB = 2, /* ATC, from here on */
+    IMAGESIZE_ATC_RGBA_EXPLICIT = 3,
+    IMAGESIZE_ATC_RGBA_INTERPOLATED = 4,
+    IMAGESIZE_DDS_BC1 = 5, /* DDS, from here on */
+    IMAGESIZE_DDS_BC2 = 6,
+    IMAGESIZE_DDS_BC3 = 7,
+    IMAGESIZE_DDS_BC4 = 8,
+    IMAGESIZE_DDS_BC5 = 9,
+    IMAGESIZE_DDS_BC6H = 10,
+    IMAGESIZE_DDS_BC7 = 11,
+    IMAGESIZE_DDS_RGBA32 = 12,
+    IMAGESIZE_DDS_RGB24 = 13,
+    IMAGESIZE_HEIF_AV1 = 14, /* HEIF, from here on */
+    IMAGESIZE_HEIF_HEVC = 15,
+    IMAGESIZE_HEIF_JPEG = 16,
+    IMAGESIZE_PKM_ETC1 = 17, /* ETC and EAC, in a PKM file, from here on */
+    IMAGESIZE_PKM_ETC2 = 18,
+    IMAGESIZE_PKM_ETC2A1 = 19,
+    IMAGESIZE_PKM_ETC2A8 = 20,
+    IMAGESIZE_PKM_EAC_R = 21,
+    IMAGESIZE_PKM_EAC_RG = 22,
+    IMAGESIZE_PKM_EAC_R_SIGNED = 23,
+    IMAGESIZE_PKM_EAC_RG_SIGNED = 24,
+    IMAGESIZE_PVRTC_2BPP_RGB = 25, /* PowerVR, from here on */
+    IMAGESIZE_PVRTC_2BPP_RGBA = 26,
+    IMAGESIZE_PVRTC_4BPP_RGB = 27,
+    IMAGESIZE_PVRTC_4BPP_RGBA = 28,
+    IMAGESIZE_PVR_ETC2_RGB = 29,
+    IMAGESIZE_PVR_ETC2_RGBA = 30,
+    IMAGESIZE_PVR_ETC2_RGB_A1 = 31,
+    IMAGESIZE_PVR_EAC_R11 = 32,
+    IMAGESIZE_PVR_EAC_RG11 = 33
+};
+
+/* What compressions have in common, across types. */
+enum imagesize_family_number {
+    IMAGESIZE_NO_FAMILY = 0, /* no texture, or its compression is not known */
+    IMAGESIZE_FAMILY_BLOCK_COMPRESSION = 1, /* BC1 to BC7 */
+    IMAGESIZE_FAMILY_ETC = 2, /* ETC1 and ETC2 */
+    IMAGESIZE_FAMILY_EAC = 3, /* EAC of one or two channels */
+    IMAGESIZE_FAMILY_PVRTC = 4, /* PVRTC */
+    IMAGESIZE_FAMILY_ASTC = 5, /* ASTC */
+    IMAGESIZE_FAMILY_ATC = 6, /* ATC */
+    IMAGESIZE_FAMILY_UNCOMPRESSED = 7 /* pixels as they are */
+};
+
+/* Some of the bytes: `len` of them, from place `start` on. Places count bytes from 0. */
+typedef struct imagesize_span {
+    uint64_t start;
+    uint64_t len;
+} imagesize_span;
+
+/*
+ * Type and compression of the image whose first bytes these are. Twelve bytes tell most types; a PVR, a DDS, a PKM or an ATC has
+ * its compression behind them, a HEIF its brands, and a TGA its footer at the end of all its bytes.
+ *
+ * Refusals: IMAGESIZE_NOT_SUPPORTED, and IMAGESIZE_END_OF_INPUT under 12 bytes.
+ */
+uint32_t imagesize_type(const uint8_t *bytes, size_t length, uint32_t *type, uint32_t *compression);
+
+/*
+ * Width and height, in pixels, of the image that these bytes hold: all bytes of its file, or a front of them.
+ *
+ * Refusals: those of imagesize_type, IMAGESIZE_END_OF_INPUT where the bytes end before the size, and the refusals of the
+ * type's layout, which stand above by their type.
+ */
+uint32_t imagesize_size(const uint8_t *bytes, size_t length, uint64_t *width, uint64_t *height);
+
+/*
+ * Both at once. The status is that of imagesize_size. Type and compression are written where imagesize_type would write them,
+ * so also beside a refusal of the size alone.
+ */
+uint32_t imagesize_probe(const uint8_t *bytes, size_t length, uint32_t *type, uint32_t *compression,
+                         uint64_t *width, uint64_t *height);
+
+/*
+ * The bytes that type and size rest on, a span for each reading, in their order, repeats kept. Every other input of this length
+ * that has the same bytes there has the same type and size, or the same refusal. `count` is told how many spans there are; at
+ * most `room` are written.
+ *
+ * It is answered also where the size is refused. Refusal: IMAGESIZE_BUFFER_TOO_SMALL.
+ */
+uint32_t imagesize_spans(const uint8_t *bytes, size_t length, imagesize_span *spans, size_t room, size_t *count);
+
+/*
+ * The name of a type, as "Gif"; of its compression, as "Bc7", which is empty where it has none; and of its container, as "KTX2",
+ * which is empty where it has none. `written` is told the length of the text in bytes.
+ *
+ * Refusals: IMAGESIZE_UNKNOWN_TYPE where no type has these two numbers, and nothing is told then; IMAGESIZE_BUFFER_TOO_SMALL.
+ */
+uint32_t imagesize_type_name(uint32_t type, uint32_t compression, uint8_t *text, size_t room, size_t *written);
+uint32_t imagesize_compression_name(uint32_t type, uint32_t compression, uint8_t *text, size_t room, size_t *written);
+uint32_t imagesize_container_format(uint32_t type, uint32_t compression, uint8_t *text, size_t room, size_t *written);
+
+/*
+ * The text of a status, for people. The text of IMAGESIZE_NO_DELIMITER and of the two refused box sizes names no number.
+ *
+ * Refusals: IMAGESIZE_UNKNOWN_STATUS, and nothing is told then; IMAGESIZE_BUFFER_TOO_SMALL.
+ */
+uint32_t imagesize_status_text(uint32_t status, uint8_t *text, size_t room, size_t *written);
+
+/*
+ * The family of a type's compression; whether it is one of the block compressions, 1 or 0; and whether the type's container
+ * can hold several families, 1 or 0.
+ *
+ * Refusal: IMAGESIZE_UNKNOWN_TYPE where no type has these two numbers, and nothing is told then.
+ */
+uint32_t imagesize_compression_family(uint32_t type, uint32_t compression, uint32_t *family);
+uint32_t imagesize_is_block_compressed(uint32_t type, uint32_t compression, uint32_t *answer);
+uint32_t imagesize_is_multi_compression_container(uint32_t type, uint32_t compression, uint32_t *answer);
+
+#ifdef __cplusplus
+}
+#endif
+
+#endif
