@@ -33,6 +33,7 @@ impl<'a, R: Told> ReaderSource<'a, R> {
         ensures state { reader_state (R.telling result.reader.now) (R.count result.reader.now) result.reader.ghost_name
             result.progress result.window.items
             ≡ start_state (R.telling reader.old) (R.count reader.old) reader.entry.ghost_name told }
+        ensures present { result.present ≡ told }
     {
         let progress = Progress {
             told,
