@@ -18,7 +18,7 @@ enum { TEXT_ROOM = 128 };
 
 static void print_status(uint32_t status)
 {
-    uint8_t text[TEXT_ROOM];
+    uint8_t text[TEXT_ROOM] = {0};
     size_t length = 0;
     if (imagesize_status_text(status, text, sizeof text, &length) == IMAGESIZE_ANSWERED) {
         printf("%.*s", (int)length, (const char *)text);
@@ -29,7 +29,7 @@ static void print_status(uint32_t status)
 
 static void print_type(uint32_t type, uint32_t compression)
 {
-    uint8_t text[TEXT_ROOM];
+    uint8_t text[TEXT_ROOM] = {0};
     size_t length = 0;
     if (imagesize_type_name(type, compression, text, sizeof text, &length) == IMAGESIZE_ANSWERED) {
         printf("%.*s", (int)length, (const char *)text);

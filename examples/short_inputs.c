@@ -94,7 +94,7 @@ static void one_input(uint8_t *end, uint8_t *text_end)
     expect((type_status == IMAGESIZE_ANSWERED) == (type != 0), "the type alone is told where it is told beside the size");
     expect(type_alone == type && compression_alone == compression, "and is the same");
 
-    imagesize_span spans[SPANS];
+    imagesize_span spans[SPANS] = {{0, 0}};
     size_t count = SPANS + 1;
     uint32_t spans_status = imagesize_spans(bytes, length, spans, SPANS, &count);
     expect(spans_status == (count <= SPANS ? IMAGESIZE_ANSWERED : IMAGESIZE_BUFFER_TOO_SMALL), "spans where they fit");

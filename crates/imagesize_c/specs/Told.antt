@@ -1,5 +1,5 @@
 -- What the calls of texts and of queries tell.
-use Rattle.std.specs.Prelude.{◌≡◌, ℕ, Bool, true, false, List, [], ◌∷◌, Option, None, Some, Result, Ok, Err, codes, if◌then◌else◌, option_map}
+use Rattle.std.specs.Prelude.{◌≡◌, ℕ, Bool, true, false, List, [], ◌∷◌, Option, None, Some, Result, Ok, Err, codes, option_map}
 use Rattle.imagesize.specs.Names.{compression_name_of}
 use Rattle.imagesize.specs.Queries.{container_of}
 use Rattle.imagesize.specs.declared.types.CompressionFamily.{CompressionFamily}
