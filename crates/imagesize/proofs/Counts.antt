@@ -17,7 +17,8 @@ use Rattle.imagesize_source.specs.declared.span.Span.{Span}
 pub size_within : (type : ImageType) (d : List ℕ) → kind_cost type + total (size_of type d).marks ≤ length d + 57
 size_within type d = within_way (kind_cost type) (lasts type) (way_of type) (kind_few type) (laws_of type) d
 
-onward_within : (spans : List Span) (r : Result ImageType ImageError) (d : List ℕ) → total spans ≤ bound_of kind_cost 37 r → total (onward spans r (λ found. size_of found d)).marks ≤ length d + 57
+onward_within : (spans : List Span) (r : Result ImageType ImageError) (d : List ℕ) → total spans ≤ bound_of kind_cost 37 r
+    → total (onward spans r (λ found. size_of found d)).marks ≤ length d + 57
 onward_within spans (Ok type) d few = omega (arith, total-append spans (size_of type d).marks, few, size_within type d)
 onward_within spans (Err e) d few = omega (arith, few)
 
@@ -25,9 +26,11 @@ pub cost_within : (d : List ℕ) (place : ℕ) → cost d place ≤ length d + 5
 unfolding meaning
 cost_within d place = onward_within (kind_of d place).marks (kind_of d place).answer d (kind_at_most d place)
 
-onward_stated : (spans : List Span) (r : Result ImageType ImageError) (d : List ℕ) → total spans ≤ bound_of kind_cost 37 r → total (onward spans r (λ found. size_of found d)).marks ≤ stated_as r d
+onward_stated : (spans : List Span) (r : Result ImageType ImageError) (d : List ℕ) → total spans ≤ bound_of kind_cost 37 r
+    → total (onward spans r (λ found. size_of found d)).marks ≤ stated_as r d
 onward_stated spans (Ok type) d few =
-    omega (arith, total-append spans (size_of type d).marks, few, cost_way (kind_cost type) (lasts type) (way_of type) (kind_few type) (laws_of type) d)
+    omega (arith, total-append spans (size_of type d).marks, few, cost_way (kind_cost type) (lasts type) (way_of type) (kind_few type)
+        (laws_of type) d)
 onward_stated spans (Err e) d few = omega (arith, few)
 
 -- and from at most the bytes that are stated

@@ -53,9 +53,11 @@ kind_few _ = omega arith
 
 with_costs : (place : ℕ) (head : List ℕ) (found : ImageType) → CostsBy kind_cost 37 12 (with_compression place head found)
 unfolding with_compression
-with_costs place head (Heif _) = costs_bind kind_cost 37 12 12 (heif_compression place head) _ (heif_compression_laws place head).few (omega arith) (λ _. omega arith)
+with_costs place head (Heif _) = costs_bind kind_cost 37 12 12 (heif_compression place head) _ (heif_compression_laws place head).few
+    (omega arith) (λ _. omega arith)
 with_costs place head (Atc _) = costs_bind kind_cost 37 12 8 atc_compression _ atc_compression_laws.few (omega arith) (λ _. omega arith)
-with_costs place head (Pvrtc _) = costs_bind kind_cost 37 12 12 pvrtc_compression _ pvrtc_compression_laws.few (omega arith) (λ _. omega arith)
+with_costs place head (Pvrtc _) = costs_bind kind_cost 37 12 12 pvrtc_compression _ pvrtc_compression_laws.few (omega arith)
+    (λ _. omega arith)
 with_costs place head (Eac _) = costs_bind kind_cost 37 12 2 pkm_compression _ pkm_compression_laws.few (omega arith) (λ _. omega arith)
 with_costs place head (Etc2 _) = costs_bind kind_cost 37 12 2 pkm_compression _ pkm_compression_laws.few (omega arith) (λ _. omega arith)
 with_costs place head (Dds _) = costs_bind kind_cost 37 12 8 dds_compression _ dds_compression_laws.few (omega arith) (λ _. omega arith)
@@ -68,7 +70,8 @@ none_costs false = omega arith
 
 by_costs : (n place : ℕ) (head : List ℕ) (found : Option ImageType) → CostsBy kind_cost 37 12 (kind_by n place head found)
 by_costs n place head (Some found) = with_costs place head found
-by_costs n place head None = costs_bind kind_cost 37 12 25 (is_tga n head) tga_or_none (is_tga_few n head) (omega arith) (λ is. none_costs is)
+by_costs n place head None = costs_bind kind_cost 37 12 25 (is_tga n head) tga_or_none (is_tga_few n head) (omega arith)
+    (λ is. none_costs is)
 
 kind_costs : (n place : ℕ) → CostsBy kind_cost 37 0 (kind n place)
 kind_costs n place = (omega arith, λ head. by_costs n place head (first_row rows head))
@@ -91,7 +94,8 @@ Alike found type = way_of type ≡ way_of found
 
 with_alike : (place : ℕ) (head : List ℕ) (found : ImageType) → Always (Alike found) (with_compression place head found)
 unfolding with_compression
-with_alike place head (Heif k) = always_bind (Alike (Heif k)) (heif_compression place head) _ (heif_compression_laws place head).answers (λ _. refl)
+with_alike place head (Heif k) = always_bind (Alike (Heif k)) (heif_compression place head) _ (heif_compression_laws place head).answers
+    (λ _. refl)
 with_alike place head (Atc k) = always_bind (Alike (Atc k)) atc_compression _ atc_compression_laws.answers (λ _. refl)
 with_alike place head (Pvrtc k) = always_bind (Alike (Pvrtc k)) pvrtc_compression _ pvrtc_compression_laws.answers (λ _. refl)
 with_alike place head (Eac k) = always_bind (Alike (Eac k)) pkm_compression _ pkm_compression_laws.answers (λ _. refl)
@@ -100,7 +104,8 @@ with_alike place head (Dds k) = always_bind (Alike (Dds k)) dds_compression _ dd
 with_alike place head _ = refl
 
 -- an answer behind readings is that behind what they answered
-onward_ok : {X Y : Type 0} (spans : List Span) (r : Result X ImageError) (f : X → Reads Y) (y : Y) → (onward spans r f).answer ≡ Ok y → (x : X) × (r ≡ Ok x) × ((f x).answer ≡ Ok y)
+onward_ok : {X Y : Type 0} (spans : List Span) (r : Result X ImageError) (f : X → Reads Y) (y : Y) → (onward spans r f).answer ≡ Ok y
+    → (x : X) × (r ≡ Ok x) × ((f x).answer ≡ Ok y)
 onward_ok spans (Ok x) f y is = (x, refl, is)
 onward_ok spans (Err e) f y is = absurd cc
 
@@ -108,7 +113,8 @@ tga_is : (is : Bool) (d : List ℕ) (type : ImageType) → (over d (tga_or_none 
 tga_is true d type is = cc
 tga_is false d type is = absurd cc
 
-none_lasts : (d : List ℕ) (n place : ℕ) (head : List ℕ) (type : ImageType) → (over d (bind (is_tga n head) tga_or_none)).answer ≡ Ok type → lasts type ≡ true → ⊥
+none_lasts : (d : List ℕ) (n place : ℕ) (head : List ℕ) (type : ImageType) → (over d (bind (is_tga n head) tga_or_none)).answer ≡ Ok type
+    → lasts type ≡ true → ⊥
 none_lasts d n place head type is stays =
     let both = ap (λ r. r.answer) (sym (over-bind d (is_tga n head) tga_or_none)) ∙ is in
     let last = onward_ok (over d (is_tga n head)).marks (over d (is_tga n head)).answer (λ b. over d (tga_or_none b)) type both in
@@ -116,7 +122,9 @@ none_lasts d n place head type is stays =
     let not_tga : lasts Tga ≡ true = ap lasts (sym tga_found) ∙ stays in
     absurd cc
 
-by_more : (d x : List ℕ) (place : ℕ) (head : List ℕ) (row : Option ImageType) (type : ImageType) → (over d (kind_by (length d) place head row)).answer ≡ Ok type → lasts type ≡ true → (after : ImageType) × ((over (d ++ x) (kind_by (length (d ++ x)) place head row)).answer ≡ Ok after) × Alike type after
+by_more : (d x : List ℕ) (place : ℕ) (head : List ℕ) (row : Option ImageType) (type : ImageType)
+    → (over d (kind_by (length d) place head row)).answer ≡ Ok type → lasts type ≡ true → (after : ImageType)
+    × ((over (d ++ x) (kind_by (length (d ++ x)) place head row)).answer ≡ Ok after) × Alike type after
 by_more d x place head None type is stays = absurd (none_lasts d (length d) place head type is stays)
 by_more d x place head (Some found) type is stays =
     let before = always (Alike found) d (with_compression place head found) (with_alike place head found) in
@@ -126,9 +134,12 @@ by_more d x place head (Some found) type is stays =
     (after.0, after.1, after.2 ∙ sym alike)
 
 -- behind a type that lasts, bytes that follow leave one whose size is told in the same way
-pub kind_more : (d x : List ℕ) (place : ℕ) (type : ImageType) → (kind_of d place).answer ≡ Ok type → lasts type ≡ true → (after : ImageType) × ((kind_of (d ++ x) place).answer ≡ Ok after) × Alike type after
+pub kind_more : (d x : List ℕ) (place : ℕ) (type : ImageType) → (kind_of d place).answer ≡ Ok type → lasts type ≡ true
+    → (after : ImageType) × ((kind_of (d ++ x) place).answer ≡ Ok after) × Alike type after
 kind_more d x place type is stays =
-    let head = onward_ok (span_of d place 12) (bytes_at d place 12) (λ bs. over d (kind_by (length d) place bs (first_row rows bs))) type is in
+    let head = onward_ok (span_of d place 12) (bytes_at d place 12) (λ bs. over d (kind_by (length d) place bs (first_row rows bs))) type
+        is in
     let there : bytes_at (d ++ x) place 12 ≡ Ok head.0 = bytes_more d x place 12 (bytes_ok d head.0 place 12 head.1) ∙ head.1 in
     let after = by_more d x place head.0 (first_row rows head.0) type head.2 stays in
-    (after.0, ap (λ r. (onward (span_of (d ++ x) place 12) r (λ bs. over (d ++ x) (kind_by (length (d ++ x)) place bs (first_row rows bs)))).answer) there ∙ after.1, after.2)
+    (after.0, ap (λ r. (onward (span_of (d ++ x) place 12) r
+        (λ bs. over (d ++ x) (kind_by (length (d ++ x)) place bs (first_row rows bs)))).answer) there ∙ after.1, after.2)

@@ -7,21 +7,26 @@ use Rattle.imagesize_source.specs.Standing.{since}
 use Rattle.imagesize_source.specs.State.{State, Runs}
 use Rattle.imagesize_source.specs.declared.error.ImageError.{ImageError}
 
-without : (e : ImageError) (records is : Bool) → is_memory e ≡ is → (is_memory e ≡ true → records ≡ true) → records ≡ false → is_memory e ≡ false
+without : (e : ImageError) (records is : Bool) → is_memory e ≡ is → (is_memory e ≡ true → records ≡ true) → records ≡ false
+    → is_memory e ≡ false
 without e records true is wants none = absurd (let on : true ≡ false = sym (wants is) ∙ none in cc)
 without e records false is wants none = is
 
 -- a reader's source records nothing, so no call over it is refused memory
-pub no_memory : {X : Type 0} {a b : State} (r : Result X ImageError) (reads : Reads X) → a.frame.records ≡ false → Runs a b r reads → IfErr r (λ e. is_memory e ≡ false)
+pub no_memory : {X : Type 0} {a b : State} (r : Result X ImageError) (reads : Reads X) → a.frame.records ≡ false → Runs a b r reads
+    → IfErr r (λ e. is_memory e ≡ false)
 no_memory (Ok x) reads none h = tt
-no_memory {b = b} (Err e) reads none h = without e b.frame.records (is_memory e) refl (λ refused. (h.ended.memory refused).0) (ap (λ f. f.records) h.frame ∙ none)
+no_memory {b = b} (Err e) reads none h = without e b.frame.records (is_memory e) refl (λ refused. (h.ended.memory refused).0)
+    (ap (λ f. f.records) h.frame ∙ none)
 
-some_budget : (named : Option ℕ) (budget taken n : ℕ) (counts : Bool) → 64 ≤ budget → n ≡ taken → IfSome named (λ k. (counts ≡ true) × (k ≡ budget) × (k ≡ taken)) → IfSome named (λ k. (k ≡ n) × (64 ≤ k))
+some_budget : (named : Option ℕ) (budget taken n : ℕ) (counts : Bool) → 64 ≤ budget → n ≡ taken
+    → IfSome named (λ k. (counts ≡ true) × (k ≡ budget) × (k ≡ taken)) → IfSome named (λ k. (k ≡ n) × (64 ≤ k))
 some_budget None budget taken n counts enough same is = tt
 some_budget (Some k) budget taken n counts enough same is = (is.2 ∙ sym same, omega (arith, is.1))
 
 -- a budget that was spent is what was taken, and at least 64
-pub budget_taken : {X : Type 0} {a b : State} (told n : ℕ) (r : Result X ImageError) (reads : Reads X) → a.frame.budget ≡ min (told + 64) (2 ^ 64 - 1) → Runs a b r reads → n ≡ b.taken → IfErr r (λ e. IfSome (spent e) (λ k. (k ≡ n) × (64 ≤ k)))
+pub budget_taken : {X : Type 0} {a b : State} (told n : ℕ) (r : Result X ImageError) (reads : Reads X) → a.frame.budget ≡ min (told + 64)
+    (2 ^ 64 - 1) → Runs a b r reads → n ≡ b.taken → IfErr r (λ e. IfSome (spent e) (λ k. (k ≡ n) × (64 ≤ k)))
 budget_taken told n (Ok x) reads start h took = tt
 budget_taken {b = b} told n (Err e) reads start h took =
     let budget : b.frame.budget ≡ min (told + 64) (2 ^ 64 - 1) = ap (λ f. f.budget) h.frame ∙ start in
@@ -31,7 +36,8 @@ least : (named : Option ℕ) (taken : ℕ) → IfSome named (λ k. (k ≡ taken)
 least None taken is = tt
 least (Some k) taken is = is.1
 
-pub budget_least : {X : Type 0} {a b : State} (told : ℕ) (r : Result X ImageError) (reads : Reads X) → a.frame.budget ≡ min (told + 64) (2 ^ 64 - 1) → Runs a b r reads → IfErr r (λ e. IfSome (spent e) (λ k. 64 ≤ k))
+pub budget_least : {X : Type 0} {a b : State} (told : ℕ) (r : Result X ImageError) (reads : Reads X) → a.frame.budget ≡ min (told + 64)
+    (2 ^ 64 - 1) → Runs a b r reads → IfErr r (λ e. IfSome (spent e) (λ k. 64 ≤ k))
 budget_least told (Ok x) reads start h = tt
 budget_least {b = b} told (Err e) reads start h = least (spent e) b.taken (budget_taken told b.taken (Err e) reads start h refl)
 
@@ -46,12 +52,15 @@ rose (Some c) (Some d) taken same =
     let both = parts (d - taken, taken - d) (c - 0, 0 - c) cc in
     let is : d ≡ c + taken = omega (arith, both.0, both.1) in ap Some is
 
-all_spent : (named : Option ℕ) (before after : Option ℕ) (taken : ℕ) → after ≡ option_map (λ c. c + taken) before → IfSome named (λ k. (k ≡ taken) × (64 ≤ k)) → IfSome named (SpentAll before after)
+all_spent : (named : Option ℕ) (before after : Option ℕ) (taken : ℕ) → after ≡ option_map (λ c. c + taken) before
+    → IfSome named (λ k. (k ≡ taken) × (64 ≤ k)) → IfSome named (SpentAll before after)
 all_spent None before after taken up is = tt
 all_spent (Some n) before after taken up is = (is.1, up ∙ ap (λ k. option_map (λ c. c + k) before) (sym is.0))
 
 -- a named count rose by all of it
-pub budget_counted : {X : Type 0} {a b : State} (told : ℕ) (before after : Option ℕ) (r : Result X ImageError) (reads : Reads X) → a.frame.budget ≡ min (told + 64) (2 ^ 64 - 1) → a.frame.since ≡ since before 0 → Runs a b r reads → b.frame.since ≡ since after b.taken → IfErr r (λ e. IfSome (spent e) (SpentAll before after))
+pub budget_counted : {X : Type 0} {a b : State} (told : ℕ) (before after : Option ℕ) (r : Result X ImageError) (reads : Reads X)
+    → a.frame.budget ≡ min (told + 64) (2 ^ 64 - 1) → a.frame.since ≡ since before 0 → Runs a b r reads
+    → b.frame.since ≡ since after b.taken → IfErr r (λ e. IfSome (spent e) (SpentAll before after))
 budget_counted told before after (Ok x) reads start counts h counted = tt
 budget_counted {b = b} told before after (Err e) reads start counts h counted =
     all_spent (spent e) before after b.taken

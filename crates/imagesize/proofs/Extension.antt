@@ -11,7 +11,8 @@ use Rattle.imagesize_source.specs.Reading.{onward}
 use Rattle.imagesize_source.specs.Way.{by_way}
 use Rattle.imagesize_source.specs.declared.error.ImageError.{ImageError}
 
-meaning_of : (d : List ℕ) (place : ℕ) (type : ImageType) → (kind_of d place).answer ≡ Ok type → (meaning d place).answer ≡ (size_of type d).answer
+meaning_of : (d : List ℕ) (place : ℕ) (type : ImageType) → (kind_of d place).answer ≡ Ok type → (meaning d place).answer
+    ≡ (size_of type d).answer
 unfolding meaning
 meaning_of d place type is = ap (λ r. (onward (kind_of d place).marks r (λ found. size_of found d)).answer) is
 
@@ -20,7 +21,8 @@ lasting_kind (Ok type) stays = (type, refl, stays)
 lasting_kind (Err e) stays = absurd cc
 
 -- a size of a type that lasts is that of the bytes and any that follow
-meaning_more : (d x : List ℕ) (place : ℕ) (size : ImageSize) → lasts_as (kind_of d place).answer ≡ true → (meaning d place).answer ≡ Ok size → (meaning (d ++ x) place).answer ≡ Ok size
+meaning_more : (d x : List ℕ) (place : ℕ) (size : ImageSize) → lasts_as (kind_of d place).answer ≡ true → (meaning d place).answer
+    ≡ Ok size → (meaning (d ++ x) place).answer ≡ Ok size
 meaning_more d x place size stays is =
     let found = lasting_kind (kind_of d place).answer stays in
     let after = kind_more d x place found.0 found.1 found.2 in
@@ -28,6 +30,7 @@ meaning_more d x place size stays is =
     meaning_of (d ++ x) place after.0 after.1 ∙ ap (λ way. (by_way way (d ++ x)).answer) after.2
     ∙ lasts_way (kind_cost found.0) (lasts found.0) (way_of found.0) found.2 (laws_of found.0) d x size sized
 
-pub size_lasts : (d : List ℕ) (place : ℕ) (r : Result ImageSize ImageError) → r ≡ (meaning d place).answer → IsTrue (lasts_as (kind_of d place).answer) → IfOk r (λ size. (x : List ℕ) → (meaning (d ++ x) place).answer ≡ Ok size)
+pub size_lasts : (d : List ℕ) (place : ℕ) (r : Result ImageSize ImageError) → r ≡ (meaning d place).answer
+    → IsTrue (lasts_as (kind_of d place).answer) → IfOk r (λ size. (x : List ℕ) → (meaning (d ++ x) place).answer ≡ Ok size)
 size_lasts d place (Ok size) is stays = λ x. meaning_more d x place size stays (sym is)
 size_lasts d place (Err e) is stays = tt

@@ -21,18 +21,21 @@ unless true h = absurd (h refl)
 unless false h = refl
 
 -- nothing ends a call over such a slice
-goes_on : (d e : List ℕ) (first spans : List Span) (home there : ℕ) (r : Result ImageSize ImageError) (reads : Reads ImageSize) → Runs (lent_state d first home) (lent_state e spans there) r reads → stopped r ≡ false
+goes_on : (d e : List ℕ) (first spans : List Span) (home there : ℕ) (r : Result ImageSize ImageError) (reads : Reads ImageSize)
+    → Runs (lent_state d first home) (lent_state e spans there) r reads → stopped r ≡ false
 goes_on d e first spans home there (Ok _) reads h = refl
 goes_on d e first spans home there (Err why) reads h = unless (is_stop why) (λ stops. elim (stop_cases why stops) [
   | inl faults ↦ let no : false ≡ true = h.fault refl faults in (cc)
   | inr other ↦ elim other [
-    | inl all ↦ let no : false ≡ true = (some_spent (spent why) all.0 (λ n. (false ≡ true) × (n ≡ 0) × (n ≡ 0)) all.1 h.ended.budget).0 in (cc)
+    | inl all ↦ let no : false ≡ true = (some_spent (spent why) all.0 (λ n. (false ≡ true) × (n ≡ 0) × (n ≡ 0)) all.1 h.ended.budget).0
+        in (cc)
     | inr refused ↦ let no : false ≡ true = (h.ended.memory refused).0 in (cc)
   ]
 ])
 
 -- the spans are the marks
-pub recorded_marks : (d held e : List ℕ) (first spans : List Span) (home there : ℕ) (r : Result ImageSize ImageError) → held ≡ d → first ≡ [] → Runs (lent_state held first home) (lent_state e spans there) r (meaning held 0) → spans ≡ (meaning d 0).marks
+pub recorded_marks : (d held e : List ℕ) (first spans : List Span) (home there : ℕ) (r : Result ImageSize ImageError) → held ≡ d
+    → first ≡ [] → Runs (lent_state held first home) (lent_state e spans there) r (meaning held 0) → spans ≡ (meaning d 0).marks
 recorded_marks d held e first spans home there r bytes none h =
     let on = goes_on held e first spans home there r (meaning held 0) h in
     spans_of (h.state refl on ∙ past-lent held home first (meaning held 0).marks)
@@ -40,17 +43,20 @@ recorded_marks d held e first spans home there r bytes none h =
     ∙ ap (λ b. (meaning b 0).marks) bytes
 
 -- and all of them were counted
-pub counted_marks : (d : List ℕ) (spans : List Span) (count : ℕ) → length d < 2 ^ 63 → spans ≡ (meaning d 0).marks → count ≡ min (length spans) (2 ^ 64 - 1) → length spans ≤ total spans → count ≡ length (meaning d 0).marks
+pub counted_marks : (d : List ℕ) (spans : List Span) (count : ℕ) → length d < 2 ^ 63 → spans ≡ (meaning d 0).marks
+    → count ≡ min (length spans) (2 ^ 64 - 1) → length spans ≤ total spans → count ≡ length (meaning d 0).marks
 counted_marks d spans count short same counted seen =
     omega (arith, counted, seen, short, ap length same, ap total same, cost_within d 0)
 
 -- a room of just so many has them all
-pub whole_room : (marks room new : List Span) (count : ℕ) → count ≡ length marks → take count new ≡ take (length new) marks → length new ≡ count → new ≡ marks
+pub whole_room : (marks room new : List Span) (count : ℕ) → count ≡ length marks → take count new ≡ take (length new) marks
+    → length new ≡ count → new ≡ marks
 whole_room marks room new count is same long =
     sym (take_all count new (omega (arith, long))) ∙ same ∙ take_all (length new) marks (omega (arith, is, long))
 
 -- a room holds as many of them as it has places for
-pub room_marks : (marks spans room new : List Span) (count : ℕ) → spans ≡ marks → count ≡ length marks → take (length spans) room ≡ take (length room) spans → new ≡ room → take count new ≡ take (length new) marks
+pub room_marks : (marks spans room new : List Span) (count : ℕ) → spans ≡ marks → count ≡ length marks → take (length spans) room ≡ take
+    (length room) spans → new ≡ room → take count new ≡ take (length new) marks
 room_marks marks spans room new count are is written same =
     ap (λ xs. take count xs) same
     ∙ ap (λ n. take n room) (is ∙ sym (ap length are))

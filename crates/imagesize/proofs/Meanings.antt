@@ -20,13 +20,15 @@ use Rattle.imagesize_source.specs.declared.error.ImageError.{ImageError}
 use Rattle.imagesize_source.specs.declared.source.reader.Opened.{Opened}
 
 -- a type that was found, and the size by it
-pub found_then : {a m b : State} (type : ImageType) (r : Result ImageSize ImageError) (place : ℕ) → Runs a m (Ok type) (kind_of a.held.input place) → Runs m b r (size_of type m.held.input) → Runs a b r (meaning a.held.input place)
+pub found_then : {a m b : State} (type : ImageType) (r : Result ImageSize ImageError) (place : ℕ)
+    → Runs a m (Ok type) (kind_of a.held.input place) → Runs m b r (size_of type m.held.input) → Runs a b r (meaning a.held.input place)
 unfolding meaning
 found_then {a} {m} {b} type r place first second =
     runs_then (kind_of a.held.input place) (λ found held. size_of found held.input) first second
 
 -- no type was found
-pub none_found : {a b : State} (e : ImageError) (place : ℕ) → Runs {X = ImageType} a b (Err e) (kind_of a.held.input place) → Runs {X = ImageSize} a b (Err e) (meaning a.held.input place)
+pub none_found : {a b : State} (e : ImageError) (place : ℕ) → Runs {X = ImageType} a b (Err e) (kind_of a.held.input place)
+    → Runs {X = ImageSize} a b (Err e) (meaning a.held.input place)
 unfolding meaning
 none_found {a} {b} e place h = runs_refused (kind_of a.held.input place) (λ found. size_of found a.held.input) h
 
@@ -38,28 +40,39 @@ bounded_meaning : IsBounded meaning
 bounded_meaning d place = omega (arith, cost_within d place)
 
 -- the type that a reader was found to hold
-pub kind_answers : (telling mid : Option Telling) (count : Option ℕ) (home : ℕ) (opened : Opened) (a b : State) (r : Result ImageType ImageError) → a ≡ start_state mid count home opened.told → Opens telling mid (Ok opened) → Runs a b r (kind_of a.held.input opened.place) → Answers telling kind_of r
+pub kind_answers : (telling mid : Option Telling) (count : Option ℕ) (home : ℕ) (opened : Opened) (a b : State)
+    (r : Result ImageType ImageError) → a ≡ start_state mid count home opened.told → Opens telling mid (Ok opened)
+    → Runs a b r (kind_of a.held.input opened.place) → Answers telling kind_of r
 kind_answers telling mid count home opened a b r start opens h =
     opened_answers telling mid count home opened b r kind_of bounded_kind opens
     (subst (λ s. Runs s b r (kind_of s.held.input opened.place)) start h)
 
-found_kind : (t : Telling) (mid : Option Telling) (count : Option ℕ) (home told place : ℕ) (a : State) (found : Option ImageType) (r : Result ImageSize ImageError) → IsHonest t → Began t mid told place → a ≡ start_state mid count home told → FindsKind a place found r → (IfSome found (λ type. (kind_of t.bytes t.place).answer ≡ Ok type)) × (stopped r ≡ false → found ≡ result_ok (kind_of t.bytes t.place).answer)
+found_kind : (t : Telling) (mid : Option Telling) (count : Option ℕ) (home told place : ℕ) (a : State) (found : Option ImageType)
+    (r : Result ImageSize ImageError) → IsHonest t → Began t mid told place → a ≡ start_state mid count home told
+    → FindsKind a place found r → (IfSome found (λ type. (kind_of t.bytes t.place).answer ≡ Ok type)) × (stopped r ≡ false
+    → found ≡ result_ok (kind_of t.bytes t.place).answer)
 found_kind t mid count home told place a found r honest began start finds =
-    let held : a.held ≡ claim t = ap (λ s. s.held) (start ∙ start_of t mid count home told place began) ∙ start_holds t count home honest in
+    let held : a.held ≡ claim t = ap (λ s. s.held) (start ∙ start_of t mid count home told place began) ∙ start_holds t count home honest
+        in
     let is_honest : a.held.honest ≡ true = ap (λ h. h.honest) held in
-    let same : kind_of a.held.input place ≡ kind_of t.bytes t.place = ap (λ h. kind_of h.input place) held ∙ ap (kind_of t.bytes) began.at in (
+    let same : kind_of a.held.input place ≡ kind_of t.bytes t.place = ap (λ h. kind_of h.input place) held ∙ ap (kind_of t.bytes)
+        began.at in (
       subst (λ reads. IfSome found (λ type. reads.answer ≡ Ok type)) same (finds.right is_honest),
       λ goes_on. finds.whole is_honest goes_on ∙ ap (λ reads. result_ok reads.answer) same,
     )
 
 -- type, size and count of a reader that was opened
-pub probes_opened : (telling mid : Option Telling) (count : Option ℕ) (home : ℕ) (opened : Opened) (a b : State) (probed : Probed) → a ≡ start_state mid count home opened.told → Opens telling mid (Ok opened) → Runs a b probed.answer (meaning a.held.input opened.place) → FindsKind a opened.place probed.kind probed.answer → probed.taken ≡ b.taken → Probes telling probed
+pub probes_opened : (telling mid : Option Telling) (count : Option ℕ) (home : ℕ) (opened : Opened) (a b : State) (probed : Probed)
+    → a ≡ start_state mid count home opened.told → Opens telling mid (Ok opened)
+    → Runs a b probed.answer (meaning a.held.input opened.place) → FindsKind a opened.place probed.kind probed.answer
+    → probed.taken ≡ b.taken → Probes telling probed
 probes_opened None mid count home opened a b probed start opens h finds took = tt
 probes_opened (Some t) mid count home opened a b probed start opens h finds took = λ honest.
     let began : Began t mid opened.told opened.place = record { at_end = opens.0; length_told = opens.2; at = opens.1 } in
     let runs = subst (λ s. Runs s b probed.answer (meaning s.held.input opened.place)) start h in
     let kinds = found_kind t mid count home opened.told opened.place a probed.kind probed.answer honest began start finds in
-    let takes = subst (λ n. TakesAs t (meaning t.bytes t.place) probed.answer n) (sym took) (opened_takes (Some t) mid count home opened b probed.answer meaning opens runs honest) in
+    let takes = subst (λ n. TakesAs t (meaning t.bytes t.place) probed.answer n) (sym took)
+        (opened_takes (Some t) mid count home opened b probed.answer meaning opens runs honest) in
     let most : probed.taken ≤ cost t.bytes t.place = takes.most in
     record {
       answer = opened_answers (Some t) mid count home opened b probed.answer meaning bounded_meaning opens runs honest;
@@ -74,7 +87,9 @@ bounded_size : (type : ImageType) → IsBounded (λ d place. size_of type d)
 bounded_size type d place = omega (arith, size_within type d)
 
 -- the size that a reader was found to have, read as a type
-pub size_answers : (telling mid : Option Telling) (count : Option ℕ) (home : ℕ) (opened : Opened) (a b : State) (type : ImageType) (r : Result ImageSize ImageError) → a ≡ start_state mid count home opened.told → Opens telling mid (Ok opened) → Runs a b r (size_of type a.held.input) → Answers telling (λ d place. size_of type d) r
+pub size_answers : (telling mid : Option Telling) (count : Option ℕ) (home : ℕ) (opened : Opened) (a b : State) (type : ImageType)
+    (r : Result ImageSize ImageError) → a ≡ start_state mid count home opened.told → Opens telling mid (Ok opened)
+    → Runs a b r (size_of type a.held.input) → Answers telling (λ d place. size_of type d) r
 size_answers telling mid count home opened a b type r start opens h =
     opened_answers telling mid count home opened b r (λ d place. size_of type d) (bounded_size type) opens
     (subst (λ s. Runs s b r (size_of type s.held.input)) start h)

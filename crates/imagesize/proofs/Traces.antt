@@ -27,25 +27,31 @@ unless true h = absurd (h refl)
 unless false h = refl
 
 -- over a slice no failure and no spent budget ends a call
-goes_on : (d after : List ℕ) (spans : List Span) (r : Result ImageSize ImageError) (reads : Reads ImageSize) → Runs (recording_state d []) (recording_state after spans) r reads → lacks_memory r ≡ false → stopped r ≡ false
+goes_on : (d after : List ℕ) (spans : List Span) (r : Result ImageSize ImageError) (reads : Reads ImageSize)
+    → Runs (recording_state d []) (recording_state after spans) r reads → lacks_memory r ≡ false → stopped r ≡ false
 goes_on d after spans (Ok _) reads h memory = refl
 goes_on d after spans (Err e) reads h memory = unless (is_stop e) (λ stops. elim (stop_cases e stops) [
   | inl faults ↦ let no : false ≡ true = h.fault refl faults in (cc)
   | inr other ↦ elim other [
-    | inl all ↦ let no : false ≡ true = (some_spent (spent e) all.0 (λ n. (false ≡ true) × (n ≡ 0) × (n ≡ 0)) all.1 h.ended.budget).0 in (cc)
+    | inl all ↦ let no : false ≡ true = (some_spent (spent e) all.0 (λ n. (false ≡ true) × (n ≡ 0) × (n ≡ 0)) all.1 h.ended.budget).0 in
+        (cc)
     | inr refused ↦ (cc)
   ]
 ])
 
 -- where memory was found, the spans are those of the readings
-marked : (d after : List ℕ) (spans : List Span) (r : Result ImageSize ImageError) → Runs (recording_state d []) (recording_state after spans) r (meaning d 0) → lacks_memory r ≡ false → spans ≡ (meaning d 0).marks
-marked d after spans r h memory = spans_of (h.state refl (goes_on d after spans r (meaning d 0) h memory) ∙ past-recording d [] (meaning d 0).marks)
+marked : (d after : List ℕ) (spans : List Span) (r : Result ImageSize ImageError) → Runs (recording_state d [])
+    (recording_state after spans) r (meaning d 0) → lacks_memory r ≡ false → spans ≡ (meaning d 0).marks
+marked d after spans r h memory = spans_of (h.state refl (goes_on d after spans r (meaning d 0) h memory) ∙ past-recording d []
+    (meaning d 0).marks)
 
 -- and the answer is theirs
-answered : (d after : List ℕ) (spans : List Span) (r : Result ImageSize ImageError) → Runs (recording_state d []) (recording_state after spans) r (meaning d 0) → lacks_memory r ≡ false → r ≡ (meaning d 0).answer
+answered : (d after : List ℕ) (spans : List Span) (r : Result ImageSize ImageError) → Runs (recording_state d [])
+    (recording_state after spans) r (meaning d 0) → lacks_memory r ≡ false → r ≡ (meaning d 0).answer
 answered d after spans r h memory = sym (h.answer refl (goes_on d after spans r (meaning d 0) h memory))
 
-pub traced : {A : Type 0} (d after : List ℕ) (t : Trace A) → Runs (recording_state d []) (recording_state after t.spans.items) t.answer (meaning d 0) → FindsKind (recording_state d []) 0 t.kind t.answer → lacks_memory t.answer ≡ false → Traces d t
+pub traced : {A : Type 0} (d after : List ℕ) (t : Trace A) → Runs (recording_state d []) (recording_state after t.spans.items) t.answer
+    (meaning d 0) → FindsKind (recording_state d []) 0 t.kind t.answer → lacks_memory t.answer ≡ false → Traces d t
 traced d after t h finds memory =
     let on = goes_on d after t.spans.items t.answer (meaning d 0) h memory in
     record {
@@ -56,15 +62,19 @@ traced d after t h finds memory =
     }
 
 -- the spans are together at most as long as is stated
-pub spans_stated : (d after : List ℕ) (spans : List Span) (r : Result ImageSize ImageError) → Runs (recording_state d []) (recording_state after spans) r (meaning d 0) → lacks_memory r ≡ false → total spans ≤ stated d 0
+pub spans_stated : (d after : List ℕ) (spans : List Span) (r : Result ImageSize ImageError) → Runs (recording_state d [])
+    (recording_state after spans) r (meaning d 0) → lacks_memory r ≡ false → total spans ≤ stated d 0
 spans_stated d after spans r h memory = rw (marked d after spans r h memory) (cost_stated d 0)
 
 -- and as there are bytes and 64 more
-pub spans_within : (d after : List ℕ) (spans : List Span) (r : Result ImageSize ImageError) → Runs (recording_state d []) (recording_state after spans) r (meaning d 0) → lacks_memory r ≡ false → total spans ≤ length d + 64
+pub spans_within : (d after : List ℕ) (spans : List Span) (r : Result ImageSize ImageError) → Runs (recording_state d [])
+    (recording_state after spans) r (meaning d 0) → lacks_memory r ≡ false → total spans ≤ length d + 64
 spans_within d after spans r h memory = rw (marked d after spans r h memory) (omega (arith, cost_within d 0))
 
 -- a size stays, whatever bytes follow
-pub answer_lasts : (d after : List ℕ) (spans : List Span) (r : Result ImageSize ImageError) → Runs (recording_state d []) (recording_state after spans) r (meaning d 0) → lacks_memory r ≡ false → IsTrue (lasts_as (kind_of d 0).answer) → IfOk r (λ size. (x : List ℕ) → (meaning (d ++ x) 0).answer ≡ Ok size)
+pub answer_lasts : (d after : List ℕ) (spans : List Span) (r : Result ImageSize ImageError) → Runs (recording_state d [])
+    (recording_state after spans) r (meaning d 0) → lacks_memory r ≡ false → IsTrue (lasts_as (kind_of d 0).answer)
+    → IfOk r (λ size. (x : List ℕ) → (meaning (d ++ x) 0).answer ≡ Ok size)
 answer_lasts d after spans r h memory = size_lasts d 0 r (answered d after spans r h memory)
 
 -- an input that agrees on the marks is the same

@@ -17,7 +17,8 @@ use Rattle.imagesize_boxes.specs.Fields.{low_bits, bits_of, binary, field_at, Fi
 pub masked : (n count : ℕ) → count ≤ 30 → bit_and (n % 2 ^ 64) (1 * 2 ^ count % 2 ^ 64 - 1) ≡ n % 2 ^ count
 masked n count few =
     let all : (64 - count) + count ≡ 64 = omega arith in
-    rw (one_shl count 64 (omega arith)) (and_mask (n % 2 ^ 64) count ∙ ap (λ e. n % 2 ^ e % 2 ^ count) (sym all) ∙ mod-mod-pow n (64 - count) count)
+    rw (one_shl count 64 (omega arith)) (and_mask (n % 2 ^ 64) count ∙ ap (λ e. n % 2 ^ e % 2 ^ count) (sym all) ∙ mod-mod-pow n
+        (64 - count) count)
 
 pub little_16 : (bs : List ℕ) → length bs ≡ 16 → from_le_bytes w128 bs ≡ number Little bs
 unfolding number
@@ -45,20 +46,25 @@ alike : {X Y : Type 0} (r : Result X ImageError) (f g : X → Result Y ImageErro
 alike (Ok x) f g same = same x
 alike (Err e) f g same = refl
 
-found_twice : {X Y Z : Type 0} (r : Result X ImageError) (f : X → Result Y ImageError) (g : Y → Result Z ImageError) → with_found r (λ x. with_found (f x) g) ≡ with_found (with_found r f) g
+found_twice : {X Y Z : Type 0} (r : Result X ImageError) (f : X → Result Y ImageError) (g : Y → Result Z ImageError)
+    → with_found r (λ x. with_found (f x) g) ≡ with_found (with_found r f) g
 found_twice (Ok x) f g = refl
 found_twice (Err e) f g = refl
 
 -- what is found by fields that are read alike
-pub found_alike : {X : Type 0} (f g : ℕ → ℕ → Result ℕ ImageError) (t : Fields X) → ((from count : ℕ) → f from count ≡ g from count) → found_by f t ≡ found_by g t
+pub found_alike : {X : Type 0} (f g : ℕ → ℕ → Result ℕ ImageError) (t : Fields X) → ((from count : ℕ) → f from count ≡ g from count)
+    → found_by f t ≡ found_by g t
 found_alike f g (found x) same = refl
-found_alike f g (bits from count h) same = rw (same from count) (alike (g from count) (λ n. found_by f (h n)) (λ n. found_by g (h n)) (λ n. found_alike f g (h n) same))
+found_alike f g (bits from count h) same = rw (same from count) (alike (g from count) (λ n. found_by f (h n)) (λ n. found_by g (h n))
+    (λ n. found_alike f g (h n) same))
 
 -- what goes on is found behind what it goes on from
-pub found-after : {X Y : Type 0} (field : ℕ → ℕ → Result ℕ ImageError) (t : Fields X) (g : X → Fields Y) → found_by field (after t g) ≡ with_found (found_by field t) (λ x. found_by field (g x))
+pub found-after : {X Y : Type 0} (field : ℕ → ℕ → Result ℕ ImageError) (t : Fields X) (g : X → Fields Y) → found_by field (after t g)
+    ≡ with_found (found_by field t) (λ x. found_by field (g x))
 found-after field (found x) g = refl
 found-after field (bits from count f) g =
-    alike (field from count) (λ n. found_by field (after (f n) g)) (λ n. with_found (found_by field (f n)) (λ x. found_by field (g x))) (λ n. found-after field (f n) g)
+    alike (field from count) (λ n. found_by field (after (f n) g)) (λ n. with_found (found_by field (f n)) (λ x. found_by field (g x)))
+        (λ n. found-after field (f n) g)
     ∙ found_twice (field from count) (λ n. found_by field (f n)) (λ x. found_by field (g x))
 
 pub ruleset fields = (found-after)
@@ -118,7 +124,8 @@ drop_bits (suc k) [] h = no_bits
 drop_bits (suc k) (b ∷ list) (one_bit is rest) = drop_bits k list rest
 
 -- a field of the bits of bytes is that of their number
-pub field_same : (bytes : List ℕ) → ((i : ℕ) → get_or bytes i 0 < 256) → (from count : ℕ) → field_at (bits_of bytes) from count ≡ field_in (little bytes) (8 * length bytes) from count
+pub field_same : (bytes : List ℕ) → ((i : ℕ) → get_or bytes i 0 < 256) → (from count : ℕ) → field_at (bits_of bytes) from count
+    ≡ field_in (little bytes) (8 * length bytes) from count
 unfolding field_at
 field_same bytes small from count =
     let long = length-bits_of bytes in
@@ -140,18 +147,22 @@ field_more list more from count n is =
     let here : from + count ≤ length list = grind (arith, nat_tests) in
     let after : leb (from + count) (length (list ++ more)) ≡ true = grind (arith, nat_tests) in
     let rest = length-drop from list in
-    let same : take count (drop from (list ++ more)) ≡ take count (drop from list) = ap (take count) (drop-append-le from list more (omega arith)) ∙ take-append-le count (drop from list) more (omega arith) in
+    let same : take count (drop from (list ++ more)) ≡ take count (drop from list) =
+        ap (take count) (drop-append-le from list more (omega arith)) ∙ take-append-le count (drop from list) more (omega arith) in
     rw (after, same) (ap (λ b. cond b (Ok (binary (take count (drop from list)))) (Err CorruptedImage)) (sym test) ∙ is)
 
-found_on : {X : Type 0} (r : Result ℕ ImageError) (other : Result ℕ ImageError) (f g : ℕ → Result X ImageError) (v : X) → ((n : ℕ) → r ≡ Ok n → other ≡ Ok n) → ((n : ℕ) → f n ≡ Ok v → g n ≡ Ok v) → with_found r f ≡ Ok v → with_found other g ≡ Ok v
+found_on : {X : Type 0} (r : Result ℕ ImageError) (other : Result ℕ ImageError) (f g : ℕ → Result X ImageError) (v : X)
+    → ((n : ℕ) → r ≡ Ok n → other ≡ Ok n) → ((n : ℕ) → f n ≡ Ok v → g n ≡ Ok v) → with_found r f ≡ Ok v → with_found other g ≡ Ok v
 found_on (Ok n) other f g v same rest is = rw (same n refl) (rest n is)
 found_on (Err e) other f g v same rest is = absurd cc
 
 -- and what was found
-pub found_more : {X : Type 0} (list more : List ℕ) (t : Fields X) (v : X) → found_by (field_at list) t ≡ Ok v → found_by (field_at (list ++ more)) t ≡ Ok v
+pub found_more : {X : Type 0} (list more : List ℕ) (t : Fields X) (v : X) → found_by (field_at list) t ≡ Ok v
+    → found_by (field_at (list ++ more)) t ≡ Ok v
 found_more list more (found x) v is = is
 found_more list more (bits from count f) v is =
-    found_on (field_at list from count) (field_at (list ++ more) from count) (λ n. found_by (field_at list) (f n)) (λ n. found_by (field_at (list ++ more)) (f n)) v
+    found_on (field_at list from count) (field_at (list ++ more) from count) (λ n. found_by (field_at list) (f n))
+        (λ n. found_by (field_at (list ++ more)) (f n)) v
     (λ n at. field_more list more from count n at) (λ n at. found_more list more (f n) v at) is
 
 -- bytes that were put in front are taken from there
@@ -159,7 +170,8 @@ pub taken_back : (front rest : List ℕ) → take (length front) (front ++ rest)
 taken_back front rest = take-append_seam front rest
 
 -- and so are two, and others behind them
-pub taken_behind : (start room : List ℕ) (n : ℕ) → length start ≡ 2 → take (2 + n) (slice_index_or start 0 0 ∷ slice_index_or start 1 0 ∷ (room ++ [])) ≡ start ++ take n room
+pub taken_behind : (start room : List ℕ) (n : ℕ) → length start ≡ 2 → take (2 + n) (slice_index_or start 0 0 ∷ slice_index_or start 1 0
+    ∷ (room ++ [])) ≡ start ++ take n room
 taken_behind [] room n is = absurd (omega (arith, is))
 taken_behind (a ∷ []) room n is = absurd (omega (arith, is))
 taken_behind (a ∷ b ∷ []) room n is = let e : 2 + n ≡ suc (suc n) = omega arith in rw (e, append-nil room) refl
@@ -189,7 +201,8 @@ field_lowest n there from count = by_test (leb (from + count) there) refl where
   by_test true is =
       let within : from + count ≤ there = grind (arith, nat_tests) in
       let all : (there - (from + count)) + count + from ≡ there = omega arith in
-      let same : n % 2 ^ there / 2 ^ from % 2 ^ count ≡ n / 2 ^ from % 2 ^ count = ap (λ e. n % 2 ^ e / 2 ^ from % 2 ^ count) (sym all) ∙ lowest_alike n from count (there - (from + count)) in
+      let same : n % 2 ^ there / 2 ^ from % 2 ^ count ≡ n / 2 ^ from % 2 ^ count = ap (λ e. n % 2 ^ e / 2 ^ from % 2 ^ count) (sym all)
+          ∙ lowest_alike n from count (there - (from + count)) in
       rw (is, same) refl
   by_test false is = rw is refl
 
@@ -200,7 +213,8 @@ small_take (suc k) (b ∷ bytes) small zero = small 0
 small_take (suc k) (b ∷ bytes) small (suc i) = small_take k bytes (λ j. small (suc j)) i
 
 -- a field of the first bytes is that of the number of all
-pub field_front : (bytes : List ℕ) (len : ℕ) → ((i : ℕ) → get_or bytes i 0 < 256) → len ≤ length bytes → (from count : ℕ) → field_at (bits_of (take len bytes)) from count ≡ field_in (little bytes) (8 * len) from count
+pub field_front : (bytes : List ℕ) (len : ℕ) → ((i : ℕ) → get_or bytes i 0 < 256) → len ≤ length bytes → (from count : ℕ)
+    → field_at (bits_of (take len bytes)) from count ≡ field_in (little bytes) (8 * len) from count
 field_front bytes len small within from count =
     let long : length (take len bytes) ≡ len = length-take-le len bytes within in
     field_same (take len bytes) (small_take len bytes small) from count

@@ -50,16 +50,22 @@ use Rattle.imagesize_source.proofs.Walks.{Walks, walks_start, walks_on, walks_st
 use Rattle.imagesize_source.proofs.Way.{RecordedLaws}
 
 -- the number of four bytes within others
-pub big_four : (bs : List ℕ) (i : ℕ) → i + 4 ≤ length bs → from_be_bytes w32 (slice_index_or bs i 0 ∷ slice_index_or bs (i + 1) 0 ∷ slice_index_or bs (i + 2) 0 ∷ slice_index_or bs (i + 3) 0 ∷ []) ≡ number Big (four_at i bs)
+pub big_four : (bs : List ℕ) (i : ℕ) → i + 4 ≤ length bs → from_be_bytes w32 (slice_index_or bs i 0 ∷ slice_index_or bs (i + 1) 0
+    ∷ slice_index_or bs (i + 2) 0 ∷ slice_index_or bs (i + 3) 0 ∷ []) ≡ number Big (four_at i bs)
 big_four bs i h =
-    let none : slice_index_or bs i 0 ≡ slice_index_or (drop i bs) 0 0 = ap (λ n. slice_index_or bs n 0) (sym (add-zero i)) ∙ sym (get_or-drop i bs 0 0) in
-    rw (← get_or-drop i bs 1 0, ← get_or-drop i bs 2 0, ← get_or-drop i bs 3 0, none) (first_four (drop i bs) (omega (arith, length-drop i bs)))
+    let none : slice_index_or bs i 0 ≡ slice_index_or (drop i bs) 0 0 = ap (λ n. slice_index_or bs n 0) (sym (add-zero i))
+        ∙ sym (get_or-drop i bs 0 0) in
+    rw (← get_or-drop i bs 1 0, ← get_or-drop i bs 2 0, ← get_or-drop i bs 3 0, none)
+        (first_four (drop i bs) (omega (arith, length-drop i bs)))
 
 -- what holds of each box of a search
-by_searched : (P : Layout (Said (Unit {0}) FoundBox) → Type 0) (tag : List ℕ) (place : ℕ) (head : List ℕ) → P (done (Decided (record { place = place; size = box_size head }))) → P (refuse (IoError (InvalidHeifBoxSize (box_size head)))) → (8 ≤ box_size head → P (done (Next tt (place + box_size head)))) → P (box_searched tag place head)
+by_searched : (P : Layout (Said (Unit {0}) FoundBox) → Type 0) (tag : List ℕ) (place : ℕ) (head : List ℕ)
+    → P (done (Decided (record { place = place; size = box_size head }))) → P (refuse (IoError (InvalidHeifBoxSize (box_size head))))
+    → (8 ≤ box_size head → P (done (Next tt (place + box_size head)))) → P (box_searched tag place head)
 by_searched P tag place head found small next =
     on_test P (is_named tag head) (done (Decided (record { place = place; size = box_size head }))) _ (λ _. found)
-    (λ _. on_test P (nat_lt (box_size head) 8) (refuse (IoError (InvalidHeifBoxSize (box_size head)))) (done (Next tt (place + box_size head))) (λ _. small) (λ no. next (grind (arith, nat_tests))))
+    (λ _. on_test P (nat_lt (box_size head) 8) (refuse (IoError (InvalidHeifBoxSize (box_size head))))
+        (done (Next tt (place + box_size head))) (λ _. small) (λ no. next (grind (arith, nat_tests))))
 
 search_advances : (tag : List ℕ) (first : ℕ) (d : List ℕ) → Advances (search_for tag first) d
 search_advances tag first = advances (search_for tag first)
@@ -73,56 +79,88 @@ SearchWalks tag first a b place = Walks (search_for tag first) (λ passed. Unit 
 pub search_start : (tag : List ℕ) (first : ℕ) (a : State) → SearchWalks tag first a a first
 search_start tag first a = walks_start (search_for tag first) (λ passed. Unit {0}) a tt
 
-pub search_on : {a b end : State} (tag : List ℕ) (first place next : ℕ) → SearchWalks tag first a b place → Runs b end (Ok (Next tt next)) (over b.held.input (searched_box tag place)) → SearchWalks tag first a end next
-search_on tag first place next w run = walks_on (search_for tag first) (search_advances tag first) (λ passed. Unit {0}) w (λ passed. Unit {0}) tt next (λ passed _. run) (λ passed _. tt)
+pub search_on : {a b end : State} (tag : List ℕ) (first place next : ℕ) → SearchWalks tag first a b place
+    → Runs b end (Ok (Next tt next)) (over b.held.input (searched_box tag place)) → SearchWalks tag first a end next
+search_on tag first place next w run = walks_on (search_for tag first) (search_advances tag first) (λ passed. Unit {0}) w
+    (λ passed. Unit {0}) tt next (λ passed _. run) (λ passed _. tt)
 
-pub search_stop : {a b end : State} (tag : List ℕ) (first place : ℕ) (found : FoundBox) → SearchWalks tag first a b place → Runs b end (Ok (Decided found)) (over b.held.input (searched_box tag place)) → Runs a end (Ok found) (chain_at (search_for tag first) a.held.input)
-search_stop tag first place found w run = walks_stop (search_for tag first) (search_advances tag first) (λ passed. Unit {0}) w found (λ passed _. run)
+pub search_stop : {a b end : State} (tag : List ℕ) (first place : ℕ) (found : FoundBox) → SearchWalks tag first a b place
+    → Runs b end (Ok (Decided found)) (over b.held.input (searched_box tag place))
+    → Runs a end (Ok found) (chain_at (search_for tag first) a.held.input)
+search_stop tag first place found w run = walks_stop (search_for tag first) (search_advances tag first) (λ passed. Unit {0}) w found
+    (λ passed _. run)
 
-pub search_out : {a b end : State} (tag : List ℕ) (first place : ℕ) (e : ImageError) → SearchWalks tag first a b place → Runs b end (Err e) (over b.held.input (searched_box tag place)) → Runs a end (Err e) (chain_at (search_for tag first) a.held.input)
-search_out tag first place e w run = walks_out (search_for tag first) (search_advances tag first) (λ passed. Unit {0}) w e (λ passed _. run)
+pub search_out : {a b end : State} (tag : List ℕ) (first place : ℕ) (e : ImageError) → SearchWalks tag first a b place
+    → Runs b end (Err e) (over b.held.input (searched_box tag place)) → Runs a end (Err e) (chain_at (search_for tag first) a.held.input)
+search_out tag first place e w run = walks_out (search_for tag first) (search_advances tag first) (λ passed. Unit {0}) w e
+    (λ passed _. run)
 
-pub search_past : {a b : State} (tag : List ℕ) (first place : ℕ) → first < place → SearchWalks tag first a b place → 2 ^ 64 ≤ place → Runs a b (Err end_of_input) (chain_at (search_for tag first) a.held.input)
-search_past tag first place behind w far = walks_past (search_for tag first) (search_advances tag first) (λ passed. Unit {0}) w (omega arith) (omega arith)
+pub search_past : {a b : State} (tag : List ℕ) (first place : ℕ) → first < place → SearchWalks tag first a b place → 2 ^ 64 ≤ place
+    → Runs a b (Err end_of_input) (chain_at (search_for tag first) a.held.input)
+search_past tag first place behind w far = walks_past (search_for tag first) (search_advances tag first) (λ passed. Unit {0}) w
+    (omega arith) (omega arith)
     (λ passed d _ h. bytes_beyond d place 8 (λ head. box_searched tag place head) h (omega arith))
 
 search_beyond : (tag : List ℕ) (d : List ℕ) (place : ℕ) → length d ≤ place → chain_at (search_for tag place) d ≡ refuses end_of_input
 search_beyond tag d place far =
     let none = bytes_beyond d place 8 (λ head. box_searched tag place head) far (omega arith) in
-    chain_stop (search_for tag place) d (start (search_for tag place)) (Err end_of_input) (ap (λ r. verdict r.answer) none) ∙ ap (λ r. record { answer = Err end_of_input; marks = r.marks }) none
+    chain_stop (search_for tag place) d (start (search_for tag place)) (Err end_of_input) (ap (λ r. verdict r.answer) none)
+        ∙ ap (λ r. record { answer = Err end_of_input; marks = r.marks }) none
 
-pub search_saturated : {a b : State} {r : Result FoundBox ImageError} (tag : List ℕ) (place : ℕ) → Runs a b r (chain_at (search_for tag (min place (2 ^ 64 - 1))) a.held.input) → Runs a b r (chain_at (search_for tag place) a.held.input)
-search_saturated tag place h = saturated_by (λ p d. chain_at (search_for tag p) d) (refuses end_of_input) place (λ d p far. search_beyond tag d p far) h
+pub search_saturated : {a b : State} {r : Result FoundBox ImageError} (tag : List ℕ) (place : ℕ)
+    → Runs a b r (chain_at (search_for tag (min place (2 ^ 64 - 1))) a.held.input)
+    → Runs a b r (chain_at (search_for tag place) a.held.input)
+search_saturated tag place h = saturated_by (λ p d. chain_at (search_for tag p) d) (refuses end_of_input) place
+    (λ d p far. search_beyond tag d p far) h
 
 -- what holds of each property, by its name
-by_named : (P : Layout (Option Property) → Type 0) (left place : ℕ) (head : List ℕ) → P (done None) → P (refuse CorruptedImage) → P (bytes (place + 8) 12 (λ content. done (Some (Extents (extents_size content))))) → P (bytes (place + 8) 1 (λ content. done (Some (Rotation (slice_index content 0))))) → (8 ≤ box_size head → P (done (Some (Skipped (box_size head))))) → P (property_named left place head)
+by_named : (P : Layout (Option Property) → Type 0) (left place : ℕ) (head : List ℕ) → P (done None) → P (refuse CorruptedImage)
+    → P (bytes (place + 8) 12 (λ content. done (Some (Extents (extents_size content)))))
+    → P (bytes (place + 8) 1 (λ content. done (Some (Rotation (slice_index content 0)))))
+    → (8 ≤ box_size head → P (done (Some (Skipped (box_size head))))) → P (property_named left place head)
 by_named P left place head end bad extents rotation skipped =
     on_test P (nat_lt (box_size head) 8) (cond (is_named (codes "mdat") head) (done None) (refuse CorruptedImage)) _
     (λ _. on_test P (is_named (codes "mdat") head) (done None) (refuse CorruptedImage) (λ _. end) (λ _. bad))
-    (λ big. on_test P (is_named (codes "ispe") head) (bytes (place + 8) 12 (λ content. done (Some (Extents (extents_size content))))) _ (λ _. extents)
-    (λ _. on_test P (is_named (codes "irot") head) (bytes (place + 8) 1 (λ content. done (Some (Rotation (slice_index content 0))))) _ (λ _. rotation)
-    (λ _. on_test P (nat_le left (box_size head)) (done None) (done (Some (Skipped (box_size head)))) (λ _. end) (λ _. skipped (grind (arith, nat_tests))))))
+    (λ big. on_test P (is_named (codes "ispe") head) (bytes (place + 8) 12 (λ content. done (Some (Extents (extents_size content))))) _
+        (λ _. extents)
+    (λ _. on_test P (is_named (codes "irot") head) (bytes (place + 8) 1 (λ content. done (Some (Rotation (slice_index content 0))))) _
+        (λ _. rotation)
+    (λ _. on_test P (nat_le left (box_size head)) (done None) (done (Some (Skipped (box_size head)))) (λ _. end)
+        (λ _. skipped (grind (arith, nat_tests))))))
 
-by_found : (P : Layout (Option Property) → Type 0) (left place : ℕ) (found : Option (List ℕ)) → P (done None) → P (refuse CorruptedImage) → P (bytes (place + 8) 12 (λ content. done (Some (Extents (extents_size content))))) → P (bytes (place + 8) 1 (λ content. done (Some (Rotation (slice_index content 0))))) → ((size : ℕ) → 8 ≤ size → P (done (Some (Skipped size)))) → P (property_found left place found)
+by_found : (P : Layout (Option Property) → Type 0) (left place : ℕ) (found : Option (List ℕ)) → P (done None) → P (refuse CorruptedImage)
+    → P (bytes (place + 8) 12 (λ content. done (Some (Extents (extents_size content)))))
+    → P (bytes (place + 8) 1 (λ content. done (Some (Rotation (slice_index content 0)))))
+    → ((size : ℕ) → 8 ≤ size → P (done (Some (Skipped size)))) → P (property_found left place found)
 by_found P left place None end bad extents rotation skipped = end
-by_found P left place (Some head) end bad extents rotation skipped = by_named P left place head end bad extents rotation (skipped (box_size head))
+by_found P left place (Some head) end bad extents rotation skipped = by_named P left place head end bad extents rotation
+    (skipped (box_size head))
 
 -- and of each way that the list ends
-by_answer : (P : Layout (Said Property ImageSize) → Type 0) (best : Option ImageSize) (turn : Option ℕ) → P (refuse (IoError NotEnoughData)) → ((size : ImageSize) → P (done (Decided size))) → P (heif_answer best turn)
+by_answer : (P : Layout (Said Property ImageSize) → Type 0) (best : Option ImageSize) (turn : Option ℕ)
+    → P (refuse (IoError NotEnoughData)) → ((size : ImageSize) → P (done (Decided size))) → P (heif_answer best turn)
 by_answer P None turn none some = none
 by_answer P (Some size) turn none some = some (turned turn size)
 
 -- and of what stands in the list, behind these properties
-by_listed : (P : Layout (Said Property ImageSize) → Type 0) (held : List Property) (left place : ℕ) (found : Option (List ℕ)) → ((e : ImageError) → P (refuse e)) → ((size : ImageSize) → P (done (Decided size))) → P (bytes (place + 8) 12 (λ content. done (Next (Extents (extents_size content)) (place + 20)))) → P (bytes (place + 8) 1 (λ content. done (Next (Rotation (slice_index content 0)) (place + 9)))) → ((size : ℕ) → 8 ≤ size → P (done (Next (Skipped size) (place + size)))) → P (bind (property_found left place found) (listed held place))
+by_listed : (P : Layout (Said Property ImageSize) → Type 0) (held : List Property) (left place : ℕ) (found : Option (List ℕ))
+    → ((e : ImageError) → P (refuse e)) → ((size : ImageSize) → P (done (Decided size)))
+    → P (bytes (place + 8) 12 (λ content. done (Next (Extents (extents_size content)) (place + 20))))
+    → P (bytes (place + 8) 1 (λ content. done (Next (Rotation (slice_index content 0)) (place + 9))))
+    → ((size : ℕ) → 8 ≤ size → P (done (Next (Skipped size) (place + size))))
+    → P (bind (property_found left place found) (listed held place))
 by_listed P held left place found refused decided extents rotation skipped =
     by_found (λ t. P (bind t (listed held place))) left place found
-    (by_answer P (largest_extents (flat_map extents_of held)) (last_or None (flat_map rotations_of held)) (refused (IoError NotEnoughData)) decided)
+    (by_answer P (largest_extents (flat_map extents_of held)) (last_or None (flat_map rotations_of held))
+        (refused (IoError NotEnoughData)) decided)
     (refused CorruptedImage) extents rotation skipped
 
 properties_advance : (all first : ℕ) (d : List ℕ) → Advances (properties all first) d
 properties_advance all first = advances (properties all first)
-    (λ held place bs. by_listed (Tells (λ p. place < p)) held (all - sum_by skipped_bytes held) place (whole 8 bs) (λ e. tt) (λ size. tt) (λ content. omega arith) (λ content. omega arith) (λ size big. omega arith))
-    (λ held place. (omega arith, by_answer (Tells (λ _. ⊥)) (largest_extents (flat_map extents_of held)) (last_or None (flat_map rotations_of held)) tt (λ size. tt)))
+    (λ held place bs. by_listed (Tells (λ p. place < p)) held (all - sum_by skipped_bytes held) place (whole 8 bs) (λ e. tt) (λ size. tt)
+        (λ content. omega arith) (λ content. omega arith) (λ size big. omega arith))
+    (λ held place. (omega arith, by_answer (Tells (λ _. ⊥)) (largest_extents (flat_map extents_of held))
+        (last_or None (flat_map rotations_of held)) tt (λ size. tt)))
 
 -- These are the largest extents, of several the first.
 pub record Largest (best : Option ImageSize) (sizes : List ImageSize) : Type 0 where
@@ -132,9 +170,11 @@ pub record Largest (best : Option ImageSize) (sizes : List ImageSize) : Type 0 w
   found : 0 < greatest_area sizes → is_some (find (λ s. eqb (area_of s) (greatest_area sizes)) sizes) ≡ true
 
 greatest_push : (sizes : List ImageSize) (size : ImageSize) → greatest_area (sizes ++ size ∷ []) ≡ max (greatest_area sizes) (area_of size)
-greatest_push sizes size = ap (fold max 0) (map-append area_of sizes (size ∷ [])) ∙ fold-append max 0 (map area_of sizes) (area_of size ∷ [])
+greatest_push sizes size = ap (fold max 0) (map-append area_of sizes (size ∷ [])) ∙ fold-append max 0 (map area_of sizes)
+    (area_of size ∷ [])
 
-largest_some : (sizes : List ImageSize) (size : ImageSize) → largest_extents (sizes ++ size ∷ []) ≡ Some (first_largest (sizes ++ size ∷ []))
+largest_some : (sizes : List ImageSize) (size : ImageSize) → largest_extents (sizes ++ size ∷ [])
+    ≡ Some (first_largest (sizes ++ size ∷ []))
 largest_some [] size = refl
 largest_some (s ∷ sizes) size = refl
 
@@ -166,7 +206,8 @@ area_or : (best : Option ImageSize) → area_of (unwrap_or best no_pixels) ≡ a
 area_or None = refl
 area_or (Some size) = refl
 
-largest_by : (best : Option ImageSize) (sizes : List ImageSize) (size : ImageSize) (b : Bool) → nat_lt (area_if_some best) (area_of size) ≡ b → Largest best sizes → Largest (Some (cond b size (unwrap_or best no_pixels))) (sizes ++ size ∷ [])
+largest_by : (best : Option ImageSize) (sizes : List ImageSize) (size : ImageSize) (b : Bool) → nat_lt (area_if_some best) (area_of size)
+    ≡ b → Largest best sizes → Largest (Some (cond b size (unwrap_or best no_pixels))) (sizes ++ size ∷ [])
 largest_by best sizes size true test h =
     let was = h.area in
     let push = greatest_push sizes size in
@@ -175,8 +216,12 @@ largest_by best sizes size true test h =
     let here : eqb (area_of size) (area_of size) ≡ true = grind (arith, nat_tests) in
     let some : eqb (area_of size) 0 ≡ false = grind (arith, nat_tests) in
     let found : find (λ s. eqb (area_of s) (area_of size)) (sizes ++ size ∷ []) ≡ Some size =
-    find-append (λ s. eqb (area_of s) (area_of size)) sizes (size ∷ []) ∙ ap (λ o. option_or o (find (λ s. eqb (area_of s) (area_of size)) (size ∷ []))) (none_above 0 (area_of size) sizes more) ∙ ap (λ b. cond b (Some size) None) here in
-    let first : first_largest (sizes ++ size ∷ []) ≡ size = ap (λ n. first_of n (sizes ++ size ∷ [])) now ∙ ap (λ b. cond b no_pixels (unwrap_or (find (λ s. eqb (area_of s) (area_of size)) (sizes ++ size ∷ [])) no_pixels)) some ∙ ap (λ o. unwrap_or o no_pixels) found in
+    find-append (λ s. eqb (area_of s) (area_of size)) sizes (size ∷ [])
+        ∙ ap (λ o. option_or o (find (λ s. eqb (area_of s) (area_of size)) (size ∷ []))) (none_above 0 (area_of size) sizes more)
+        ∙ ap (λ b. cond b (Some size) None) here in
+    let first : first_largest (sizes ++ size ∷ []) ≡ size = ap (λ n. first_of n (sizes ++ size ∷ [])) now
+        ∙ ap (λ b. cond b no_pixels (unwrap_or (find (λ s. eqb (area_of s) (area_of size)) (sizes ++ size ∷ [])) no_pixels)) some
+        ∙ ap (λ o. unwrap_or o no_pixels) found in
     record {
       is = largest_some sizes size ∙ ap Some first;
       first = first;
@@ -189,16 +234,19 @@ largest_by best sizes size false test h =
     let no_more : area_of size ≤ greatest_area sizes = grind (arith, nat_tests) in
     let now : greatest_area (sizes ++ size ∷ []) ≡ greatest_area sizes = omega arith in
     let p : ImageSize → Bool = λ s. eqb (area_of s) (greatest_area sizes) in
-    let found : 0 < greatest_area sizes → find p (sizes ++ size ∷ []) ≡ find p sizes = λ some. find-append p sizes (size ∷ []) ∙ or_first (find p sizes) (find p (size ∷ [])) (h.found some) in
+    let found : 0 < greatest_area sizes → find p (sizes ++ size ∷ []) ≡ find p sizes = λ some. find-append p sizes (size ∷ []) ∙ or_first
+        (find p sizes) (find p (size ∷ [])) (h.found some) in
     let first : first_largest (sizes ++ size ∷ []) ≡ unwrap_or best no_pixels =
     ap (λ n. first_of n (sizes ++ size ∷ [])) now
-    ∙ same_unless (eqb (greatest_area sizes) 0) no_pixels (unwrap_or (find p (sizes ++ size ∷ [])) no_pixels) (unwrap_or (find p sizes) no_pixels) (λ some. ap (λ o. unwrap_or o no_pixels) (found (grind (arith, nat_tests))))
+    ∙ same_unless (eqb (greatest_area sizes) 0) no_pixels (unwrap_or (find p (sizes ++ size ∷ [])) no_pixels)
+        (unwrap_or (find p sizes) no_pixels) (λ some. ap (λ o. unwrap_or o no_pixels) (found (grind (arith, nat_tests))))
     ∙ h.first in
     record {
       is = largest_some sizes size ∙ ap Some first;
       first = first;
       area = now ∙ h.area ∙ sym (area_or best);
-      found = λ some. ap (λ n. is_some (find (λ s. eqb (area_of s) n) (sizes ++ size ∷ []))) now ∙ ap is_some (found (omega arith)) ∙ h.found (omega arith);
+      found = λ some. ap (λ n. is_some (find (λ s. eqb (area_of s) n) (sizes ++ size ∷ []))) now ∙ ap is_some (found (omega arith))
+          ∙ h.found (omega arith);
     }
 
 -- The properties so far amount to this.
@@ -211,13 +259,17 @@ last_push : {A : Type 0} (o : Option A) (xs : List A) (x : A) → last_or o (xs 
 last_push o [] x = refl
 last_push o (y ∷ xs) x = last_push (Some y) xs x
 
-none_more : {X : Type 0} (f : Property → List X) (held : List Property) (property : Property) → f property ≡ [] → flat_map f (held ++ property ∷ []) ≡ flat_map f held
-none_more f held property none = flat_map-append f held (property ∷ []) ∙ ap (λ xs. flat_map f held ++ (xs ++ [])) none ∙ append-nil (flat_map f held)
+none_more : {X : Type 0} (f : Property → List X) (held : List Property) (property : Property) → f property ≡ []
+    → flat_map f (held ++ property ∷ []) ≡ flat_map f held
+none_more f held property none = flat_map-append f held (property ∷ []) ∙ ap (λ xs. flat_map f held ++ (xs ++ [])) none ∙ append-nil
+    (flat_map f held)
 
-amounts_on : (all : ℕ) (g : Gathered) (held : List Property) (property : Property) → Amounts all g held → Amounts all (gathered_with g property) (held ++ property ∷ [])
+amounts_on : (all : ℕ) (g : Gathered) (held : List Property) (property : Property) → Amounts all g held
+    → Amounts all (gathered_with g property) (held ++ property ∷ [])
 amounts_on all g held (Extents size) h = record {
   left = let was = h.left in let push = sum_by_push skipped_bytes held (Extents size) in omega arith;
-  best = subst (Largest (Some (earlier_largest g.best size))) (sym (flat_map-append extents_of held (Extents size ∷ []))) (largest_by g.best (flat_map extents_of held) size (nat_lt (area_if_some g.best) (area_of size)) refl h.best);
+  best = subst (Largest (Some (earlier_largest g.best size))) (sym (flat_map-append extents_of held (Extents size ∷ [])))
+      (largest_by g.best (flat_map extents_of held) size (nat_lt (area_if_some g.best) (area_of size)) refl h.best);
   turn = ap (last_or None) (none_more rotations_of held (Extents size) refl) ∙ h.turn;
 }
 amounts_on all g held (Rotation turn) h = record {
@@ -237,78 +289,111 @@ ListWalks all first a b place g = Walks (properties all first) (Amounts all g) a
 
 pub list_start : (all first : ℕ) (a : State) → ListWalks all first a a first (record { left = all; best = None; turn = None })
 list_start all first a = walks_start (properties all first) (Amounts all (record { left = all; best = None; turn = None })) a
-    (record { left = omega arith; best = record { is = refl; first = refl; area = refl; found = λ some. absurd (omega arith) }; turn = refl })
+    (record { left = omega arith; best = record { is = refl; first = refl; area = refl; found = λ some. absurd (omega arith) }; turn =
+        refl })
 
-list_said : {b end : State} {r : Result (Said Property ImageSize) ImageError} (all : ℕ) (g : Gathered) (place : ℕ) (held : List Property) → Amounts all g held → Runs b end r (over b.held.input (bind (property_at g.left place) (listed held place))) → Runs b end r (over b.held.input (bind (property_at (all - sum_by skipped_bytes held) place) (listed held place)))
-list_said {b} {end} {r} all g place held h run = subst (λ n. Runs b end r (over b.held.input (bind (property_at n place) (listed held place)))) (sym h.left) run
+list_said : {b end : State} {r : Result (Said Property ImageSize) ImageError} (all : ℕ) (g : Gathered) (place : ℕ) (held : List Property)
+    → Amounts all g held → Runs b end r (over b.held.input (bind (property_at g.left place) (listed held place)))
+    → Runs b end r (over b.held.input (bind (property_at (all - sum_by skipped_bytes held) place) (listed held place)))
+list_said {b} {end} {r} all g place held h run =
+    subst (λ n. Runs b end r (over b.held.input (bind (property_at n place) (listed held place)))) (sym h.left) run
 
-pub list_on : {a b end : State} (all first place : ℕ) (g : Gathered) (property : Property) → ListWalks all first a b place g → Runs b end (Ok (Some property)) (over b.held.input (property_at g.left place)) → ListWalks all first a end (place + property_bytes property) (gathered_with g property)
+pub list_on : {a b end : State} (all first place : ℕ) (g : Gathered) (property : Property) → ListWalks all first a b place g
+    → Runs b end (Ok (Some property)) (over b.held.input (property_at g.left place)) → ListWalks all first a end
+    (place + property_bytes property) (gathered_with g property)
 list_on all first place g property w run =
-    walks_on (properties all first) (properties_advance all first) (Amounts all g) w (Amounts all (gathered_with g property)) property (place + property_bytes property)
-    (λ held h. list_said all g place held h (runs_bind (Ok (Next property (place + property_bytes property))) (property_at g.left place) (listed held place) run (λ d. refl) refl tt))
+    walks_on (properties all first) (properties_advance all first) (Amounts all g) w (Amounts all (gathered_with g property)) property
+        (place + property_bytes property)
+    (λ held h. list_said all g place held h (runs_bind (Ok (Next property (place + property_bytes property))) (property_at g.left place)
+        (listed held place) run (λ d. refl) refl tt))
     (λ held h. amounts_on all g held property h)
 
-pub list_out : {a b end : State} (all first place : ℕ) (g : Gathered) (e : ImageError) → ListWalks all first a b place g → Runs {X = Option Property} b end (Err e) (over b.held.input (property_at g.left place)) → Runs {X = ImageSize} a end (Err e) (chain_at (properties all first) a.held.input)
+pub list_out : {a b end : State} (all first place : ℕ) (g : Gathered) (e : ImageError) → ListWalks all first a b place g
+    → Runs {X = Option Property} b end (Err e) (over b.held.input (property_at g.left place)) → Runs {X = ImageSize} a end (Err e)
+    (chain_at (properties all first) a.held.input)
 list_out all first place g e w run =
     walks_out (properties all first) (properties_advance all first) (Amounts all g) w e
     (λ held h. list_said all g place held h (refused_bind (property_at g.left place) (listed held place) run))
 
 -- what is answered by what the properties amount to
-answers : (all : ℕ) (g : Gathered) (held : List Property) (place : ℕ) (d : List ℕ) → Amounts all g held → over d (listed held place None) ≡ over d (heif_answer g.best g.turn)
-answers all g held place d h = ap (λ o. over d (heif_answer o (last_or None (flat_map rotations_of held)))) h.best.is ∙ ap (λ t. over d (heif_answer g.best t)) h.turn
+answers : (all : ℕ) (g : Gathered) (held : List Property) (place : ℕ) (d : List ℕ) → Amounts all g held → over d (listed held place None)
+    ≡ over d (heif_answer g.best g.turn)
+answers all g held place d h = ap (λ o. over d (heif_answer o (last_or None (flat_map rotations_of held)))) h.best.is
+    ∙ ap (λ t. over d (heif_answer g.best t)) h.turn
 
 -- the list ends
-list_end_by : {a b end : State} (all first place : ℕ) (g : Gathered) (best : Option ImageSize) → g.best ≡ best → ListWalks all first a b place g → Runs b end (Ok None) (over b.held.input (property_at g.left place)) → Runs a end (ok_or (option_map (turned g.turn) best) (IoError NotEnoughData)) (chain_at (properties all first) a.held.input)
+list_end_by : {a b end : State} (all first place : ℕ) (g : Gathered) (best : Option ImageSize) → g.best ≡ best
+    → ListWalks all first a b place g → Runs b end (Ok None) (over b.held.input (property_at g.left place))
+    → Runs a end (ok_or (option_map (turned g.turn) best) (IoError NotEnoughData)) (chain_at (properties all first) a.held.input)
 list_end_by all first place g None is w run =
     walks_out (properties all first) (properties_advance all first) (Amounts all g) w (IoError NotEnoughData)
     (λ held h. list_said all g place held h
-    (runs_bind (Err (IoError NotEnoughData)) (property_at g.left place) (listed held place) run (λ d. answers all g held place d h ∙ ap (λ o. over d (heif_answer o g.turn)) is) refl (record { budget = tt; memory = λ e. absurd cc })))
+    (runs_bind (Err (IoError NotEnoughData)) (property_at g.left place) (listed held place) run
+        (λ d. answers all g held place d h ∙ ap (λ o. over d (heif_answer o g.turn)) is) refl
+        (record { budget = tt; memory = λ e. absurd cc })))
 list_end_by all first place g (Some size) is w run =
     walks_stop (properties all first) (properties_advance all first) (Amounts all g) w (turned g.turn size)
     (λ held h. list_said all g place held h
-    (runs_bind (Ok (Decided (turned g.turn size))) (property_at g.left place) (listed held place) run (λ d. answers all g held place d h ∙ ap (λ o. over d (heif_answer o g.turn)) is) refl tt))
+    (runs_bind (Ok (Decided (turned g.turn size))) (property_at g.left place) (listed held place) run
+        (λ d. answers all g held place d h ∙ ap (λ o. over d (heif_answer o g.turn)) is) refl tt))
 
-pub list_end : {a b end : State} (all first place : ℕ) (g : Gathered) → ListWalks all first a b place g → Runs b end (Ok None) (over b.held.input (property_at g.left place)) → Runs a end (gathered_answer g) (chain_at (properties all first) a.held.input)
+pub list_end : {a b end : State} (all first place : ℕ) (g : Gathered) → ListWalks all first a b place g
+    → Runs b end (Ok None) (over b.held.input (property_at g.left place)) → Runs a end (gathered_answer g)
+    (chain_at (properties all first) a.held.input)
 list_end all first place g w run = list_end_by all first place g g.best refl w run
 
 -- at a place beyond the input it ends too
-none_listed : (d : List ℕ) (held : List Property) (left place : ℕ) → length d ≤ place → over d (bind (property_at left place) (listed held place)) ≡ over d (listed held place None)
+none_listed : (d : List ℕ) (held : List Property) (left place : ℕ) → length d ≤ place
+    → over d (bind (property_at left place) (listed held place)) ≡ over d (listed held place None)
 none_listed d held left place far = rw (no_part d place 8 far, no_span d place 8 far) refl
 
-answer_ended : (b : State) (best : Option ImageSize) (turn : Option ℕ) → IfErr (ok_or (option_map (turned turn) best) (IoError NotEnoughData)) (EndedBy b)
+answer_ended : (b : State) (best : Option ImageSize) (turn : Option ℕ)
+    → IfErr (ok_or (option_map (turned turn) best) (IoError NotEnoughData)) (EndedBy b)
 answer_ended b None turn = record { budget = tt; memory = λ e. absurd cc }
 answer_ended b (Some size) turn = tt
 
-answer_no_fault : (best : Option ImageSize) (turn : Option ℕ) → faulted (ok_or (option_map (turned turn) best) (IoError NotEnoughData)) ≡ false
+answer_no_fault : (best : Option ImageSize) (turn : Option ℕ) → faulted (ok_or (option_map (turned turn) best) (IoError NotEnoughData))
+    ≡ false
 answer_no_fault None turn = refl
 answer_no_fault (Some size) turn = refl
 
-answer_verdict : (d : List ℕ) (best : Option ImageSize) (turn : Option ℕ) → (verdict (over d (heif_answer best turn)).answer ≡ Some (ok_or (option_map (turned turn) best) (IoError NotEnoughData))) × ((over d (heif_answer best turn)).marks ≡ [])
+answer_verdict : (d : List ℕ) (best : Option ImageSize) (turn : Option ℕ)
+    → (verdict (over d (heif_answer best turn)).answer ≡ Some (ok_or (option_map (turned turn) best) (IoError NotEnoughData)))
+    × ((over d (heif_answer best turn)).marks ≡ [])
 answer_verdict d None turn = (refl, refl)
 answer_verdict d (Some size) turn = (refl, refl)
 
-ends_beyond : (all first place : ℕ) (g : Gathered) (held : List Property) (d : List ℕ) → length d ≤ place → Amounts all g held → chain_from (properties all first) d (record { held = held; place = place }) ≡ record { answer = gathered_answer g; marks = [] }
+ends_beyond : (all first place : ℕ) (g : Gathered) (held : List Property) (d : List ℕ) → length d ≤ place → Amounts all g held
+    → chain_from (properties all first) d (record { held = held; place = place }) ≡ record { answer = gathered_answer g; marks = [] }
 ends_beyond all first place g held d far h =
     let says = none_listed d held (all - sum_by skipped_bytes held) place far ∙ answers all g held place d h in
     let is = answer_verdict d g.best g.turn in
-    chain_stop (properties all first) d (record { held = held; place = place }) (gathered_answer g) (ap (λ r. verdict r.answer) says ∙ is.0) ∙ ap (λ marks. record { answer = gathered_answer g; marks = marks }) (ap (λ r. r.marks) says ∙ is.1)
+    chain_stop (properties all first) d (record { held = held; place = place }) (gathered_answer g)
+        (ap (λ r. verdict r.answer) says ∙ is.0) ∙ ap (λ marks. record { answer = gathered_answer g; marks = marks })
+        (ap (λ r. r.marks) says ∙ is.1)
 
-pub list_past : {a b : State} (all first place : ℕ) (g : Gathered) → first < place → ListWalks all first a b place g → 2 ^ 64 ≤ place → Runs a b (gathered_answer g) (chain_at (properties all first) a.held.input)
+pub list_past : {a b : State} (all first place : ℕ) (g : Gathered) → first < place → ListWalks all first a b place g → 2 ^ 64 ≤ place
+    → Runs a b (gathered_answer g) (chain_at (properties all first) a.held.input)
 list_past {a} all first place g behind w far =
     reached_now w.reached (gathered_answer g) (w.sound behind) (answer_no_fault g.best g.turn) (answer_ended _ g.best g.turn)
     (λ honest short. ends_beyond all first place g w.held a.held.input (omega arith) w.known)
 
-pub list_saturated : {a b : State} {r : Result ImageSize ImageError} (all place : ℕ) → Runs a b r (chain_at (properties all (min place (2 ^ 64 - 1))) a.held.input) → Runs a b r (chain_at (properties all place) a.held.input)
-list_saturated all place h = saturated_by (λ p d. chain_at (properties all p) d) (record { answer = Err (IoError NotEnoughData); marks = [] }) place
+pub list_saturated : {a b : State} {r : Result ImageSize ImageError} (all place : ℕ)
+    → Runs a b r (chain_at (properties all (min place (2 ^ 64 - 1))) a.held.input)
+    → Runs a b r (chain_at (properties all place) a.held.input)
+list_saturated all place h = saturated_by (λ p d. chain_at (properties all p) d)
+    (record { answer = Err (IoError NotEnoughData); marks = [] }) place
     (λ d p far. ends_beyond all p p (record { left = all; best = None; turn = None }) [] d far
-    (record { left = omega arith; best = record { is = refl; first = refl; area = refl; found = λ some. absurd (omega arith) }; turn = refl }))
+    (record { left = omega arith; best = record { is = refl; first = refl; area = refl; found = λ some. absurd (omega arith) }; turn =
+        refl }))
     h
 
 -- the compression is read from at most 12 bytes, and is always told
 pub heif_compression_laws : (place : ℕ) (head : List ℕ) → CompressionLaws 12 (heif_compression place head)
 unfolding heif_compression
 heif_compression_laws place head =
-    on_test (CompressionLaws 12) (is_general (four_at 8 head)) _ _ (λ _. record { few = (omega arith, λ _. tt); answers = λ _. tt }) (λ _. record { few = tt; answers = tt })
+    on_test (CompressionLaws 12) (is_general (four_at 8 head)) _ _ (λ _. record { few = (omega arith, λ _. tt); answers = λ _. tt })
+        (λ _. record { few = tt; answers = tt })
 
 -- what is seen of an input
 local_bytes : (place k : ℕ) → Local (λ d. bytes_read d place k)
@@ -318,44 +403,54 @@ local_search : (tag : List ℕ) (place : ℕ) → Local (λ d. chain_at (search_
 local_search tag place = local_chain (search_for tag place) (search_advances tag place)
 
 in_iprp_local : (iprp : FoundBox) → Local (heif_in_iprp iprp)
-in_iprp_local iprp = local_then (λ d. chain_at (search_for (codes "ipco") (iprp.place + 8)) d) (λ ipco d. chain_at (properties ipco.size (ipco.place + 8)) d)
+in_iprp_local iprp = local_then (λ d. chain_at (search_for (codes "ipco") (iprp.place + 8)) d)
+    (λ ipco d. chain_at (properties ipco.size (ipco.place + 8)) d)
     (local_search (codes "ipco") (iprp.place + 8))
     (λ ipco. local_chain (properties ipco.size (ipco.place + 8)) (properties_advance ipco.size (ipco.place + 8)))
 
 in_meta_local : (meta : FoundBox) → Local (heif_in_meta meta)
-in_meta_local meta = local_then (λ d. bytes_read d (meta.place + 8) 4) (λ version d. and_then (chain_at (search_for (codes "iprp") (meta.place + 12)) d) (λ iprp. heif_in_iprp iprp d))
+in_meta_local meta = local_then (λ d. bytes_read d (meta.place + 8) 4)
+    (λ version d. and_then (chain_at (search_for (codes "iprp") (meta.place + 12)) d) (λ iprp. heif_in_iprp iprp d))
     (local_bytes (meta.place + 8) 4)
-    (λ version. local_then (λ d. chain_at (search_for (codes "iprp") (meta.place + 12)) d) heif_in_iprp (local_search (codes "iprp") (meta.place + 12)) in_iprp_local)
+    (λ version. local_then (λ d. chain_at (search_for (codes "iprp") (meta.place + 12)) d) heif_in_iprp
+        (local_search (codes "iprp") (meta.place + 12)) in_iprp_local)
 
 pub heif_local : Local heif
-heif_local = local_then (λ d. number_read d Big 0 4) (λ first d. and_then (chain_at (search_for (codes "meta") first) d) (λ meta. heif_in_meta meta d))
+heif_local = local_then (λ d. number_read d Big 0 4) (λ first d. and_then (chain_at (search_for (codes "meta") first) d)
+    (λ meta. heif_in_meta meta d))
     (local_number Big 0 4)
-    (λ first. local_then (λ d. chain_at (search_for (codes "meta") first) d) heif_in_meta (local_search (codes "meta") first) in_meta_local)
+    (λ first. local_then (λ d. chain_at (search_for (codes "meta") first) d) heif_in_meta (local_search (codes "meta") first)
+        in_meta_local)
 
 -- how many bytes the boxes are read from: what an answer leads to, and nothing behind a refusal
-begun_cost : {X Y : Type 0} (spans : List Span) (r : Result X ImageError) (f : X → Reads Y) (n : X → ℕ) (j k : ℕ) → total spans ≤ j → ((x : X) → total (f x).marks ≤ k + 20 * n x) → total (onward spans r f).marks ≤ j + (k + 20 * begun r n)
+begun_cost : {X Y : Type 0} (spans : List Span) (r : Result X ImageError) (f : X → Reads Y) (n : X → ℕ) (j k : ℕ) → total spans ≤ j
+    → ((x : X) → total (f x).marks ≤ k + 20 * n x) → total (onward spans r f).marks ≤ j + (k + 20 * begun r n)
 begun_cost spans (Ok x) f n j k here rest = let all = total-append spans (f x).marks in let more = rest x in omega arith
 begun_cost spans (Err e) f n j k here rest = omega arith
 
-search_cost : (tag : List ℕ) (place : ℕ) (d : List ℕ) → total (chain_at (search_for tag place) d).marks ≤ 20 * records (search_for tag place) d
+search_cost : (tag : List ℕ) (place : ℕ) (d : List ℕ) → total (chain_at (search_for tag place) d).marks ≤ 20 * records
+    (search_for tag place) d
 search_cost tag place d = chain_cost (search_for tag place) d (search_advances tag place d) 20
     (λ passed q. (omega arith, λ head. by_searched (AtMost 12) tag q head tt tt (λ big. tt)))
 
 properties_cost : (all place : ℕ) (d : List ℕ) → total (chain_at (properties all place) d).marks ≤ 20 * records (properties all place) d
 properties_cost all place d = chain_cost (properties all place) d (properties_advance all place d) 20
-    (λ held q. (omega arith, λ bs. by_listed (AtMost 12) held (all - sum_by skipped_bytes held) q (whole 8 bs) (λ e. tt) (λ size. tt) (omega arith, λ content. tt) (omega arith, λ content. tt) (λ size big. tt)))
+    (λ held q. (omega arith, λ bs. by_listed (AtMost 12) held (all - sum_by skipped_bytes held) q (whole 8 bs) (λ e. tt) (λ size. tt)
+        (omega arith, λ content. tt) (omega arith, λ content. tt) (λ size big. tt)))
 
 in_iprp_cost : (iprp : FoundBox) (d : List ℕ) → total (heif_in_iprp iprp d).marks ≤ 20 * boxes_in_iprp iprp d
 in_iprp_cost iprp d =
     let reads = chain_at (search_for (codes "ipco") (iprp.place + 8)) d in
-    let all = begun_cost reads.marks reads.answer (λ ipco. chain_at (properties ipco.size (ipco.place + 8)) d) (λ ipco. records (properties ipco.size (ipco.place + 8)) d) _ 0
+    let all = begun_cost reads.marks reads.answer (λ ipco. chain_at (properties ipco.size (ipco.place + 8)) d)
+        (λ ipco. records (properties ipco.size (ipco.place + 8)) d) _ 0
     (search_cost (codes "ipco") (iprp.place + 8) d) (λ ipco. omega (arith, properties_cost ipco.size (ipco.place + 8) d)) in
     omega arith
 
 in_meta_cost : (meta : FoundBox) (d : List ℕ) → total (heif_in_meta meta d).marks ≤ 4 + 20 * boxes_in_meta meta d
 in_meta_cost meta d =
     let reads = chain_at (search_for (codes "iprp") (meta.place + 12)) d in
-    let rest : total (and_then reads (λ iprp. heif_in_iprp iprp d)).marks ≤ 20 * (records (search_for (codes "iprp") (meta.place + 12)) d + begun reads.answer (λ iprp. boxes_in_iprp iprp d)) =
+    let rest : total (and_then reads (λ iprp. heif_in_iprp iprp d)).marks ≤ 20 * (records (search_for (codes "iprp") (meta.place + 12)) d
+        + begun reads.answer (λ iprp. boxes_in_iprp iprp d)) =
     omega (
       arith,
       begun_cost reads.marks reads.answer (λ iprp. heif_in_iprp iprp d) (λ iprp. boxes_in_iprp iprp d) _ 0
@@ -363,14 +458,17 @@ in_meta_cost meta d =
     ) in
     omega (
       arith,
-      begun_cost (span_of d (meta.place + 8) 4) (bytes_at d (meta.place + 8) 4) (λ version. and_then reads (λ iprp. heif_in_iprp iprp d)) (λ version. records (search_for (codes "iprp") (meta.place + 12)) d + begun reads.answer (λ iprp. boxes_in_iprp iprp d)) 4 0
+      begun_cost (span_of d (meta.place + 8) 4) (bytes_at d (meta.place + 8) 4) (λ version. and_then reads (λ iprp. heif_in_iprp iprp d))
+          (λ version. records (search_for (codes "iprp") (meta.place + 12)) d + begun reads.answer (λ iprp. boxes_in_iprp iprp d)) 4 0
           (total-span_of d (meta.place + 8) 4) (λ version. omega (arith, rest)),
     )
 
 -- a box is read from at most 20 bytes
 pub heif_cost : (d : List ℕ) → total (heif d).marks ≤ 8 + 20 * heif_boxes d
 heif_cost d =
-    let rest : (first : ℕ) → total (and_then (chain_at (search_for (codes "meta") first) d) (λ meta. heif_in_meta meta d)).marks ≤ 4 + 20 * (records (search_for (codes "meta") first) d + begun (chain_at (search_for (codes "meta") first) d).answer (λ meta. boxes_in_meta meta d)) =
+    let rest : (first : ℕ) → total (and_then (chain_at (search_for (codes "meta") first) d) (λ meta. heif_in_meta meta d)).marks ≤ 4
+        + 20 * (records (search_for (codes "meta") first) d + begun (chain_at (search_for (codes "meta") first) d).answer
+        (λ meta. boxes_in_meta meta d)) =
     λ first. let reads = chain_at (search_for (codes "meta") first) d in
     omega (
       arith,
@@ -379,7 +477,9 @@ heif_cost d =
     ) in
     omega (
       arith,
-      begun_cost (span_of d 0 4) (number_at d Big 0 4) (λ first. and_then (chain_at (search_for (codes "meta") first) d) (λ meta. heif_in_meta meta d)) (λ first. records (search_for (codes "meta") first) d + begun (chain_at (search_for (codes "meta") first) d).answer (λ meta. boxes_in_meta meta d)) 4 4
+      begun_cost (span_of d 0 4) (number_at d Big 0 4) (λ first. and_then (chain_at (search_for (codes "meta") first) d)
+          (λ meta. heif_in_meta meta d)) (λ first. records (search_for (codes "meta") first) d + begun
+          (chain_at (search_for (codes "meta") first) d).answer (λ meta. boxes_in_meta meta d)) 4 4
           (total-span_of d 0 4) rest,
     )
 
@@ -397,30 +497,38 @@ ends size = None
 
 properties_spend : (all place : ℕ) (d : List ℕ) → Spends (length d) place ends (chain_at (properties all place) d)
 properties_spend all place d = chain_onto (properties all place) d ends (properties_advance all place d)
-    (λ held q. (omega arith, λ bs. by_listed (Onto (said_to ends) (q + 8)) held (all - sum_by skipped_bytes held) q (whole 8 bs) (λ e. tt) (λ size. tt) (omega arith, λ content. omega arith) (omega arith, λ content. omega arith) (λ size big. omega arith)))
+    (λ held q. (omega arith, λ bs. by_listed (Onto (said_to ends) (q + 8)) held (all - sum_by skipped_bytes held) q (whole 8 bs)
+        (λ e. tt) (λ size. tt) (omega arith, λ content. omega arith) (omega arith, λ content. omega arith) (λ size big. omega arith)))
 
-version_spends : (d : List ℕ) (place : ℕ) (r : Result (List ℕ) ImageError) → total (span_of d place 4) + left (length d) (λ _. Some (place + 4)) r ≤ length d - place
+version_spends : (d : List ℕ) (place : ℕ) (r : Result (List ℕ) ImageError) → total (span_of d place 4) + left (length d)
+    (λ _. Some (place + 4)) r ≤ length d - place
 version_spends d place (Ok version) = omega (arith, total_behind d place 4, total-span_of d place 4)
 version_spends d place (Err e) = omega (arith, total_behind d place 4)
 
 in_iprp_spends : (iprp : FoundBox) (d : List ℕ) → Spends (length d) (iprp.place + 8) ends (heif_in_iprp iprp d)
-in_iprp_spends iprp d = spends_then (length d) (iprp.place + 8) (λ ipco. ipco.place + 8) ends (chain_at (search_for (codes "ipco") (iprp.place + 8)) d) (λ ipco. chain_at (properties ipco.size (ipco.place + 8)) d)
+in_iprp_spends iprp d = spends_then (length d) (iprp.place + 8) (λ ipco. ipco.place + 8) ends
+    (chain_at (search_for (codes "ipco") (iprp.place + 8)) d) (λ ipco. chain_at (properties ipco.size (ipco.place + 8)) d)
     (search_spends (codes "ipco") (iprp.place + 8) d) (λ ipco _. properties_spend ipco.size (ipco.place + 8) d)
 
 in_meta_spends : (meta : FoundBox) (d : List ℕ) → Spends (length d) (meta.place + 8) ends (heif_in_meta meta d)
-in_meta_spends meta d = spends_then (length d) (meta.place + 8) (λ version. meta.place + 8 + 4) ends (bytes_read d (meta.place + 8) 4) (λ version. and_then (chain_at (search_for (codes "iprp") (meta.place + 12)) d) (λ iprp. heif_in_iprp iprp d))
+in_meta_spends meta d = spends_then (length d) (meta.place + 8) (λ version. meta.place + 8 + 4) ends (bytes_read d (meta.place + 8) 4)
+    (λ version. and_then (chain_at (search_for (codes "iprp") (meta.place + 12)) d) (λ iprp. heif_in_iprp iprp d))
     (version_spends d (meta.place + 8) (bytes_at d (meta.place + 8) 4))
-    (λ version _. let here : meta.place + 8 + 4 ≡ meta.place + 12 = omega arith in rw here (spends_then (length d) (meta.place + 12) (λ iprp. iprp.place + 8) ends (chain_at (search_for (codes "iprp") (meta.place + 12)) d) (λ iprp. heif_in_iprp iprp d)
+    (λ version _. let here : meta.place + 8 + 4 ≡ meta.place + 12 = omega arith in
+        rw here (spends_then (length d) (meta.place + 12) (λ iprp. iprp.place + 8) ends
+        (chain_at (search_for (codes "iprp") (meta.place + 12)) d) (λ iprp. heif_in_iprp iprp d)
     (search_spends (codes "iprp") (meta.place + 12) d) (λ iprp _. in_iprp_spends iprp d)))
 
 -- the boxes are read from at most 4 bytes more than the input has: the first four may be read twice
 pub heif_within : (d : List ℕ) → total (heif d).marks ≤ length d + 4
 heif_within d = omega (
   arith,
-  then_within (number_read d Big 0 4) (λ first. and_then (chain_at (search_for (codes "meta") first) d) (λ meta. heif_in_meta meta d)) 4 (length d) (total-span_of d 0 4)
+  then_within (number_read d Big 0 4) (λ first. and_then (chain_at (search_for (codes "meta") first) d) (λ meta. heif_in_meta meta d)) 4
+      (length d) (total-span_of d 0 4)
       (λ first _. omega (
         arith,
-        spends_then (length d) first (λ meta. meta.place + 8) ends (chain_at (search_for (codes "meta") first) d) (λ meta. heif_in_meta meta d)
+        spends_then (length d) first (λ meta. meta.place + 8) ends (chain_at (search_for (codes "meta") first) d)
+            (λ meta. heif_in_meta meta d)
             (search_spends (codes "meta") first d) (λ meta _. in_meta_spends meta d),
       )),
 )

@@ -38,17 +38,22 @@ jxl_local = local_then jxl_codestream (λ front d. record { answer = jxl_size fr
     (λ front d e a. refl)
 
 -- a box goes forward: its content stands behind its head, and the next box behind both
-content_ahead : (q : ℕ) (held : List ℕ) (place : ℕ) (head : BoxHead) → q ≤ place + head.length → (0 < head.size → head.length ≤ head.size) → Ahead q (box_content held place head)
+content_ahead : (q : ℕ) (held : List ℕ) (place : ℕ) (head : BoxHead) → q ≤ place + head.length
+    → (0 < head.size → head.length ≤ head.size) → Ahead q (box_content held place head)
 content_ahead q held place head before sized =
     let End : ℕ → Said (List ℕ) (List ℕ) → Type 0 = λ p s. Ahead p (done s) in
     by_content (Ahead q) held place head
-    (by_piece (Ahead q) (place + head.length) (min 16 (box_room head)) (λ front. done (Decided front)) (λ _. tt) (λ _. (before, λ front. tt)))
+    (by_piece (Ahead q) (place + head.length) (min 16 (box_room head)) (λ front. done (Decided front)) (λ _. tt)
+        (λ _. (before, λ front. tt)))
     tt
     (λ enough. (
       before,
-      λ index. by_piece (Ahead (place + head.length + 4)) (place + (head.length + 4)) (min (box_room head - 4) (16 - length held)) (λ piece. done (partial_said held place head index piece))
-          (λ _. by_partial (End (place + head.length + 4)) held place head index [] tt (λ closed. let is = box_sized head closed in let fits = sized closed in omega arith))
-          (λ some. (omega arith, λ piece. by_partial (End (place + (head.length + 4) + min (box_room head - 4) (16 - length held))) held place head index piece tt (λ closed. let is = box_sized head closed in let fits = sized closed in omega arith))),
+      λ index. by_piece (Ahead (place + head.length + 4)) (place + (head.length + 4)) (min (box_room head - 4) (16 - length held))
+          (λ piece. done (partial_said held place head index piece))
+          (λ _. by_partial (End (place + head.length + 4)) held place head index [] tt (λ closed. let is = box_sized head closed in
+              let fits = sized closed in omega arith))
+          (λ some. (omega arith, λ piece. by_partial (End (place + (head.length + 4) + min (box_room head - 4) (16 - length held))) held
+              place head index piece tt (λ closed. let is = box_sized head closed in let fits = sized closed in omega arith))),
     ))
     (by_end (End q) held place head [] tt (λ closed. let fits = sized closed in omega arith))
 
@@ -58,22 +63,28 @@ box_ahead held place = (
   omega arith,
   λ front. by_head (Ahead (place + 8)) place front (box_content held place) (
     omega arith,
-    λ size. by_checked (Ahead (place + 8 + 8)) place (record { tag = drop 4 front; size = size; length = 16 }) (box_content held place) (λ e. tt)
-        (λ _ sized. content_ahead (place + 8 + 8) held place (record { tag = drop 4 front; size = size; length = 16 }) (omega arith) sized),
+    λ size. by_checked (Ahead (place + 8 + 8)) place (record { tag = drop 4 front; size = size; length = 16 }) (box_content held place)
+        (λ e. tt)
+        (λ _ sized. content_ahead (place + 8 + 8) held place (record { tag = drop 4 front; size = size; length = 16 }) (omega arith)
+            sized),
   )
-      (by_checked (Ahead (place + 8)) place (record { tag = drop 4 front; size = number Big (take 4 front); length = 8 }) (box_content held place) (λ e. tt)
-      (λ _ sized. content_ahead (place + 8) held place (record { tag = drop 4 front; size = number Big (take 4 front); length = 8 }) (omega arith) sized)),
+      (by_checked (Ahead (place + 8)) place (record { tag = drop 4 front; size = number Big (take 4 front); length = 8 })
+          (box_content held place) (λ e. tt)
+      (λ _ sized. content_ahead (place + 8) held place (record { tag = drop 4 front; size = number Big (take 4 front); length = 8 })
+          (omega arith) sized)),
 )
 
 start_few : AtMost 16 jxl_start
-start_few = (omega arith, λ front. on_test (AtMost 14) (has_signature front) (there 2 14 (λ more. done (Some (front ++ more)))) (done None) (λ _. (omega arith, λ more. tt)) (λ _. tt))
+start_few = (omega arith, λ front. on_test (AtMost 14) (has_signature front) (there 2 14 (λ more. done (Some (front ++ more))))
+    (done None) (λ _. (omega arith, λ more. tt)) (λ _. tt))
 
 -- the codestream is read from at most 16 bytes more than the input has
 pub jxl_within : (d : List ℕ) → total (jxl d).marks ≤ length d + 16
 jxl_within d =
     let boxes = chain_ahead jxl_chain d (jxl_advances d) (λ pieces place. box_ahead (concat pieces) place) in
     let found = then_within (over d jxl_start) (codestream d) 16 (length d) (at_most d 16 jxl_start start_few) (λ o _. by_start o boxes) in
-    let all = then_within (jxl_codestream d) (λ front. record { answer = jxl_size front; marks = [] }) (16 + length d) 0 found (λ front _. omega arith) in
+    let all = then_within (jxl_codestream d) (λ front. record { answer = jxl_size front; marks = [] }) (16 + length d) 0 found
+        (λ front _. omega arith) in
     omega arith where
       by_start : (o : Option (List ℕ)) → total (chain_at jxl_chain d).marks ≤ length d - 12 → total (codestream d o).marks ≤ length d
       by_start None boxes = omega arith
@@ -83,11 +94,13 @@ jxl_within d =
 content_few : (held : List ℕ) (place : ℕ) (head : BoxHead) → AtMost 20 (box_content held place head)
 content_few held place head =
     by_content (AtMost 20) held place head
-    (by_piece (AtMost 20) (place + head.length) (min 16 (box_room head)) (λ front. done (Decided front)) (λ _. tt) (λ _. (omega arith, λ front. tt)))
+    (by_piece (AtMost 20) (place + head.length) (min 16 (box_room head)) (λ front. done (Decided front)) (λ _. tt)
+        (λ _. (omega arith, λ front. tt)))
     tt
     (λ _. (
       omega arith,
-      λ index. by_piece (AtMost 16) (place + (head.length + 4)) (min (box_room head - 4) (16 - length held)) (λ piece. done (partial_said held place head index piece))
+      λ index. by_piece (AtMost 16) (place + (head.length + 4)) (min (box_room head - 4) (16 - length held))
+          (λ piece. done (partial_said held place head index piece))
           (λ _. tt) (λ _. (omega arith, λ piece. tt)),
     ))
     tt
@@ -97,22 +110,30 @@ unfolding box_head
 box_few held place = (
   omega arith,
   λ front. by_head (AtMost 28) place front (box_content held place)
-      (omega arith, λ size. by_checked (AtMost 20) place (record { tag = drop 4 front; size = size; length = 16 }) (box_content held place) (λ e. tt) (λ _ _. content_few held place (record { tag = drop 4 front; size = size; length = 16 })))
-      (by_checked (AtMost 28) place (record { tag = drop 4 front; size = number Big (take 4 front); length = 8 }) (box_content held place) (λ e. tt)
-      (λ _ _. at_most_more 20 28 (box_content held place (record { tag = drop 4 front; size = number Big (take 4 front); length = 8 })) (omega arith) (content_few held place (record { tag = drop 4 front; size = number Big (take 4 front); length = 8 })))),
+      (omega arith, λ size. by_checked (AtMost 20) place (record { tag = drop 4 front; size = size; length = 16 })
+          (box_content held place) (λ e. tt) (λ _ _. content_few held place (record { tag = drop 4 front; size = size; length = 16 })))
+      (by_checked (AtMost 28) place (record { tag = drop 4 front; size = number Big (take 4 front); length = 8 })
+          (box_content held place) (λ e. tt)
+      (λ _ _. at_most_more 20 28 (box_content held place (record { tag = drop 4 front; size = number Big (take 4 front); length = 8 }))
+          (omega arith) (content_few held place (record { tag = drop 4 front; size = number Big (take 4 front); length = 8 })))),
 )
 
 -- Behind u bytes: where it leads to a next box, it has read at most 20 bytes and its piece, for which there is room.
 Lean : ℕ → List ℕ → Reads (Said (List ℕ) (List ℕ)) → Type 0
-Lean u held r = (piece : List ℕ) (place : ℕ) → r.answer ≡ Ok (Next piece place) → (u + total r.marks ≤ 20 + length piece) × (length piece ≤ 16 - length held)
+Lean u held r = (piece : List ℕ) (place : ℕ) → r.answer ≡ Ok (Next piece place) → (u + total r.marks ≤ 20 + length piece)
+    × (length piece ≤ 16 - length held)
 
-lean_onward : {Y : Type 0} (u n : ℕ) (held : List ℕ) (spans : List Span) (r : Result Y ImageError) (f : Y → Reads (Said (List ℕ) (List ℕ))) → total spans ≤ n → ((y : Y) → Lean (u + n) held (f y)) → Lean u held (onward spans r f)
+lean_onward : {Y : Type 0} (u n : ℕ) (held : List ℕ) (spans : List Span) (r : Result Y ImageError)
+    (f : Y → Reads (Said (List ℕ) (List ℕ))) → total spans ≤ n → ((y : Y) → Lean (u + n) held (f y)) → Lean u held (onward spans r f)
 unfolding Lean
-lean_onward u n held spans (Ok y) f few each piece place is = let rest = each y piece place is in (omega (arith, rest.0, total-append spans (f y).marks), rest.1)
+lean_onward u n held spans (Ok y) f few each piece place is = let rest = each y piece place is in
+    (omega (arith, rest.0, total-append spans (f y).marks), rest.1)
 lean_onward u n held spans (Err e) f few each piece place is = absurd cc
 
 -- what a box says at once, behind its piece
-lean_said : (u : ℕ) (held : List ℕ) (spans : List Span) (s : Said (List ℕ) (List ℕ)) (piece : List ℕ) → ((found : List ℕ) (place : ℕ) → s ≡ Next found place → found ≡ piece) → u ≤ 20 → total spans ≤ length piece → length piece ≤ 16 - length held → Lean u held (behind spans (gives s))
+lean_said : (u : ℕ) (held : List ℕ) (spans : List Span) (s : Said (List ℕ) (List ℕ)) (piece : List ℕ)
+    → ((found : List ℕ) (place : ℕ) → s ≡ Next found place → found ≡ piece) → u ≤ 20 → total spans ≤ length piece
+    → length piece ≤ 16 - length held → Lean u held (behind spans (gives s))
 unfolding Lean
 lean_said u held spans s piece same few seen fits found place is =
     let at : s ≡ Next found place = cc in
@@ -120,11 +141,15 @@ lean_said u held spans s piece same few seen fits found place is =
     let all = total-append spans [] in
     (omega arith, omega arith)
 
-end_piece : (held : List ℕ) (at : ℕ) (head : BoxHead) (piece found : List ℕ) (place : ℕ) → said_behind held at head piece ≡ Next found place → found ≡ piece
-end_piece held at head piece found place = by_end (λ s. s ≡ Next found place → found ≡ piece) held at head piece (λ is. absurd cc) (λ _ is. cc)
+end_piece : (held : List ℕ) (at : ℕ) (head : BoxHead) (piece found : List ℕ) (place : ℕ) → said_behind held at head piece
+    ≡ Next found place → found ≡ piece
+end_piece held at head piece found place = by_end (λ s. s ≡ Next found place → found ≡ piece) held at head piece (λ is. absurd cc)
+    (λ _ is. cc)
 
-partial_piece : (held : List ℕ) (at : ℕ) (head : BoxHead) (index piece found : List ℕ) (place : ℕ) → partial_said held at head index piece ≡ Next found place → found ≡ piece
-partial_piece held at head index piece found place = by_partial (λ s. s ≡ Next found place → found ≡ piece) held at head index piece (λ is. absurd cc) (λ _ is. cc)
+partial_piece : (held : List ℕ) (at : ℕ) (head : BoxHead) (index piece found : List ℕ) (place : ℕ)
+    → partial_said held at head index piece ≡ Next found place → found ≡ piece
+partial_piece held at head index piece found place = by_partial (λ s. s ≡ Next found place → found ≡ piece) held at head index piece
+    (λ is. absurd cc) (λ _ is. cc)
 
 module _ (d : List ℕ) where
   content_lean : (u : ℕ) (held : List ℕ) (place : ℕ) (head : BoxHead) → u ≤ 16 → Lean u held (over d (box_content held place head))
@@ -132,15 +157,21 @@ module _ (d : List ℕ) where
   content_lean u held place head few =
       let P : Says → Type 0 = λ t. Lean u held (over d t) in
       by_content P held place head
-      (by_piece P (place + head.length) (min 16 (box_room head)) (λ front. done (Decided front)) (λ _ piece next is. absurd cc) (λ _ piece next is. absurd cc))
+      (by_piece P (place + head.length) (min 16 (box_room head)) (λ front. done (Decided front)) (λ _ piece next is. absurd cc)
+          (λ _ piece next is. absurd cc))
       (λ piece next is. absurd cc)
-      (λ _. lean_onward u 4 held (span_of d (place + head.length) 4) (bytes_at d (place + head.length) 4) _ (total-span_of d (place + head.length) 4)
-      (λ index. by_piece (λ t. Lean (u + 4) held (over d t)) (place + (head.length + 4)) (min (box_room head - 4) (16 - length held)) (λ piece. done (partial_said held place head index piece))
-      (λ _. lean_said (u + 4) held [] (partial_said held place head index []) [] (λ found next is. partial_piece held place head index [] found next is) (omega arith) (omega arith) (omega arith))
+      (λ _. lean_onward u 4 held (span_of d (place + head.length) 4) (bytes_at d (place + head.length) 4) _
+          (total-span_of d (place + head.length) 4)
+      (λ index. by_piece (λ t. Lean (u + 4) held (over d t)) (place + (head.length + 4)) (min (box_room head - 4) (16 - length held))
+          (λ piece. done (partial_said held place head index piece))
+      (λ _. lean_said (u + 4) held [] (partial_said held place head index []) [] (λ found next is. partial_piece held place head index []
+          found next is) (omega arith) (omega arith) (omega arith))
       (λ _. let q : ℕ = place + (head.length + 4) in let k : ℕ = min (box_room head - 4) (16 - length held) in
       let few_of = total-span_of d q k in let seen = total_behind d q k in let long = part_length d q k in
-      lean_said (u + 4) held (span_of d q k) (partial_said held place head index (part d q k)) (part d q k) (λ found next is. partial_piece held place head index (part d q k) found next is) (omega arith) (omega arith) (omega arith))))
-      (lean_said u held [] (said_behind held place head []) [] (λ found next is. end_piece held place head [] found next is) (omega arith) (omega arith) (omega arith))
+      lean_said (u + 4) held (span_of d q k) (partial_said held place head index (part d q k)) (part d q k)
+          (λ found next is. partial_piece held place head index (part d q k) found next is) (omega arith) (omega arith) (omega arith))))
+      (lean_said u held [] (said_behind held place head []) [] (λ found next is. end_piece held place head [] found next is)
+          (omega arith) (omega arith) (omega arith))
 
   box_lean : (held : List ℕ) (place : ℕ) → Lean 0 held (over d (jxl_box held place))
   unfolding box_head Lean
@@ -148,31 +179,42 @@ module _ (d : List ℕ) where
       lean_onward 0 8 held (span_of d place 8) (bytes_at d place 8) _ (total-span_of d place 8)
       (λ front. by_head (λ t. Lean 8 held (over d t)) place front (box_content held place)
       (lean_onward 8 8 held (span_of d (place + 8) 8) (number_at d Big (place + 8) 8) _ (total-span_of d (place + 8) 8)
-      (λ size. by_checked (λ t. Lean 16 held (over d t)) place (record { tag = drop 4 front; size = size; length = 16 }) (box_content held place) (λ e piece next is. absurd cc)
+      (λ size. by_checked (λ t. Lean 16 held (over d t)) place (record { tag = drop 4 front; size = size; length = 16 })
+          (box_content held place) (λ e piece next is. absurd cc)
       (λ _ _. content_lean 16 held place (record { tag = drop 4 front; size = size; length = 16 }) (omega arith))))
-      (by_checked (λ t. Lean 8 held (over d t)) place (record { tag = drop 4 front; size = number Big (take 4 front); length = 8 }) (box_content held place) (λ e piece next is. absurd cc)
+      (by_checked (λ t. Lean 8 held (over d t)) place (record { tag = drop 4 front; size = number Big (take 4 front); length = 8 })
+          (box_content held place) (λ e piece next is. absurd cc)
       (λ _ _. content_lean 8 held place (record { tag = drop 4 front; size = number Big (take 4 front); length = 8 }) (omega arith))))
 
   -- the pieces together have at most 16 bytes, and the last box reads at most 16 more
-  boxes_lean : (t : Along (List ℕ)) → total (chain_from jxl_chain d t).marks ≤ 20 * records_from jxl_chain d t + 16 + (16 - length (concat t.held))
+  boxes_lean : (t : Along (List ℕ)) → total (chain_from jxl_chain d t).marks ≤ 20 * records_from jxl_chain d t + 16
+      + (16 - length (concat t.held))
   unfolding Lean
-  boxes_lean = chain_induction jxl_chain d (λ t. total (chain_from jxl_chain d t).marks ≤ 20 * records_from jxl_chain d t + 16 + (16 - length (concat t.held))) (jxl_advances d)
+  boxes_lean = chain_induction jxl_chain d (λ t. total (chain_from jxl_chain d t).marks ≤ 20 * records_from jxl_chain d t + 16
+      + (16 - length (concat t.held))) (jxl_advances d)
       (λ t v place is later.
       let u : Along (List ℕ) = record { held = t.held ++ v ∷ []; place = place } in
-      let all : total (chain_from jxl_chain d t).marks ≡ total (next_record jxl_chain d t).marks + total (chain_from jxl_chain d u).marks = ap (λ w. total w.marks) (chain_next jxl_chain d t v place (jxl_advances d) is) ∙ total-append (next_record jxl_chain d t).marks (chain_from jxl_chain d u).marks in
+      let all : total (chain_from jxl_chain d t).marks ≡ total (next_record jxl_chain d t).marks + total
+          (chain_from jxl_chain d u).marks = ap (λ w. total w.marks) (chain_next jxl_chain d t v place (jxl_advances d) is)
+          ∙ total-append (next_record jxl_chain d t).marks (chain_from jxl_chain d u).marks in
       let one = records_next jxl_chain d t v place (jxl_advances d) is in
       let here = box_lean (concat t.held) t.place v place is in
       let few = here.0 in let fits = here.1 in
-      let long : length (concat u.held) ≡ length (concat t.held) + length v = ap length (concat-append t.held (v ∷ []) ∙ ap (λ rest. concat t.held ++ rest) (append-nil v)) ∙ length-append (concat t.held) v in
+      let long : length (concat u.held) ≡ length (concat t.held) + length v =
+          ap length (concat-append t.held (v ∷ []) ∙ ap (λ rest. concat t.held ++ rest) (append-nil v)) ∙ length-append (concat t.held) v
+          in
       omega arith)
       (λ t r is.
-      let all : total (chain_from jxl_chain d t).marks ≡ total (next_record jxl_chain d t).marks = ap (λ w. total w.marks) (chain_stop jxl_chain d t r is) in
+      let all : total (chain_from jxl_chain d t).marks ≡ total (next_record jxl_chain d t).marks = ap (λ w. total w.marks)
+          (chain_stop jxl_chain d t r is) in
       let one = records_stop jxl_chain d t r is in
       let few = at_most d 36 (jxl_box (concat t.held) t.place) (box_few (concat t.held) t.place) in
       omega arith)
 
-  begun_within : (found : Result (Option (List ℕ)) ImageError) (spans : List Span) → total spans ≤ 16 → total (onward spans found (codestream d)).marks ≤ 48 + 20 * begun_behind d found
-  begun_within (Ok None) spans few = let boxes = boxes_lean (start jxl_chain) in let all = total-append spans (chain_at jxl_chain d).marks in omega arith
+  begun_within : (found : Result (Option (List ℕ)) ImageError) (spans : List Span) → total spans ≤ 16
+      → total (onward spans found (codestream d)).marks ≤ 48 + 20 * begun_behind d found
+  begun_within (Ok None) spans few = let boxes = boxes_lean (start jxl_chain) in let all = total-append spans
+      (chain_at jxl_chain d).marks in omega arith
   begun_within (Ok (Some front)) spans few = let all = total-append spans [] in omega arith
   begun_within (Err e) spans few = omega arith
 
@@ -180,7 +222,8 @@ module _ (d : List ℕ) where
 pub jxl_cost : (d : List ℕ) → total (jxl d).marks ≤ 48 + 20 * jxl_boxes d
 jxl_cost d =
     let found = begun_within d (over d jxl_start).answer (over d jxl_start).marks (at_most d 16 jxl_start start_few) in
-    let all = then_within (jxl_codestream d) (λ front. record { answer = jxl_size front; marks = [] }) (48 + 20 * jxl_boxes d) 0 found (λ front _. omega arith) in
+    let all = then_within (jxl_codestream d) (λ front. record { answer = jxl_size front; marks = [] }) (48 + 20 * jxl_boxes d) 0 found
+        (λ front _. omega arith) in
     omega arith
 
 pub jxl_laws : RecordedLaws 12 true 20 jxl jxl_boxes

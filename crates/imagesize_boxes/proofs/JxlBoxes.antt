@@ -29,12 +29,14 @@ use Rattle.imagesize_source.specs.Numbers.{number, little}
 -- the size by too few bytes, by others than the signature, and by its bits as a number
 pub size_short : (all : List ℕ) (len : ℕ) → len < 2 → jxl_size (take len all) ≡ Err CorruptedImage
 unfolding jxl_size
-size_short all len short = let long = length-take len all in let test : ltb (length (take len all)) 2 ≡ true = grind (arith, nat_tests) in rw test refl
+size_short all len short = let long = length-take len all in let test : ltb (length (take len all)) 2 ≡ true =
+    grind (arith, nat_tests) in rw test refl
 
 taken_signature : (all : List ℕ) (len : ℕ) → 2 ≤ len → has_signature (take len all) ≡ has_signature all
 taken_signature all len enough = rw (get_or-take len all 0 0 (omega arith), get_or-take len all 1 0 (omega arith)) refl
 
-pub size_unsigned : (all : List ℕ) (len : ℕ) → 2 ≤ len → len ≤ length all → has_signature all ≡ false → jxl_size (take len all) ≡ Err (IoError InvalidJxlSignature)
+pub size_unsigned : (all : List ℕ) (len : ℕ) → 2 ≤ len → len ≤ length all → has_signature all ≡ false → jxl_size (take len all)
+    ≡ Err (IoError InvalidJxlSignature)
 unfolding jxl_size
 size_unsigned all len enough within other =
     let long = length-take-le len all within in
@@ -42,7 +44,8 @@ size_unsigned all len enough within other =
     let sign : has_signature (take len all) ≡ false = taken_signature all len enough ∙ other in
     rw (test, sign) refl
 
-pub size_signed : (all : List ℕ) (len n count : ℕ) → 2 ≤ len → len ≤ length all → has_signature all ≡ true → ((i : ℕ) → get_or all i 0 < 256) → n ≡ number Little all → count ≡ 8 * len → jxl_size (take len all) ≡ found_in n count jxl_header
+pub size_signed : (all : List ℕ) (len n count : ℕ) → 2 ≤ len → len ≤ length all → has_signature all ≡ true
+    → ((i : ℕ) → get_or all i 0 < 256) → n ≡ number Little all → count ≡ 8 * len → jxl_size (take len all) ≡ found_in n count jxl_header
 unfolding jxl_size number
 size_signed all len n count enough within is small sums counts =
     let long = length-take-le len all within in
@@ -59,35 +62,49 @@ size_signed all len n count enough within is small sums counts =
 abbrev pub Says : Type 0
 Says = Layout (Said (List ℕ) (List ℕ))
 
-pub by_checked : (P : Says → Type 0) (place : ℕ) (head : BoxHead) (f : BoxHead → Says) → ((e : ImageError) → P (refuse e)) → (place + head.size < 2 ^ 64 → (0 < head.size → head.length ≤ head.size) → P (f head)) → P (bind (answer (box_checked place head)) f)
+pub by_checked : (P : Says → Type 0) (place : ℕ) (head : BoxHead) (f : BoxHead → Says) → ((e : ImageError) → P (refuse e))
+    → (place + head.size < 2 ^ 64 → (0 < head.size → head.length ≤ head.size) → P (f head)) → P (bind (answer (box_checked place head)) f)
 by_checked P place head f out on =
     on_test (λ r. P (bind (answer r) f)) (ltb (2 ^ 64 - 1) (place + head.size)) (Err CorruptedImage) _ (λ _. out CorruptedImage)
-    (λ within. on_test (λ r. P (bind (answer r) f)) (not (eqb head.size 0) && ltb head.size head.length) (Err (IoError (InvalidJxlBoxSize head.tag head.size))) (Ok head) (λ _. out (IoError (InvalidJxlBoxSize head.tag head.size)))
+    (λ within. on_test (λ r. P (bind (answer r) f)) (not (eqb head.size 0) && ltb head.size head.length)
+        (Err (IoError (InvalidJxlBoxSize head.tag head.size))) (Ok head) (λ _. out (IoError (InvalidJxlBoxSize head.tag head.size)))
     (λ whole. on (grind (arith, nat_tests)) (λ some. grind (arith, nat_tests))))
 
 pub by_head : (P : Says → Type 0) (place : ℕ) (front : List ℕ) (f : BoxHead → Says)
     → P (field Big (place + 8) 8 (λ size. bind (answer (box_checked place (record { tag = drop 4 front; size = size; length = 16 }))) f))
     → P (bind (answer (box_checked place (record { tag = drop 4 front; size = number Big (take 4 front); length = 8 }))) f)
-    → P (bind (cond (eqb (number Big (take 4 front)) 1) (field Big (place + 8) 8 (λ size. answer (box_checked place (record { tag = drop 4 front; size = size; length = 16 })))) (answer (box_checked place (record { tag = drop 4 front; size = number Big (take 4 front); length = 8 })))) f)
+    → P (bind (cond (eqb (number Big (take 4 front)) 1)
+        (field Big (place + 8) 8 (λ size. answer (box_checked place (record { tag = drop 4 front; size = size; length = 16 }))))
+        (answer (box_checked place (record { tag = drop 4 front; size = number Big (take 4 front); length = 8 })))) f)
 by_head P place front f long short =
-    on_test (λ t. P (bind t f)) (eqb (number Big (take 4 front)) 1) (field Big (place + 8) 8 (λ size. answer (box_checked place (record { tag = drop 4 front; size = size; length = 16 })))) (answer (box_checked place (record { tag = drop 4 front; size = number Big (take 4 front); length = 8 })))
+    on_test (λ t. P (bind t f)) (eqb (number Big (take 4 front)) 1)
+        (field Big (place + 8) 8 (λ size. answer (box_checked place (record { tag = drop 4 front; size = size; length = 16 }))))
+        (answer (box_checked place (record { tag = drop 4 front; size = number Big (take 4 front); length = 8 })))
     (λ _. long) (λ _. short)
 
-pub by_piece : (P : Says → Type 0) (place k : ℕ) (f : List ℕ → Says) → (k ≡ 0 → P (f [])) → (0 < k → P (there place k f)) → P (bind (piece_at place k) f)
+pub by_piece : (P : Says → Type 0) (place k : ℕ) (f : List ℕ → Says) → (k ≡ 0 → P (f [])) → (0 < k → P (there place k f))
+    → P (bind (piece_at place k) f)
 unfolding piece_at
 by_piece P place k f none some =
-    on_test (λ t. P (bind t f)) (eqb k 0) (done []) (there place k (λ piece. done piece)) (λ is. none (grind (arith, nat_tests))) (λ is. some (grind (arith, nat_tests)))
+    on_test (λ t. P (bind t f)) (eqb k 0) (done []) (there place k (λ piece. done piece)) (λ is. none (grind (arith, nat_tests)))
+        (λ is. some (grind (arith, nat_tests)))
 
-pub by_end : (P : Said (List ℕ) (List ℕ) → Type 0) (held : List ℕ) (place : ℕ) (head : BoxHead) (piece : List ℕ) → P (Decided (held ++ piece)) → (0 < head.size → P (Next piece (place + head.size))) → P (said_behind held place head piece)
-by_end P held place head piece last next = on_test P (eqb head.size 0) (Decided (held ++ piece)) (Next piece (place + head.size)) (λ _. last) (λ is. next (grind (arith, nat_tests)))
+pub by_end : (P : Said (List ℕ) (List ℕ) → Type 0) (held : List ℕ) (place : ℕ) (head : BoxHead) (piece : List ℕ)
+    → P (Decided (held ++ piece)) → (0 < head.size → P (Next piece (place + head.size))) → P (said_behind held place head piece)
+by_end P held place head piece last next = on_test P (eqb head.size 0) (Decided (held ++ piece)) (Next piece (place + head.size))
+    (λ _. last) (λ is. next (grind (arith, nat_tests)))
 
-pub by_partial : (P : Said (List ℕ) (List ℕ) → Type 0) (held : List ℕ) (place : ℕ) (head : BoxHead) (index piece : List ℕ) → P (Decided (held ++ piece)) → (0 < head.size → P (Next piece (place + head.size))) → P (partial_said held place head index piece)
+pub by_partial : (P : Said (List ℕ) (List ℕ) → Type 0) (held : List ℕ) (place : ℕ) (head : BoxHead) (index piece : List ℕ)
+    → P (Decided (held ++ piece)) → (0 < head.size → P (Next piece (place + head.size))) → P (partial_said held place head index piece)
 by_partial P held place head index piece last next =
-    on_test P (eqb (length held + length piece) 16 || leb 0x80 (slice_index index 0)) (Decided (held ++ piece)) (said_behind held place head piece) (λ _. last)
+    on_test P (eqb (length held + length piece) 16 || leb 0x80 (slice_index index 0)) (Decided (held ++ piece))
+        (said_behind held place head piece) (λ _. last)
     (λ _. by_end P held place head piece last next)
 
 pub by_content : (P : Says → Type 0) (held : List ℕ) (place : ℕ) (head : BoxHead) → P (codestream_box place head) → P (refuse end_of_input)
-    → (4 ≤ box_room head → P (bytes (place + head.length) 4 (λ index. bind (piece_at (place + (head.length + 4)) (min (box_room head - 4) (16 - length held))) (λ piece. done (partial_said held place head index piece)))))
+    → (4 ≤ box_room head → P (bytes (place + head.length) 4
+        (λ index. bind (piece_at (place + (head.length + 4)) (min (box_room head - 4) (16 - length held)))
+        (λ piece. done (partial_said held place head index piece)))))
     → P (done (said_behind held place head [])) → P (box_content held place head)
 by_content P held place head whole none partial other =
     on_test P (begins (codes "jxlc") head.tag) (codestream_box place head) _ (λ _. whole)
@@ -98,9 +115,11 @@ content_tells : (held : List ℕ) (place : ℕ) (head : BoxHead) → Tells (λ p
 content_tells held place head =
     let End : Said (List ℕ) (List ℕ) → Type 0 = λ s. Tells (λ p. place < p) (done s) in
     by_content (Tells (λ p. place < p)) held place head
-    (by_piece (Tells (λ p. place < p)) (place + head.length) (min 16 (box_room head)) (λ front. done (Decided front)) (λ _. tt) (λ _ front. tt))
+    (by_piece (Tells (λ p. place < p)) (place + head.length) (min 16 (box_room head)) (λ front. done (Decided front)) (λ _. tt)
+        (λ _ front. tt))
     tt
-    (λ _ index. by_piece (Tells (λ p. place < p)) (place + (head.length + 4)) (min (box_room head - 4) (16 - length held)) (λ piece. done (partial_said held place head index piece))
+    (λ _ index. by_piece (Tells (λ p. place < p)) (place + (head.length + 4)) (min (box_room head - 4) (16 - length held))
+        (λ piece. done (partial_said held place head index piece))
     (λ _. by_partial End held place head index [] tt (λ some. omega arith))
     (λ _ piece. by_partial End held place head index piece tt (λ some. omega arith)))
     (by_end End held place head [] tt (λ some. omega arith))
@@ -109,8 +128,12 @@ pub jxl_advances : (d : List ℕ) → Advances jxl_chain d
 unfolding box_head
 jxl_advances = advances jxl_chain
     (λ pieces place front. by_head (Tells (λ p. place < p)) place front (box_content (concat pieces) place)
-    (λ size. by_checked (Tells (λ p. place < p)) place (record { tag = drop 4 front; size = size; length = 16 }) (box_content (concat pieces) place) (λ e. tt) (λ _ _. content_tells (concat pieces) place (record { tag = drop 4 front; size = size; length = 16 })))
-    (by_checked (Tells (λ p. place < p)) place (record { tag = drop 4 front; size = number Big (take 4 front); length = 8 }) (box_content (concat pieces) place) (λ e. tt) (λ _ _. content_tells (concat pieces) place (record { tag = drop 4 front; size = number Big (take 4 front); length = 8 }))))
+    (λ size. by_checked (Tells (λ p. place < p)) place (record { tag = drop 4 front; size = size; length = 16 })
+        (box_content (concat pieces) place) (λ e. tt) (λ _ _. content_tells (concat pieces) place
+        (record { tag = drop 4 front; size = size; length = 16 })))
+    (by_checked (Tells (λ p. place < p)) place (record { tag = drop 4 front; size = number Big (take 4 front); length = 8 })
+        (box_content (concat pieces) place) (λ e. tt) (λ _ _. content_tells (concat pieces) place
+        (record { tag = drop 4 front; size = number Big (take 4 front); length = 8 }))))
     (λ pieces place. (omega arith, omega arith))
 
 -- how far a walk has come: behind boxes with these bytes
@@ -120,18 +143,25 @@ JxlWalks a b place front = Walks jxl_chain (λ pieces. concat pieces ≡ front) 
 pub walk_start : (a : State) → JxlWalks a a 12 []
 walk_start a = walks_start jxl_chain (λ pieces. concat pieces ≡ []) a refl
 
-box_as : {b end : State} {r : Result (Said (List ℕ) (List ℕ)) ImageError} (place : ℕ) (front : List ℕ) → Runs b end r (over b.held.input (jxl_box front place)) → (pieces : List (List ℕ)) → concat pieces ≡ front → Runs b end r (over b.held.input (jxl_box (concat pieces) place))
+box_as : {b end : State} {r : Result (Said (List ℕ) (List ℕ)) ImageError} (place : ℕ) (front : List ℕ)
+    → Runs b end r (over b.held.input (jxl_box front place)) → (pieces : List (List ℕ)) → concat pieces ≡ front
+    → Runs b end r (over b.held.input (jxl_box (concat pieces) place))
 box_as {b} {end} {r} place front run pieces is = subst (λ held. Runs b end r (over b.held.input (jxl_box held place))) (sym is) run
 
-pub walk_on : {a b end : State} (place next : ℕ) (front piece : List ℕ) → JxlWalks a b place front → Runs b end (Ok (Next piece next)) (over b.held.input (jxl_box front place)) → JxlWalks a end next (front ++ piece)
+pub walk_on : {a b end : State} (place next : ℕ) (front piece : List ℕ) → JxlWalks a b place front → Runs b end (Ok (Next piece next))
+    (over b.held.input (jxl_box front place)) → JxlWalks a end next (front ++ piece)
 walk_on place next front piece w run =
-    walks_on jxl_chain jxl_advances (λ pieces. concat pieces ≡ front) w (λ pieces. concat pieces ≡ front ++ piece) piece next (box_as place front run)
-    (λ pieces is. concat-append pieces (piece ∷ []) ∙ ap (λ rest. concat pieces ++ rest) (append-nil piece) ∙ ap (λ held. held ++ piece) is)
+    walks_on jxl_chain jxl_advances (λ pieces. concat pieces ≡ front) w (λ pieces. concat pieces ≡ front ++ piece) piece next
+        (box_as place front run)
+    (λ pieces is. concat-append pieces (piece ∷ []) ∙ ap (λ rest. concat pieces ++ rest) (append-nil piece) ∙ ap (λ held. held ++ piece)
+        is)
 
-pub walk_stop : {a b end : State} (place : ℕ) (front whole : List ℕ) → JxlWalks a b place front → Runs b end (Ok (Decided whole)) (over b.held.input (jxl_box front place)) → Runs a end (Ok whole) (chain_at jxl_chain a.held.input)
+pub walk_stop : {a b end : State} (place : ℕ) (front whole : List ℕ) → JxlWalks a b place front → Runs b end (Ok (Decided whole))
+    (over b.held.input (jxl_box front place)) → Runs a end (Ok whole) (chain_at jxl_chain a.held.input)
 walk_stop place front whole w run = walks_stop jxl_chain jxl_advances (λ pieces. concat pieces ≡ front) w whole (box_as place front run)
 
-pub walk_out : {a b end : State} (place : ℕ) (front : List ℕ) (e : ImageError) → JxlWalks a b place front → Runs b end (Err e) (over b.held.input (jxl_box front place)) → Runs {X = List ℕ} a end (Err e) (chain_at jxl_chain a.held.input)
+pub walk_out : {a b end : State} (place : ℕ) (front : List ℕ) (e : ImageError) → JxlWalks a b place front
+    → Runs b end (Err e) (over b.held.input (jxl_box front place)) → Runs {X = List ℕ} a end (Err e) (chain_at jxl_chain a.held.input)
 walk_out place front e w run = walks_out jxl_chain jxl_advances (λ pieces. concat pieces ≡ front) w e (box_as place front run)
 
 -- The size by a codestream.
@@ -148,14 +178,16 @@ plain_found : {X : Type 0} (list : List ℕ) (t : Fields X) → Plainly (found_b
 unfolding field_at
 plain_found list (found x) = tt
 plain_found list (bits from count f) =
-    on_test (λ r. Plainly (with_found r (λ n. found_by (field_at list) (f n)))) (leb (from + count) (length list)) (Ok (binary (take count (drop from list)))) (Err CorruptedImage)
+    on_test (λ r. Plainly (with_found r (λ n. found_by (field_at list) (f n)))) (leb (from + count) (length list))
+        (Ok (binary (take count (drop from list)))) (Err CorruptedImage)
     (λ _. plain_found list (f (binary (take count (drop from list))))) (λ _. plain_corrupted)
 
 plain_size : (front : List ℕ) → Plainly (jxl_size front)
 unfolding jxl_size
 plain_size front =
     on_test Plainly (ltb (length front) 2) (Err CorruptedImage) _ (λ _. plain_corrupted)
-    (λ _. on_test Plainly (has_signature front) (found_by (field_at (bits_of front)) jxl_header) (Err (IoError InvalidJxlSignature)) (λ _. plain_found (bits_of front) jxl_header)
+    (λ _. on_test Plainly (has_signature front) (found_by (field_at (bits_of front)) jxl_header) (Err (IoError InvalidJxlSignature))
+        (λ _. plain_found (bits_of front) jxl_header)
     (λ _. (refl, λ b. record { budget = tt; memory = λ e. absurd cc })))
 
 sized_by : {b : State} (r : Result ImageSize ImageError) → Sound b → Plainly r → Runs b b r (record { answer = r; marks = [] })
@@ -163,6 +195,8 @@ sized_by {b} (Ok size) sound plain = reads_nothing b (Ok size) sound refl tt
 sized_by {b} (Err e) sound plain = reads_nothing b (Err e) sound plain.0 (plain.1 b)
 
 -- the size by a codestream that was found
-pub sized : {a b : State} (front : List ℕ) → Runs a b (Ok front) (jxl_codestream a.held.input) → Runs a b (jxl_size front) (jxl a.held.input)
+pub sized : {a b : State} (front : List ℕ) → Runs a b (Ok front) (jxl_codestream a.held.input) → Runs a b (jxl_size front)
+    (jxl a.held.input)
 sized {a} {b} front run =
-    runs_then (jxl_codestream a.held.input) (λ found held. record { answer = jxl_size found; marks = [] }) run (sized_by (jxl_size front) run.sound_after (plain_size front))
+    runs_then (jxl_codestream a.held.input) (λ found held. record { answer = jxl_size found; marks = [] }) run
+        (sized_by (jxl_size front) run.sound_after (plain_size front))

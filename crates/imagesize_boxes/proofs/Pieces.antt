@@ -17,10 +17,12 @@ unfolding piece_at
 piece_none {a} place sound = reads_nothing a (Ok []) sound refl tt
 
 -- bytes that were read
-pub piece_some : {a b : State} {r : Result (List ℕ) ImageError} (place k n : ℕ) → k ≢ 0 → n ≡ k → Runs a b r (part_read a.held.input place n) → Runs a b r (over a.held.input (piece_at place k))
+pub piece_some : {a b : State} {r : Result (List ℕ) ImageError} (place k n : ℕ) → k ≢ 0 → n ≡ k
+    → Runs a b r (part_read a.held.input place n) → Runs a b r (over a.held.input (piece_at place k))
 unfolding piece_at
 piece_some {a} {b} {r} place k n some long h =
     let test : eqb k 0 ≡ false = grind (arith, nat_tests) in
     let reads : over a.held.input (cond (eqb k 0) (done []) (there place k (λ piece. done piece))) ≡ part_read a.held.input place k =
-    rw test (ap (λ marks. record { answer = Ok (part a.held.input place k); marks = marks }) (append-nil (span_of a.held.input place k))) in
+    rw test (ap (λ marks. record { answer = Ok (part a.held.input place k); marks = marks }) (append-nil (span_of a.held.input place k)))
+        in
     subst (λ w. Runs a b r w) (sym reads) (subst (λ m. Runs a b r (part_read a.held.input place m)) long h)

@@ -50,7 +50,8 @@ is_general brand = list_any (λ general. bytes_eq brand general) general_brands
 -- behind the major brand and its version: the first compatible brand, or where that is general the second
 abbrev pub compatible_compression : Option (List ℕ) → Compression
 compatible_compression None = Unknown
-compatible_compression (Some more) = if is_general (four_at 4 more) then brand_compression (four_at 8 more) else brand_compression (four_at 4 more)
+compatible_compression (Some more) = if is_general (four_at 4 more) then brand_compression (four_at 8 more) else brand_compression
+    (four_at 4 more)
 
 -- the major brand, or where that is general the compatible ones behind these twelve bytes
 unfoldable pub heif_compression : ℕ → List ℕ → Layout Compression
@@ -128,7 +129,8 @@ no_pixels = record { width = 0; height = 0 }
 
 -- the first of greatest area, and no pixels where no extents have any
 abbrev pub first_largest : List ImageSize → ImageSize
-first_largest sizes = if greatest_area sizes == 0 then no_pixels else unwrap_or (find (λ size. area_of size == greatest_area sizes) sizes) no_pixels
+first_largest sizes = if greatest_area sizes == 0 then no_pixels else unwrap_or (find (λ size. area_of size == greatest_area sizes)
+    sizes) no_pixels
 
 abbrev pub largest_extents : List ImageSize → Option ImageSize
 largest_extents [] = None
@@ -209,13 +211,15 @@ begun (Err e) count = 0
 -- those of the three searches, and of the list
 abbrev pub boxes_in_iprp : FoundBox → List ℕ → ℕ
 boxes_in_iprp iprp d =
-    records (search_for (codes "ipco") (iprp.place + 8)) d + begun (chain_at (search_for (codes "ipco") (iprp.place + 8)) d).answer (λ ipco.
+    records (search_for (codes "ipco") (iprp.place + 8)) d + begun (chain_at (search_for (codes "ipco") (iprp.place + 8)) d).answer
+        (λ ipco.
     records (properties ipco.size (ipco.place + 8)) d)
 
 abbrev pub boxes_in_meta : FoundBox → List ℕ → ℕ
 boxes_in_meta meta d =
     begun (bytes_at d (meta.place + 8) 4) (λ version.
-    records (search_for (codes "iprp") (meta.place + 12)) d + begun (chain_at (search_for (codes "iprp") (meta.place + 12)) d).answer (λ iprp.
+    records (search_for (codes "iprp") (meta.place + 12)) d + begun (chain_at (search_for (codes "iprp") (meta.place + 12)) d).answer
+        (λ iprp.
     boxes_in_iprp iprp d))
 
 abbrev pub heif_boxes : List ℕ → ℕ

@@ -38,7 +38,8 @@ side_bits selector = if selector == 0 then 9 else if selector == 1 then 13 else 
 
 -- a side of any other: a selector, then the side less one
 abbrev pub large_side : ℕ → Fields Side
-large_side from = bits from 2 (λ selector. bits (from + 2) (side_bits selector) (λ less_one. found (record { length = less_one + 1; end = from + 2 + side_bits selector })))
+large_side from = bits from 2 (λ selector. bits (from + 2) (side_bits selector)
+    (λ less_one. found (record { length = less_one + 1; end = from + 2 + side_bits selector })))
 
 abbrev pub side : Bool → ℕ → Fields Side
 side small from = if small then small_side from else large_side from
@@ -67,7 +68,8 @@ exchanged from = bits from 1 (λ all_default.
     else bits (from + 1) 1 (λ extra. if extra == 0 then found false else bits (from + 2) 3 (λ orientation. found (nat_le 4 orientation))))
 
 abbrev pub size_of_sides : Bool → ℕ → ℕ → ImageSize
-size_of_sides exchanged width height = if exchanged then record { width = height; height = width } else record { width = width; height = height }
+size_of_sides exchanged width height = if exchanged then record { width = height; height = width } else record { width = width; height =
+    height }
 
 -- whether the image is small, its height, its width and its orientation, behind the signature
 abbrev pub jxl_header : Fields ImageSize
@@ -103,7 +105,8 @@ answer (Err e) = refuse e
 -- the size and the tag; the size 1 stands for one of eight bytes behind them (ISO/IEC 14496-12, section 4.2)
 unfoldable pub box_head : ℕ → Layout BoxHead
 box_head place = bytes place 8 (λ head.
-    if number Big (take 4 head) == 1 then field Big (place + 8) 8 (λ size. answer (box_checked place (record { tag = drop 4 head; size = size; length = 16 })))
+    if number Big (take 4 head) == 1 then field Big (place + 8) 8
+        (λ size. answer (box_checked place (record { tag = drop 4 head; size = size; length = 16 })))
     else answer (box_checked place (record { tag = drop 4 head; size = number Big (take 4 head); length = 8 })))
 
 -- how many bytes of content a box has; of an open one sixteen are enough
@@ -120,14 +123,16 @@ codestream_box place head = bind (piece_at (place + head.length) (min 16 (box_ro
 
 -- what a piece says: it is the last wanted where it is the sixteenth byte's, or where the high bit of its index is set
 abbrev pub partial_said : List ℕ → ℕ → BoxHead → List ℕ → List ℕ → Said (List ℕ) (List ℕ)
-partial_said held place head index piece = if length held + length piece == 16 || nat_le 0x80 (slice_index index 0) then Decided (held ++ piece) else said_behind held place head piece
+partial_said held place head index piece = if length held + length piece == 16 || nat_le 0x80 (slice_index index 0) then Decided
+    (held ++ piece) else said_behind held place head piece
 
 -- a part of the codestream behind its index (box `jxlp`)
 abbrev pub partial_box : List ℕ → ℕ → BoxHead → Layout (Said (List ℕ) (List ℕ))
 partial_box held place head =
     if nat_lt (box_room head) 4 then refuse end_of_input
     else bytes (place + head.length) 4 (λ index.
-    bind (piece_at (place + (head.length + 4)) (min (box_room head - 4) (16 - length held))) (λ piece. done (partial_said held place head index piece)))
+    bind (piece_at (place + (head.length + 4)) (min (box_room head - 4) (16 - length held)))
+        (λ piece. done (partial_said held place head index piece)))
 
 abbrev pub box_content : List ℕ → ℕ → BoxHead → Layout (Said (List ℕ) (List ℕ))
 box_content held place head =

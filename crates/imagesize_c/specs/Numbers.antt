@@ -108,11 +108,13 @@ compression_number _ = 0
 
 -- the way to store an ATC texture of a number
 abbrev pub atc_numbered : ℕ → Option AtcCompression
-atc_numbered n = look_up ((1, Some atc.Unknown) ∷ (2, Some atc.Rgb) ∷ (3, Some atc.RgbaExplicit) ∷ (4, Some atc.RgbaInterpolated) ∷ []) None n
+atc_numbered n = look_up ((1, Some atc.Unknown) ∷ (2, Some atc.Rgb) ∷ (3, Some atc.RgbaExplicit) ∷ (4, Some atc.RgbaInterpolated) ∷ [])
+    None n
 
 -- the way to store a DDS of a number
 abbrev pub dds_numbered : ℕ → Option DdsCompression
-dds_numbered n = look_up ((1, Some dds.Unknown) ∷ (5, Some dds.Bc1) ∷ (6, Some dds.Bc2) ∷ (7, Some dds.Bc3) ∷ (8, Some dds.Bc4) ∷ (9, Some dds.Bc5) ∷ (10, Some dds.Bc6h) ∷ (11, Some dds.Bc7) ∷ (12, Some dds.Rgba32) ∷ (13, Some dds.Rgb24) ∷ []) None n
+dds_numbered n = look_up ((1, Some dds.Unknown) ∷ (5, Some dds.Bc1) ∷ (6, Some dds.Bc2) ∷ (7, Some dds.Bc3) ∷ (8, Some dds.Bc4)
+    ∷ (9, Some dds.Bc5) ∷ (10, Some dds.Bc6h) ∷ (11, Some dds.Bc7) ∷ (12, Some dds.Rgba32) ∷ (13, Some dds.Rgb24) ∷ []) None n
 
 -- the way to store a HEIF of a number
 abbrev pub heif_numbered : ℕ → Option Compression
@@ -120,17 +122,23 @@ heif_numbered n = look_up ((1, Some heif.Unknown) ∷ (14, Some heif.Av1) ∷ (1
 
 -- the way to store a PKM file of a number
 abbrev pub pkm_numbered : ℕ → Option PkmCompression
-pkm_numbered n = look_up ((1, Some pkm.Unknown) ∷ (17, Some pkm.Etc1) ∷ (18, Some pkm.Etc2) ∷ (19, Some pkm.Etc2A1) ∷ (20, Some pkm.Etc2A8) ∷ (21, Some pkm.EacR) ∷ (22, Some pkm.EacRg) ∷ (23, Some pkm.EacRSigned) ∷ (24, Some pkm.EacRgSigned) ∷ []) None n
+pkm_numbered n = look_up ((1, Some pkm.Unknown) ∷ (17, Some pkm.Etc1) ∷ (18, Some pkm.Etc2) ∷ (19, Some pkm.Etc2A1)
+    ∷ (20, Some pkm.Etc2A8) ∷ (21, Some pkm.EacR) ∷ (22, Some pkm.EacRg) ∷ (23, Some pkm.EacRSigned) ∷ (24, Some pkm.EacRgSigned) ∷ [])
+    None n
 
 -- the way to store a PowerVR texture of a number
 abbrev pub pvrtc_numbered : ℕ → Option PvrtcCompression
-pvrtc_numbered n = look_up ((1, Some pvrtc.Unknown) ∷ (25, Some pvrtc.Pvrtc2BppRgb) ∷ (26, Some pvrtc.Pvrtc2BppRgba) ∷ (27, Some pvrtc.Pvrtc4BppRgb) ∷ (28, Some pvrtc.Pvrtc4BppRgba) ∷ (29, Some pvrtc.Etc2Rgb) ∷ (30, Some pvrtc.Etc2Rgba) ∷ (31, Some pvrtc.Etc2RgbA1) ∷ (32, Some pvrtc.EacR11) ∷ (33, Some pvrtc.EacRg11) ∷ []) None n
+pvrtc_numbered n = look_up ((1, Some pvrtc.Unknown) ∷ (25, Some pvrtc.Pvrtc2BppRgb) ∷ (26, Some pvrtc.Pvrtc2BppRgba)
+    ∷ (27, Some pvrtc.Pvrtc4BppRgb) ∷ (28, Some pvrtc.Pvrtc4BppRgba) ∷ (29, Some pvrtc.Etc2Rgb) ∷ (30, Some pvrtc.Etc2Rgba)
+    ∷ (31, Some pvrtc.Etc2RgbA1) ∷ (32, Some pvrtc.EacR11) ∷ (33, Some pvrtc.EacRg11) ∷ []) None n
 
 -- the type of one compression that has a number
 abbrev pub plain_numbered : ℕ → Option ImageType
 plain_numbered n = look_up
-    ((1, Some Aseprite) ∷ (2, Some Astc) ∷ (4, Some Bmp) ∷ (8, Some Exr) ∷ (9, Some Farbfeld) ∷ (10, Some Gif) ∷ (11, Some Hdr) ∷ (13, Some Ico) ∷ (14, Some Ilbm) ∷ (15, Some Jpeg)
-    ∷ (16, Some Jxl) ∷ (17, Some Ktx2) ∷ (18, Some Pnm) ∷ (20, Some Psd) ∷ (21, Some Qoi) ∷ (22, Some Tga) ∷ (23, Some Tiff) ∷ (24, Some Vtf) ∷ (25, Some Webp) ∷ []) None n
+    ((1, Some Aseprite) ∷ (2, Some Astc) ∷ (4, Some Bmp) ∷ (8, Some Exr) ∷ (9, Some Farbfeld) ∷ (10, Some Gif) ∷ (11, Some Hdr)
+        ∷ (13, Some Ico) ∷ (14, Some Ilbm) ∷ (15, Some Jpeg)
+    ∷ (16, Some Jxl) ∷ (17, Some Ktx2) ∷ (18, Some Pnm) ∷ (20, Some Psd) ∷ (21, Some Qoi) ∷ (22, Some Tga) ∷ (23, Some Tiff)
+        ∷ (24, Some Vtf) ∷ (25, Some Webp) ∷ []) None n
 
 -- the type of a number, with the compression of a number
 abbrev pub type_numbered : ℕ → ℕ → Option ImageType

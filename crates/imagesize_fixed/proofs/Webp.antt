@@ -12,7 +12,8 @@ use Rattle.imagesize_source.proofs.Tests.{on_test}
 use Rattle.imagesize_source.proofs.Way.{FixedLaws}
 
 -- what holds of each form
-by_form : (P : Layout ImageSize → Type 0) (letter : ℕ) → P lossy_webp → P lossless_webp → P extended_webp → P (refuse (IoError InvalidVp8Tag)) → P (webp_form letter)
+by_form : (P : Layout ImageSize → Type 0) (letter : ℕ) → P lossy_webp → P lossless_webp → P extended_webp
+    → P (refuse (IoError InvalidVp8Tag)) → P (webp_form letter)
 by_form P letter lossy lossless extended none =
     on_test P (eqb letter 0x20) lossy_webp _ (λ _. lossy)
     (λ _. on_test P (eqb letter 0x4C) lossless_webp _ (λ _. lossless)
@@ -20,6 +21,7 @@ by_form P letter lossy lossless extended none =
 
 pub webp_laws : FixedLaws 12 webp
 webp_laws = record {
-  few = (omega arith, λ tag. by_form (AtMost 25) (slice_index tag 3) (omega arith, λ x. (omega arith, λ y. tt)) (omega arith, λ x. tt) (omega arith, λ x. (omega arith, λ y. tt)) tt);
+  few = (omega arith, λ tag. by_form (AtMost 25) (slice_index tag 3) (omega arith, λ x. (omega arith, λ y. tt)) (omega arith, λ x. tt)
+      (omega arith, λ x. (omega arith, λ y. tt)) tt);
   plain = λ tag. by_form Plain (slice_index tag 3) (λ x y. tt) (λ x. tt) (λ x y. tt) tt;
 }

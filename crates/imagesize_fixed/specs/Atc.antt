@@ -15,7 +15,8 @@ use Rattle.imagesize_source.specs.Layout.Layout.{«done»}
 
 -- a PKM file of an ATC data type
 unfoldable pub is_atc : List ℕ → Bool
-is_atc head = is_pkm head && (stands_at 6 (0x8C ∷ 0x92 ∷ []) head || stands_at 6 (0x8C ∷ 0x93 ∷ []) head || stands_at 6 (0x87 ∷ 0xEE ∷ []) head)
+is_atc head = is_pkm head && (stands_at 6 (0x8C ∷ 0x92 ∷ []) head || stands_at 6 (0x8C ∷ 0x93 ∷ []) head || stands_at 6
+    (0x87 ∷ 0xEE ∷ []) head)
 
 -- how the pixels of a data type are stored
 abbrev pub atc_data_types : List (ℕ × AtcCompression)

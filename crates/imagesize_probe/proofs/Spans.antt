@@ -17,7 +17,8 @@ use Rattle.imagesize_source.specs.declared.error.ImageError.{ImageError}
 use Rattle.imagesize_source.specs.declared.span.Span.{Span}
 
 -- what was written at first, and then
-pub appended : (a b c : Option (List ℕ)) (first second whole : List ℕ) → Appends a b first → Appends b c second → whole ≡ first ++ second → Appends a c whole
+pub appended : (a b c : Option (List ℕ)) (first second whole : List ℕ) → Appends a b first → Appends b c second → whole ≡ first ++ second
+    → Appends a c whole
 appended None b c first second whole _ _ _ = tt
 appended (Some a) None c first second whole wrote _ _ = absurd wrote
 appended (Some a) (Some b) None first second whole _ wrote _ = absurd wrote
@@ -36,10 +37,12 @@ span_lines_push (first ∷ spans) span = search (rules, span_lines_push spans sp
 
 -- the line of one span more was written
 pub one_span : (spans : List Span) (i : ℕ) (other : Span) (a b c : Option (List ℕ)) → i < length spans →
-    Appends a b (span_lines (take i spans)) → Appends b c (span_line (get_or spans i other)) → Appends a c (span_lines (take (i + 1) spans))
+    Appends a b (span_lines (take i spans)) → Appends b c (span_line (get_or spans i other))
+        → Appends a c (span_lines (take (i + 1) spans))
 one_span spans i other a b c there wrote more =
     let one : take (i + 1) spans ≡ take i spans ++ get_or spans i other ∷ [] = (take_at_read spans i other there).1 in
-    rw one (appended a b c (span_lines (take i spans)) (span_line (get_or spans i other)) (span_lines (take i spans ++ get_or spans i other ∷ []))
+    rw one (appended a b c (span_lines (take i spans)) (span_line (get_or spans i other))
+        (span_lines (take i spans ++ get_or spans i other ∷ []))
     wrote more (span_lines_push (take i spans) (get_or spans i other)))
 
 -- of an answer that is no failure there is a line
@@ -60,7 +63,8 @@ more_behind (Some text) more old new _ wrote = wrote
 more_behind None more old new has _ = (cc)
 
 -- a size stands beside a type
-kind_there : {X : Type 0} (r : Result ImageSize ImageError) (found : Result X ImageError) → (IsOk r → IsOk found) → IsOk r → IsSome (result_ok found)
+kind_there : {X : Type 0} (r : Result ImageSize ImageError) (found : Result X ImageError) → (IsOk r → IsOk found) → IsOk r
+    → IsSome (result_ok found)
 kind_there r (Ok image) _ _ = refl
 kind_there r (Err e) typed ok = (cc (typed ok))
 

@@ -103,11 +103,14 @@ one_spans (first ∷ names) name known a b c d refused sized after (mid, sent, w
 )
 
 -- the same, with the spans or without them
-one_written : (spans : Bool) (names : List (List ℕ)) (name : List ℕ) (known : Option Files) (a b c d : Option (List ℕ)) (refused sized after : Bool) →
+one_written : (spans : Bool) (names : List (List ℕ)) (name : List ℕ) (known : Option Files) (a b c d : Option (List ℕ))
+    (refused sized after : Bool) →
     WritesAll spans known names a b refused → WritesOne spans known name b c sized → Keeps c d → after ≡ (refused || not sized) →
     WritesAll spans known (names ++ name ∷ []) a d after
-one_written false names name known a b c d refused sized after before wrote kept so = one_line names name known a b c d refused sized after before wrote kept so
-one_written true names name known a b c d refused sized after before wrote kept so = one_spans names name known a b c d refused sized after before wrote kept so
+one_written false names name known a b c d refused sized after before wrote kept so = one_line names name known a b c d refused sized
+    after before wrote kept so
+one_written true names name known a b c d refused sized after before wrote kept so = one_spans names name known a b c d refused sized
+    after before wrote kept so
 
 -- the lines of one name more were written, and sent on
 pub one_more : {X : Type 0} (text_of : X → List ℕ) (names : List X) (i : ℕ) (name : X) (text : List ℕ) →
@@ -117,7 +120,8 @@ pub one_more : {X : Type 0} (text_of : X → List ℕ) (names : List X) (i : ℕ
     after ≡ (refused || not sized) →
     WritesAll spans known (map text_of (take (i + 1) names)) a d after
 one_more text_of names i name text there at is spans known a b c d refused sized after before wrote kept so =
-    let more : map text_of (take (i + 1) names) ≡ map text_of (take i names) ++ text ∷ [] = one_name text_of names i name text there at is in
+    let more : map text_of (take (i + 1) names) ≡ map text_of (take i names) ++ text ∷ [] = one_name text_of names i name text
+        there at is in
     rw more (one_written spans (map text_of (take i names)) text known a b c d refused sized after before wrote kept so)
 
 -- none was written yet
@@ -132,7 +136,8 @@ shows_length : (d : List ℕ) → (16777216 < length d → 16777216 < length (ta
 shows_length d = (λ long. omega (arith, length-take 16777217 d, long), λ short. take_all 16777217 d (omega (arith, short)))
 
 -- the lines of the bytes that were read are those of all
-whole_read : (d bytes name : List ℕ) (a b : Option (List ℕ)) (sized : Bool) → bytes ≡ take 16777217 d → ReportsWhole bytes name a b sized → ReportsWhole d name a b sized
+whole_read : (d bytes name : List ℕ) (a b : Option (List ℕ)) (sized : Bool) → bytes ≡ take 16777217 d → ReportsWhole bytes name a b sized
+    → ReportsWhole d name a b sized
 whole_read d bytes name a b sized is wrote = record {
   long = λ long. wrote.long (rw is ((shows_length d).0 long));
   whole = λ short.

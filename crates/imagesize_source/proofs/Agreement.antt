@@ -61,8 +61,10 @@ part_part d place n k few = take-take n k (drop place d) few
 pub same_part : (d e : List ℕ) (place k : ℕ) → Agrees d e (span_of d place k) → part e place k ≡ part d place k
 unfolding part span_of
 same_part d e place k a =
-    let long : length (take k (drop place e)) ≡ min k (length e - place) = length-take k (drop place e) ∙ ap (min k) (length-drop place e) in
-    let long' : length (take k (drop place d)) ≡ min k (length d - place) = length-take k (drop place d) ∙ ap (min k) (length-drop place d) in
+    let long : length (take k (drop place e)) ≡ min k (length e - place) = length-take k (drop place e) ∙ ap (min k)
+        (length-drop place e) in
+    let long' : length (take k (drop place d)) ≡ min k (length d - place) = length-take k (drop place d) ∙ ap (min k)
+        (length-drop place d) in
     ext_get_or 0 (take k (drop place e)) (take k (drop place d))
     (long ∙ ap (λ n. min k (n - place)) a.as_long ∙ sym long')
     (λ i h.
@@ -73,28 +75,33 @@ same_part d e place k a =
     ∙ sym (get_or-take k (drop place d) i 0 small ∙ get_or-drop place d i 0))
 
 -- and the first of them
-same_first : (d e : List ℕ) (place n k : ℕ) → n ≤ length (part d place k) → Agrees d e (span_at place n) → take n (part e place k) ≡ take n (part d place k)
+same_first : (d e : List ℕ) (place n k : ℕ) → n ≤ length (part d place k) → Agrees d e (span_at place n) → take n (part e place k)
+    ≡ take n (part d place k)
 same_first d e place n k few a =
     let long = part_length d place k in
     let span : span_of d place n ≡ span_at place n = whole_span d place n (omega arith) in
-    part_part e place n k (omega arith) ∙ same_part d e place n (subst (λ s. Agrees d e s) (sym span) a) ∙ sym (part_part d place n k (omega arith))
+    part_part e place n k (omega arith) ∙ same_part d e place n (subst (λ s. Agrees d e s) (sym span) a)
+        ∙ sym (part_part d place n k (omega arith))
 
 -- the same of bytes that are all there, and of a number
 pub same_bytes : (d e : List ℕ) (place k : ℕ) → Agrees d e (span_of d place k) → bytes_at e place k ≡ bytes_at d place k
 unfolding bytes_at
 same_bytes d e place k a = rw (a.as_long, same_part d e place k a) refl
 
-pub same_number : (d e : List ℕ) (order : Endian) (place k : ℕ) → Agrees d e (span_of d place k) → number_at e order place k ≡ number_at d order place k
+pub same_number : (d e : List ℕ) (order : Endian) (place k : ℕ) → Agrees d e (span_of d place k) → number_at e order place k
+    ≡ number_at d order place k
 unfolding number_at
 same_number d e order place k a = ap (seen (number order)) (same_bytes d e place k a)
 
 -- the same of a text, which sees no more than its own bytes
-same_text : (d e : List ℕ) (t : Text) (place k : ℕ) → Agrees d e (span_at place (length (text_part d t place k))) → text_part e t place k ≡ text_part d t place k
+same_text : (d e : List ℕ) (t : Text) (place k : ℕ) → Agrees d e (span_at place (length (text_part d t place k))) → text_part e t place k
+    ≡ text_part d t place k
 unfolding text_part
 same_text d e t place k a =
     let split = front_first t (part d place k) in
     let n : ℕ = length (text_front t (part d place k)) in
-    let first : take n (part d place k) ≡ text_front t (part d place k) = ap (take n) (sym split.1) ∙ take-append_seam (text_front t (part d place k)) split.0 in
+    let first : take n (part d place k) ≡ text_front t (part d place k) = ap (take n) (sym split.1) ∙ take-append_seam
+        (text_front t (part d place k)) split.0 in
     front_same t (part d place k) (part e place k)
     (part_length e place k ∙ ap (λ m. min k (m - place)) a.as_long ∙ sym (part_length d place k))
     (same_first d e place n k (front_length t (part d place k)) a ∙ first)
@@ -106,12 +113,14 @@ same_reading d e (PartOf k) place a = rw (same_span d e place k a.as_long, same_
 same_reading d e (TextOf t k) place a = ap (λ bs. record { answer = Ok bs; marks = span_at place (length bs) }) (same_text d e t place k a)
 
 -- what goes on from an answer rests on its spans
-pub agrees_first : {d e : List ℕ} {X Y : Type 0} (spans : List Span) (r : Result X ImageError) (f : X → Reads Y) → Agrees d e (onward spans r f).marks → Agrees d e spans
+pub agrees_first : {d e : List ℕ} {X Y : Type 0} (spans : List Span) (r : Result X ImageError) (f : X → Reads Y)
+    → Agrees d e (onward spans r f).marks → Agrees d e spans
 agrees_first spans (Ok x) f a = agrees-left spans (f x).marks a
 agrees_first spans (Err e) f a = a
 
 -- what goes on is the same, where it is so behind each answer
-pub onward_local : {d e : List ℕ} {X Y : Type 0} (spans : List Span) (r : Result X ImageError) (f g : X → Reads Y) → Agrees d e (onward spans r f).marks → ((x : X) → Agrees d e (f x).marks → g x ≡ f x) → onward spans r g ≡ onward spans r f
+pub onward_local : {d e : List ℕ} {X Y : Type 0} (spans : List Span) (r : Result X ImageError) (f g : X → Reads Y)
+    → Agrees d e (onward spans r f).marks → ((x : X) → Agrees d e (f x).marks → g x ≡ f x) → onward spans r g ≡ onward spans r f
 onward_local spans (Ok x) f g a same = ap (behind spans) (same x (agrees-right spans (f x).marks a))
 onward_local spans (Err e) f g a same = refl
 
@@ -124,16 +133,19 @@ local d e (field order place k f) a =
     rw (same_span d e place k here.as_long, same_number d e order place k here)
     (onward_local (span_of d place k) (number_at d order place k) (λ v. over d (f v)) (λ v. over e (f v)) a (λ v. local d e (f v)))
 local d e (reading r place f) a =
-    let here : Agrees d e (read_of d r place).marks = agrees_first (read_of d r place).marks (read_of d r place).answer (λ bs. over d (f bs)) a in
+    let here : Agrees d e (read_of d r place).marks = agrees_first (read_of d r place).marks (read_of d r place).answer
+        (λ bs. over d (f bs)) a in
     rw (same_reading d e r place here)
-    (onward_local (read_of d r place).marks (read_of d r place).answer (λ bs. over d (f bs)) (λ bs. over e (f bs)) a (λ bs. local d e (f bs)))
+    (onward_local (read_of d r place).marks (read_of d r place).answer (λ bs. over d (f bs)) (λ bs. over e (f bs)) a
+        (λ bs. local d e (f bs)))
 
 -- a layout is local
 pub local_layout : {X : Type 0} (t : Layout X) → Local (λ d. over d t)
 local_layout t d e a = local d e t a
 
 -- readings behind readings
-pub local_then : {X Y : Type 0} (r : List ℕ → Reads X) (f : X → List ℕ → Reads Y) → Local r → ((x : X) → Local (f x)) → Local (λ d. and_then (r d) (λ x. f x d))
+pub local_then : {X Y : Type 0} (r : List ℕ → Reads X) (f : X → List ℕ → Reads Y) → Local r → ((x : X) → Local (f x))
+    → Local (λ d. and_then (r d) (λ x. f x d))
 local_then r f first rest d e a =
     let same : r e ≡ r d = first d e (agrees_first (r d).marks (r d).answer (λ x. f x d) a) in
     ap (λ w. and_then w (λ x. f x e)) same ∙ onward_local (r d).marks (r d).answer (λ x. f x d) (λ x. f x e) a (λ x. rest x d e)

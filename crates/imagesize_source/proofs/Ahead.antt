@@ -10,5 +10,6 @@ abbrev pub Ahead : {C X : Type 0} → ℕ → Layout (Said C X) → Type 0
 Ahead q t = Onto (said_to (λ _. None)) q t
 
 -- A chain of such records is read from at most the bytes behind its first place.
-pub chain_ahead : {C X : Type 0} (c : Chain C X) (d : List ℕ) → Advances c d → ((held : List C) (place : ℕ) → Ahead place (c.said held place)) → total (chain_at c d).marks ≤ length d - c.first
+pub chain_ahead : {C X : Type 0} (c : Chain C X) (d : List ℕ) → Advances c d
+    → ((held : List C) (place : ℕ) → Ahead place (c.said held place)) → total (chain_at c d).marks ≤ length d - c.first
 chain_ahead c d adv each = omega (arith, chain_onto c d (λ _. None) adv each)

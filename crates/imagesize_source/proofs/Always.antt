@@ -22,7 +22,8 @@ always P d (reading (AllOf n) place f) h = absurd h
 always P d (reading (PartOf n) place f) h = always P d (f (part d place n)) (h (part d place n))
 always P d (reading (TextOf t n) place f) h = always P d (f (text_part d t place n)) (h (text_part d t place n))
 
-pub always_bind : {X Y : Type 0} (P : Y → Type 0) (t : Layout X) (g : X → Layout Y) → Always (λ _. Unit {0}) t → ((x : X) → Always P (g x)) → Always P (bind t g)
+pub always_bind : {X Y : Type 0} (P : Y → Type 0) (t : Layout X) (g : X → Layout Y) → Always (λ _. Unit {0}) t
+    → ((x : X) → Always P (g x)) → Always P (bind t g)
 always_bind P (done x) g h next = next x
 always_bind P (refuse e) g h next = absurd h
 always_bind P (field order place n f) g h next = absurd h

@@ -56,6 +56,8 @@ big_pair d place v is =
     omega arith
 
 -- what holds behind an answer and behind a refusal holds of what goes on
-pub on_answer : {X Y : Type 0} (P : Reads Y → Type 0) (spans : List Span) (r : Result X ImageError) (f : X → Reads Y) → ((x : X) → r ≡ Ok x → P (behind spans (f x))) → ((e : ImageError) → r ≡ Err e → P (record { answer = Err e; marks = spans })) → P (onward spans r f)
+pub on_answer : {X Y : Type 0} (P : Reads Y → Type 0) (spans : List Span) (r : Result X ImageError) (f : X → Reads Y)
+    → ((x : X) → r ≡ Ok x → P (behind spans (f x))) → ((e : ImageError) → r ≡ Err e → P (record { answer = Err e; marks = spans }))
+    → P (onward spans r f)
 on_answer P spans (Ok x) f answered refused = answered x refl
 on_answer P spans (Err e) f answered refused = refused e refl

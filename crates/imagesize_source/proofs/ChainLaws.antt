@@ -18,13 +18,16 @@ module _ {C X : Type 0} (c : Chain C X) (d : List ℕ) where
   -- What holds of each record with what follows it, where it tells the place of the next, and of each with
   -- a verdict, holds of the chain from any records on.
   pub chain_induction : (P : Along C → Type 0) → Advances c d
-      → ((t : Along C) (v : C) (place : ℕ) → (next_record c d t).answer ≡ Ok (Next v place) → P (record { held = t.held ++ v ∷ []; place = place }) → P t)
+      → ((t : Along C) (v : C) (place : ℕ) → (next_record c d t).answer ≡ Ok (Next v place)
+          → P (record { held = t.held ++ v ∷ []; place = place }) → P t)
       → ((t : Along C) (r : Result X ImageError) → verdict (next_record c d t).answer ≡ Some r → P t)
       → (t : Along C) → P t
   chain_induction P adv on last t = by_fuel (length d) t (omega arith) where
-    by_record : (t : Along C) (r : Result (Said C X) ImageError) → (next_record c d t).answer ≡ r → ((u : Along C) → t.place < u.place → t.place < length d → P u) → P t
+    by_record : (t : Along C) (r : Result (Said C X) ImageError) → (next_record c d t).answer ≡ r
+        → ((u : Along C) → t.place < u.place → t.place < length d → P u) → P t
     by_record t (Ok (Decided x)) is later = last t (Ok x) (ap verdict is)
-    by_record t (Ok (Next v place)) is later = on t v place is (later (record { held = t.held ++ v ∷ []; place = place }) (adv t v place is).0 (adv t v place is).1)
+    by_record t (Ok (Next v place)) is later = on t v place is (later (record { held = t.held ++ v ∷ []; place = place })
+        (adv t v place is).0 (adv t v place is).1)
     by_record t (Err e) is later = last t (Err e) (ap verdict is)
 
     by_fuel : (k : ℕ) (t : Along C) → length d ≤ t.place + k → P t
@@ -37,15 +40,20 @@ module _ {C X : Type 0} (c : Chain C X) (d e : List ℕ) (adv : Advances c d) (a
   same_record t a = local d e (c.said t.held t.place) a
 
   -- from some records on
-  pub chain_local_from : (t : Along C) → Agrees d e (chain_from c d t).marks → (chain_from c e t ≡ chain_from c d t) × (records_from c e t ≡ records_from c d t)
-  chain_local_from = chain_induction c d (λ t. Agrees d e (chain_from c d t).marks → (chain_from c e t ≡ chain_from c d t) × (records_from c e t ≡ records_from c d t)) adv
+  pub chain_local_from : (t : Along C) → Agrees d e (chain_from c d t).marks → (chain_from c e t ≡ chain_from c d t)
+      × (records_from c e t ≡ records_from c d t)
+  chain_local_from = chain_induction c d (λ t. Agrees d e (chain_from c d t).marks → (chain_from c e t ≡ chain_from c d t)
+      × (records_from c e t ≡ records_from c d t)) adv
       (λ t v place is later a.
       let u : Along C = record { held = t.held ++ v ∷ []; place = place } in
-      let all : Agrees d e ((next_record c d t).marks ++ (chain_from c d u).marks) = subst (λ w. Agrees d e w.marks) (chain_next c d t v place adv is) a in
-      let here : next_record c e t ≡ next_record c d t = same_record t (agrees-left (next_record c d t).marks (chain_from c d u).marks all) in
+      let all : Agrees d e ((next_record c d t).marks ++ (chain_from c d u).marks) = subst (λ w. Agrees d e w.marks)
+          (chain_next c d t v place adv is) a in
+      let here : next_record c e t ≡ next_record c d t = same_record t (agrees-left (next_record c d t).marks (chain_from c d u).marks
+          all) in
       let is_e : (next_record c e t).answer ≡ Ok (Next v place) = ap (λ w. w.answer) here ∙ is in
       let rest = later (agrees-right (next_record c d t).marks (chain_from c d u).marks all) in (
-        chain_next c e t v place adv_e is_e ∙ ap (λ w. behind w.marks (chain_from c e u)) here ∙ ap (behind (next_record c d t).marks) rest.0 ∙ sym (chain_next c d t v place adv is),
+        chain_next c e t v place adv_e is_e ∙ ap (λ w. behind w.marks (chain_from c e u)) here ∙ ap (behind (next_record c d t).marks)
+            rest.0 ∙ sym (chain_next c d t v place adv is),
         records_next c e t v place adv_e is_e ∙ ap (λ n. n + 1) rest.1 ∙ sym (records_next c d t v place adv is),
       ))
       (λ t r is a.
@@ -67,13 +75,16 @@ local_chain c adv d e a = (chain_local c d e (adv d) (adv e) a).0
 -- Counts: where each record reads at most k bytes, a chain reads at most k for each of its records.
 module _ {C X : Type 0} (c : Chain C X) (d : List ℕ) (adv : Advances c d) where
   -- from some records on
-  pub chain_cost_from : (k : ℕ) → ((t : Along C) → total (next_record c d t).marks ≤ k) → (t : Along C) → total (chain_from c d t).marks ≤ k * records_from c d t
+  pub chain_cost_from : (k : ℕ) → ((t : Along C) → total (next_record c d t).marks ≤ k) → (t : Along C) → total (chain_from c d t).marks
+      ≤ k * records_from c d t
   chain_cost_from k each = chain_induction c d (λ t. total (chain_from c d t).marks ≤ k * records_from c d t) adv
       (λ t v place is later.
       let u : Along C = record { held = t.held ++ v ∷ []; place = place } in
-      let all : total (chain_from c d t).marks ≡ total (next_record c d t).marks + total (chain_from c d u).marks = ap (λ w. total w.marks) (chain_next c d t v place adv is) ∙ total-append (next_record c d t).marks (chain_from c d u).marks in
+      let all : total (chain_from c d t).marks ≡ total (next_record c d t).marks + total (chain_from c d u).marks =
+          ap (λ w. total w.marks) (chain_next c d t v place adv is) ∙ total-append (next_record c d t).marks (chain_from c d u).marks in
       let here = each t in
-      let count : k * records_from c d t ≡ k * records_from c d u + k * 1 = ap (λ n. k * n) (records_next c d t v place adv is) ∙ mul-add k (records_from c d u) 1 in
+      let count : k * records_from c d t ≡ k * records_from c d u + k * 1 = ap (λ n. k * n) (records_next c d t v place adv is) ∙ mul-add
+          k (records_from c d u) 1 in
       omega arith)
       (λ t r is.
       let all : total (chain_from c d t).marks ≡ total (next_record c d t).marks = ap (λ w. total w.marks) (chain_stop c d t r is) in
@@ -87,13 +98,15 @@ module _ {C X : Type 0} (c : Chain C X) (d : List ℕ) (adv : Advances c d) wher
 
   -- Where the records use up an allowance, a chain reads at most the allowance.
   pub chain_within : (allowed : Along C → ℕ)
-      → ((t : Along C) (v : C) (place : ℕ) → (next_record c d t).answer ≡ Ok (Next v place) → total (next_record c d t).marks + allowed (record { held = t.held ++ v ∷ []; place = place }) ≤ allowed t)
+      → ((t : Along C) (v : C) (place : ℕ) → (next_record c d t).answer ≡ Ok (Next v place) → total (next_record c d t).marks + allowed
+          (record { held = t.held ++ v ∷ []; place = place }) ≤ allowed t)
       → ((t : Along C) → total (next_record c d t).marks ≤ allowed t)
       → (t : Along C) → total (chain_from c d t).marks ≤ allowed t
   chain_within allowed used each = chain_induction c d (λ t. total (chain_from c d t).marks ≤ allowed t) adv
       (λ t v place is later.
       let u : Along C = record { held = t.held ++ v ∷ []; place = place } in
-      let all : total (chain_from c d t).marks ≡ total (next_record c d t).marks + total (chain_from c d u).marks = ap (λ w. total w.marks) (chain_next c d t v place adv is) ∙ total-append (next_record c d t).marks (chain_from c d u).marks in
+      let all : total (chain_from c d t).marks ≡ total (next_record c d t).marks + total (chain_from c d u).marks =
+          ap (λ w. total w.marks) (chain_next c d t v place adv is) ∙ total-append (next_record c d t).marks (chain_from c d u).marks in
       let here = used t v place is in
       omega arith)
       (λ t r is.
@@ -106,26 +119,34 @@ verdict_ok (Ok (Next v place)) y is = absurd cc
 verdict_ok (Err e) y is = absurd cc
 
 -- Extension: bytes behind an input change no answer of a chain whose records' answers they do not change.
-module _ {C X : Type 0} (c : Chain C X) (d x : List ℕ) (adv : Advances c d) (adv_more : Advances c (d ++ x)) (each : (t : Along C) (y : Said C X) → (next_record c d t).answer ≡ Ok y → next_record c (d ++ x) t ≡ next_record c d t) where
+module _ {C X : Type 0} (c : Chain C X) (d x : List ℕ) (adv : Advances c d) (adv_more : Advances c (d ++ x))
+    (each : (t : Along C) (y : Said C X) → (next_record c d t).answer ≡ Ok y → next_record c (d ++ x) t ≡ next_record c d t) where
   -- from some records on
-  pub chain_more_from : (t : Along C) (v : X) → (chain_from c d t).answer ≡ Ok v → (chain_from c (d ++ x) t ≡ chain_from c d t) × (records_from c (d ++ x) t ≡ records_from c d t)
-  chain_more_from = chain_induction c d (λ t. (v : X) → (chain_from c d t).answer ≡ Ok v → (chain_from c (d ++ x) t ≡ chain_from c d t) × (records_from c (d ++ x) t ≡ records_from c d t)) adv
+  pub chain_more_from : (t : Along C) (v : X) → (chain_from c d t).answer ≡ Ok v → (chain_from c (d ++ x) t ≡ chain_from c d t)
+      × (records_from c (d ++ x) t ≡ records_from c d t)
+  chain_more_from = chain_induction c d (λ t. (v : X) → (chain_from c d t).answer ≡ Ok v → (chain_from c (d ++ x) t ≡ chain_from c d t)
+      × (records_from c (d ++ x) t ≡ records_from c d t)) adv
       (λ t v place is later y ok.
       let u : Along C = record { held = t.held ++ v ∷ []; place = place } in
       let here : next_record c (d ++ x) t ≡ next_record c d t = each t (Next v place) is in
       let is_more : (next_record c (d ++ x) t).answer ≡ Ok (Next v place) = ap (λ w. w.answer) here ∙ is in
       let rest = later y (sym (ap (λ w. w.answer) (chain_next c d t v place adv is)) ∙ ok) in (
-        chain_next c (d ++ x) t v place adv_more is_more ∙ ap (λ w. behind w.marks (chain_from c (d ++ x) u)) here ∙ ap (behind (next_record c d t).marks) rest.0 ∙ sym (chain_next c d t v place adv is),
+        chain_next c (d ++ x) t v place adv_more is_more ∙ ap (λ w. behind w.marks (chain_from c (d ++ x) u)) here
+            ∙ ap (behind (next_record c d t).marks) rest.0 ∙ sym (chain_next c d t v place adv is),
         records_next c (d ++ x) t v place adv_more is_more ∙ ap (λ n. n + 1) rest.1 ∙ sym (records_next c d t v place adv is),
       ))
       (λ t r is y ok.
       let decided : r ≡ Ok y = sym (ap (λ w. w.answer) (chain_stop c d t r is)) ∙ ok in
-      let here : next_record c (d ++ x) t ≡ next_record c d t = each t (Decided y) (verdict_ok (next_record c d t).answer y (is ∙ ap Some decided)) in
+      let here : next_record c (d ++ x) t ≡ next_record c d t = each t (Decided y) (verdict_ok (next_record c d t).answer y
+          (is ∙ ap Some decided)) in
       let is_more : verdict (next_record c (d ++ x) t).answer ≡ Some r = ap (λ w. verdict w.answer) here ∙ is in (
         chain_stop c (d ++ x) t r is_more ∙ ap (λ w. record { answer = r; marks = w.marks }) here ∙ sym (chain_stop c d t r is),
         records_stop c (d ++ x) t r is_more ∙ sym (records_stop c d t r is),
       ))
 
 -- a chain of plain records lasts
-pub lasts_chain : {C X : Type 0} (c : Chain C X) → ((d : List ℕ) → Advances c d) → ((held : List C) (place : ℕ) → Plain (c.said held place)) → Lasts (λ d. chain_at c d)
-lasts_chain c adv plain d x v is = (chain_more_from c d x (adv d) (adv (d ++ x)) (λ t y got. more d x (c.said t.held t.place) y (plain t.held t.place) got) (start c) v is).0
+pub lasts_chain : {C X : Type 0} (c : Chain C X) → ((d : List ℕ) → Advances c d)
+    → ((held : List C) (place : ℕ) → Plain (c.said held place)) → Lasts (λ d. chain_at c d)
+lasts_chain c adv plain d x v is =
+    (chain_more_from c d x (adv d) (adv (d ++ x)) (λ t y got. more d x (c.said t.held t.place) y (plain t.held t.place) got) (start c) v
+    is).0

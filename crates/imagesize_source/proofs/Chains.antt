@@ -10,26 +10,33 @@ use Rattle.imagesize_source.specs.Chain.{Said, Decided, Next, Chain, Along, next
 use Rattle.imagesize_source.specs.Reading.{Reads, behind, onward, and_then, gives, end_of_input}
 
 -- a list of numbers one higher
-flat_map_shift : {A : Type 0} (f g : ℕ → List A) (a k : ℕ) → ((i : ℕ) → f (i + 1) ≡ g i) → flat_map f (range_with_len (a + 1) k) ≡ flat_map g (range_with_len a k)
+flat_map_shift : {A : Type 0} (f g : ℕ → List A) (a k : ℕ) → ((i : ℕ) → f (i + 1) ≡ g i) → flat_map f (range_with_len (a + 1) k)
+    ≡ flat_map g (range_with_len a k)
 flat_map_shift f g a zero same = refl
 flat_map_shift f g a (suc k) same = rw (same a) (ap (λ xs. g a ++ xs) (flat_map_shift f g (a + 1) k same))
 
-position_shift : (p q : ℕ → Bool) (a k : ℕ) → ((i : ℕ) → p (i + 1) ≡ q i) → position_or_len p (range_with_len (a + 1) k) ≡ position_or_len q (range_with_len a k)
+position_shift : (p q : ℕ → Bool) (a k : ℕ) → ((i : ℕ) → p (i + 1) ≡ q i) → position_or_len p (range_with_len (a + 1) k)
+    ≡ position_or_len q (range_with_len a k)
 position_shift p q a zero same = refl
 position_shift p q a (suc k) same = rw (same a, position_shift p q (a + 1) k same) refl
 
 -- one more number behind the first that passes
-position_longer : (p : ℕ → Bool) (a k : ℕ) → position_or_len p (range_with_len a k) < k → position_or_len p (range_with_len a (suc k)) ≡ position_or_len p (range_with_len a k)
+position_longer : (p : ℕ → Bool) (a k : ℕ) → position_or_len p (range_with_len a k) < k → position_or_len p (range_with_len a (suc k))
+    ≡ position_or_len p (range_with_len a k)
 position_longer p a zero found = absurd (omega arith)
 position_longer p a (suc k) found =
-    let Goal : Bool → Type 0 = λ b. cond (not b) (1 + position_or_len p (range_with_len (a + 1) k)) 0 < suc k → cond (not b) (1 + position_or_len p (range_with_len (a + 1) (suc k))) 0 ≡ cond (not b) (1 + position_or_len p (range_with_len (a + 1) k)) 0 in
-    let cases : Goal (p a) = elim (p a) as Goal [ true ↦ λ _. refl | false ↦ λ f. ap (λ n. 1 + n) (position_longer p (a + 1) k (omega arith)) ] in
+    let Goal : Bool → Type 0 = λ b. cond (not b) (1 + position_or_len p (range_with_len (a + 1) k)) 0 < suc k
+        → cond (not b) (1 + position_or_len p (range_with_len (a + 1) (suc k))) 0 ≡ cond (not b)
+        (1 + position_or_len p (range_with_len (a + 1) k)) 0 in
+    let cases : Goal (p a) = elim (p a) as Goal [ true ↦ λ _. refl | false ↦ λ f. ap (λ n. 1 + n)
+        (position_longer p (a + 1) k (omega arith)) ] in
     cases found
 
 position_here : (p : ℕ → Bool) (a k : ℕ) → p a ≡ true → position_or_len p (range_with_len a (suc k)) ≡ 0
 position_here p a k h = rw h refl
 
-position_there : (p : ℕ → Bool) (a k : ℕ) → p a ≡ false → position_or_len p (range_with_len a (suc k)) ≡ 1 + position_or_len p (range_with_len (a + 1) k)
+position_there : (p : ℕ → Bool) (a k : ℕ) → p a ≡ false → position_or_len p (range_with_len a (suc k)) ≡ 1 + position_or_len p
+    (range_with_len (a + 1) k)
 position_there p a k h = rw h refl
 
 -- the same answer with the same marks
@@ -49,7 +56,9 @@ module _ {C X : Type 0} (c : Chain C X) (d : List ℕ) where
   marks_next t u i h = rw add-one (ap (λ o. option_map_or (λ w. (next_record c d w).marks) o []) (trail_next t u i h))
 
   -- a chain that advances has a deciding record before the end and one
-  found_by : (t : Along C) (k : ℕ) (r : Result (Said C X) ImageError) → Advances c d → (next_record c d t).answer ≡ r → ((u : Along C) → t.place < u.place → t.place < length d → position_or_len (λ i. is_some (verdict_of c d u i)) (range_with_len 0 k) < k) → position_or_len (λ i. is_some (verdict_of c d t i)) (range_with_len 0 (suc k)) < suc k
+  found_by : (t : Along C) (k : ℕ) (r : Result (Said C X) ImageError) → Advances c d → (next_record c d t).answer ≡ r
+      → ((u : Along C) → t.place < u.place → t.place < length d → position_or_len (λ i. is_some (verdict_of c d u i))
+      (range_with_len 0 k) < k) → position_or_len (λ i. is_some (verdict_of c d t i)) (range_with_len 0 (suc k)) < suc k
   found_by t k (Ok (Decided x)) adv e later =
       let here = position_here (λ i. is_some (verdict_of c d t i)) 0 k (ap (λ r. is_some (verdict r)) e) in omega arith
   found_by t k (Err x) adv e later =
@@ -57,15 +66,18 @@ module _ {C X : Type 0} (c : Chain C X) (d : List ℕ) where
   found_by t k (Ok (Next v place)) adv e later =
       let u : Along C = record { held = t.held ++ v ∷ []; place = place } in
       let here = position_there (λ i. is_some (verdict_of c d t i)) 0 k (ap (λ r. is_some (verdict r)) e) in
-      let on = position_shift (λ i. is_some (verdict_of c d t i)) (λ i. is_some (verdict_of c d u i)) 0 k (λ i. ap is_some (verdict_next t u i (ap (leads t.held) e))) in
+      let on = position_shift (λ i. is_some (verdict_of c d t i)) (λ i. is_some (verdict_of c d u i)) 0 k
+          (λ i. ap is_some (verdict_next t u i (ap (leads t.held) e))) in
       let rest = later u (adv t v place e).0 (adv t v place e).1 in
       omega arith
 
-  found : (k : ℕ) (t : Along C) → Advances c d → length d ≤ t.place + k → position_or_len (λ i. is_some (verdict_of c d t i)) (range_with_len 0 (suc k)) < suc k
+  found : (k : ℕ) (t : Along C) → Advances c d → length d ≤ t.place + k → position_or_len (λ i. is_some (verdict_of c d t i))
+      (range_with_len 0 (suc k)) < suc k
   found zero t adv h = found_by t zero (next_record c d t).answer adv refl (λ u up below. absurd (omega arith))
   found (suc k) t adv h = found_by t (suc k) (next_record c d t).answer adv refl (λ u up below. found k u adv (omega arith))
 
-  found_within : (n : ℕ) (u : Along C) → Advances c d → length d ≤ n → 0 < u.place → 0 < n → position_or_len (λ i. is_some (verdict_of c d u i)) (range_with_len 0 n) < n
+  found_within : (n : ℕ) (u : Along C) → Advances c d → length d ≤ n → 0 < u.place → 0 < n
+      → position_or_len (λ i. is_some (verdict_of c d u i)) (range_with_len 0 n) < n
   found_within zero u adv h up some = absurd (omega arith)
   found_within (suc n) u adv h up some = found n u adv (omega arith)
 
@@ -80,19 +92,24 @@ module _ {C X : Type 0} (c : Chain C X) (d : List ℕ) where
   deciding_stop : (t : Along C) → is_some (verdict (next_record c d t).answer) ≡ true → deciding c d t ≡ 0
   deciding_stop t h = deciding-is t ∙ position_here (λ i. is_some (verdict_of c d t i)) 0 (length d) h
 
-  deciding_next : (t u : Along C) → Advances c d → leads t.held (next_record c d t).answer ≡ Some u → is_some (verdict (next_record c d t).answer) ≡ false → t.place < u.place → t.place < length d → deciding c d t ≡ deciding c d u + 1
+  deciding_next : (t u : Along C) → Advances c d → leads t.held (next_record c d t).answer ≡ Some u
+      → is_some (verdict (next_record c d t).answer) ≡ false → t.place < u.place → t.place < length d → deciding c d t ≡ deciding c d u + 1
   deciding_next t u adv led h up below =
       let here = position_there (λ i. is_some (verdict_of c d t i)) 0 (length d) h in
-      let on = position_shift (λ i. is_some (verdict_of c d t i)) (λ i. is_some (verdict_of c d u i)) 0 (length d) (λ i. ap is_some (verdict_next t u i led)) in
-      let longer = position_longer (λ i. is_some (verdict_of c d u i)) 0 (length d) (found_within (length d) u adv (omega arith) (omega arith) (omega arith)) in
+      let on = position_shift (λ i. is_some (verdict_of c d t i)) (λ i. is_some (verdict_of c d u i)) 0 (length d)
+          (λ i. ap is_some (verdict_next t u i led)) in
+      let longer = position_longer (λ i. is_some (verdict_of c d u i)) 0 (length d) (found_within (length d) u adv (omega arith)
+          (omega arith) (omega arith)) in
       let is = deciding-is t in let is_next = deciding-is u in
       omega arith
 
-  marks_first : (t : Along C) (k : ℕ) → flat_map (marks_of c d t) (range_with_len 0 (k + 1)) ≡ (next_record c d t).marks ++ flat_map (marks_of c d t) (range_with_len 1 k)
+  marks_first : (t : Along C) (k : ℕ) → flat_map (marks_of c d t) (range_with_len 0 (k + 1)) ≡ (next_record c d t).marks ++ flat_map
+      (marks_of c d t) (range_with_len 1 k)
   marks_first t k = ap (λ n. flat_map (marks_of c d t) (range_with_len 0 n)) (add-one k)
 
   -- a record that tells the place of the next: its marks, and the chain from there on
-  pub chain_next : (t : Along C) (v : C) (place : ℕ) → Advances c d → (next_record c d t).answer ≡ Ok (Next v place) → chain_from c d t ≡ behind (next_record c d t).marks (chain_from c d (record { held = t.held ++ v ∷ []; place = place }))
+  pub chain_next : (t : Along C) (v : C) (place : ℕ) → Advances c d → (next_record c d t).answer ≡ Ok (Next v place)
+      → chain_from c d t ≡ behind (next_record c d t).marks (chain_from c d (record { held = t.held ++ v ∷ []; place = place }))
   unfolding chain_from
   chain_next t v place adv is =
       let u : Along C = record { held = t.held ++ v ∷ []; place = place } in
@@ -100,16 +117,21 @@ module _ {C X : Type 0} (c : Chain C X) (d : List ℕ) where
       let one = deciding_next t u adv led (ap (λ r. is_some (verdict r)) is) (adv t v place is).0 (adv t v place is).1 in
       same_reads (chain_from c d t) (behind (next_record c d t).marks (chain_from c d u))
       (ap (λ o. unwrap_or o (Err end_of_input)) (ap (verdict_of c d t) one ∙ verdict_next t u (deciding c d u) led))
-      (marks_first t (deciding c d t) ∙ ap (λ m. (next_record c d t).marks ++ m) (ap (λ n. flat_map (marks_of c d t) (range_with_len 1 n)) one ∙ flat_map_shift (marks_of c d t) (marks_of c d u) 0 (records_from c d u) (λ i. marks_next t u i led)))
+      (marks_first t (deciding c d t) ∙ ap (λ m. (next_record c d t).marks ++ m)
+          (ap (λ n. flat_map (marks_of c d t) (range_with_len 1 n)) one ∙ flat_map_shift (marks_of c d t) (marks_of c d u) 0
+          (records_from c d u) (λ i. marks_next t u i led)))
 
   -- it is one record more
-  pub records_next : (t : Along C) (v : C) (place : ℕ) → Advances c d → (next_record c d t).answer ≡ Ok (Next v place) → records_from c d t ≡ records_from c d (record { held = t.held ++ v ∷ []; place = place }) + 1
+  pub records_next : (t : Along C) (v : C) (place : ℕ) → Advances c d → (next_record c d t).answer ≡ Ok (Next v place)
+      → records_from c d t ≡ records_from c d (record { held = t.held ++ v ∷ []; place = place }) + 1
   records_next t v place adv is =
       let u : Along C = record { held = t.held ++ v ∷ []; place = place } in
-      ap (λ n. n + 1) (deciding_next t u adv (ap (leads t.held) is) (ap (λ r. is_some (verdict r)) is) (adv t v place is).0 (adv t v place is).1)
+      ap (λ n. n + 1) (deciding_next t u adv (ap (leads t.held) is) (ap (λ r. is_some (verdict r)) is) (adv t v place is).0
+          (adv t v place is).1)
 
   -- a record with a verdict: that verdict, and its marks
-  pub chain_stop : (t : Along C) (r : Result X ImageError) → verdict (next_record c d t).answer ≡ Some r → chain_from c d t ≡ record { answer = r; marks = (next_record c d t).marks }
+  pub chain_stop : (t : Along C) (r : Result X ImageError) → verdict (next_record c d t).answer ≡ Some r
+      → chain_from c d t ≡ record { answer = r; marks = (next_record c d t).marks }
   unfolding chain_from
   chain_stop t r is =
       let one = deciding_stop t (ap is_some is) in
@@ -126,8 +148,10 @@ module _ {C X : Type 0} (c : Chain C X) (d : List ℕ) where
   follows held (Decided x) = gives x
   follows held (Next v place) = chain_from c d (record { held = held ++ v ∷ []; place = place })
 
-  unfolds_by : (t : Along C) (r : Result (Said C X) ImageError) → Advances c d → (next_record c d t).answer ≡ r → chain_from c d t ≡ onward (next_record c d t).marks r (follows t.held)
-  unfolds_by t (Ok (Decided x)) adv is = chain_stop t (Ok x) (ap verdict is) ∙ ap (λ m. record { answer = Ok x; marks = m }) (sym (append-nil (next_record c d t).marks))
+  unfolds_by : (t : Along C) (r : Result (Said C X) ImageError) → Advances c d → (next_record c d t).answer ≡ r
+      → chain_from c d t ≡ onward (next_record c d t).marks r (follows t.held)
+  unfolds_by t (Ok (Decided x)) adv is = chain_stop t (Ok x) (ap verdict is) ∙ ap (λ m. record { answer = Ok x; marks = m })
+      (sym (append-nil (next_record c d t).marks))
   unfolds_by t (Ok (Next v place)) adv is = chain_next t v place adv is
   unfolds_by t (Err e) adv is = chain_stop t (Err e) (ap verdict is)
 

@@ -38,28 +38,41 @@ both (AllOf k) p q = (p, q)
 both (PartOf k) p q = q
 both (TextOf t k) p q = q
 
-onward_costs : {X Y : Type 0} (f : Y → ℕ) (e u n : ℕ) (spans : List Span) (r : Result X ImageError) (g : X → Reads Y) → total spans ≤ n → ((x : ImageError) → r ≡ Err x → u + n ≤ e) → ((x : X) → u + n + total (g x).marks ≤ bound_of f e (g x).answer) → u + total (onward spans r g).marks ≤ bound_of f e (onward spans r g).answer
+onward_costs : {X Y : Type 0} (f : Y → ℕ) (e u n : ℕ) (spans : List Span) (r : Result X ImageError) (g : X → Reads Y) → total spans ≤ n
+    → ((x : ImageError) → r ≡ Err x → u + n ≤ e) → ((x : X) → u + n + total (g x).marks ≤ bound_of f e (g x).answer)
+    → u + total (onward spans r g).marks ≤ bound_of f e (onward spans r g).answer
 onward_costs f e u n spans (Ok x) g few enough next = omega (arith, next x, total-append spans (g x).marks)
 onward_costs f e u n spans (Err r) g few enough next = omega (arith, enough r refl)
 
-pub costs : {X : Type 0} (f : X → ℕ) (e u : ℕ) (d : List ℕ) (t : Layout X) → CostsBy f e u t → u + total (over d t).marks ≤ bound_of f e (over d t).answer
+pub costs : {X : Type 0} (f : X → ℕ) (e u : ℕ) (d : List ℕ) (t : Layout X) → CostsBy f e u t → u + total (over d t).marks ≤ bound_of f e
+    (over d t).answer
 costs f e u d (done x) h = omega arith
 costs f e u d (refuse r) h = omega arith
-costs f e u d (field order place n g) h = onward_costs f e u n (span_of d place n) (number_at d order place n) (λ v. over d (g v)) (total-span_of d place n) (λ _ _. h.0) (λ v. costs f e (u + n) d (g v) (h.1 v))
-costs f e u d (reading r place g) h = onward_costs f e u (most r) (read_of d r place).marks (read_of d r place).answer (λ bs. over d (g bs)) (total_reading d r place) (λ x is. refused (u + most r ≤ e) ((bs : List ℕ) → CostsBy f e (u + most r) (g bs)) {e = x} d r place h is) (λ bs. costs f e (u + most r) d (g bs) (otherwise (u + most r ≤ e) ((bs : List ℕ) → CostsBy f e (u + most r) (g bs)) r h bs))
+costs f e u d (field order place n g) h = onward_costs f e u n (span_of d place n) (number_at d order place n) (λ v. over d (g v))
+    (total-span_of d place n) (λ _ _. h.0) (λ v. costs f e (u + n) d (g v) (h.1 v))
+costs f e u d (reading r place g) h = onward_costs f e u (most r) (read_of d r place).marks (read_of d r place).answer
+    (λ bs. over d (g bs)) (total_reading d r place) (λ x is. refused (u + most r ≤ e) ((bs : List ℕ) → CostsBy f e (u + most r) (g bs))
+    {e = x} d r place h is) (λ bs. costs f e (u + most r) d (g bs)
+    (otherwise (u + most r ≤ e) ((bs : List ℕ) → CostsBy f e (u + most r) (g bs)) r h bs))
 
 -- fewer bytes before cost no more
 pub costs_less : {X : Type 0} (f : X → ℕ) (e u v : ℕ) (t : Layout X) → u ≤ v → CostsBy f e v t → CostsBy f e u t
 costs_less f e u v (done x) le h = omega arith
 costs_less f e u v (refuse r) le h = omega arith
-costs_less f e u v (field order place n g) le h = let here = h.0 in (omega arith, λ w. costs_less f e (u + n) (v + n) (g w) (omega arith) (h.1 w))
-costs_less f e u v (reading r place g) le h = if_refused r (λ here. omega arith) (λ rest bs. costs_less f e (u + most r) (v + most r) (g bs) (omega arith) (rest bs)) h
+costs_less f e u v (field order place n g) le h = let here = h.0 in (omega arith, λ w. costs_less f e (u + n) (v + n) (g w) (omega arith)
+    (h.1 w))
+costs_less f e u v (reading r place g) le h = if_refused r (λ here. omega arith) (λ rest bs. costs_less f e (u + most r) (v + most r)
+    (g bs) (omega arith) (rest bs)) h
 
 -- one layout behind another
-pub costs_bind : {X Y : Type 0} (f : Y → ℕ) (e u j : ℕ) (t : Layout X) (g : X → Layout Y) → AtMost j t → u + j ≤ e → ((x : X) → CostsBy f e (u + j) (g x)) → CostsBy f e u (bind t g)
+pub costs_bind : {X Y : Type 0} (f : Y → ℕ) (e u j : ℕ) (t : Layout X) (g : X → Layout Y) → AtMost j t → u + j ≤ e
+    → ((x : X) → CostsBy f e (u + j) (g x)) → CostsBy f e u (bind t g)
 costs_bind f e u j (done x) g few enough next = costs_less f e u (u + j) (g x) (omega arith) (next x)
 costs_bind f e u j (refuse r) g few enough next = omega arith
-costs_bind f e u j (field order place n h) g few enough next = let here = few.0 in (omega arith, λ v. costs_bind f e (u + n) (j - n) (h v) g (few.1 v) (omega arith) (λ x. costs_less f e (u + n + (j - n)) (u + j) (g x) (omega arith) (next x)))
+costs_bind f e u j (field order place n h) g few enough next = let here = few.0 in
+    (omega arith, λ v. costs_bind f e (u + n) (j - n) (h v) g (few.1 v) (omega arith) (λ x. costs_less f e (u + n + (j - n)) (u + j)
+    (g x) (omega arith) (next x)))
 costs_bind f e u j (reading r place h) g few enough next =
     let here = few.0 in
-    both r (omega arith) (λ bs. costs_bind f e (u + most r) (j - most r) (h bs) g (few.1 bs) (omega arith) (λ x. costs_less f e (u + most r + (j - most r)) (u + j) (g x) (omega arith) (next x)))
+    both r (omega arith) (λ bs. costs_bind f e (u + most r) (j - most r) (h bs) g (few.1 bs) (omega arith)
+        (λ x. costs_less f e (u + most r + (j - most r)) (u + j) (g x) (omega arith) (next x)))

@@ -48,9 +48,11 @@ text_length d t place k = front_length t (part d place k)
 pub total_reading : (d : List ℕ) (r : Reading) (place : ℕ) → total (read_of d r place).marks ≤ most r
 total_reading d (AllOf k) place = total-span_of d place k
 total_reading d (PartOf k) place = total-span_of d place k
-total_reading d (TextOf t k) place = omega (arith, total-span_at place (length (text_part d t place k)), text_length d t place k, part_length d place k)
+total_reading d (TextOf t k) place = omega (arith, total-span_at place (length (text_part d t place k)), text_length d t place k,
+    part_length d place k)
 
-onward_at_most : {X Y : Type 0} (spans : List Span) (r : Result X ImageError) (f : X → Reads Y) (n k : ℕ) → total spans ≤ n → n ≤ k → ((x : X) → total (f x).marks ≤ k - n) → total (onward spans r f).marks ≤ k
+onward_at_most : {X Y : Type 0} (spans : List Span) (r : Result X ImageError) (f : X → Reads Y) (n k : ℕ) → total spans ≤ n → n ≤ k
+    → ((x : X) → total (f x).marks ≤ k - n) → total (onward spans r f).marks ≤ k
 onward_at_most spans (Ok x) f n k here fits rest = let all = total-append spans (f x).marks in let more = rest x in omega arith
 onward_at_most spans (Err e) f n k here fits rest = omega arith
 
@@ -58,30 +60,39 @@ onward_at_most spans (Err e) f n k here fits rest = omega arith
 pub at_most : {X : Type 0} (d : List ℕ) (k : ℕ) (t : Layout X) → AtMost k t → total (over d t).marks ≤ k
 at_most d k (done x) h = omega arith
 at_most d k (refuse e) h = omega arith
-at_most d k (field order place n f) h = onward_at_most (span_of d place n) (number_at d order place n) (λ v. over d (f v)) n k (total-span_of d place n) h.0 (λ v. at_most d (k - n) (f v) (h.1 v))
-at_most d k (reading r place f) h = onward_at_most (read_of d r place).marks (read_of d r place).answer (λ bs. over d (f bs)) (most r) k (total_reading d r place) h.0 (λ bs. at_most d (k - most r) (f bs) (h.1 bs))
+at_most d k (field order place n f) h = onward_at_most (span_of d place n) (number_at d order place n) (λ v. over d (f v)) n k
+    (total-span_of d place n) h.0 (λ v. at_most d (k - n) (f v) (h.1 v))
+at_most d k (reading r place f) h = onward_at_most (read_of d r place).marks (read_of d r place).answer (λ bs. over d (f bs)) (most r) k
+    (total_reading d r place) h.0 (λ bs. at_most d (k - most r) (f bs) (h.1 bs))
 
-onward_within : {X Y : Type 0} (spans : List Span) (r : Result X ImageError) (f : X → Reads Y) (j k : ℕ) → total spans ≤ j → ((x : X) → r ≡ Ok x → total (f x).marks ≤ k) → total (onward spans r f).marks ≤ j + k
+onward_within : {X Y : Type 0} (spans : List Span) (r : Result X ImageError) (f : X → Reads Y) (j k : ℕ) → total spans ≤ j
+    → ((x : X) → r ≡ Ok x → total (f x).marks ≤ k) → total (onward spans r f).marks ≤ j + k
 onward_within spans (Ok x) f j k one two = let all = total-append spans (f x).marks in let more = two x refl in omega arith
 onward_within spans (Err e) f j k one two = omega arith
 
 -- readings behind readings are at most as many as both
-pub then_within : {X Y : Type 0} (r : Reads X) (f : X → Reads Y) (j k : ℕ) → total r.marks ≤ j → ((x : X) → r.answer ≡ Ok x → total (f x).marks ≤ k) → total (and_then r f).marks ≤ j + k
+pub then_within : {X Y : Type 0} (r : Reads X) (f : X → Reads Y) (j k : ℕ) → total r.marks ≤ j
+    → ((x : X) → r.answer ≡ Ok x → total (f x).marks ≤ k) → total (and_then r f).marks ≤ j + k
 then_within r f j k one two = onward_within r.marks r.answer f j k one two
 
 -- at most j bytes are at most k, where k is no less
 pub at_most_more : {X : Type 0} (j k : ℕ) (t : Layout X) → j ≤ k → AtMost j t → AtMost k t
 at_most_more j k (done x) le h = tt
 at_most_more j k (refuse e) le h = tt
-at_most_more j k (field order place n f) le h = let here = h.0 in (omega arith, λ v. at_most_more (j - n) (k - n) (f v) (omega arith) (h.1 v))
-at_most_more j k (reading r place f) le h = let here = h.0 in (omega arith, λ bs. at_most_more (j - most r) (k - most r) (f bs) (omega arith) (h.1 bs))
+at_most_more j k (field order place n f) le h = let here = h.0 in (omega arith, λ v. at_most_more (j - n) (k - n) (f v) (omega arith)
+    (h.1 v))
+at_most_more j k (reading r place f) le h = let here = h.0 in (omega arith, λ bs. at_most_more (j - most r) (k - most r) (f bs)
+    (omega arith) (h.1 bs))
 
 -- a layout behind another asks for as many bytes as both
-pub at_most_bind : {X Y : Type 0} (j k : ℕ) (t : Layout X) (g : X → Layout Y) → AtMost j t → ((x : X) → AtMost k (g x)) → AtMost (j + k) (bind t g)
+pub at_most_bind : {X Y : Type 0} (j k : ℕ) (t : Layout X) (g : X → Layout Y) → AtMost j t → ((x : X) → AtMost k (g x))
+    → AtMost (j + k) (bind t g)
 at_most_bind j k (done x) g h rest = at_most_more k (j + k) (g x) (omega arith) (rest x)
 at_most_bind j k (refuse e) g h rest = tt
-at_most_bind j k (field order place n f) g h rest = let here = h.0 in (omega arith, λ v. at_most_more (j - n + k) (j + k - n) (bind (f v) g) (omega arith) (at_most_bind (j - n) k (f v) g (h.1 v) rest))
-at_most_bind j k (reading r place f) g h rest = let here = h.0 in (omega arith, λ bs. at_most_more (j - most r + k) (j + k - most r) (bind (f bs) g) (omega arith) (at_most_bind (j - most r) k (f bs) g (h.1 bs) rest))
+at_most_bind j k (field order place n f) g h rest = let here = h.0 in
+    (omega arith, λ v. at_most_more (j - n + k) (j + k - n) (bind (f v) g) (omega arith) (at_most_bind (j - n) k (f v) g (h.1 v) rest))
+at_most_bind j k (reading r place f) g h rest = let here = h.0 in (omega arith, λ bs. at_most_more (j - most r + k) (j + k - most r)
+    (bind (f bs) g) (omega arith) (at_most_bind (j - most r) k (f bs) g (h.1 bs) rest))
 
 count-cons : (p : ℕ → Bool) (x : ℕ) (xs : List ℕ) → count_by p (x ∷ xs) ≡ cond (p x) 1 0 + count_by p xs
 count-cons p x xs = sum_by-cons (λ y. cond (p y) 1 0) x xs
@@ -112,7 +123,8 @@ count_span s a zero = omega arith
 count_span s a (suc n) =
     let one = count-cons (has_place s) a (range_with_len (a + 1) n) in
     let rest = count_span s (a + 1) n in
-    let here : cond (has_place s a) 1 0 + ((s.start + s.len) - max (a + 1) s.start) ≤ (s.start + s.len) - max a s.start = grind (arith, nat_tests) in
+    let here : cond (has_place s a) 1 0 + ((s.start + s.len) - max (a + 1) s.start) ≤ (s.start + s.len) - max a s.start =
+        grind (arith, nat_tests) in
     omega arith
 
 -- spans that have no place which others have not have no more places
@@ -127,7 +139,8 @@ places_more n s spans =
 
 -- the spans have no more places than they are long
 pub places_total : (n : ℕ) (spans : List Span) → places n spans ≤ total spans
-places_total n [] = let none = count_fewer (λ _. false) (has_place (record { start = 0; len = 0 })) (range_with_len 0 n) (λ x h. absurd cc) in let empty = count_span (record { start = 0; len = 0 }) 0 n in omega arith
+places_total n [] = let none = count_fewer (λ _. false) (has_place (record { start = 0; len = 0 })) (range_with_len 0 n)
+    (λ x h. absurd cc) in let empty = count_span (record { start = 0; len = 0 }) 0 n in omega arith
 places_total n (s ∷ spans) = let here = places_more n s spans in let rest = places_total n spans in omega arith
 
 -- the span of the first bytes that a source holds
@@ -135,7 +148,10 @@ abbrev pub front_span : State → Span
 front_span a = record { start = 0; len = a.front }
 
 -- one reading covers no place that the front afterwards and the bytes that it took do not cover
-step_covers : (front place n at : ℕ) → has_place (record { start = 0; len = front }) at || has_place (record { start = place; len = n }) at ≡ true → has_place (record { start = max (front_after front place n) place; len = fresh front place n - (front_after front place n - front) }) at || has_place (record { start = 0; len = front_after front place n }) at ≡ true
+step_covers : (front place n at : ℕ) → has_place (record { start = 0; len = front }) at || has_place
+    (record { start = place; len = n }) at ≡ true
+    → has_place (record { start = max (front_after front place n) place; len = fresh front place n - (front_after front place n - front)
+    }) at || has_place (record { start = 0; len = front_after front place n }) at ≡ true
 step_covers front place n at h = grind (arith, nat_tests)
 
 or_right : (b c : Bool) → c ≡ true → b || c ≡ true
@@ -150,7 +166,8 @@ joined false true rest false false h is = absurd (let no : false ≡ true = h re
 joined false false rest false false h is = is
 
 -- what one reading adds to the places and to the bytes taken
-step_covers_all : (n : ℕ) (a : State) (s : Span) (spans : List Span) → a.frame.counts ≡ true → places n (front_span a ∷ s ∷ spans) + a.taken + (step a s).front ≤ places n (front_span (step a s) ∷ spans) + (step a s).taken + a.front
+step_covers_all : (n : ℕ) (a : State) (s : Span) (spans : List Span) → a.frame.counts ≡ true → places n (front_span a ∷ s ∷ spans)
+    + a.taken + (step a s).front ≤ places n (front_span (step a s) ∷ spans) + (step a s).taken + a.front
 step_covers_all n a s spans counts =
     let w : ℕ = front_after a.front s.start s.len in
     let m : ℕ = fresh a.front s.start s.len in
@@ -158,21 +175,24 @@ step_covers_all n a s spans counts =
     let after : Span = record { start = 0; len = w } in
     let fewer : places n (front_span a ∷ s ∷ spans) ≤ places n (more ∷ after ∷ spans) =
     places_fewer n (front_span a ∷ s ∷ spans) (more ∷ after ∷ spans)
-    (λ at h. joined (has_place (front_span a) at) (has_place s at) (covered spans at) (has_place more at) (has_place after at) (step_covers a.front s.start s.len at) h) in
+    (λ at h. joined (has_place (front_span a) at) (has_place s at) (covered spans at) (has_place more at) (has_place after at)
+        (step_covers a.front s.start s.len at) h) in
     let one = places_more n more (after ∷ spans) in
     let grows : w - a.front ≤ m = grind (arith, nat_tests) in
     let above : a.front ≤ w = grind (arith, nat_tests) in
     rw counts (omega arith)
 
 -- what the front or the spans cover was taken
-pub covers_past : (n : ℕ) (a : State) (spans : List Span) → a.frame.counts ≡ true → places n (front_span a ∷ spans) + a.taken ≤ (past a spans).taken + a.front
+pub covers_past : (n : ℕ) (a : State) (spans : List Span) → a.frame.counts ≡ true → places n (front_span a ∷ spans) + a.taken
+    ≤ (past a spans).taken + a.front
 unfolding past
 covers_past n a [] counts = let front = places_total n (front_span a ∷ []) in omega arith
 covers_past n a (s ∷ spans) counts =
     let here = step_covers_all n a s spans counts in let rest = covers_past n (step a s) spans counts in omega arith
 
 -- each place of the spans was taken, by a source that held nothing before
-pub places_past : (n : ℕ) (a : State) (spans : List Span) → a.frame.counts ≡ true → a.front ≡ 0 → places n spans + a.taken ≤ (past a spans).taken
+pub places_past : (n : ℕ) (a : State) (spans : List Span) → a.frame.counts ≡ true → a.front ≡ 0 → places n spans + a.taken
+    ≤ (past a spans).taken
 places_past n a spans counts none =
     let all = covers_past n a spans counts in
     let fewer = places_fewer n spans (front_span a ∷ spans) (λ at h. or_right (has_place (front_span a) at) (covered spans at) h) in

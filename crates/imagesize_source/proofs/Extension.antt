@@ -28,7 +28,8 @@ part_more d x place (suc k) h =
 
 span_more : (d x : List ℕ) (place k : ℕ) → k ≤ length d - place → span_of (d ++ x) place k ≡ span_of d place k
 unfolding span_of
-span_more d x place k h = let long = length-append d x in let same : min k (length (d ++ x) - place) ≡ min k (length d - place) = omega arith in ap (span_at place) same
+span_more d x place k h = let long = length-append d x in let same : min k (length (d ++ x) - place) ≡ min k (length d - place) =
+    omega arith in ap (span_at place) same
 
 enough : (b : Bool) (a got : List ℕ) → ◌≡◌ {A = Result (List ℕ) ImageError} (cond b (Ok got) (Err end_of_input)) (Ok a) → b ≡ true
 enough true a got is = refl
@@ -55,20 +56,24 @@ bytes_more d x place k h =
     let after : leb k (length (d ++ x) - place) ≡ true = grind (arith, nat_tests) in
     rw (here, after, part_more d x place k h) refl
 
-number_more : (d x : List ℕ) (order : Endian) (place k : ℕ) → k ≤ length d - place → number_at (d ++ x) order place k ≡ number_at d order place k
+number_more : (d x : List ℕ) (order : Endian) (place k : ℕ) → k ≤ length d - place → number_at (d ++ x) order place k ≡ number_at d order
+    place k
 unfolding number_at
 number_more d x order place k h = ap (seen (number order)) (bytes_more d x place k h)
 
 -- a layout that is always refused has no answer
-onward_never : {X Y : Type 0} (spans : List Span) (r : Result X ImageError) (f : X → Reads Y) (y : Y) → (onward spans r f).answer ≡ Ok y → ((x : X) → (f x).answer ≡ Ok y → ⊥) → ⊥
+onward_never : {X Y : Type 0} (spans : List Span) (r : Result X ImageError) (f : X → Reads Y) (y : Y) → (onward spans r f).answer ≡ Ok y
+    → ((x : X) → (f x).answer ≡ Ok y → ⊥) → ⊥
 onward_never spans (Ok x) f y is never = never x is
 onward_never spans (Err e) f y is never = absurd cc
 
 never_ok : {X : Type 0} (d : List ℕ) (t : Layout X) (v : X) → Never t → (over d t).answer ≡ Ok v → ⊥
 never_ok d (done x) v never is = never
 never_ok d (refuse e) v never is = absurd cc
-never_ok d (field order place k f) v never is = onward_never (span_of d place k) (number_at d order place k) (λ n. over d (f n)) v is (λ n ok. never_ok d (f n) v (never n) ok)
-never_ok d (reading r place f) v never is = onward_never (read_of d r place).marks (read_of d r place).answer (λ bs. over d (f bs)) v is (λ bs ok. never_ok d (f bs) v (never bs) ok)
+never_ok d (field order place k f) v never is = onward_never (span_of d place k) (number_at d order place k) (λ n. over d (f n)) v is
+    (λ n ok. never_ok d (f n) v (never n) ok)
+never_ok d (reading r place f) v never is = onward_never (read_of d r place).marks (read_of d r place).answer (λ bs. over d (f bs)) v is
+    (λ bs ok. never_ok d (f bs) v (never bs) ok)
 
 -- bytes behind the input follow those that are there
 drop_grows : (n : ℕ) (d x : List ℕ) → (rest : List ℕ) × (drop n (d ++ x) ≡ drop n d ++ rest)
@@ -89,14 +94,16 @@ part_grows d x place k =
     (more.0, ap (take k) behind_place.1 ∙ more.1)
 
 -- a text that has ended is not changed by them, nor is one of as many bytes as it may have
-text_more : (d x : List ℕ) (t : Text) (place k : ℕ) → (is_ended t (text_part d t place k) ≡ false → length (text_part d t place k) < k → ⊥) → text_part (d ++ x) t place k ≡ text_part d t place k
+text_more : (d x : List ℕ) (t : Text) (place k : ℕ) → (is_ended t (text_part d t place k) ≡ false → length (text_part d t place k) < k
+    → ⊥) → text_part (d ++ x) t place k ≡ text_part d t place k
 unfolding text_part
 text_more d x t place k uncut = by_end (is_ended t (part d place k)) refl where
   by_end : (is : Bool) → is_ended t (part d place k) ≡ is → text_front t (part (d ++ x) place k) ≡ text_front t (part d place k)
   by_end true some = let grows = part_grows d x place k in ap (text_front t) grows.1 ∙ front_more t (part d place k) grows.0 some
   by_end false none = elim (cases_lt (length d - place) k) [
     | inr all ↦ ap (text_front t) (part_more d x place k all)
-    | inl some_missing ↦ absurd (uncut (front_any t (part d place k) ∙ none) (omega (arith, some_missing, part_length d place k, ap length (front_all t (part d place k) none))))
+    | inl some_missing ↦ absurd (uncut (front_any t (part d place k) ∙ none)
+        (omega (arith, some_missing, part_length d place k, ap length (front_all t (part d place k) none))))
   ]
 
 -- what holds of the bytes of a reading that was not cut
@@ -106,7 +113,8 @@ otherwise P Q (PartOf k) bs h = h.1
 otherwise P Q (TextOf t k) bs h = h.1
 
 -- bytes behind the input do not change a reading that was answered and not cut
-reading_more : (P Q : Type 0) (d x : List ℕ) (r : Reading) (place : ℕ) (bs : List ℕ) → (P → ⊥) → WhereCut r bs P Q → (read_of d r place).answer ≡ Ok bs → read_of (d ++ x) r place ≡ read_of d r place
+reading_more : (P Q : Type 0) (d x : List ℕ) (r : Reading) (place : ℕ) (bs : List ℕ) → (P → ⊥) → WhereCut r bs P Q
+    → (read_of d r place).answer ≡ Ok bs → read_of (d ++ x) r place ≡ read_of d r place
 reading_more P Q d x (AllOf k) place bs not_cut h is =
     let all = bytes_ok d bs place k is in
     rw (span_more d x place k all, bytes_more d x place k all) refl
@@ -120,22 +128,28 @@ reading_more P Q d x (TextOf t k) place bs not_cut h is =
     (text_more d x t place k (λ open_end few. not_cut (h.0 (ap (is_ended t) (sym got) ∙ open_end) (omega (arith, few, ap length got)))))
 
 -- what goes on is the same, where the readings are so whose answer it goes on from
-onward_more : {X Y : Type 0} (r r' : Reads X) (f g : X → Reads Y) (y : Y) → (and_then r f).answer ≡ Ok y → ((x : X) → r.answer ≡ Ok x → (f x).answer ≡ Ok y → r' ≡ r) → ((x : X) → (f x).answer ≡ Ok y → g x ≡ f x) → and_then r' g ≡ and_then r f
+onward_more : {X Y : Type 0} (r r' : Reads X) (f g : X → Reads Y) (y : Y) → (and_then r f).answer ≡ Ok y
+    → ((x : X) → r.answer ≡ Ok x → (f x).answer ≡ Ok y → r' ≡ r) → ((x : X) → (f x).answer ≡ Ok y → g x ≡ f x)
+    → and_then r' g ≡ and_then r f
 onward_more {X} {Y} r r' f g y is same rest = by_answer r.answer refl where
   by_answer : (a : Result X ImageError) → r.answer ≡ a → and_then r' g ≡ and_then r f
   by_answer (Ok x) ok =
       let ends : (f x).answer ≡ Ok y = sym (ap (λ a. (onward r.marks a f).answer) ok) ∙ is in
-      ap (λ w. and_then w g) (same x ok ends) ∙ ap (λ a. onward r.marks a g) ok ∙ ap (behind r.marks) (rest x ends) ∙ sym (ap (λ a. onward r.marks a f) ok)
-  by_answer (Err e) bad = absurd (let no : ◌≡◌ {A = Result Y ImageError} (Err e) (Ok y) = sym (ap (λ a. (onward r.marks a f).answer) bad) ∙ is in cc)
+      ap (λ w. and_then w g) (same x ok ends) ∙ ap (λ a. onward r.marks a g) ok ∙ ap (behind r.marks) (rest x ends)
+          ∙ sym (ap (λ a. onward r.marks a f) ok)
+  by_answer (Err e) bad = absurd (let no : ◌≡◌ {A = Result Y ImageError} (Err e) (Ok y) = sym (ap (λ a. (onward r.marks a f).answer) bad)
+      ∙ is in cc)
 
 -- Extension: where a plain layout has an answer, it has it over the input and any bytes behind it, with the same marks.
 pub more : {X : Type 0} (d x : List ℕ) (t : Layout X) (v : X) → Plain t → (over d t).answer ≡ Ok v → over (d ++ x) t ≡ over d t
 more d x (done u) v p is = refl
 more d x (refuse e) v p is = refl
-more d x (field order place k f) v p is = onward_more (number_read d order place k) (number_read (d ++ x) order place k) (λ n. over d (f n)) (λ n. over (d ++ x) (f n)) v is
+more d x (field order place k f) v p is = onward_more (number_read d order place k) (number_read (d ++ x) order place k)
+    (λ n. over d (f n)) (λ n. over (d ++ x) (f n)) v is
     (λ n got ok. let all = number_ok d order place k n got in rw (span_more d x place k all, number_more d x order place k all) refl)
     (λ n ok. more d x (f n) v (p n) ok)
-more d x (reading r place f) v p is = onward_more (read_of d r place) (read_of (d ++ x) r place) (λ bs. over d (f bs)) (λ bs. over (d ++ x) (f bs)) v is
+more d x (reading r place f) v p is = onward_more (read_of d r place) (read_of (d ++ x) r place) (λ bs. over d (f bs))
+    (λ bs. over (d ++ x) (f bs)) v is
     (λ bs got ok. reading_more (Never (f bs)) (Plain (f bs)) d x r place bs (λ never. never_ok d (f bs) v never ok) (p bs) got)
     (λ bs ok. more d x (f bs) v (otherwise (Never (f bs)) (Plain (f bs)) r bs (p bs)) ok)
 

@@ -12,12 +12,14 @@ use Rattle.imagesize_source.specs.Reading.{Reads, and_then, onward, behind, numb
 use Rattle.imagesize_source.specs.State.{State, Runs, total, past}
 use Rattle.imagesize_source.proofs.Runs.{answered, part_is}
 
-behind-onward : {Y Z : Type 0} (marks more : List Span) (r : Result Y ImageError) (g : Y → Reads Z) → behind marks (onward more r g) ≡ onward (marks ++ more) r g
+behind-onward : {Y Z : Type 0} (marks more : List Span) (r : Result Y ImageError) (g : Y → Reads Z) → behind marks (onward more r g)
+    ≡ onward (marks ++ more) r g
 behind-onward marks more (Ok y) g = ap (λ m. record { answer = (g y).answer; marks = m }) (sym (append_assoc marks more (g y).marks))
 behind-onward marks more (Err e) g = refl
 
 -- what goes on from an answer that itself goes on
-onward-and_then : {X Y Z : Type 0} (marks : List Span) (r : Result X ImageError) (f : X → Reads Y) (g : Y → Reads Z) (both : X → Reads Z) → ((x : X) → both x ≡ and_then (f x) g) → onward marks r both ≡ and_then (onward marks r f) g
+onward-and_then : {X Y Z : Type 0} (marks : List Span) (r : Result X ImageError) (f : X → Reads Y) (g : Y → Reads Z) (both : X → Reads Z)
+    → ((x : X) → both x ≡ and_then (f x) g) → onward marks r both ≡ and_then (onward marks r f) g
 onward-and_then marks (Ok x) f g both is = ap (behind marks) (is x) ∙ behind-onward marks (f x).marks (f x).answer g
 onward-and_then marks (Err e) f g both is = refl
 
@@ -25,8 +27,10 @@ onward-and_then marks (Err e) f g both is = refl
 pub over-bind : {X Y : Type 0} (d : List ℕ) (t : Layout X) (f : X → Layout Y) → over d (bind t f) ≡ and_then (over d t) (λ x. over d (f x))
 over-bind d (done x) f = refl
 over-bind d (refuse e) f = refl
-over-bind d (field order place k g) f = onward-and_then (span_of d place k) (number_at d order place k) (λ v. over d (g v)) (λ x. over d (f x)) (λ v. over d (bind (g v) f)) (λ v. over-bind d (g v) f)
-over-bind d (reading r place g) f = onward-and_then (read_of d r place).marks (read_of d r place).answer (λ bs. over d (g bs)) (λ x. over d (f x)) (λ bs. over d (bind (g bs) f)) (λ bs. over-bind d (g bs) f)
+over-bind d (field order place k g) f = onward-and_then (span_of d place k) (number_at d order place k) (λ v. over d (g v))
+    (λ x. over d (f x)) (λ v. over d (bind (g v) f)) (λ v. over-bind d (g v) f)
+over-bind d (reading r place g) f = onward-and_then (read_of d r place).marks (read_of d r place).answer (λ bs. over d (g bs))
+    (λ x. over d (f x)) (λ bs. over d (bind (g bs) f)) (λ bs. over-bind d (g bs) f)
 
 whole-all : (k : ℕ) (bs : List ℕ) → k ≤ length bs → whole k bs ≡ Some bs
 whole-all k bs all = grind (arith, nat_tests)
@@ -35,7 +39,8 @@ whole-some : (k : ℕ) (bs : List ℕ) → length bs < k → whole k bs ≡ None
 whole-some k bs short = grind (arith, nat_tests)
 
 -- all of the bytes are there
-pub whole_there : {a b : State} (d room : List ℕ) (place k n : ℕ) → Runs a b (Ok (take n room)) (part_read d place (length room)) → length room ≡ k → k ≤ n → Runs a b (Ok (Some room)) (over d (if_there place k done))
+pub whole_there : {a b : State} (d room : List ℕ) (place k n : ℕ) → Runs a b (Ok (take n room)) (part_read d place (length room))
+    → length room ≡ k → k ≤ n → Runs a b (Ok (Some room)) (over d (if_there place k done))
 whole_there {a} {b} d room place k n h long all =
     let same : take n room ≡ room = take_all n room (omega arith) in
     answered (Ok (Some room)) (over d (if_there place k done)) h (append-nil _ ∙ ap (span_of d place) (sym long))
@@ -45,14 +50,17 @@ whole_there {a} {b} d room place k n h long all =
     refl refl tt
 
 -- some are missing
-pub whole_missing : {a b : State} (d room : List ℕ) (place k n : ℕ) → Runs a b (Ok (take n room)) (part_read d place (length room)) → length room ≡ k → n < k → Runs a b (Ok None) (over d (if_there place k done))
+pub whole_missing : {a b : State} (d room : List ℕ) (place k n : ℕ) → Runs a b (Ok (take n room)) (part_read d place (length room))
+    → length room ≡ k → n < k → Runs a b (Ok None) (over d (if_there place k done))
 whole_missing {a} {b} d room place k n h long short =
     answered (Ok None) (over d (if_there place k done)) h (append-nil _ ∙ ap (span_of d place) (sym long))
-    (λ is. ap Ok (whole-some k (part d place k) (omega (arith, long, length-take n room, ap length (ap (part d place) (sym long) ∙ part_is is)))))
+    (λ is. ap Ok (whole-some k (part d place k)
+        (omega (arith, long, length-take n room, ap length (ap (part d place) (sym long) ∙ part_is is)))))
     refl refl tt
 
 -- readings that are others' where the source is honest
-pub runs_as : {X : Type 0} {a b : State} {r : Result X ImageError} {reads : Reads X} (other : Reads X) → Runs a b r reads → (a.held.honest ≡ true → reads ≡ other) → Runs a b r other
+pub runs_as : {X : Type 0} {a b : State} {r : Result X ImageError} {reads : Reads X} (other : Reads X) → Runs a b r reads
+    → (a.held.honest ≡ true → reads ≡ other) → Runs a b r other
 runs_as {X} {a} {b} {r} other h same = record {
   sound = h.sound;
   sound_after = h.sound_after;
@@ -66,7 +74,8 @@ runs_as {X} {a} {b} {r} other h same = record {
 }
 
 -- an honest source tells the length
-pub by_told : {X : Type 0} {a b : State} {r : Result X ImageError} (f : ℕ → Reads X) → Runs a b r (f a.frame.told) → Runs a b r (f (length a.held.input))
+pub by_told : {X : Type 0} {a b : State} {r : Result X ImageError} (f : ℕ → Reads X) → Runs a b r (f a.frame.told)
+    → Runs a b r (f (length a.held.input))
 by_told {a} f h = runs_as (f (length a.held.input)) h (λ honest. ap f (h.sound honest).0)
 
 -- behind the end nothing is there

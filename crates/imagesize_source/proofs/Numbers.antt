@@ -72,7 +72,8 @@ little_1 (a ∷ []) is = omega arith
 little_1 (a ∷ x ∷ rest) is = absurd (omega (arith, is))
 
 -- three bytes are four of which the highest is 0
-pub little_3 : (bs : List ℕ) → length bs ≡ 3 → from_le_bytes w32 (slice_index_or bs 0 0 ∷ slice_index_or bs 1 0 ∷ slice_index_or bs 2 0 ∷ 0 ∷ []) ≡ number Little bs
+pub little_3 : (bs : List ℕ) → length bs ≡ 3 → from_le_bytes w32 (slice_index_or bs 0 0 ∷ slice_index_or bs 1 0 ∷ slice_index_or bs 2 0
+    ∷ 0 ∷ []) ≡ number Little bs
 unfolding number
 little_3 [] is = absurd (omega (arith, is))
 little_3 (a ∷ []) is = absurd (omega (arith, is))
@@ -80,7 +81,8 @@ little_3 (a ∷ b ∷ []) is = absurd (omega (arith, is))
 little_3 (a ∷ b ∷ c ∷ []) is = omega arith
 little_3 (a ∷ b ∷ c ∷ x ∷ rest) is = absurd (omega (arith, is))
 
-pub big_3 : (bs : List ℕ) → length bs ≡ 3 → from_be_bytes w32 (0 ∷ slice_index_or bs 0 0 ∷ slice_index_or bs 1 0 ∷ slice_index_or bs 2 0 ∷ []) ≡ number Big bs
+pub big_3 : (bs : List ℕ) → length bs ≡ 3 → from_be_bytes w32 (0 ∷ slice_index_or bs 0 0 ∷ slice_index_or bs 1 0 ∷ slice_index_or bs 2 0
+    ∷ []) ≡ number Big bs
 unfolding number
 big_3 [] is = absurd (omega (arith, is))
 big_3 (a ∷ []) is = absurd (omega (arith, is))

@@ -11,9 +11,13 @@ use Rattle.imagesize_source.proofs.Layouts.{no_part, no_span, runs_as}
 use Rattle.imagesize_source.proofs.Runs.{past-none}
 
 -- Readings that are the same at every place beyond the end: no input is so long that a place beyond 64 bits is within it.
-pub saturated_by : {X : Type 0} {a b : State} {r : Result X ImageError} (f : ℕ → List ℕ → Reads X) (other : Reads X) (place : ℕ) → ((d : List ℕ) (p : ℕ) → length d ≤ p → f p d ≡ other) → Runs a b r (f (min place (2 ^ 64 - 1)) a.held.input) → Runs a b r (f place a.held.input)
-saturated_by {a} f other place beyond h = runs_as (f place a.held.input) h (λ honest. within a.held.input (h.sound honest).1 (leb place (2 ^ 64 - 1)) refl) where
-  within : (d : List ℕ) → length d < 2 ^ 63 → (is_within : Bool) → leb place (2 ^ 64 - 1) ≡ is_within → f (min place (2 ^ 64 - 1)) d ≡ f place d
+pub saturated_by : {X : Type 0} {a b : State} {r : Result X ImageError} (f : ℕ → List ℕ → Reads X) (other : Reads X) (place : ℕ)
+    → ((d : List ℕ) (p : ℕ) → length d ≤ p → f p d ≡ other) → Runs a b r (f (min place (2 ^ 64 - 1)) a.held.input)
+    → Runs a b r (f place a.held.input)
+saturated_by {a} f other place beyond h = runs_as (f place a.held.input) h (λ honest. within a.held.input (h.sound honest).1
+    (leb place (2 ^ 64 - 1)) refl) where
+  within : (d : List ℕ) → length d < 2 ^ 63 → (is_within : Bool) → leb place (2 ^ 64 - 1) ≡ is_within → f (min place (2 ^ 64 - 1)) d
+      ≡ f place d
   within d short true is = ap (λ p. f p d) (grind (arith, nat_tests))
   within d short false is = beyond d (min place (2 ^ 64 - 1)) (grind (arith, nat_tests)) ∙ sym (beyond d place (grind (arith, nat_tests)))
 
@@ -29,7 +33,8 @@ unfolding bytes_at
 bytes_at_beyond d place k h some = let test : leb k (length d - place) ≡ false = grind (arith, nat_tests) in rw test refl
 
 -- a layout that reads bytes beyond the end of the input is refused there, and has no mark of them
-pub bytes_beyond : {X : Type 0} (d : List ℕ) (place k : ℕ) (f : List ℕ → Layout X) → length d ≤ place → 0 < k → over d (bytes place k f) ≡ refuses end_of_input
+pub bytes_beyond : {X : Type 0} (d : List ℕ) (place k : ℕ) (f : List ℕ → Layout X) → length d ≤ place → 0 < k → over d (bytes place k f)
+    ≡ refuses end_of_input
 bytes_beyond d place k f h some = rw (no_span d place k h, bytes_at_beyond d place k h some) refl
 
 bytes_read_beyond : (d : List ℕ) (place k : ℕ) → length d ≤ place → 0 < k → bytes_read d place k ≡ refuses end_of_input
@@ -40,22 +45,31 @@ unfolding number_at
 number_beyond d order place k h some = rw (no_span d place k h, bytes_at_beyond d place k h some) refl
 
 -- so a place that is held at the greatest of 64 bits serves as well
-pub part_saturated : {a b : State} {r : Result (List ℕ) ImageError} (place k : ℕ) → Runs a b r (part_read a.held.input (min place (2 ^ 64 - 1)) k) → Runs a b r (part_read a.held.input place k)
+pub part_saturated : {a b : State} {r : Result (List ℕ) ImageError} (place k : ℕ)
+    → Runs a b r (part_read a.held.input (min place (2 ^ 64 - 1)) k) → Runs a b r (part_read a.held.input place k)
 part_saturated place k h = saturated_by (λ p d. part_read d p k) (gives []) place (λ d p far. part_beyond d p k far) h
 
-pub whole_saturated : {a b : State} {r : Result (Option (List ℕ)) ImageError} (place k : ℕ) → Runs a b r (over a.held.input (if_there (min place (2 ^ 64 - 1)) k done)) → Runs a b r (over a.held.input (if_there place k done))
-whole_saturated place k h = saturated_by (λ p d. over d (if_there p k done)) (gives (whole k [])) place (λ d p far. whole_beyond d p k far) h
+pub whole_saturated : {a b : State} {r : Result (Option (List ℕ)) ImageError} (place k : ℕ)
+    → Runs a b r (over a.held.input (if_there (min place (2 ^ 64 - 1)) k done)) → Runs a b r (over a.held.input (if_there place k done))
+whole_saturated place k h = saturated_by (λ p d. over d (if_there p k done)) (gives (whole k [])) place
+    (λ d p far. whole_beyond d p k far) h
 
-pub bytes_saturated : {a b : State} {r : Result (List ℕ) ImageError} (place k : ℕ) → 0 < k → Runs a b r (bytes_read a.held.input (min place (2 ^ 64 - 1)) k) → Runs a b r (bytes_read a.held.input place k)
-bytes_saturated place k some h = saturated_by (λ p d. bytes_read d p k) (refuses end_of_input) place (λ d p far. bytes_read_beyond d p k far some) h
+pub bytes_saturated : {a b : State} {r : Result (List ℕ) ImageError} (place k : ℕ) → 0 < k
+    → Runs a b r (bytes_read a.held.input (min place (2 ^ 64 - 1)) k) → Runs a b r (bytes_read a.held.input place k)
+bytes_saturated place k some h = saturated_by (λ p d. bytes_read d p k) (refuses end_of_input) place
+    (λ d p far. bytes_read_beyond d p k far some) h
 
-pub number_saturated : {a b : State} {r : Result ℕ ImageError} (order : Endian) (place k : ℕ) → 0 < k → Runs a b r (number_read a.held.input order (min place (2 ^ 64 - 1)) k) → Runs a b r (number_read a.held.input order place k)
-number_saturated order place k some h = saturated_by (λ p d. number_read d order p k) (refuses end_of_input) place (λ d p far. number_beyond d order p k far some) h
+pub number_saturated : {a b : State} {r : Result ℕ ImageError} (order : Endian) (place k : ℕ) → 0 < k
+    → Runs a b r (number_read a.held.input order (min place (2 ^ 64 - 1)) k) → Runs a b r (number_read a.held.input order place k)
+number_saturated order place k some h = saturated_by (λ p d. number_read d order p k) (refuses end_of_input) place
+    (λ d p far. number_beyond d order p k far some) h
 
 -- a number that would stand beyond 64 bits is refused with no reading
-pub number_refused : {a : State} (order : Endian) (place k : ℕ) → Sound a → 2 ^ 64 ≤ place → 0 < k → Runs {X = ℕ} a a (Err end_of_input) (number_read a.held.input order place k)
+pub number_refused : {a : State} (order : Endian) (place k : ℕ) → Sound a → 2 ^ 64 ≤ place → 0 < k → Runs {X = ℕ} a a (Err end_of_input)
+    (number_read a.held.input order place k)
 number_refused {a} order place k sound beyond some =
-    let gone = λ (honest : a.held.honest ≡ true). number_beyond a.held.input order place k (omega (arith, (sound honest).1, beyond)) some in
+    let gone = λ (honest : a.held.honest ≡ true). number_beyond a.held.input order place k (omega (arith, (sound honest).1, beyond)) some
+        in
     record {
       sound = sound;
       sound_after = sound;

@@ -35,7 +35,8 @@ reached_start a whole = record {
   left = λ honest. refl;
 }
 
-total_onward : {X Y : Type 0} (spans : List Span) (r : Result Y ImageError) (f : Y → Reads X) → total spans ≤ total (onward spans r f).marks
+total_onward : {X Y : Type 0} (spans : List Span) (r : Result Y ImageError) (f : Y → Reads X)
+    → total spans ≤ total (onward spans r f).marks
 total_onward spans (Ok y) f = let all = total-append spans (f y).marks in omega arith
 total_onward spans (Err e) f = omega arith
 
@@ -43,7 +44,8 @@ onward_at : {X Y : Type 0} (spans : List Span) (r s : Result Y ImageError) (f : 
 onward_at spans r s f is = ap (λ q. onward spans q f) is
 
 -- nothing is read
-pub reads_nothing : {X : Type 0} (b : State) (r : Result X ImageError) → Sound b → faulted r ≡ false → IfErr r (EndedBy b) → Runs b b r (record { answer = r; marks = [] })
+pub reads_nothing : {X : Type 0} (b : State) (r : Result X ImageError) → Sound b → faulted r ≡ false → IfErr r (EndedBy b)
+    → Runs b b r (record { answer = r; marks = [] })
 unfolding past
 reads_nothing b r sound no_fault ended = record {
   sound = sound;
@@ -82,7 +84,10 @@ module _ {X : Type 0} {a b : State} {whole rest : Reads X} (h : Reached a b whol
   }
 
   -- a run that ends with what was left, or is ended by a refusal on the way
-  ended_by : {end : State} {Y : Type 0} (r : Result X ImageError) (s : Result Y ImageError) (given : Reads Y) → Runs b end s given → stopped s ≡ stopped r → faulted s ≡ faulted r → IfErr r (EndedBy end) → (a.held.honest ≡ true → total given.marks ≤ total rest.marks) → (a.held.honest ≡ true → given.answer ≡ s → (rest.answer ≡ r) × (rest.marks ≡ given.marks)) → Runs a end r whole
+  ended_by : {end : State} {Y : Type 0} (r : Result X ImageError) (s : Result Y ImageError) (given : Reads Y) → Runs b end s given
+      → stopped s ≡ stopped r → faulted s ≡ faulted r → IfErr r (EndedBy end)
+      → (a.held.honest ≡ true → total given.marks ≤ total rest.marks) → (a.held.honest ≡ true → given.answer ≡ s
+      → (rest.answer ≡ r) × (rest.marks ≡ given.marks)) → Runs a end r whole
   ended_by {end} r s given run stops faults ended within same = record {
     sound = h.sound run.sound;
     sound_after = run.sound_after;
@@ -90,7 +95,8 @@ module _ {X : Type 0} {a b : State} {whole rest : Reads X} (h : Reached a b whol
     taken = let one = h.taken in let two = run.taken in omega arith;
     within = λ honest.
         let one = h.within honest in let two = run.within (still_honest honest) in let fits = within honest in
-        let all : total whole.marks ≡ total h.made + total rest.marks = ap (λ w. total w.marks) (h.left honest) ∙ total-append h.made rest.marks in
+        let all : total whole.marks ≡ total h.made + total rest.marks = ap (λ w. total w.marks) (h.left honest) ∙ total-append h.made
+            rest.marks in
         omega arith;
     answer = λ honest goes_on. ap (λ w. w.answer) (h.left honest) ∙ (same honest (run.answer (still_honest honest) (stops ∙ goes_on))).0;
     state = λ honest goes_on.
@@ -102,27 +108,33 @@ module _ {X : Type 0} {a b : State} {whole rest : Reads X} (h : Reached a b whol
   }
 
   -- the readings that were left end the run
-  pub reached_end : {end : State} (r : Result X ImageError) (given : Reads X) → Runs b end r given → (a.held.honest ≡ true → given ≡ rest) → Runs a end r whole
+  pub reached_end : {end : State} (r : Result X ImageError) (given : Reads X) → Runs b end r given
+      → (a.held.honest ≡ true → given ≡ rest) → Runs a end r whole
   reached_end r given run same = ended_by r r given run refl refl run.ended
       (λ honest. let is = ap (λ w. total w.marks) (same honest) in omega arith)
       (λ honest is. (ap (λ w. w.answer) (sym (same honest)) ∙ is, ap (λ w. w.marks) (sym (same honest))))
 
   -- nothing more is read, and the answer is known
-  pub reached_now : (r : Result X ImageError) → Sound b → faulted r ≡ false → IfErr r (EndedBy b) → (a.held.honest ≡ true → length a.held.input < 2 ^ 63 → rest ≡ record { answer = r; marks = [] }) → Runs a b r whole
+  pub reached_now : (r : Result X ImageError) → Sound b → faulted r ≡ false → IfErr r (EndedBy b)
+      → (a.held.honest ≡ true → length a.held.input < 2 ^ 63 → rest ≡ record { answer = r; marks = [] }) → Runs a b r whole
   reached_now r sound no_fault ended same = reached_end r (record { answer = r; marks = [] }) (reads_nothing b r sound no_fault ended)
       (λ honest. sym (same honest (let short = (h.sound sound honest).1 in omega arith)))
 
-module _ {X Y : Type 0} {a b : State} {whole : Reads X} (reads : Reads Y) (f : Y → Reads X) (h : Reached a b whole (and_then reads f)) where
+module _ {X Y : Type 0} {a b : State} {whole : Reads X} (reads : Reads Y) (f : Y → Reads X) (h : Reached a b whole (and_then reads f))
+    where
   -- the next readings, and what is left behind their answer
-  pub reached_step : {end : State} (y : Y) (given : Reads Y) → Runs b end (Ok y) given → (a.held.honest ≡ true → given ≡ reads) → Reached a end whole (f y)
+  pub reached_step : {end : State} (y : Y) (given : Reads Y) → Runs b end (Ok y) given → (a.held.honest ≡ true → given ≡ reads)
+      → Reached a end whole (f y)
   reached_step {end} y given run same = record {
     sound = λ _. h.sound run.sound;
     frame = run.frame ∙ h.frame;
     taken = let one = h.taken in let two = run.taken in omega arith;
     made = h.made ++ given.marks;
     within = λ honest.
-        let one = h.within honest in let two = run.within (still_honest h honest) in let all = total-append h.made given.marks in omega arith;
-    state = λ honest. run.state (still_honest h honest) refl ∙ ap (λ s. past s given.marks) (h.state honest) ∙ past-past a h.made given.marks;
+        let one = h.within honest in let two = run.within (still_honest h honest) in let all = total-append h.made given.marks in
+            omega arith;
+    state = λ honest. run.state (still_honest h honest) refl ∙ ap (λ s. past s given.marks) (h.state honest) ∙ past-past a h.made
+        given.marks;
     left = λ honest.
         h.left honest ∙ ap (λ w. behind h.made (and_then w f)) (sym (same honest))
         ∙ ap (behind h.made) (onward_at given.marks given.answer (Ok y) f (run.answer (still_honest h honest) refl))
@@ -130,7 +142,8 @@ module _ {X Y : Type 0} {a b : State} {whole : Reads X} (reads : Reads Y) (f : Y
   }
 
   -- the next readings were refused
-  pub reached_out : {end : State} (e : ImageError) (given : Reads Y) → Runs b end (Err e) given → (a.held.honest ≡ true → given ≡ reads) → Runs a end (Err e) whole
+  pub reached_out : {end : State} (e : ImageError) (given : Reads Y) → Runs b end (Err e) given → (a.held.honest ≡ true → given ≡ reads)
+      → Runs a end (Err e) whole
   reached_out e given run same = ended_by h (Err e) (Err e) given run refl refl run.ended
       (λ honest. let is = ap (λ w. total w.marks) (same honest) in let more = total_onward reads.marks reads.answer f in omega arith)
       (λ honest is.
@@ -139,7 +152,8 @@ module _ {X Y : Type 0} {a b : State} {whole : Reads X} (reads : Reads Y) (f : Y
       (ap (λ w. w.answer) out, ap (λ w. w.marks) out))
 
   -- the next readings gave the answer, behind which nothing is read
-  pub reached_stop : {end : State} (x : X) (y : Y) (given : Reads Y) → f y ≡ gives x → Runs b end (Ok y) given → (a.held.honest ≡ true → given ≡ reads) → Runs a end (Ok x) whole
+  pub reached_stop : {end : State} (x : X) (y : Y) (given : Reads Y) → f y ≡ gives x → Runs b end (Ok y) given
+      → (a.held.honest ≡ true → given ≡ reads) → Runs a end (Ok x) whole
   reached_stop x y given last run same = ended_by h (Ok x) (Ok y) given run refl refl tt
       (λ honest. let is = ap (λ w. total w.marks) (same honest) in let more = total_onward reads.marks reads.answer f in omega arith)
       (λ honest is.
@@ -148,31 +162,43 @@ module _ {X Y : Type 0} {a b : State} {whole : Reads X} (reads : Reads Y) (f : Y
       (ap (λ w. w.answer) out, ap (λ w. w.marks) out ∙ append-nil given.marks))
 
 -- a walk along a chain, from which what is left is the chain from here on
-module _ {C X : Type 0} (c : Chain C X) (adv : (d : List ℕ) → Advances c d) {a b : State} {whole : Reads X} (t : Along C) (h : Reached a b whole (chain_from c a.held.input t)) where
+module _ {C X : Type 0} (c : Chain C X) (adv : (d : List ℕ) → Advances c d) {a b : State} {whole : Reads X} (t : Along C)
+    (h : Reached a b whole (chain_from c a.held.input t)) where
   unfolded : Reached a b whole (and_then (next_record c a.held.input t) (follows c a.held.input t.held))
-  unfolded = reached_as h (and_then (next_record c a.held.input t) (follows c a.held.input t.held)) (λ honest. chain_unfolds c a.held.input t (adv a.held.input))
+  unfolded = reached_as h (and_then (next_record c a.held.input t) (follows c a.held.input t.held))
+      (λ honest. chain_unfolds c a.held.input t (adv a.held.input))
 
   read : a.held.honest ≡ true → next_record c b.held.input t ≡ next_record c a.held.input t
   read honest = ap (λ d. next_record c d t) (same_input h honest)
 
   -- goes on by a record that tells the place of the next
-  pub walk_on : {end : State} (v : C) (place : ℕ) → Runs b end (Ok (Next v place)) (next_record c b.held.input t) → Reached a end whole (chain_from c a.held.input (record { held = t.held ++ v ∷ []; place = place }))
-  walk_on v place run = reached_step (next_record c a.held.input t) (follows c a.held.input t.held) unfolded (Next v place) (next_record c b.held.input t) run read
+  pub walk_on : {end : State} (v : C) (place : ℕ) → Runs b end (Ok (Next v place)) (next_record c b.held.input t)
+      → Reached a end whole (chain_from c a.held.input (record { held = t.held ++ v ∷ []; place = place }))
+  walk_on v place run = reached_step (next_record c a.held.input t) (follows c a.held.input t.held) unfolded (Next v place)
+      (next_record c b.held.input t) run read
 
   -- ends by one that decides
   pub walk_stop : {end : State} (x : X) → Runs b end (Ok (Decided x)) (next_record c b.held.input t) → Runs a end (Ok x) whole
-  walk_stop x run = reached_stop (next_record c a.held.input t) (follows c a.held.input t.held) unfolded x (Decided x) (next_record c b.held.input t) refl run read
+  walk_stop x run = reached_stop (next_record c a.held.input t) (follows c a.held.input t.held) unfolded x (Decided x)
+      (next_record c b.held.input t) refl run read
 
   -- or by one that is refused
   pub walk_out : {end : State} (e : ImageError) → Runs b end (Err e) (next_record c b.held.input t) → Runs a end (Err e) whole
-  walk_out e run = reached_out (next_record c a.held.input t) (follows c a.held.input t.held) unfolded e (next_record c b.held.input t) run read
+  walk_out e run = reached_out (next_record c a.held.input t) (follows c a.held.input t.held) unfolded e (next_record c b.held.input t)
+      run read
 
 -- a layout that was read, and what goes on from its answer and reads nothing
-pub runs_bind : {X Y : Type 0} {a b : State} {x : X} (r : Result Y ImageError) (t : Layout X) (f : X → Layout Y) → Runs a b (Ok x) (over a.held.input t) → ((d : List ℕ) → over d (f x) ≡ record { answer = r; marks = [] }) → faulted r ≡ false → IfErr r (EndedBy b) → Runs a b r (over a.held.input (bind t f))
+pub runs_bind : {X Y : Type 0} {a b : State} {x : X} (r : Result Y ImageError) (t : Layout X) (f : X → Layout Y)
+    → Runs a b (Ok x) (over a.held.input t) → ((d : List ℕ) → over d (f x) ≡ record { answer = r; marks = [] }) → faulted r ≡ false
+    → IfErr r (EndedBy b) → Runs a b r (over a.held.input (bind t f))
 runs_bind {X} {Y} {a} {b} {x} r t f first says no_fault ended =
-    let second : Runs b b r (over b.held.input (f x)) = subst (λ w. Runs b b r w) (sym (says b.held.input)) (reads_nothing b r first.sound_after no_fault ended) in
-    subst (λ w. Runs a b r w) (sym (over-bind a.held.input t f)) (runs_then (over a.held.input t) (λ v held. over held.input (f v)) first second)
+    let second : Runs b b r (over b.held.input (f x)) = subst (λ w. Runs b b r w) (sym (says b.held.input))
+        (reads_nothing b r first.sound_after no_fault ended) in
+    subst (λ w. Runs a b r w) (sym (over-bind a.held.input t f)) (runs_then (over a.held.input t) (λ v held. over held.input (f v)) first
+        second)
 
 -- a layout that was refused
-pub refused_bind : {X Y : Type 0} {a b : State} {e : ImageError} (t : Layout X) (f : X → Layout Y) → Runs {X = X} a b (Err e) (over a.held.input t) → Runs {X = Y} a b (Err e) (over a.held.input (bind t f))
-refused_bind {X} {Y} {a} {b} {e} t f h = subst (λ w. Runs {X = Y} a b (Err e) w) (sym (over-bind a.held.input t f)) (runs_refused (over a.held.input t) (λ v. over a.held.input (f v)) h)
+pub refused_bind : {X Y : Type 0} {a b : State} {e : ImageError} (t : Layout X) (f : X → Layout Y) → Runs {X = X} a b (Err e)
+    (over a.held.input t) → Runs {X = Y} a b (Err e) (over a.held.input (bind t f))
+refused_bind {X} {Y} {a} {b} {e} t f h = subst (λ w. Runs {X = Y} a b (Err e) w) (sym (over-bind a.held.input t f))
+    (runs_refused (over a.held.input t) (λ v. over a.held.input (f v)) h)

@@ -20,18 +20,26 @@ unfolding span_of
 span_is d place k m n count same = ap (span_at place) (count ∙ ap (λ j. min j (length d - place)) (sym same))
 
 -- readings of a slice whose spans were recorded
-recording_runs : {X : Type 0} {reads : Reads X} (d : List ℕ) (spans after : List Span) (x : X) → length d < 2 ^ 63 → reads.answer ≡ Ok x → after ≡ spans ++ reads.marks → Runs (recording_state d spans) (recording_state d after) (Ok x) reads
+recording_runs : {X : Type 0} {reads : Reads X} (d : List ℕ) (spans after : List Span) (x : X) → length d < 2 ^ 63 → reads.answer ≡ Ok x
+    → after ≡ spans ++ reads.marks → Runs (recording_state d spans) (recording_state d after) (Ok x) reads
 recording_runs {X} {reads} d spans after x short is recorded =
-    given_runs x (λ honest. (refl, short)) (λ honest. (refl, short)) refl refl is (ap (recording_state d) recorded ∙ sym (past-recording d spans reads.marks))
+    given_runs x (λ honest. (refl, short)) (λ honest. (refl, short)) refl refl is
+        (ap (recording_state d) recorded ∙ sym (past-recording d spans reads.marks))
 
 -- a reading of bytes
-pub recording_reads : (d room old : List ℕ) (spans after : List Span) (place n : ℕ) → length d < 2 ^ 63 → n ≡ min (length old) (length d - place) → room ≡ part d place (length old) ++ drop n old → length room ≡ length old → after ≡ spans ++ span_at place n → Runs (recording_state d spans) (recording_state d after) (Ok (take n room)) (part_read d place (length room))
+pub recording_reads : (d room old : List ℕ) (spans after : List Span) (place n : ℕ) → length d < 2 ^ 63
+    → n ≡ min (length old) (length d - place) → room ≡ part d place (length old) ++ drop n old → length room ≡ length old
+    → after ≡ spans ++ span_at place n → Runs (recording_state d spans) (recording_state d after) (Ok (take n room))
+    (part_read d place (length room))
 recording_reads d room old spans after place n short count copied kept recorded =
     recording_runs d spans after (take n room) short (ap Ok (sym (front_is d room old place n count copied kept)))
     (recorded ∙ ap (λ s. spans ++ s) (span_is d place (length old) (length room) n count kept))
 
 -- a reading of a text
-pub recording_reads_text : (d old copied found : List ℕ) (t : Text) (spans after : List Span) (place : ℕ) → length d < 2 ^ 63 → found ≡ text_part d t place (length old) → length found ≤ length old → copied ≡ found → after ≡ spans ++ span_at place (length found) → Runs (recording_state d spans) (recording_state d after) (Ok (take (length found) (copied ++ drop (length found) old))) (text_read d t place (length (copied ++ drop (length found) old)))
+pub recording_reads_text : (d old copied found : List ℕ) (t : Text) (spans after : List Span) (place : ℕ) → length d < 2 ^ 63
+    → found ≡ text_part d t place (length old) → length found ≤ length old → copied ≡ found → after ≡ spans ++ span_at place
+    (length found) → Runs (recording_state d spans) (recording_state d after)
+    (Ok (take (length found) (copied ++ drop (length found) old))) (text_read d t place (length (copied ++ drop (length found) old)))
 recording_reads_text d old copied found t spans after place short is fits same recorded =
     let front = copied_is d old copied found t place is fits same in
     recording_runs d spans after (take (length found) (copied ++ drop (length found) old)) short

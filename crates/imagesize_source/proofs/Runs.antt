@@ -11,7 +11,9 @@ use Rattle.imagesize_source.specs.Reading.{Reads, onward, behind, and_then, byte
 use Rattle.imagesize_source.specs.State.{State, Held, Runs, EndedBy, total, past, step}
 
 -- the same readings, answered otherwise where nothing stopped them
-pub answered : {X Y : Type 0} {a b : State} {x : X} {reads : Reads X} (r : Result Y ImageError) (other : Reads Y) → Runs a b (Ok x) reads → other.marks ≡ reads.marks → (reads.answer ≡ Ok x → other.answer ≡ r) → stopped r ≡ false → faulted r ≡ false → IfErr r (EndedBy b) → Runs a b r other
+pub answered : {X Y : Type 0} {a b : State} {x : X} {reads : Reads X} (r : Result Y ImageError) (other : Reads Y) → Runs a b (Ok x) reads
+    → other.marks ≡ reads.marks → (reads.answer ≡ Ok x → other.answer ≡ r) → stopped r ≡ false → faulted r ≡ false → IfErr r (EndedBy b)
+    → Runs a b r other
 answered {a} {b} {x} {reads} r other h marks answer goes_on no_fault ended = record {
   sound = h.sound;
   sound_after = h.sound_after;
@@ -40,7 +42,8 @@ not_there : (d : List ℕ) (place k : ℕ) → length (part d place k) < k → l
 not_there d place k short = let n = part_length d place k in grind (arith, nat_tests)
 
 -- a reading that gave all of its bytes
-pub bytes_there : {a b : State} (d room : List ℕ) (place k n : ℕ) → Runs a b (Ok (take n room)) (part_read d place (length room)) → length room ≡ k → k ≤ n → Runs a b (Ok room) (bytes_read d place k)
+pub bytes_there : {a b : State} (d room : List ℕ) (place k n : ℕ) → Runs a b (Ok (take n room)) (part_read d place (length room))
+    → length room ≡ k → k ≤ n → Runs a b (Ok room) (bytes_read d place k)
 unfolding bytes_at
 bytes_there {a} {b} d room place k n h long all =
     let same : take n room ≡ room = take_all n room (omega arith) in
@@ -52,7 +55,8 @@ bytes_there {a} {b} d room place k n h long all =
     refl refl tt
 
 -- a reading that gave too few
-pub bytes_missing : {a b : State} (d room : List ℕ) (place k n : ℕ) → Runs a b (Ok (take n room)) (part_read d place (length room)) → length room ≡ k → n < k → Runs a b (Err end_of_input) (bytes_read d place k)
+pub bytes_missing : {a b : State} (d room : List ℕ) (place k n : ℕ) → Runs a b (Ok (take n room)) (part_read d place (length room))
+    → length room ≡ k → n < k → Runs a b (Err end_of_input) (bytes_read d place k)
 unfolding bytes_at
 bytes_missing {a} {b} d room place k n h long short =
     answered (Err end_of_input) (bytes_read d place k) h (ap (span_of d place) (sym long))
@@ -63,13 +67,15 @@ bytes_missing {a} {b} d room place k n h long short =
     refl refl (record { budget = tt; memory = λ e. absurd cc })
 
 -- the number of bytes that were read
-pub number_there : {a b : State} (d bs : List ℕ) (order : Endian) (place k v : ℕ) → Runs a b (Ok bs) (bytes_read d place k) → v ≡ number order bs → Runs a b (Ok v) (number_read d order place k)
+pub number_there : {a b : State} (d bs : List ℕ) (order : Endian) (place k v : ℕ) → Runs a b (Ok bs) (bytes_read d place k)
+    → v ≡ number order bs → Runs a b (Ok v) (number_read d order place k)
 unfolding number_at
 number_there {a} {b} d bs order place k v h is =
     answered (Ok v) (number_read d order place k) h refl (λ read. ap (seen (number order)) read ∙ ap Ok (sym is)) refl refl tt
 
 -- a refused reading has no number
-pub number_missing : {a b : State} (d : List ℕ) (order : Endian) (place k : ℕ) (e : ImageError) → Runs a b (Err e) (bytes_read d place k) → Runs a b (Err e) (number_read d order place k)
+pub number_missing : {a b : State} (d : List ℕ) (order : Endian) (place k : ℕ) (e : ImageError) → Runs a b (Err e) (bytes_read d place k)
+    → Runs a b (Err e) (number_read d order place k)
 unfolding number_at
 number_missing {a} {b} d order place k e h = record {
   sound = h.sound;
@@ -84,12 +90,15 @@ number_missing {a} {b} d order place k e h = record {
 }
 
 -- the number of bytes that all came
-pub number_whole : {a b : State} (d room : List ℕ) (order : Endian) (place k n v : ℕ) → Runs a b (Ok (take n room)) (part_read d place (length room)) → length room ≡ k → k ≤ n → v ≡ number order room → Runs a b (Ok v) (number_read d order place k)
+pub number_whole : {a b : State} (d room : List ℕ) (order : Endian) (place k n v : ℕ) → Runs a b (Ok (take n room))
+    (part_read d place (length room)) → length room ≡ k → k ≤ n → v ≡ number order room → Runs a b (Ok v) (number_read d order place k)
 number_whole d room order place k n v h long all is = number_there d room order place k v (bytes_there d room place k n h long all) is
 
 -- too few bytes have no number
-pub number_short : {a b : State} (d room : List ℕ) (order : Endian) (place k n : ℕ) → Runs a b (Ok (take n room)) (part_read d place (length room)) → length room ≡ k → n < k → Runs a b (Err end_of_input) (number_read d order place k)
-number_short d room order place k n h long short = number_missing d order place k end_of_input (bytes_missing d room place k n h long short)
+pub number_short : {a b : State} (d room : List ℕ) (order : Endian) (place k n : ℕ) → Runs a b (Ok (take n room))
+    (part_read d place (length room)) → length room ≡ k → n < k → Runs a b (Err end_of_input) (number_read d order place k)
+number_short d room order place k n h long short = number_missing d order place k end_of_input
+    (bytes_missing d room place k n h long short)
 
 pub past-past : (a : State) (s t : List Span) → past (past a s) t ≡ past a (s ++ t)
 unfolding past
@@ -120,17 +129,20 @@ total_first spans (Ok x) f = omega (arith, total-append spans (f x).marks)
 total_first spans (Err e) f = omega arith
 
 -- a call that read, and went on from what it found
-pub runs_then : {X Y : Type 0} {a m b : State} {x : X} {y : Result Y ImageError} (r : Reads X) (f : X → Held → Reads Y) → Runs a m (Ok x) r → Runs m b y (f x m.held) → Runs a b y (and_then r (λ v. f v a.held))
+pub runs_then : {X Y : Type 0} {a m b : State} {x : X} {y : Result Y ImageError} (r : Reads X) (f : X → Held → Reads Y)
+    → Runs a m (Ok x) r → Runs m b y (f x m.held) → Runs a b y (and_then r (λ v. f v a.held))
 runs_then {X} {Y} {a} {m} {b} {x} {y} r f first second =
     let same = λ (honest : a.held.honest ≡ true). past_honest first honest in
     let honest_then = λ (honest : a.held.honest ≡ true). ap (λ h. h.honest) (same honest) ∙ honest in
-    let next = λ (honest : a.held.honest ≡ true). ap (λ v. onward r.marks v (λ w. f w a.held)) (first.answer honest refl) ∙ ap (λ h. behind r.marks (f x h)) (sym (same honest)) in
+    let next = λ (honest : a.held.honest ≡ true). ap (λ v. onward r.marks v (λ w. f w a.held)) (first.answer honest refl)
+        ∙ ap (λ h. behind r.marks (f x h)) (sym (same honest)) in
     record {
       sound = first.sound;
       sound_after = second.sound_after;
       frame = second.frame ∙ first.frame;
       taken = omega (arith, first.taken, second.taken);
-      within = λ honest. rw (next honest) (omega (arith, first.within honest, second.within (honest_then honest), total-append r.marks (f x m.held).marks));
+      within = λ honest. rw (next honest) (omega (arith, first.within honest, second.within (honest_then honest), total-append r.marks
+          (f x m.held).marks));
       answer = λ honest goes_on. ap (λ q. q.answer) (next honest) ∙ second.answer (honest_then honest) goes_on;
       state = λ honest goes_on.
           second.state (honest_then honest) goes_on
@@ -142,7 +154,8 @@ runs_then {X} {Y} {a} {m} {b} {x} {y} r f first second =
     }
 
 -- a call that was refused goes on from nothing
-pub runs_refused : {X Y : Type 0} {a b : State} {e : ImageError} (r : Reads X) (f : X → Reads Y) → Runs {X = X} a b (Err e) r → Runs {X = Y} a b (Err e) (and_then r f)
+pub runs_refused : {X Y : Type 0} {a b : State} {e : ImageError} (r : Reads X) (f : X → Reads Y) → Runs {X = X} a b (Err e) r
+    → Runs {X = Y} a b (Err e) (and_then r f)
 runs_refused {X} {Y} {a} {b} {e} r f h = record {
   sound = h.sound;
   sound_after = h.sound_after;

@@ -23,13 +23,16 @@ pub length-part : (d : List ℕ) (place k : ℕ) → length (part d place k) ≡
 unfolding part
 length-part d place k = length-take k (drop place d) ∙ ap (min k) (length-drop place d)
 
-pub front_is : (d room old : List ℕ) (place n : ℕ) → n ≡ min (length old) (length d - place) → room ≡ part d place (length old) ++ drop n old → length room ≡ length old → take n room ≡ part d place (length room)
+pub front_is : (d room old : List ℕ) (place n : ℕ) → n ≡ min (length old) (length d - place) → room ≡ part d place (length old)
+    ++ drop n old → length room ≡ length old → take n room ≡ part d place (length room)
 front_is d room old place n count copied kept =
     let same : length (part d place (length old)) ≡ n = length-part d place (length old) ∙ sym count in
-    ap (take n) copied ∙ ap (λ k. take k (part d place (length old) ++ drop n old)) (sym same) ∙ take-append_seam (part d place (length old)) (drop n old) ∙ ap (part d place) (sym kept)
+    ap (take n) copied ∙ ap (λ k. take k (part d place (length old) ++ drop n old)) (sym same) ∙ take-append_seam
+        (part d place (length old)) (drop n old) ∙ ap (part d place) (sym kept)
 
 -- a reading that was answered, and for which nothing was taken
-pub given_runs : {X : Type 0} {a b : State} {reads : Reads X} (x : X) → Sound a → Sound b → b.frame ≡ a.frame → b.taken ≡ a.taken → reads.answer ≡ Ok x → b ≡ past a reads.marks → Runs a b (Ok x) reads
+pub given_runs : {X : Type 0} {a b : State} {reads : Reads X} (x : X) → Sound a → Sound b → b.frame ≡ a.frame → b.taken ≡ a.taken
+    → reads.answer ≡ Ok x → b ≡ past a reads.marks → Runs a b (Ok x) reads
 given_runs x sound sound_after same none is passed = record {
   sound = sound;
   sound_after = sound_after;
@@ -43,18 +46,25 @@ given_runs x sound sound_after same none is passed = record {
 }
 
 -- what was copied is what a reading gives
-slice_runs : {reads : Reads (List ℕ)} (d got : List ℕ) → length d < 2 ^ 63 → reads.answer ≡ Ok got → Runs (slice_state d) (slice_state d) (Ok got) reads
-slice_runs {reads} d got short is = given_runs got (λ honest. (refl, short)) (λ honest. (refl, short)) refl refl is (sym (past-slice d reads.marks))
+slice_runs : {reads : Reads (List ℕ)} (d got : List ℕ) → length d < 2 ^ 63 → reads.answer ≡ Ok got → Runs (slice_state d) (slice_state d)
+    (Ok got) reads
+slice_runs {reads} d got short is = given_runs got (λ honest. (refl, short)) (λ honest. (refl, short)) refl refl is
+    (sym (past-slice d reads.marks))
 
 -- a reading of a slice
-pub slice_reads : (d room old : List ℕ) (place n : ℕ) → length d < 2 ^ 63 → n ≡ min (length old) (length d - place) → room ≡ part d place (length old) ++ drop n old → length room ≡ length old → Runs (slice_state d) (slice_state d) (Ok (take n room)) (part_read d place (length room))
-slice_reads d room old place n short count copied kept = slice_runs d (take n room) short (ap Ok (sym (front_is d room old place n count copied kept)))
+pub slice_reads : (d room old : List ℕ) (place n : ℕ) → length d < 2 ^ 63 → n ≡ min (length old) (length d - place)
+    → room ≡ part d place (length old) ++ drop n old → length room ≡ length old → Runs (slice_state d) (slice_state d) (Ok (take n room))
+    (part_read d place (length room))
+slice_reads d room old place n short count copied kept = slice_runs d (take n room) short
+    (ap Ok (sym (front_is d room old place n count copied kept)))
 
 -- the part in which a text is looked for, by the slices that the code takes
-pub slice_part : (d : List ℕ) (place first k n : ℕ) → first ≡ min place (length d) → n ≡ min (length (take (length d - first) (drop first d))) k → take n (take (length d - first) (drop first d)) ≡ part d place k
+pub slice_part : (d : List ℕ) (place first k n : ℕ) → first ≡ min place (length d)
+    → n ≡ min (length (take (length d - first) (drop first d))) k → take n (take (length d - first) (drop first d)) ≡ part d place k
 unfolding part
 slice_part d place first k n first_is n_is =
-    let rest : take (length d - first) (drop first d) ≡ drop first d = take_all (length d - first) (drop first d) (omega (arith, length-drop first d)) in
+    let rest : take (length d - first) (drop first d) ≡ drop first d = take_all (length d - first) (drop first d)
+        (omega (arith, length-drop first d)) in
     let same : drop first d ≡ drop place d = drop_min d place first first_is in
     let long : n ≡ min k (length (drop place d)) = n_is ∙ ap (λ xs. min (length xs) k) (rest ∙ same) ∙ omega arith in
     ap (λ xs. take n xs) (rest ∙ same) ∙ ap (λ m. take m (drop place d)) long ∙ take_min k (drop place d)
@@ -66,27 +76,45 @@ slice_part d place first k n first_is n_is =
     ]
 
 -- the text in it
-pub slice_text : (d : List ℕ) (t : Text) (place first k n m : ℕ) → first ≡ min place (length d) → n ≡ min (length (take (length d - first) (drop first d))) k → m ≡ length (text_front t (take n (take (length d - first) (drop first d)))) → take m (take n (take (length d - first) (drop first d))) ≡ text_part d t place k
+pub slice_text : (d : List ℕ) (t : Text) (place first k n m : ℕ) → first ≡ min place (length d)
+    → n ≡ min (length (take (length d - first) (drop first d))) k
+    → m ≡ length (text_front t (take n (take (length d - first) (drop first d))))
+    → take m (take n (take (length d - first) (drop first d))) ≡ text_part d t place k
 unfolding text_part
 slice_text d t place first k n m first_is n_is m_is =
     let same = slice_part d place first k n first_is n_is in
-    ap (λ j. take j (take n (take (length d - first) (drop first d)))) m_is ∙ front_take t (take n (take (length d - first) (drop first d))) ∙ ap (text_front t) same
+    ap (λ j. take j (take n (take (length d - first) (drop first d)))) m_is ∙ front_take t
+        (take n (take (length d - first) (drop first d))) ∙ ap (text_front t) same
 
 -- how long it is
-pub slice_text_fits : (d : List ℕ) (t : Text) (place first k n m : ℕ) → first ≡ min place (length d) → n ≡ min (length (take (length d - first) (drop first d))) k → m ≡ length (text_front t (take n (take (length d - first) (drop first d)))) → length (take m (take n (take (length d - first) (drop first d)))) ≤ k
-slice_text_fits d t place first k n m first_is n_is m_is = omega (arith, ap length (slice_text d t place first k n m first_is n_is m_is), text_length d t place k, part_length d place k)
+pub slice_text_fits : (d : List ℕ) (t : Text) (place first k n m : ℕ) → first ≡ min place (length d)
+    → n ≡ min (length (take (length d - first) (drop first d))) k
+    → m ≡ length (text_front t (take n (take (length d - first) (drop first d))))
+    → length (take m (take n (take (length d - first) (drop first d)))) ≤ k
+slice_text_fits d t place first k n m first_is n_is m_is = omega (arith, ap length (slice_text d t place first k n m first_is n_is m_is),
+    text_length d t place k, part_length d place k)
 
-pub slice_text_there : (d : List ℕ) (t : Text) (place first k n m : ℕ) → first ≡ min place (length d) → n ≡ min (length (take (length d - first) (drop first d))) k → m ≡ length (text_front t (take n (take (length d - first) (drop first d)))) → 0 < length (take m (take n (take (length d - first) (drop first d)))) → place < length d
-slice_text_there d t place first k n m first_is n_is m_is some = omega (arith, some, ap length (slice_text d t place first k n m first_is n_is m_is), text_length d t place k, part_length d place k)
+pub slice_text_there : (d : List ℕ) (t : Text) (place first k n m : ℕ) → first ≡ min place (length d)
+    → n ≡ min (length (take (length d - first) (drop first d))) k
+    → m ≡ length (text_front t (take n (take (length d - first) (drop first d))))
+    → 0 < length (take m (take n (take (length d - first) (drop first d)))) → place < length d
+slice_text_there d t place first k n m first_is n_is m_is some =
+    omega (arith, some, ap length (slice_text d t place first k n m first_is n_is m_is), text_length d t place k, part_length d place k)
 
 -- what was copied of a text is the text
-pub copied_is : (d old copied found : List ℕ) (t : Text) (place : ℕ) → found ≡ text_part d t place (length old) → length found ≤ length old → copied ≡ found → (take (length found) (copied ++ drop (length found) old) ≡ found) × (found ≡ text_part d t place (length (copied ++ drop (length found) old)))
+pub copied_is : (d old copied found : List ℕ) (t : Text) (place : ℕ) → found ≡ text_part d t place (length old)
+    → length found ≤ length old → copied ≡ found → (take (length found) (copied ++ drop (length found) old) ≡ found)
+    × (found ≡ text_part d t place (length (copied ++ drop (length found) old)))
 copied_is d old copied found t place is fits same =
-    let kept : length (copied ++ drop (length found) old) ≡ length old = omega (arith, length-append copied (drop (length found) old), ap length same, length-drop (length found) old, fits) in
-    (ap (λ bs. take (length found) (bs ++ drop (length found) old)) same ∙ take-append_seam found (drop (length found) old), is ∙ ap (text_part d t place) (sym kept))
+    let kept : length (copied ++ drop (length found) old) ≡ length old = omega (arith, length-append copied (drop (length found) old),
+        ap length same, length-drop (length found) old, fits) in
+    (ap (λ bs. take (length found) (bs ++ drop (length found) old)) same ∙ take-append_seam found (drop (length found) old),
+        is ∙ ap (text_part d t place) (sym kept))
 
 -- the reading of a text of a slice
-pub slice_reads_text : (d old copied found : List ℕ) (t : Text) (place : ℕ) → length d < 2 ^ 63 → found ≡ text_part d t place (length old) → length found ≤ length old → copied ≡ found → Runs (slice_state d) (slice_state d) (Ok (take (length found) (copied ++ drop (length found) old))) (text_read d t place (length (copied ++ drop (length found) old)))
+pub slice_reads_text : (d old copied found : List ℕ) (t : Text) (place : ℕ) → length d < 2 ^ 63 → found ≡ text_part d t place
+    (length old) → length found ≤ length old → copied ≡ found → Runs (slice_state d) (slice_state d)
+    (Ok (take (length found) (copied ++ drop (length found) old))) (text_read d t place (length (copied ++ drop (length found) old)))
 slice_reads_text d old copied found t place short is fits same =
     let front = copied_is d old copied found t place is fits same in
     slice_runs d (take (length found) (copied ++ drop (length found) old)) short (ap Ok (sym (front.0 ∙ front.1)))

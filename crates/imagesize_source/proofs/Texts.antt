@@ -16,14 +16,16 @@ take-more {b} n bs = let same : 1 + n + 1 ≡ suc (n + 1) = omega arith in ap (�
 -- a byte that passes is the last, and one that does not goes before the rest
 pub through-cons : (p : ℕ → Bool) (b : ℕ) (bs : List ℕ) → through p (b ∷ bs) ≡ cond (p b) (b ∷ []) (b ∷ through p bs)
 through-cons p b bs =
-    let Goal : Bool → Type 0 = λ is. take (cond (not is) (1 + position_or_len p bs) 0 + 1) (b ∷ bs) ≡ cond is (b ∷ []) (b ∷ through p bs) in
+    let Goal : Bool → Type 0 = λ is. take (cond (not is) (1 + position_or_len p bs) 0 + 1) (b ∷ bs) ≡ cond is (b ∷ []) (b ∷ through p bs)
+        in
     elim (p b) as Goal [ true ↦ refl | false ↦ take-more (position_or_len p bs) bs ]
 
 -- what follows a byte that passes is not looked at
 through_more : (p : ℕ → Bool) (bs more : List ℕ) → list_any p bs ≡ true → through p (bs ++ more) ≡ through p bs
 through_more p [] more some = absurd cc
 through_more p (b ∷ bs) more some =
-    let Goal : Bool → Type 0 = λ is. is || list_any p bs ≡ true → cond is (b ∷ []) (b ∷ through p (bs ++ more)) ≡ cond is (b ∷ []) (b ∷ through p bs) in
+    let Goal : Bool → Type 0 = λ is. is || list_any p bs ≡ true → cond is (b ∷ []) (b ∷ through p (bs ++ more)) ≡ cond is (b ∷ [])
+        (b ∷ through p bs) in
     let cases : Goal (p b) = elim (p b) as Goal [ true ↦ λ _. refl | false ↦ λ h. ap (λ xs. b ∷ xs) (through_more p bs more h) ] in
     through-cons p b (bs ++ more) ∙ cases some ∙ sym (through-cons p b bs)
 
@@ -52,29 +54,37 @@ line_front delimiter bs = refl
 cut_at : (p : ℕ → Bool) (n : ℕ) (bs : List ℕ) → List ℕ
 cut_at p n bs = take n bs ++ through p (drop n bs)
 
-skip-cons : (p : ℕ → Bool) (b : ℕ) (bs : List ℕ) → cut_at p (position_or_len (λ x. not (p x)) (b ∷ bs)) (b ∷ bs) ≡ cond (p b) (b ∷ cut_at p (position_or_len (λ x. not (p x)) bs) bs) (b ∷ through p bs)
+skip-cons : (p : ℕ → Bool) (b : ℕ) (bs : List ℕ) → cut_at p (position_or_len (λ x. not (p x)) (b ∷ bs)) (b ∷ bs) ≡ cond (p b)
+    (b ∷ cut_at p (position_or_len (λ x. not (p x)) bs) bs) (b ∷ through p bs)
 unfolding cut_at
 skip-cons p b bs =
     let n : ℕ = position_or_len (λ x. not (p x)) bs in
     let one : 1 + n ≡ suc n = omega arith in
-    let Goal : Bool → Type 0 = λ is. p b ≡ is → cut_at p (cond (not (not is)) (1 + n) 0) (b ∷ bs) ≡ cond is (b ∷ cut_at p n bs) (b ∷ through p bs) in
-    let cases : Goal (p b) = elim (p b) as Goal [ true ↦ λ is. ap (λ k. cut_at p k (b ∷ bs)) one | false ↦ λ is. through-cons p b bs ∙ ap (λ test. cond test (b ∷ []) (b ∷ through p bs)) is ] in
+    let Goal : Bool → Type 0 = λ is. p b ≡ is → cut_at p (cond (not (not is)) (1 + n) 0) (b ∷ bs) ≡ cond is (b ∷ cut_at p n bs)
+        (b ∷ through p bs) in
+    let cases : Goal (p b) = elim (p b) as Goal [ true ↦ λ is. ap (λ k. cut_at p k (b ∷ bs)) one | false ↦ λ is. through-cons p b bs
+        ∙ ap (λ test. cond test (b ∷ []) (b ∷ through p bs)) is ] in
     cases refl
 
-any-cons : (p : ℕ → Bool) (b : ℕ) (bs : List ℕ) → list_any p (drop (position_or_len (λ x. not (p x)) (b ∷ bs)) (b ∷ bs)) ≡ cond (p b) (list_any p (drop (position_or_len (λ x. not (p x)) bs) bs)) (list_any p bs)
+any-cons : (p : ℕ → Bool) (b : ℕ) (bs : List ℕ) → list_any p (drop (position_or_len (λ x. not (p x)) (b ∷ bs)) (b ∷ bs)) ≡ cond (p b)
+    (list_any p (drop (position_or_len (λ x. not (p x)) bs) bs)) (list_any p bs)
 any-cons p b bs =
     let n : ℕ = position_or_len (λ x. not (p x)) bs in
     let one : 1 + n ≡ suc n = omega arith in
-    let Goal : Bool → Type 0 = λ is. p b ≡ is → list_any p (drop (cond (not (not is)) (1 + n) 0) (b ∷ bs)) ≡ cond is (list_any p (drop n bs)) (list_any p bs) in
-    let cases : Goal (p b) = elim (p b) as Goal [ true ↦ λ is. ap (λ k. list_any p (drop k (b ∷ bs))) one | false ↦ λ is. ap (λ test. test || list_any p bs) is ] in
+    let Goal : Bool → Type 0 = λ is. p b ≡ is → list_any p (drop (cond (not (not is)) (1 + n) 0) (b ∷ bs)) ≡ cond is
+        (list_any p (drop n bs)) (list_any p bs) in
+    let cases : Goal (p b) = elim (p b) as Goal [ true ↦ λ is. ap (λ k. list_any p (drop k (b ∷ bs))) one | false ↦ λ is.
+        ap (λ test. test || list_any p bs) is ] in
     cases refl
 
 -- a byte of white space goes before a word, and any other begins it
-pub word_front : (b : ℕ) (bs : List ℕ) → text_front Word (b ∷ bs) ≡ cond (is_ascii_whitespace b) (b ∷ text_front Word bs) (b ∷ through is_ascii_whitespace bs)
+pub word_front : (b : ℕ) (bs : List ℕ) → text_front Word (b ∷ bs) ≡ cond (is_ascii_whitespace b) (b ∷ text_front Word bs)
+    (b ∷ through is_ascii_whitespace bs)
 unfolding text_front cut_at
 word_front b bs = skip-cons is_ascii_whitespace b bs
 
-word_ended : (b : ℕ) (bs : List ℕ) → is_ended Word (b ∷ bs) ≡ cond (is_ascii_whitespace b) (is_ended Word bs) (list_any is_ascii_whitespace bs)
+word_ended : (b : ℕ) (bs : List ℕ) → is_ended Word (b ∷ bs) ≡ cond (is_ascii_whitespace b) (is_ended Word bs)
+    (list_any is_ascii_whitespace bs)
 unfolding is_ended
 word_ended b bs = any-cons is_ascii_whitespace b bs
 
@@ -90,8 +100,11 @@ no_end = refl
 word_more : (bs more : List ℕ) → is_ended Word bs ≡ true → text_front Word (bs ++ more) ≡ text_front Word bs
 word_more [] more some = absurd (let no = no_end in cc)
 word_more (b ∷ bs) more some =
-    let Goal : Bool → Type 0 = λ is. cond is (is_ended Word bs) (list_any is_ascii_whitespace bs) ≡ true → cond is (b ∷ text_front Word (bs ++ more)) (b ∷ through is_ascii_whitespace (bs ++ more)) ≡ cond is (b ∷ text_front Word bs) (b ∷ through is_ascii_whitespace bs) in
-    let cases : Goal (is_ascii_whitespace b) = elim (is_ascii_whitespace b) as Goal [ true ↦ λ h. ap (λ xs. b ∷ xs) (word_more bs more h) | false ↦ λ h. ap (λ xs. b ∷ xs) (through_more is_ascii_whitespace bs more h) ] in
+    let Goal : Bool → Type 0 = λ is. cond is (is_ended Word bs) (list_any is_ascii_whitespace bs) ≡ true
+        → cond is (b ∷ text_front Word (bs ++ more)) (b ∷ through is_ascii_whitespace (bs ++ more)) ≡ cond is (b ∷ text_front Word bs)
+        (b ∷ through is_ascii_whitespace bs) in
+    let cases : Goal (is_ascii_whitespace b) = elim (is_ascii_whitespace b) as Goal [ true ↦ λ h. ap (λ xs. b ∷ xs) (word_more bs more h)
+        | false ↦ λ h. ap (λ xs. b ∷ xs) (through_more is_ascii_whitespace bs more h) ] in
     word_front b (bs ++ more) ∙ cases (sym (word_ended b bs) ∙ some) ∙ sym (word_front b bs)
 
 pub front_more : (t : Text) (bs more : List ℕ) → is_ended t bs ≡ true → text_front t (bs ++ more) ≡ text_front t bs
@@ -103,8 +116,10 @@ front_more Word bs more some = word_more bs more some
 word_all : (bs : List ℕ) → is_ended Word bs ≡ false → text_front Word bs ≡ bs
 word_all [] none = no_front
 word_all (b ∷ bs) none =
-    let Goal : Bool → Type 0 = λ is. cond is (is_ended Word bs) (list_any is_ascii_whitespace bs) ≡ false → cond is (b ∷ text_front Word bs) (b ∷ through is_ascii_whitespace bs) ≡ b ∷ bs in
-    let cases : Goal (is_ascii_whitespace b) = elim (is_ascii_whitespace b) as Goal [ true ↦ λ h. ap (λ xs. b ∷ xs) (word_all bs h) | false ↦ λ h. ap (λ xs. b ∷ xs) (through_all is_ascii_whitespace bs h) ] in
+    let Goal : Bool → Type 0 = λ is. cond is (is_ended Word bs) (list_any is_ascii_whitespace bs) ≡ false
+        → cond is (b ∷ text_front Word bs) (b ∷ through is_ascii_whitespace bs) ≡ b ∷ bs in
+    let cases : Goal (is_ascii_whitespace b) = elim (is_ascii_whitespace b) as Goal [ true ↦ λ h. ap (λ xs. b ∷ xs) (word_all bs h) |
+        false ↦ λ h. ap (λ xs. b ∷ xs) (through_all is_ascii_whitespace bs h) ] in
     word_front b bs ∙ cases (sym (word_ended b bs) ∙ none)
 
 pub front_all : (t : Text) (bs : List ℕ) → is_ended t bs ≡ false → text_front t bs ≡ bs
@@ -116,10 +131,15 @@ front_all Word bs none = word_all bs none
 word_any : (bs : List ℕ) → is_ended Word (text_front Word bs) ≡ is_ended Word bs
 word_any [] = ap (is_ended Word) no_front
 word_any (b ∷ bs) =
-    let Goal : Bool → Type 0 = λ is. is_ascii_whitespace b ≡ is → is_ended Word (cond is (b ∷ text_front Word bs) (b ∷ through is_ascii_whitespace bs)) ≡ cond is (is_ended Word bs) (list_any is_ascii_whitespace bs) in
+    let Goal : Bool → Type 0 = λ is. is_ascii_whitespace b ≡ is
+        → is_ended Word (cond is (b ∷ text_front Word bs) (b ∷ through is_ascii_whitespace bs)) ≡ cond is (is_ended Word bs)
+        (list_any is_ascii_whitespace bs) in
     let cases : Goal (is_ascii_whitespace b) = elim (is_ascii_whitespace b) as Goal [
-      | true ↦ λ is. word_ended b (text_front Word bs) ∙ ap (λ test. cond test (is_ended Word (text_front Word bs)) (list_any is_ascii_whitespace (text_front Word bs))) is ∙ word_any bs
-      | false ↦ λ is. word_ended b (through is_ascii_whitespace bs) ∙ ap (λ test. cond test (is_ended Word (through is_ascii_whitespace bs)) (list_any is_ascii_whitespace (through is_ascii_whitespace bs))) is ∙ through_any is_ascii_whitespace bs
+      | true ↦ λ is. word_ended b (text_front Word bs) ∙ ap (λ test. cond test (is_ended Word (text_front Word bs))
+          (list_any is_ascii_whitespace (text_front Word bs))) is ∙ word_any bs
+      | false ↦ λ is. word_ended b (through is_ascii_whitespace bs)
+          ∙ ap (λ test. cond test (is_ended Word (through is_ascii_whitespace bs))
+          (list_any is_ascii_whitespace (through is_ascii_whitespace bs))) is ∙ through_any is_ascii_whitespace bs
     ] in
     ap (is_ended Word) (word_front b bs) ∙ cases refl ∙ sym (word_ended b bs)
 
@@ -134,7 +154,8 @@ unfolding text_front
 front_first t bs =
     let n : ℕ = skipped t bs in
     let k : ℕ = position_or_len (delimits t) (drop n bs) + 1 in
-    (drop k (drop n bs), append_assoc (take n bs) (take k (drop n bs)) (drop k (drop n bs)) ∙ ap (λ xs. take n bs ++ xs) (take-append-drop k (drop n bs)) ∙ take-append-drop n bs)
+    (drop k (drop n bs), append_assoc (take n bs) (take k (drop n bs)) (drop k (drop n bs)) ∙ ap (λ xs. take n bs ++ xs)
+        (take-append-drop k (drop n bs)) ∙ take-append-drop n bs)
 
 -- the text of a text is itself
 front_front : (t : Text) (bs : List ℕ) → is_ended t bs ≡ true → text_front t (text_front t bs) ≡ text_front t bs
@@ -143,7 +164,8 @@ front_front t bs some =
     sym (front_more t (text_front t bs) split.0 (front_any t bs ∙ some)) ∙ ap (text_front t) split.1
 
 -- bytes that begin with a text, where it is ended or they are as many, have it too
-pub front_same : (t : Text) (bs cs : List ℕ) → length cs ≡ length bs → take (length (text_front t bs)) cs ≡ text_front t bs → text_front t cs ≡ text_front t bs
+pub front_same : (t : Text) (bs cs : List ℕ) → length cs ≡ length bs → take (length (text_front t bs)) cs ≡ text_front t bs
+    → text_front t cs ≡ text_front t bs
 front_same t bs cs long same = by_end (is_ended t bs) refl where
   by_end : (is : Bool) → is_ended t bs ≡ is → text_front t cs ≡ text_front t bs
   by_end true some =
@@ -162,18 +184,21 @@ front_length t bs = let split = front_first t bs in omega (arith, ap length spli
 -- where a position is found, or none is
 found : (p : ℕ → Bool) (bs : List ℕ) (i : ℕ) → position p bs ≡ Some i → (position_or_len p bs ≡ i) × (i < length bs)
 found p bs i is = by_test (leb (suc (position_or_len p bs)) (length bs)) refl is where
-  by_test : (test : Bool) → leb (suc (position_or_len p bs)) (length bs) ≡ test → cond test (Some (position_or_len p bs)) None ≡ Some i → (position_or_len p bs ≡ i) × (i < length bs)
+  by_test : (test : Bool) → leb (suc (position_or_len p bs)) (length bs) ≡ test → cond test (Some (position_or_len p bs)) None ≡ Some i
+      → (position_or_len p bs ≡ i) × (i < length bs)
   by_test true below same = let at : position_or_len p bs ≡ i = cc in (at, grind (arith, nat_tests))
   by_test false beyond same = absurd cc
 
 not_found : (p : ℕ → Bool) (bs : List ℕ) → position p bs ≡ None → length bs ≤ position_or_len p bs
 not_found p bs is = by_test (leb (suc (position_or_len p bs)) (length bs)) refl is where
-  by_test : (test : Bool) → leb (suc (position_or_len p bs)) (length bs) ≡ test → cond test (Some (position_or_len p bs)) None ≡ None → length bs ≤ position_or_len p bs
+  by_test : (test : Bool) → leb (suc (position_or_len p bs)) (length bs) ≡ test → cond test (Some (position_or_len p bs)) None ≡ None
+      → length bs ≤ position_or_len p bs
   by_test true below same = absurd cc
   by_test false beyond same = grind (arith, nat_tests)
 
 -- how long a word is, whose first byte stands there
-word_length : (bs : List ℕ) (start : ℕ) → position (λ b. not (is_ascii_whitespace b)) bs ≡ Some start → length (text_front Word bs) ≡ start + min (position_or_len is_ascii_whitespace (drop start bs) + 1) (length bs - start)
+word_length : (bs : List ℕ) (start : ℕ) → position (λ b. not (is_ascii_whitespace b)) bs ≡ Some start → length (text_front Word bs)
+    ≡ start + min (position_or_len is_ascii_whitespace (drop start bs) + 1) (length bs - start)
 unfolding text_front
 word_length bs start begins =
     let at = found (λ b. not (is_ascii_whitespace b)) bs start begins in
@@ -191,21 +216,26 @@ word_blank bs blank =
     let m : ℕ = position_or_len is_ascii_whitespace (drop n bs) + 1 in
     omega (arith, length-append (take n bs) (take m (drop n bs)), length-take n bs, length-take m (drop n bs), length-drop n bs)
 
-pub word_open : (bs : List ℕ) (start : ℕ) → position (λ b. not (is_ascii_whitespace b)) bs ≡ Some start → position is_ascii_whitespace (take (length bs - start) (drop start bs)) ≡ None → length bs ≡ length (text_front Word bs)
+pub word_open : (bs : List ℕ) (start : ℕ) → position (λ b. not (is_ascii_whitespace b)) bs ≡ Some start → position is_ascii_whitespace
+    (take (length bs - start) (drop start bs)) ≡ None → length bs ≡ length (text_front Word bs)
 word_open bs start begins goes_on =
-    let all : take (length bs - start) (drop start bs) ≡ drop start bs = take_all (length bs - start) (drop start bs) (omega (arith, length-drop start bs)) in
+    let all : take (length bs - start) (drop start bs) ≡ drop start bs = take_all (length bs - start) (drop start bs)
+        (omega (arith, length-drop start bs)) in
     let on = not_found is_ascii_whitespace (drop start bs) (sym (ap (position is_ascii_whitespace) all) ∙ goes_on) in
     omega (arith, word_length bs start begins, length-drop start bs, (found (λ b. not (is_ascii_whitespace b)) bs start begins).1)
 
-pub word_closed : (bs : List ℕ) (start i : ℕ) → position (λ b. not (is_ascii_whitespace b)) bs ≡ Some start → position is_ascii_whitespace (take (length bs - start) (drop start bs)) ≡ Some i → start + i + 1 ≡ length (text_front Word bs)
+pub word_closed : (bs : List ℕ) (start i : ℕ) → position (λ b. not (is_ascii_whitespace b)) bs ≡ Some start
+    → position is_ascii_whitespace (take (length bs - start) (drop start bs)) ≡ Some i → start + i + 1 ≡ length (text_front Word bs)
 word_closed bs start i begins closes =
-    let all : take (length bs - start) (drop start bs) ≡ drop start bs = take_all (length bs - start) (drop start bs) (omega (arith, length-drop start bs)) in
+    let all : take (length bs - start) (drop start bs) ≡ drop start bs = take_all (length bs - start) (drop start bs)
+        (omega (arith, length-drop start bs)) in
     let at = found is_ascii_whitespace (drop start bs) i (sym (ap (position is_ascii_whitespace) all) ∙ closes) in
     let n = at.0 in
     omega (arith, word_length bs start begins, length-drop start bs, at.1, (found (λ b. not (is_ascii_whitespace b)) bs start begins).1)
 
 -- the text is as many of the first bytes
 pub front_take : (t : Text) (bs : List ℕ) → take (length (text_front t bs)) bs ≡ text_front t bs
-front_take t bs = let split = front_first t bs in ap (take (length (text_front t bs))) (sym split.1) ∙ take-append_seam (text_front t bs) split.0
+front_take t bs = let split = front_first t bs in ap (take (length (text_front t bs))) (sym split.1) ∙ take-append_seam (text_front t bs)
+    split.0
 
 pub ruleset fronts = (line_front, front_length)

@@ -18,11 +18,15 @@ pub record Walks {C X : Type 0} (c : Chain C X) (P : List C → Type 0) (a b : S
 module _ {C X : Type 0} (c : Chain C X) where
   -- it starts at the first record
   pub walks_start : (P : List C → Type 0) (a : State) → P [] → Walks c P a a c.first
-  walks_start P a known = record { held = []; known = known; reached = reached_start a (chain_at c a.held.input); sound = λ h. absurd (omega arith) }
+  walks_start P a known = record { held = []; known = known; reached = reached_start a (chain_at c a.held.input); sound =
+      λ h. absurd (omega arith) }
 
-module _ {C X : Type 0} (c : Chain C X) (adv : (d : List ℕ) → Advances c d) (P : List C → Type 0) {a b : State} {place : ℕ} (w : Walks c P a b place) where
+module _ {C X : Type 0} (c : Chain C X) (adv : (d : List ℕ) → Advances c d) (P : List C → Type 0) {a b : State} {place : ℕ}
+    (w : Walks c P a b place) where
   -- it goes on by a record that tells the place of the next
-  pub walks_on : {end : State} (Q : List C → Type 0) (v : C) (next : ℕ) → ((held : List C) → P held → Runs b end (Ok (Next v next)) (over b.held.input (c.said held place))) → ((held : List C) → P held → Q (held ++ v ∷ [])) → Walks c Q a end next
+  pub walks_on : {end : State} (Q : List C → Type 0) (v : C) (next : ℕ)
+      → ((held : List C) → P held → Runs b end (Ok (Next v next)) (over b.held.input (c.said held place)))
+      → ((held : List C) → P held → Q (held ++ v ∷ [])) → Walks c Q a end next
   walks_on Q v next run knows = record {
     held = w.held ++ v ∷ [];
     known = knows w.held w.known;
@@ -31,22 +35,30 @@ module _ {C X : Type 0} (c : Chain C X) (adv : (d : List ℕ) → Advances c d) 
   }
 
   -- it ends by one that decides
-  pub walks_stop : {end : State} (x : X) → ((held : List C) → P held → Runs b end (Ok (Decided x)) (over b.held.input (c.said held place))) → Runs a end (Ok x) (chain_at c a.held.input)
+  pub walks_stop : {end : State} (x : X)
+      → ((held : List C) → P held → Runs b end (Ok (Decided x)) (over b.held.input (c.said held place)))
+      → Runs a end (Ok x) (chain_at c a.held.input)
   walks_stop x run = walk_stop c adv (record { held = w.held; place = place }) w.reached x (run w.held w.known)
 
   -- or by one that is refused
-  pub walks_out : {end : State} (e : ImageError) → ((held : List C) → P held → Runs b end (Err e) (over b.held.input (c.said held place))) → Runs a end (Err e) (chain_at c a.held.input)
+  pub walks_out : {end : State} (e : ImageError)
+      → ((held : List C) → P held → Runs b end (Err e) (over b.held.input (c.said held place)))
+      → Runs a end (Err e) (chain_at c a.held.input)
   walks_out e run = walk_out c adv (record { held = w.held; place = place }) w.reached e (run w.held w.known)
 
   -- or at a place beyond every input, where nothing more is read
-  pub walks_past : 2 ^ 63 ≤ place → c.first < place → ((held : List C) (d : List ℕ) → P held → length d ≤ place → over d (c.said held place) ≡ refuses end_of_input) → Runs a b (Err end_of_input) (chain_at c a.held.input)
+  pub walks_past : 2 ^ 63 ≤ place → c.first < place → ((held : List C) (d : List ℕ) → P held → length d ≤ place
+      → over d (c.said held place) ≡ refuses end_of_input) → Runs a b (Err end_of_input) (chain_at c a.held.input)
   walks_past far some none = reached_now w.reached (Err end_of_input) (w.sound some) refl (record { budget = tt; memory = λ e. absurd cc })
       (λ honest short.
       let out = none w.held a.held.input w.known (omega arith) in
-      chain_stop c a.held.input (record { held = w.held; place = place }) (Err end_of_input) (ap (λ r. verdict r.answer) out) ∙ ap (λ r. record { answer = Err end_of_input; marks = r.marks }) out)
+      chain_stop c a.held.input (record { held = w.held; place = place }) (Err end_of_input) (ap (λ r. verdict r.answer) out)
+          ∙ ap (λ r. record { answer = Err end_of_input; marks = r.marks }) out)
 
   -- or where nothing more is read, and the record at this place has its verdict
-  pub walks_now : (r : Result X ImageError) → Sound b → faulted r ≡ false → IfErr r (EndedBy b) → ((held : List C) (d : List ℕ) → P held → (verdict (over d (c.said held place)).answer ≡ Some r) × ((over d (c.said held place)).marks ≡ [])) → Runs a b r (chain_at c a.held.input)
+  pub walks_now : (r : Result X ImageError) → Sound b → faulted r ≡ false → IfErr r (EndedBy b) → ((held : List C) (d : List ℕ) → P held
+      → (verdict (over d (c.said held place)).answer ≡ Some r) × ((over d (c.said held place)).marks ≡ []))
+      → Runs a b r (chain_at c a.held.input)
   walks_now r sound no_fault ended says = reached_now w.reached r sound no_fault ended
       (λ honest short.
       let at = says w.held a.held.input w.known in

@@ -45,13 +45,15 @@ local_way first keeps (Recorded each reads begun) laws = laws.local
 local_way first keeps (Texts reads) laws = laws.local
 
 -- with its type, an answer is read from at most the bytes that are stated
-pub cost_way : {X : Type 0} (first : ℕ) (keeps : Bool) (way : Way X) → first ≤ 37 → Laws first keeps way → (d : List ℕ) → first + total (by_way way d).marks ≤ stated_by way d
+pub cost_way : {X : Type 0} (first : ℕ) (keeps : Bool) (way : Way X) → first ≤ 37 → Laws first keeps way → (d : List ℕ)
+    → first + total (by_way way d).marks ≤ stated_by way d
 cost_way first keeps (Fixed layout) few laws d = omega (arith, at_most d (41 - first) layout laws.few)
 cost_way first keeps (Recorded each reads begun) few laws d = laws.cost d
 cost_way first keeps (Texts reads) few laws d = omega (arith, laws.within d)
 
 -- and from at most 57 more than the input has
-pub within_way : {X : Type 0} (first : ℕ) (keeps : Bool) (way : Way X) → first ≤ 37 → Laws first keeps way → (d : List ℕ) → first + total (by_way way d).marks ≤ length d + 57
+pub within_way : {X : Type 0} (first : ℕ) (keeps : Bool) (way : Way X) → first ≤ 37 → Laws first keeps way → (d : List ℕ)
+    → first + total (by_way way d).marks ≤ length d + 57
 within_way first keeps (Fixed layout) few laws d = omega (arith, at_most d (41 - first) layout laws.few)
 within_way first keeps (Recorded each reads begun) few laws d = omega (arith, laws.within d)
 within_way first keeps (Texts reads) few laws d = omega (arith, laws.within d)

@@ -77,4 +77,5 @@ chain_at c d = chain_from c d (start c)
 
 -- each next place is greater than the record's own, and a record beyond the end of the input has a verdict
 abbrev pub Advances : {C X : Type 0} → Chain C X → List ℕ → Type 0
-Advances {C} c d = (t : Along C) (v : C) (place : ℕ) → (next_record c d t).answer ≡ Ok (Next v place) → (t.place < place) × (t.place < length d)
+Advances {C} c d = (t : Along C) (v : C) (place : ℕ) → (next_record c d t).answer ≡ Ok (Next v place)
+    → (t.place < place) × (t.place < length d)

@@ -1,7 +1,7 @@
 -- What is kept of the place of a buffered reader.
 use Rattle.std.specs.Prelude.{◌≡◌, ℕ, ◌+◌, ◌^◌, ◌<◌, ◌⊎◌, nat_lt, if◌then◌else◌, Option, None, Some, Result, Ok, Err, IfSome, ⊤}
 use Rattle.std.specs.declared.io.traits.SeekFrom.{SeekFrom}
-use Rattle.std.specs.declared.io.traits.SeekFrom.TheVariants.{Start, End, Current}
+use Rattle.std.specs.declared.io.traits.SeekFrom.TheVariants.{Start}
 
 -- the place n bytes on, where it is known and a place
 abbrev pub place_after : Option ℕ → ℕ → Option ℕ

@@ -110,7 +110,8 @@ pub record Keeps (old new : Progress) : Type 0 where
   pub limit : old.retries ≤ 64 → new.retries ≤ 64
 
 -- what a reading from a place on did, over every reader
-pub record ReadsFrom (old new : Progress) (before after : Option Standing) (count count' : Option ℕ) (place : ℕ) (room : List ℕ) (r : Result ℕ ImageError) : Type 0 where
+pub record ReadsFrom (old new : Progress) (before after : Option Standing) (count count' : Option ℕ) (place : ℕ) (room : List ℕ)
+    (r : Result ℕ ImageError) : Type 0 where
   pub bound : IfOk r (λ n. n ≤ length room)
   pub stand : GivesFrom before after place new.place room r
   pub taken : IfOk r (λ n. new.taken ≡ old.taken + n)

@@ -34,7 +34,8 @@ use Rattle.imagesize_texts.specs.Texts.{line}
 use Rattle.imagesize_texts.proofs.Texts.{line_at_most, line_onto, line_plain, line_tells, line_begins, line_beyond, lasts_then, number_lasts}
 
 -- the four bytes of a number
-four_bytes : (bs : List ℕ) (place : ℕ) → place + 4 ≤ length bs → slice_index_or bs place 0 ∷ slice_index_or bs (place + 1) 0 ∷ slice_index_or bs (place + 2) 0 ∷ slice_index_or bs (place + 3) 0 ∷ [] ≡ four_at place bs
+four_bytes : (bs : List ℕ) (place : ℕ) → place + 4 ≤ length bs → slice_index_or bs place 0 ∷ slice_index_or bs (place + 1) 0
+    ∷ slice_index_or bs (place + 2) 0 ∷ slice_index_or bs (place + 3) 0 ∷ [] ≡ four_at place bs
 four_bytes bs place all =
     let at : ℕ → ℕ = λ i. slice_index_or bs i 0 in
     let one : suc place ≡ place + 1 = omega arith in
@@ -44,33 +45,43 @@ four_bytes bs place all =
     let second = drop-cons bs (suc place) 0 (omega arith) in
     let third = drop-cons bs (suc (suc place)) 0 (omega arith) in
     let fourth = drop-cons bs (suc (suc (suc place))) 0 (omega arith) in
-    sym (ap (take 4) (first ∙ ap (λ rest. at place ∷ rest) (second ∙ ap (λ rest. at (suc place) ∷ rest) (third ∙ ap (λ rest. at (suc (suc place)) ∷ rest) fourth)))
+    sym (ap (take 4) (first ∙ ap (λ rest. at place ∷ rest) (second ∙ ap (λ rest. at (suc place) ∷ rest)
+        (third ∙ ap (λ rest. at (suc (suc place)) ∷ rest) fourth)))
     ∙ ap (λ i. at place ∷ at i ∷ at (suc (suc place)) ∷ at (suc (suc (suc place))) ∷ []) one
     ∙ ap (λ i. at place ∷ at (place + 1) ∷ at i ∷ at (suc (suc (suc place))) ∷ []) two
     ∙ ap (λ i. at place ∷ at (place + 1) ∷ at (place + 2) ∷ at i ∷ []) three)
 
-pub signed_four : (bs : List ℕ) (place : ℕ) → length bs ≡ 16 → place ≤ 12 → cast_signed w32 (from_le_bytes w32 (slice_index_or bs place 0 ∷ slice_index_or bs (place + 1) 0 ∷ slice_index_or bs (place + 2) 0 ∷ slice_index_or bs (place + 3) 0 ∷ [])) ≡ signed_at place bs
+pub signed_four : (bs : List ℕ) (place : ℕ) → length bs ≡ 16 → place ≤ 12
+    → cast_signed w32 (from_le_bytes w32 (slice_index_or bs place 0 ∷ slice_index_or bs (place + 1) 0 ∷ slice_index_or bs (place + 2) 0
+    ∷ slice_index_or bs (place + 3) 0 ∷ [])) ≡ signed_at place bs
 signed_four bs place long inside =
-    ap (cast_signed w32) (little_4 (slice_index_or bs place 0 ∷ slice_index_or bs (place + 1) 0 ∷ slice_index_or bs (place + 2) 0 ∷ slice_index_or bs (place + 3) 0 ∷ []) refl ∙ ap (number Little) (four_bytes bs place (omega arith)))
+    ap (cast_signed w32) (little_4 (slice_index_or bs place 0 ∷ slice_index_or bs (place + 1) 0 ∷ slice_index_or bs (place + 2) 0
+        ∷ slice_index_or bs (place + 3) 0 ∷ []) refl ∙ ap (number Little) (four_bytes bs place (omega arith)))
 
 room_few : (version : ℕ) → name_room version ≤ 256
 unfolding name_room
 room_few version = on_test (λ n. n ≤ 256) _ 32 256 (λ _. omega arith) (λ _. omega arith)
 
 -- what holds of each window
-by_window : (P : Layout (Said (Unit {0}) ImageSize) → Type 0) (place taken : ℕ) (size : Option ImageSize) → ((size : ImageSize) → P (done (Decided size))) → P (done (Next tt (place + (taken + 16)))) → P (exr_window place taken size)
+by_window : (P : Layout (Said (Unit {0}) ImageSize) → Type 0) (place taken : ℕ) (size : Option ImageSize)
+    → ((size : ImageSize) → P (done (Decided size))) → P (done (Next tt (place + (taken + 16)))) → P (exr_window place taken size)
 by_window P place taken (Some size) decided reversed = decided size
 by_window P place taken None decided reversed = reversed
 
 -- and of each value
-by_value : (P : Layout (Said (Unit {0}) ImageSize) → Type 0) (place taken : ℕ) (is_window : Bool) (size : ℕ) → P (bytes (place + taken) 16 (λ bs. exr_window place taken (window_size bs))) → P (done (Next tt (place + (taken + size)))) → P (exr_value place taken is_window size)
+by_value : (P : Layout (Said (Unit {0}) ImageSize) → Type 0) (place taken : ℕ) (is_window : Bool) (size : ℕ)
+    → P (bytes (place + taken) 16 (λ bs. exr_window place taken (window_size bs))) → P (done (Next tt (place + (taken + size))))
+    → P (exr_value place taken is_window size)
 by_value P place taken is_window size window other =
-    on_test P is_window (bytes (place + taken) 16 (λ bs. exr_window place taken (window_size bs))) (done (Next tt (place + (taken + size)))) (λ _. window) (λ _. other)
+    on_test P is_window (bytes (place + taken) 16 (λ bs. exr_window place taken (window_size bs)))
+        (done (Next tt (place + (taken + size)))) (λ _. window) (λ _. other)
 
 -- and of each name
-by_name : (P : Layout (Said (Unit {0}) ImageSize) → Type 0) (room place : ℕ) (name : List ℕ) → P (refuse (IoError DataWindowNotFound)) → P (line 0 (place + (length name + 1)) room (exr_typed place name)) → P (exr_named room place name)
+by_name : (P : Layout (Said (Unit {0}) ImageSize) → Type 0) (room place : ℕ) (name : List ℕ) → P (refuse (IoError DataWindowNotFound))
+    → P (line 0 (place + (length name + 1)) room (exr_typed place name)) → P (exr_named room place name)
 by_name P room place name none typed =
-    on_test P (eqb (length name) 0) (refuse (IoError DataWindowNotFound)) (line 0 (place + (length name + 1)) room (exr_typed place name)) (λ _. none) (λ _. typed)
+    on_test P (eqb (length name) 0) (refuse (IoError DataWindowNotFound)) (line 0 (place + (length name + 1)) room
+        (exr_typed place name)) (λ _. none) (λ _. typed)
 
 -- how far behind an attribute's place its value stands
 abbrev value_behind : List ℕ → List ℕ → ℕ
@@ -87,7 +98,8 @@ attribute_advances room = advances (exr_attributes room)
     (λ passed place. line_begins 0 place room (exr_named room place) place (omega arith))
 
 pub exr_local : Local exr
-exr_local = local_then (λ d. number_read d Little 4 4) (λ version d. chain_at (exr_attributes (name_room version)) d) (local_number Little 4 4) (λ version. local_chain (exr_attributes (name_room version)) (attribute_advances (name_room version)))
+exr_local = local_then (λ d. number_read d Little 4 4) (λ version d. chain_at (exr_attributes (name_room version)) d)
+    (local_number Little 4 4) (λ version. local_chain (exr_attributes (name_room version)) (attribute_advances (name_room version)))
 
 -- bytes behind an EXR change no answer that was given, nor its marks
 pub exr_keeps : Lasts exr
@@ -111,15 +123,18 @@ attributes_within room d =
     (line_onto 0 (place + (length name + 1)) room (exr_typed place name) (said_to (λ _. None)) (place + (length name + 1)) (omega arith)
     (λ type_name. (
       omega arith,
-      λ size. by_value (Ahead (place + (length name + 1 + (length type_name + 1)) + 4)) place (value_behind name type_name) (is_data_window name && is_box type_name) size
-          (omega arith, λ bs. by_window (Ahead (place + value_behind name type_name + 16)) place (value_behind name type_name) (window_size bs) (λ size. tt) (omega arith))
+      λ size. by_value (Ahead (place + (length name + 1 + (length type_name + 1)) + 4)) place (value_behind name type_name)
+          (is_data_window name && is_box type_name) size
+          (omega arith, λ bs. by_window (Ahead (place + value_behind name type_name + 16)) place (value_behind name type_name)
+              (window_size bs) (λ size. tt) (omega arith))
           (omega arith),
     ))))) in
     omega arith
 
 -- the version and the attributes are read from at most 4 bytes more than the input has
 pub exr_within : (d : List ℕ) → total (exr d).marks ≤ length d + 20
-exr_within d = omega (arith, then_within (number_read d Little 4 4) (λ version. chain_at (exr_attributes (name_room version)) d) 4 (length d) (total-span_of d 4 4) (λ version _. attributes_within (name_room version) d))
+exr_within d = omega (arith, then_within (number_read d Little 4 4) (λ version. chain_at (exr_attributes (name_room version)) d) 4
+    (length d) (total-span_of d 4 4) (λ version _. attributes_within (name_room version) d))
 
 -- an attribute is read from at most 532 bytes
 attribute_at_most : (room place : ℕ) → room ≤ 256 → AtMost 532 (exr_attribute room place)
@@ -129,15 +144,18 @@ attribute_at_most room place few = line_at_most 0 place room (exr_named room pla
     (λ type_name. (
       omega arith,
       λ size. by_value (AtMost (532 - room - room - 4)) place (value_behind name type_name) (is_data_window name && is_box type_name) size
-          (omega arith, λ bs. by_window (AtMost (532 - room - room - 4 - 16)) place (value_behind name type_name) (window_size bs) (λ size. tt) tt)
+          (omega arith, λ bs. by_window (AtMost (532 - room - room - 4 - 16)) place (value_behind name type_name) (window_size bs)
+              (λ size. tt) tt)
           tt,
     ))))
 
-cost_by : (d : List ℕ) (r : Result ℕ ImageError) → total (onward (span_of d 4 4) r (λ version. chain_at (exr_attributes (name_room version)) d)).marks ≤ 4 + 532 * begun_of d r
+cost_by : (d : List ℕ) (r : Result ℕ ImageError)
+    → total (onward (span_of d 4 4) r (λ version. chain_at (exr_attributes (name_room version)) d)).marks ≤ 4 + 532 * begun_of d r
 cost_by d (Ok version) =
     let all = total-append (span_of d 4 4) (chain_at (exr_attributes (name_room version)) d).marks in
     let first = total-span_of d 4 4 in
-    let each = chain_cost (exr_attributes (name_room version)) d (attribute_advances (name_room version) d) 532 (λ passed place. attribute_at_most (name_room version) place (room_few version)) in
+    let each = chain_cost (exr_attributes (name_room version)) d (attribute_advances (name_room version) d) 532
+        (λ passed place. attribute_at_most (name_room version) place (room_few version)) in
     omega arith
 cost_by d (Err e) = let first = total-span_of d 4 4 in omega arith
 
@@ -159,14 +177,20 @@ ExrWalks room a b place = Walks (exr_attributes room) (λ passed. Unit {0}) a b 
 pub exr_start : (room : ℕ) (a : State) → ExrWalks room a a 8
 exr_start room a = walks_start (exr_attributes room) (λ passed. Unit {0}) a tt
 
-pub exr_on : {a b end : State} (room place next : ℕ) → ExrWalks room a b place → Runs b end (Ok (Next tt next)) (over b.held.input (exr_attribute room place)) → ExrWalks room a end next
-exr_on room place next w run = walks_on (exr_attributes room) (attribute_advances room) (λ passed. Unit {0}) w (λ passed. Unit {0}) tt next (λ passed _. run) (λ passed _. tt)
+pub exr_on : {a b end : State} (room place next : ℕ) → ExrWalks room a b place → Runs b end (Ok (Next tt next))
+    (over b.held.input (exr_attribute room place)) → ExrWalks room a end next
+exr_on room place next w run = walks_on (exr_attributes room) (attribute_advances room) (λ passed. Unit {0}) w (λ passed. Unit {0}) tt
+    next (λ passed _. run) (λ passed _. tt)
 
-pub exr_stop : {a b end : State} (room place : ℕ) (size : ImageSize) → ExrWalks room a b place → Runs b end (Ok (Decided size)) (over b.held.input (exr_attribute room place)) → Runs a end (Ok size) (chain_at (exr_attributes room) a.held.input)
+pub exr_stop : {a b end : State} (room place : ℕ) (size : ImageSize) → ExrWalks room a b place → Runs b end (Ok (Decided size))
+    (over b.held.input (exr_attribute room place)) → Runs a end (Ok size) (chain_at (exr_attributes room) a.held.input)
 exr_stop room place size w run = walks_stop (exr_attributes room) (attribute_advances room) (λ passed. Unit {0}) w size (λ passed _. run)
 
-pub exr_out : {a b end : State} (room place : ℕ) (e : ImageError) → ExrWalks room a b place → Runs b end (Err e) (over b.held.input (exr_attribute room place)) → Runs a end (Err e) (chain_at (exr_attributes room) a.held.input)
+pub exr_out : {a b end : State} (room place : ℕ) (e : ImageError) → ExrWalks room a b place
+    → Runs b end (Err e) (over b.held.input (exr_attribute room place)) → Runs a end (Err e) (chain_at (exr_attributes room) a.held.input)
 exr_out room place e w run = walks_out (exr_attributes room) (attribute_advances room) (λ passed. Unit {0}) w e (λ passed _. run)
 
-pub exr_past : {a b : State} (room place : ℕ) → 0 < room → ExrWalks room a b place → 2 ^ 64 ≤ place → Runs a b (Err end_of_input) (chain_at (exr_attributes room) a.held.input)
-exr_past room place some w far = walks_past (exr_attributes room) (attribute_advances room) (λ passed. Unit {0}) w (omega arith) (omega arith) (λ passed d _ h. line_beyond d 0 place room (exr_named room place) h some)
+pub exr_past : {a b : State} (room place : ℕ) → 0 < room → ExrWalks room a b place → 2 ^ 64 ≤ place → Runs a b (Err end_of_input)
+    (chain_at (exr_attributes room) a.held.input)
+exr_past room place some w far = walks_past (exr_attributes room) (attribute_advances room) (λ passed. Unit {0}) w (omega arith)
+    (omega arith) (λ passed d _ h. line_beyond d 0 place room (exr_named room place) h some)

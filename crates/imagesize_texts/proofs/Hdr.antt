@@ -25,29 +25,35 @@ use Rattle.imagesize_texts.specs.Texts.{found, line}
 use Rattle.imagesize_texts.proofs.Texts.{found_by, line_onto, line_plain, line_tells, line_begins, line_beyond, lasts_then}
 
 -- what holds of each line
-by_line : (P : Layout (Said (Unit {0}) ImageSize) → Type 0) (place : ℕ) (text : List ℕ) → ((size : ImageSize) → P (done (Decided size))) → ((e : ImageError) → P (refuse e)) → P (done (Next tt (place + (length text + 1)))) → P (hdr_line place text)
+by_line : (P : Layout (Said (Unit {0}) ImageSize) → Type 0) (place : ℕ) (text : List ℕ) → ((size : ImageSize) → P (done (Decided size)))
+    → ((e : ImageError) → P (refuse e)) → P (done (Next tt (place + (length text + 1)))) → P (hdr_line place text)
 by_line P place text decided refused passed =
     on_test P (is_resolution text) (found (resolution text) (λ size. done (Decided size))) (done (Next tt (place + (length text + 1))))
     (λ _. found_by P (resolution text) (λ size. done (Decided size)) (λ size _. decided size) refused)
     (λ _. passed)
 
 -- and of the first
-by_identifier : (P : Layout ℕ → Type 0) (text : List ℕ) → P (done (length text + 1)) → P (refuse (IoError InvalidHdrIdentifier)) → P (identified text)
-by_identifier P text is none = on_test P (is_identifier text) (done (length text + 1)) (refuse (IoError InvalidHdrIdentifier)) (λ _. is) (λ _. none)
+by_identifier : (P : Layout ℕ → Type 0) (text : List ℕ) → P (done (length text + 1)) → P (refuse (IoError InvalidHdrIdentifier))
+    → P (identified text)
+by_identifier P text is none = on_test P (is_identifier text) (done (length text + 1)) (refuse (IoError InvalidHdrIdentifier)) (λ _. is)
+    (λ _. none)
 
 hdr_advances : (first : ℕ) (d : List ℕ) → Advances (hdr_lines first) d
 hdr_advances first = advances (hdr_lines first)
-    (λ passed place. line_tells 0x0A place 256 (hdr_line place) (λ p. place < p) (λ text. by_line (Tells (λ p. place < p)) place text (λ size. tt) (λ e. tt) (omega arith)))
+    (λ passed place. line_tells 0x0A place 256 (hdr_line place) (λ p. place < p) (λ text. by_line (Tells (λ p. place < p)) place text
+        (λ size. tt) (λ e. tt) (omega arith)))
     (λ passed place. line_begins 0x0A place 256 (hdr_line place) place (omega arith))
 
 pub hdr_local : Local hdr
-hdr_local = local_then (λ d. over d hdr_identifier) (λ first d. chain_at (hdr_lines first) d) (local_layout hdr_identifier) (λ first. local_chain (hdr_lines first) (hdr_advances first))
+hdr_local = local_then (λ d. over d hdr_identifier) (λ first d. chain_at (hdr_lines first) d) (local_layout hdr_identifier)
+    (λ first. local_chain (hdr_lines first) (hdr_advances first))
 
 -- bytes behind an HDR change no answer that was given, nor its marks
 pub hdr_keeps : Lasts hdr
 hdr_keeps = lasts_then (λ d. over d hdr_identifier) (λ first d. chain_at (hdr_lines first) d)
     (λ d x first is. more d x hdr_identifier first (line_plain 0x0A 0 11 identified (λ text. by_identifier Plain text tt tt)) is)
-    (λ first. lasts_chain (hdr_lines first) (hdr_advances first) (λ passed place. line_plain 0x0A place 256 (hdr_line place) (λ text. by_line Plain place text (λ size. tt) (λ e. tt) tt)))
+    (λ first. lasts_chain (hdr_lines first) (hdr_advances first) (λ passed place. line_plain 0x0A place 256 (hdr_line place)
+        (λ text. by_line Plain place text (λ size. tt) (λ e. tt) tt)))
 
 pub hdr_lasts : (d x : List ℕ) (size : ImageSize) → (hdr d).answer ≡ Ok size → (hdr (d ++ x)).answer ≡ Ok size
 hdr_lasts d x size is = ap (λ r. r.answer) (hdr_keeps d x size is) ∙ is
@@ -57,7 +63,8 @@ pub hdr_within : (d : List ℕ) → total (hdr d).marks ≤ length d + 20
 hdr_within d =
     let all = spends_then (length d) 0 (λ first. first) (λ _. None) (over d hdr_identifier) (λ first. chain_at (hdr_lines first) d)
     (spends d (λ first. Some first) 0 hdr_identifier
-    (line_onto 0x0A 0 11 identified (λ first. Some first) 0 (omega arith) (λ text. by_identifier (Onto (λ first. Some first) (0 + (length text + 1))) text (omega arith) tt)))
+    (line_onto 0x0A 0 11 identified (λ first. Some first) 0 (omega arith)
+        (λ text. by_identifier (Onto (λ first. Some first) (0 + (length text + 1))) text (omega arith) tt)))
     (λ first _. chain_onto (hdr_lines first) d (λ _. None) (hdr_advances first d)
     (λ passed place. line_onto 0x0A place 256 (hdr_line place) (said_to (λ _. None)) place (omega arith)
     (λ text. by_line (Ahead (place + (length text + 1))) place text (λ size. tt) (λ e. tt) (omega arith)))) in
@@ -73,17 +80,24 @@ HdrWalks first a b place = Walks (hdr_lines first) (λ passed. Unit {0}) a b pla
 pub hdr_start : (first : ℕ) (a : State) → HdrWalks first a a first
 hdr_start first a = walks_start (hdr_lines first) (λ passed. Unit {0}) a tt
 
-pub hdr_on : {a b end : State} (first place next : ℕ) → HdrWalks first a b place → Runs b end (Ok (Next tt next)) (over b.held.input (line 0x0A place 256 (hdr_line place))) → HdrWalks first a end next
-hdr_on first place next w run = walks_on (hdr_lines first) (hdr_advances first) (λ passed. Unit {0}) w (λ passed. Unit {0}) tt next (λ passed _. run) (λ passed _. tt)
+pub hdr_on : {a b end : State} (first place next : ℕ) → HdrWalks first a b place → Runs b end (Ok (Next tt next))
+    (over b.held.input (line 0x0A place 256 (hdr_line place))) → HdrWalks first a end next
+hdr_on first place next w run = walks_on (hdr_lines first) (hdr_advances first) (λ passed. Unit {0}) w (λ passed. Unit {0}) tt next
+    (λ passed _. run) (λ passed _. tt)
 
-pub hdr_stop : {a b end : State} (first place : ℕ) (size : ImageSize) → HdrWalks first a b place → Runs b end (Ok (Decided size)) (over b.held.input (line 0x0A place 256 (hdr_line place))) → Runs a end (Ok size) (chain_at (hdr_lines first) a.held.input)
+pub hdr_stop : {a b end : State} (first place : ℕ) (size : ImageSize) → HdrWalks first a b place → Runs b end (Ok (Decided size))
+    (over b.held.input (line 0x0A place 256 (hdr_line place))) → Runs a end (Ok size) (chain_at (hdr_lines first) a.held.input)
 hdr_stop first place size w run = walks_stop (hdr_lines first) (hdr_advances first) (λ passed. Unit {0}) w size (λ passed _. run)
 
-pub hdr_out : {a b end : State} (first place : ℕ) (e : ImageError) → HdrWalks first a b place → Runs b end (Err e) (over b.held.input (line 0x0A place 256 (hdr_line place))) → Runs a end (Err e) (chain_at (hdr_lines first) a.held.input)
+pub hdr_out : {a b end : State} (first place : ℕ) (e : ImageError) → HdrWalks first a b place
+    → Runs b end (Err e) (over b.held.input (line 0x0A place 256 (hdr_line place)))
+    → Runs a end (Err e) (chain_at (hdr_lines first) a.held.input)
 hdr_out first place e w run = walks_out (hdr_lines first) (hdr_advances first) (λ passed. Unit {0}) w e (λ passed _. run)
 
-pub hdr_past : {a b : State} (first place : ℕ) → first < 2 ^ 64 → HdrWalks first a b place → 2 ^ 64 ≤ place → Runs a b (Err end_of_input) (chain_at (hdr_lines first) a.held.input)
-hdr_past first place small w far = walks_past (hdr_lines first) (hdr_advances first) (λ passed. Unit {0}) w (omega arith) (omega arith) (λ passed d _ h. line_beyond d 0x0A place 256 (hdr_line place) h (omega arith))
+pub hdr_past : {a b : State} (first place : ℕ) → first < 2 ^ 64 → HdrWalks first a b place → 2 ^ 64 ≤ place → Runs a b (Err end_of_input)
+    (chain_at (hdr_lines first) a.held.input)
+hdr_past first place small w far = walks_past (hdr_lines first) (hdr_advances first) (λ passed. Unit {0}) w (omega arith) (omega arith)
+    (λ passed d _ h. line_beyond d 0x0A place 256 (hdr_line place) h (omega arith))
 
 -- of another number of words than four none are the second and the fourth
 pub other_words : (ws : List (List ℕ)) → length ws ≢ 4 → second_and_fourth ws ≡ None

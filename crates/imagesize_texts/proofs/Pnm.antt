@@ -22,14 +22,19 @@ use Rattle.imagesize_texts.specs.Texts.{found, passed_line, word}
 use Rattle.imagesize_texts.proofs.Texts.{found_by, passed_onto, passed_plain, passed_tells, word_onto, word_plain, word_tells, word_begins, word_beyond}
 
 -- what holds of each way that a word can go
-by_word : (P : Layout (Said (Unit {0}) ImageSize) → Type 0) (place : ℕ) (w : WordRead) → P (pnm_passed place w.taken) → P (passed_line 0x0A (place + w.taken) 1024 (λ rest. pnm_passed place (w.taken + rest))) → P (pnm_height place w) → P (pnm_word place w)
+by_word : (P : Layout (Said (Unit {0}) ImageSize) → Type 0) (place : ℕ) (w : WordRead) → P (pnm_passed place w.taken)
+    → P (passed_line 0x0A (place + w.taken) 1024 (λ rest. pnm_passed place (w.taken + rest))) → P (pnm_height place w)
+    → P (pnm_word place w)
 by_word P place w passed comment height =
     on_test P (is_comment w.text) (pnm_comment place w) _
-    (λ _. on_test P (eqb w.ended_by 0x0A) (pnm_passed place w.taken) (passed_line 0x0A (place + w.taken) 1024 (λ rest. pnm_passed place (w.taken + rest))) (λ _. passed) (λ _. comment))
+    (λ _. on_test P (eqb w.ended_by 0x0A) (pnm_passed place w.taken) (passed_line 0x0A (place + w.taken) 1024
+        (λ rest. pnm_passed place (w.taken + rest))) (λ _. passed) (λ _. comment))
     (λ _. on_test P (is_blank w.text) (pnm_passed place w.taken) (pnm_height place w) (λ _. passed) (λ _. height))
 
 -- and of the size that the width and the height give
-by_size : (P : Layout (Said (Unit {0}) ImageSize) → Type 0) (width height : Option ℕ) → ((size : ImageSize) → P (done (Decided size))) → ((e : ImageError) → P (found (Err e) (λ (size : ImageSize). done (Decided size)))) → P (found (pnm_size width height) (λ size. done (Decided size)))
+by_size : (P : Layout (Said (Unit {0}) ImageSize) → Type 0) (width height : Option ℕ) → ((size : ImageSize) → P (done (Decided size)))
+    → ((e : ImageError) → P (found (Err e) (λ (size : ImageSize). done (Decided size))))
+    → P (found (pnm_size width height) (λ size. done (Decided size)))
 by_size P width height decided refused = found_by P (pnm_size width height) (λ size. done (Decided size)) (λ size _. decided size) refused
 
 pnm_advances : (d : List ℕ) → Advances pnm_words d
@@ -37,7 +42,8 @@ pnm_advances = advances pnm_words
     (λ passed place. word_tells place (pnm_word place) (λ p. place < p)
     (λ w some. by_word (Tells (λ p. place < p)) place w (omega arith)
     (passed_tells 0x0A (place + w.taken) 1024 (λ rest. pnm_passed place (w.taken + rest)) (λ p. place < p) (λ n. omega arith))
-    (word_tells (place + w.taken) (λ next. found (pnm_size (number_text w.text) (number_text (trim next.text))) (λ size. done (Decided size))) (λ p. place < p)
+    (word_tells (place + w.taken) (λ next. found (pnm_size (number_text w.text) (number_text (trim next.text)))
+        (λ size. done (Decided size))) (λ p. place < p)
     (λ next _. by_size (Tells (λ p. place < p)) (number_text w.text) (number_text (trim next.text)) (λ size. tt) (λ e. tt)))))
     (λ passed place. word_begins place (pnm_word place) place (omega arith))
 
@@ -50,7 +56,8 @@ pnm_keeps = lasts_chain pnm_words pnm_advances
     (λ passed place. word_plain place (pnm_word place)
     (λ w. by_word Plain place w tt
     (passed_plain 0x0A (place + w.taken) 1024 (λ rest. pnm_passed place (w.taken + rest)) (λ n. tt))
-    (word_plain (place + w.taken) (λ next. found (pnm_size (number_text w.text) (number_text (trim next.text))) (λ size. done (Decided size)))
+    (word_plain (place + w.taken) (λ next. found (pnm_size (number_text w.text) (number_text (trim next.text)))
+        (λ size. done (Decided size)))
     (λ next. by_size Plain (number_text w.text) (number_text (trim next.text)) (λ size. tt) (λ e. tt)))))
 
 pub pnm_lasts : (d x : List ℕ) (size : ImageSize) → (pnm d).answer ≡ Ok size → (pnm (d ++ x)).answer ≡ Ok size
@@ -62,9 +69,12 @@ pnm_within d =
     let most = chain_ahead pnm_words d (pnm_advances d)
     (λ passed place. word_onto place (pnm_word place) (said_to (λ _. None)) place (omega arith)
     (λ w. by_word (Ahead (place + w.taken)) place w (omega arith)
-    (passed_onto 0x0A (place + w.taken) 1024 (λ rest. pnm_passed place (w.taken + rest)) (said_to (λ _. None)) (place + w.taken) (omega arith) (λ n. omega arith))
-    (word_onto (place + w.taken) (λ next. found (pnm_size (number_text w.text) (number_text (trim next.text))) (λ size. done (Decided size))) (said_to (λ _. None)) (place + w.taken) (omega arith)
-    (λ next. by_size (Ahead (place + w.taken + next.taken)) (number_text w.text) (number_text (trim next.text)) (λ size. tt) (λ e. tt))))) in
+    (passed_onto 0x0A (place + w.taken) 1024 (λ rest. pnm_passed place (w.taken + rest)) (said_to (λ _. None)) (place + w.taken)
+        (omega arith) (λ n. omega arith))
+    (word_onto (place + w.taken) (λ next. found (pnm_size (number_text w.text) (number_text (trim next.text)))
+        (λ size. done (Decided size))) (said_to (λ _. None)) (place + w.taken) (omega arith)
+    (λ next. by_size (Ahead (place + w.taken + next.taken)) (number_text w.text) (number_text (trim next.text)) (λ size. tt)
+        (λ e. tt))))) in
     omega arith
 
 pub pnm_laws : TextsLaws true pnm
@@ -77,14 +87,19 @@ PnmWalks a b place = Walks pnm_words (λ passed. Unit {0}) a b place
 pub pnm_start : (a : State) → PnmWalks a a 2
 pnm_start a = walks_start pnm_words (λ passed. Unit {0}) a tt
 
-pub pnm_on : {a b end : State} (place next : ℕ) → PnmWalks a b place → Runs b end (Ok (Next tt next)) (over b.held.input (word place (pnm_word place))) → PnmWalks a end next
-pnm_on place next w run = walks_on pnm_words pnm_advances (λ passed. Unit {0}) w (λ passed. Unit {0}) tt next (λ passed _. run) (λ passed _. tt)
+pub pnm_on : {a b end : State} (place next : ℕ) → PnmWalks a b place → Runs b end (Ok (Next tt next))
+    (over b.held.input (word place (pnm_word place))) → PnmWalks a end next
+pnm_on place next w run = walks_on pnm_words pnm_advances (λ passed. Unit {0}) w (λ passed. Unit {0}) tt next (λ passed _. run)
+    (λ passed _. tt)
 
-pub pnm_stop : {a b end : State} (place : ℕ) (size : ImageSize) → PnmWalks a b place → Runs b end (Ok (Decided size)) (over b.held.input (word place (pnm_word place))) → Runs a end (Ok size) (pnm a.held.input)
+pub pnm_stop : {a b end : State} (place : ℕ) (size : ImageSize) → PnmWalks a b place → Runs b end (Ok (Decided size))
+    (over b.held.input (word place (pnm_word place))) → Runs a end (Ok size) (pnm a.held.input)
 pnm_stop place size w run = walks_stop pnm_words pnm_advances (λ passed. Unit {0}) w size (λ passed _. run)
 
-pub pnm_out : {a b end : State} (place : ℕ) (e : ImageError) → PnmWalks a b place → Runs b end (Err e) (over b.held.input (word place (pnm_word place))) → Runs a end (Err e) (pnm a.held.input)
+pub pnm_out : {a b end : State} (place : ℕ) (e : ImageError) → PnmWalks a b place
+    → Runs b end (Err e) (over b.held.input (word place (pnm_word place))) → Runs a end (Err e) (pnm a.held.input)
 pnm_out place e w run = walks_out pnm_words pnm_advances (λ passed. Unit {0}) w e (λ passed _. run)
 
 pub pnm_past : {a b : State} (place : ℕ) → PnmWalks a b place → 2 ^ 64 ≤ place → Runs a b (Err end_of_input) (pnm a.held.input)
-pnm_past place w far = walks_past pnm_words pnm_advances (λ passed. Unit {0}) w (omega arith) (omega arith) (λ passed d _ h. word_beyond d place (pnm_word place) h)
+pnm_past place w far = walks_past pnm_words pnm_advances (λ passed. Unit {0}) w (omega arith) (omega arith)
+    (λ passed d _ h. word_beyond d place (pnm_word place) h)

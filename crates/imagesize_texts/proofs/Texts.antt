@@ -60,13 +60,16 @@ judged_ended b (Err e) h = record {
 }
 
 -- what is made of a text that was read
-pub text_judged : {X : Type 0} {a b : State} (d : List ℕ) (t : Text) (place k : ℕ) (bs : List ℕ) (f : List ℕ → Result X ImageError) (r : Result X ImageError) → Runs a b (Ok bs) (text_read d t place k) → r ≡ f bs → Judged (f bs) → Runs a b r (text_as d t place k f)
+pub text_judged : {X : Type 0} {a b : State} (d : List ℕ) (t : Text) (place k : ℕ) (bs : List ℕ) (f : List ℕ → Result X ImageError)
+    (r : Result X ImageError) → Runs a b (Ok bs) (text_read d t place k) → r ≡ f bs → Judged (f bs) → Runs a b r (text_as d t place k f)
 text_judged {X} {a} {b} d t place k bs f r h is fine =
     let fine_r : Judged r = subst Judged (sym is) fine in
-    answered r (text_as d t place k f) h refl (λ read. ap f (part_is read) ∙ sym is) (judged_goes_on r fine_r) (judged_no_fault r fine_r) (judged_ended b r fine_r)
+    answered r (text_as d t place k f) h refl (λ read. ap f (part_is read) ∙ sym is) (judged_goes_on r fine_r) (judged_no_fault r fine_r)
+        (judged_ended b r fine_r)
 
 -- nothing is made of one whose reading was stopped
-pub text_stopped : {X : Type 0} {a b : State} (d : List ℕ) (t : Text) (place k : ℕ) (e : ImageError) (f : List ℕ → Result X ImageError) → Runs {X = List ℕ} a b (Err e) (text_read d t place k) → Runs {X = X} a b (Err e) (text_as d t place k f)
+pub text_stopped : {X : Type 0} {a b : State} (d : List ℕ) (t : Text) (place k : ℕ) (e : ImageError) (f : List ℕ → Result X ImageError)
+    → Runs {X = List ℕ} a b (Err e) (text_read d t place k) → Runs {X = X} a b (Err e) (text_as d t place k f)
 text_stopped d t place k e f h = record {
   sound = h.sound;
   sound_after = h.sound_after;
@@ -81,19 +84,23 @@ text_stopped d t place k e f h = record {
 
 no_end_harmless : (most count : ℕ) → Harmless (no_end most count)
 no_end_harmless most count = on_test Harmless (eqb count most) (IoError (NoDelimiter most)) end_of_input
-    (λ _. record { goes_on = refl; no_fault = refl; none_spent = refl; memory = refl }) (λ _. record { goes_on = refl; no_fault = refl; none_spent = refl; memory = refl })
+    (λ _. record { goes_on = refl; no_fault = refl; none_spent = refl; memory = refl })
+        (λ _. record { goes_on = refl; no_fault = refl; none_spent = refl; memory = refl })
 
 utf8_judged : (bs : List ℕ) → Judged (utf8 bs)
 unfolding utf8
-utf8_judged bs = on_test Judged (is_utf8 bs) (Ok bs) (Err (IoError NotUtf8)) (λ _. tt) (λ _. record { goes_on = refl; no_fault = refl; none_spent = refl; memory = refl })
+utf8_judged bs = on_test Judged (is_utf8 bs) (Ok bs) (Err (IoError NotUtf8)) (λ _. tt)
+    (λ _. record { goes_on = refl; no_fault = refl; none_spent = refl; memory = refl })
 
 line_judged : (delimiter most : ℕ) (bs : List ℕ) → Judged (line_text delimiter most bs)
 unfolding line_text
-line_judged delimiter most bs = on_test Judged (last_passes (λ b. eqb b delimiter) bs) (utf8 (before_last bs)) (Err (no_end most (length bs))) (λ _. utf8_judged (before_last bs)) (λ _. no_end_harmless most (length bs))
+line_judged delimiter most bs = on_test Judged (last_passes (λ b. eqb b delimiter) bs) (utf8 (before_last bs))
+    (Err (no_end most (length bs))) (λ _. utf8_judged (before_last bs)) (λ _. no_end_harmless most (length bs))
 
 length_judged : (delimiter most : ℕ) (bs : List ℕ) → Judged (line_length delimiter most bs)
 unfolding line_length
-length_judged delimiter most bs = on_test Judged (last_passes (λ b. eqb b delimiter) bs) (Ok (length bs)) (Err (no_end most (length bs))) (λ _. tt) (λ _. no_end_harmless most (length bs))
+length_judged delimiter most bs = on_test Judged (last_passes (λ b. eqb b delimiter) bs) (Ok (length bs)) (Err (no_end most (length bs)))
+    (λ _. tt) (λ _. no_end_harmless most (length bs))
 
 seen_judged : {X Y : Type 0} (f : X → Y) (r : Result X ImageError) → Judged r → Judged (seen f r)
 seen_judged f (Ok x) h = tt
@@ -101,21 +108,31 @@ seen_judged f (Err e) h = h
 
 word_judged : (bs : List ℕ) → Judged (word_text bs)
 unfolding word_text ended_word
-word_judged bs = on_test Judged (last_passes (λ b. is_word_end b (length bs)) (unspaced bs)) (word_of (length bs) (unspaced bs)) (Err (no_end word_room (length bs)))
-    (λ _. seen_judged (word_at (length bs) (unspaced bs)) (utf8 (before_last (unspaced bs))) (utf8_judged (before_last (unspaced bs)))) (λ _. no_end_harmless word_room (length bs))
+word_judged bs = on_test Judged (last_passes (λ b. is_word_end b (length bs)) (unspaced bs)) (word_of (length bs) (unspaced bs))
+    (Err (no_end word_room (length bs)))
+    (λ _. seen_judged (word_at (length bs) (unspaced bs)) (utf8 (before_last (unspaced bs))) (utf8_judged (before_last (unspaced bs))))
+        (λ _. no_end_harmless word_room (length bs))
 
 -- the three readings of texts, of which each is judged
 module _ {a b : State} (d room : List ℕ) (place most n : ℕ) (long : length room ≡ most) where
-  judged_room : {X : Type 0} (t : Text) (f : List ℕ → Result X ImageError) (r : Result X ImageError) → Runs a b (Ok (take n room)) (text_read d t place (length room)) → r ≡ f (take n room) → Judged (f (take n room)) → Runs a b r (text_as d t place most f)
-  judged_room t f r h is fine = text_judged d t place most (take n room) f r (subst (λ k. Runs a b (Ok (take n room)) (text_read d t place k)) long h) is fine
+  judged_room : {X : Type 0} (t : Text) (f : List ℕ → Result X ImageError) (r : Result X ImageError) → Runs a b (Ok (take n room))
+      (text_read d t place (length room)) → r ≡ f (take n room) → Judged (f (take n room)) → Runs a b r (text_as d t place most f)
+  judged_room t f r h is fine = text_judged d t place most (take n room) f r
+      (subst (λ k. Runs a b (Ok (take n room)) (text_read d t place k)) long h) is fine
 
-  pub line_runs : (delimiter : ℕ) (r : Result (List ℕ) ImageError) → Runs a b (Ok (take n room)) (text_read d (Line delimiter) place (length room)) → r ≡ line_text delimiter most (take n room) → Runs a b r (line_read d delimiter place most)
+  pub line_runs : (delimiter : ℕ) (r : Result (List ℕ) ImageError) → Runs a b (Ok (take n room))
+      (text_read d (Line delimiter) place (length room)) → r ≡ line_text delimiter most (take n room)
+      → Runs a b r (line_read d delimiter place most)
   line_runs delimiter r h is = judged_room (Line delimiter) (line_text delimiter most) r h is (line_judged delimiter most (take n room))
 
-  pub length_runs : (delimiter : ℕ) (r : Result ℕ ImageError) → Runs a b (Ok (take n room)) (text_read d (Line delimiter) place (length room)) → r ≡ line_length delimiter most (take n room) → Runs a b r (length_read d delimiter place most)
-  length_runs delimiter r h is = judged_room (Line delimiter) (line_length delimiter most) r h is (length_judged delimiter most (take n room))
+  pub length_runs : (delimiter : ℕ) (r : Result ℕ ImageError) → Runs a b (Ok (take n room))
+      (text_read d (Line delimiter) place (length room)) → r ≡ line_length delimiter most (take n room)
+      → Runs a b r (length_read d delimiter place most)
+  length_runs delimiter r h is = judged_room (Line delimiter) (line_length delimiter most) r h is
+      (length_judged delimiter most (take n room))
 
-pub word_runs : {a b : State} (d room : List ℕ) (place n : ℕ) (r : Result WordRead ImageError) → length room ≡ word_room → Runs a b (Ok (take n room)) (text_read d Word place (length room)) → r ≡ word_text (take n room) → Runs a b r (word_read d place)
+pub word_runs : {a b : State} (d room : List ℕ) (place n : ℕ) (r : Result WordRead ImageError) → length room ≡ word_room
+    → Runs a b (Ok (take n room)) (text_read d Word place (length room)) → r ≡ word_text (take n room) → Runs a b r (word_read d place)
 word_runs d room place n r long h is = judged_room d room place word_room n long Word word_text r h is (word_judged (take n room))
 
 first_of : (a b : Bool) → a && b ≡ true → a ≡ true
@@ -144,9 +161,11 @@ unfolding utf8
 utf8_same bs text = on_test (λ r. r ≡ Ok text → bs ≡ text) (is_utf8 bs) (Ok bs) (Err (IoError NotUtf8)) (λ _ is. cc) (λ _ is. absurd cc)
 
 -- a line takes one byte more than its text has, and the byte that ends it is among them
-pub line_ok : (delimiter most : ℕ) (bs text : List ℕ) → line_text delimiter most bs ≡ Ok text → (length bs ≡ length text + 1) × (last_passes (λ b. eqb b delimiter) bs ≡ true)
+pub line_ok : (delimiter most : ℕ) (bs text : List ℕ) → line_text delimiter most bs ≡ Ok text → (length bs ≡ length text + 1)
+    × (last_passes (λ b. eqb b delimiter) bs ≡ true)
 unfolding line_text
-line_ok delimiter most bs text = on_test (λ r. r ≡ Ok text → (length bs ≡ length text + 1) × (last_passes (λ b. eqb b delimiter) bs ≡ true)) (last_passes (λ b. eqb b delimiter) bs) (utf8 (before_last bs)) (Err (no_end most (length bs)))
+line_ok delimiter most bs text = on_test (λ r. r ≡ Ok text → (length bs ≡ length text + 1) × (last_passes (λ b. eqb b delimiter) bs
+    ≡ true)) (last_passes (λ b. eqb b delimiter) bs) (utf8 (before_last bs)) (Err (no_end most (length bs)))
     (λ ends is.
     let some = passes_some (λ b. eqb b delimiter) bs ends in
     let same = ap length (utf8_same (before_last bs) text is) in
@@ -154,9 +173,11 @@ line_ok delimiter most bs text = on_test (λ r. r ≡ Ok text → (length bs ≡
     (omega arith, ends))
     (λ _ is. absurd cc)
 
-pub length_ok : (delimiter most : ℕ) (bs : List ℕ) (n : ℕ) → line_length delimiter most bs ≡ Ok n → (length bs ≡ n) × (last_passes (λ b. eqb b delimiter) bs ≡ true)
+pub length_ok : (delimiter most : ℕ) (bs : List ℕ) (n : ℕ) → line_length delimiter most bs ≡ Ok n
+    → (length bs ≡ n) × (last_passes (λ b. eqb b delimiter) bs ≡ true)
 unfolding line_length
-length_ok delimiter most bs n = on_test (λ r. r ≡ Ok n → (length bs ≡ n) × (last_passes (λ b. eqb b delimiter) bs ≡ true)) (last_passes (λ b. eqb b delimiter) bs) (Ok (length bs)) (Err (no_end most (length bs)))
+length_ok delimiter most bs n = on_test (λ r. r ≡ Ok n → (length bs ≡ n) × (last_passes (λ b. eqb b delimiter) bs ≡ true))
+    (last_passes (λ b. eqb b delimiter) bs) (Ok (length bs)) (Err (no_end most (length bs)))
     (λ ends is. (cc, ends))
     (λ _ is. absurd cc)
 
@@ -166,12 +187,16 @@ seen_ok f (Err e) y is = absurd cc
 
 unspaced_le : (bs : List ℕ) → length (unspaced bs) ≤ length bs
 unspaced_le [] = omega arith
-unspaced_le (b ∷ bs) = on_test (λ rest. length rest ≤ length (b ∷ bs)) (is_ascii_whitespace b) (unspaced bs) (b ∷ bs) (λ _. omega (arith, unspaced_le bs)) (λ _. omega arith)
+unspaced_le (b ∷ bs) = on_test (λ rest. length rest ≤ length (b ∷ bs)) (is_ascii_whitespace b) (unspaced bs) (b ∷ bs)
+    (λ _. omega (arith, unspaced_le bs)) (λ _. omega arith)
 
 -- a word takes the bytes that were read, of which there are some, and white space ends it
-pub word_ok : (bs : List ℕ) (w : WordRead) → word_text bs ≡ Ok w → (length bs ≡ w.taken) × (0 < length bs) × (last_passes (λ b. is_word_end b (length bs)) (unspaced bs) ≡ true)
+pub word_ok : (bs : List ℕ) (w : WordRead) → word_text bs ≡ Ok w → (length bs ≡ w.taken) × (0 < length bs)
+    × (last_passes (λ b. is_word_end b (length bs)) (unspaced bs) ≡ true)
 unfolding word_text ended_word
-word_ok bs w = on_test (λ r. r ≡ Ok w → (length bs ≡ w.taken) × (0 < length bs) × (last_passes (λ b. is_word_end b (length bs)) (unspaced bs) ≡ true)) (last_passes (λ b. is_word_end b (length bs)) (unspaced bs)) (word_of (length bs) (unspaced bs)) (Err (no_end word_room (length bs)))
+word_ok bs w = on_test (λ r. r ≡ Ok w → (length bs ≡ w.taken) × (0 < length bs) × (last_passes (λ b. is_word_end b (length bs))
+    (unspaced bs) ≡ true)) (last_passes (λ b. is_word_end b (length bs)) (unspaced bs)) (word_of (length bs) (unspaced bs))
+    (Err (no_end word_room (length bs)))
     (λ ends is.
     let text = seen_ok (word_at (length bs) (unspaced bs)) (utf8 (before_last (unspaced bs))) w is in
     let some = passes_some (λ b. is_word_end b (length bs)) (unspaced bs) ends in
@@ -179,27 +204,36 @@ word_ok bs w = on_test (λ r. r ≡ Ok w → (length bs ≡ w.taken) × (0 < len
     (λ _ is. absurd cc)
 
 below_room : (last count : ℕ) → is_word_end last count ≡ true → count < word_room
-below_room last count is = let few : ltb count word_room ≡ true = second_of (is_ascii_whitespace last) (ltb count word_room) is in grind (arith, nat_tests)
+below_room last count is = let few : ltb count word_room ≡ true = second_of (is_ascii_whitespace last) (ltb count word_room) is in
+    grind (arith, nat_tests)
 
 -- so what was read of it was paid for
-pub line_pays : {A P : Type 0} (v : A → List ℕ) (delimiter most : ℕ) (room : List ℕ) (n : ℕ) (r : Result A ImageError) → seen v r ≡ line_text delimiter most (take n room) → (0 < n → P) → IfOk r (λ _. P)
-line_pays v delimiter most room n (Ok x) is pays = pays (omega (arith, (line_ok delimiter most (take n room) (v x) (sym is)).0, length-take n room))
+pub line_pays : {A P : Type 0} (v : A → List ℕ) (delimiter most : ℕ) (room : List ℕ) (n : ℕ) (r : Result A ImageError)
+    → seen v r ≡ line_text delimiter most (take n room) → (0 < n → P) → IfOk r (λ _. P)
+line_pays v delimiter most room n (Ok x) is pays =
+    pays (omega (arith, (line_ok delimiter most (take n room) (v x) (sym is)).0, length-take n room))
 line_pays v delimiter most room n (Err e) is pays = tt
 
-pub word_pays : {A P : Type 0} (v : A → WordRead) (room : List ℕ) (n : ℕ) (r : Result A ImageError) → seen v r ≡ word_text (take n room) → (0 < n → P) → IfOk r (λ _. P)
+pub word_pays : {A P : Type 0} (v : A → WordRead) (room : List ℕ) (n : ℕ) (r : Result A ImageError) → seen v r ≡ word_text (take n room)
+    → (0 < n → P) → IfOk r (λ _. P)
 word_pays v room n (Ok x) is pays = pays (omega (arith, (word_ok (take n room) (v x) (sym is)).1, length-take n room))
 word_pays v room n (Err e) is pays = tt
 
 -- a line is no longer than there is room for, and a word takes some bytes, and fewer
-pub length_bound : (delimiter most : ℕ) (room : List ℕ) (n : ℕ) (r : Result ℕ ImageError) → length room ≡ most → r ≡ line_length delimiter most (take n room) → IfOk r (λ count. count ≤ most)
-length_bound delimiter most room n (Ok count) long is = omega (arith, (length_ok delimiter most (take n room) count (sym is)).0, length-take n room)
+pub length_bound : (delimiter most : ℕ) (room : List ℕ) (n : ℕ) (r : Result ℕ ImageError) → length room ≡ most
+    → r ≡ line_length delimiter most (take n room) → IfOk r (λ count. count ≤ most)
+length_bound delimiter most room n (Ok count) long is = omega (arith, (length_ok delimiter most (take n room) count (sym is)).0,
+    length-take n room)
 length_bound delimiter most room n (Err e) long is = tt
 
-pub line_bound : {A : Type 0} (v : A → List ℕ) (delimiter most : ℕ) (room : List ℕ) (n : ℕ) (r : Result A ImageError) → length room ≡ most → seen v r ≡ line_text delimiter most (take n room) → IfOk r (λ text. length (v text) < most)
-line_bound v delimiter most room n (Ok x) long is = omega (arith, (line_ok delimiter most (take n room) (v x) (sym is)).0, length-take n room)
+pub line_bound : {A : Type 0} (v : A → List ℕ) (delimiter most : ℕ) (room : List ℕ) (n : ℕ) (r : Result A ImageError)
+    → length room ≡ most → seen v r ≡ line_text delimiter most (take n room) → IfOk r (λ text. length (v text) < most)
+line_bound v delimiter most room n (Ok x) long is = omega (arith, (line_ok delimiter most (take n room) (v x) (sym is)).0,
+    length-take n room)
 line_bound v delimiter most room n (Err e) long is = tt
 
-pub word_bound : {A : Type 0} (v : A → WordRead) (room : List ℕ) (n : ℕ) (r : Result A ImageError) → seen v r ≡ word_text (take n room) → IfOk r (λ w. (0 < (v w).taken) × ((v w).taken < word_room))
+pub word_bound : {A : Type 0} (v : A → WordRead) (room : List ℕ) (n : ℕ) (r : Result A ImageError) → seen v r ≡ word_text (take n room)
+    → IfOk r (λ w. (0 < (v w).taken) × ((v w).taken < word_room))
 word_bound v room n (Ok x) is =
     let ok = word_ok (take n room) (v x) (sym is) in
     let ends = passes_last (λ b. is_word_end b (length (take n room))) (unspaced (take n room)) ok.2 in
@@ -231,14 +265,16 @@ skipped_unspaced (b ∷ bs) =
     elim (is_ascii_whitespace b) as Goal [ true ↦ ap (λ n. drop n (b ∷ bs)) one ∙ skipped_unspaced bs | false ↦ refl ]
 
 any_white : (count : ℕ) (bs : List ℕ) → last_passes (λ b. is_word_end b count) bs ≡ true → list_any is_ascii_whitespace bs ≡ true
-any_white count bs is = any_at is_ascii_whitespace bs (length bs - 1) (omega (arith, passes_some (λ b. is_word_end b count) bs is)) (first_of (is_ascii_whitespace (last_byte bs)) (ltb count word_room) (passes_last (λ b. is_word_end b count) bs is))
+any_white count bs is = any_at is_ascii_whitespace bs (length bs - 1) (omega (arith, passes_some (λ b. is_word_end b count) bs is))
+    (first_of (is_ascii_whitespace (last_byte bs)) (ltb count word_room) (passes_last (λ b. is_word_end b count) bs is))
 
 word_ended : (bs : List ℕ) → last_passes (λ b. is_word_end b (length bs)) (unspaced bs) ≡ true → is_ended Word bs ≡ true
 unfolding is_ended
 word_ended bs is = ap (list_any is_ascii_whitespace) (skipped_unspaced bs) ∙ any_white (length bs) (unspaced bs) is
 
 -- what holds of what goes on and of a refusal
-pub found_by : {X Y : Type 0} (P : Layout Y → Type 0) (r : Result X ImageError) (f : X → Layout Y) → ((x : X) → r ≡ Ok x → P (f x)) → ((e : ImageError) → P (refuse e)) → P (found r f)
+pub found_by : {X Y : Type 0} (P : Layout Y → Type 0) (r : Result X ImageError) (f : X → Layout Y) → ((x : X) → r ≡ Ok x → P (f x))
+    → ((e : ImageError) → P (refuse e)) → P (found r f)
 found_by P (Ok x) f goes_on out = goes_on x refl
 found_by P (Err e) f goes_on out = out e
 
@@ -247,7 +283,8 @@ module _ {X : Type 0} (delimiter place most : ℕ) (f : List ℕ → Layout X) w
   pub line_at_most : (k : ℕ) → most ≤ k → ((text : List ℕ) → AtMost (k - most) (f text)) → AtMost k (line delimiter place most f)
   line_at_most k few rest = (few, λ bs. found_by (AtMost (k - most)) (line_text delimiter most bs) f (λ text _. rest text) (λ e. tt))
 
-  pub line_onto : (to : X → Option ℕ) (q : ℕ) → q ≤ place → ((text : List ℕ) → Onto to (place + (length text + 1)) (f text)) → Onto to q (line delimiter place most f)
+  pub line_onto : (to : X → Option ℕ) (q : ℕ) → q ≤ place → ((text : List ℕ) → Onto to (place + (length text + 1)) (f text))
+      → Onto to q (line delimiter place most f)
   line_onto to q here rest = (
     here,
     λ bs. found_by (Onto to (place + length bs)) (line_text delimiter most bs) f
@@ -256,7 +293,8 @@ module _ {X : Type 0} (delimiter place most : ℕ) (f : List ℕ → Layout X) w
 
   pub line_plain : ((text : List ℕ) → Plain (f text)) → Plain (line delimiter place most f)
   line_plain rest = λ bs. (
-    (λ open_end _. found_by Never (line_text delimiter most bs) f (λ text is. absurd (let ended = line_ended delimiter most bs (line_ok delimiter most bs text is).1 in cc)) (λ e. tt)),
+    (λ open_end _. found_by Never (line_text delimiter most bs) f
+        (λ text is. absurd (let ended = line_ended delimiter most bs (line_ok delimiter most bs text is).1 in cc)) (λ e. tt)),
     found_by Plain (line_text delimiter most bs) f (λ text _. rest text) (λ e. tt),
   )
 
@@ -265,11 +303,13 @@ module _ {C X : Type 0} (delimiter place most : ℕ) (f : List ℕ → Layout (S
   line_tells P rest = λ bs. found_by (Tells P) (line_text delimiter most bs) f (λ text _. rest text) (λ e. tt)
 
   pub line_begins : (q : ℕ) → q ≤ place → Begins q (line delimiter place most f)
-  line_begins q here = (here, found_by (Tells (λ _. ⊥)) (line_text delimiter most []) f (λ text is. absurd (omega (arith, (line_ok delimiter most [] text is).0))) (λ e. tt))
+  line_begins q here = (here, found_by (Tells (λ _. ⊥)) (line_text delimiter most []) f
+      (λ text is. absurd (omega (arith, (line_ok delimiter most [] text is).0))) (λ e. tt))
 
 -- lines that are passed
 module _ {X : Type 0} (delimiter place most : ℕ) (f : ℕ → Layout X) where
-  pub passed_onto : (to : X → Option ℕ) (q : ℕ) → q ≤ place → ((n : ℕ) → Onto to (place + n) (f n)) → Onto to q (passed_line delimiter place most f)
+  pub passed_onto : (to : X → Option ℕ) (q : ℕ) → q ≤ place → ((n : ℕ) → Onto to (place + n) (f n))
+      → Onto to q (passed_line delimiter place most f)
   passed_onto to q here rest = (
     here,
     λ bs. found_by (Onto to (place + length bs)) (line_length delimiter most bs) f
@@ -278,11 +318,13 @@ module _ {X : Type 0} (delimiter place most : ℕ) (f : ℕ → Layout X) where
 
   pub passed_plain : ((n : ℕ) → Plain (f n)) → Plain (passed_line delimiter place most f)
   passed_plain rest = λ bs. (
-    (λ open_end _. found_by Never (line_length delimiter most bs) f (λ n is. absurd (let ended = line_ended delimiter most bs (length_ok delimiter most bs n is).1 in cc)) (λ e. tt)),
+    (λ open_end _. found_by Never (line_length delimiter most bs) f
+        (λ n is. absurd (let ended = line_ended delimiter most bs (length_ok delimiter most bs n is).1 in cc)) (λ e. tt)),
     found_by Plain (line_length delimiter most bs) f (λ n _. rest n) (λ e. tt),
   )
 
-pub passed_tells : {C X : Type 0} (delimiter place most : ℕ) (f : ℕ → Layout (Said C X)) (P : ℕ → Type 0) → ((n : ℕ) → Tells P (f n)) → Tells P (passed_line delimiter place most f)
+pub passed_tells : {C X : Type 0} (delimiter place most : ℕ) (f : ℕ → Layout (Said C X)) (P : ℕ → Type 0) → ((n : ℕ) → Tells P (f n))
+    → Tells P (passed_line delimiter place most f)
 passed_tells delimiter place most f P rest = λ bs. found_by (Tells P) (line_length delimiter most bs) f (λ n _. rest n) (λ e. tt)
 
 -- words
@@ -302,7 +344,8 @@ module _ {X : Type 0} (place : ℕ) (f : WordRead → Layout X) where
 
 module _ {C X : Type 0} (place : ℕ) (f : WordRead → Layout (Said C X)) where
   pub word_tells : (P : ℕ → Type 0) → ((w : WordRead) → 0 < w.taken → Tells P (f w)) → Tells P (word place f)
-  word_tells P rest = λ bs. found_by (Tells P) (word_text bs) f (λ w is. let ok = word_ok bs w is in rest w (omega (arith, ok.0, ok.1))) (λ e. tt)
+  word_tells P rest = λ bs. found_by (Tells P) (word_text bs) f (λ w is. let ok = word_ok bs w is in rest w (omega (arith, ok.0, ok.1)))
+      (λ e. tt)
 
   pub word_begins : (q : ℕ) → q ≤ place → Begins q (word place f)
   word_begins q here = (here, found_by (Tells (λ _. ⊥)) (word_text []) f (λ w is. absurd (omega (arith, (word_ok [] w is).1))) (λ e. tt))
@@ -317,7 +360,8 @@ text_none d t place k h = none_left (text_part d t place k) (omega (arith, text_
 
 line_none : (delimiter most : ℕ) → 0 < most → line_text delimiter most [] ≡ Err end_of_input
 unfolding line_text
-line_none delimiter most some = let test : eqb 0 most ≡ false = grind (arith, nat_tests) in ap (λ b. Err (cond b (IoError (NoDelimiter most)) end_of_input)) test
+line_none delimiter most some = let test : eqb 0 most ≡ false = grind (arith, nat_tests) in
+    ap (λ b. Err (cond b (IoError (NoDelimiter most)) end_of_input)) test
 
 word_none : word_text [] ≡ Err end_of_input
 unfolding word_text ended_word
@@ -328,35 +372,42 @@ over_text : {X : Type 0} → List ℕ → ℕ → List ℕ → Layout X → Read
 over_text d place bs t = behind (span_at place (length bs)) (over d t)
 
 -- and a layout that reads one there is refused, with no mark of it
-pub line_beyond : {X : Type 0} (d : List ℕ) (delimiter place most : ℕ) (f : List ℕ → Layout X) → length d ≤ place → 0 < most → over d (line delimiter place most f) ≡ refuses end_of_input
+pub line_beyond : {X : Type 0} (d : List ℕ) (delimiter place most : ℕ) (f : List ℕ → Layout X) → length d ≤ place → 0 < most
+    → over d (line delimiter place most f) ≡ refuses end_of_input
 unfolding span_at over_text
 line_beyond d delimiter place most f h some =
     ap (λ bs. over_text d place bs (found (line_text delimiter most bs) f)) (text_none d (Line delimiter) place most h)
     ∙ ap (λ r. over d (found r f)) (line_none delimiter most some)
 
-pub word_beyond : {X : Type 0} (d : List ℕ) (place : ℕ) (f : WordRead → Layout X) → length d ≤ place → over d (word place f) ≡ refuses end_of_input
+pub word_beyond : {X : Type 0} (d : List ℕ) (place : ℕ) (f : WordRead → Layout X) → length d ≤ place → over d (word place f)
+    ≡ refuses end_of_input
 unfolding span_at over_text
 word_beyond d place f h =
     ap (λ bs. over_text d place bs (found (word_text bs) f)) (text_none d Word place word_room h)
     ∙ ap (λ r. over d (found r f)) word_none
 
-as_beyond : {X : Type 0} (d : List ℕ) (t : Text) (place k : ℕ) (f : List ℕ → Result X ImageError) → length d ≤ place → text_as d t place k f ≡ record { answer = f []; marks = [] }
+as_beyond : {X : Type 0} (d : List ℕ) (t : Text) (place k : ℕ) (f : List ℕ → Result X ImageError) → length d ≤ place
+    → text_as d t place k f ≡ record { answer = f []; marks = [] }
 unfolding span_at
 as_beyond d t place k f h = ap (λ bs. record { answer = f bs; marks = span_at place (length bs) }) (text_none d t place k h)
 
 -- no input is so long that a text stands beyond 64 bits
-pub text_saturated : {X : Type 0} {a b : State} {r : Result X ImageError} (t : Text) (place k : ℕ) (f : List ℕ → Result X ImageError) → Runs a b r (text_as a.held.input t (min place (2 ^ 64 - 1)) k f) → Runs a b r (text_as a.held.input t place k f)
-text_saturated t place k f h = saturated_by (λ p d. text_as d t p k f) (record { answer = f []; marks = [] }) place (λ d p far. as_beyond d t p k f far) h
+pub text_saturated : {X : Type 0} {a b : State} {r : Result X ImageError} (t : Text) (place k : ℕ) (f : List ℕ → Result X ImageError)
+    → Runs a b r (text_as a.held.input t (min place (2 ^ 64 - 1)) k f) → Runs a b r (text_as a.held.input t place k f)
+text_saturated t place k f h = saturated_by (λ p d. text_as d t p k f) (record { answer = f []; marks = [] }) place
+    (λ d p far. as_beyond d t p k f far) h
 
 -- readings behind readings last where both do
-pub lasts_then : {X Y : Type 0} (r : List ℕ → Reads X) (f : X → List ℕ → Reads Y) → Lasts r → ((y : X) → Lasts (f y)) → Lasts (λ d. and_then (r d) (λ y. f y d))
+pub lasts_then : {X Y : Type 0} (r : List ℕ → Reads X) (f : X → List ℕ → Reads Y) → Lasts r → ((y : X) → Lasts (f y))
+    → Lasts (λ d. and_then (r d) (λ y. f y d))
 lasts_then {X} {Y} r f first rest d x v is = by_answer (r d).answer refl where
   by_answer : (a : Result X ImageError) → (r d).answer ≡ a → and_then (r (d ++ x)) (λ y. f y (d ++ x)) ≡ and_then (r d) (λ y. f y d)
   by_answer (Ok y) got =
       let ends : (f y d).answer ≡ Ok v = sym (ap (λ a. (onward (r d).marks a (λ y. f y d)).answer) got) ∙ is in
       ap (λ w. and_then w (λ y. f y (d ++ x))) (first d x y got) ∙ ap (λ a. onward (r d).marks a (λ y. f y (d ++ x))) got
       ∙ ap (behind (r d).marks) (rest y d x v ends) ∙ sym (ap (λ a. onward (r d).marks a (λ y. f y d)) got)
-  by_answer (Err e) got = absurd (let no : ◌≡◌ {A = Result Y ImageError} (Err e) (Ok v) = sym (ap (λ a. (onward (r d).marks a (λ y. f y d)).answer) got) ∙ is in cc)
+  by_answer (Err e) got = absurd (let no : ◌≡◌ {A = Result Y ImageError} (Err e) (Ok v) =
+      sym (ap (λ a. (onward (r d).marks a (λ y. f y d)).answer) got) ∙ is in cc)
 
 answered_done : {X : Type 0} (marks : List Span) (a : Result X ImageError) → onward marks a gives ≡ record { answer = a; marks = marks }
 answered_done marks (Ok x) = ap (λ m. record { answer = Ok x; marks = m }) (append-nil marks)

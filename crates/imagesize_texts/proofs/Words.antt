@@ -27,7 +27,8 @@ is_text bs is = ap (λ b. cond b (Ok bs) (Err (IoError NotUtf8))) (is_utf8-from_
 -- and that are none
 pub no_text : (bs : List ℕ) → ¬ (IsUtf8 bs) → utf8 bs ≡ Err (IoError NotUtf8)
 unfolding utf8
-no_text bs none = on_test (λ r. r ≡ Err (IoError NotUtf8)) (is_utf8 bs) (Ok bs) (Err (IoError NotUtf8)) (λ is. absurd (none (IsUtf8-from_is_utf8 bs is))) (λ _. refl)
+no_text bs none = on_test (λ r. r ≡ Err (IoError NotUtf8)) (is_utf8 bs) (Ok bs) (Err (IoError NotUtf8))
+    (λ is. absurd (none (IsUtf8-from_is_utf8 bs is))) (λ _. refl)
 
 -- the white space before a word, as std trims it
 unspaced-prefix : (bs : List ℕ) → drop (prefix_len is_ascii_whitespace bs) bs ≡ unspaced bs
@@ -44,7 +45,8 @@ digits_are : IsNumeralModel (λ ds. all_ascii_digits ds ≡ true) (digits_value 
 digits_are = numerals_by_value (λ ds. all_ascii_digits ds ≡ true) tells_all_ascii_digits
 
 -- a text is a number where it is digits of a number of 64 bits
-number_is : (text : List ℕ) → IsNumeral 10 (without_leading_plus text) → digits_value 10 (without_leading_plus text) < 2 ^ 64 → is_number text ≡ true
+number_is : (text : List ℕ) → IsNumeral 10 (without_leading_plus text) → digits_value 10 (without_leading_plus text) < 2 ^ 64
+    → is_number text ≡ true
 unfolding is_number
 number_is text is small =
     let some = is.0 in
@@ -58,19 +60,23 @@ both : (a b : Bool) → a && b ≡ true → (a ≡ true) × (b ≡ true)
 both true b is = (refl, is)
 both false b is = absurd cc
 
-is_numeral : (text : List ℕ) → is_number text ≡ true → IsNumeral 10 (without_leading_plus text) × (digits_value 10 (without_leading_plus text) < 2 ^ 64)
+is_numeral : (text : List ℕ) → is_number text ≡ true → IsNumeral 10 (without_leading_plus text)
+    × (digits_value 10 (without_leading_plus text) < 2 ^ 64)
 unfolding is_number
 is_numeral text is =
     let ds : List ℕ = without_leading_plus text in
-    let parts : (ltb 0 (length ds) && all_ascii_digits ds ≡ true) × (ltb (digits_value 10 ds) (2 ^ 64) ≡ true) = both (ltb 0 (length ds) && all_ascii_digits ds) (ltb (digits_value 10 ds) (2 ^ 64)) is in
+    let parts : (ltb 0 (length ds) && all_ascii_digits ds ≡ true) × (ltb (digits_value 10 ds) (2 ^ 64) ≡ true) =
+        both (ltb 0 (length ds) && all_ascii_digits ds) (ltb (digits_value 10 ds) (2 ^ 64)) is in
     let digits : (ltb 0 (length ds) ≡ true) × (all_ascii_digits ds ≡ true) = both (ltb 0 (length ds)) (all_ascii_digits ds) parts.0 in
     ((below 0 (length ds) digits.0, digits_are.to ds digits.1), below (digits_value 10 ds) (2 ^ 64) parts.1)
 
 -- what std parses as a number
 pub parsed : {E : Type 0} (text : List ℕ) (r : Result ℕ E) → ParsesUnsigned 64 10 text r → result_ok r ≡ number_text text
 unfolding number_text
-parsed {E} text (Ok v) is = let test = number_is text is.0.0 is.0.1 in ap Some is.1 ∙ sym (ap (λ b. cond b (Some (digits_value 10 (without_leading_plus text))) None) test)
-parsed {E} text (Err e) is = sym (on_test (λ r. r ≡ None) (is_number text) (Some (digits_value 10 (without_leading_plus text))) None (λ test. absurd (is (is_numeral text test))) (λ _. refl))
+parsed {E} text (Ok v) is = let test = number_is text is.0.0 is.0.1 in
+    ap Some is.1 ∙ sym (ap (λ b. cond b (Some (digits_value 10 (without_leading_plus text))) None) test)
+parsed {E} text (Err e) is = sym (on_test (λ r. r ≡ None) (is_number text) (Some (digits_value 10 (without_leading_plus text))) None
+    (λ test. absurd (is (is_numeral text test))) (λ _. refl))
 
 -- white space before the words of some characters
 char_words_gap : (gap cs : List ℕ) → NonePass is_not_whitespace gap → char_words (gap ++ cs) ≡ char_words cs
@@ -79,12 +85,15 @@ char_words_gap (c ∷ gap) cs none =
     let white : is_whitespace c ≡ true = grind (arith, nat_tests) in
     ap (filter (λ word. ltb 0 (length word))) (slice_split-cons_yes is_whitespace c (gap ++ cs) white) ∙ char_words_gap gap cs none.1
 
-split_word : (word cs : List ℕ) (parts : List (List ℕ)) → NonePass is_whitespace word → slice_split is_whitespace cs ≡ [] ∷ parts → slice_split is_whitespace (word ++ cs) ≡ word ∷ parts
+split_word : (word cs : List ℕ) (parts : List (List ℕ)) → NonePass is_whitespace word → slice_split is_whitespace cs ≡ [] ∷ parts
+    → slice_split is_whitespace (word ++ cs) ≡ word ∷ parts
 split_word [] cs parts none is = is
-split_word (c ∷ word) cs parts none is = slice_split-cons_no is_whitespace c (word ++ cs) none.0 ∙ ap (onto_first c) (split_word word cs parts none.1 is)
+split_word (c ∷ word) cs parts none is = slice_split-cons_no is_whitespace c (word ++ cs) none.0 ∙ ap (onto_first c)
+    (split_word word cs parts none.1 is)
 
 -- a word before them
-char_words_word : (word cs : List ℕ) (parts : List (List ℕ)) → 0 < length word → NonePass is_whitespace word → slice_split is_whitespace cs ≡ [] ∷ parts → char_words (word ++ cs) ≡ word ∷ char_words cs
+char_words_word : (word cs : List ℕ) (parts : List (List ℕ)) → 0 < length word → NonePass is_whitespace word
+    → slice_split is_whitespace cs ≡ [] ∷ parts → char_words (word ++ cs) ≡ word ∷ char_words cs
 char_words_word [] cs parts some none is = absurd (omega (arith, some))
 char_words_word (c ∷ word) cs parts some none is =
     let has : ltb 0 (length (c ∷ word)) ≡ true = grind (arith, nat_tests) in
@@ -96,21 +105,26 @@ char_words_word (c ∷ word) cs parts some none is =
 -- the text behind some characters of a text is text
 rest_utf8 : (cs : List ℕ) (text rest : List ℕ) → IsUtf8 text → text ≡ encode_utf8_all cs ++ rest → IsUtf8 rest
 rest_utf8 [] text rest utf is = subst IsUtf8 is utf
-rest_utf8 (c ∷ cs) text rest utf is = rest_utf8 cs (encode_utf8_all cs ++ rest) rest (IsUtf8-past_char text (encode_utf8_all cs ++ rest) c utf (is ∙ append_assoc (encode_utf8 c) (encode_utf8_all cs) rest)) refl
+rest_utf8 (c ∷ cs) text rest utf is = rest_utf8 cs (encode_utf8_all cs ++ rest) rest (IsUtf8-past_char text (encode_utf8_all cs ++ rest)
+    c utf (is ∙ append_assoc (encode_utf8 c) (encode_utf8_all cs) rest)) refl
 
 -- a text that begins with white space, or is empty, has no first part
-split_starts : (rest more : List ℕ) → IsUtf8 rest → EmptyOrStartsWithPassing is_whitespace rest more → (parts : List (List ℕ)) × (slice_split is_whitespace (chars rest) ≡ [] ∷ parts)
+split_starts : (rest more : List ℕ) → IsUtf8 rest → EmptyOrStartsWithPassing is_whitespace rest more → (parts : List (List ℕ))
+    × (slice_split is_whitespace (chars rest) ≡ [] ∷ parts)
 split_starts [] more utf starts = ([], ap (slice_split is_whitespace) chars-nil)
 split_starts (b ∷ rest) more utf starts =
     let first = starts (omega arith) in
-    (slice_split is_whitespace (chars more), ap (slice_split is_whitespace) (chars_past_char (b ∷ rest) more first.0 utf first.2) ∙ slice_split-cons_yes is_whitespace first.0 (chars more) first.1)
+    (slice_split is_whitespace (chars more), ap (slice_split is_whitespace) (chars_past_char (b ∷ rest) more first.0 utf first.2)
+        ∙ slice_split-cons_yes is_whitespace first.0 (chars more) first.1)
 
 some_chars : (cs bs : List ℕ) → encode_utf8_all cs ≡ bs → 0 < length bs → 0 < length cs
 some_chars [] bs is some = absurd (omega (arith, ap length is))
 some_chars (c ∷ cs) bs is some = omega arith
 
 -- the words of a text are the first and those of what follows it
-pub word_first : (text gap word rest more : List ℕ) → IsUtf8 text → text ≡ gap ++ (word ++ rest) → 0 < length word → NoCharPasses is_not_whitespace gap → NoCharPasses is_whitespace word → EmptyOrStartsWithPassing is_whitespace rest more → (words text ≡ word ∷ words rest) × IsUtf8 rest
+pub word_first : (text gap word rest more : List ℕ) → IsUtf8 text → text ≡ gap ++ (word ++ rest) → 0 < length word
+    → NoCharPasses is_not_whitespace gap → NoCharPasses is_whitespace word → EmptyOrStartsWithPassing is_whitespace rest more
+    → (words text ≡ word ∷ words rest) × IsUtf8 rest
 unfolding words
 word_first text gap word rest more utf is some gaps letters starts =
     let gs : List ℕ = gaps.0 in
@@ -119,11 +133,13 @@ word_first text gap word rest more utf is some gaps letters starts =
     is ∙ ap (λ g. g ++ (word ++ rest)) (sym gaps.1) ∙ ap (λ w. encode_utf8_all gs ++ (w ++ rest)) (sym letters.1)
     ∙ sym (append_assoc (encode_utf8_all gs) (encode_utf8_all ws) rest) ∙ ap (λ bs. bs ++ rest) (sym (encodes-append gs ws)) in
     let utf_rest : IsUtf8 rest = rest_utf8 (gs ++ ws) text rest utf whole in
-    let all : encode_utf8_all ((gs ++ ws) ++ chars rest) ≡ text = encodes-append (gs ++ ws) (chars rest) ∙ ap (λ bs. encode_utf8_all (gs ++ ws) ++ bs) (encodes-chars rest utf_rest) ∙ sym whole in
+    let all : encode_utf8_all ((gs ++ ws) ++ chars rest) ≡ text = encodes-append (gs ++ ws) (chars rest)
+        ∙ ap (λ bs. encode_utf8_all (gs ++ ws) ++ bs) (encodes-chars rest utf_rest) ∙ sym whole in
     let cs : (gs ++ ws) ++ chars rest ≡ chars text = chars_from_encodes ((gs ++ ws) ++ chars rest) text utf all in
     let parts = split_starts rest more utf_rest starts in (
       ap (λ cs. map encode_utf8_all (char_words cs)) (sym cs ∙ append_assoc gs ws (chars rest))
-          ∙ ap (map encode_utf8_all) (char_words_gap gs (ws ++ chars rest) gaps.2 ∙ char_words_word ws (chars rest) parts.0 (some_chars ws word letters.1 some) letters.2 parts.1)
+          ∙ ap (map encode_utf8_all) (char_words_gap gs (ws ++ chars rest) gaps.2 ∙ char_words_word ws (chars rest) parts.0
+              (some_chars ws word letters.1 some) letters.2 parts.1)
           ∙ ap (λ w. w ∷ map encode_utf8_all (char_words (chars rest))) letters.1,
       utf_rest,
     )
@@ -133,7 +149,8 @@ pub word_none : (text : List ℕ) → IsUtf8 text → NoCharPasses is_not_whites
 unfolding words
 word_none text utf none =
     let is : none.0 ≡ chars text = chars_from_encodes none.0 text utf none.1 in
-    ap (λ cs. map encode_utf8_all (char_words cs)) (sym is ∙ sym (append-nil none.0)) ∙ ap (map encode_utf8_all) (char_words_gap none.0 [] none.2)
+    ap (λ cs. map encode_utf8_all (char_words cs)) (sym is ∙ sym (append-nil none.0)) ∙ ap (map encode_utf8_all)
+        (char_words_gap none.0 [] none.2)
 
 -- Some words were taken off a text, and these bytes are left.
 pub record Taken (text : List ℕ) (ws : List (List ℕ)) (rest : List ℕ) : Type 0 where
@@ -144,11 +161,16 @@ pub taken_start : (text rest : List ℕ) → IsUtf8 text → rest ≡ text → T
 taken_start text rest utf is = record { is = ap words (sym is); utf = subst IsUtf8 (sym is) utf }
 
 -- one more is
-pub taken_next : {text : List ℕ} {ws : List (List ℕ)} (s t : _) (x : Bor (List ℕ)) → Taken text ws (split_whitespace_rest s) → split_whitespace_steps s (Some x) t → Taken text (ws ++ x.now ∷ []) (split_whitespace_rest t)
+pub taken_next : {text : List ℕ} {ws : List (List ℕ)} (s t : _) (x : Bor (List ℕ)) → Taken text ws (split_whitespace_rest s)
+    → split_whitespace_steps s (Some x) t → Taken text (ws ++ x.now ∷ []) (split_whitespace_rest t)
 taken_next {text} {ws} s t x taken step =
-    let next = word_first (split_whitespace_rest s) step.0 x.now (split_whitespace_rest t) step.5.0 taken.utf step.1 step.2 step.3 step.4 step.5.1 in
-    record { is = taken.is ∙ ap (λ more. ws ++ more) next.0 ∙ sym (append_assoc ws (x.now ∷ []) (words (split_whitespace_rest t))); utf = next.1 }
+    let next = word_first (split_whitespace_rest s) step.0 x.now (split_whitespace_rest t) step.5.0 taken.utf step.1 step.2 step.3 step.4
+        step.5.1 in
+    record { is = taken.is ∙ ap (λ more. ws ++ more) next.0 ∙ sym (append_assoc ws (x.now ∷ []) (words (split_whitespace_rest t))); utf =
+        next.1 }
 
 -- or none is left
-pub taken_end : {text : List ℕ} {ws : List (List ℕ)} (s t : _) → Taken text ws (split_whitespace_rest s) → split_whitespace_steps s None t → words text ≡ ws
-taken_end {text} {ws} s t taken step = taken.is ∙ ap (λ more. ws ++ more) (word_none (split_whitespace_rest s) taken.utf step.1) ∙ append-nil ws
+pub taken_end : {text : List ℕ} {ws : List (List ℕ)} (s t : _) → Taken text ws (split_whitespace_rest s)
+    → split_whitespace_steps s None t → words text ≡ ws
+taken_end {text} {ws} s t taken step = taken.is ∙ ap (λ more. ws ++ more) (word_none (split_whitespace_rest s) taken.utf step.1)
+    ∙ append-nil ws

@@ -73,7 +73,8 @@ word_text bs = ended_word (length bs) (unspaced bs)
 
 -- the text is a number of 64 bits: digits, before which one `+` may stand
 unfoldable pub is_number : List ℕ → Bool
-is_number text = (nat_lt 0 (length (without_leading_plus text)) && all_ascii_digits (without_leading_plus text)) && nat_lt (digits_value 10 (without_leading_plus text)) (2 ^ 64)
+is_number text = (nat_lt 0 (length (without_leading_plus text)) && all_ascii_digits (without_leading_plus text)) && nat_lt
+    (digits_value 10 (without_leading_plus text)) (2 ^ 64)
 
 -- the number that a text is
 unfoldable pub number_text : List ℕ → Option ℕ

@@ -5,16 +5,19 @@ use Rattle.std.proofs.Math.Seq.{drop-append-add}
 use Rattle.imagesize_source.specs.Input.{part}
 
 -- from a place in the first on, by the slice that the code takes
-pub in_first : (a b : List ℕ) (place n : ℕ) → place < length a → n ≤ length (take (length a - place) (drop place a)) → take n (take (length a - place) (drop place a)) ≡ part (a ++ b) place n
+pub in_first : (a b : List ℕ) (place n : ℕ) → place < length a → n ≤ length (take (length a - place) (drop place a))
+    → take n (take (length a - place) (drop place a)) ≡ part (a ++ b) place n
 unfolding part
 in_first a b place n here few =
-    let all : take (length a - place) (drop place a) ≡ drop place a = take_all (length a - place) (drop place a) (omega (arith, length-drop place a)) in
+    let all : take (length a - place) (drop place a) ≡ drop place a = take_all (length a - place) (drop place a)
+        (omega (arith, length-drop place a)) in
     let fits : n ≤ length (drop place a) = subst (λ xs. n ≤ length xs) all few in
     let within : place ≤ length a = omega (arith, here) in
     ap (take n) all ∙ sym (ap (take n) (drop-append-le place a b within) ∙ take-append-le n (drop place a) b fits)
 
 -- from a place in the second on
-pub in_second : (a b : List ℕ) (place n : ℕ) → length a ≤ place → take n (take (length b - (place - length a)) (drop (place - length a) b)) ≡ part (a ++ b) place n
+pub in_second : (a b : List ℕ) (place n : ℕ) → length a ≤ place
+    → take n (take (length b - (place - length a)) (drop (place - length a) b)) ≡ part (a ++ b) place n
 unfolding part
 in_second a b place n behind =
     let at : length a + (place - length a) ≡ place = omega (arith, behind) in

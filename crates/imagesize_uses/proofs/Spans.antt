@@ -42,7 +42,8 @@ has_offset : (s : Span) (i : ℕ) → i < s.len → has_place s (s.start + i) �
 has_offset s i below = grind (arith, nat_tests)
 
 -- where two inputs have the same part, they have the same byte at each place of it
-same_at : (d e : List ℕ) (s : Span) (place : ℕ) → part e s.start s.len ≡ part d s.start s.len → has_place s place ≡ true → slice_index e place ≡ slice_index d place
+same_at : (d e : List ℕ) (s : Span) (place : ℕ) → part e s.start s.len ≡ part d s.start s.len → has_place s place ≡ true
+    → slice_index e place ≡ slice_index d place
 same_at d e s place same has =
     let i : ℕ = place - s.start in
     let at : s.start + i ≡ place = omega (arith, starts_by s place has) in
@@ -50,7 +51,8 @@ same_at d e s place same has =
     subst (λ p. slice_index e p ≡ slice_index d p) at
     (sym (part-at e s.start s.len i below) ∙ ap (λ bs. get_or bs i 0) same ∙ part-at d s.start s.len i below)
 
-same_byte : (d e : List ℕ) (spans : List Span) (place : ℕ) → length e ≡ length d → bytes_of e spans ≡ bytes_of d spans → covered spans place ≡ true → slice_index e place ≡ slice_index d place
+same_byte : (d e : List ℕ) (spans : List Span) (place : ℕ) → length e ≡ length d → bytes_of e spans ≡ bytes_of d spans
+    → covered spans place ≡ true → slice_index e place ≡ slice_index d place
 same_byte d e [] place long same here = absurd cc
 same_byte d e (s ∷ spans) place long same here =
     let lengths = as_long d e s.start s.len long in
@@ -68,7 +70,8 @@ pub agrees_by_bytes : (d e : List ℕ) (spans : List Span) → length e ≡ leng
 agrees_by_bytes d e spans long same = record { as_long = long; same_byte = λ place here. same_byte d e spans place long same here }
 
 -- and one that agrees has the same bytes
-same_part : (d e : List ℕ) (s : Span) → length e ≡ length d → ((place : ℕ) → has_place s place ≡ true → slice_index e place ≡ slice_index d place) → part e s.start s.len ≡ part d s.start s.len
+same_part : (d e : List ℕ) (s : Span) → length e ≡ length d → ((place : ℕ) → has_place s place ≡ true → slice_index e place
+    ≡ slice_index d place) → part e s.start s.len ≡ part d s.start s.len
 same_part d e s long agrees =
     ext_get_or 0 (part e s.start s.len) (part d s.start s.len) (as_long d e s.start s.len long)
     (λ i below.
@@ -87,7 +90,8 @@ pub bytes_by_agreement : (d e : List ℕ) (spans : List Span) → Agrees d e spa
 bytes_by_agreement d e [] agrees = refl
 bytes_by_agreement d e (s ∷ spans) agrees =
     let front = same_part d e s agrees.as_long (λ place has. agrees.same_byte place (covered_first s spans place has)) in
-    let later : Agrees d e spans = record { as_long = agrees.as_long; same_byte = λ place here. agrees.same_byte place (covered_later s spans place here) } in
+    let later : Agrees d e spans = record { as_long = agrees.as_long; same_byte = λ place here. agrees.same_byte place
+        (covered_later s spans place here) } in
     ap (λ bs. bs ++ bytes_of e spans) front ∙ ap (λ bs. part d s.start s.len ++ bs) (bytes_by_agreement d e spans later)
 
 -- the bytes in a span of these

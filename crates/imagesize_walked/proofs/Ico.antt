@@ -42,67 +42,84 @@ last_push o [] x = refl
 last_push o (y ∷ xs) x = last_push (Some y) xs x
 
 greatest_push : (sizes : List ImageSize) (size : ImageSize) → greatest_area (sizes ++ size ∷ []) ≡ max (greatest_area sizes) (area_of size)
-greatest_push sizes size = ap (fold max 0) (map-append area_of sizes (size ∷ [])) ∙ fold-append max 0 (map area_of sizes) (area_of size ∷ [])
+greatest_push sizes size = ap (fold max 0) (map-append area_of sizes (size ∷ [])) ∙ fold-append max 0 (map area_of sizes)
+    (area_of size ∷ [])
 
 -- of one size more the later largest
-last_by : (best : Option ImageSize) (sizes : List ImageSize) (size : ImageSize) (greatest : ℕ) (b : Bool) → leb (area_if_some best) (area_of size) ≡ b → greatest_area sizes ≡ area_if_some best → last_largest sizes ≡ best → greatest ≡ max (greatest_area sizes) (area_of size)
+last_by : (best : Option ImageSize) (sizes : List ImageSize) (size : ImageSize) (greatest : ℕ) (b : Bool) → leb (area_if_some best)
+    (area_of size) ≡ b → greatest_area sizes ≡ area_if_some best → last_largest sizes ≡ best → greatest ≡ max (greatest_area sizes)
+    (area_of size)
     → last_or None (filter (λ s. eqb (area_of s) greatest) (sizes ++ size ∷ [])) ≡ cond b (Some size) best
 last_by best sizes size greatest true test area is most =
     let here : eqb (area_of size) greatest ≡ true = grind (arith, nat_tests) in
-    ap (last_or None) (filter-append (λ s. eqb (area_of s) greatest) sizes (size ∷ []) ∙ ap (λ b. filter (λ s. eqb (area_of s) greatest) sizes ++ cond b (size ∷ []) []) here) ∙ last_push None (filter (λ s. eqb (area_of s) greatest) sizes) size
+    ap (last_or None) (filter-append (λ s. eqb (area_of s) greatest) sizes (size ∷ []) ∙ ap (λ b. filter (λ s. eqb (area_of s) greatest)
+        sizes ++ cond b (size ∷ []) []) here) ∙ last_push None (filter (λ s. eqb (area_of s) greatest) sizes) size
 last_by best sizes size greatest false test area is most =
     let not_here : eqb (area_of size) greatest ≡ false = grind (arith, nat_tests) in
     let same : greatest ≡ greatest_area sizes = grind (arith, nat_tests) in
-    ap (last_or None) (filter-append (λ s. eqb (area_of s) greatest) sizes (size ∷ []) ∙ ap (λ b. filter (λ s. eqb (area_of s) greatest) sizes ++ cond b (size ∷ []) []) not_here ∙ append-nil (filter (λ s. eqb (area_of s) greatest) sizes))
+    ap (last_or None) (filter-append (λ s. eqb (area_of s) greatest) sizes (size ∷ []) ∙ ap (λ b. filter (λ s. eqb (area_of s) greatest)
+        sizes ++ cond b (size ∷ []) []) not_here ∙ append-nil (filter (λ s. eqb (area_of s) greatest) sizes))
     ∙ ap (λ n. last_or None (filter (λ s. eqb (area_of s) n) sizes)) same ∙ is
 
-area_by : (best : Option ImageSize) (size : ImageSize) (b : Bool) → leb (area_if_some best) (area_of size) ≡ b → max (area_if_some best) (area_of size) ≡ area_if_some (cond b (Some size) best)
+area_by : (best : Option ImageSize) (size : ImageSize) (b : Bool) → leb (area_if_some best) (area_of size) ≡ b → max (area_if_some best)
+    (area_of size) ≡ area_if_some (cond b (Some size) best)
 area_by best size true test = grind (arith, nat_tests)
 area_by best size false test = grind (arith, nat_tests)
 
-largest_on : (best : Option ImageSize) (sizes : List ImageSize) (size : ImageSize) → Largest best sizes → Largest (later_largest best size) (sizes ++ size ∷ [])
+largest_on : (best : Option ImageSize) (sizes : List ImageSize) (size : ImageSize) → Largest best sizes
+    → Largest (later_largest best size) (sizes ++ size ∷ [])
 largest_on best sizes size h = record {
-  is = last_by best sizes size (greatest_area (sizes ++ size ∷ [])) (leb (area_if_some best) (area_of size)) refl h.area h.is (greatest_push sizes size);
-  area = greatest_push sizes size ∙ ap (λ n. max n (area_of size)) h.area ∙ area_by best size (leb (area_if_some best) (area_of size)) refl;
+  is = last_by best sizes size (greatest_area (sizes ++ size ∷ [])) (leb (area_if_some best) (area_of size)) refl h.area h.is
+      (greatest_push sizes size);
+  area = greatest_push sizes size ∙ ap (λ n. max n (area_of size)) h.area ∙ area_by best size (leb (area_if_some best) (area_of size))
+      refl;
 }
 
 -- what holds of each way that the list ends
-by_answer : (P : Layout (Said ImageSize ImageSize) → Type 0) (best : Option ImageSize) → P (refuse CorruptedImage) → ((size : ImageSize) → P (done (Decided size))) → P (icon_answer best)
+by_answer : (P : Layout (Said ImageSize ImageSize) → Type 0) (best : Option ImageSize) → P (refuse CorruptedImage)
+    → ((size : ImageSize) → P (done (Decided size))) → P (icon_answer best)
 by_answer P None none some = none
 by_answer P (Some size) none some = some size
 
 -- and of each entry
-by_entry : (P : Layout (Said ImageSize ImageSize) → Type 0) (sizes : List ImageSize) (place : ℕ) (found : Option (List ℕ)) → P (icon_answer (last_largest sizes)) → ((size : ImageSize) → P (done (Next size (place + 16)))) → P (icon_entry sizes place found)
+by_entry : (P : Layout (Said ImageSize ImageSize) → Type 0) (sizes : List ImageSize) (place : ℕ) (found : Option (List ℕ))
+    → P (icon_answer (last_largest sizes)) → ((size : ImageSize) → P (done (Next size (place + 16)))) → P (icon_entry sizes place found)
 by_entry P sizes place None end next = end
 by_entry P sizes place (Some bytes) end next = next (icon_size bytes)
 
 -- and of a record
-by_count : (P : Layout (Said ImageSize ImageSize) → Type 0) (count : ℕ) (sizes : List ImageSize) (place : ℕ) → P (icon_answer (last_largest sizes)) → P (if_there place 2 (icon_entry sizes place)) → P ((icon_entries count).said sizes place)
-by_count P count sizes place end entry = on_test P (eqb (length sizes) count) (icon_answer (last_largest sizes)) (if_there place 2 (icon_entry sizes place)) (λ _. end) (λ _. entry)
+by_count : (P : Layout (Said ImageSize ImageSize) → Type 0) (count : ℕ) (sizes : List ImageSize) (place : ℕ)
+    → P (icon_answer (last_largest sizes)) → P (if_there place 2 (icon_entry sizes place)) → P ((icon_entries count).said sizes place)
+by_count P count sizes place end entry = on_test P (eqb (length sizes) count) (icon_answer (last_largest sizes))
+    (if_there place 2 (icon_entry sizes place)) (λ _. end) (λ _. entry)
 
 icon_advances : (count : ℕ) (d : List ℕ) → Advances (icon_entries count) d
 icon_advances count = advances (icon_entries count)
     (λ sizes place. by_count (Tells (λ p. place < p)) count sizes place
     (by_answer (Tells (λ p. place < p)) (last_largest sizes) tt (λ size. tt))
-    (λ bs. by_entry (Tells (λ p. place < p)) sizes place (whole 2 bs) (by_answer (Tells (λ p. place < p)) (last_largest sizes) tt (λ size. tt)) (λ size. omega arith)))
+    (λ bs. by_entry (Tells (λ p. place < p)) sizes place (whole 2 bs) (by_answer (Tells (λ p. place < p)) (last_largest sizes) tt
+        (λ size. tt)) (λ size. omega arith)))
     (λ sizes place. by_count (Begins place) count sizes place
     (by_answer (Begins place) (last_largest sizes) tt (λ size. tt))
     (omega arith, by_answer (Tells (λ _. ⊥)) (last_largest sizes) tt (λ size. tt)))
 
 pub ico_local : Local ico
-ico_local = local_then (λ d. number_read d Little 4 2) (λ count d. chain_at (icon_entries count) d) (local_number Little 4 2) (λ count. local_chain (icon_entries count) (icon_advances count))
+ico_local = local_then (λ d. number_read d Little 4 2) (λ count d. chain_at (icon_entries count) d) (local_number Little 4 2)
+    (λ count. local_chain (icon_entries count) (icon_advances count))
 
 entries_within : (count : ℕ) (d : List ℕ) → total (chain_at (icon_entries count) d).marks ≤ length d
 entries_within count d =
     let most = chain_ahead (icon_entries count) d (icon_advances count d)
     (λ sizes place. by_count (Ahead place) count sizes place
     (by_answer (Ahead place) (last_largest sizes) tt (λ size. tt))
-    (omega arith, λ bs. by_entry (Ahead (place + 2)) sizes place (whole 2 bs) (by_answer (Ahead (place + 2)) (last_largest sizes) tt (λ size. tt)) (λ size. omega arith))) in
+    (omega arith, λ bs. by_entry (Ahead (place + 2)) sizes place (whole 2 bs) (by_answer (Ahead (place + 2)) (last_largest sizes) tt
+        (λ size. tt)) (λ size. omega arith))) in
     omega arith
 
 -- the count and the entries are read from at most 2 bytes more than the input has
 pub ico_within : (d : List ℕ) → total (ico d).marks ≤ length d + 2
-ico_within d = omega (arith, then_within (number_read d Little 4 2) (λ count. chain_at (icon_entries count) d) 2 (length d) (total-span_of d 4 2) (λ count _. entries_within count d))
+ico_within d = omega (arith, then_within (number_read d Little 4 2) (λ count. chain_at (icon_entries count) d) 2 (length d)
+    (total-span_of d 4 2) (λ count _. entries_within count d))
 
 -- The sizes of so many entries are known, and this is their largest.
 pub record Found (i : ℕ) (best : Option ImageSize) (sizes : List ImageSize) : Type 0 where
@@ -114,66 +131,92 @@ abbrev pub IconWalks : ℕ → State → State → ℕ → Option ImageSize → 
 IconWalks count a b i best = Walks (icon_entries count) (Found i best) a b (6 + 16 * i)
 
 pub icon_start : (count : ℕ) (a : State) → IconWalks count a a 0 None
-icon_start count a = walks_start (icon_entries count) (Found 0 None) a (record { many = refl; largest = record { is = refl; area = refl } })
+icon_start count a = walks_start (icon_entries count) (Found 0 None) a
+    (record { many = refl; largest = record { is = refl; area = refl } })
 
 -- the record of an entry, where there are more
-more_said : {b end : State} {r : Result (Said ImageSize ImageSize) ImageError} (count i : ℕ) (sizes : List ImageSize) (place : ℕ) → i < count → length sizes ≡ i → Runs b end r (over b.held.input (if_there place 2 (icon_entry sizes place))) → Runs b end r (over b.held.input ((icon_entries count).said sizes place))
+more_said : {b end : State} {r : Result (Said ImageSize ImageSize) ImageError} (count i : ℕ) (sizes : List ImageSize) (place : ℕ)
+    → i < count → length sizes ≡ i → Runs b end r (over b.held.input (if_there place 2 (icon_entry sizes place)))
+    → Runs b end r (over b.held.input ((icon_entries count).said sizes place))
 more_said {b} {end} {r} count i sizes place below many run =
     let more : eqb (length sizes) count ≡ false = grind (arith, nat_tests) in
-    subst (λ t. Runs b end r (over b.held.input t)) (sym (ap (λ test. cond test (icon_answer (last_largest sizes)) (if_there place 2 (icon_entry sizes place))) more)) run
+    subst (λ t. Runs b end r (over b.held.input t))
+        (sym (ap (λ test. cond test (icon_answer (last_largest sizes)) (if_there place 2 (icon_entry sizes place))) more)) run
 
-pub icon_on : {a b end : State} (count i : ℕ) (best : Option ImageSize) (bytes : List ℕ) → i < count → IconWalks count a b i best → Runs b end (Ok (Some bytes)) (over b.held.input (if_there (6 + 16 * i) 2 done)) → IconWalks count a end (i + 1) (later_largest best (icon_size bytes))
+pub icon_on : {a b end : State} (count i : ℕ) (best : Option ImageSize) (bytes : List ℕ) → i < count → IconWalks count a b i best
+    → Runs b end (Ok (Some bytes)) (over b.held.input (if_there (6 + 16 * i) 2 done)) → IconWalks count a end (i + 1)
+    (later_largest best (icon_size bytes))
 icon_on {a} {b} {end} count i best bytes below w run =
     let place : ℕ = 6 + 16 * i in
-    let on = walks_on (icon_entries count) (icon_advances count) (Found i best) w (Found (i + 1) (later_largest best (icon_size bytes))) (icon_size bytes) (place + 16)
-    (λ sizes h. more_said count i sizes place below h.many (runs_bind (Ok (Next (icon_size bytes) (place + 16))) (if_there place 2 done) (icon_entry sizes place) run (λ d. refl) refl tt))
-    (λ sizes h. record { many = length_push sizes (icon_size bytes) ∙ ap (λ n. n + 1) h.many; largest = largest_on best sizes (icon_size bytes) h.largest }) in
+    let on = walks_on (icon_entries count) (icon_advances count) (Found i best) w (Found (i + 1) (later_largest best (icon_size bytes)))
+        (icon_size bytes) (place + 16)
+    (λ sizes h. more_said count i sizes place below h.many (runs_bind (Ok (Next (icon_size bytes) (place + 16))) (if_there place 2 done)
+        (icon_entry sizes place) run (λ d. refl) refl tt))
+    (λ sizes h. record { many = length_push sizes (icon_size bytes) ∙ ap (λ n. n + 1) h.many; largest = largest_on best sizes
+        (icon_size bytes) h.largest }) in
     let at : place + 16 ≡ 6 + 16 * (i + 1) = omega arith in
     subst (λ p. Walks (icon_entries count) (Found (i + 1) (later_largest best (icon_size bytes))) a end p) at on
 
-pub icon_out : {a b end : State} (count i : ℕ) (best : Option ImageSize) (e : ImageError) → i < count → IconWalks count a b i best → Runs {X = Option (List ℕ)} b end (Err e) (over b.held.input (if_there (6 + 16 * i) 2 done)) → Runs {X = ImageSize} a end (Err e) (chain_at (icon_entries count) a.held.input)
+pub icon_out : {a b end : State} (count i : ℕ) (best : Option ImageSize) (e : ImageError) → i < count → IconWalks count a b i best
+    → Runs {X = Option (List ℕ)} b end (Err e) (over b.held.input (if_there (6 + 16 * i) 2 done)) → Runs {X = ImageSize} a end (Err e)
+    (chain_at (icon_entries count) a.held.input)
 icon_out count i best e below w run =
     walks_out (icon_entries count) (icon_advances count) (Found i best) w e
-    (λ sizes h. more_said count i sizes (6 + 16 * i) below h.many (refused_bind (if_there (6 + 16 * i) 2 done) (icon_entry sizes (6 + 16 * i)) run))
+    (λ sizes h. more_said count i sizes (6 + 16 * i) below h.many (refused_bind (if_there (6 + 16 * i) 2 done)
+        (icon_entry sizes (6 + 16 * i)) run))
 
-answers : (best : Option ImageSize) (sizes : List ImageSize) (d : List ℕ) → Largest best sizes → over d (icon_answer (last_largest sizes)) ≡ over d (icon_answer best)
+answers : (best : Option ImageSize) (sizes : List ImageSize) (d : List ℕ) → Largest best sizes
+    → over d (icon_answer (last_largest sizes)) ≡ over d (icon_answer best)
 answers best sizes d h = ap (λ o. over d (icon_answer o)) h.is
 
 -- the input ends before an entry
-pub icon_cut : {a b end : State} (count i : ℕ) (best : Option ImageSize) → i < count → IconWalks count a b i best → Runs b end (Ok None) (over b.held.input (if_there (6 + 16 * i) 2 done)) → Runs a end (ok_or best CorruptedImage) (chain_at (icon_entries count) a.held.input)
+pub icon_cut : {a b end : State} (count i : ℕ) (best : Option ImageSize) → i < count → IconWalks count a b i best
+    → Runs b end (Ok None) (over b.held.input (if_there (6 + 16 * i) 2 done)) → Runs a end (ok_or best CorruptedImage)
+    (chain_at (icon_entries count) a.held.input)
 icon_cut count i None below w run =
     walks_out (icon_entries count) (icon_advances count) (Found i None) w CorruptedImage
     (λ sizes h. more_said count i sizes (6 + 16 * i) below h.many
-    (runs_bind (Err CorruptedImage) (if_there (6 + 16 * i) 2 done) (icon_entry sizes (6 + 16 * i)) run (λ d. answers None sizes d h.largest) refl (record { budget = tt; memory = λ e. absurd cc })))
+    (runs_bind (Err CorruptedImage) (if_there (6 + 16 * i) 2 done) (icon_entry sizes (6 + 16 * i)) run
+        (λ d. answers None sizes d h.largest) refl (record { budget = tt; memory = λ e. absurd cc })))
 icon_cut count i (Some size) below w run =
     walks_stop (icon_entries count) (icon_advances count) (Found i (Some size)) w size
     (λ sizes h. more_said count i sizes (6 + 16 * i) below h.many
-    (runs_bind (Ok (Decided size)) (if_there (6 + 16 * i) 2 done) (icon_entry sizes (6 + 16 * i)) run (λ d. answers (Some size) sizes d h.largest) refl tt))
+    (runs_bind (Ok (Decided size)) (if_there (6 + 16 * i) 2 done) (icon_entry sizes (6 + 16 * i)) run
+        (λ d. answers (Some size) sizes d h.largest) refl tt))
 
-end_said : (count : ℕ) (sizes : List ImageSize) (place : ℕ) (best : Option ImageSize) (d : List ℕ) → length sizes ≡ count → Largest best sizes → over d ((icon_entries count).said sizes place) ≡ over d (icon_answer best)
+end_said : (count : ℕ) (sizes : List ImageSize) (place : ℕ) (best : Option ImageSize) (d : List ℕ) → length sizes ≡ count
+    → Largest best sizes → over d ((icon_entries count).said sizes place) ≡ over d (icon_answer best)
 end_said count sizes place best d many h =
     let all : eqb (length sizes) count ≡ true = grind (arith, nat_tests) in
-    ap (λ test. over d (cond test (icon_answer (last_largest sizes)) (if_there place 2 (icon_entry sizes place)))) all ∙ answers best sizes d h
+    ap (λ test. over d (cond test (icon_answer (last_largest sizes)) (if_there place 2 (icon_entry sizes place)))) all ∙ answers best
+        sizes d h
 
 -- all entries were read
-pub icon_done : {a b : State} (count i : ℕ) (best : Option ImageSize) → i ≡ count → Sound b → IconWalks count a b i best → Runs a b (ok_or best CorruptedImage) (chain_at (icon_entries count) a.held.input)
+pub icon_done : {a b : State} (count i : ℕ) (best : Option ImageSize) → i ≡ count → Sound b → IconWalks count a b i best
+    → Runs a b (ok_or best CorruptedImage) (chain_at (icon_entries count) a.held.input)
 icon_done count i None at sound w =
-    walks_now (icon_entries count) (icon_advances count) (Found i None) w (Err CorruptedImage) sound refl (record { budget = tt; memory = λ e. absurd cc })
-    (λ sizes d h. let says = end_said count sizes (6 + 16 * i) None d (h.many ∙ at) h.largest in (ap (λ r. verdict r.answer) says, ap (λ r. r.marks) says))
+    walks_now (icon_entries count) (icon_advances count) (Found i None) w (Err CorruptedImage) sound refl
+        (record { budget = tt; memory = λ e. absurd cc })
+    (λ sizes d h. let says = end_said count sizes (6 + 16 * i) None d (h.many ∙ at) h.largest in
+        (ap (λ r. verdict r.answer) says, ap (λ r. r.marks) says))
 icon_done count i (Some size) at sound w =
     walks_now (icon_entries count) (icon_advances count) (Found i (Some size)) w (Ok size) sound refl tt
-    (λ sizes d h. let says = end_said count sizes (6 + 16 * i) (Some size) d (h.many ∙ at) h.largest in (ap (λ r. verdict r.answer) says, ap (λ r. r.marks) says))
+    (λ sizes d h. let says = end_said count sizes (6 + 16 * i) (Some size) d (h.many ∙ at) h.largest in
+        (ap (λ r. verdict r.answer) says, ap (λ r. r.marks) says))
 
 -- at the count of entries the list ends
-ends_at : (count : ℕ) (d : List ℕ) (t : Along ImageSize) (size : ImageSize) (place : ℕ) → (next_record (icon_entries count) d t).answer ≡ Ok (Next size place) → length t.held ≡ count → ⊥
+ends_at : (count : ℕ) (d : List ℕ) (t : Along ImageSize) (size : ImageSize) (place : ℕ) → (next_record (icon_entries count) d t).answer
+    ≡ Ok (Next size place) → length t.held ≡ count → ⊥
 ends_at count d t size place is at =
     let all : eqb (length t.held) count ≡ true = grind (arith, nat_tests) in
     tells (λ _. ⊥) d (icon_answer (last_largest t.held)) size place (by_answer (Tells (λ _. ⊥)) (last_largest t.held) tt (λ size. tt))
-    (sym (ap (λ test. (over d (cond test (icon_answer (last_largest t.held)) (if_there t.place 2 (icon_entry t.held t.place)))).answer) all) ∙ is)
+    (sym (ap (λ test. (over d (cond test (icon_answer (last_largest t.held)) (if_there t.place 2 (icon_entry t.held t.place)))).answer)
+        all) ∙ is)
 
 records_few : (count : ℕ) (d : List ℕ) → records (icon_entries count) d ≤ count + 1
 records_few count d =
-    let few = chain_induction (icon_entries count) d (λ t. length t.held ≤ count → records_from (icon_entries count) d t + length t.held ≤ count + 1) (icon_advances count d)
+    let few = chain_induction (icon_entries count) d (λ t. length t.held ≤ count → records_from (icon_entries count) d t + length t.held
+        ≤ count + 1) (icon_advances count d)
     (λ t size place is later fits.
     let apart : length t.held ≢ count = λ at. ends_at count d t size place is at in
     let below : length t.held < count = omega arith in
@@ -185,7 +228,8 @@ records_few count d =
     (start (icon_entries count)) in
     let all = few (omega arith) in omega arith
 
-cost_by : (d : List ℕ) (r : Result ℕ ImageError) → total (onward (span_of d 4 2) r (λ count. chain_at (icon_entries count) d)).marks ≤ 4 + 2 * begun_of d r
+cost_by : (d : List ℕ) (r : Result ℕ ImageError) → total (onward (span_of d 4 2) r (λ count. chain_at (icon_entries count) d)).marks ≤ 4
+    + 2 * begun_of d r
 cost_by d (Ok count) =
     let all = total-append (span_of d 4 2) (chain_at (icon_entries count) d).marks in
     let first = total-span_of d 4 2 in
@@ -193,7 +237,8 @@ cost_by d (Ok count) =
     let each = chain_cost (icon_entries count) d (icon_advances count d) 2
     (λ sizes place. by_count (AtMost 2) count sizes place
     (by_answer (AtMost 2) (last_largest sizes) tt (λ size. tt))
-    (omega arith, λ bs. by_entry (AtMost 0) sizes place (whole 2 bs) (by_answer (AtMost 0) (last_largest sizes) tt (λ size. tt)) (λ size. tt))) in
+    (omega arith, λ bs. by_entry (AtMost 0) sizes place (whole 2 bs) (by_answer (AtMost 0) (last_largest sizes) tt (λ size. tt))
+        (λ size. tt))) in
     omega arith
 cost_by d (Err e) = let first = total-span_of d 4 2 in omega arith
 

@@ -20,10 +20,12 @@ use Rattle.imagesize_source.proofs.Way.{RecordedLaws}
 use Rattle.imagesize_source.proofs.Walks.{Walks, walks_start, walks_on, walks_stop, walks_out, walks_past}
 
 -- what holds of each chunk, by its name
-by_name : (P : Layout (Said (Unit {0}) ImageSize) → Type 0) (place : ℕ) (head : List ℕ) → P (refuse CorruptedImage) → P (bitmap_header place) → P (done (Next tt (place + chunk_bytes (chunk_length head)))) → P (ilbm_named place head)
+by_name : (P : Layout (Said (Unit {0}) ImageSize) → Type 0) (place : ℕ) (head : List ℕ) → P (refuse CorruptedImage)
+    → P (bitmap_header place) → P (done (Next tt (place + chunk_bytes (chunk_length head)))) → P (ilbm_named place head)
 by_name P place head body header other =
     on_test P (is_bitmap_header head) (bitmap_header place) _ (λ _. header)
-    (λ _. on_test P (is_body head) (refuse CorruptedImage) (done (Next tt (place + chunk_bytes (chunk_length head)))) (λ _. body) (λ _. other))
+    (λ _. on_test P (is_body head) (refuse CorruptedImage) (done (Next tt (place + chunk_bytes (chunk_length head)))) (λ _. body)
+        (λ _. other))
 
 ilbm_advances : (d : List ℕ) → Advances ilbm_chunks d
 ilbm_advances = advances ilbm_chunks
@@ -45,7 +47,8 @@ ilbm_cost d = chain_cost ilbm_chunks d (ilbm_advances d) 12
 pub ilbm_within : (d : List ℕ) → total (ilbm d).marks ≤ length d
 ilbm_within d =
     let most = chain_ahead ilbm_chunks d (ilbm_advances d)
-    (λ passed place. (omega arith, λ head. by_name (Ahead (place + 8)) place head tt (omega arith, λ width. (omega arith, λ height. tt)) (omega arith))) in
+    (λ passed place. (omega arith, λ head. by_name (Ahead (place + 8)) place head tt (omega arith, λ width. (omega arith, λ height. tt))
+        (omega arith))) in
     omega arith
 
 -- how far a walk has come
@@ -55,13 +58,17 @@ IlbmWalks a b place = Walks ilbm_chunks (λ passed. Unit {0}) a b place
 pub ilbm_start : (a : State) → IlbmWalks a a 12
 ilbm_start a = walks_start ilbm_chunks (λ passed. Unit {0}) a tt
 
-pub ilbm_on : {a b end : State} (place next : ℕ) → IlbmWalks a b place → Runs b end (Ok (Next tt next)) (over b.held.input (ilbm_chunk place)) → IlbmWalks a end next
-ilbm_on place next w run = walks_on ilbm_chunks ilbm_advances (λ passed. Unit {0}) w (λ passed. Unit {0}) tt next (λ passed _. run) (λ passed _. tt)
+pub ilbm_on : {a b end : State} (place next : ℕ) → IlbmWalks a b place → Runs b end (Ok (Next tt next))
+    (over b.held.input (ilbm_chunk place)) → IlbmWalks a end next
+ilbm_on place next w run = walks_on ilbm_chunks ilbm_advances (λ passed. Unit {0}) w (λ passed. Unit {0}) tt next (λ passed _. run)
+    (λ passed _. tt)
 
-pub ilbm_stop : {a b end : State} (place : ℕ) (size : ImageSize) → IlbmWalks a b place → Runs b end (Ok (Decided size)) (over b.held.input (ilbm_chunk place)) → Runs a end (Ok size) (ilbm a.held.input)
+pub ilbm_stop : {a b end : State} (place : ℕ) (size : ImageSize) → IlbmWalks a b place → Runs b end (Ok (Decided size))
+    (over b.held.input (ilbm_chunk place)) → Runs a end (Ok size) (ilbm a.held.input)
 ilbm_stop place size w run = walks_stop ilbm_chunks ilbm_advances (λ passed. Unit {0}) w size (λ passed _. run)
 
-pub ilbm_out : {a b end : State} (place : ℕ) (e : ImageError) → IlbmWalks a b place → Runs b end (Err e) (over b.held.input (ilbm_chunk place)) → Runs a end (Err e) (ilbm a.held.input)
+pub ilbm_out : {a b end : State} (place : ℕ) (e : ImageError) → IlbmWalks a b place
+    → Runs b end (Err e) (over b.held.input (ilbm_chunk place)) → Runs a end (Err e) (ilbm a.held.input)
 ilbm_out place e w run = walks_out ilbm_chunks ilbm_advances (λ passed. Unit {0}) w e (λ passed _. run)
 
 pub ilbm_past : {a b : State} (place : ℕ) → IlbmWalks a b place → 2 ^ 64 ≤ place → Runs a b (Err end_of_input) (ilbm a.held.input)

@@ -28,16 +28,20 @@ use Rattle.imagesize_source.proofs.Way.{RecordedLaws}
 use Rattle.imagesize_source.proofs.Walks.{Walks, walks_start, walks_on, walks_stop, walks_out, walks_past}
 
 -- what holds of each way that a segment can go
-by_head : (P : Layout (Said ℕ ImageSize) → Type 0) (k place : ℕ) (head : List ℕ) → P (refuse CorruptedImage) → P (jpeg_frame place) → ((marker : ℕ) → P (jpeg_other place marker)) → P (cond (eqb (slice_index head 0) 0xFF) (jpeg_marked k place (slice_index head 1)) (refuse CorruptedImage))
+by_head : (P : Layout (Said ℕ ImageSize) → Type 0) (k place : ℕ) (head : List ℕ) → P (refuse CorruptedImage) → P (jpeg_frame place)
+    → ((marker : ℕ) → P (jpeg_other place marker)) → P (cond (eqb (slice_index head 0) 0xFF) (jpeg_marked k place (slice_index head 1))
+    (refuse CorruptedImage))
 by_head P k place head none frame other =
     on_test P (eqb (slice_index head 0) 0xFF) (jpeg_marked k place (slice_index head 1)) (refuse CorruptedImage)
     (λ _. on_test P (is_own_frame k (slice_index head 1)) (jpeg_frame place) _ (λ _. frame)
-    (λ _. on_test P (is_own_end k (slice_index head 1)) (refuse CorruptedImage) (jpeg_other place (slice_index head 1)) (λ _. none) (λ _. other (slice_index head 1))))
+    (λ _. on_test P (is_own_end k (slice_index head 1)) (refuse CorruptedImage) (jpeg_other place (slice_index head 1)) (λ _. none)
+        (λ _. other (slice_index head 1))))
     (λ _. none)
 
 jpeg_advances : (d : List ℕ) → Advances jpeg_segments d
 jpeg_advances = advances jpeg_segments
-    (λ markers place head. by_head (Tells (λ p. place < p)) (depth markers) place head tt (λ height width. tt) (λ marker length. omega arith))
+    (λ markers place head. by_head (Tells (λ p. place < p)) (depth markers) place head tt (λ height width. tt)
+        (λ marker length. omega arith))
     (λ markers place. (omega arith, omega arith))
 
 pub jpeg_local : Local jpeg
@@ -50,10 +54,12 @@ jpeg_lasts = lasts_chain jpeg_segments jpeg_advances
 marked_at_most : (k place marker : ℕ) → AtMost 4 (jpeg_marked k place marker)
 marked_at_most k place marker =
     on_test (AtMost 4) (is_own_frame k marker) (jpeg_frame place) _ (λ _. (omega arith, λ height. (omega arith, λ width. tt)))
-    (λ _. on_test (AtMost 4) (is_own_end k marker) (refuse CorruptedImage) (jpeg_other place marker) (λ _. tt) (λ _. (omega arith, λ length. tt)))
+    (λ _. on_test (AtMost 4) (is_own_end k marker) (refuse CorruptedImage) (jpeg_other place marker) (λ _. tt)
+        (λ _. (omega arith, λ length. tt)))
 
 segment_at_most : (k place : ℕ) → AtMost 6 (jpeg_segment k place)
-segment_at_most k place = (omega arith, λ head. on_test (AtMost 4) (eqb (slice_index head 0) 0xFF) (jpeg_marked k place (slice_index head 1)) (refuse CorruptedImage) (λ _. marked_at_most k place (slice_index head 1)) (λ _. tt))
+segment_at_most k place = (omega arith, λ head. on_test (AtMost 4) (eqb (slice_index head 0) 0xFF)
+    (jpeg_marked k place (slice_index head 1)) (refuse CorruptedImage) (λ _. marked_at_most k place (slice_index head 1)) (λ _. tt))
 
 -- a segment is read from at most 6 bytes
 pub jpeg_cost : (d : List ℕ) → total (jpeg d).marks ≤ 6 * records jpeg_segments d
@@ -65,9 +71,11 @@ pub record Nested (k : ℕ) (markers : List ℕ) : Type 0 where
   pub balanced : ended markers ≤ started markers
 
 counts_on : (p : ℕ → Bool) (markers : List ℕ) (marker : ℕ) → count_by p (markers ++ marker ∷ []) ≡ count_by p markers + cond (p marker) 1 0
-counts_on p markers marker = sum_by-append (λ m. cond (p m) 1 0) markers (marker ∷ []) ∙ ap (λ n. count_by p markers + n) (zero-add (cond (p marker) 1 0))
+counts_on p markers marker = sum_by-append (λ m. cond (p m) 1 0) markers (marker ∷ []) ∙ ap (λ n. count_by p markers + n)
+    (zero-add (cond (p marker) 1 0))
 
-nested_on : (k marker : ℕ) (markers : List ℕ) → (marker ≡ 0xD9 → 0 < k) → Nested k markers → Nested (depth_behind k marker) (markers ++ marker ∷ [])
+nested_on : (k marker : ℕ) (markers : List ℕ) → (marker ≡ 0xD9 → 0 < k) → Nested k markers → Nested (depth_behind k marker)
+    (markers ++ marker ∷ [])
 nested_on k marker markers inner h =
     let starts = counts_on (λ m. eqb m 0xD8) markers marker in
     let ends = counts_on (λ m. eqb m 0xD9) markers marker in
@@ -85,21 +93,28 @@ JpegWalks a b place k = Walks jpeg_segments (Nested k) a b place
 pub jpeg_start : (a : State) → JpegWalks a a 2 0
 jpeg_start a = walks_start jpeg_segments (Nested 0) a (record { is = refl; balanced = omega arith })
 
-segment_as : {b : State} {r : Result (Said ℕ ImageSize) ImageError} {end : State} (k place : ℕ) → Runs b end r (over b.held.input (jpeg_segment k place)) → (markers : List ℕ) → Nested k markers → Runs b end r (over b.held.input (jpeg_segment (depth markers) place))
+segment_as : {b : State} {r : Result (Said ℕ ImageSize) ImageError} {end : State} (k place : ℕ)
+    → Runs b end r (over b.held.input (jpeg_segment k place)) → (markers : List ℕ) → Nested k markers
+    → Runs b end r (over b.held.input (jpeg_segment (depth markers) place))
 segment_as {b} {r} {end} k place run markers h = subst (λ n. Runs b end r (over b.held.input (jpeg_segment n place))) (sym h.is) run
 
-pub jpeg_on : {a b end : State} (place next k marker : ℕ) → (marker ≡ 0xD9 → 0 < k) → JpegWalks a b place k → Runs b end (Ok (Next marker next)) (over b.held.input (jpeg_segment k place)) → JpegWalks a end next (depth_behind k marker)
-jpeg_on place next k marker inner w run = walks_on jpeg_segments jpeg_advances (Nested k) w (Nested (depth_behind k marker)) marker next (segment_as k place run) (λ markers h. nested_on k marker markers inner h)
+pub jpeg_on : {a b end : State} (place next k marker : ℕ) → (marker ≡ 0xD9 → 0 < k) → JpegWalks a b place k
+    → Runs b end (Ok (Next marker next)) (over b.held.input (jpeg_segment k place)) → JpegWalks a end next (depth_behind k marker)
+jpeg_on place next k marker inner w run = walks_on jpeg_segments jpeg_advances (Nested k) w (Nested (depth_behind k marker)) marker next
+    (segment_as k place run) (λ markers h. nested_on k marker markers inner h)
 
-pub jpeg_stop : {a b end : State} (place k : ℕ) (size : ImageSize) → JpegWalks a b place k → Runs b end (Ok (Decided size)) (over b.held.input (jpeg_segment k place)) → Runs a end (Ok size) (jpeg a.held.input)
+pub jpeg_stop : {a b end : State} (place k : ℕ) (size : ImageSize) → JpegWalks a b place k → Runs b end (Ok (Decided size))
+    (over b.held.input (jpeg_segment k place)) → Runs a end (Ok size) (jpeg a.held.input)
 jpeg_stop place k size w run = walks_stop jpeg_segments jpeg_advances (Nested k) w size (segment_as k place run)
 
-pub jpeg_out : {a b end : State} (place k : ℕ) (e : ImageError) → JpegWalks a b place k → Runs b end (Err e) (over b.held.input (jpeg_segment k place)) → Runs a end (Err e) (jpeg a.held.input)
+pub jpeg_out : {a b end : State} (place k : ℕ) (e : ImageError) → JpegWalks a b place k
+    → Runs b end (Err e) (over b.held.input (jpeg_segment k place)) → Runs a end (Err e) (jpeg a.held.input)
 jpeg_out place k e w run = walks_out jpeg_segments jpeg_advances (Nested k) w e (segment_as k place run)
 
 pub jpeg_past : {a b : State} (place k : ℕ) → JpegWalks a b place k → 2 ^ 64 ≤ place → Runs a b (Err end_of_input) (jpeg a.held.input)
 jpeg_past place k w far = walks_past jpeg_segments jpeg_advances (Nested k) w (omega arith) (omega arith)
-    (λ markers d _ h. bytes_beyond d place 2 (λ head. cond (eqb (slice_index head 0) 0xFF) (jpeg_marked (depth markers) place (slice_index head 1)) (refuse CorruptedImage)) h (omega arith))
+    (λ markers d _ h. bytes_beyond d place 2 (λ head. cond (eqb (slice_index head 0) 0xFF)
+        (jpeg_marked (depth markers) place (slice_index head 1)) (refuse CorruptedImage)) h (omega arith))
 
 -- What may be read from a place on: the bytes there, and 6 more where a segment can begin. A length below 2
 -- leads to one of its own bytes, which is not FF.
@@ -109,13 +124,16 @@ allowed d place = (length d - place) + cond (eqb (slice_index d place) 0xFF) 6 2
 Used : List ℕ → ℕ → Reads (Said ℕ ImageSize) → Type 0
 Used d place reads = (marker next : ℕ) → reads.answer ≡ Ok (Next marker next) → total reads.marks + allowed d next ≤ allowed d place
 
-leaves : (n place length first second next : ℕ) → place + 4 ≤ n → length ≡ 256 * first + second → (length ≡ 0 → next ≡ first) → (length ≡ 1 → next ≡ second) → 4 + ((n - (place + (2 + length))) + cond (eqb next 0xFF) 6 2) ≤ (n - place) + 6
+leaves : (n place length first second next : ℕ) → place + 4 ≤ n → length ≡ 256 * first + second → (length ≡ 0 → next ≡ first)
+    → (length ≡ 1 → next ≡ second) → 4 + ((n - (place + (2 + length))) + cond (eqb next 0xFF) 6 2) ≤ (n - place) + 6
 leaves n place length first second next fits is none one = grind (arith, nat_tests)
 
-other_used : (d : List ℕ) (place marker : ℕ) → 2 ≤ length d - place → slice_index d place ≡ 0xFF → Used d place (behind (span_of d place 2) (over d (jpeg_other place marker)))
+other_used : (d : List ℕ) (place marker : ℕ) → 2 ≤ length d - place → slice_index d place ≡ 0xFF
+    → Used d place (behind (span_of d place 2) (over d (jpeg_other place marker)))
 unfolding Used
 other_used d place marker begun ff =
-    on_answer (λ w. Used d place (behind (span_of d place 2) w)) (span_of d (place + 2) 2) (number_at d Big (place + 2) 2) (λ l. over d (done (Next marker (place + (2 + l)))))
+    on_answer (λ w. Used d place (behind (span_of d place 2) w)) (span_of d (place + 2) 2) (number_at d Big (place + 2) 2)
+        (λ l. over d (done (Next marker (place + (2 + l)))))
     (λ l got m next is.
     let at : place + (2 + l) ≡ next = cc in
     let fits = number_ok d Big (place + 2) 2 l got in
@@ -123,7 +141,8 @@ other_used d place marker begun ff =
     let second = total-span_of d (place + 2) 2 in
     let all = total-append (span_of d place 2) (span_of d (place + 2) 2 ++ []) in
     let both = total-append (span_of d (place + 2) 2) [] in
-    let left = leaves (length d) place l (slice_index d (place + 2)) (slice_index d (place + 2 + 1)) (slice_index d next) (omega arith) (big_pair d (place + 2) l got)
+    let left = leaves (length d) place l (slice_index d (place + 2)) (slice_index d (place + 2 + 1)) (slice_index d next) (omega arith)
+        (big_pair d (place + 2) l got)
     (λ none. ap (slice_index d) (omega arith)) (λ one. ap (slice_index d) (omega arith)) in
     let here : allowed d place ≡ (length d - place) + 6 = rw ff refl in
     omega arith)
@@ -134,12 +153,15 @@ unfolding Used
 segment_used d k place = on_answer (Used d place) (span_of d place 2) (bytes_at d place 2) _
     (λ head got.
     let begun = bytes_ok d head place 2 got in
-    let first : slice_index d place ≡ slice_index head 0 = sym (part_first d place 2 (omega arith)) ∙ ap (λ bs. slice_index bs 0) (bytes_is d head place 2 got) in
+    let first : slice_index d place ≡ slice_index head 0 = sym (part_first d place 2 (omega arith)) ∙ ap (λ bs. slice_index bs 0)
+        (bytes_is d head place 2 got) in
     let P : Layout (Said ℕ ImageSize) → Type 0 = λ t. Used d place (behind (span_of d place 2) (over d t)) in
     on_test P (eqb (slice_index head 0) 0xFF) (jpeg_marked k place (slice_index head 1)) (refuse CorruptedImage)
     (λ is. let ff : slice_index head 0 ≡ 0xFF = grind (arith, nat_tests) in
-    on_test P (is_own_frame k (slice_index head 1)) (jpeg_frame place) _ (λ _ m next says. absurd (tells (λ _. ⊥) d (jpeg_frame place) m next (λ height width. tt) says))
-    (λ _. on_test P (is_own_end k (slice_index head 1)) (refuse CorruptedImage) (jpeg_other place (slice_index head 1)) (λ _ m next says. absurd cc)
+    on_test P (is_own_frame k (slice_index head 1)) (jpeg_frame place) _
+        (λ _ m next says. absurd (tells (λ _. ⊥) d (jpeg_frame place) m next (λ height width. tt) says))
+    (λ _. on_test P (is_own_end k (slice_index head 1)) (refuse CorruptedImage) (jpeg_other place (slice_index head 1))
+        (λ _ m next says. absurd cc)
     (λ _. other_used d place (slice_index head 1) begun (first ∙ ff))))
     (λ _ m next says. absurd cc))
     (λ e got m next is. absurd cc)
@@ -148,7 +170,8 @@ segment_allowed : (d : List ℕ) (k place : ℕ) → total (over d (jpeg_segment
 segment_allowed d k place = on_answer (λ w. total w.marks ≤ allowed d place) (span_of d place 2) (bytes_at d place 2) _
     (λ head got.
     let begun = bytes_ok d head place 2 got in
-    let first : slice_index d place ≡ slice_index head 0 = sym (part_first d place 2 (omega arith)) ∙ ap (λ bs. slice_index bs 0) (bytes_is d head place 2 got) in
+    let first : slice_index d place ≡ slice_index head 0 = sym (part_first d place 2 (omega arith)) ∙ ap (λ bs. slice_index bs 0)
+        (bytes_is d head place 2 got) in
     let here = total-span_of d place 2 in
     let P : Layout (Said ℕ ImageSize) → Type 0 = λ t. total (span_of d place 2 ++ (over d t).marks) ≤ allowed d place in
     on_test P (eqb (slice_index head 0) 0xFF) (jpeg_marked k place (slice_index head 1)) (refuse CorruptedImage)

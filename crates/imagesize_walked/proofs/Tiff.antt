@@ -43,16 +43,20 @@ use Rattle.imagesize_source.proofs.Way.{RecordedLaws}
 use Rattle.imagesize_source.proofs.Walks.{Walks, walks_start, walks_on, walks_stop, walks_out, walks_now}
 
 -- what holds of a refusal and of what goes on
-by_accepted : {X Y Z : Type 0} (P : Layout Z → Type 0) (r : Result X ImageError) (f : X → Layout Y) (g : Y → Layout Z) → ((e : ImageError) → P (refuse e)) → ((x : X) → P (bind (f x) g)) → P (bind (accepted r f) g)
+by_accepted : {X Y Z : Type 0} (P : Layout Z → Type 0) (r : Result X ImageError) (f : X → Layout Y) (g : Y → Layout Z)
+    → ((e : ImageError) → P (refuse e)) → ((x : X) → P (bind (f x) g)) → P (bind (accepted r f) g)
 by_accepted P (Ok x) f g out on = on x
 by_accepted P (Err e) f g out on = out e
 
 -- and of a value that is cut, and of one that is whole
-by_whole : {Y Z : Type 0} (P : Layout Z → Type 0) (found : Option (List ℕ)) (f : List ℕ → Layout Y) (g : Y → Layout Z) → P (refuse (IoError InvalidIfdValueLength)) → ((value : List ℕ) → P (bind (f value) g)) → P (bind (bind (accepted (whole_value found) done) f) g)
+by_whole : {Y Z : Type 0} (P : Layout Z → Type 0) (found : Option (List ℕ)) (f : List ℕ → Layout Y) (g : Y → Layout Z)
+    → P (refuse (IoError InvalidIfdValueLength)) → ((value : List ℕ) → P (bind (f value) g))
+    → P (bind (bind (accepted (whole_value found) done) f) g)
 by_whole P None f g cut on = cut
 by_whole P (Some value) f g cut on = on (take 4 value)
 
-accepted_at_most : {X Y : Type 0} (k : ℕ) (r : Result X ImageError) (f : X → Layout Y) → ((x : X) → AtMost k (f x)) → AtMost k (accepted r f)
+accepted_at_most : {X Y : Type 0} (k : ℕ) (r : Result X ImageError) (f : X → Layout Y) → ((x : X) → AtMost k (f x))
+    → AtMost k (accepted r f)
 accepted_at_most k (Ok x) f each = each x
 accepted_at_most k (Err e) f each = tt
 
@@ -73,32 +77,47 @@ abbrev record_behind : Header → List Entry → ℕ → Layout (Said Entry Imag
 record_behind header entries place = bind (tiff_entry header place) (says header entries place)
 
 -- what holds where a field type is refused and where its value is read
-by_field_type : (P : Layout (Said Entry ImageSize) → Type 0) (header : Header) (entries : List Entry) (place : ℕ) (head : List ℕ) → ((e : ImageError) → P (refuse e))
-    → ((field_type : FieldType) → P (bind (bind (tiff_value header.version (place + head_bytes header.version)) (λ value. done (entry_of header head field_type value))) (says header entries place)))
-    → P (bind (accepted (field_type_of header.version (field_type_in header.order head)) (λ field_type. bind (tiff_value header.version (place + head_bytes header.version)) (λ value. done (entry_of header head field_type value)))) (says header entries place))
-by_field_type P header entries place head out on = by_accepted P (field_type_of header.version (field_type_in header.order head)) (λ field_type. bind (tiff_value header.version (place + head_bytes header.version)) (λ value. done (entry_of header head field_type value))) (says header entries place) out on
+by_field_type : (P : Layout (Said Entry ImageSize) → Type 0) (header : Header) (entries : List Entry) (place : ℕ) (head : List ℕ)
+    → ((e : ImageError) → P (refuse e))
+    → ((field_type : FieldType) → P
+        (bind (bind (tiff_value header.version (place + head_bytes header.version))
+        (λ value. done (entry_of header head field_type value))) (says header entries place)))
+    → P (bind (accepted (field_type_of header.version (field_type_in header.order head))
+        (λ field_type. bind (tiff_value header.version (place + head_bytes header.version))
+        (λ value. done (entry_of header head field_type value)))) (says header entries place))
+by_field_type P header entries place head out on = by_accepted P (field_type_of header.version (field_type_in header.order head))
+    (λ field_type. bind (tiff_value header.version (place + head_bytes header.version))
+    (λ value. done (entry_of header head field_type value))) (says header entries place) out on
 
-by_completed : (P : Layout (Said Entry ImageSize) → Type 0) (size : Option ImageSize) (entry : Entry) (next : ℕ) → ((x : ImageSize) → P (done (Decided x))) → P (done (Next entry next)) → P (done (completed size entry next))
+by_completed : (P : Layout (Said Entry ImageSize) → Type 0) (size : Option ImageSize) (entry : Entry) (next : ℕ)
+    → ((x : ImageSize) → P (done (Decided x))) → P (done (Next entry next)) → P (done (completed size entry next))
 by_completed P None entry next stop on = on
 by_completed P (Some x) entry next stop on = stop x
 
 -- and where the value is cut, where the entry completes the size and where it does not
-by_value : (P : Layout (Said Entry ImageSize) → Type 0) (header : Header) (entries : List Entry) (place : ℕ) (head : List ℕ) (field_type : FieldType) (value : List ℕ) → P (refuse (IoError InvalidIfdValueLength))
+by_value : (P : Layout (Said Entry ImageSize) → Type 0) (header : Header) (entries : List Entry) (place : ℕ) (head : List ℕ)
+    (field_type : FieldType) (value : List ℕ) → P (refuse (IoError InvalidIfdValueLength))
     → ((size : ImageSize) → P (done (Decided size))) → ((entry : Entry) → P (done (Next entry (place + entry_bytes header.version))))
-    → P (bind (bind (accepted (whole_value (whole (value_bytes header.version) value)) done) (λ value. done (entry_of header head field_type value))) (says header entries place))
+    → P (bind (bind (accepted (whole_value (whole (value_bytes header.version) value)) done)
+        (λ value. done (entry_of header head field_type value))) (says header entries place))
 by_value P header entries place head field_type value cut stop on =
-    by_whole P (whole (value_bytes header.version) value) (λ value. done (entry_of header head field_type value)) (says header entries place) cut
-    (λ value. let entry : Entry = entry_of header head field_type value in by_completed P (size_in (entries ++ entry ∷ [])) entry (place + entry_bytes header.version) stop (on entry))
+    by_whole P (whole (value_bytes header.version) value) (λ value. done (entry_of header head field_type value))
+        (says header entries place) cut
+    (λ value. let entry : Entry = entry_of header head field_type value in by_completed P (size_in (entries ++ entry ∷ [])) entry
+        (place + entry_bytes header.version) stop (on entry))
 
 -- what holds of each record
-by_count : (P : Layout (Said Entry ImageSize) → Type 0) (header : Header) (count : ℕ) (entries : List Entry) (place : ℕ) → P (refuse (IoError NoDimensionsInIfd)) → P (record_behind header entries place) → P ((tiff_entries header count).said entries place)
-by_count P header count entries place end entry = on_test P (eqb (length entries) count) (refuse (IoError NoDimensionsInIfd)) (record_behind header entries place) (λ _. end) (λ _. entry)
+by_count : (P : Layout (Said Entry ImageSize) → Type 0) (header : Header) (count : ℕ) (entries : List Entry) (place : ℕ)
+    → P (refuse (IoError NoDimensionsInIfd)) → P (record_behind header entries place) → P ((tiff_entries header count).said entries place)
+by_count P header count entries place end entry = on_test P (eqb (length entries) count) (refuse (IoError NoDimensionsInIfd))
+    (record_behind header entries place) (λ _. end) (λ _. entry)
 
 record_tells : (header : Header) (entries : List Entry) (place : ℕ) → Tells (λ p. place < p) (record_behind header entries place)
 unfolding tiff_entry tiff_head tiff_value
 record_tells header entries place = λ head.
     by_field_type (Tells (λ p. place < p)) header entries place (take 4 head) (λ e. tt)
-    (λ field_type value. by_value (Tells (λ p. place < p)) header entries place (take 4 head) field_type value tt (λ size. tt) (λ entry. omega (arith, head_some header.version)))
+    (λ field_type value. by_value (Tells (λ p. place < p)) header entries place (take 4 head) field_type value tt (λ size. tt)
+        (λ entry. omega (arith, head_some header.version)))
 
 record_begins : (header : Header) (entries : List Entry) (place : ℕ) → Begins place (record_behind header entries place)
 unfolding tiff_entry tiff_head
@@ -111,27 +130,35 @@ entries_advance header count = advances (tiff_entries header count)
 
 pub tiff_local : Local tiff
 tiff_local = local_then (λ d. over d tiff_header) (λ header d. tiff_directory d header) (local_layout tiff_header)
-    (λ header. local_then (λ d. number_read d header.order header.directory (count_bytes header.version)) (λ count d. chain_at (tiff_entries header count) d) (local_number header.order header.directory (count_bytes header.version))
+    (λ header. local_then (λ d. number_read d header.order header.directory (count_bytes header.version))
+        (λ count d. chain_at (tiff_entries header count) d) (local_number header.order header.directory (count_bytes header.version))
     (λ count. local_chain (tiff_entries header count) (entries_advance header count)))
 
 last_push : {A : Type 0} (o : Option A) (xs : List A) (x : A) → last_or o (xs ++ x ∷ []) ≡ Some x
 last_push o [] x = refl
 last_push o (y ∷ xs) x = last_push (Some y) xs x
 
-last_by : (tag : ℕ) (entries : List Entry) (entry : Entry) (b : Bool) → eqb entry.tag tag ≡ b → last_or None (filter (λ e. eqb e.tag tag) (entries ++ entry ∷ [])) ≡ cond b (Some entry) (last_or None (filter (λ e. eqb e.tag tag) entries))
+last_by : (tag : ℕ) (entries : List Entry) (entry : Entry) (b : Bool) → eqb entry.tag tag ≡ b
+    → last_or None (filter (λ e. eqb e.tag tag) (entries ++ entry ∷ [])) ≡ cond b (Some entry)
+    (last_or None (filter (λ e. eqb e.tag tag) entries))
 last_by tag entries entry true is =
-    ap (last_or None) (filter-append (λ e. eqb e.tag tag) entries (entry ∷ []) ∙ ap (λ b. filter (λ e. eqb e.tag tag) entries ++ cond b (entry ∷ []) []) is)
+    ap (last_or None) (filter-append (λ e. eqb e.tag tag) entries (entry ∷ []) ∙ ap (λ b. filter (λ e. eqb e.tag tag) entries ++ cond b
+        (entry ∷ []) []) is)
     ∙ last_push None (filter (λ e. eqb e.tag tag) entries) entry
 last_by tag entries entry false is =
-    ap (last_or None) (filter-append (λ e. eqb e.tag tag) entries (entry ∷ []) ∙ ap (λ b. filter (λ e. eqb e.tag tag) entries ++ cond b (entry ∷ []) []) is ∙ append-nil (filter (λ e. eqb e.tag tag) entries))
+    ap (last_or None) (filter-append (λ e. eqb e.tag tag) entries (entry ∷ []) ∙ ap (λ b. filter (λ e. eqb e.tag tag) entries ++ cond b
+        (entry ∷ []) []) is ∙ append-nil (filter (λ e. eqb e.tag tag) entries))
 
-value_by : (b : Bool) (entry : Entry) (last : Option Entry) → option_and_then (λ e. e.value) (cond b (Some entry) last) ≡ cond b entry.value (option_and_then (λ e. e.value) last)
+value_by : (b : Bool) (entry : Entry) (last : Option Entry) → option_and_then (λ e. e.value) (cond b (Some entry) last)
+    ≡ cond b entry.value (option_and_then (λ e. e.value) last)
 value_by true entry last = refl
 value_by false entry last = refl
 
 -- of one entry more the value is its own where it has the tag
-last_value_on : (tag : ℕ) (entries : List Entry) (entry : Entry) → last_value tag (entries ++ entry ∷ []) ≡ cond (eqb entry.tag tag) entry.value (last_value tag entries)
-last_value_on tag entries entry = ap (option_and_then (λ e. e.value)) (last_by tag entries entry (eqb entry.tag tag) refl) ∙ value_by (eqb entry.tag tag) entry (last_or None (filter (λ e. eqb e.tag tag) entries))
+last_value_on : (tag : ℕ) (entries : List Entry) (entry : Entry) → last_value tag (entries ++ entry ∷ []) ≡ cond (eqb entry.tag tag)
+    entry.value (last_value tag entries)
+last_value_on tag entries entry = ap (option_and_then (λ e. e.value)) (last_by tag entries entry (eqb entry.tag tag) refl) ∙ value_by
+    (eqb entry.tag tag) entry (last_or None (filter (λ e. eqb e.tag tag) entries))
 
 -- So many entries are known, and by them the two sides.
 pub record Known (i : ℕ) (width height : Option ℕ) (entries : List Entry) : Type 0 where
@@ -139,14 +166,17 @@ pub record Known (i : ℕ) (width height : Option ℕ) (entries : List Entry) : 
   pub wide : last_value 0x100 entries ≡ width
   pub high : last_value 0x101 entries ≡ height
 
-known_on : (i : ℕ) (width height wide high : Option ℕ) (entries : List Entry) (entry : Entry) → wide ≡ cond (eqb entry.tag 0x100) entry.value width → high ≡ cond (eqb entry.tag 0x101) entry.value height → Known i width height entries → Known (i + 1) wide high (entries ++ entry ∷ [])
+known_on : (i : ℕ) (width height wide high : Option ℕ) (entries : List Entry) (entry : Entry) → wide ≡ cond (eqb entry.tag 0x100)
+    entry.value width → high ≡ cond (eqb entry.tag 0x101) entry.value height → Known i width height entries → Known (i + 1) wide high
+    (entries ++ entry ∷ [])
 known_on i width height wide high entries entry is_wide is_high h = record {
   many = length_push entries entry ∙ ap (λ n. n + 1) h.many;
   wide = last_value_on 0x100 entries entry ∙ ap (cond (eqb entry.tag 0x100) entry.value) h.wide ∙ sym is_wide;
   high = last_value_on 0x101 entries entry ∙ ap (cond (eqb entry.tag 0x101) entry.value) h.high ∙ sym is_high;
 }
 
-size_known : (i : ℕ) (width height : Option ℕ) (entries : List Entry) → Known i width height entries → size_in entries ≡ size_of_sides width height
+size_known : (i : ℕ) (width height : Option ℕ) (entries : List Entry) → Known i width height entries
+    → size_in entries ≡ size_of_sides width height
 size_known i width height entries h = ap (λ w. size_of_sides w (last_value 0x101 entries)) h.wide ∙ ap (size_of_sides width) h.high
 
 -- where the entry of an index stands
@@ -166,39 +196,57 @@ tiff_start header count a =
 -- no input is so long that an entry stands beyond 64 bits
 entry_beyond : (d : List ℕ) (header : Header) (place : ℕ) → length d ≤ place → over d (tiff_entry header place) ≡ refuses end_of_input
 unfolding tiff_entry tiff_head
-entry_beyond d header place h = bytes_beyond d place (head_bytes header.version) (λ head. accepted (field_type_of header.version (field_type_in header.order (take 4 head))) (λ field_type. bind (tiff_value header.version (place + head_bytes header.version)) (λ value. done (entry_of header (take 4 head) field_type value)))) h (head_some header.version)
+entry_beyond d header place h = bytes_beyond d place (head_bytes header.version)
+    (λ head. accepted (field_type_of header.version (field_type_in header.order (take 4 head)))
+    (λ field_type. bind (tiff_value header.version (place + head_bytes header.version))
+    (λ value. done (entry_of header (take 4 head) field_type value)))) h (head_some header.version)
 
-entry_saturated : {a b : State} {r : Result Entry ImageError} (header : Header) (place : ℕ) → Runs a b r (over a.held.input (tiff_entry header (min place (2 ^ 64 - 1)))) → Runs a b r (over a.held.input (tiff_entry header place))
-entry_saturated header place h = saturated_by (λ p d. over d (tiff_entry header p)) (refuses end_of_input) place (λ d p far. entry_beyond d header p far) h
+entry_saturated : {a b : State} {r : Result Entry ImageError} (header : Header) (place : ℕ)
+    → Runs a b r (over a.held.input (tiff_entry header (min place (2 ^ 64 - 1))))
+    → Runs a b r (over a.held.input (tiff_entry header place))
+entry_saturated header place h = saturated_by (λ p d. over d (tiff_entry header p)) (refuses end_of_input) place
+    (λ d p far. entry_beyond d header p far) h
 
 -- the record of an entry, where there are more
-more_said : {b end : State} {r : Result (Said Entry ImageSize) ImageError} (header : Header) (count i : ℕ) (entries : List Entry) (place : ℕ) → i < count → length entries ≡ i → Runs b end r (over b.held.input (record_behind header entries place)) → Runs b end r (over b.held.input ((tiff_entries header count).said entries place))
+more_said : {b end : State} {r : Result (Said Entry ImageSize) ImageError} (header : Header) (count i : ℕ) (entries : List Entry)
+    (place : ℕ) → i < count → length entries ≡ i → Runs b end r (over b.held.input (record_behind header entries place))
+    → Runs b end r (over b.held.input ((tiff_entries header count).said entries place))
 more_said {b} {end} {r} header count i entries place below many run =
     let more : eqb (length entries) count ≡ false = grind (arith, nat_tests) in
-    subst (λ t. Runs b end r (over b.held.input t)) (sym (ap (λ test. cond test (refuse (IoError NoDimensionsInIfd)) (record_behind header entries place)) more)) run
+    subst (λ t. Runs b end r (over b.held.input t))
+        (sym (ap (λ test. cond test (refuse (IoError NoDimensionsInIfd)) (record_behind header entries place)) more)) run
 
 -- at the entry of an index, whose place is held at the greatest
-module _ {a b : State} (header : Header) (count i : ℕ) (width height : Option ℕ) (below : i < count) (w : TiffWalks header count a b i width height) (place : ℕ) (at : place ≡ min (entry_at header i) (2 ^ 64 - 1)) where
+module _ {a b : State} (header : Header) (count i : ℕ) (width height : Option ℕ) (below : i < count)
+    (w : TiffWalks header count a b i width height) (place : ℕ) (at : place ≡ min (entry_at header i) (2 ^ 64 - 1)) where
   -- the record, by the entry that was read
-  entry_read : {end : State} {r : Result Entry ImageError} → Runs b end r (over b.held.input (tiff_entry header place)) → Runs b end r (over b.held.input (tiff_entry header (entry_at header i)))
-  entry_read {end} {r} run = entry_saturated header (entry_at header i) (subst (λ p. Runs b end r (over b.held.input (tiff_entry header p))) at run)
+  entry_read : {end : State} {r : Result Entry ImageError} → Runs b end r (over b.held.input (tiff_entry header place))
+      → Runs b end r (over b.held.input (tiff_entry header (entry_at header i)))
+  entry_read {end} {r} run = entry_saturated header (entry_at header i)
+      (subst (λ p. Runs b end r (over b.held.input (tiff_entry header p))) at run)
 
   -- what it says behind others
-  entry_said : {end : State} (entry : Entry) (wide high : Option ℕ) (size : Option ImageSize) → wide ≡ cond (eqb entry.tag 0x100) entry.value width → high ≡ cond (eqb entry.tag 0x101) entry.value height → size_of_sides wide high ≡ size
+  entry_said : {end : State} (entry : Entry) (wide high : Option ℕ) (size : Option ImageSize) → wide ≡ cond (eqb entry.tag 0x100)
+      entry.value width → high ≡ cond (eqb entry.tag 0x101) entry.value height → size_of_sides wide high ≡ size
       → Runs b end (Ok entry) (over b.held.input (tiff_entry header place)) → (entries : List Entry) → Known i width height entries
-      → Runs b end (Ok (completed size entry (entry_at header i + entry_bytes header.version))) (over b.held.input ((tiff_entries header count).said entries (entry_at header i)))
+      → Runs b end (Ok (completed size entry (entry_at header i + entry_bytes header.version)))
+          (over b.held.input ((tiff_entries header count).said entries (entry_at header i)))
   entry_said entry wide high size is_wide is_high is run entries h =
       let next : ℕ = entry_at header i + entry_bytes header.version in
-      let known : size_in (entries ++ entry ∷ []) ≡ size = size_known (i + 1) wide high (entries ++ entry ∷ []) (known_on i width height wide high entries entry is_wide is_high h) ∙ is in
+      let known : size_in (entries ++ entry ∷ []) ≡ size = size_known (i + 1) wide high (entries ++ entry ∷ [])
+          (known_on i width height wide high entries entry is_wide is_high h) ∙ is in
       more_said header count i entries (entry_at header i) below h.many
-      (runs_bind (Ok (completed size entry next)) (tiff_entry header (entry_at header i)) (says header entries (entry_at header i)) (entry_read run)
+      (runs_bind (Ok (completed size entry next)) (tiff_entry header (entry_at header i)) (says header entries (entry_at header i))
+          (entry_read run)
       (λ d. ap (λ o. over d (done (completed o entry next))) known) refl tt)
 
   -- the walk goes on where a side is still unknown
-  pub tiff_on : {end : State} (entry : Entry) (wide high : Option ℕ) → wide ≡ cond (eqb entry.tag 0x100) entry.value width → high ≡ cond (eqb entry.tag 0x101) entry.value height → size_of_sides wide high ≡ None
+  pub tiff_on : {end : State} (entry : Entry) (wide high : Option ℕ) → wide ≡ cond (eqb entry.tag 0x100) entry.value width
+      → high ≡ cond (eqb entry.tag 0x101) entry.value height → size_of_sides wide high ≡ None
       → Runs b end (Ok entry) (over b.held.input (tiff_entry header place)) → TiffWalks header count a end (i + 1) wide high
   tiff_on {end} entry wide high is_wide is_high is run =
-      let on = walks_on (tiff_entries header count) (entries_advance header count) (Known i width height) w (Known (i + 1) wide high) entry (entry_at header i + entry_bytes header.version)
+      let on = walks_on (tiff_entries header count) (entries_advance header count) (Known i width height) w (Known (i + 1) wide high)
+          entry (entry_at header i + entry_bytes header.version)
       (entry_said entry wide high None is_wide is_high is run)
       (λ entries h. known_on i width height wide high entries entry is_wide is_high h) in
       let times = mul-add (entry_bytes header.version) i 1 in
@@ -206,28 +254,37 @@ module _ {a b : State} (header : Header) (count i : ℕ) (width height : Option 
       subst (λ p. Walks (tiff_entries header count) (Known (i + 1) wide high) a end p) next on
 
   -- and ends where both are known
-  pub tiff_stop : {end : State} (entry : Entry) (wide high : Option ℕ) (size : ImageSize) → wide ≡ cond (eqb entry.tag 0x100) entry.value width → high ≡ cond (eqb entry.tag 0x101) entry.value height → size_of_sides wide high ≡ Some size
-      → Runs b end (Ok entry) (over b.held.input (tiff_entry header place)) → Runs a end (Ok size) (chain_at (tiff_entries header count) a.held.input)
+  pub tiff_stop : {end : State} (entry : Entry) (wide high : Option ℕ) (size : ImageSize) → wide ≡ cond (eqb entry.tag 0x100) entry.value
+      width → high ≡ cond (eqb entry.tag 0x101) entry.value height → size_of_sides wide high ≡ Some size
+      → Runs b end (Ok entry) (over b.held.input (tiff_entry header place))
+          → Runs a end (Ok size) (chain_at (tiff_entries header count) a.held.input)
   tiff_stop entry wide high size is_wide is_high is run =
-      walks_stop (tiff_entries header count) (entries_advance header count) (Known i width height) w size (entry_said entry wide high (Some size) is_wide is_high is run)
+      walks_stop (tiff_entries header count) (entries_advance header count) (Known i width height) w size
+          (entry_said entry wide high (Some size) is_wide is_high is run)
 
   -- or where the entry is refused
-  pub tiff_out : {end : State} (e : ImageError) → Runs {X = Entry} b end (Err e) (over b.held.input (tiff_entry header place)) → Runs {X = ImageSize} a end (Err e) (chain_at (tiff_entries header count) a.held.input)
+  pub tiff_out : {end : State} (e : ImageError) → Runs {X = Entry} b end (Err e) (over b.held.input (tiff_entry header place))
+      → Runs {X = ImageSize} a end (Err e) (chain_at (tiff_entries header count) a.held.input)
   tiff_out e run =
       walks_out (tiff_entries header count) (entries_advance header count) (Known i width height) w e
       (λ entries h. more_said header count i entries (entry_at header i) below h.many
       (refused_bind (tiff_entry header (entry_at header i)) (says header entries (entry_at header i)) (entry_read run)))
 
-end_said : (header : Header) (count : ℕ) (entries : List Entry) (place : ℕ) (d : List ℕ) → length entries ≡ count → over d ((tiff_entries header count).said entries place) ≡ over d (refuse (IoError NoDimensionsInIfd))
+end_said : (header : Header) (count : ℕ) (entries : List Entry) (place : ℕ) (d : List ℕ) → length entries ≡ count
+    → over d ((tiff_entries header count).said entries place) ≡ over d (refuse (IoError NoDimensionsInIfd))
 end_said header count entries place d many =
     let all : eqb (length entries) count ≡ true = grind (arith, nat_tests) in
     ap (λ test. over d (cond test (refuse (IoError NoDimensionsInIfd)) (record_behind header entries place))) all
 
 -- all entries were read
-pub tiff_done : {a b : State} (header : Header) (count i : ℕ) (width height : Option ℕ) → i ≡ count → Sound b → TiffWalks header count a b i width height → Runs a b (Err (IoError NoDimensionsInIfd)) (chain_at (tiff_entries header count) a.held.input)
+pub tiff_done : {a b : State} (header : Header) (count i : ℕ) (width height : Option ℕ) → i ≡ count → Sound b
+    → TiffWalks header count a b i width height → Runs a b (Err (IoError NoDimensionsInIfd))
+    (chain_at (tiff_entries header count) a.held.input)
 tiff_done header count i width height at sound w =
-    walks_now (tiff_entries header count) (entries_advance header count) (Known i width height) w (Err (IoError NoDimensionsInIfd)) sound refl (record { budget = tt; memory = λ e. absurd cc })
-    (λ entries d h. let says = end_said header count entries (entry_at header i) d (h.many ∙ at) in (ap (λ r. verdict r.answer) says, ap (λ r. r.marks) says))
+    walks_now (tiff_entries header count) (entries_advance header count) (Known i width height) w (Err (IoError NoDimensionsInIfd)) sound
+        refl (record { budget = tt; memory = λ e. absurd cc })
+    (λ entries d h. let says = end_said header count entries (entry_at header i) d (h.many ∙ at) in
+        (ap (λ r. verdict r.answer) says, ap (λ r. r.marks) says))
 
 -- an entry has 12 bytes, and 20 in BigTIFF
 entry_few : (version : Version) → head_bytes version + value_bytes version ≤ 20
@@ -245,7 +302,8 @@ record_at_most header entries place =
     let behind_value : ℕ = behind_head - value_bytes header.version in (
       omega (arith, entry_few header.version),
       λ head. by_field_type (AtMost behind_head) header entries place (take 4 head) (λ e. tt)
-          (λ field_type. (omega (arith, entry_few header.version), λ value. by_value (AtMost behind_value) header entries place (take 4 head) field_type value tt (λ size. tt) (λ entry. tt))),
+          (λ field_type. (omega (arith, entry_few header.version), λ value. by_value (AtMost behind_value) header entries place
+              (take 4 head) field_type value tt (λ size. tt) (λ entry. tt))),
     )
 
 record_ahead : (header : Header) (entries : List Entry) (place : ℕ) → Ahead place (record_behind header entries place)
@@ -255,10 +313,12 @@ record_ahead header entries place =
     let behind_value : ℕ = behind_head + value_bytes header.version in (
       omega arith,
       λ head. by_field_type (Ahead behind_head) header entries place (take 4 head) (λ e. tt)
-          (λ field_type. (omega arith, λ value. by_value (Ahead behind_value) header entries place (take 4 head) field_type value tt (λ size. tt) (λ entry. omega arith))),
+          (λ field_type. (omega arith, λ value. by_value (Ahead behind_value) header entries place (take 4 head) field_type value tt
+              (λ size. tt) (λ entry. omega arith))),
     )
 
-entries_within : (header : Header) (count : ℕ) (d : List ℕ) → total (chain_at (tiff_entries header count) d).marks ≤ length d - (header.directory + count_bytes header.version)
+entries_within : (header : Header) (count : ℕ) (d : List ℕ) → total (chain_at (tiff_entries header count) d).marks
+    ≤ length d - (header.directory + count_bytes header.version)
 entries_within header count d = chain_ahead (tiff_entries header count) d (entries_advance header count d)
     (λ entries place. by_count (Ahead place) header count entries place tt (record_ahead header entries place))
 
@@ -266,7 +326,8 @@ entries_within header count d = chain_ahead (tiff_entries header count) d (entri
 directory_within : (d : List ℕ) (header : Header) → total (tiff_directory d header).marks ≤ length d
 directory_within d header =
     let most = total_behind d header.directory (count_bytes header.version) in
-    on_answer (λ w. total w.marks ≤ length d) (span_of d header.directory (count_bytes header.version)) (number_at d header.order header.directory (count_bytes header.version)) (λ count. chain_at (tiff_entries header count) d)
+    on_answer (λ w. total w.marks ≤ length d) (span_of d header.directory (count_bytes header.version))
+        (number_at d header.order header.directory (count_bytes header.version)) (λ count. chain_at (tiff_entries header count) d)
     (λ count is.
     let some = number_ok d header.order header.directory (count_bytes header.version) count is in
     let few = total-span_of d header.directory (count_bytes header.version) in
@@ -294,7 +355,9 @@ header_at_most : AtMost 16 tiff_header
 unfolding tiff_header
 header_at_most = (
   omega arith,
-  λ mark. accepted_at_most 14 (byte_order mark) (λ order. field order 2 2 (λ number. accepted (version_of number) (λ version. bind (stated_place order version) (placed order version))))
+  λ mark. accepted_at_most 14 (byte_order mark)
+      (λ order. field order 2 2 (λ number. accepted (version_of number) (λ version. bind (stated_place order version)
+      (placed order version))))
       (λ order. (
         omega arith,
         λ number. accepted_at_most 12 (version_of number) (λ version. bind (stated_place order version) (placed order version))
@@ -305,17 +368,21 @@ header_at_most = (
 
 -- header and directory are read from at most 16 bytes more than the input has, since the directory may stand in the header
 pub tiff_within : (d : List ℕ) → total (tiff d).marks ≤ length d + 20
-tiff_within d = omega (arith, then_within (over d tiff_header) (tiff_directory d) 16 (length d) (at_most d 16 tiff_header header_at_most) (λ header _. directory_within d header))
+tiff_within d = omega (arith, then_within (over d tiff_header) (tiff_directory d) 16 (length d) (at_most d 16 tiff_header header_at_most)
+    (λ header _. directory_within d header))
 
 -- at the count of entries the directory ends
-ends_at : (header : Header) (count : ℕ) (d : List ℕ) (t : Along Entry) (entry : Entry) (place : ℕ) → (next_record (tiff_entries header count) d t).answer ≡ Ok (Next entry place) → length t.held ≡ count → ⊥
+ends_at : (header : Header) (count : ℕ) (d : List ℕ) (t : Along Entry) (entry : Entry) (place : ℕ)
+    → (next_record (tiff_entries header count) d t).answer ≡ Ok (Next entry place) → length t.held ≡ count → ⊥
 ends_at header count d t entry place is at =
-    let out : Err (IoError NoDimensionsInIfd) ≡ Ok (Next entry place) = sym (ap (λ r. r.answer) (end_said header count t.held t.place d at)) ∙ is in
+    let out : Err (IoError NoDimensionsInIfd) ≡ Ok (Next entry place) =
+        sym (ap (λ r. r.answer) (end_said header count t.held t.place d at)) ∙ is in
     absurd cc
 
 records_few : (header : Header) (count : ℕ) (d : List ℕ) → records (tiff_entries header count) d ≤ count + 1
 records_few header count d =
-    let few = chain_induction (tiff_entries header count) d (λ t. length t.held ≤ count → records_from (tiff_entries header count) d t + length t.held ≤ count + 1) (entries_advance header count d)
+    let few = chain_induction (tiff_entries header count) d (λ t. length t.held ≤ count → records_from (tiff_entries header count) d t
+        + length t.held ≤ count + 1) (entries_advance header count d)
     (λ t entry place is later fits.
     let apart : length t.held ≢ count = λ at. ends_at header count d t entry place is at in
     let below : length t.held < count = omega arith in
@@ -327,22 +394,27 @@ records_few header count d =
     (start (tiff_entries header count)) in
     let all = few (omega arith) in omega arith
 
-directory_cost : (d : List ℕ) (header : Header) → total (tiff_directory d header).marks ≤ 28 + 20 * begun_of d header (number_at d header.order header.directory (count_bytes header.version))
+directory_cost : (d : List ℕ) (header : Header) → total (tiff_directory d header).marks ≤ 28 + 20 * begun_of d header
+    (number_at d header.order header.directory (count_bytes header.version))
 directory_cost d header = cost_by (number_at d header.order header.directory (count_bytes header.version)) where
-  cost_by : (r : Result ℕ ImageError) → total (onward (span_of d header.directory (count_bytes header.version)) r (λ count. chain_at (tiff_entries header count) d)).marks ≤ 28 + 20 * begun_of d header r
+  cost_by : (r : Result ℕ ImageError) → total (onward (span_of d header.directory (count_bytes header.version)) r
+      (λ count. chain_at (tiff_entries header count) d)).marks ≤ 28 + 20 * begun_of d header r
   cost_by (Ok count) =
       let all = total-append (span_of d header.directory (count_bytes header.version)) (chain_at (tiff_entries header count) d).marks in
       let first = total-span_of d header.directory (count_bytes header.version) in
       let short = count_few header.version in
       let few = records_few header count d in
-      let each = chain_cost (tiff_entries header count) d (entries_advance header count d) 20 (λ entries place. by_count (AtMost 20) header count entries place tt (record_at_most header entries place)) in
+      let each = chain_cost (tiff_entries header count) d (entries_advance header count d) 20
+          (λ entries place. by_count (AtMost 20) header count entries place tt (record_at_most header entries place)) in
       omega arith
-  cost_by (Err e) = let first = total-span_of d header.directory (count_bytes header.version) in let short = count_few header.version in omega arith
+  cost_by (Err e) = let first = total-span_of d header.directory (count_bytes header.version) in let short = count_few header.version in
+      omega arith
 
 -- an entry is read from at most 20 bytes
 pub tiff_cost : (d : List ℕ) → total (tiff d).marks ≤ 46 + 20 * entries_begun d
 tiff_cost d = cost_by (over d tiff_header).answer where
-  cost_by : (r : Result Header ImageError) → total (onward (over d tiff_header).marks r (tiff_directory d)).marks ≤ 46 + 20 * begun_behind d r
+  cost_by : (r : Result Header ImageError) → total (onward (over d tiff_header).marks r (tiff_directory d)).marks ≤ 46
+      + 20 * begun_behind d r
   cost_by (Ok header) =
       let all = total-append (over d tiff_header).marks (tiff_directory d header).marks in
       let first = at_most d 16 tiff_header header_at_most in
@@ -351,7 +423,8 @@ tiff_cost d = cost_by (over d tiff_header).answer where
   cost_by (Err e) = let first = at_most d 16 tiff_header header_at_most in omega arith
 
 -- a value that is cut is refused
-cut_never : {Y Z : Type 0} (k : ℕ) (value : List ℕ) (f : List ℕ → Layout Y) (g : Y → Layout Z) → length value < k → Never (bind (bind (accepted (whole_value (whole k value)) done) f) g)
+cut_never : {Y Z : Type 0} (k : ℕ) (value : List ℕ) (f : List ℕ → Layout Y) (g : Y → Layout Z) → length value < k
+    → Never (bind (bind (accepted (whole_value (whole k value)) done) f) g)
 cut_never k value f g short =
     let none : whole k value ≡ None = grind (arith, nat_tests) in
     subst (λ found. Never (bind (bind (accepted (whole_value found) done) f) g)) (sym none) tt
@@ -360,7 +433,8 @@ record_plain : (header : Header) (entries : List Entry) (place : ℕ) → Plain 
 unfolding tiff_entry tiff_head tiff_value
 record_plain header entries place = λ head. by_field_type Plain header entries place (take 4 head) (λ e. tt)
     (λ field_type value. (
-      cut_never (value_bytes header.version) value (λ value. done (entry_of header (take 4 head) field_type value)) (says header entries place),
+      cut_never (value_bytes header.version) value (λ value. done (entry_of header (take 4 head) field_type value))
+          (says header entries place),
       by_value Plain header entries place (take 4 head) field_type value tt (λ size. tt) (λ entry. tt),
     ))
 
@@ -372,36 +446,47 @@ stated_plain : (order : Endian) (version : Version) → Plain (bind (stated_plac
 unfolding stated_place
 stated_plain order Tiff = λ place. accepted_plain (directory_at order Tiff place) done (λ header. tt)
 stated_plain order BigTiff = λ size. on_test (λ t. Plain (bind t (placed order BigTiff))) (eqb size 8) _ _
-    (λ _ zeros. on_test (λ t. Plain (bind t (placed order BigTiff))) (eqb zeros 0) (field order 8 8 done) _ (λ _ place. accepted_plain (directory_at order BigTiff place) done (λ header. tt)) (λ _. tt))
+    (λ _ zeros. on_test (λ t. Plain (bind t (placed order BigTiff))) (eqb zeros 0) (field order 8 8 done) _
+        (λ _ place. accepted_plain (directory_at order BigTiff place) done (λ header. tt)) (λ _. tt))
     (λ _. tt)
 
 header_plain : Plain tiff_header
 unfolding tiff_header
-header_plain = λ mark. accepted_plain (byte_order mark) (λ order. field order 2 2 (λ number. accepted (version_of number) (λ version. bind (stated_place order version) (placed order version))))
+header_plain = λ mark. accepted_plain (byte_order mark)
+    (λ order. field order 2 2 (λ number. accepted (version_of number) (λ version. bind (stated_place order version)
+    (placed order version))))
     (λ order number. accepted_plain (version_of number) (λ version. bind (stated_place order version) (placed order version))
     (λ version. stated_plain order version))
 
 -- bytes that follow change no number that was there
-count_more : (d x : List ℕ) (order : Endian) (place k count : ℕ) → number_at d order place k ≡ Ok count → number_at (d ++ x) order place k ≡ Ok count
+count_more : (d x : List ℕ) (order : Endian) (place k count : ℕ) → number_at d order place k ≡ Ok count
+    → number_at (d ++ x) order place k ≡ Ok count
 unfolding number_at
 count_more d x order place k count is = ap (seen (number order)) (bytes_more d x place k (number_ok d order place k count is)) ∙ is
 
-directory_lasts : (d x : List ℕ) (header : Header) (size : ImageSize) → (tiff_directory d header).answer ≡ Ok size → (tiff_directory (d ++ x) header).answer ≡ Ok size
+directory_lasts : (d x : List ℕ) (header : Header) (size : ImageSize) → (tiff_directory d header).answer ≡ Ok size
+    → (tiff_directory (d ++ x) header).answer ≡ Ok size
 directory_lasts d x header size = by_count_read (number_at d header.order header.directory (count_bytes header.version)) refl where
-  by_count_read : (r : Result ℕ ImageError) → number_at d header.order header.directory (count_bytes header.version) ≡ r → (onward (span_of d header.directory (count_bytes header.version)) r (λ count. chain_at (tiff_entries header count) d)).answer ≡ Ok size → (tiff_directory (d ++ x) header).answer ≡ Ok size
+  by_count_read : (r : Result ℕ ImageError) → number_at d header.order header.directory (count_bytes header.version) ≡ r
+      → (onward (span_of d header.directory (count_bytes header.version)) r (λ count. chain_at (tiff_entries header count) d)).answer
+      ≡ Ok size → (tiff_directory (d ++ x) header).answer ≡ Ok size
   by_count_read (Ok count) read is =
       let read_more = count_more d x header.order header.directory (count_bytes header.version) count read in
-      let same = lasts_chain (tiff_entries header count) (entries_advance header count) (λ entries place. by_count Plain header count entries place tt (record_plain header entries place)) d x size is in
-      ap (λ r. (onward (span_of (d ++ x) header.directory (count_bytes header.version)) r (λ count. chain_at (tiff_entries header count) (d ++ x))).answer) read_more ∙ ap (λ w. w.answer) same ∙ is
+      let same = lasts_chain (tiff_entries header count) (entries_advance header count)
+          (λ entries place. by_count Plain header count entries place tt (record_plain header entries place)) d x size is in
+      ap (λ r. (onward (span_of (d ++ x) header.directory (count_bytes header.version)) r (λ count. chain_at (tiff_entries header count)
+          (d ++ x))).answer) read_more ∙ ap (λ w. w.answer) same ∙ is
   by_count_read (Err e) read is = absurd cc
 
 -- bytes that follow change no size
 pub tiff_lasts : (d x : List ℕ) (size : ImageSize) → (tiff d).answer ≡ Ok size → (tiff (d ++ x)).answer ≡ Ok size
 tiff_lasts d x size = by_header (over d tiff_header).answer refl where
-  by_header : (r : Result Header ImageError) → (over d tiff_header).answer ≡ r → (onward (over d tiff_header).marks r (tiff_directory d)).answer ≡ Ok size → (tiff (d ++ x)).answer ≡ Ok size
+  by_header : (r : Result Header ImageError) → (over d tiff_header).answer ≡ r
+      → (onward (over d tiff_header).marks r (tiff_directory d)).answer ≡ Ok size → (tiff (d ++ x)).answer ≡ Ok size
   by_header (Ok header) read is =
       let same = more d x tiff_header header header_plain read in
-      ap (λ w. (and_then w (tiff_directory (d ++ x))).answer) same ∙ ap (λ r. (onward (over d tiff_header).marks r (tiff_directory (d ++ x))).answer) read ∙ directory_lasts d x header size is
+      ap (λ w. (and_then w (tiff_directory (d ++ x))).answer) same
+          ∙ ap (λ r. (onward (over d tiff_header).marks r (tiff_directory (d ++ x))).answer) read ∙ directory_lasts d x header size is
   by_header (Err e) read is = absurd cc
 
 pub tiff_laws : RecordedLaws 12 true 20 tiff entries_begun

@@ -18,7 +18,8 @@ is_ilbm head = begins (codes "FORM") head && (stands_at 8 (codes "ILBM") head ||
 
 -- the first two fields of the bitmap header ("ILBM", section 2.2, BMHD)
 abbrev pub bitmap_header : ℕ → Layout (Said (Unit {0}) ImageSize)
-bitmap_header place = field Big (place + 8) 2 (λ width. field Big (place + 10) 2 (λ height. done (Decided (record { width = width; height = height }))))
+bitmap_header place = field Big (place + 8) 2
+    (λ width. field Big (place + 10) 2 (λ height. done (Decided (record { width = width; height = height }))))
 
 -- how many bytes a chunk has: its name and its length, its data, and behind odd data a byte of padding
 -- ("EA IFF 85", section 3, Chunks)

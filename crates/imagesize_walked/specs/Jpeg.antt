@@ -34,7 +34,8 @@ depth markers = started markers - ended markers
 
 -- the header of a frame: behind its length and its precision the number of lines and the samples of a line (B.2.2)
 abbrev pub jpeg_frame : ℕ → Layout (Said ℕ ImageSize)
-jpeg_frame place = field Big (place + 5) 2 (λ height. field Big (place + 7) 2 (λ width. done (Decided (record { width = width; height = height }))))
+jpeg_frame place = field Big (place + 5) 2
+    (λ height. field Big (place + 7) 2 (λ width. done (Decided (record { width = width; height = height }))))
 
 -- any other segment: its length counts the bytes behind the marker (B.1.1.4)
 abbrev pub jpeg_other : ℕ → ℕ → Layout (Said ℕ ImageSize)

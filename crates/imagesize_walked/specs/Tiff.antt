@@ -23,7 +23,8 @@ use Rattle.imagesize_source.specs.Reading.{Reads, and_then, number_at, number_re
 
 -- the order of the bytes, and 42 or 43 in that order
 unfoldable pub is_tiff : List ℕ → Bool
-is_tiff head = (begins (codes "II" ++ 42 ∷ 0 ∷ []) head || begins (codes "II" ++ 43 ∷ 0 ∷ []) head) || (begins (codes "MM" ++ 0 ∷ 42 ∷ []) head || begins (codes "MM" ++ 0 ∷ 43 ∷ []) head)
+is_tiff head = (begins (codes "II" ++ 42 ∷ 0 ∷ []) head || begins (codes "II" ++ 43 ∷ 0 ∷ []) head) ||
+    (begins (codes "MM" ++ 0 ∷ 42 ∷ []) head || begins (codes "MM" ++ 0 ∷ 43 ∷ []) head)
 
 -- what goes on where something is accepted
 abbrev pub accepted : {X Y : Type 0} → Result X ImageError → (X → Layout Y) → Layout Y
@@ -32,7 +33,8 @@ accepted (Err e) f = refuse e
 
 -- the order of all numbers, by the first two bytes
 abbrev pub byte_order : List ℕ → Result Endian ImageError
-byte_order mark = if begins (codes "II") mark then Ok Little else if begins (codes "MM") mark then Ok Big else Err (IoError InvalidTiffHeader)
+byte_order mark = if begins (codes "II") mark then Ok Little else if begins (codes "MM") mark then Ok Big
+    else Err (IoError InvalidTiffHeader)
 
 -- the number behind the order: 42, and 43 of BigTIFF
 abbrev pub version_of : ℕ → Result Version ImageError
@@ -47,7 +49,8 @@ stated_place order BigTiff = field order 4 2 (λ size.
 
 -- it is never 0
 abbrev pub directory_at : Endian → Version → ℕ → Result Header ImageError
-directory_at order version place = if place == 0 then Err (IoError InvalidIfdOffset) else Ok (record { order = order; version = version; directory = place })
+directory_at order version place = if place == 0 then Err (IoError InvalidIfdOffset)
+    else Ok (record { order = order; version = version; directory = place })
 
 -- the header ("Image File Header")
 unfoldable pub tiff_header : Layout Header
@@ -83,7 +86,8 @@ field_types =
 
 -- those that BigTIFF has besides: 16 LONG8, 17 SLONG8, 18 IFD8
 abbrev pub wide_field_types : Version → List (ℕ × Result FieldType ImageError)
-wide_field_types Tiff = (16, Err (IoError IfdTypeForStandardTiff)) ∷ (17, Err (IoError IfdTypeForStandardTiff)) ∷ (18, Err (IoError IfdTypeForStandardTiff)) ∷ []
+wide_field_types Tiff = (16, Err (IoError IfdTypeForStandardTiff)) ∷ (17, Err (IoError IfdTypeForStandardTiff))
+    ∷ (18, Err (IoError IfdTypeForStandardTiff)) ∷ []
 wide_field_types BigTiff = (16, Ok Other) ∷ (17, Ok Other) ∷ (18, Ok Other) ∷ []
 
 abbrev pub field_type_of : Version → ℕ → Result FieldType ImageError
@@ -146,12 +150,14 @@ tiff_entries header count = record {
   first = header.directory + count_bytes header.version;
   said = λ entries place.
       if length entries == count then refuse (IoError NoDimensionsInIfd)
-      else bind (tiff_entry header place) (λ entry. done (completed (size_in (entries ++ entry ∷ [])) entry (place + entry_bytes header.version)));
+      else bind (tiff_entry header place)
+          (λ entry. done (completed (size_in (entries ++ entry ∷ [])) entry (place + entry_bytes header.version)));
 }
 
 -- the directory
 abbrev pub tiff_directory : List ℕ → Header → Reads ImageSize
-tiff_directory d header = and_then (number_read d header.order header.directory (count_bytes header.version)) (λ count. chain_at (tiff_entries header count) d)
+tiff_directory d header = and_then (number_read d header.order header.directory (count_bytes header.version))
+    (λ count. chain_at (tiff_entries header count) d)
 
 abbrev pub tiff : List ℕ → Reads ImageSize
 tiff d = and_then (over d tiff_header) (tiff_directory d)

@@ -1,4 +1,4 @@
-use Rattle.std.proofs.Common.{◌∙◌, arith, rules}
+use Rattle.std.proofs.Common.{◌∙◌, arith}
 use Rattle.imagesize_source.specs.Standing.{stand}
 use Rattle.imagesize_source.proofs.Standings.{from_there, keeps_both, not_reached, within_none, within_reached}
 use Rattle.imagesize_source.proofs.source.reader.read_from.Goals as goal
@@ -23,9 +23,11 @@ returns g c =
     let filled = c.in_ok-count.ensures in
     record {
       bound = filled.bound;
-      stand = from_there _ _ (g.R.Told.telling c.fill.new.reader) c.fill.new.progress _ _ _ _ _ goes.stand c.if-not-branch.false filled.stand;
+      stand = from_there _ _ (g.R.Told.telling c.fill.new.reader) c.fill.new.progress _ _ _ _ _ goes.stand c.if-not-branch.false
+          filled.stand;
       taken = omega (arith, goes.taken, filled.taken);
-      within = within_reached (stand (g.R.Told.telling c.args.reader.now) c.args.progress.now) _ _ _ _ _ _ _ _ goes.stand c.if-not-branch.false goes.taken filled.within;
+      within = within_reached (stand (g.R.Told.telling c.args.reader.now) c.args.progress.now) _ _ _ _ _ _ _ _ goes.stand
+          c.if-not-branch.false goes.taken filled.within;
       pays = λ far some. omega (arith, goes.taken, filled.taken);
       since = filled.since ∙ goes.since;
       keeps = keeps_both goes.keeps filled.keeps;

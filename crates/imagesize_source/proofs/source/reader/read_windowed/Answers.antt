@@ -12,7 +12,8 @@ returns-in_err-count-clause-runs g c = λ home.
     straight_stopped {now = c.read_from.new.progress.place} _ (named c.read_from.new.progress c.from_residual.result) (record {
       told = told_by (g.R.Told.count c.args.reader.now) home (g.R.Told.telling c.args.reader.now) c.args.progress.now;
       told_after = told_by (g.R.Told.count c.read_from.new.reader) home (g.R.Told.telling c.read_from.new.reader) c.read_from.new.progress;
-      frame = same_frame (g.R.Told.count c.args.reader.now) (g.R.Told.count c.read_from.new.reader) home c.args.progress.now c.read_from.new.progress read.keeps read.since;
+      frame = same_frame (g.R.Told.count c.args.reader.now) (g.R.Told.count c.read_from.new.reader) home c.args.progress.now
+          c.read_from.new.progress read.keeps read.since;
       window = refl;
       count = omega (arith, c.len.ensures.value);
       kept = refl;
@@ -32,7 +33,8 @@ returns-clause-runs g c = λ home.
       told = told_by (g.R.Told.count c.args.reader.now) home (g.R.Told.telling c.args.reader.now) c.args.progress.now;
       told_after = told_by (g.R.Told.count c.read_from.new.reader) home (g.R.Told.telling c.read_from.new.reader) c.read_from.new.progress;
       counts = refl;
-      frame = same_frame (g.R.Told.count c.args.reader.now) (g.R.Told.count c.read_from.new.reader) home c.args.progress.now c.read_from.new.progress read.keeps read.since;
+      frame = same_frame (g.R.Told.count c.args.reader.now) (g.R.Told.count c.read_from.new.reader) home c.args.progress.now
+          c.read_from.new.progress read.keeps read.since;
       small = omega (arith, c.len.ensures.value, c.len.ensures.fits);
       count = omega (arith, c.len.ensures.value);
       front = none_in c.args.window.now.items c.read_from.new.room c.args.place _ (omega (arith, c.len.ensures.value));

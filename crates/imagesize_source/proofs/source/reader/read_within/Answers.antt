@@ -19,8 +19,10 @@ returns-in_err-count-clause-runs g c = λ home.
     let is : ◌≡◌ {A = Result ℕ Halt} c.from_residual.result (Err c.in_err-count.field-0.0) = search rules in
     behind_stopped _ (named c.read_across.new.progress c.from_residual.result) (record {
       told = told_by (g.R.Told.count c.args.reader.now) home (g.R.Told.telling c.args.reader.now) c.args.progress.now;
-      told_after = told_by (g.R.Told.count c.read_across.new.reader) home (g.R.Told.telling c.read_across.new.reader) c.read_across.new.progress;
-      frame = same_frame (g.R.Told.count c.args.reader.now) (g.R.Told.count c.read_across.new.reader) home c.args.progress.now c.read_across.new.progress read.keeps read.since;
+      told_after = told_by (g.R.Told.count c.read_across.new.reader) home (g.R.Told.telling c.read_across.new.reader)
+          c.read_across.new.progress;
+      frame = same_frame (g.R.Told.count c.args.reader.now) (g.R.Told.count c.read_across.new.reader) home c.args.progress.now
+          c.read_across.new.progress read.keeps read.since;
       window = refl;
       count = copy.ensures.count;
       kept = copy.auto.room;
@@ -38,9 +40,11 @@ returns-clause-runs g c = λ home.
     let read = c.in_ok-count.ensures in
     behind_window (record {
       told = told_by (g.R.Told.count c.args.reader.now) home (g.R.Told.telling c.args.reader.now) c.args.progress.now;
-      told_after = told_by (g.R.Told.count c.read_across.new.reader) home (g.R.Told.telling c.read_across.new.reader) c.read_across.new.progress;
+      told_after = told_by (g.R.Told.count c.read_across.new.reader) home (g.R.Told.telling c.read_across.new.reader)
+          c.read_across.new.progress;
       counts = refl;
-      frame = same_frame (g.R.Told.count c.args.reader.now) (g.R.Told.count c.read_across.new.reader) home c.args.progress.now c.read_across.new.progress read.keeps read.since;
+      frame = same_frame (g.R.Told.count c.args.reader.now) (g.R.Told.count c.read_across.new.reader) home c.args.progress.now
+          c.read_across.new.progress read.keeps read.since;
       small = copy.ensures.small;
       count = copy.ensures.count;
       front = copy.ensures.copied;
@@ -50,6 +54,8 @@ returns-clause-runs g c = λ home.
       enough = read.bound;
       long = search rules;
       took = read.taken;
-      window = c.keep.ensures ∙ ap (kept_window c.args.window.now.items (c.args.place + copy.result)) (put_there copy.new.room c.read_across.new.room copy.result c.in_ok-count.count (omega (arith, copy.ensures.count, copy.auto.room)) read.bound);
+      window = c.keep.ensures ∙ ap (kept_window c.args.window.now.items (c.args.place + copy.result))
+          (put_there copy.new.room c.read_across.new.room copy.result c.in_ok-count.count
+          (omega (arith, copy.ensures.count, copy.auto.room)) read.bound);
       within = read.within;
     })

@@ -5,4 +5,6 @@ use Rattle.imagesize_source.proofs.told.CursorRefSliceU8Told.read_told.Goals as 
 pub returns-clause-told : goal.returns-clause-told
 returns-clause-told c =
     let copy = c.copy_part-count in
-    read_cursor _ _ _ _ _ _ _ _ _ (ap (λ b. b.now) c.get_ref-bytes.ensures) c.position-place.ensures (ap (λ b. b.now) c.set_position.ensures.inner) c.set_position.ensures.position copy.ensures.count copy.ensures.copied copy.auto.room
+    read_cursor _ _ _ _ _ _ _ _ _ (ap (λ b. b.now) c.get_ref-bytes.ensures) c.position-place.ensures
+        (ap (λ b. b.now) c.set_position.ensures.inner) c.set_position.ensures.position copy.ensures.count copy.ensures.copied
+        copy.auto.room

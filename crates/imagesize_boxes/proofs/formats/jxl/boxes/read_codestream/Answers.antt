@@ -12,10 +12,13 @@ returns-in_err-bytes g c =
     search (rules, h)
 
 pub returns-in-Whole : goal.returns-in-Whole
-returns-in-Whole g c = walk_stop c.loop-bytes.place c.loop-bytes.codestream.items _ c.loop-bytes.invariant.walks (rw c.in-Whole.is at c.in_ok-bytes.ensures.runs)
+returns-in-Whole g c = walk_stop c.loop-bytes.place c.loop-bytes.codestream.items _ c.loop-bytes.invariant.walks
+    (rw c.in-Whole.is at c.in_ok-bytes.ensures.runs)
 
 pub loop-bytes-preserved : goal.loop-bytes-preserved
 loop-bytes-preserved g c =
-    let on = walk_on c.loop-bytes.place c.in-Passed.next c.loop-bytes.codestream.items c.in-Passed.piece.items c.loop-bytes.invariant.walks (rw c.in-Passed.is at c.in_ok-bytes.ensures.runs) in
+    let on = walk_on c.loop-bytes.place c.in-Passed.next c.loop-bytes.codestream.items c.in-Passed.piece.items
+        c.loop-bytes.invariant.walks (rw c.in-Passed.is at c.in_ok-bytes.ensures.runs) in
     let fits = rw c.in-Passed.is at c.in_ok-bytes.ensures.fits in
-    rw c.append.ensures (record { walks = on; few = omega (arith, fits, length-append c.loop-bytes.codestream.items c.in-Passed.piece.items) })
+    rw c.append.ensures (record { walks = on; few =
+        omega (arith, fits, length-append c.loop-bytes.codestream.items c.in-Passed.piece.items) })
