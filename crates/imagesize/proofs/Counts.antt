@@ -29,8 +29,13 @@ cost_within d place = onward_within (kind_of d place).marks (kind_of d place).an
 onward_stated : (spans : List Span) (r : Result ImageType ImageError) (d : List ℕ) → total spans ≤ bound_of kind_cost 37 r
     → total (onward spans r (λ found. size_of found d)).marks ≤ stated_as r d
 onward_stated spans (Ok type) d few =
-    omega (arith, total-append spans (size_of type d).marks, few, cost_way (kind_cost type) (lasts type) (way_of type) (kind_few type)
-        (laws_of type) d)
+    omega (
+      arith,
+      total-append spans (size_of type d).marks,
+      few,
+      cost_way (kind_cost type) (lasts type) (way_of type) (kind_few type)
+          (laws_of type) d,
+    )
 onward_stated spans (Err e) d few = omega (arith, few)
 
 -- and from at most the bytes that are stated

@@ -138,8 +138,11 @@ pub kind_more : (d x : List ℕ) (place : ℕ) (type : ImageType) → (kind_of d
     → (after : ImageType) × ((kind_of (d ++ x) place).answer ≡ Ok after) × Alike type after
 kind_more d x place type is stays =
     let head = onward_ok (span_of d place 12) (bytes_at d place 12) (λ bs. over d (kind_by (length d) place bs (first_row rows bs))) type
-        is in
+    is in
     let there : bytes_at (d ++ x) place 12 ≡ Ok head.0 = bytes_more d x place 12 (bytes_ok d head.0 place 12 head.1) ∙ head.1 in
-    let after = by_more d x place head.0 (first_row rows head.0) type head.2 stays in
-    (after.0, ap (λ r. (onward (span_of (d ++ x) place 12) r
-        (λ bs. over (d ++ x) (kind_by (length (d ++ x)) place bs (first_row rows bs)))).answer) there ∙ after.1, after.2)
+    let after = by_more d x place head.0 (first_row rows head.0) type head.2 stays in (
+      after.0,
+      ap (λ r. (onward (span_of (d ++ x) place 12) r
+          (λ bs. over (d ++ x) (kind_by (length (d ++ x)) place bs (first_row rows bs)))).answer) there ∙ after.1,
+      after.2,
+    )

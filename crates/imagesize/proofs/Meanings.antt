@@ -53,10 +53,10 @@ found_kind : (t : Telling) (mid : Option Telling) (count : Option ℕ) (home tol
     → found ≡ result_ok (kind_of t.bytes t.place).answer)
 found_kind t mid count home told place a found r honest began start finds =
     let held : a.held ≡ claim t = ap (λ s. s.held) (start ∙ start_of t mid count home told place began) ∙ start_holds t count home honest
-        in
+    in
     let is_honest : a.held.honest ≡ true = ap (λ h. h.honest) held in
     let same : kind_of a.held.input place ≡ kind_of t.bytes t.place = ap (λ h. kind_of h.input place) held ∙ ap (kind_of t.bytes)
-        began.at in (
+    began.at in (
       subst (λ reads. IfSome found (λ type. reads.answer ≡ Ok type)) same (finds.right is_honest),
       λ goes_on. finds.whole is_honest goes_on ∙ ap (λ reads. result_ok reads.answer) same,
     )
@@ -72,7 +72,7 @@ probes_opened (Some t) mid count home opened a b probed start opens h finds took
     let runs = subst (λ s. Runs s b probed.answer (meaning s.held.input opened.place)) start h in
     let kinds = found_kind t mid count home opened.told opened.place a probed.kind probed.answer honest began start finds in
     let takes = subst (λ n. TakesAs t (meaning t.bytes t.place) probed.answer n) (sym took)
-        (opened_takes (Some t) mid count home opened b probed.answer meaning opens runs honest) in
+    (opened_takes (Some t) mid count home opened b probed.answer meaning opens runs honest) in
     let most : probed.taken ≤ cost t.bytes t.place = takes.most in
     record {
       answer = opened_answers (Some t) mid count home opened b probed.answer meaning bounded_meaning opens runs honest;

@@ -18,7 +18,7 @@ pub masked : (n count : ℕ) → count ≤ 30 → bit_and (n % 2 ^ 64) (1 * 2 ^ 
 masked n count few =
     let all : (64 - count) + count ≡ 64 = omega arith in
     rw (one_shl count 64 (omega arith)) (and_mask (n % 2 ^ 64) count ∙ ap (λ e. n % 2 ^ e % 2 ^ count) (sym all) ∙ mod-mod-pow n
-        (64 - count) count)
+    (64 - count) count)
 
 pub little_16 : (bs : List ℕ) → length bs ≡ 16 → from_le_bytes w128 bs ≡ number Little bs
 unfolding number
@@ -64,7 +64,7 @@ pub found-after : {X Y : Type 0} (field : ℕ → ℕ → Result ℕ ImageError)
 found-after field (found x) g = refl
 found-after field (bits from count f) g =
     alike (field from count) (λ n. found_by field (after (f n) g)) (λ n. with_found (found_by field (f n)) (λ x. found_by field (g x)))
-        (λ n. found-after field (f n) g)
+    (λ n. found-after field (f n) g)
     ∙ found_twice (field from count) (λ n. found_by field (f n)) (λ x. found_by field (g x))
 
 pub ruleset fields = (found-after)
@@ -148,7 +148,7 @@ field_more list more from count n is =
     let after : leb (from + count) (length (list ++ more)) ≡ true = grind (arith, nat_tests) in
     let rest = length-drop from list in
     let same : take count (drop from (list ++ more)) ≡ take count (drop from list) =
-        ap (take count) (drop-append-le from list more (omega arith)) ∙ take-append-le count (drop from list) more (omega arith) in
+    ap (take count) (drop-append-le from list more (omega arith)) ∙ take-append-le count (drop from list) more (omega arith) in
     rw (after, same) (ap (λ b. cond b (Ok (binary (take count (drop from list)))) (Err CorruptedImage)) (sym test) ∙ is)
 
 found_on : {X : Type 0} (r : Result ℕ ImageError) (other : Result ℕ ImageError) (f g : ℕ → Result X ImageError) (v : X)
@@ -162,7 +162,7 @@ pub found_more : {X : Type 0} (list more : List ℕ) (t : Fields X) (v : X) → 
 found_more list more (found x) v is = is
 found_more list more (bits from count f) v is =
     found_on (field_at list from count) (field_at (list ++ more) from count) (λ n. found_by (field_at list) (f n))
-        (λ n. found_by (field_at (list ++ more)) (f n)) v
+    (λ n. found_by (field_at (list ++ more)) (f n)) v
     (λ n at. field_more list more from count n at) (λ n at. found_more list more (f n) v at) is
 
 -- bytes that were put in front are taken from there
@@ -202,7 +202,7 @@ field_lowest n there from count = by_test (leb (from + count) there) refl where
       let within : from + count ≤ there = grind (arith, nat_tests) in
       let all : (there - (from + count)) + count + from ≡ there = omega arith in
       let same : n % 2 ^ there / 2 ^ from % 2 ^ count ≡ n / 2 ^ from % 2 ^ count = ap (λ e. n % 2 ^ e / 2 ^ from % 2 ^ count) (sym all)
-          ∙ lowest_alike n from count (there - (from + count)) in
+      ∙ lowest_alike n from count (there - (from + count)) in
       rw (is, same) refl
   by_test false is = rw is refl
 

@@ -54,9 +54,9 @@ pub big_four : (bs : List ℕ) (i : ℕ) → i + 4 ≤ length bs → from_be_byt
     ∷ slice_index_or bs (i + 2) 0 ∷ slice_index_or bs (i + 3) 0 ∷ []) ≡ number Big (four_at i bs)
 big_four bs i h =
     let none : slice_index_or bs i 0 ≡ slice_index_or (drop i bs) 0 0 = ap (λ n. slice_index_or bs n 0) (sym (add-zero i))
-        ∙ sym (get_or-drop i bs 0 0) in
+    ∙ sym (get_or-drop i bs 0 0) in
     rw (← get_or-drop i bs 1 0, ← get_or-drop i bs 2 0, ← get_or-drop i bs 3 0, none)
-        (first_four (drop i bs) (omega (arith, length-drop i bs)))
+    (first_four (drop i bs) (omega (arith, length-drop i bs)))
 
 -- what holds of each box of a search
 by_searched : (P : Layout (Said (Unit {0}) FoundBox) → Type 0) (tag : List ℕ) (place : ℕ) (head : List ℕ)
@@ -65,7 +65,7 @@ by_searched : (P : Layout (Said (Unit {0}) FoundBox) → Type 0) (tag : List ℕ
 by_searched P tag place head found small next =
     on_test P (is_named tag head) (done (Decided (record { place = place; size = box_size head }))) _ (λ _. found)
     (λ _. on_test P (nat_lt (box_size head) 8) (refuse (IoError (InvalidHeifBoxSize (box_size head))))
-        (done (Next tt (place + box_size head))) (λ _. small) (λ no. next (grind (arith, nat_tests))))
+    (done (Next tt (place + box_size head))) (λ _. small) (λ no. next (grind (arith, nat_tests))))
 
 search_advances : (tag : List ℕ) (first : ℕ) (d : List ℕ) → Advances (search_for tag first) d
 search_advances tag first = advances (search_for tag first)
@@ -105,7 +105,7 @@ search_beyond : (tag : List ℕ) (d : List ℕ) (place : ℕ) → length d ≤ p
 search_beyond tag d place far =
     let none = bytes_beyond d place 8 (λ head. box_searched tag place head) far (omega arith) in
     chain_stop (search_for tag place) d (start (search_for tag place)) (Err end_of_input) (ap (λ r. verdict r.answer) none)
-        ∙ ap (λ r. record { answer = Err end_of_input; marks = r.marks }) none
+    ∙ ap (λ r. record { answer = Err end_of_input; marks = r.marks }) none
 
 pub search_saturated : {a b : State} {r : Result FoundBox ImageError} (tag : List ℕ) (place : ℕ)
     → Runs a b r (chain_at (search_for tag (min place (2 ^ 64 - 1))) a.held.input)
@@ -122,11 +122,11 @@ by_named P left place head end bad extents rotation skipped =
     on_test P (nat_lt (box_size head) 8) (cond (is_named (codes "mdat") head) (done None) (refuse CorruptedImage)) _
     (λ _. on_test P (is_named (codes "mdat") head) (done None) (refuse CorruptedImage) (λ _. end) (λ _. bad))
     (λ big. on_test P (is_named (codes "ispe") head) (bytes (place + 8) 12 (λ content. done (Some (Extents (extents_size content))))) _
-        (λ _. extents)
+    (λ _. extents)
     (λ _. on_test P (is_named (codes "irot") head) (bytes (place + 8) 1 (λ content. done (Some (Rotation (slice_index content 0))))) _
-        (λ _. rotation)
+    (λ _. rotation)
     (λ _. on_test P (nat_le left (box_size head)) (done None) (done (Some (Skipped (box_size head)))) (λ _. end)
-        (λ _. skipped (grind (arith, nat_tests))))))
+    (λ _. skipped (grind (arith, nat_tests))))))
 
 by_found : (P : Layout (Option Property) → Type 0) (left place : ℕ) (found : Option (List ℕ)) → P (done None) → P (refuse CorruptedImage)
     → P (bytes (place + 8) 12 (λ content. done (Some (Extents (extents_size content)))))
@@ -152,15 +152,18 @@ by_listed : (P : Layout (Said Property ImageSize) → Type 0) (held : List Prope
 by_listed P held left place found refused decided extents rotation skipped =
     by_found (λ t. P (bind t (listed held place))) left place found
     (by_answer P (largest_extents (flat_map extents_of held)) (last_or None (flat_map rotations_of held))
-        (refused (IoError NotEnoughData)) decided)
+    (refused (IoError NotEnoughData)) decided)
     (refused CorruptedImage) extents rotation skipped
 
 properties_advance : (all first : ℕ) (d : List ℕ) → Advances (properties all first) d
 properties_advance all first = advances (properties all first)
     (λ held place bs. by_listed (Tells (λ p. place < p)) held (all - sum_by skipped_bytes held) place (whole 8 bs) (λ e. tt) (λ size. tt)
-        (λ content. omega arith) (λ content. omega arith) (λ size big. omega arith))
-    (λ held place. (omega arith, by_answer (Tells (λ _. ⊥)) (largest_extents (flat_map extents_of held))
-        (last_or None (flat_map rotations_of held)) tt (λ size. tt)))
+    (λ content. omega arith) (λ content. omega arith) (λ size big. omega arith))
+    (λ held place. (
+      omega arith,
+      by_answer (Tells (λ _. ⊥)) (largest_extents (flat_map extents_of held))
+          (last_or None (flat_map rotations_of held)) tt (λ size. tt),
+    ))
 
 -- These are the largest extents, of several the first.
 pub record Largest (best : Option ImageSize) (sizes : List ImageSize) : Type 0 where
@@ -217,11 +220,11 @@ largest_by best sizes size true test h =
     let some : eqb (area_of size) 0 ≡ false = grind (arith, nat_tests) in
     let found : find (λ s. eqb (area_of s) (area_of size)) (sizes ++ size ∷ []) ≡ Some size =
     find-append (λ s. eqb (area_of s) (area_of size)) sizes (size ∷ [])
-        ∙ ap (λ o. option_or o (find (λ s. eqb (area_of s) (area_of size)) (size ∷ []))) (none_above 0 (area_of size) sizes more)
-        ∙ ap (λ b. cond b (Some size) None) here in
+    ∙ ap (λ o. option_or o (find (λ s. eqb (area_of s) (area_of size)) (size ∷ []))) (none_above 0 (area_of size) sizes more)
+    ∙ ap (λ b. cond b (Some size) None) here in
     let first : first_largest (sizes ++ size ∷ []) ≡ size = ap (λ n. first_of n (sizes ++ size ∷ [])) now
-        ∙ ap (λ b. cond b no_pixels (unwrap_or (find (λ s. eqb (area_of s) (area_of size)) (sizes ++ size ∷ [])) no_pixels)) some
-        ∙ ap (λ o. unwrap_or o no_pixels) found in
+    ∙ ap (λ b. cond b no_pixels (unwrap_or (find (λ s. eqb (area_of s) (area_of size)) (sizes ++ size ∷ [])) no_pixels)) some
+    ∙ ap (λ o. unwrap_or o no_pixels) found in
     record {
       is = largest_some sizes size ∙ ap Some first;
       first = first;
@@ -235,11 +238,11 @@ largest_by best sizes size false test h =
     let now : greatest_area (sizes ++ size ∷ []) ≡ greatest_area sizes = omega arith in
     let p : ImageSize → Bool = λ s. eqb (area_of s) (greatest_area sizes) in
     let found : 0 < greatest_area sizes → find p (sizes ++ size ∷ []) ≡ find p sizes = λ some. find-append p sizes (size ∷ []) ∙ or_first
-        (find p sizes) (find p (size ∷ [])) (h.found some) in
+    (find p sizes) (find p (size ∷ [])) (h.found some) in
     let first : first_largest (sizes ++ size ∷ []) ≡ unwrap_or best no_pixels =
     ap (λ n. first_of n (sizes ++ size ∷ [])) now
     ∙ same_unless (eqb (greatest_area sizes) 0) no_pixels (unwrap_or (find p (sizes ++ size ∷ [])) no_pixels)
-        (unwrap_or (find p sizes) no_pixels) (λ some. ap (λ o. unwrap_or o no_pixels) (found (grind (arith, nat_tests))))
+    (unwrap_or (find p sizes) no_pixels) (λ some. ap (λ o. unwrap_or o no_pixels) (found (grind (arith, nat_tests))))
     ∙ h.first in
     record {
       is = largest_some sizes size ∙ ap Some first;
@@ -289,8 +292,12 @@ ListWalks all first a b place g = Walks (properties all first) (Amounts all g) a
 
 pub list_start : (all first : ℕ) (a : State) → ListWalks all first a a first (record { left = all; best = None; turn = None })
 list_start all first a = walks_start (properties all first) (Amounts all (record { left = all; best = None; turn = None })) a
-    (record { left = omega arith; best = record { is = refl; first = refl; area = refl; found = λ some. absurd (omega arith) }; turn =
-        refl })
+    (record {
+      left = omega arith;
+      best = record { is = refl; first = refl; area = refl; found = λ some. absurd (omega arith) };
+      turn =
+          refl;
+    })
 
 list_said : {b end : State} {r : Result (Said Property ImageSize) ImageError} (all : ℕ) (g : Gathered) (place : ℕ) (held : List Property)
     → Amounts all g held → Runs b end r (over b.held.input (bind (property_at g.left place) (listed held place)))
@@ -303,9 +310,9 @@ pub list_on : {a b end : State} (all first place : ℕ) (g : Gathered) (property
     (place + property_bytes property) (gathered_with g property)
 list_on all first place g property w run =
     walks_on (properties all first) (properties_advance all first) (Amounts all g) w (Amounts all (gathered_with g property)) property
-        (place + property_bytes property)
+    (place + property_bytes property)
     (λ held h. list_said all g place held h (runs_bind (Ok (Next property (place + property_bytes property))) (property_at g.left place)
-        (listed held place) run (λ d. refl) refl tt))
+    (listed held place) run (λ d. refl) refl tt))
     (λ held h. amounts_on all g held property h)
 
 pub list_out : {a b end : State} (all first place : ℕ) (g : Gathered) (e : ImageError) → ListWalks all first a b place g
@@ -329,13 +336,13 @@ list_end_by all first place g None is w run =
     walks_out (properties all first) (properties_advance all first) (Amounts all g) w (IoError NotEnoughData)
     (λ held h. list_said all g place held h
     (runs_bind (Err (IoError NotEnoughData)) (property_at g.left place) (listed held place) run
-        (λ d. answers all g held place d h ∙ ap (λ o. over d (heif_answer o g.turn)) is) refl
-        (record { budget = tt; memory = λ e. absurd cc })))
+    (λ d. answers all g held place d h ∙ ap (λ o. over d (heif_answer o g.turn)) is) refl
+    (record { budget = tt; memory = λ e. absurd cc })))
 list_end_by all first place g (Some size) is w run =
     walks_stop (properties all first) (properties_advance all first) (Amounts all g) w (turned g.turn size)
     (λ held h. list_said all g place held h
     (runs_bind (Ok (Decided (turned g.turn size))) (property_at g.left place) (listed held place) run
-        (λ d. answers all g held place d h ∙ ap (λ o. over d (heif_answer o g.turn)) is) refl tt))
+    (λ d. answers all g held place d h ∙ ap (λ o. over d (heif_answer o g.turn)) is) refl tt))
 
 pub list_end : {a b end : State} (all first place : ℕ) (g : Gathered) → ListWalks all first a b place g
     → Runs b end (Ok None) (over b.held.input (property_at g.left place)) → Runs a end (gathered_answer g)
@@ -369,8 +376,8 @@ ends_beyond all first place g held d far h =
     let says = none_listed d held (all - sum_by skipped_bytes held) place far ∙ answers all g held place d h in
     let is = answer_verdict d g.best g.turn in
     chain_stop (properties all first) d (record { held = held; place = place }) (gathered_answer g)
-        (ap (λ r. verdict r.answer) says ∙ is.0) ∙ ap (λ marks. record { answer = gathered_answer g; marks = marks })
-        (ap (λ r. r.marks) says ∙ is.1)
+    (ap (λ r. verdict r.answer) says ∙ is.0) ∙ ap (λ marks. record { answer = gathered_answer g; marks = marks })
+    (ap (λ r. r.marks) says ∙ is.1)
 
 pub list_past : {a b : State} (all first place : ℕ) (g : Gathered) → first < place → ListWalks all first a b place g → 2 ^ 64 ≤ place
     → Runs a b (gathered_answer g) (chain_at (properties all first) a.held.input)
@@ -384,8 +391,12 @@ pub list_saturated : {a b : State} {r : Result ImageSize ImageError} (all place 
 list_saturated all place h = saturated_by (λ p d. chain_at (properties all p) d)
     (record { answer = Err (IoError NotEnoughData); marks = [] }) place
     (λ d p far. ends_beyond all p p (record { left = all; best = None; turn = None }) [] d far
-    (record { left = omega arith; best = record { is = refl; first = refl; area = refl; found = λ some. absurd (omega arith) }; turn =
-        refl }))
+    (record {
+      left = omega arith;
+      best = record { is = refl; first = refl; area = refl; found = λ some. absurd (omega arith) };
+      turn =
+          refl;
+    }))
     h
 
 -- the compression is read from at most 12 bytes, and is always told
@@ -393,7 +404,7 @@ pub heif_compression_laws : (place : ℕ) (head : List ℕ) → CompressionLaws 
 unfolding heif_compression
 heif_compression_laws place head =
     on_test (CompressionLaws 12) (is_general (four_at 8 head)) _ _ (λ _. record { few = (omega arith, λ _. tt); answers = λ _. tt })
-        (λ _. record { few = tt; answers = tt })
+    (λ _. record { few = tt; answers = tt })
 
 -- what is seen of an input
 local_bytes : (place k : ℕ) → Local (λ d. bytes_read d place k)
@@ -413,14 +424,14 @@ in_meta_local meta = local_then (λ d. bytes_read d (meta.place + 8) 4)
     (λ version d. and_then (chain_at (search_for (codes "iprp") (meta.place + 12)) d) (λ iprp. heif_in_iprp iprp d))
     (local_bytes (meta.place + 8) 4)
     (λ version. local_then (λ d. chain_at (search_for (codes "iprp") (meta.place + 12)) d) heif_in_iprp
-        (local_search (codes "iprp") (meta.place + 12)) in_iprp_local)
+    (local_search (codes "iprp") (meta.place + 12)) in_iprp_local)
 
 pub heif_local : Local heif
 heif_local = local_then (λ d. number_read d Big 0 4) (λ first d. and_then (chain_at (search_for (codes "meta") first) d)
     (λ meta. heif_in_meta meta d))
     (local_number Big 0 4)
     (λ first. local_then (λ d. chain_at (search_for (codes "meta") first) d) heif_in_meta (local_search (codes "meta") first)
-        in_meta_local)
+    in_meta_local)
 
 -- how many bytes the boxes are read from: what an answer leads to, and nothing behind a refusal
 begun_cost : {X Y : Type 0} (spans : List Span) (r : Result X ImageError) (f : X → Reads Y) (n : X → ℕ) (j k : ℕ) → total spans ≤ j
@@ -435,14 +446,17 @@ search_cost tag place d = chain_cost (search_for tag place) d (search_advances t
 
 properties_cost : (all place : ℕ) (d : List ℕ) → total (chain_at (properties all place) d).marks ≤ 20 * records (properties all place) d
 properties_cost all place d = chain_cost (properties all place) d (properties_advance all place d) 20
-    (λ held q. (omega arith, λ bs. by_listed (AtMost 12) held (all - sum_by skipped_bytes held) q (whole 8 bs) (λ e. tt) (λ size. tt)
-        (omega arith, λ content. tt) (omega arith, λ content. tt) (λ size big. tt)))
+    (λ held q. (
+      omega arith,
+      λ bs. by_listed (AtMost 12) held (all - sum_by skipped_bytes held) q (whole 8 bs) (λ e. tt) (λ size. tt)
+          (omega arith, λ content. tt) (omega arith, λ content. tt) (λ size big. tt),
+    ))
 
 in_iprp_cost : (iprp : FoundBox) (d : List ℕ) → total (heif_in_iprp iprp d).marks ≤ 20 * boxes_in_iprp iprp d
 in_iprp_cost iprp d =
     let reads = chain_at (search_for (codes "ipco") (iprp.place + 8)) d in
     let all = begun_cost reads.marks reads.answer (λ ipco. chain_at (properties ipco.size (ipco.place + 8)) d)
-        (λ ipco. records (properties ipco.size (ipco.place + 8)) d) _ 0
+    (λ ipco. records (properties ipco.size (ipco.place + 8)) d) _ 0
     (search_cost (codes "ipco") (iprp.place + 8) d) (λ ipco. omega (arith, properties_cost ipco.size (ipco.place + 8) d)) in
     omega arith
 
@@ -450,7 +464,7 @@ in_meta_cost : (meta : FoundBox) (d : List ℕ) → total (heif_in_meta meta d).
 in_meta_cost meta d =
     let reads = chain_at (search_for (codes "iprp") (meta.place + 12)) d in
     let rest : total (and_then reads (λ iprp. heif_in_iprp iprp d)).marks ≤ 20 * (records (search_for (codes "iprp") (meta.place + 12)) d
-        + begun reads.answer (λ iprp. boxes_in_iprp iprp d)) =
+    + begun reads.answer (λ iprp. boxes_in_iprp iprp d)) =
     omega (
       arith,
       begun_cost reads.marks reads.answer (λ iprp. heif_in_iprp iprp d) (λ iprp. boxes_in_iprp iprp d) _ 0
@@ -467,8 +481,8 @@ in_meta_cost meta d =
 pub heif_cost : (d : List ℕ) → total (heif d).marks ≤ 8 + 20 * heif_boxes d
 heif_cost d =
     let rest : (first : ℕ) → total (and_then (chain_at (search_for (codes "meta") first) d) (λ meta. heif_in_meta meta d)).marks ≤ 4
-        + 20 * (records (search_for (codes "meta") first) d + begun (chain_at (search_for (codes "meta") first) d).answer
-        (λ meta. boxes_in_meta meta d)) =
+    + 20 * (records (search_for (codes "meta") first) d + begun (chain_at (search_for (codes "meta") first) d).answer
+    (λ meta. boxes_in_meta meta d)) =
     λ first. let reads = chain_at (search_for (codes "meta") first) d in
     omega (
       arith,
@@ -497,8 +511,11 @@ ends size = None
 
 properties_spend : (all place : ℕ) (d : List ℕ) → Spends (length d) place ends (chain_at (properties all place) d)
 properties_spend all place d = chain_onto (properties all place) d ends (properties_advance all place d)
-    (λ held q. (omega arith, λ bs. by_listed (Onto (said_to ends) (q + 8)) held (all - sum_by skipped_bytes held) q (whole 8 bs)
-        (λ e. tt) (λ size. tt) (omega arith, λ content. omega arith) (omega arith, λ content. omega arith) (λ size big. omega arith)))
+    (λ held q. (
+      omega arith,
+      λ bs. by_listed (Onto (said_to ends) (q + 8)) held (all - sum_by skipped_bytes held) q (whole 8 bs)
+          (λ e. tt) (λ size. tt) (omega arith, λ content. omega arith) (omega arith, λ content. omega arith) (λ size big. omega arith),
+    ))
 
 version_spends : (d : List ℕ) (place : ℕ) (r : Result (List ℕ) ImageError) → total (span_of d place 4) + left (length d)
     (λ _. Some (place + 4)) r ≤ length d - place
@@ -515,8 +532,8 @@ in_meta_spends meta d = spends_then (length d) (meta.place + 8) (λ version. met
     (λ version. and_then (chain_at (search_for (codes "iprp") (meta.place + 12)) d) (λ iprp. heif_in_iprp iprp d))
     (version_spends d (meta.place + 8) (bytes_at d (meta.place + 8) 4))
     (λ version _. let here : meta.place + 8 + 4 ≡ meta.place + 12 = omega arith in
-        rw here (spends_then (length d) (meta.place + 12) (λ iprp. iprp.place + 8) ends
-        (chain_at (search_for (codes "iprp") (meta.place + 12)) d) (λ iprp. heif_in_iprp iprp d)
+    rw here (spends_then (length d) (meta.place + 12) (λ iprp. iprp.place + 8) ends
+    (chain_at (search_for (codes "iprp") (meta.place + 12)) d) (λ iprp. heif_in_iprp iprp d)
     (search_spends (codes "iprp") (meta.place + 12) d) (λ iprp _. in_iprp_spends iprp d)))
 
 -- the boxes are read from at most 4 bytes more than the input has: the first four may be read twice

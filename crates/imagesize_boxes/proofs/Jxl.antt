@@ -44,16 +44,19 @@ content_ahead q held place head before sized =
     let End : ℕ → Said (List ℕ) (List ℕ) → Type 0 = λ p s. Ahead p (done s) in
     by_content (Ahead q) held place head
     (by_piece (Ahead q) (place + head.length) (min 16 (box_room head)) (λ front. done (Decided front)) (λ _. tt)
-        (λ _. (before, λ front. tt)))
+    (λ _. (before, λ front. tt)))
     tt
     (λ enough. (
       before,
       λ index. by_piece (Ahead (place + head.length + 4)) (place + (head.length + 4)) (min (box_room head - 4) (16 - length held))
           (λ piece. done (partial_said held place head index piece))
           (λ _. by_partial (End (place + head.length + 4)) held place head index [] tt (λ closed. let is = box_sized head closed in
-              let fits = sized closed in omega arith))
-          (λ some. (omega arith, λ piece. by_partial (End (place + (head.length + 4) + min (box_room head - 4) (16 - length held))) held
-              place head index piece tt (λ closed. let is = box_sized head closed in let fits = sized closed in omega arith))),
+          let fits = sized closed in omega arith))
+          (λ some. (
+            omega arith,
+            λ piece. by_partial (End (place + (head.length + 4) + min (box_room head - 4) (16 - length held))) held
+                place head index piece tt (λ closed. let is = box_sized head closed in let fits = sized closed in omega arith),
+          )),
     ))
     (by_end (End q) held place head [] tt (λ closed. let fits = sized closed in omega arith))
 
@@ -66,17 +69,20 @@ box_ahead held place = (
     λ size. by_checked (Ahead (place + 8 + 8)) place (record { tag = drop 4 front; size = size; length = 16 }) (box_content held place)
         (λ e. tt)
         (λ _ sized. content_ahead (place + 8 + 8) held place (record { tag = drop 4 front; size = size; length = 16 }) (omega arith)
-            sized),
+        sized),
   )
       (by_checked (Ahead (place + 8)) place (record { tag = drop 4 front; size = number Big (take 4 front); length = 8 })
-          (box_content held place) (λ e. tt)
+      (box_content held place) (λ e. tt)
       (λ _ sized. content_ahead (place + 8) held place (record { tag = drop 4 front; size = number Big (take 4 front); length = 8 })
-          (omega arith) sized)),
+      (omega arith) sized)),
 )
 
 start_few : AtMost 16 jxl_start
-start_few = (omega arith, λ front. on_test (AtMost 14) (has_signature front) (there 2 14 (λ more. done (Some (front ++ more))))
-    (done None) (λ _. (omega arith, λ more. tt)) (λ _. tt))
+start_few = (
+  omega arith,
+  λ front. on_test (AtMost 14) (has_signature front) (there 2 14 (λ more. done (Some (front ++ more))))
+      (done None) (λ _. (omega arith, λ more. tt)) (λ _. tt),
+)
 
 -- the codestream is read from at most 16 bytes more than the input has
 pub jxl_within : (d : List ℕ) → total (jxl d).marks ≤ length d + 16
@@ -84,7 +90,7 @@ jxl_within d =
     let boxes = chain_ahead jxl_chain d (jxl_advances d) (λ pieces place. box_ahead (concat pieces) place) in
     let found = then_within (over d jxl_start) (codestream d) 16 (length d) (at_most d 16 jxl_start start_few) (λ o _. by_start o boxes) in
     let all = then_within (jxl_codestream d) (λ front. record { answer = jxl_size front; marks = [] }) (16 + length d) 0 found
-        (λ front _. omega arith) in
+    (λ front _. omega arith) in
     omega arith where
       by_start : (o : Option (List ℕ)) → total (chain_at jxl_chain d).marks ≤ length d - 12 → total (codestream d o).marks ≤ length d
       by_start None boxes = omega arith
@@ -95,7 +101,7 @@ content_few : (held : List ℕ) (place : ℕ) (head : BoxHead) → AtMost 20 (bo
 content_few held place head =
     by_content (AtMost 20) held place head
     (by_piece (AtMost 20) (place + head.length) (min 16 (box_room head)) (λ front. done (Decided front)) (λ _. tt)
-        (λ _. (omega arith, λ front. tt)))
+    (λ _. (omega arith, λ front. tt)))
     tt
     (λ _. (
       omega arith,
@@ -109,13 +115,15 @@ box_few : (held : List ℕ) (place : ℕ) → AtMost 36 (jxl_box held place)
 unfolding box_head
 box_few held place = (
   omega arith,
-  λ front. by_head (AtMost 28) place front (box_content held place)
-      (omega arith, λ size. by_checked (AtMost 20) place (record { tag = drop 4 front; size = size; length = 16 })
-          (box_content held place) (λ e. tt) (λ _ _. content_few held place (record { tag = drop 4 front; size = size; length = 16 })))
+  λ front. by_head (AtMost 28) place front (box_content held place) (
+    omega arith,
+    λ size. by_checked (AtMost 20) place (record { tag = drop 4 front; size = size; length = 16 })
+        (box_content held place) (λ e. tt) (λ _ _. content_few held place (record { tag = drop 4 front; size = size; length = 16 })),
+  )
       (by_checked (AtMost 28) place (record { tag = drop 4 front; size = number Big (take 4 front); length = 8 })
-          (box_content held place) (λ e. tt)
+      (box_content held place) (λ e. tt)
       (λ _ _. at_most_more 20 28 (box_content held place (record { tag = drop 4 front; size = number Big (take 4 front); length = 8 }))
-          (omega arith) (content_few held place (record { tag = drop 4 front; size = number Big (take 4 front); length = 8 })))),
+      (omega arith) (content_few held place (record { tag = drop 4 front; size = number Big (take 4 front); length = 8 })))),
 )
 
 -- Behind u bytes: where it leads to a next box, it has read at most 20 bytes and its piece, for which there is room.
@@ -158,20 +166,20 @@ module _ (d : List ℕ) where
       let P : Says → Type 0 = λ t. Lean u held (over d t) in
       by_content P held place head
       (by_piece P (place + head.length) (min 16 (box_room head)) (λ front. done (Decided front)) (λ _ piece next is. absurd cc)
-          (λ _ piece next is. absurd cc))
+      (λ _ piece next is. absurd cc))
       (λ piece next is. absurd cc)
       (λ _. lean_onward u 4 held (span_of d (place + head.length) 4) (bytes_at d (place + head.length) 4) _
-          (total-span_of d (place + head.length) 4)
+      (total-span_of d (place + head.length) 4)
       (λ index. by_piece (λ t. Lean (u + 4) held (over d t)) (place + (head.length + 4)) (min (box_room head - 4) (16 - length held))
-          (λ piece. done (partial_said held place head index piece))
+      (λ piece. done (partial_said held place head index piece))
       (λ _. lean_said (u + 4) held [] (partial_said held place head index []) [] (λ found next is. partial_piece held place head index []
-          found next is) (omega arith) (omega arith) (omega arith))
+      found next is) (omega arith) (omega arith) (omega arith))
       (λ _. let q : ℕ = place + (head.length + 4) in let k : ℕ = min (box_room head - 4) (16 - length held) in
       let few_of = total-span_of d q k in let seen = total_behind d q k in let long = part_length d q k in
       lean_said (u + 4) held (span_of d q k) (partial_said held place head index (part d q k)) (part d q k)
-          (λ found next is. partial_piece held place head index (part d q k) found next is) (omega arith) (omega arith) (omega arith))))
+      (λ found next is. partial_piece held place head index (part d q k) found next is) (omega arith) (omega arith) (omega arith))))
       (lean_said u held [] (said_behind held place head []) [] (λ found next is. end_piece held place head [] found next is)
-          (omega arith) (omega arith) (omega arith))
+      (omega arith) (omega arith) (omega arith))
 
   box_lean : (held : List ℕ) (place : ℕ) → Lean 0 held (over d (jxl_box held place))
   unfolding box_head Lean
@@ -180,10 +188,10 @@ module _ (d : List ℕ) where
       (λ front. by_head (λ t. Lean 8 held (over d t)) place front (box_content held place)
       (lean_onward 8 8 held (span_of d (place + 8) 8) (number_at d Big (place + 8) 8) _ (total-span_of d (place + 8) 8)
       (λ size. by_checked (λ t. Lean 16 held (over d t)) place (record { tag = drop 4 front; size = size; length = 16 })
-          (box_content held place) (λ e piece next is. absurd cc)
+      (box_content held place) (λ e piece next is. absurd cc)
       (λ _ _. content_lean 16 held place (record { tag = drop 4 front; size = size; length = 16 }) (omega arith))))
       (by_checked (λ t. Lean 8 held (over d t)) place (record { tag = drop 4 front; size = number Big (take 4 front); length = 8 })
-          (box_content held place) (λ e piece next is. absurd cc)
+      (box_content held place) (λ e piece next is. absurd cc)
       (λ _ _. content_lean 8 held place (record { tag = drop 4 front; size = number Big (take 4 front); length = 8 }) (omega arith))))
 
   -- the pieces together have at most 16 bytes, and the last box reads at most 16 more
@@ -195,18 +203,18 @@ module _ (d : List ℕ) where
       (λ t v place is later.
       let u : Along (List ℕ) = record { held = t.held ++ v ∷ []; place = place } in
       let all : total (chain_from jxl_chain d t).marks ≡ total (next_record jxl_chain d t).marks + total
-          (chain_from jxl_chain d u).marks = ap (λ w. total w.marks) (chain_next jxl_chain d t v place (jxl_advances d) is)
-          ∙ total-append (next_record jxl_chain d t).marks (chain_from jxl_chain d u).marks in
+      (chain_from jxl_chain d u).marks = ap (λ w. total w.marks) (chain_next jxl_chain d t v place (jxl_advances d) is)
+      ∙ total-append (next_record jxl_chain d t).marks (chain_from jxl_chain d u).marks in
       let one = records_next jxl_chain d t v place (jxl_advances d) is in
       let here = box_lean (concat t.held) t.place v place is in
       let few = here.0 in let fits = here.1 in
       let long : length (concat u.held) ≡ length (concat t.held) + length v =
-          ap length (concat-append t.held (v ∷ []) ∙ ap (λ rest. concat t.held ++ rest) (append-nil v)) ∙ length-append (concat t.held) v
-          in
+      ap length (concat-append t.held (v ∷ []) ∙ ap (λ rest. concat t.held ++ rest) (append-nil v)) ∙ length-append (concat t.held) v
+      in
       omega arith)
       (λ t r is.
       let all : total (chain_from jxl_chain d t).marks ≡ total (next_record jxl_chain d t).marks = ap (λ w. total w.marks)
-          (chain_stop jxl_chain d t r is) in
+      (chain_stop jxl_chain d t r is) in
       let one = records_stop jxl_chain d t r is in
       let few = at_most d 36 (jxl_box (concat t.held) t.place) (box_few (concat t.held) t.place) in
       omega arith)
@@ -223,7 +231,7 @@ pub jxl_cost : (d : List ℕ) → total (jxl d).marks ≤ 48 + 20 * jxl_boxes d
 jxl_cost d =
     let found = begun_within d (over d jxl_start).answer (over d jxl_start).marks (at_most d 16 jxl_start start_few) in
     let all = then_within (jxl_codestream d) (λ front. record { answer = jxl_size front; marks = [] }) (48 + 20 * jxl_boxes d) 0 found
-        (λ front _. omega arith) in
+    (λ front _. omega arith) in
     omega arith
 
 pub jxl_laws : RecordedLaws 12 true 20 jxl jxl_boxes

@@ -67,19 +67,19 @@ pub by_checked : (P : Says → Type 0) (place : ℕ) (head : BoxHead) (f : BoxHe
 by_checked P place head f out on =
     on_test (λ r. P (bind (answer r) f)) (ltb (2 ^ 64 - 1) (place + head.size)) (Err CorruptedImage) _ (λ _. out CorruptedImage)
     (λ within. on_test (λ r. P (bind (answer r) f)) (not (eqb head.size 0) && ltb head.size head.length)
-        (Err (IoError (InvalidJxlBoxSize head.tag head.size))) (Ok head) (λ _. out (IoError (InvalidJxlBoxSize head.tag head.size)))
+    (Err (IoError (InvalidJxlBoxSize head.tag head.size))) (Ok head) (λ _. out (IoError (InvalidJxlBoxSize head.tag head.size)))
     (λ whole. on (grind (arith, nat_tests)) (λ some. grind (arith, nat_tests))))
 
 pub by_head : (P : Says → Type 0) (place : ℕ) (front : List ℕ) (f : BoxHead → Says)
     → P (field Big (place + 8) 8 (λ size. bind (answer (box_checked place (record { tag = drop 4 front; size = size; length = 16 }))) f))
     → P (bind (answer (box_checked place (record { tag = drop 4 front; size = number Big (take 4 front); length = 8 }))) f)
     → P (bind (cond (eqb (number Big (take 4 front)) 1)
-        (field Big (place + 8) 8 (λ size. answer (box_checked place (record { tag = drop 4 front; size = size; length = 16 }))))
-        (answer (box_checked place (record { tag = drop 4 front; size = number Big (take 4 front); length = 8 })))) f)
+    (field Big (place + 8) 8 (λ size. answer (box_checked place (record { tag = drop 4 front; size = size; length = 16 }))))
+    (answer (box_checked place (record { tag = drop 4 front; size = number Big (take 4 front); length = 8 })))) f)
 by_head P place front f long short =
     on_test (λ t. P (bind t f)) (eqb (number Big (take 4 front)) 1)
-        (field Big (place + 8) 8 (λ size. answer (box_checked place (record { tag = drop 4 front; size = size; length = 16 }))))
-        (answer (box_checked place (record { tag = drop 4 front; size = number Big (take 4 front); length = 8 })))
+    (field Big (place + 8) 8 (λ size. answer (box_checked place (record { tag = drop 4 front; size = size; length = 16 }))))
+    (answer (box_checked place (record { tag = drop 4 front; size = number Big (take 4 front); length = 8 })))
     (λ _. long) (λ _. short)
 
 pub by_piece : (P : Says → Type 0) (place k : ℕ) (f : List ℕ → Says) → (k ≡ 0 → P (f [])) → (0 < k → P (there place k f))
@@ -87,7 +87,7 @@ pub by_piece : (P : Says → Type 0) (place k : ℕ) (f : List ℕ → Says) →
 unfolding piece_at
 by_piece P place k f none some =
     on_test (λ t. P (bind t f)) (eqb k 0) (done []) (there place k (λ piece. done piece)) (λ is. none (grind (arith, nat_tests)))
-        (λ is. some (grind (arith, nat_tests)))
+    (λ is. some (grind (arith, nat_tests)))
 
 pub by_end : (P : Said (List ℕ) (List ℕ) → Type 0) (held : List ℕ) (place : ℕ) (head : BoxHead) (piece : List ℕ)
     → P (Decided (held ++ piece)) → (0 < head.size → P (Next piece (place + head.size))) → P (said_behind held place head piece)
@@ -98,13 +98,13 @@ pub by_partial : (P : Said (List ℕ) (List ℕ) → Type 0) (held : List ℕ) (
     → P (Decided (held ++ piece)) → (0 < head.size → P (Next piece (place + head.size))) → P (partial_said held place head index piece)
 by_partial P held place head index piece last next =
     on_test P (eqb (length held + length piece) 16 || leb 0x80 (slice_index index 0)) (Decided (held ++ piece))
-        (said_behind held place head piece) (λ _. last)
+    (said_behind held place head piece) (λ _. last)
     (λ _. by_end P held place head piece last next)
 
 pub by_content : (P : Says → Type 0) (held : List ℕ) (place : ℕ) (head : BoxHead) → P (codestream_box place head) → P (refuse end_of_input)
     → (4 ≤ box_room head → P (bytes (place + head.length) 4
-        (λ index. bind (piece_at (place + (head.length + 4)) (min (box_room head - 4) (16 - length held)))
-        (λ piece. done (partial_said held place head index piece)))))
+    (λ index. bind (piece_at (place + (head.length + 4)) (min (box_room head - 4) (16 - length held)))
+    (λ piece. done (partial_said held place head index piece)))))
     → P (done (said_behind held place head [])) → P (box_content held place head)
 by_content P held place head whole none partial other =
     on_test P (begins (codes "jxlc") head.tag) (codestream_box place head) _ (λ _. whole)
@@ -116,10 +116,10 @@ content_tells held place head =
     let End : Said (List ℕ) (List ℕ) → Type 0 = λ s. Tells (λ p. place < p) (done s) in
     by_content (Tells (λ p. place < p)) held place head
     (by_piece (Tells (λ p. place < p)) (place + head.length) (min 16 (box_room head)) (λ front. done (Decided front)) (λ _. tt)
-        (λ _ front. tt))
+    (λ _ front. tt))
     tt
     (λ _ index. by_piece (Tells (λ p. place < p)) (place + (head.length + 4)) (min (box_room head - 4) (16 - length held))
-        (λ piece. done (partial_said held place head index piece))
+    (λ piece. done (partial_said held place head index piece))
     (λ _. by_partial End held place head index [] tt (λ some. omega arith))
     (λ _ piece. by_partial End held place head index piece tt (λ some. omega arith)))
     (by_end End held place head [] tt (λ some. omega arith))
@@ -129,11 +129,11 @@ unfolding box_head
 jxl_advances = advances jxl_chain
     (λ pieces place front. by_head (Tells (λ p. place < p)) place front (box_content (concat pieces) place)
     (λ size. by_checked (Tells (λ p. place < p)) place (record { tag = drop 4 front; size = size; length = 16 })
-        (box_content (concat pieces) place) (λ e. tt) (λ _ _. content_tells (concat pieces) place
-        (record { tag = drop 4 front; size = size; length = 16 })))
+    (box_content (concat pieces) place) (λ e. tt) (λ _ _. content_tells (concat pieces) place
+    (record { tag = drop 4 front; size = size; length = 16 })))
     (by_checked (Tells (λ p. place < p)) place (record { tag = drop 4 front; size = number Big (take 4 front); length = 8 })
-        (box_content (concat pieces) place) (λ e. tt) (λ _ _. content_tells (concat pieces) place
-        (record { tag = drop 4 front; size = number Big (take 4 front); length = 8 }))))
+    (box_content (concat pieces) place) (λ e. tt) (λ _ _. content_tells (concat pieces) place
+    (record { tag = drop 4 front; size = number Big (take 4 front); length = 8 }))))
     (λ pieces place. (omega arith, omega arith))
 
 -- how far a walk has come: behind boxes with these bytes
@@ -152,9 +152,9 @@ pub walk_on : {a b end : State} (place next : ℕ) (front piece : List ℕ) → 
     (over b.held.input (jxl_box front place)) → JxlWalks a end next (front ++ piece)
 walk_on place next front piece w run =
     walks_on jxl_chain jxl_advances (λ pieces. concat pieces ≡ front) w (λ pieces. concat pieces ≡ front ++ piece) piece next
-        (box_as place front run)
+    (box_as place front run)
     (λ pieces is. concat-append pieces (piece ∷ []) ∙ ap (λ rest. concat pieces ++ rest) (append-nil piece) ∙ ap (λ held. held ++ piece)
-        is)
+    is)
 
 pub walk_stop : {a b end : State} (place : ℕ) (front whole : List ℕ) → JxlWalks a b place front → Runs b end (Ok (Decided whole))
     (over b.held.input (jxl_box front place)) → Runs a end (Ok whole) (chain_at jxl_chain a.held.input)
@@ -179,7 +179,7 @@ unfolding field_at
 plain_found list (found x) = tt
 plain_found list (bits from count f) =
     on_test (λ r. Plainly (with_found r (λ n. found_by (field_at list) (f n)))) (leb (from + count) (length list))
-        (Ok (binary (take count (drop from list)))) (Err CorruptedImage)
+    (Ok (binary (take count (drop from list)))) (Err CorruptedImage)
     (λ _. plain_found list (f (binary (take count (drop from list))))) (λ _. plain_corrupted)
 
 plain_size : (front : List ℕ) → Plainly (jxl_size front)
@@ -187,7 +187,7 @@ unfolding jxl_size
 plain_size front =
     on_test Plainly (ltb (length front) 2) (Err CorruptedImage) _ (λ _. plain_corrupted)
     (λ _. on_test Plainly (has_signature front) (found_by (field_at (bits_of front)) jxl_header) (Err (IoError InvalidJxlSignature))
-        (λ _. plain_found (bits_of front) jxl_header)
+    (λ _. plain_found (bits_of front) jxl_header)
     (λ _. (refl, λ b. record { budget = tt; memory = λ e. absurd cc })))
 
 sized_by : {b : State} (r : Result ImageSize ImageError) → Sound b → Plainly r → Runs b b r (record { answer = r; marks = [] })
@@ -199,4 +199,4 @@ pub sized : {a b : State} (front : List ℕ) → Runs a b (Ok front) (jxl_codest
     (jxl a.held.input)
 sized {a} {b} front run =
     runs_then (jxl_codestream a.held.input) (λ found held. record { answer = jxl_size found; marks = [] }) run
-        (sized_by (jxl_size front) run.sound_after (plain_size front))
+    (sized_by (jxl_size front) run.sound_after (plain_size front))

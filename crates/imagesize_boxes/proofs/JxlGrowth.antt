@@ -67,7 +67,7 @@ grows_bytes : {X : Type 0} (R : X → X → Type 0) (d x : List ℕ) (place k : 
     (over (d ++ x) (bytes place k f))
 grows_bytes R d x place k f each =
     grows_onward R (span_of d place k) (span_of (d ++ x) place k) (bytes_at d place k) (bytes_at (d ++ x) place k) (λ bs. over d (f bs))
-        (λ bs. over (d ++ x) (f bs))
+    (λ bs. over (d ++ x) (f bs))
     (λ bs got. bytes_more d x place k (bytes_ok d bs place k got) ∙ got) each
 
 number_more : (d x : List ℕ) (order : Endian) (place k : ℕ) → k ≤ length d - place → number_at (d ++ x) order place k ≡ number_at d order
@@ -80,7 +80,7 @@ grows_field : {X : Type 0} (R : X → X → Type 0) (d x : List ℕ) (order : En
     (over (d ++ x) (field order place k f))
 grows_field R d x order place k f each =
     grows_onward R (span_of d place k) (span_of (d ++ x) place k) (number_at d order place k) (number_at (d ++ x) order place k)
-        (λ v. over d (f v)) (λ v. over (d ++ x) (f v))
+    (λ v. over d (f v)) (λ v. over (d ++ x) (f v))
     (λ v got. number_more d x order place k (number_ok d order place k v got) ∙ got) each
 
 -- The codestream of a box may go on; a next box within the input stays.
@@ -96,7 +96,7 @@ same_said n (Next piece place) = λ _. refl
 by_tests : (n place : ℕ) (held piece more : List ℕ) (ends ends_more opened : Bool) → (ends ≡ true → ends_more ≡ true)
     → (more ≡ [] → ends_more ≡ ends) → (opened ≡ false → place ≤ n → more ≡ [])
     → GoesOn n (cond ends (Decided (held ++ piece)) (cond opened (Decided (held ++ piece)) (Next piece place)))
-        (cond ends_more (Decided (held ++ (piece ++ more))) (cond opened (Decided (held ++ (piece ++ more))) (Next (piece ++ more) place)))
+    (cond ends_more (Decided (held ++ (piece ++ more))) (cond opened (Decided (held ++ (piece ++ more))) (Next (piece ++ more) place)))
 by_tests n place held piece more true true opened stays same whole = (more, ap Decided (sym (append_assoc held piece more)))
 by_tests n place held piece more true false opened stays same whole = absurd (let no : false ≡ true = stays refl in cc)
 by_tests n place held piece more false true true stays same whole = (more, ap Decided (sym (append_assoc held piece more)))
@@ -113,10 +113,10 @@ partial_grows n place held head index piece more fits whole =
     let long = length-append piece more in
     by_tests n (place + head.size) held piece more
     (eqb (length held + length piece) 16 || leb 0x80 (slice_index index 0)) (eqb (length held + length (piece ++ more)) 16 || leb 0x80
-        (slice_index index 0)) (eqb head.size 0)
+    (slice_index index 0)) (eqb head.size 0)
     (λ is. grind (arith, nat_tests))
     (λ none. ap (λ m. eqb (length held + length (piece ++ m)) 16 || leb 0x80 (slice_index index 0)) none
-        ∙ ap (λ p. eqb (length held + length p) 16 || leb 0x80 (slice_index index 0)) (append-nil piece))
+    ∙ ap (λ p. eqb (length held + length p) 16 || leb 0x80 (slice_index index 0)) (append-nil piece))
     (λ is within. whole (grind (arith, nat_tests)) within)
 
 -- bytes that are all there do not go on
@@ -145,60 +145,68 @@ module _ (d x : List ℕ) where
       (λ _. grows_given (GoesOn (length d)) (Decided []) (Decided []) (same_said (length d) (Decided [])))
       (λ _. let grown = part_grows d x (place + head.length) (min 16 (box_room head)) in
       grows_given (GoesOn (length d)) (Decided (part d (place + head.length) (min 16 (box_room head))))
-          (Decided (part (d ++ x) (place + head.length) (min 16 (box_room head)))) (grown.0, ap Decided grown.1)))
+      (Decided (part (d ++ x) (place + head.length) (min 16 (box_room head)))) (grown.0, ap Decided grown.1)))
       (λ s is. absurd cc)
       (λ enough. grows_bytes (GoesOn (length d)) d x (place + head.length) 4
-          (λ index. bind (piece_at (place + (head.length + 4)) (min (box_room head - 4) (16 - length held)))
-          (λ piece. done (partial_said held place head index piece)))
+      (λ index. bind (piece_at (place + (head.length + 4)) (min (box_room head - 4) (16 - length held)))
+      (λ piece. done (partial_said held place head index piece)))
       (λ index. by_piece Both (place + (head.length + 4)) (min (box_room head - 4) (16 - length held))
-          (λ piece. done (partial_said held place head index piece))
+      (λ piece. done (partial_said held place head index piece))
       (λ _. grows_given (GoesOn (length d)) (partial_said held place head index []) (partial_said held place head index [])
-          (same_said (length d) (partial_said held place head index [])))
+      (same_said (length d) (partial_said held place head index [])))
       (λ some. let q : ℕ = place + (head.length + 4) in let k : ℕ = min (box_room head - 4) (16 - length held) in
       let grown = part_grows d x q k in
       let long = part_length (d ++ x) q k in
       let same : length (part (d ++ x) q k) ≡ length (part d q k ++ grown.0) = ap length grown.1 in
       let ends : 0 < head.size → box_room head ≡ head.size - head.length = λ closed. box_sized head closed in
       grows_given (GoesOn (length d)) (partial_said held place head index (part d q k))
-          (partial_said held place head index (part (d ++ x) q k))
+      (partial_said held place head index (part (d ++ x) q k))
       (subst (λ p. GoesOn (length d) (partial_said held place head index (part d q k)) (partial_said held place head index p))
-          (sym grown.1)
+      (sym grown.1)
       (partial_grows (length d) place held head index (part d q k) grown.0 (omega arith)
       (λ closed within. none_more d x q k grown.0 grown.1 (let is = ends closed in let fits = sized closed in omega arith)))))))
       (grows_given (GoesOn (length d)) (said_behind held place head []) (said_behind held place head [])
-          (same_said (length d) (said_behind held place head [])))
+      (same_said (length d) (said_behind held place head [])))
 
   -- what a box says of more bytes
   box_grows : (held : List ℕ) (place : ℕ) → Both (jxl_box held place)
   unfolding Both box_head
   box_grows held place =
       grows_bytes (GoesOn (length d)) d x place 8
-          (λ front. bind (cond (eqb (number Big (take 4 front)) 1)
-          (field Big (place + 8) 8 (λ size. answer (box_checked place (record { tag = drop 4 front; size = size; length = 16 }))))
-          (answer (box_checked place (record { tag = drop 4 front; size = number Big (take 4 front); length = 8 }))))
-          (box_content held place))
+      (λ front. bind (cond (eqb (number Big (take 4 front)) 1)
+      (field Big (place + 8) 8 (λ size. answer (box_checked place (record { tag = drop 4 front; size = size; length = 16 }))))
+      (answer (box_checked place (record { tag = drop 4 front; size = number Big (take 4 front); length = 8 }))))
+      (box_content held place))
       (λ front. by_head Both place front (box_content held place)
       (grows_field (GoesOn (length d)) d x Big (place + 8) 8
-          (λ size. bind (answer (box_checked place (record { tag = drop 4 front; size = size; length = 16 }))) (box_content held place))
-          (λ size.
+      (λ size. bind (answer (box_checked place (record { tag = drop 4 front; size = size; length = 16 }))) (box_content held place))
+      (λ size.
       by_checked Both place (record { tag = drop 4 front; size = size; length = 16 }) (box_content held place) (λ e s is. absurd cc)
-          (λ _ sized. content_grows held place (record { tag = drop 4 front; size = size; length = 16 }) sized)))
+      (λ _ sized. content_grows held place (record { tag = drop 4 front; size = size; length = 16 }) sized)))
       (by_checked Both place (record { tag = drop 4 front; size = number Big (take 4 front); length = 8 }) (box_content held place)
-          (λ e s is. absurd cc) (λ _ sized. content_grows held place (record { tag = drop 4 front; size = number Big (take 4 front);
-          length = 8 }) sized)))
+      (λ e s is. absurd cc) (λ _ sized. content_grows held place (record {
+        tag = drop 4 front;
+        size = number Big (take 4 front);
+        length = 8;
+      }) sized)))
 
 -- A next box that stands behind the end is not there.
-box_gone : (d : List ℕ) (t : Along (List ℕ)) → length d ≤ t.place → chain_from jxl_chain d t ≡ record { answer = Err end_of_input;
-    marks = [] }
+box_gone : (d : List ℕ) (t : Along (List ℕ)) → length d ≤ t.place → chain_from jxl_chain d t ≡ record {
+  answer = Err end_of_input;
+  marks = [];
+}
 unfolding box_head
 box_gone d t gone =
     let out = bytes_beyond d t.place 8
-        (λ front. bind (cond (eqb (number Big (take 4 front)) 1)
-        (field Big (t.place + 8) 8 (λ size. answer (box_checked t.place (record { tag = drop 4 front; size = size; length = 16 }))))
-        (answer (box_checked t.place (record { tag = drop 4 front; size = number Big (take 4 front); length = 8 }))))
-        (box_content (concat t.held) t.place)) gone (omega arith) in
-    chain_stop jxl_chain d t (Err end_of_input) (ap (λ r. verdict r.answer) out) ∙ ap (λ r. record { answer = Err end_of_input; marks =
-        r.marks }) out
+    (λ front. bind (cond (eqb (number Big (take 4 front)) 1)
+    (field Big (t.place + 8) 8 (λ size. answer (box_checked t.place (record { tag = drop 4 front; size = size; length = 16 }))))
+    (answer (box_checked t.place (record { tag = drop 4 front; size = number Big (take 4 front); length = 8 }))))
+    (box_content (concat t.held) t.place)) gone (omega arith) in
+    chain_stop jxl_chain d t (Err end_of_input) (ap (λ r. verdict r.answer) out) ∙ ap (λ r. record {
+      answer = Err end_of_input;
+      marks =
+          r.marks;
+    }) out
 
 box_there : (d : List ℕ) (t : Along (List ℕ)) (front : List ℕ) → (chain_from jxl_chain d t).answer ≡ Ok front → (within : Bool)
     → leb t.place (length d) ≡ within → t.place ≤ length d
@@ -221,7 +229,7 @@ boxes_grow d x = chain_induction jxl_chain d (λ t. (front : List ℕ) → (chai
     (λ t v place is later front ok.
     let u : Along (List ℕ) = record { held = t.held ++ v ∷ []; place = place } in
     let next : (chain_from jxl_chain d u).answer ≡ Ok front =
-        sym (ap (λ w. w.answer) (chain_next jxl_chain d t v place (jxl_advances d) is)) ∙ ok in
+    sym (ap (λ w. w.answer) (chain_next jxl_chain d t v place (jxl_advances d) is)) ∙ ok in
     let within = box_there d u front next (leb place (length d)) refl in
     let here = box_grows d x (concat t.held) t.place (Next v place) is in
     let same : (next_record jxl_chain (d ++ x) t).answer ≡ Ok (Next v place) = here.1 ∙ ap Ok (here.2 within) in
@@ -230,7 +238,7 @@ boxes_grow d x = chain_induction jxl_chain d (λ t. (front : List ℕ) → (chai
     (λ t r is front ok.
     let ends : r ≡ Ok front = sym (ap (λ w. w.answer) (chain_stop jxl_chain d t r is)) ∙ ok in
     let here = box_grows d x (concat t.held) t.place (Decided front) (decided (next_record jxl_chain d t).answer front
-        (is ∙ ap Some ends)) in
+    (is ∙ ap Some ends)) in
     let more = here.2 in
     let same : verdict (next_record jxl_chain (d ++ x) t).answer ≡ Some (Ok (front ++ more.0)) = ap verdict (here.1 ∙ ap Ok more.1) in
     (more.0, ap (λ w. w.answer) (chain_stop jxl_chain (d ++ x) t (Ok (front ++ more.0)) same)))
@@ -244,10 +252,10 @@ start_grows : (d x : List ℕ) → Grows StartsAs (over d jxl_start) (over (d ++
 start_grows d x =
     grows_bytes StartsAs d x 0 2 (λ start. cond (has_signature start) (there 2 14 (λ more. done (Some (start ++ more)))) (done None))
     (λ start. on_test (λ t. Grows StartsAs (over d t) (over (d ++ x) t)) (has_signature start)
-        (there 2 14 (λ more. done (Some (start ++ more)))) (done None)
+    (there 2 14 (λ more. done (Some (start ++ more)))) (done None)
     (λ _. let grown = part_grows d x 2 14 in
     grows_given StartsAs (Some (start ++ part d 2 14)) (Some (start ++ part (d ++ x) 2 14))
-        (grown.0, ap Some (ap (λ more. start ++ more) grown.1 ∙ sym (append_assoc start (part d 2 14) grown.0))))
+    (grown.0, ap Some (ap (λ more. start ++ more) grown.1 ∙ sym (append_assoc start (part d 2 14) grown.0))))
     (λ _. grows_given StartsAs None None refl))
 
 either_grows : (d x : List ℕ) (s t : Option (List ℕ)) → StartsAs s t → (front : List ℕ) → (codestream d s).answer ≡ Ok front
@@ -286,10 +294,10 @@ size_grows (a ∷ b ∷ front) more v is =
     let few : ltb (length (a ∷ b ∷ front)) 2 ≡ false = grind (arith, nat_tests) in
     let longer : ltb (length (a ∷ b ∷ (front ++ more))) 2 ≡ false = grind (arith, nat_tests) in
     let joined : bits_of (a ∷ b ∷ (front ++ more)) ≡ bits_of (a ∷ b ∷ front) ++ bits_of more = flat_map-append (λ byte. low_bits 8 byte)
-        (a ∷ b ∷ front) more in
+    (a ∷ b ∷ front) more in
     let was = ap (λ t. cond t (Err CorruptedImage)
-        (cond (has_signature (a ∷ b ∷ front)) (found_by (field_at (bits_of (a ∷ b ∷ front))) jxl_header)
-        (Err (IoError InvalidJxlSignature)))) (sym few) ∙ is in
+    (cond (has_signature (a ∷ b ∷ front)) (found_by (field_at (bits_of (a ∷ b ∷ front))) jxl_header)
+    (Err (IoError InvalidJxlSignature)))) (sym few) ∙ is in
     rw longer (by_signature (has_signature (a ∷ b ∷ front)) was joined) where
       by_signature : (signed : Bool) → cond signed (found_by (field_at (bits_of (a ∷ b ∷ front))) jxl_header)
           (Err (IoError InvalidJxlSignature)) ≡ Ok v → bits_of (a ∷ b ∷ (front ++ more)) ≡ bits_of (a ∷ b ∷ front) ++ bits_of more
@@ -302,8 +310,8 @@ size_grows (a ∷ b ∷ front) more v is =
 pub jxl_lasts : (d x : List ℕ) (v : ImageSize) → (jxl d).answer ≡ Ok v → (jxl (d ++ x)).answer ≡ Ok v
 jxl_lasts d x v is =
     let found = then_ok (jxl_codestream d).answer (jxl_codestream d).marks (λ front. record { answer = jxl_size front; marks = [] }) v is
-        in
+    in
     let grown = codestream_grows d x found.0 found.1 in
     then_at (jxl_codestream (d ++ x)).answer (jxl_codestream (d ++ x)).marks (λ front. record { answer = jxl_size front; marks = [] })
-        (found.0 ++ grown.0) grown.1
+    (found.0 ++ grown.0) grown.1
     ∙ size_grows found.0 grown.0 v found.2

@@ -212,14 +212,14 @@ begun (Err e) count = 0
 abbrev pub boxes_in_iprp : FoundBox → List ℕ → ℕ
 boxes_in_iprp iprp d =
     records (search_for (codes "ipco") (iprp.place + 8)) d + begun (chain_at (search_for (codes "ipco") (iprp.place + 8)) d).answer
-        (λ ipco.
+    (λ ipco.
     records (properties ipco.size (ipco.place + 8)) d)
 
 abbrev pub boxes_in_meta : FoundBox → List ℕ → ℕ
 boxes_in_meta meta d =
     begun (bytes_at d (meta.place + 8) 4) (λ version.
     records (search_for (codes "iprp") (meta.place + 12)) d + begun (chain_at (search_for (codes "iprp") (meta.place + 12)) d).answer
-        (λ iprp.
+    (λ iprp.
     boxes_in_iprp iprp d))
 
 abbrev pub heif_boxes : List ℕ → ℕ

@@ -68,8 +68,11 @@ exchanged from = bits from 1 (λ all_default.
     else bits (from + 1) 1 (λ extra. if extra == 0 then found false else bits (from + 2) 3 (λ orientation. found (nat_le 4 orientation))))
 
 abbrev pub size_of_sides : Bool → ℕ → ℕ → ImageSize
-size_of_sides exchanged width height = if exchanged then record { width = height; height = width } else record { width = width; height =
-    height }
+size_of_sides exchanged width height = if exchanged then record { width = height; height = width } else record {
+  width = width;
+  height =
+      height;
+}
 
 -- whether the image is small, its height, its width and its orientation, behind the signature
 abbrev pub jxl_header : Fields ImageSize
@@ -106,7 +109,7 @@ answer (Err e) = refuse e
 unfoldable pub box_head : ℕ → Layout BoxHead
 box_head place = bytes place 8 (λ head.
     if number Big (take 4 head) == 1 then field Big (place + 8) 8
-        (λ size. answer (box_checked place (record { tag = drop 4 head; size = size; length = 16 })))
+    (λ size. answer (box_checked place (record { tag = drop 4 head; size = size; length = 16 })))
     else answer (box_checked place (record { tag = drop 4 head; size = number Big (take 4 head); length = 8 })))
 
 -- how many bytes of content a box has; of an open one sixteen are enough
@@ -132,7 +135,7 @@ partial_box held place head =
     if nat_lt (box_room head) 4 then refuse end_of_input
     else bytes (place + head.length) 4 (λ index.
     bind (piece_at (place + (head.length + 4)) (min (box_room head - 4) (16 - length held)))
-        (λ piece. done (partial_said held place head index piece)))
+    (λ piece. done (partial_said held place head index piece)))
 
 abbrev pub box_content : List ℕ → ℕ → BoxHead → Layout (Said (List ℕ) (List ℕ))
 box_content held place head =

@@ -136,9 +136,9 @@ pvrtc_numbered n = look_up ((1, Some pvrtc.Unknown) ∷ (25, Some pvrtc.Pvrtc2Bp
 abbrev pub plain_numbered : ℕ → Option ImageType
 plain_numbered n = look_up
     ((1, Some Aseprite) ∷ (2, Some Astc) ∷ (4, Some Bmp) ∷ (8, Some Exr) ∷ (9, Some Farbfeld) ∷ (10, Some Gif) ∷ (11, Some Hdr)
-        ∷ (13, Some Ico) ∷ (14, Some Ilbm) ∷ (15, Some Jpeg)
+    ∷ (13, Some Ico) ∷ (14, Some Ilbm) ∷ (15, Some Jpeg)
     ∷ (16, Some Jxl) ∷ (17, Some Ktx2) ∷ (18, Some Pnm) ∷ (20, Some Psd) ∷ (21, Some Qoi) ∷ (22, Some Tga) ∷ (23, Some Tiff)
-        ∷ (24, Some Vtf) ∷ (25, Some Webp) ∷ []) None n
+    ∷ (24, Some Vtf) ∷ (25, Some Webp) ∷ []) None n
 
 -- the type of a number, with the compression of a number
 abbrev pub type_numbered : ℕ → ℕ → Option ImageType

@@ -12,7 +12,7 @@ by_code None = record { few = tt; answers = tt }
 by_code (Some code) =
     on_test (CompressionLaws 4) (bytes_eq code (codes "DX10")) _ _ (λ _. record { few = (omega arith, λ _. tt); answers = λ _. tt })
     (λ _. on_test (CompressionLaws 4) (bytes_eq code (0 ∷ 0 ∷ 0 ∷ 0 ∷ [])) _ _
-        (λ _. record { few = (omega arith, λ _. tt); answers = λ _. tt })
+    (λ _. record { few = (omega arith, λ _. tt); answers = λ _. tt })
     (λ _. record { few = tt; answers = tt }))
 
 pub dds_compression_laws : CompressionLaws 8 dds_compression

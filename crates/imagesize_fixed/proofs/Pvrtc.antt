@@ -12,7 +12,7 @@ by_tag : (tag : Option (List ℕ)) → CompressionLaws 8 (pvrtc_compression_by t
 by_tag None = record { few = tt; answers = tt }
 by_tag (Some tag) =
     on_test (CompressionLaws 8) (is_pvr3 tag) _ _ (λ _. record { few = (omega arith, λ _. tt); answers = λ _. tt })
-        (λ _. record { few = tt; answers = tt })
+    (λ _. record { few = tt; answers = tt })
 
 pub pvrtc_compression_laws : CompressionLaws 12 pvrtc_compression
 unfolding pvrtc_compression
@@ -20,7 +20,10 @@ pvrtc_compression_laws = record { few = (omega arith, λ bs. (by_tag (whole 4 bs
 
 pub pvrtc_laws : FixedLaws 24 pvrtc
 pvrtc_laws = record {
-  few = (omega arith, λ tag. on_test (AtMost 13) (is_pvr3 tag) pvr3 pvr2 (λ _. (omega arith, λ _. (omega arith, λ _. tt)))
-      (λ _. (omega arith, λ _. (omega arith, λ _. tt))));
+  few = (
+    omega arith,
+    λ tag. on_test (AtMost 13) (is_pvr3 tag) pvr3 pvr2 (λ _. (omega arith, λ _. (omega arith, λ _. tt)))
+        (λ _. (omega arith, λ _. (omega arith, λ _. tt))),
+  );
   plain = λ tag. on_test Plain (is_pvr3 tag) pvr3 pvr2 (λ _ _ _. tt) (λ _ _ _. tt);
 }

@@ -6,8 +6,14 @@ use Rattle.imagesize_source.proofs.Tests.{on_test}
 use Rattle.imagesize_source.proofs.Way.{FixedLaws}
 
 header_few : (head : List ℕ) → AtMost 7 (tga_by_header head)
-header_few head = (omega arith, λ map. (omega arith, λ map_bits. on_test (AtMost 2) (is_map_sound (slice_index head 1) map map_bits) _ _
-    (λ _. (omega arith, λ _. (omega arith, λ _. tt))) (λ _. tt)))
+header_few head = (
+  omega arith,
+  λ map. (
+    omega arith,
+    λ map_bits. on_test (AtMost 2) (is_map_sound (slice_index head 1) map map_bits) _ _
+        (λ _. (omega arith, λ _. (omega arith, λ _. tt))) (λ _. tt),
+  ),
+)
 
 -- the recogniser
 pub is_tga_few : (n : ℕ) (head : List ℕ) → AtMost 25 (is_tga n head)

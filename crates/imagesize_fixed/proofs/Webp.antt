@@ -21,7 +21,10 @@ by_form P letter lossy lossless extended none =
 
 pub webp_laws : FixedLaws 12 webp
 webp_laws = record {
-  few = (omega arith, λ tag. by_form (AtMost 25) (slice_index tag 3) (omega arith, λ x. (omega arith, λ y. tt)) (omega arith, λ x. tt)
-      (omega arith, λ x. (omega arith, λ y. tt)) tt);
+  few = (
+    omega arith,
+    λ tag. by_form (AtMost 25) (slice_index tag 3) (omega arith, λ x. (omega arith, λ y. tt)) (omega arith, λ x. tt)
+        (omega arith, λ x. (omega arith, λ y. tt)) tt,
+  );
   plain = λ tag. by_form Plain (slice_index tag 3) (λ x y. tt) (λ x. tt) (λ x y. tt) tt;
 }

@@ -38,11 +38,11 @@ span_lines_push (first ∷ spans) span = search (rules, span_lines_push spans sp
 -- the line of one span more was written
 pub one_span : (spans : List Span) (i : ℕ) (other : Span) (a b c : Option (List ℕ)) → i < length spans →
     Appends a b (span_lines (take i spans)) → Appends b c (span_line (get_or spans i other))
-        → Appends a c (span_lines (take (i + 1) spans))
+    → Appends a c (span_lines (take (i + 1) spans))
 one_span spans i other a b c there wrote more =
     let one : take (i + 1) spans ≡ take i spans ++ get_or spans i other ∷ [] = (take_at_read spans i other there).1 in
     rw one (appended a b c (span_lines (take i spans)) (span_line (get_or spans i other))
-        (span_lines (take i spans ++ get_or spans i other ∷ []))
+    (span_lines (take i spans ++ get_or spans i other ∷ []))
     wrote more (span_lines_push (take i spans) (get_or spans i other)))
 
 -- of an answer that is no failure there is a line

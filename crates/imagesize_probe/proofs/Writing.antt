@@ -121,7 +121,7 @@ pub one_more : {X : Type 0} (text_of : X → List ℕ) (names : List X) (i : ℕ
     WritesAll spans known (map text_of (take (i + 1) names)) a d after
 one_more text_of names i name text there at is spans known a b c d refused sized after before wrote kept so =
     let more : map text_of (take (i + 1) names) ≡ map text_of (take i names) ++ text ∷ [] = one_name text_of names i name text
-        there at is in
+    there at is in
     rw more (one_written spans (map text_of (take i names)) text known a b c d refused sized after before wrote kept so)
 
 -- none was written yet

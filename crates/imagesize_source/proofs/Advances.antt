@@ -68,10 +68,12 @@ begins d (field order place k f) v q p h is = onward_tells (q < length d) (span_
 begins d (reading r place f) v q p h is = onward_tells (q < length d) (read_of d r place).marks (read_of d r place).answer
     (λ bs. over d (f bs)) (Next v p) is
     (λ bs got told. let below = some_byte d r place bs h.1 (λ none nothing. tells (λ _. ⊥) d (f []) v p nothing
-        (sym (ap (λ bs. (over d (f bs)).answer) none) ∙ told)) got in omega (arith, h.0))
+    (sym (ap (λ bs. (over d (f bs)).answer) none) ∙ told)) got in omega (arith, h.0))
 
 -- A chain advances, whose records each begin at their place or behind it and tell only greater places.
 pub advances : {C X : Type 0} (c : Chain C X) → ((held : List C) (place : ℕ) → Tells (λ p. place < p) (c.said held place))
     → ((held : List C) (place : ℕ) → Begins place (c.said held place)) → (d : List ℕ) → Advances c d
-advances c up first d t v place is = (tells (λ p. t.place < p) d (c.said t.held t.place) v place (up t.held t.place) is,
-    begins d (c.said t.held t.place) v t.place place (first t.held t.place) is)
+advances c up first d t v place is = (
+  tells (λ p. t.place < p) d (c.said t.held t.place) v place (up t.held t.place) is,
+  begins d (c.said t.held t.place) v t.place place (first t.held t.place) is,
+)

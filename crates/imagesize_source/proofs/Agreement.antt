@@ -62,9 +62,9 @@ pub same_part : (d e : List ℕ) (place k : ℕ) → Agrees d e (span_of d place
 unfolding part span_of
 same_part d e place k a =
     let long : length (take k (drop place e)) ≡ min k (length e - place) = length-take k (drop place e) ∙ ap (min k)
-        (length-drop place e) in
+    (length-drop place e) in
     let long' : length (take k (drop place d)) ≡ min k (length d - place) = length-take k (drop place d) ∙ ap (min k)
-        (length-drop place d) in
+    (length-drop place d) in
     ext_get_or 0 (take k (drop place e)) (take k (drop place d))
     (long ∙ ap (λ n. min k (n - place)) a.as_long ∙ sym long')
     (λ i h.
@@ -81,7 +81,7 @@ same_first d e place n k few a =
     let long = part_length d place k in
     let span : span_of d place n ≡ span_at place n = whole_span d place n (omega arith) in
     part_part e place n k (omega arith) ∙ same_part d e place n (subst (λ s. Agrees d e s) (sym span) a)
-        ∙ sym (part_part d place n k (omega arith))
+    ∙ sym (part_part d place n k (omega arith))
 
 -- the same of bytes that are all there, and of a number
 pub same_bytes : (d e : List ℕ) (place k : ℕ) → Agrees d e (span_of d place k) → bytes_at e place k ≡ bytes_at d place k
@@ -101,7 +101,7 @@ same_text d e t place k a =
     let split = front_first t (part d place k) in
     let n : ℕ = length (text_front t (part d place k)) in
     let first : take n (part d place k) ≡ text_front t (part d place k) = ap (take n) (sym split.1) ∙ take-append_seam
-        (text_front t (part d place k)) split.0 in
+    (text_front t (part d place k)) split.0 in
     front_same t (part d place k) (part e place k)
     (part_length e place k ∙ ap (λ m. min k (m - place)) a.as_long ∙ sym (part_length d place k))
     (same_first d e place n k (front_length t (part d place k)) a ∙ first)
@@ -134,10 +134,10 @@ local d e (field order place k f) a =
     (onward_local (span_of d place k) (number_at d order place k) (λ v. over d (f v)) (λ v. over e (f v)) a (λ v. local d e (f v)))
 local d e (reading r place f) a =
     let here : Agrees d e (read_of d r place).marks = agrees_first (read_of d r place).marks (read_of d r place).answer
-        (λ bs. over d (f bs)) a in
+    (λ bs. over d (f bs)) a in
     rw (same_reading d e r place here)
     (onward_local (read_of d r place).marks (read_of d r place).answer (λ bs. over d (f bs)) (λ bs. over e (f bs)) a
-        (λ bs. local d e (f bs)))
+    (λ bs. local d e (f bs)))
 
 -- a layout is local
 pub local_layout : {X : Type 0} (t : Layout X) → Local (λ d. over d t)

@@ -19,7 +19,7 @@ module _ {C X : Type 0} (c : Chain C X) (d : List ℕ) where
   -- a verdict, holds of the chain from any records on.
   pub chain_induction : (P : Along C → Type 0) → Advances c d
       → ((t : Along C) (v : C) (place : ℕ) → (next_record c d t).answer ≡ Ok (Next v place)
-          → P (record { held = t.held ++ v ∷ []; place = place }) → P t)
+      → P (record { held = t.held ++ v ∷ []; place = place }) → P t)
       → ((t : Along C) (r : Result X ImageError) → verdict (next_record c d t).answer ≡ Some r → P t)
       → (t : Along C) → P t
   chain_induction P adv on last t = by_fuel (length d) t (omega arith) where
@@ -47,9 +47,9 @@ module _ {C X : Type 0} (c : Chain C X) (d e : List ℕ) (adv : Advances c d) (a
       (λ t v place is later a.
       let u : Along C = record { held = t.held ++ v ∷ []; place = place } in
       let all : Agrees d e ((next_record c d t).marks ++ (chain_from c d u).marks) = subst (λ w. Agrees d e w.marks)
-          (chain_next c d t v place adv is) a in
+      (chain_next c d t v place adv is) a in
       let here : next_record c e t ≡ next_record c d t = same_record t (agrees-left (next_record c d t).marks (chain_from c d u).marks
-          all) in
+      all) in
       let is_e : (next_record c e t).answer ≡ Ok (Next v place) = ap (λ w. w.answer) here ∙ is in
       let rest = later (agrees-right (next_record c d t).marks (chain_from c d u).marks all) in (
         chain_next c e t v place adv_e is_e ∙ ap (λ w. behind w.marks (chain_from c e u)) here ∙ ap (behind (next_record c d t).marks)
@@ -81,10 +81,10 @@ module _ {C X : Type 0} (c : Chain C X) (d : List ℕ) (adv : Advances c d) wher
       (λ t v place is later.
       let u : Along C = record { held = t.held ++ v ∷ []; place = place } in
       let all : total (chain_from c d t).marks ≡ total (next_record c d t).marks + total (chain_from c d u).marks =
-          ap (λ w. total w.marks) (chain_next c d t v place adv is) ∙ total-append (next_record c d t).marks (chain_from c d u).marks in
+      ap (λ w. total w.marks) (chain_next c d t v place adv is) ∙ total-append (next_record c d t).marks (chain_from c d u).marks in
       let here = each t in
       let count : k * records_from c d t ≡ k * records_from c d u + k * 1 = ap (λ n. k * n) (records_next c d t v place adv is) ∙ mul-add
-          k (records_from c d u) 1 in
+      k (records_from c d u) 1 in
       omega arith)
       (λ t r is.
       let all : total (chain_from c d t).marks ≡ total (next_record c d t).marks = ap (λ w. total w.marks) (chain_stop c d t r is) in
@@ -99,14 +99,14 @@ module _ {C X : Type 0} (c : Chain C X) (d : List ℕ) (adv : Advances c d) wher
   -- Where the records use up an allowance, a chain reads at most the allowance.
   pub chain_within : (allowed : Along C → ℕ)
       → ((t : Along C) (v : C) (place : ℕ) → (next_record c d t).answer ≡ Ok (Next v place) → total (next_record c d t).marks + allowed
-          (record { held = t.held ++ v ∷ []; place = place }) ≤ allowed t)
+      (record { held = t.held ++ v ∷ []; place = place }) ≤ allowed t)
       → ((t : Along C) → total (next_record c d t).marks ≤ allowed t)
       → (t : Along C) → total (chain_from c d t).marks ≤ allowed t
   chain_within allowed used each = chain_induction c d (λ t. total (chain_from c d t).marks ≤ allowed t) adv
       (λ t v place is later.
       let u : Along C = record { held = t.held ++ v ∷ []; place = place } in
       let all : total (chain_from c d t).marks ≡ total (next_record c d t).marks + total (chain_from c d u).marks =
-          ap (λ w. total w.marks) (chain_next c d t v place adv is) ∙ total-append (next_record c d t).marks (chain_from c d u).marks in
+      ap (λ w. total w.marks) (chain_next c d t v place adv is) ∙ total-append (next_record c d t).marks (chain_from c d u).marks in
       let here = used t v place is in
       omega arith)
       (λ t r is.
@@ -138,7 +138,7 @@ module _ {C X : Type 0} (c : Chain C X) (d x : List ℕ) (adv : Advances c d) (a
       (λ t r is y ok.
       let decided : r ≡ Ok y = sym (ap (λ w. w.answer) (chain_stop c d t r is)) ∙ ok in
       let here : next_record c (d ++ x) t ≡ next_record c d t = each t (Decided y) (verdict_ok (next_record c d t).answer y
-          (is ∙ ap Some decided)) in
+      (is ∙ ap Some decided)) in
       let is_more : verdict (next_record c (d ++ x) t).answer ≡ Some r = ap (λ w. verdict w.answer) here ∙ is in (
         chain_stop c (d ++ x) t r is_more ∙ ap (λ w. record { answer = r; marks = w.marks }) here ∙ sym (chain_stop c d t r is),
         records_stop c (d ++ x) t r is_more ∙ sym (records_stop c d t r is),

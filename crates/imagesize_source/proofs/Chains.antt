@@ -26,10 +26,13 @@ position_longer : (p : ℕ → Bool) (a k : ℕ) → position_or_len p (range_wi
 position_longer p a zero found = absurd (omega arith)
 position_longer p a (suc k) found =
     let Goal : Bool → Type 0 = λ b. cond (not b) (1 + position_or_len p (range_with_len (a + 1) k)) 0 < suc k
-        → cond (not b) (1 + position_or_len p (range_with_len (a + 1) (suc k))) 0 ≡ cond (not b)
-        (1 + position_or_len p (range_with_len (a + 1) k)) 0 in
-    let cases : Goal (p a) = elim (p a) as Goal [ true ↦ λ _. refl | false ↦ λ f. ap (λ n. 1 + n)
-        (position_longer p (a + 1) k (omega arith)) ] in
+    → cond (not b) (1 + position_or_len p (range_with_len (a + 1) (suc k))) 0 ≡ cond (not b)
+    (1 + position_or_len p (range_with_len (a + 1) k)) 0 in
+    let cases : Goal (p a) = elim (p a) as Goal [
+      | true ↦ λ _. refl
+      | false ↦ λ f. ap (λ n. 1 + n)
+          (position_longer p (a + 1) k (omega arith))
+    ] in
     cases found
 
 position_here : (p : ℕ → Bool) (a k : ℕ) → p a ≡ true → position_or_len p (range_with_len a (suc k)) ≡ 0
@@ -67,7 +70,7 @@ module _ {C X : Type 0} (c : Chain C X) (d : List ℕ) where
       let u : Along C = record { held = t.held ++ v ∷ []; place = place } in
       let here = position_there (λ i. is_some (verdict_of c d t i)) 0 k (ap (λ r. is_some (verdict r)) e) in
       let on = position_shift (λ i. is_some (verdict_of c d t i)) (λ i. is_some (verdict_of c d u i)) 0 k
-          (λ i. ap is_some (verdict_next t u i (ap (leads t.held) e))) in
+      (λ i. ap is_some (verdict_next t u i (ap (leads t.held) e))) in
       let rest = later u (adv t v place e).0 (adv t v place e).1 in
       omega arith
 
@@ -97,9 +100,9 @@ module _ {C X : Type 0} (c : Chain C X) (d : List ℕ) where
   deciding_next t u adv led h up below =
       let here = position_there (λ i. is_some (verdict_of c d t i)) 0 (length d) h in
       let on = position_shift (λ i. is_some (verdict_of c d t i)) (λ i. is_some (verdict_of c d u i)) 0 (length d)
-          (λ i. ap is_some (verdict_next t u i led)) in
+      (λ i. ap is_some (verdict_next t u i led)) in
       let longer = position_longer (λ i. is_some (verdict_of c d u i)) 0 (length d) (found_within (length d) u adv (omega arith)
-          (omega arith) (omega arith)) in
+      (omega arith) (omega arith)) in
       let is = deciding-is t in let is_next = deciding-is u in
       omega arith
 
@@ -118,8 +121,8 @@ module _ {C X : Type 0} (c : Chain C X) (d : List ℕ) where
       same_reads (chain_from c d t) (behind (next_record c d t).marks (chain_from c d u))
       (ap (λ o. unwrap_or o (Err end_of_input)) (ap (verdict_of c d t) one ∙ verdict_next t u (deciding c d u) led))
       (marks_first t (deciding c d t) ∙ ap (λ m. (next_record c d t).marks ++ m)
-          (ap (λ n. flat_map (marks_of c d t) (range_with_len 1 n)) one ∙ flat_map_shift (marks_of c d t) (marks_of c d u) 0
-          (records_from c d u) (λ i. marks_next t u i led)))
+      (ap (λ n. flat_map (marks_of c d t) (range_with_len 1 n)) one ∙ flat_map_shift (marks_of c d t) (marks_of c d u) 0
+      (records_from c d u) (λ i. marks_next t u i led)))
 
   -- it is one record more
   pub records_next : (t : Along C) (v : C) (place : ℕ) → Advances c d → (next_record c d t).answer ≡ Ok (Next v place)
@@ -127,7 +130,7 @@ module _ {C X : Type 0} (c : Chain C X) (d : List ℕ) where
   records_next t v place adv is =
       let u : Along C = record { held = t.held ++ v ∷ []; place = place } in
       ap (λ n. n + 1) (deciding_next t u adv (ap (leads t.held) is) (ap (λ r. is_some (verdict r)) is) (adv t v place is).0
-          (adv t v place is).1)
+      (adv t v place is).1)
 
   -- a record with a verdict: that verdict, and its marks
   pub chain_stop : (t : Along C) (r : Result X ImageError) → verdict (next_record c d t).answer ≡ Some r

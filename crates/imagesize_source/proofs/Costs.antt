@@ -59,8 +59,11 @@ costs f e u d (reading r place g) h = onward_costs f e u (most r) (read_of d r p
 pub costs_less : {X : Type 0} (f : X → ℕ) (e u v : ℕ) (t : Layout X) → u ≤ v → CostsBy f e v t → CostsBy f e u t
 costs_less f e u v (done x) le h = omega arith
 costs_less f e u v (refuse r) le h = omega arith
-costs_less f e u v (field order place n g) le h = let here = h.0 in (omega arith, λ w. costs_less f e (u + n) (v + n) (g w) (omega arith)
-    (h.1 w))
+costs_less f e u v (field order place n g) le h = let here = h.0 in (
+  omega arith,
+  λ w. costs_less f e (u + n) (v + n) (g w) (omega arith)
+      (h.1 w),
+)
 costs_less f e u v (reading r place g) le h = if_refused r (λ here. omega arith) (λ rest bs. costs_less f e (u + most r) (v + most r)
     (g bs) (omega arith) (rest bs)) h
 
@@ -69,10 +72,12 @@ pub costs_bind : {X Y : Type 0} (f : Y → ℕ) (e u j : ℕ) (t : Layout X) (g 
     → ((x : X) → CostsBy f e (u + j) (g x)) → CostsBy f e u (bind t g)
 costs_bind f e u j (done x) g few enough next = costs_less f e u (u + j) (g x) (omega arith) (next x)
 costs_bind f e u j (refuse r) g few enough next = omega arith
-costs_bind f e u j (field order place n h) g few enough next = let here = few.0 in
-    (omega arith, λ v. costs_bind f e (u + n) (j - n) (h v) g (few.1 v) (omega arith) (λ x. costs_less f e (u + n + (j - n)) (u + j)
-    (g x) (omega arith) (next x)))
+costs_bind f e u j (field order place n h) g few enough next = let here = few.0 in (
+  omega arith,
+  λ v. costs_bind f e (u + n) (j - n) (h v) g (few.1 v) (omega arith) (λ x. costs_less f e (u + n + (j - n)) (u + j)
+      (g x) (omega arith) (next x)),
+)
 costs_bind f e u j (reading r place h) g few enough next =
     let here = few.0 in
     both r (omega arith) (λ bs. costs_bind f e (u + most r) (j - most r) (h bs) g (few.1 bs) (omega arith)
-        (λ x. costs_less f e (u + most r + (j - most r)) (u + j) (g x) (omega arith) (next x)))
+    (λ x. costs_less f e (u + most r + (j - most r)) (u + j) (g x) (omega arith) (next x)))

@@ -48,8 +48,12 @@ text_length d t place k = front_length t (part d place k)
 pub total_reading : (d : List ℕ) (r : Reading) (place : ℕ) → total (read_of d r place).marks ≤ most r
 total_reading d (AllOf k) place = total-span_of d place k
 total_reading d (PartOf k) place = total-span_of d place k
-total_reading d (TextOf t k) place = omega (arith, total-span_at place (length (text_part d t place k)), text_length d t place k,
-    part_length d place k)
+total_reading d (TextOf t k) place = omega (
+  arith,
+  total-span_at place (length (text_part d t place k)),
+  text_length d t place k,
+  part_length d place k,
+)
 
 onward_at_most : {X Y : Type 0} (spans : List Span) (r : Result X ImageError) (f : X → Reads Y) (n k : ℕ) → total spans ≤ n → n ≤ k
     → ((x : X) → total (f x).marks ≤ k - n) → total (onward spans r f).marks ≤ k
@@ -79,10 +83,16 @@ then_within r f j k one two = onward_within r.marks r.answer f j k one two
 pub at_most_more : {X : Type 0} (j k : ℕ) (t : Layout X) → j ≤ k → AtMost j t → AtMost k t
 at_most_more j k (done x) le h = tt
 at_most_more j k (refuse e) le h = tt
-at_most_more j k (field order place n f) le h = let here = h.0 in (omega arith, λ v. at_most_more (j - n) (k - n) (f v) (omega arith)
-    (h.1 v))
-at_most_more j k (reading r place f) le h = let here = h.0 in (omega arith, λ bs. at_most_more (j - most r) (k - most r) (f bs)
-    (omega arith) (h.1 bs))
+at_most_more j k (field order place n f) le h = let here = h.0 in (
+  omega arith,
+  λ v. at_most_more (j - n) (k - n) (f v) (omega arith)
+      (h.1 v),
+)
+at_most_more j k (reading r place f) le h = let here = h.0 in (
+  omega arith,
+  λ bs. at_most_more (j - most r) (k - most r) (f bs)
+      (omega arith) (h.1 bs),
+)
 
 -- a layout behind another asks for as many bytes as both
 pub at_most_bind : {X Y : Type 0} (j k : ℕ) (t : Layout X) (g : X → Layout Y) → AtMost j t → ((x : X) → AtMost k (g x))
@@ -91,8 +101,11 @@ at_most_bind j k (done x) g h rest = at_most_more k (j + k) (g x) (omega arith) 
 at_most_bind j k (refuse e) g h rest = tt
 at_most_bind j k (field order place n f) g h rest = let here = h.0 in
     (omega arith, λ v. at_most_more (j - n + k) (j + k - n) (bind (f v) g) (omega arith) (at_most_bind (j - n) k (f v) g (h.1 v) rest))
-at_most_bind j k (reading r place f) g h rest = let here = h.0 in (omega arith, λ bs. at_most_more (j - most r + k) (j + k - most r)
-    (bind (f bs) g) (omega arith) (at_most_bind (j - most r) k (f bs) g (h.1 bs) rest))
+at_most_bind j k (reading r place f) g h rest = let here = h.0 in (
+  omega arith,
+  λ bs. at_most_more (j - most r + k) (j + k - most r)
+      (bind (f bs) g) (omega arith) (at_most_bind (j - most r) k (f bs) g (h.1 bs) rest),
+)
 
 count-cons : (p : ℕ → Bool) (x : ℕ) (xs : List ℕ) → count_by p (x ∷ xs) ≡ cond (p x) 1 0 + count_by p xs
 count-cons p x xs = sum_by-cons (λ y. cond (p y) 1 0) x xs
@@ -124,7 +137,7 @@ count_span s a (suc n) =
     let one = count-cons (has_place s) a (range_with_len (a + 1) n) in
     let rest = count_span s (a + 1) n in
     let here : cond (has_place s a) 1 0 + ((s.start + s.len) - max (a + 1) s.start) ≤ (s.start + s.len) - max a s.start =
-        grind (arith, nat_tests) in
+    grind (arith, nat_tests) in
     omega arith
 
 -- spans that have no place which others have not have no more places
@@ -150,7 +163,9 @@ front_span a = record { start = 0; len = a.front }
 -- one reading covers no place that the front afterwards and the bytes that it took do not cover
 step_covers : (front place n at : ℕ) → has_place (record { start = 0; len = front }) at || has_place
     (record { start = place; len = n }) at ≡ true
-    → has_place (record { start = max (front_after front place n) place; len = fresh front place n - (front_after front place n - front)
+    → has_place (record {
+      start = max (front_after front place n) place;
+      len = fresh front place n - (front_after front place n - front);
     }) at || has_place (record { start = 0; len = front_after front place n }) at ≡ true
 step_covers front place n at h = grind (arith, nat_tests)
 
@@ -176,7 +191,7 @@ step_covers_all n a s spans counts =
     let fewer : places n (front_span a ∷ s ∷ spans) ≤ places n (more ∷ after ∷ spans) =
     places_fewer n (front_span a ∷ s ∷ spans) (more ∷ after ∷ spans)
     (λ at h. joined (has_place (front_span a) at) (has_place s at) (covered spans at) (has_place more at) (has_place after at)
-        (step_covers a.front s.start s.len at) h) in
+    (step_covers a.front s.start s.len at) h) in
     let one = places_more n more (after ∷ spans) in
     let grows : w - a.front ≤ m = grind (arith, nat_tests) in
     let above : a.front ≤ w = grind (arith, nat_tests) in

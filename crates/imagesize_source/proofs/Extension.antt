@@ -136,7 +136,7 @@ onward_more {X} {Y} r r' f g y is same rest = by_answer r.answer refl where
   by_answer (Ok x) ok =
       let ends : (f x).answer ≡ Ok y = sym (ap (λ a. (onward r.marks a f).answer) ok) ∙ is in
       ap (λ w. and_then w g) (same x ok ends) ∙ ap (λ a. onward r.marks a g) ok ∙ ap (behind r.marks) (rest x ends)
-          ∙ sym (ap (λ a. onward r.marks a f) ok)
+      ∙ sym (ap (λ a. onward r.marks a f) ok)
   by_answer (Err e) bad = absurd (let no : ◌≡◌ {A = Result Y ImageError} (Err e) (Ok y) = sym (ap (λ a. (onward r.marks a f).answer) bad)
       ∙ is in cc)
 

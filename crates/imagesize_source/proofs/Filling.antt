@@ -30,8 +30,13 @@ none_reached (Some s) room = (ap (λ p. Some (record s { place = p })) (omega ar
 
 -- before the first read
 pub filled_none : (first : Option Standing) (count : Option ℕ) (p : Progress) (room : List ℕ) → Filling first first count count p p 0 room
-filled_none first count p room = record { fits = omega arith; reached = none_reached first room; taken = omega arith; counts = refl;
-    keeps = record { told = refl; budget = refl; taken = omega arith; retries = omega arith; limit = λ few. few } }
+filled_none first count p room = record {
+  fits = omega arith;
+  reached = none_reached first room;
+  taken = omega arith;
+  counts = refl;
+  keeps = record { told = refl; budget = refl; taken = omega arith; retries = omega arith; limit = λ few. few };
+}
 
 -- the bytes of one more read stand behind those before
 pub take_more : (room more : List ℕ) (filled n : ℕ) → filled ≤ length room → n ≤ length more
@@ -130,5 +135,5 @@ pub within_rest : (first now : Option Standing) (room : List ℕ) (n m long take
 within_rest None now room n m long taken mid taken' gave took fits left within = tt
 within_rest (Some s) now room n m long taken mid taken' gave took fits left within =
     let after : IfSome (Some (onto s n)) (λ s. taken' ≤ mid + min m (length s.bytes - s.place)) =
-        subst (λ w. IfSome w (λ s. taken' ≤ mid + min m (length s.bytes - s.place))) gave.0 within in
+    subst (λ w. IfSome w (λ s. taken' ≤ mid + min m (length s.bytes - s.place))) gave.0 within in
     omega (arith, after, gave.2)

@@ -55,7 +55,7 @@ pub whole_missing : {a b : State} (d room : List ℕ) (place k n : ℕ) → Runs
 whole_missing {a} {b} d room place k n h long short =
     answered (Ok None) (over d (if_there place k done)) h (append-nil _ ∙ ap (span_of d place) (sym long))
     (λ is. ap Ok (whole-some k (part d place k)
-        (omega (arith, long, length-take n room, ap length (ap (part d place) (sym long) ∙ part_is is)))))
+    (omega (arith, long, length-take n room, ap length (ap (part d place) (sym long) ∙ part_is is)))))
     refl refl tt
 
 -- readings that are others' where the source is honest

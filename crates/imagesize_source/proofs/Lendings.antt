@@ -63,7 +63,7 @@ counted_on spans log s count after pushed is more = omega (arith, is, more, ap l
 pub seen_on : (spans log : List Span) (s : Span) → log ≡ spans ++ s ∷ [] → 0 < s.len → length spans ≤ total spans → length log ≤ total log
 seen_on spans log s pushed some seen =
     let all : total log ≡ total spans + s.len = ap total pushed ∙ total-append spans (s ∷ []) ∙ ap (λ n. total spans + n)
-        (add-zero s.len) in
+    (add-zero s.len) in
     omega (arith, ap length pushed, length-append spans (s ∷ []), all, some, seen)
 
 -- and stands behind those before, where there is room
@@ -76,7 +76,7 @@ written_behind room new spans s count short counted before there beyond =
       | inl fits ↦ (
           let all : length spans ≡ count = omega (arith, counted, fits, short) in
           let kept : take count room ≡ spans = ap (λ n. take n room) (sym all) ∙ before ∙ take_all (length room) spans
-              (omega (arith, all, fits)) in
+          (omega (arith, all, fits)) in
           let same : length new ≡ length room = ap length (there fits) ∙ length-set room count s in
           ap (take (length (spans ++ s ∷ []))) (there fits)
           ∙ take-set_at room count (length (spans ++ s ∷ [])) s (omega (arith, more, all)) fits
@@ -101,4 +101,4 @@ pub written_on : (room new spans log : List Span) (s : Span) (count : ℕ) → l
     (length new) log
 written_on room new spans log s count pushed short counted before there beyond =
     ap (λ l. take (length l) new) pushed ∙ written_behind room new spans s count short counted before there beyond
-        ∙ ap (take (length new)) (sym pushed)
+    ∙ ap (take (length new)) (sym pushed)

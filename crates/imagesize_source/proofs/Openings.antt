@@ -76,7 +76,7 @@ fault_only {X} t a b e reads starts h small stops =
       | inr other ↦ elim other [
         | inl spent_all ↦
             let named = some_spent (spent e) spent_all.0 (λ n. (b.frame.counts ≡ true) × (n ≡ b.frame.budget) × (n ≡ b.taken))
-                spent_all.1 h.ended.budget in
+            spent_all.1 h.ended.budget in
             absurd (omega (arith, named.1, named.2, ap (λ f. f.budget) h.frame, starts.budget, starts.taken, h.within honest, small))
         | inr refused ↦
             let on : b.frame.records ≡ true = (h.ended.memory refused).0 in
@@ -144,9 +144,9 @@ runs_of : {X : Type 0} (t : Telling) (mid : Option Telling) (count : Option ℕ)
 runs_of t mid count home told place b r reads_of honest began h =
     let a = start_state (Some (at_place t (length t.bytes))) count home (length t.bytes) in
     let begun : Runs a b r (over_state a reads_of place) = subst (λ s. Runs s b r (over_state s reads_of place))
-        (start_of t mid count home told place began) h in
+    (start_of t mid count home told place began) h in
     let there : Runs a b r (reads_of t.bytes place) = subst (λ k. Runs a b r (reads_of k.input place)) (start_holds t count home honest)
-        begun in
+    begun in
     subst (λ p. Runs a b r (reads_of t.bytes p)) began.at there
 
 -- what a call that ran behind an opening answers
@@ -158,7 +158,7 @@ opened_answers None mid count home opened b r reads_of bounded opens h = tt
 opened_answers (Some t) mid count home opened b r reads_of bounded opens h = λ honest.
     let began : Began t mid opened.told opened.place = record { at_end = opens.0; length_told = opens.2; at = opens.1 } in
     answers_of t _ b r (over_reader t reads_of) (starts_at t count home honest) (runs_of t mid count home opened.told opened.place b r
-        reads_of honest began h) (bounded t.bytes t.place)
+    reads_of honest began h) (bounded t.bytes t.place)
 
 -- and what it took
 pub opened_takes : {X : Type 0} (telling mid : Option Telling) (count : Option ℕ) (home : ℕ) (opened : Opened) (b : State)
@@ -169,4 +169,4 @@ opened_takes None mid count home opened b r reads_of opens h = tt
 opened_takes (Some t) mid count home opened b r reads_of opens h = λ honest.
     let began : Began t mid opened.told opened.place = record { at_end = opens.0; length_told = opens.2; at = opens.1 } in
     takes_of t _ b r (over_reader t reads_of) (starts_at t count home honest) (runs_of t mid count home opened.told opened.place b r
-        reads_of honest began h)
+    reads_of honest began h)

@@ -16,10 +16,10 @@ pub saturated_by : {X : Type 0} {a b : State} {r : Result X ImageError} (f : ℕ
     → Runs a b r (f place a.held.input)
 saturated_by {a} f other place beyond h = runs_as (f place a.held.input) h (λ honest. within a.held.input (h.sound honest).1
     (leb place (2 ^ 64 - 1)) refl) where
-  within : (d : List ℕ) → length d < 2 ^ 63 → (is_within : Bool) → leb place (2 ^ 64 - 1) ≡ is_within → f (min place (2 ^ 64 - 1)) d
-      ≡ f place d
-  within d short true is = ap (λ p. f p d) (grind (arith, nat_tests))
-  within d short false is = beyond d (min place (2 ^ 64 - 1)) (grind (arith, nat_tests)) ∙ sym (beyond d place (grind (arith, nat_tests)))
+      within : (d : List ℕ) → length d < 2 ^ 63 → (is_within : Bool) → leb place (2 ^ 64 - 1) ≡ is_within → f (min place (2 ^ 64 - 1)) d
+          ≡ f place d
+      within d short true is = ap (λ p. f p d) (grind (arith, nat_tests))
+      within d short false is = beyond d (min place (2 ^ 64 - 1)) (grind (arith, nat_tests)) ∙ sym (beyond d place (grind (arith, nat_tests)))
 
 -- no byte is there
 part_beyond : (d : List ℕ) (place k : ℕ) → length d ≤ place → part_read d place k ≡ gives []
@@ -69,7 +69,7 @@ pub number_refused : {a : State} (order : Endian) (place k : ℕ) → Sound a �
     (number_read a.held.input order place k)
 number_refused {a} order place k sound beyond some =
     let gone = λ (honest : a.held.honest ≡ true). number_beyond a.held.input order place k (omega (arith, (sound honest).1, beyond)) some
-        in
+    in
     record {
       sound = sound;
       sound_after = sound;

@@ -96,7 +96,7 @@ module _ {X : Type 0} {a b : State} {whole rest : Reads X} (h : Reached a b whol
     within = λ honest.
         let one = h.within honest in let two = run.within (still_honest honest) in let fits = within honest in
         let all : total whole.marks ≡ total h.made + total rest.marks = ap (λ w. total w.marks) (h.left honest) ∙ total-append h.made
-            rest.marks in
+        rest.marks in
         omega arith;
     answer = λ honest goes_on. ap (λ w. w.answer) (h.left honest) ∙ (same honest (run.answer (still_honest honest) (stops ∙ goes_on))).0;
     state = λ honest goes_on.
@@ -121,45 +121,45 @@ module _ {X : Type 0} {a b : State} {whole rest : Reads X} (h : Reached a b whol
       (λ honest. sym (same honest (let short = (h.sound sound honest).1 in omega arith)))
 
 module _ {X Y : Type 0} {a b : State} {whole : Reads X} (reads : Reads Y) (f : Y → Reads X) (h : Reached a b whole (and_then reads f))
-    where
-  -- the next readings, and what is left behind their answer
-  pub reached_step : {end : State} (y : Y) (given : Reads Y) → Runs b end (Ok y) given → (a.held.honest ≡ true → given ≡ reads)
-      → Reached a end whole (f y)
-  reached_step {end} y given run same = record {
-    sound = λ _. h.sound run.sound;
-    frame = run.frame ∙ h.frame;
-    taken = let one = h.taken in let two = run.taken in omega arith;
-    made = h.made ++ given.marks;
-    within = λ honest.
-        let one = h.within honest in let two = run.within (still_honest h honest) in let all = total-append h.made given.marks in
-            omega arith;
-    state = λ honest. run.state (still_honest h honest) refl ∙ ap (λ s. past s given.marks) (h.state honest) ∙ past-past a h.made
-        given.marks;
-    left = λ honest.
-        h.left honest ∙ ap (λ w. behind h.made (and_then w f)) (sym (same honest))
-        ∙ ap (behind h.made) (onward_at given.marks given.answer (Ok y) f (run.answer (still_honest h honest) refl))
-        ∙ behind-behind h.made given.marks (f y);
-  }
+  where
+    -- the next readings, and what is left behind their answer
+    pub reached_step : {end : State} (y : Y) (given : Reads Y) → Runs b end (Ok y) given → (a.held.honest ≡ true → given ≡ reads)
+        → Reached a end whole (f y)
+    reached_step {end} y given run same = record {
+      sound = λ _. h.sound run.sound;
+      frame = run.frame ∙ h.frame;
+      taken = let one = h.taken in let two = run.taken in omega arith;
+      made = h.made ++ given.marks;
+      within = λ honest.
+          let one = h.within honest in let two = run.within (still_honest h honest) in let all = total-append h.made given.marks in
+          omega arith;
+      state = λ honest. run.state (still_honest h honest) refl ∙ ap (λ s. past s given.marks) (h.state honest) ∙ past-past a h.made
+          given.marks;
+      left = λ honest.
+          h.left honest ∙ ap (λ w. behind h.made (and_then w f)) (sym (same honest))
+          ∙ ap (behind h.made) (onward_at given.marks given.answer (Ok y) f (run.answer (still_honest h honest) refl))
+          ∙ behind-behind h.made given.marks (f y);
+    }
 
-  -- the next readings were refused
-  pub reached_out : {end : State} (e : ImageError) (given : Reads Y) → Runs b end (Err e) given → (a.held.honest ≡ true → given ≡ reads)
-      → Runs a end (Err e) whole
-  reached_out e given run same = ended_by h (Err e) (Err e) given run refl refl run.ended
-      (λ honest. let is = ap (λ w. total w.marks) (same honest) in let more = total_onward reads.marks reads.answer f in omega arith)
-      (λ honest is.
-      let out : onward reads.marks reads.answer f ≡ record { answer = Err e; marks = given.marks } =
-      ap (λ w. and_then w f) (sym (same honest)) ∙ onward_at given.marks given.answer (Err e) f is in
-      (ap (λ w. w.answer) out, ap (λ w. w.marks) out))
+    -- the next readings were refused
+    pub reached_out : {end : State} (e : ImageError) (given : Reads Y) → Runs b end (Err e) given → (a.held.honest ≡ true → given ≡ reads)
+        → Runs a end (Err e) whole
+    reached_out e given run same = ended_by h (Err e) (Err e) given run refl refl run.ended
+        (λ honest. let is = ap (λ w. total w.marks) (same honest) in let more = total_onward reads.marks reads.answer f in omega arith)
+        (λ honest is.
+        let out : onward reads.marks reads.answer f ≡ record { answer = Err e; marks = given.marks } =
+        ap (λ w. and_then w f) (sym (same honest)) ∙ onward_at given.marks given.answer (Err e) f is in
+        (ap (λ w. w.answer) out, ap (λ w. w.marks) out))
 
-  -- the next readings gave the answer, behind which nothing is read
-  pub reached_stop : {end : State} (x : X) (y : Y) (given : Reads Y) → f y ≡ gives x → Runs b end (Ok y) given
-      → (a.held.honest ≡ true → given ≡ reads) → Runs a end (Ok x) whole
-  reached_stop x y given last run same = ended_by h (Ok x) (Ok y) given run refl refl tt
-      (λ honest. let is = ap (λ w. total w.marks) (same honest) in let more = total_onward reads.marks reads.answer f in omega arith)
-      (λ honest is.
-      let out : onward reads.marks reads.answer f ≡ behind given.marks (gives x) =
-      ap (λ w. and_then w f) (sym (same honest)) ∙ onward_at given.marks given.answer (Ok y) f is ∙ ap (behind given.marks) last in
-      (ap (λ w. w.answer) out, ap (λ w. w.marks) out ∙ append-nil given.marks))
+    -- the next readings gave the answer, behind which nothing is read
+    pub reached_stop : {end : State} (x : X) (y : Y) (given : Reads Y) → f y ≡ gives x → Runs b end (Ok y) given
+        → (a.held.honest ≡ true → given ≡ reads) → Runs a end (Ok x) whole
+    reached_stop x y given last run same = ended_by h (Ok x) (Ok y) given run refl refl tt
+        (λ honest. let is = ap (λ w. total w.marks) (same honest) in let more = total_onward reads.marks reads.answer f in omega arith)
+        (λ honest is.
+        let out : onward reads.marks reads.answer f ≡ behind given.marks (gives x) =
+        ap (λ w. and_then w f) (sym (same honest)) ∙ onward_at given.marks given.answer (Ok y) f is ∙ ap (behind given.marks) last in
+        (ap (λ w. w.answer) out, ap (λ w. w.marks) out ∙ append-nil given.marks))
 
 -- a walk along a chain, from which what is left is the chain from here on
 module _ {C X : Type 0} (c : Chain C X) (adv : (d : List ℕ) → Advances c d) {a b : State} {whole : Reads X} (t : Along C)
@@ -193,9 +193,9 @@ pub runs_bind : {X Y : Type 0} {a b : State} {x : X} (r : Result Y ImageError) (
     → IfErr r (EndedBy b) → Runs a b r (over a.held.input (bind t f))
 runs_bind {X} {Y} {a} {b} {x} r t f first says no_fault ended =
     let second : Runs b b r (over b.held.input (f x)) = subst (λ w. Runs b b r w) (sym (says b.held.input))
-        (reads_nothing b r first.sound_after no_fault ended) in
+    (reads_nothing b r first.sound_after no_fault ended) in
     subst (λ w. Runs a b r w) (sym (over-bind a.held.input t f)) (runs_then (over a.held.input t) (λ v held. over held.input (f v)) first
-        second)
+    second)
 
 -- a layout that was refused
 pub refused_bind : {X Y : Type 0} {a b : State} {e : ImageError} (t : Layout X) (f : X → Layout Y) → Runs {X = X} a b (Err e)

@@ -24,7 +24,7 @@ recording_runs : {X : Type 0} {reads : Reads X} (d : List ℕ) (spans after : Li
     → after ≡ spans ++ reads.marks → Runs (recording_state d spans) (recording_state d after) (Ok x) reads
 recording_runs {X} {reads} d spans after x short is recorded =
     given_runs x (λ honest. (refl, short)) (λ honest. (refl, short)) refl refl is
-        (ap (recording_state d) recorded ∙ sym (past-recording d spans reads.marks))
+    (ap (recording_state d) recorded ∙ sym (past-recording d spans reads.marks))
 
 -- a reading of bytes
 pub recording_reads : (d room old : List ℕ) (spans after : List Span) (place n : ℕ) → length d < 2 ^ 63

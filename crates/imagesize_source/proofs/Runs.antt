@@ -135,14 +135,19 @@ runs_then {X} {Y} {a} {m} {b} {x} {y} r f first second =
     let same = λ (honest : a.held.honest ≡ true). past_honest first honest in
     let honest_then = λ (honest : a.held.honest ≡ true). ap (λ h. h.honest) (same honest) ∙ honest in
     let next = λ (honest : a.held.honest ≡ true). ap (λ v. onward r.marks v (λ w. f w a.held)) (first.answer honest refl)
-        ∙ ap (λ h. behind r.marks (f x h)) (sym (same honest)) in
+    ∙ ap (λ h. behind r.marks (f x h)) (sym (same honest)) in
     record {
       sound = first.sound;
       sound_after = second.sound_after;
       frame = second.frame ∙ first.frame;
       taken = omega (arith, first.taken, second.taken);
-      within = λ honest. rw (next honest) (omega (arith, first.within honest, second.within (honest_then honest), total-append r.marks
-          (f x m.held).marks));
+      within = λ honest. rw (next honest) (omega (
+        arith,
+        first.within honest,
+        second.within (honest_then honest),
+        total-append r.marks
+            (f x m.held).marks,
+      ));
       answer = λ honest goes_on. ap (λ q. q.answer) (next honest) ∙ second.answer (honest_then honest) goes_on;
       state = λ honest goes_on.
           second.state (honest_then honest) goes_on

@@ -28,7 +28,7 @@ pub front_is : (d room old : List ℕ) (place n : ℕ) → n ≡ min (length old
 front_is d room old place n count copied kept =
     let same : length (part d place (length old)) ≡ n = length-part d place (length old) ∙ sym count in
     ap (take n) copied ∙ ap (λ k. take k (part d place (length old) ++ drop n old)) (sym same) ∙ take-append_seam
-        (part d place (length old)) (drop n old) ∙ ap (part d place) (sym kept)
+    (part d place (length old)) (drop n old) ∙ ap (part d place) (sym kept)
 
 -- a reading that was answered, and for which nothing was taken
 pub given_runs : {X : Type 0} {a b : State} {reads : Reads X} (x : X) → Sound a → Sound b → b.frame ≡ a.frame → b.taken ≡ a.taken
@@ -64,7 +64,7 @@ pub slice_part : (d : List ℕ) (place first k n : ℕ) → first ≡ min place 
 unfolding part
 slice_part d place first k n first_is n_is =
     let rest : take (length d - first) (drop first d) ≡ drop first d = take_all (length d - first) (drop first d)
-        (omega (arith, length-drop first d)) in
+    (omega (arith, length-drop first d)) in
     let same : drop first d ≡ drop place d = drop_min d place first first_is in
     let long : n ≡ min k (length (drop place d)) = n_is ∙ ap (λ xs. min (length xs) k) (rest ∙ same) ∙ omega arith in
     ap (λ xs. take n xs) (rest ∙ same) ∙ ap (λ m. take m (drop place d)) long ∙ take_min k (drop place d)
@@ -84,15 +84,19 @@ unfolding text_part
 slice_text d t place first k n m first_is n_is m_is =
     let same = slice_part d place first k n first_is n_is in
     ap (λ j. take j (take n (take (length d - first) (drop first d)))) m_is ∙ front_take t
-        (take n (take (length d - first) (drop first d))) ∙ ap (text_front t) same
+    (take n (take (length d - first) (drop first d))) ∙ ap (text_front t) same
 
 -- how long it is
 pub slice_text_fits : (d : List ℕ) (t : Text) (place first k n m : ℕ) → first ≡ min place (length d)
     → n ≡ min (length (take (length d - first) (drop first d))) k
     → m ≡ length (text_front t (take n (take (length d - first) (drop first d))))
     → length (take m (take n (take (length d - first) (drop first d)))) ≤ k
-slice_text_fits d t place first k n m first_is n_is m_is = omega (arith, ap length (slice_text d t place first k n m first_is n_is m_is),
-    text_length d t place k, part_length d place k)
+slice_text_fits d t place first k n m first_is n_is m_is = omega (
+  arith,
+  ap length (slice_text d t place first k n m first_is n_is m_is),
+  text_length d t place k,
+  part_length d place k,
+)
 
 pub slice_text_there : (d : List ℕ) (t : Text) (place first k n m : ℕ) → first ≡ min place (length d)
     → n ≡ min (length (take (length d - first) (drop first d))) k
@@ -106,10 +110,16 @@ pub copied_is : (d old copied found : List ℕ) (t : Text) (place : ℕ) → fou
     → length found ≤ length old → copied ≡ found → (take (length found) (copied ++ drop (length found) old) ≡ found)
     × (found ≡ text_part d t place (length (copied ++ drop (length found) old)))
 copied_is d old copied found t place is fits same =
-    let kept : length (copied ++ drop (length found) old) ≡ length old = omega (arith, length-append copied (drop (length found) old),
-        ap length same, length-drop (length found) old, fits) in
-    (ap (λ bs. take (length found) (bs ++ drop (length found) old)) same ∙ take-append_seam found (drop (length found) old),
-        is ∙ ap (text_part d t place) (sym kept))
+    let kept : length (copied ++ drop (length found) old) ≡ length old = omega (
+      arith,
+      length-append copied (drop (length found) old),
+      ap length same,
+      length-drop (length found) old,
+      fits,
+    ) in (
+      ap (λ bs. take (length found) (bs ++ drop (length found) old)) same ∙ take-append_seam found (drop (length found) old),
+      is ∙ ap (text_part d t place) (sym kept),
+    )
 
 -- the reading of a text of a slice
 pub slice_reads_text : (d old copied found : List ℕ) (t : Text) (place : ℕ) → length d < 2 ^ 63 → found ≡ text_part d t place

@@ -52,16 +52,25 @@ not_before_left n q (Some place) h = omega arith
 reading_left : (d : List ℕ) (r : Reading) (place : ℕ) → total (read_of d r place).marks ≤ length d - place
 reading_left d (AllOf k) place = omega (arith, total_there d place k)
 reading_left d (PartOf k) place = omega (arith, total_there d place k)
-reading_left d (TextOf t k) place = omega (arith, total-span_at place (length (text_part d t place k)), text_length d t place k,
-    part_length d place k)
+reading_left d (TextOf t k) place = omega (
+  arith,
+  total-span_at place (length (text_part d t place k)),
+  text_length d t place k,
+  part_length d place k,
+)
 
 -- and leaves those behind them
 reading_spends : (d : List ℕ) (r : Reading) (place : ℕ) (bs : List ℕ) → (read_of d r place).answer ≡ Ok bs
     → total (read_of d r place).marks + (length d - (place + passed r bs)) ≤ length d - place
 reading_spends d (AllOf k) place bs is = omega (arith, total_there d place k)
 reading_spends d (PartOf k) place bs is = omega (arith, total_there d place k)
-reading_spends d (TextOf t k) place bs is = omega (arith, ap length (part_is is), total-span_at place (length (text_part d t place k)),
-    text_length d t place k, part_length d place k)
+reading_spends d (TextOf t k) place bs is = omega (
+  arith,
+  ap length (part_is is),
+  total-span_at place (length (text_part d t place k)),
+  text_length d t place k,
+  part_length d place k,
+)
 
 onward_spends : {X Y : Type 0} (n q : ℕ) (to : Y → Option ℕ) (spans : List Span) (r : Result X ImageError) (f : X → Reads Y)
     (next : X → ℕ) → total spans ≤ n - q → ((x : X) → r ≡ Ok x → total spans + (n - next x) ≤ n - q)
@@ -76,11 +85,11 @@ spends d to q (refuse e) h = omega arith
 spends d to q (field order place k f) h =
     onward_spends (length d) q to (span_of d place k) (number_at d order place k) (λ v. over d (f v)) (λ _. place + k)
     (omega (arith, h.0, total_there d place k)) (λ v _. omega (arith, h.0, total_there d place k))
-        (λ v _. spends d to (place + k) (f v) (h.1 v))
+    (λ v _. spends d to (place + k) (f v) (h.1 v))
 spends d to q (reading r place f) h =
     onward_spends (length d) q to (read_of d r place).marks (read_of d r place).answer (λ bs. over d (f bs)) (λ bs. place + passed r bs)
     (omega (arith, h.0, reading_left d r place)) (λ bs is. omega (arith, h.0, reading_spends d r place bs is))
-        (λ bs _. spends d to (place + passed r bs) (f bs) (h.1 bs))
+    (λ bs _. spends d to (place + passed r bs) (f bs) (h.1 bs))
 
 -- readings, and others that go on from the place where they lead
 pub spends_then : {X Y : Type 0} (n q : ℕ) (next : X → ℕ) (to : Y → Option ℕ) (r : Reads X) (f : X → Reads Y)
@@ -107,9 +116,9 @@ chain_spends {C} {X} c d to adv each = chain_induction c d (λ t. Spends (length
     let u : Along C = record { held = t.held ++ v ∷ []; place = place } in
     let next = chain_next c d t v place adv is in
     let all : total (chain_from c d t).marks ≡ total (next_record c d t).marks + total (chain_from c d u).marks =
-        ap (λ w. total w.marks) next ∙ total-append (next_record c d t).marks (chain_from c d u).marks in
+    ap (λ w. total w.marks) next ∙ total-append (next_record c d t).marks (chain_from c d u).marks in
     let same : left (length d) to (chain_from c d t).answer ≡ left (length d) to (chain_from c d u).answer =
-        ap (λ w. left (length d) to w.answer) next in
+    ap (λ w. left (length d) to w.answer) next in
     let here : left (length d) (said_to to) (next_record c d t).answer ≡ length d - place = ap (left (length d) (said_to to)) is in
     omega (arith, each t))
     (λ t r is.

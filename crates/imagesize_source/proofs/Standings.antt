@@ -46,7 +46,7 @@ pub from_there : (first mid : Option Standing) (telling : Option Telling) (p : P
 from_there None mid telling p place at n b room goes on gives = tt
 from_there (Some s) mid telling p place at n b room goes on gives =
     let all : GivesAll (Some (record s { place = place })) (stand telling p) room (Ok n) =
-        subst (λ w. GivesAll w (stand telling p) room (Ok n)) (goes_there s mid place at b goes on) gives in
+    subst (λ w. GivesAll w (stand telling p) room (Ok n)) (goes_there s mid place at b goes on) gives in
     (all.0 ∙ ap (λ k. Some (record s { place = k })) (sym (place_at telling p _ all.0)), all.1, all.2)
 
 -- a failure behind a place that was reached

@@ -57,7 +57,7 @@ rest_goes_on Word true b bs is = through-cons is_ascii_whitespace b bs ∙ ap (�
     (b ∷ through is_ascii_whitespace bs)) is
 rest_goes_on Word false b bs is =
     let Goal : Bool → Type 0 = λ white. cond white (b ∷ text_front Word bs) (b ∷ through is_ascii_whitespace bs) ≡ b ∷ text_rest Word
-        (not white) bs in
+    (not white) bs in
     let cases : Goal (is_ascii_whitespace b) = elim (is_ascii_whitespace b) as Goal [ true ↦ refl | false ↦ refl ] in
     word_front b bs ∙ cases
 
@@ -177,8 +177,13 @@ module _ {a b : State} {t : Text} {place count k : ℕ} {begun : Bool} {got : Li
   -- the text has the bytes that were read, and what is left
   text_long : a.held.honest ≡ true → length (text_part a.held.input t place k) ≡ count + length
       (text_rest t begun (part a.held.input (place + count) (k - count)))
-  text_long honest = omega (arith, ap length (h.left honest), length-append got
-      (text_rest t begun (part a.held.input (place + count) (k - count))), h.long)
+  text_long honest = omega (
+    arith,
+    ap length (h.left honest),
+    length-append got
+        (text_rest t begun (part a.held.input (place + count) (k - count))),
+    h.long,
+  )
 
   -- what is left of it is nothing
   all_read : a.held.honest ≡ true → part a.held.input (place + count) (k - count) ≡ [] → text_part a.held.input t place k ≡ got
@@ -190,7 +195,7 @@ module _ {a b : State} {t : Text} {place count k : ℕ} {begun : Bool} {got : Li
     end_there : Runs b c (Ok []) (part_read b.held.input next 1) → a.held.honest ≡ true → length a.held.input ≤ next
     end_there run honest =
         let none : part a.held.input next 1 ≡ [] = ap (λ d. part d next 1) (sym (same_input honest)) ∙ part_is
-            (run.answer (same_honest honest) refl) in
+        (run.answer (same_honest honest) refl) in
         omega (arith, part_length a.held.input next 1, ap length none)
 
     -- a text ends where the input does
@@ -201,8 +206,16 @@ module _ {a b : State} {t : Text} {place count k : ℕ} {begun : Bool} {got : Li
       sound_after = run.sound_after;
       frame = run.frame ∙ h.frame;
       taken = omega (arith, h.taken, run.taken);
-      within = λ honest. omega (arith, h.within honest, run.within (same_honest honest), ap total (no_mark honest), total-span_at place
-          (length (text_part a.held.input t place k)), ap length (ends_now honest), h.long);
+      within = λ honest. omega (
+        arith,
+        h.within honest,
+        run.within (same_honest honest),
+        ap total (no_mark honest),
+        total-span_at place
+            (length (text_part a.held.input t place k)),
+        ap length (ends_now honest),
+        h.long,
+      );
       answer = λ honest goes_on. ap Ok (ends_now honest);
       state = λ honest goes_on.
           run.state (same_honest honest) refl ∙ ap (past b) (no_mark honest) ∙ h.state honest
@@ -224,8 +237,14 @@ module _ {a b : State} {t : Text} {place count k : ℕ} {begun : Bool} {got : Li
       sound_after = run.sound_after;
       frame = run.frame ∙ h.frame;
       taken = omega (arith, h.taken, run.taken);
-      within = λ honest. omega (arith, h.within honest, run.within (same_honest honest), few honest, total-span_at place
-          (length (text_part a.held.input t place k)));
+      within = λ honest. omega (
+        arith,
+        h.within honest,
+        run.within (same_honest honest),
+        few honest,
+        total-span_at place
+            (length (text_part a.held.input t place k)),
+      );
       answer = λ honest goes_on. absurd (let no = run.answer (same_honest honest) goes_on in cc);
       state = λ honest goes_on. absurd (let no = run.answer (same_honest honest) goes_on in cc);
       fault = λ honest faults. ap (λ x. x.can_fail) (sym (same_held honest)) ∙ run.fault (same_honest honest) faults;
@@ -239,9 +258,9 @@ module _ {a b : State} {t : Text} {place count k : ℕ} {begun : Bool} {got : Li
       few honest = elim (cases_lt next (length a.held.input)) [
         | inl there ↦ (
             let short : length a.held.input < 2 ^ 63 = subst (λ d. length d < 2 ^ 63) (same_input honest)
-                (h.sound (same_honest honest)).1 in
+            (h.sound (same_honest honest)).1 in
             let some = one_more (part a.held.input (place + count) (k - count))
-                (omega (arith, part_length a.held.input (place + count) (k - count), there, next_is, short, more)) in
+            (omega (arith, part_length a.held.input (place + count) (k - count), there, next_is, short, more)) in
             omega (arith, some, text_long honest, total-span_of b.held.input next 1))
         | inr beyond ↦ omega (arith, text_long honest, total_there b.held.input next 1, ap length (same_input honest), beyond)
       ]
@@ -260,7 +279,7 @@ module _ {a b : State} {t : Text} {place count k : ℕ} {begun : Bool} {got : Li
           (k - (count + 1))
       rest_read honest =
           let one : part a.held.input (place + count) 1 ≡ byte ∷ [] = ap (λ p. part a.held.input p 1) (sym (next_place honest))
-              ∙ byte_read honest in
+          ∙ byte_read honest in
           let there : place + count + 1 ≡ place + (count + 1) = omega arith in
           let fewer : k - count - 1 ≡ k - (count + 1) = omega arith in
           part_byte a.held.input (place + count) byte (k - count) one (omega (arith, more))
@@ -269,8 +288,11 @@ module _ {a b : State} {t : Text} {place count k : ℕ} {begun : Bool} {got : Li
 
       joined : CountsOnly a → a.held.honest ≡ true → c ≡ past a (span_at place (count + 1))
       joined only honest =
-          let there : 1 ≤ length b.held.input - next = omega (arith, part_length b.held.input next 1,
-              ap length (part_is (run.answer (same_honest honest) refl))) in
+          let there : 1 ≤ length b.held.input - next = omega (
+            arith,
+            part_length b.held.input next 1,
+            ap length (part_is (run.answer (same_honest honest) refl)),
+          ) in
           run.state (same_honest honest) refl
           ∙ ap (past b) (whole_span b.held.input next 1 there)
           ∙ ap (λ p. past b (span_at p 1)) (next_place honest)
@@ -308,8 +330,14 @@ module _ {a b : State} {t : Text} {place count k : ℕ} {begun : Bool} {got : Li
         sound_after = run.sound_after;
         frame = run.frame ∙ h.frame;
         taken = omega (arith, h.taken, run.taken);
-        within = λ honest. omega (arith, h.within honest, run.within (same_honest honest), total-span_of b.held.input next 1,
-            total-span_at place (length (text_part a.held.input t place k)), long_now honest);
+        within = λ honest. omega (
+          arith,
+          h.within honest,
+          run.within (same_honest honest),
+          total-span_of b.held.input next 1,
+          total-span_at place (length (text_part a.held.input t place k)),
+          long_now honest,
+        );
         answer = λ honest goes_on. ap Ok (done_now honest);
         state = λ honest goes_on. joined only honest ∙ ap (λ n. past a (span_at place n)) (sym (long_now honest));
         fault = λ honest faults. absurd cc;
@@ -331,8 +359,13 @@ module _ {a b : State} {t : Text} {place count k : ℕ} {begun : Bool} {got : Li
     sound_after = h.sound;
     frame = h.frame;
     taken = h.taken;
-    within = λ honest. omega (arith, h.within honest, total-span_at place (length (text_part a.held.input t place k)),
-        ap length (full_now honest), h.long);
+    within = λ honest. omega (
+      arith,
+      h.within honest,
+      total-span_at place (length (text_part a.held.input t place k)),
+      ap length (full_now honest),
+      h.long,
+    );
     answer = λ honest goes_on. ap Ok (full_now honest);
     state = λ honest goes_on. h.state honest ∙ ap (λ n. past a (span_at place n)) (sym (ap length (full_now honest) ∙ h.long));
     fault = λ honest faults. absurd cc;
@@ -393,14 +426,14 @@ module _ {a b : State} {t : Text} {place count : ℕ} {begun : Bool} (room : Lis
           (take (count + 1) (put_mid count m room more))
       text_goes_on white is_end only short paid white_is end_is goes_on =
           let on = taking_more h next next_is (slice_index (put_mid count m room more) count) fits read_one only
-              (omega (arith, next_is, short)) paid (sym end_is ∙ goes_on) in
+          (omega (arith, next_is, short)) paid (sym end_is ∙ goes_on) in
           subst (λ w. Taking a c t place (count + 1) (begun || not w) (length (put_mid count m room more))
-              (take (count + 1) (put_mid count m room more))) (sym white_is)
+          (take (count + 1) (put_mid count m room more))) (sym white_is)
           (subst (λ k. Taking a c t place (count + 1)
-              (begun || not (is_ascii_whitespace (slice_index (put_mid count m room more) count))) k
-              (take (count + 1) (put_mid count m room more))) (sym (room_long count m room more fits is_one one))
+          (begun || not (is_ascii_whitespace (slice_index (put_mid count m room more) count))) k
+          (take (count + 1) (put_mid count m room more))) (sym (room_long count m room more fits is_one one))
           (subst (λ bs. Taking a c t place (count + 1)
-              (begun || not (is_ascii_whitespace (slice_index (put_mid count m room more) count))) (length room) bs) (sym room_more) on))
+          (begun || not (is_ascii_whitespace (slice_index (put_mid count m room more) count))) (length room) bs) (sym room_more) on))
 
       -- one byte more, which ends the text
       pub text_ends : (is_end : Bool) → CountsOnly a → Sound a → is_end ≡ ends t begun (slice_index (put_mid count m room more) count)
@@ -408,7 +441,7 @@ module _ {a b : State} {t : Text} {place count : ℕ} {begun : Bool} (room : Lis
           (text_read a.held.input t place (length (put_mid count m room more)))
       text_ends is_end only sound end_is ends_here =
           subst (λ k. Runs a c (Ok (take (count + 1) (put_mid count m room more))) (text_read a.held.input t place k))
-              (sym (room_long count m room more fits is_one one))
+          (sym (room_long count m room more fits is_one one))
           (subst (λ bs. Runs a c (Ok bs) (text_read a.held.input t place (length room))) (sym room_more)
           (taking_done h next next_is (slice_index (put_mid count m room more) count) fits read_one only (sym end_is ∙ ends_here) sound))
 
@@ -417,9 +450,9 @@ module _ {a b : State} {t : Text} {place count : ℕ} {begun : Bool} (room : Lis
         (text_read a.held.input t place (length (put_mid count m room more)))
     input_ends sound none =
         subst (λ k. Runs a c (Ok (take count (put_mid count m room more))) (text_read a.held.input t place k))
-            (sym (room_long count m room more fits is_one one))
+        (sym (room_long count m room more fits is_one one))
         (subst (λ bs. Runs a c (Ok bs) (text_read a.held.input t place (length room)))
-            (sym (take-put_mid_below count m room more count (omega arith) (omega (arith, fits))))
+        (sym (take-put_mid_below count m room more count (omega arith) (omega (arith, fits))))
         (taking_ends h next next_is (one_read b.held.input more [] next n one (ap (λ j. take j more) none) run) sound))
 
   -- a failure

@@ -17,7 +17,7 @@ take-more {b} n bs = let same : 1 + n + 1 ≡ suc (n + 1) = omega arith in ap (�
 pub through-cons : (p : ℕ → Bool) (b : ℕ) (bs : List ℕ) → through p (b ∷ bs) ≡ cond (p b) (b ∷ []) (b ∷ through p bs)
 through-cons p b bs =
     let Goal : Bool → Type 0 = λ is. take (cond (not is) (1 + position_or_len p bs) 0 + 1) (b ∷ bs) ≡ cond is (b ∷ []) (b ∷ through p bs)
-        in
+    in
     elim (p b) as Goal [ true ↦ refl | false ↦ take-more (position_or_len p bs) bs ]
 
 -- what follows a byte that passes is not looked at
@@ -25,7 +25,7 @@ through_more : (p : ℕ → Bool) (bs more : List ℕ) → list_any p bs ≡ tru
 through_more p [] more some = absurd cc
 through_more p (b ∷ bs) more some =
     let Goal : Bool → Type 0 = λ is. is || list_any p bs ≡ true → cond is (b ∷ []) (b ∷ through p (bs ++ more)) ≡ cond is (b ∷ [])
-        (b ∷ through p bs) in
+    (b ∷ through p bs) in
     let cases : Goal (p b) = elim (p b) as Goal [ true ↦ λ _. refl | false ↦ λ h. ap (λ xs. b ∷ xs) (through_more p bs more h) ] in
     through-cons p b (bs ++ more) ∙ cases some ∙ sym (through-cons p b bs)
 
@@ -61,9 +61,12 @@ skip-cons p b bs =
     let n : ℕ = position_or_len (λ x. not (p x)) bs in
     let one : 1 + n ≡ suc n = omega arith in
     let Goal : Bool → Type 0 = λ is. p b ≡ is → cut_at p (cond (not (not is)) (1 + n) 0) (b ∷ bs) ≡ cond is (b ∷ cut_at p n bs)
-        (b ∷ through p bs) in
-    let cases : Goal (p b) = elim (p b) as Goal [ true ↦ λ is. ap (λ k. cut_at p k (b ∷ bs)) one | false ↦ λ is. through-cons p b bs
-        ∙ ap (λ test. cond test (b ∷ []) (b ∷ through p bs)) is ] in
+    (b ∷ through p bs) in
+    let cases : Goal (p b) = elim (p b) as Goal [
+      | true ↦ λ is. ap (λ k. cut_at p k (b ∷ bs)) one
+      | false ↦ λ is. through-cons p b bs
+          ∙ ap (λ test. cond test (b ∷ []) (b ∷ through p bs)) is
+    ] in
     cases refl
 
 any-cons : (p : ℕ → Bool) (b : ℕ) (bs : List ℕ) → list_any p (drop (position_or_len (λ x. not (p x)) (b ∷ bs)) (b ∷ bs)) ≡ cond (p b)
@@ -72,9 +75,12 @@ any-cons p b bs =
     let n : ℕ = position_or_len (λ x. not (p x)) bs in
     let one : 1 + n ≡ suc n = omega arith in
     let Goal : Bool → Type 0 = λ is. p b ≡ is → list_any p (drop (cond (not (not is)) (1 + n) 0) (b ∷ bs)) ≡ cond is
-        (list_any p (drop n bs)) (list_any p bs) in
-    let cases : Goal (p b) = elim (p b) as Goal [ true ↦ λ is. ap (λ k. list_any p (drop k (b ∷ bs))) one | false ↦ λ is.
-        ap (λ test. test || list_any p bs) is ] in
+    (list_any p (drop n bs)) (list_any p bs) in
+    let cases : Goal (p b) = elim (p b) as Goal [
+      | true ↦ λ is. ap (λ k. list_any p (drop k (b ∷ bs))) one
+      | false ↦ λ is.
+          ap (λ test. test || list_any p bs) is
+    ] in
     cases refl
 
 -- a byte of white space goes before a word, and any other begins it
@@ -101,10 +107,12 @@ word_more : (bs more : List ℕ) → is_ended Word bs ≡ true → text_front Wo
 word_more [] more some = absurd (let no = no_end in cc)
 word_more (b ∷ bs) more some =
     let Goal : Bool → Type 0 = λ is. cond is (is_ended Word bs) (list_any is_ascii_whitespace bs) ≡ true
-        → cond is (b ∷ text_front Word (bs ++ more)) (b ∷ through is_ascii_whitespace (bs ++ more)) ≡ cond is (b ∷ text_front Word bs)
-        (b ∷ through is_ascii_whitespace bs) in
-    let cases : Goal (is_ascii_whitespace b) = elim (is_ascii_whitespace b) as Goal [ true ↦ λ h. ap (λ xs. b ∷ xs) (word_more bs more h)
-        | false ↦ λ h. ap (λ xs. b ∷ xs) (through_more is_ascii_whitespace bs more h) ] in
+    → cond is (b ∷ text_front Word (bs ++ more)) (b ∷ through is_ascii_whitespace (bs ++ more)) ≡ cond is (b ∷ text_front Word bs)
+    (b ∷ through is_ascii_whitespace bs) in
+    let cases : Goal (is_ascii_whitespace b) = elim (is_ascii_whitespace b) as Goal [
+      | true ↦ λ h. ap (λ xs. b ∷ xs) (word_more bs more h)
+      | false ↦ λ h. ap (λ xs. b ∷ xs) (through_more is_ascii_whitespace bs more h)
+    ] in
     word_front b (bs ++ more) ∙ cases (sym (word_ended b bs) ∙ some) ∙ sym (word_front b bs)
 
 pub front_more : (t : Text) (bs more : List ℕ) → is_ended t bs ≡ true → text_front t (bs ++ more) ≡ text_front t bs
@@ -117,9 +125,11 @@ word_all : (bs : List ℕ) → is_ended Word bs ≡ false → text_front Word bs
 word_all [] none = no_front
 word_all (b ∷ bs) none =
     let Goal : Bool → Type 0 = λ is. cond is (is_ended Word bs) (list_any is_ascii_whitespace bs) ≡ false
-        → cond is (b ∷ text_front Word bs) (b ∷ through is_ascii_whitespace bs) ≡ b ∷ bs in
-    let cases : Goal (is_ascii_whitespace b) = elim (is_ascii_whitespace b) as Goal [ true ↦ λ h. ap (λ xs. b ∷ xs) (word_all bs h) |
-        false ↦ λ h. ap (λ xs. b ∷ xs) (through_all is_ascii_whitespace bs h) ] in
+    → cond is (b ∷ text_front Word bs) (b ∷ through is_ascii_whitespace bs) ≡ b ∷ bs in
+    let cases : Goal (is_ascii_whitespace b) = elim (is_ascii_whitespace b) as Goal [
+      | true ↦ λ h. ap (λ xs. b ∷ xs) (word_all bs h)
+      | false ↦ λ h. ap (λ xs. b ∷ xs) (through_all is_ascii_whitespace bs h)
+    ] in
     word_front b bs ∙ cases (sym (word_ended b bs) ∙ none)
 
 pub front_all : (t : Text) (bs : List ℕ) → is_ended t bs ≡ false → text_front t bs ≡ bs
@@ -132,8 +142,8 @@ word_any : (bs : List ℕ) → is_ended Word (text_front Word bs) ≡ is_ended W
 word_any [] = ap (is_ended Word) no_front
 word_any (b ∷ bs) =
     let Goal : Bool → Type 0 = λ is. is_ascii_whitespace b ≡ is
-        → is_ended Word (cond is (b ∷ text_front Word bs) (b ∷ through is_ascii_whitespace bs)) ≡ cond is (is_ended Word bs)
-        (list_any is_ascii_whitespace bs) in
+    → is_ended Word (cond is (b ∷ text_front Word bs) (b ∷ through is_ascii_whitespace bs)) ≡ cond is (is_ended Word bs)
+    (list_any is_ascii_whitespace bs) in
     let cases : Goal (is_ascii_whitespace b) = elim (is_ascii_whitespace b) as Goal [
       | true ↦ λ is. word_ended b (text_front Word bs) ∙ ap (λ test. cond test (is_ended Word (text_front Word bs))
           (list_any is_ascii_whitespace (text_front Word bs))) is ∙ word_any bs
@@ -153,9 +163,11 @@ pub front_first : (t : Text) (bs : List ℕ) → (rest : List ℕ) × (text_fron
 unfolding text_front
 front_first t bs =
     let n : ℕ = skipped t bs in
-    let k : ℕ = position_or_len (delimits t) (drop n bs) + 1 in
-    (drop k (drop n bs), append_assoc (take n bs) (take k (drop n bs)) (drop k (drop n bs)) ∙ ap (λ xs. take n bs ++ xs)
-        (take-append-drop k (drop n bs)) ∙ take-append-drop n bs)
+    let k : ℕ = position_or_len (delimits t) (drop n bs) + 1 in (
+      drop k (drop n bs),
+      append_assoc (take n bs) (take k (drop n bs)) (drop k (drop n bs)) ∙ ap (λ xs. take n bs ++ xs)
+          (take-append-drop k (drop n bs)) ∙ take-append-drop n bs,
+    )
 
 -- the text of a text is itself
 front_front : (t : Text) (bs : List ℕ) → is_ended t bs ≡ true → text_front t (text_front t bs) ≡ text_front t bs
@@ -220,7 +232,7 @@ pub word_open : (bs : List ℕ) (start : ℕ) → position (λ b. not (is_ascii_
     (take (length bs - start) (drop start bs)) ≡ None → length bs ≡ length (text_front Word bs)
 word_open bs start begins goes_on =
     let all : take (length bs - start) (drop start bs) ≡ drop start bs = take_all (length bs - start) (drop start bs)
-        (omega (arith, length-drop start bs)) in
+    (omega (arith, length-drop start bs)) in
     let on = not_found is_ascii_whitespace (drop start bs) (sym (ap (position is_ascii_whitespace) all) ∙ goes_on) in
     omega (arith, word_length bs start begins, length-drop start bs, (found (λ b. not (is_ascii_whitespace b)) bs start begins).1)
 
@@ -228,7 +240,7 @@ pub word_closed : (bs : List ℕ) (start i : ℕ) → position (λ b. not (is_as
     → position is_ascii_whitespace (take (length bs - start) (drop start bs)) ≡ Some i → start + i + 1 ≡ length (text_front Word bs)
 word_closed bs start i begins closes =
     let all : take (length bs - start) (drop start bs) ≡ drop start bs = take_all (length bs - start) (drop start bs)
-        (omega (arith, length-drop start bs)) in
+    (omega (arith, length-drop start bs)) in
     let at = found is_ascii_whitespace (drop start bs) i (sym (ap (position is_ascii_whitespace) all) ∙ closes) in
     let n = at.0 in
     omega (arith, word_length bs start begins, length-drop start bs, at.1, (found (λ b. not (is_ascii_whitespace b)) bs start begins).1)

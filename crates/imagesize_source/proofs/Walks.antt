@@ -18,8 +18,13 @@ pub record Walks {C X : Type 0} (c : Chain C X) (P : List C → Type 0) (a b : S
 module _ {C X : Type 0} (c : Chain C X) where
   -- it starts at the first record
   pub walks_start : (P : List C → Type 0) (a : State) → P [] → Walks c P a a c.first
-  walks_start P a known = record { held = []; known = known; reached = reached_start a (chain_at c a.held.input); sound =
-      λ h. absurd (omega arith) }
+  walks_start P a known = record {
+    held = [];
+    known = known;
+    reached = reached_start a (chain_at c a.held.input);
+    sound =
+        λ h. absurd (omega arith);
+  }
 
 module _ {C X : Type 0} (c : Chain C X) (adv : (d : List ℕ) → Advances c d) (P : List C → Type 0) {a b : State} {place : ℕ}
     (w : Walks c P a b place) where
@@ -53,7 +58,7 @@ module _ {C X : Type 0} (c : Chain C X) (adv : (d : List ℕ) → Advances c d) 
       (λ honest short.
       let out = none w.held a.held.input w.known (omega arith) in
       chain_stop c a.held.input (record { held = w.held; place = place }) (Err end_of_input) (ap (λ r. verdict r.answer) out)
-          ∙ ap (λ r. record { answer = Err end_of_input; marks = r.marks }) out)
+      ∙ ap (λ r. record { answer = Err end_of_input; marks = r.marks }) out)
 
   -- or where nothing more is read, and the record at this place has its verdict
   pub walks_now : (r : Result X ImageError) → Sound b → faulted r ≡ false → IfErr r (EndedBy b) → ((held : List C) (d : List ℕ) → P held

@@ -96,7 +96,7 @@ part-across w d place k copied is short =
     ap (part (overlaid w d) place) (sym whole)
     ∙ sym (part-add (overlaid w d) place copied (k - copied))
     ∙ ap (λ l. l ++ part (overlaid w d) (place + copied) (k - copied))
-        (part-window w d place copied (omega arith) ∙ sym (part-min w place k copied is))
+    (part-window w d place copied (omega arith) ∙ sym (part-min w place k copied is))
     ∙ ap (λ l. part w place k ++ l) (part-behind w d (place + copied) (k - copied) (omega arith))
 
 -- a front of a front, and what follows it
@@ -148,13 +148,13 @@ in_window_state f None w taken place k counts fits honest = absurd cc
 in_window_state f (Some s) w taken place k counts fits honest =
     let a = state_at f (Some s) w taken in
     let long : length (held_at (Some s) w).input ≡ length s.bytes = ap length (input_is s w honest) ∙ length-overlaid w s.bytes
-        (holds s w honest).0 in
+    (holds s w honest).0 in
     let within : length w ≤ length s.bytes = (holds s w honest).0 in
     let all : min k (length (held_at (Some s) w).input - place) ≡ k = omega (arith, long, within) in
     let same : taken + fresh (length w) place k ≡ taken = omega arith in
     sym (ap (λ m. past a (span_at place m)) all ∙ past-span a place k counts refl
-        ∙ ap (λ n. record a { front = n; taken = taken + fresh (length w) place k }) (kept_front (length w) place k fits)
-        ∙ ap (λ t. record a { taken = t }) same)
+    ∙ ap (λ n. record a { front = n; taken = taken + fresh (length w) place k }) (kept_front (length w) place k fits)
+    ∙ ap (λ t. record a { taken = t }) same)
 
 pub in_window : (f : Frame) (st : Option Standing) (w room old : List ℕ) (taken place n : ℕ) → ToldBy f st → f.counts ≡ true
     → n ≡ min (length old) (length w - place) → room ≡ part w place (length old) ++ drop n old → n ≡ length room
@@ -181,7 +181,7 @@ behind_answer s st' w room old more place now copied n count front kept short gi
     part-across w s.bytes place (length room) copied (count ∙ ap (λ k. min k (length w - place)) (sym kept)) short
     ∙ ap (λ l. l ++ part s.bytes (place + copied) (length room - copied)) (sym (front_is w room old place copied count front kept))
     ∙ ap (λ l. take copied room ++ l) (part-min s.bytes (place + copied) (length room - copied) n
-        (gives.2 ∙ ap (λ k. min k (length s.bytes - (place + copied))) long) ∙ sym gives.1)
+    (gives.2 ∙ ap (λ k. min k (length s.bytes - (place + copied))) long) ∙ sym gives.1)
     ∙ sym (take_more room more copied n (omega arith) enough)
 
 -- its window
@@ -223,10 +223,10 @@ grown_if : (w d more : List ℕ) (place k copied n : ℕ) (b : Bool) → eqb (pl
 grown_if w d more place k copied n true at small fits count short gave n_fits =
     let here : place + copied ≡ length w = grind (arith, nat_tests) in
     let bytes : w ++ take (32 - length w) (take n more) ≡ w ++ take (32 - length w) (part d (length w) n) =
-        ap (λ l. w ++ take (32 - length w) l) (gave ∙ ap (λ p. part d p n) here) in
+    ap (λ l. w ++ take (32 - length w) l) (gave ∙ ap (λ p. part d p n) here) in
     let room : n ≤ length d - length w = omega (arith, here, n_fits) in
     let long : length (w ++ take (32 - length w) (take n more)) ≡ length w + min (32 - length w) n = ap length bytes ∙ length-kept w d
-        (32 - length w) n room in
+    (32 - length w) n room in
     record {
       fits = omega (arith, long, room, fits);
       same = ap (λ v. overlaid v d) bytes ∙ overlaid-kept w d (32 - length w) n room;
@@ -259,27 +259,27 @@ behind_state f f' s w w' taken taken' place now k copied n counts frame fits gro
     let paid : taken' ≡ taken + fresh (length w) place (copied + n) = omega (arith, took, count) in
     let front = grown.front in
     together f' f (held_at (Some (record s { place = now })) w') (held_at (Some s) w) (length w')
-        (front_after (length w) place (copied + n)) taken' (taken + fresh (length w) place (copied + n)) frame held front paid
+    (front_after (length w) place (copied + n)) taken' (taken + fresh (length w) place (copied + n)) frame held front paid
     ∙ sym (ap (λ m. past a (span_at place m)) all ∙ past-span a place (copied + n) counts refl)
 
 -- A reading that the window does not hold: it copied what the window has, and got n bytes more.
 pub record Behind (f f' : Frame) (st st' : Option Standing) (w w' room old more : List ℕ) (taken taken' place now copied n : ℕ) : Type 0
-    where
-  pub told : ToldBy f st
-  pub told_after : ToldBy f' st'
-  pub counts : f.counts ≡ true
-  pub frame : f' ≡ f
-  pub small : length w ≤ 32
-  pub count : copied ≡ min (length old) (length w - place)
-  pub front : room ≡ part w place (length old) ++ drop copied old
-  pub kept : length room ≡ length old
-  pub short : copied < length room
-  pub gives : GivesFrom st st' (place + copied) now more (Ok n)
-  pub enough : n ≤ length more
-  pub long : length more ≡ length room - copied
-  pub took : taken' ≡ taken + n
-  pub window : w' ≡ kept_window w (place + copied) (take n more)
-  pub within : IfSome st (λ s. taken' ≤ taken + min (length more) (length s.bytes - (place + copied)))
+  where
+    pub told : ToldBy f st
+    pub told_after : ToldBy f' st'
+    pub counts : f.counts ≡ true
+    pub frame : f' ≡ f
+    pub small : length w ≤ 32
+    pub count : copied ≡ min (length old) (length w - place)
+    pub front : room ≡ part w place (length old) ++ drop copied old
+    pub kept : length room ≡ length old
+    pub short : copied < length room
+    pub gives : GivesFrom st st' (place + copied) now more (Ok n)
+    pub enough : n ≤ length more
+    pub long : length more ≡ length room - copied
+    pub took : taken' ≡ taken + n
+    pub window : w' ≡ kept_window w (place + copied) (take n more)
+    pub within : IfSome st (λ s. taken' ≤ taken + min (length more) (length s.bytes - (place + copied)))
 
 behind_grown : (s : Standing) (st' : Option Standing) (w w' more : List ℕ) (place now k copied n : ℕ) → length w ≤ 32
     → length w ≤ length s.bytes → copied ≡ min k (length w - place) → copied < k → GivesFrom (Some s) st' (place + copied) now more
@@ -287,7 +287,7 @@ behind_grown : (s : Standing) (st' : Option Standing) (w w' more : List ℕ) (pl
 behind_grown s st' w w' more place now k copied n small fits count short gives window =
     subst (λ v. Grown w v s.bytes place (copied + n)) (sym window)
     (grown_if w s.bytes more place k copied n (eqb (place + copied) (length w)) refl small fits count short gives.1
-        (omega (arith, gives.2)))
+    (omega (arith, gives.2)))
 
 behind_runs_answer : (f f' : Frame) (st st' : Option Standing) (w w' room old more : List ℕ) (taken taken' place now copied n : ℕ)
     → Behind f f' st st' w w' room old more taken taken' place now copied n → (held_at st w).honest ≡ true
@@ -326,7 +326,7 @@ within_claim (Some s) w taken taken' place copied k rest count left within hones
     let fits = (holds s w honest).0 in
     let long : length (held_at (Some s) w).input ≡ length s.bytes = ap length (input_is s w honest) ∙ length-overlaid w s.bytes fits in
     let all : total (span_of (held_at (Some s) w).input place k) ≡ min k (length s.bytes - place) = total-span (held_at (Some s) w).input
-        place k ∙ ap (λ n. min k (n - place)) long in
+    place k ∙ ap (λ n. min k (n - place)) long in
     omega (arith, all, within, count, left)
 
 pub behind_window : {f f' : Frame} {st st' : Option Standing} {w w' room old more : List ℕ} {taken taken' place now copied n : ℕ}
@@ -335,11 +335,11 @@ pub behind_window : {f f' : Frame} {st st' : Option Standing} {w w' room old mor
     (part_read (held_at st w).input place (length (put_mid copied (length room - copied) room more)))
 behind_window {f} {f'} {st} {st'} {w} {w'} {room} {old} {more} {taken} {taken'} {place} {now} {copied} {n} h =
     let whole : length (put_mid copied (length room - copied) room more) ≡ length room = length-put room more copied
-        (omega (arith, h.short)) h.long in
+    (omega (arith, h.short)) h.long in
     let count : copied ≡ min (length room) (length w - place) = h.count ∙ ap (λ k. min k (length w - place)) (sym h.kept) in
     subst (λ k. Runs (state_at f st w taken) (state_at f' st' w' taken')
-        (Ok (take (copied + n) (put_mid copied (length room - copied) room more))) (part_read (held_at st w).input place k)) (sym whole)
-        (record {
+    (Ok (take (copied + n) (put_mid copied (length room - copied) room more))) (part_read (held_at st w).input place k)) (sym whole)
+    (record {
       sound = sound_at f st w taken h.told;
       sound_after = sound_at f' st' w' taken' h.told_after;
       frame = h.frame;
@@ -394,11 +394,11 @@ pub behind_stopped : {f f' : Frame} {st st' : Option Standing} {w w' room old mo
     (part_read (held_at st w).input place (length (put_mid copied (length room - copied) room more)))
 behind_stopped {f} {f'} {st} {st'} {w} {w'} {room} {old} {more} {taken} {taken'} {place} {now} {copied} {e} value r h is =
     let whole : length (put_mid copied (length room - copied) room more) ≡ length room = length-put room more copied
-        (omega (arith, h.count, h.kept)) h.long in
+    (omega (arith, h.count, h.kept)) h.long in
     subst (λ k. Runs (state_at f st w taken) (state_at f' st' w' taken') (seen value r) (part_read (held_at st w).input place k))
-        (sym whole)
+    (sym whole)
     (subst (λ q. Runs (state_at f st w taken) (state_at f' st' w' taken') (seen value q)
-        (part_read (held_at st w).input place (length room))) (sym is) (halted value h))
+    (part_read (held_at st w).input place (length room))) (sym is) (halted value h))
 
 -- the window has nothing from a place on that lies behind it
 pub none_in : (w more : List ℕ) (place k : ℕ) → length w ≤ place → more ≡ part w place k ++ drop 0 more
@@ -415,9 +415,9 @@ pub straight : {f f' : Frame} {st st' : Option Standing} {w w' more : List ℕ} 
 straight {f} {f'} {st} {st'} {w} {w'} {more} {taken} {taken'} {place} {now} {n} h =
     let sum : 0 + n ≡ n = omega arith in
     subst (λ l. Runs (state_at f st w taken) (state_at f' st' w' taken') (Ok (take n l))
-        (part_read (held_at st w).input place (length l))) (put_whole more)
+    (part_read (held_at st w).input place (length l))) (put_whole more)
     (subst (λ m. Runs (state_at f st w taken) (state_at f' st' w' taken') (Ok (take m (put_mid 0 (length more - 0) more more)))
-        (part_read (held_at st w).input place (length (put_mid 0 (length more - 0) more more)))) sum (behind_window h))
+    (part_read (held_at st w).input place (length (put_mid 0 (length more - 0) more more)))) sum (behind_window h))
 
 -- and one that was stopped
 pub straight_stopped : {f f' : Frame} {st st' : Option Standing} {w w' more : List ℕ} {taken taken' place now : ℕ} {e : ImageError}
@@ -425,7 +425,7 @@ pub straight_stopped : {f f' : Frame} {st st' : Option Standing} {w w' more : Li
     → Runs (state_at f st w taken) (state_at f' st' w' taken') (seen value r) (part_read (held_at st w).input place (length more))
 straight_stopped {f} {f'} {st} {st'} {w} {w'} {more} {taken} {taken'} {place} value r h is =
     subst (λ l. Runs (state_at f st w taken) (state_at f' st' w' taken') (seen value r)
-        (part_read (held_at st w).input place (length l))) (put_whole more) (behind_stopped value r h is)
+    (part_read (held_at st w).input place (length l))) (put_whole more) (behind_stopped value r h is)
 
 told_if : (f : Frame) (telling : Option Telling) (p : Progress) (st : Option Standing) → f.told ≡ p.told → stand telling p ≡ st
     → ToldBy f st
@@ -469,7 +469,7 @@ end_answer : (f : Frame) (st : Option Standing) (w : List ℕ) (place k : ℕ) �
 end_answer f None w place k told far honest = absurd cc
 end_answer f (Some s) w place k told far honest =
     let long : length (held_at (Some s) w).input ≡ length s.bytes = ap length (input_is s w honest) ∙ length-overlaid w s.bytes
-        (holds s w honest).0 in
+    (holds s w honest).0 in
     no_part (held_at (Some s) w).input place k (omega (arith, long, told.0, far))
 
 end_state : (f : Frame) (st : Option Standing) (w : List ℕ) (taken place k : ℕ) → ToldBy f st → f.told < place → (held_at st w).honest
@@ -478,7 +478,7 @@ unfolding span_of span_at past
 end_state f None w taken place k told far honest = absurd cc
 end_state f (Some s) w taken place k told far honest =
     let long : length (held_at (Some s) w).input ≡ length s.bytes = ap length (input_is s w honest) ∙ length-overlaid w s.bytes
-        (holds s w honest).0 in
+    (holds s w honest).0 in
     let none : min k (length (held_at (Some s) w).input - place) ≡ 0 = omega (arith, long, told.0, far) in
     sym (ap (λ n. past (state_at f (Some s) w taken) (span_at place n)) none)
 

@@ -46,7 +46,7 @@ four_bytes bs place all =
     let third = drop-cons bs (suc (suc place)) 0 (omega arith) in
     let fourth = drop-cons bs (suc (suc (suc place))) 0 (omega arith) in
     sym (ap (take 4) (first ∙ ap (λ rest. at place ∷ rest) (second ∙ ap (λ rest. at (suc place) ∷ rest)
-        (third ∙ ap (λ rest. at (suc (suc place)) ∷ rest) fourth)))
+    (third ∙ ap (λ rest. at (suc (suc place)) ∷ rest) fourth)))
     ∙ ap (λ i. at place ∷ at i ∷ at (suc (suc place)) ∷ at (suc (suc (suc place))) ∷ []) one
     ∙ ap (λ i. at place ∷ at (place + 1) ∷ at i ∷ at (suc (suc (suc place))) ∷ []) two
     ∙ ap (λ i. at place ∷ at (place + 1) ∷ at (place + 2) ∷ at i ∷ []) three)
@@ -56,7 +56,7 @@ pub signed_four : (bs : List ℕ) (place : ℕ) → length bs ≡ 16 → place �
     ∷ slice_index_or bs (place + 3) 0 ∷ [])) ≡ signed_at place bs
 signed_four bs place long inside =
     ap (cast_signed w32) (little_4 (slice_index_or bs place 0 ∷ slice_index_or bs (place + 1) 0 ∷ slice_index_or bs (place + 2) 0
-        ∷ slice_index_or bs (place + 3) 0 ∷ []) refl ∙ ap (number Little) (four_bytes bs place (omega arith)))
+    ∷ slice_index_or bs (place + 3) 0 ∷ []) refl ∙ ap (number Little) (four_bytes bs place (omega arith)))
 
 room_few : (version : ℕ) → name_room version ≤ 256
 unfolding name_room
@@ -74,14 +74,14 @@ by_value : (P : Layout (Said (Unit {0}) ImageSize) → Type 0) (place taken : �
     → P (exr_value place taken is_window size)
 by_value P place taken is_window size window other =
     on_test P is_window (bytes (place + taken) 16 (λ bs. exr_window place taken (window_size bs)))
-        (done (Next tt (place + (taken + size)))) (λ _. window) (λ _. other)
+    (done (Next tt (place + (taken + size)))) (λ _. window) (λ _. other)
 
 -- and of each name
 by_name : (P : Layout (Said (Unit {0}) ImageSize) → Type 0) (room place : ℕ) (name : List ℕ) → P (refuse (IoError DataWindowNotFound))
     → P (line 0 (place + (length name + 1)) room (exr_typed place name)) → P (exr_named room place name)
 by_name P room place name none typed =
     on_test P (eqb (length name) 0) (refuse (IoError DataWindowNotFound)) (line 0 (place + (length name + 1)) room
-        (exr_typed place name)) (λ _. none) (λ _. typed)
+    (exr_typed place name)) (λ _. none) (λ _. typed)
 
 -- how far behind an attribute's place its value stands
 abbrev value_behind : List ℕ → List ℕ → ℕ
@@ -124,17 +124,22 @@ attributes_within room d =
     (λ type_name. (
       omega arith,
       λ size. by_value (Ahead (place + (length name + 1 + (length type_name + 1)) + 4)) place (value_behind name type_name)
-          (is_data_window name && is_box type_name) size
-          (omega arith, λ bs. by_window (Ahead (place + value_behind name type_name + 16)) place (value_behind name type_name)
-              (window_size bs) (λ size. tt) (omega arith))
+          (is_data_window name && is_box type_name) size (
+            omega arith,
+            λ bs. by_window (Ahead (place + value_behind name type_name + 16)) place (value_behind name type_name)
+                (window_size bs) (λ size. tt) (omega arith),
+          )
           (omega arith),
     ))))) in
     omega arith
 
 -- the version and the attributes are read from at most 4 bytes more than the input has
 pub exr_within : (d : List ℕ) → total (exr d).marks ≤ length d + 20
-exr_within d = omega (arith, then_within (number_read d Little 4 4) (λ version. chain_at (exr_attributes (name_room version)) d) 4
-    (length d) (total-span_of d 4 4) (λ version _. attributes_within (name_room version) d))
+exr_within d = omega (
+  arith,
+  then_within (number_read d Little 4 4) (λ version. chain_at (exr_attributes (name_room version)) d) 4
+      (length d) (total-span_of d 4 4) (λ version _. attributes_within (name_room version) d),
+)
 
 -- an attribute is read from at most 532 bytes
 attribute_at_most : (room place : ℕ) → room ≤ 256 → AtMost 532 (exr_attribute room place)
@@ -143,9 +148,11 @@ attribute_at_most room place few = line_at_most 0 place room (exr_named room pla
     (line_at_most 0 (place + (length name + 1)) room (exr_typed place name) (532 - room) (omega arith)
     (λ type_name. (
       omega arith,
-      λ size. by_value (AtMost (532 - room - room - 4)) place (value_behind name type_name) (is_data_window name && is_box type_name) size
-          (omega arith, λ bs. by_window (AtMost (532 - room - room - 4 - 16)) place (value_behind name type_name) (window_size bs)
-              (λ size. tt) tt)
+      λ size. by_value (AtMost (532 - room - room - 4)) place (value_behind name type_name) (is_data_window name && is_box type_name) size (
+        omega arith,
+        λ bs. by_window (AtMost (532 - room - room - 4 - 16)) place (value_behind name type_name) (window_size bs)
+            (λ size. tt) tt,
+      )
           tt,
     ))))
 
@@ -155,7 +162,7 @@ cost_by d (Ok version) =
     let all = total-append (span_of d 4 4) (chain_at (exr_attributes (name_room version)) d).marks in
     let first = total-span_of d 4 4 in
     let each = chain_cost (exr_attributes (name_room version)) d (attribute_advances (name_room version) d) 532
-        (λ passed place. attribute_at_most (name_room version) place (room_few version)) in
+    (λ passed place. attribute_at_most (name_room version) place (room_few version)) in
     omega arith
 cost_by d (Err e) = let first = total-span_of d 4 4 in omega arith
 

@@ -41,7 +41,7 @@ by_identifier P text is none = on_test P (is_identifier text) (done (length text
 hdr_advances : (first : ℕ) (d : List ℕ) → Advances (hdr_lines first) d
 hdr_advances first = advances (hdr_lines first)
     (λ passed place. line_tells 0x0A place 256 (hdr_line place) (λ p. place < p) (λ text. by_line (Tells (λ p. place < p)) place text
-        (λ size. tt) (λ e. tt) (omega arith)))
+    (λ size. tt) (λ e. tt) (omega arith)))
     (λ passed place. line_begins 0x0A place 256 (hdr_line place) place (omega arith))
 
 pub hdr_local : Local hdr
@@ -53,7 +53,7 @@ pub hdr_keeps : Lasts hdr
 hdr_keeps = lasts_then (λ d. over d hdr_identifier) (λ first d. chain_at (hdr_lines first) d)
     (λ d x first is. more d x hdr_identifier first (line_plain 0x0A 0 11 identified (λ text. by_identifier Plain text tt tt)) is)
     (λ first. lasts_chain (hdr_lines first) (hdr_advances first) (λ passed place. line_plain 0x0A place 256 (hdr_line place)
-        (λ text. by_line Plain place text (λ size. tt) (λ e. tt) tt)))
+    (λ text. by_line Plain place text (λ size. tt) (λ e. tt) tt)))
 
 pub hdr_lasts : (d x : List ℕ) (size : ImageSize) → (hdr d).answer ≡ Ok size → (hdr (d ++ x)).answer ≡ Ok size
 hdr_lasts d x size is = ap (λ r. r.answer) (hdr_keeps d x size is) ∙ is
@@ -64,7 +64,7 @@ hdr_within d =
     let all = spends_then (length d) 0 (λ first. first) (λ _. None) (over d hdr_identifier) (λ first. chain_at (hdr_lines first) d)
     (spends d (λ first. Some first) 0 hdr_identifier
     (line_onto 0x0A 0 11 identified (λ first. Some first) 0 (omega arith)
-        (λ text. by_identifier (Onto (λ first. Some first) (0 + (length text + 1))) text (omega arith) tt)))
+    (λ text. by_identifier (Onto (λ first. Some first) (0 + (length text + 1))) text (omega arith) tt)))
     (λ first _. chain_onto (hdr_lines first) d (λ _. None) (hdr_advances first d)
     (λ passed place. line_onto 0x0A place 256 (hdr_line place) (said_to (λ _. None)) place (omega arith)
     (λ text. by_line (Ahead (place + (length text + 1))) place text (λ size. tt) (λ e. tt) (omega arith)))) in

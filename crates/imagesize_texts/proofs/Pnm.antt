@@ -28,7 +28,7 @@ by_word : (P : Layout (Said (Unit {0}) ImageSize) → Type 0) (place : ℕ) (w :
 by_word P place w passed comment height =
     on_test P (is_comment w.text) (pnm_comment place w) _
     (λ _. on_test P (eqb w.ended_by 0x0A) (pnm_passed place w.taken) (passed_line 0x0A (place + w.taken) 1024
-        (λ rest. pnm_passed place (w.taken + rest))) (λ _. passed) (λ _. comment))
+    (λ rest. pnm_passed place (w.taken + rest))) (λ _. passed) (λ _. comment))
     (λ _. on_test P (is_blank w.text) (pnm_passed place w.taken) (pnm_height place w) (λ _. passed) (λ _. height))
 
 -- and of the size that the width and the height give
@@ -43,7 +43,7 @@ pnm_advances = advances pnm_words
     (λ w some. by_word (Tells (λ p. place < p)) place w (omega arith)
     (passed_tells 0x0A (place + w.taken) 1024 (λ rest. pnm_passed place (w.taken + rest)) (λ p. place < p) (λ n. omega arith))
     (word_tells (place + w.taken) (λ next. found (pnm_size (number_text w.text) (number_text (trim next.text)))
-        (λ size. done (Decided size))) (λ p. place < p)
+    (λ size. done (Decided size))) (λ p. place < p)
     (λ next _. by_size (Tells (λ p. place < p)) (number_text w.text) (number_text (trim next.text)) (λ size. tt) (λ e. tt)))))
     (λ passed place. word_begins place (pnm_word place) place (omega arith))
 
@@ -57,7 +57,7 @@ pnm_keeps = lasts_chain pnm_words pnm_advances
     (λ w. by_word Plain place w tt
     (passed_plain 0x0A (place + w.taken) 1024 (λ rest. pnm_passed place (w.taken + rest)) (λ n. tt))
     (word_plain (place + w.taken) (λ next. found (pnm_size (number_text w.text) (number_text (trim next.text)))
-        (λ size. done (Decided size)))
+    (λ size. done (Decided size)))
     (λ next. by_size Plain (number_text w.text) (number_text (trim next.text)) (λ size. tt) (λ e. tt)))))
 
 pub pnm_lasts : (d x : List ℕ) (size : ImageSize) → (pnm d).answer ≡ Ok size → (pnm (d ++ x)).answer ≡ Ok size
@@ -70,11 +70,11 @@ pnm_within d =
     (λ passed place. word_onto place (pnm_word place) (said_to (λ _. None)) place (omega arith)
     (λ w. by_word (Ahead (place + w.taken)) place w (omega arith)
     (passed_onto 0x0A (place + w.taken) 1024 (λ rest. pnm_passed place (w.taken + rest)) (said_to (λ _. None)) (place + w.taken)
-        (omega arith) (λ n. omega arith))
+    (omega arith) (λ n. omega arith))
     (word_onto (place + w.taken) (λ next. found (pnm_size (number_text w.text) (number_text (trim next.text)))
-        (λ size. done (Decided size))) (said_to (λ _. None)) (place + w.taken) (omega arith)
+    (λ size. done (Decided size))) (said_to (λ _. None)) (place + w.taken) (omega arith)
     (λ next. by_size (Ahead (place + w.taken + next.taken)) (number_text w.text) (number_text (trim next.text)) (λ size. tt)
-        (λ e. tt))))) in
+    (λ e. tt))))) in
     omega arith
 
 pub pnm_laws : TextsLaws true pnm

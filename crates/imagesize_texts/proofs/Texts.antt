@@ -65,7 +65,7 @@ pub text_judged : {X : Type 0} {a b : State} (d : List ℕ) (t : Text) (place k 
 text_judged {X} {a} {b} d t place k bs f r h is fine =
     let fine_r : Judged r = subst Judged (sym is) fine in
     answered r (text_as d t place k f) h refl (λ read. ap f (part_is read) ∙ sym is) (judged_goes_on r fine_r) (judged_no_fault r fine_r)
-        (judged_ended b r fine_r)
+    (judged_ended b r fine_r)
 
 -- nothing is made of one whose reading was stopped
 pub text_stopped : {X : Type 0} {a b : State} (d : List ℕ) (t : Text) (place k : ℕ) (e : ImageError) (f : List ℕ → Result X ImageError)
@@ -85,7 +85,7 @@ text_stopped d t place k e f h = record {
 no_end_harmless : (most count : ℕ) → Harmless (no_end most count)
 no_end_harmless most count = on_test Harmless (eqb count most) (IoError (NoDelimiter most)) end_of_input
     (λ _. record { goes_on = refl; no_fault = refl; none_spent = refl; memory = refl })
-        (λ _. record { goes_on = refl; no_fault = refl; none_spent = refl; memory = refl })
+    (λ _. record { goes_on = refl; no_fault = refl; none_spent = refl; memory = refl })
 
 utf8_judged : (bs : List ℕ) → Judged (utf8 bs)
 unfolding utf8
@@ -111,7 +111,7 @@ unfolding word_text ended_word
 word_judged bs = on_test Judged (last_passes (λ b. is_word_end b (length bs)) (unspaced bs)) (word_of (length bs) (unspaced bs))
     (Err (no_end word_room (length bs)))
     (λ _. seen_judged (word_at (length bs) (unspaced bs)) (utf8 (before_last (unspaced bs))) (utf8_judged (before_last (unspaced bs))))
-        (λ _. no_end_harmless word_room (length bs))
+    (λ _. no_end_harmless word_room (length bs))
 
 -- the three readings of texts, of which each is judged
 module _ {a b : State} (d room : List ℕ) (place most n : ℕ) (long : length room ≡ most) where
@@ -222,14 +222,20 @@ word_pays v room n (Err e) is pays = tt
 -- a line is no longer than there is room for, and a word takes some bytes, and fewer
 pub length_bound : (delimiter most : ℕ) (room : List ℕ) (n : ℕ) (r : Result ℕ ImageError) → length room ≡ most
     → r ≡ line_length delimiter most (take n room) → IfOk r (λ count. count ≤ most)
-length_bound delimiter most room n (Ok count) long is = omega (arith, (length_ok delimiter most (take n room) count (sym is)).0,
-    length-take n room)
+length_bound delimiter most room n (Ok count) long is = omega (
+  arith,
+  (length_ok delimiter most (take n room) count (sym is)).0,
+  length-take n room,
+)
 length_bound delimiter most room n (Err e) long is = tt
 
 pub line_bound : {A : Type 0} (v : A → List ℕ) (delimiter most : ℕ) (room : List ℕ) (n : ℕ) (r : Result A ImageError)
     → length room ≡ most → seen v r ≡ line_text delimiter most (take n room) → IfOk r (λ text. length (v text) < most)
-line_bound v delimiter most room n (Ok x) long is = omega (arith, (line_ok delimiter most (take n room) (v x) (sym is)).0,
-    length-take n room)
+line_bound v delimiter most room n (Ok x) long is = omega (
+  arith,
+  (line_ok delimiter most (take n room) (v x) (sym is)).0,
+  length-take n room,
+)
 line_bound v delimiter most room n (Err e) long is = tt
 
 pub word_bound : {A : Type 0} (v : A → WordRead) (room : List ℕ) (n : ℕ) (r : Result A ImageError) → seen v r ≡ word_text (take n room)
@@ -303,8 +309,11 @@ module _ {C X : Type 0} (delimiter place most : ℕ) (f : List ℕ → Layout (S
   line_tells P rest = λ bs. found_by (Tells P) (line_text delimiter most bs) f (λ text _. rest text) (λ e. tt)
 
   pub line_begins : (q : ℕ) → q ≤ place → Begins q (line delimiter place most f)
-  line_begins q here = (here, found_by (Tells (λ _. ⊥)) (line_text delimiter most []) f
-      (λ text is. absurd (omega (arith, (line_ok delimiter most [] text is).0))) (λ e. tt))
+  line_begins q here = (
+    here,
+    found_by (Tells (λ _. ⊥)) (line_text delimiter most []) f
+        (λ text is. absurd (omega (arith, (line_ok delimiter most [] text is).0))) (λ e. tt),
+  )
 
 -- lines that are passed
 module _ {X : Type 0} (delimiter place most : ℕ) (f : ℕ → Layout X) where

@@ -66,7 +66,7 @@ unfolding is_number
 is_numeral text is =
     let ds : List ℕ = without_leading_plus text in
     let parts : (ltb 0 (length ds) && all_ascii_digits ds ≡ true) × (ltb (digits_value 10 ds) (2 ^ 64) ≡ true) =
-        both (ltb 0 (length ds) && all_ascii_digits ds) (ltb (digits_value 10 ds) (2 ^ 64)) is in
+    both (ltb 0 (length ds) && all_ascii_digits ds) (ltb (digits_value 10 ds) (2 ^ 64)) is in
     let digits : (ltb 0 (length ds) ≡ true) × (all_ascii_digits ds ≡ true) = both (ltb 0 (length ds)) (all_ascii_digits ds) parts.0 in
     ((below 0 (length ds) digits.0, digits_are.to ds digits.1), below (digits_value 10 ds) (2 ^ 64) parts.1)
 
@@ -113,9 +113,11 @@ split_starts : (rest more : List ℕ) → IsUtf8 rest → EmptyOrStartsWithPassi
     × (slice_split is_whitespace (chars rest) ≡ [] ∷ parts)
 split_starts [] more utf starts = ([], ap (slice_split is_whitespace) chars-nil)
 split_starts (b ∷ rest) more utf starts =
-    let first = starts (omega arith) in
-    (slice_split is_whitespace (chars more), ap (slice_split is_whitespace) (chars_past_char (b ∷ rest) more first.0 utf first.2)
-        ∙ slice_split-cons_yes is_whitespace first.0 (chars more) first.1)
+    let first = starts (omega arith) in (
+      slice_split is_whitespace (chars more),
+      ap (slice_split is_whitespace) (chars_past_char (b ∷ rest) more first.0 utf first.2)
+          ∙ slice_split-cons_yes is_whitespace first.0 (chars more) first.1,
+    )
 
 some_chars : (cs bs : List ℕ) → encode_utf8_all cs ≡ bs → 0 < length bs → 0 < length cs
 some_chars [] bs is some = absurd (omega (arith, ap length is))
@@ -134,12 +136,12 @@ word_first text gap word rest more utf is some gaps letters starts =
     ∙ sym (append_assoc (encode_utf8_all gs) (encode_utf8_all ws) rest) ∙ ap (λ bs. bs ++ rest) (sym (encodes-append gs ws)) in
     let utf_rest : IsUtf8 rest = rest_utf8 (gs ++ ws) text rest utf whole in
     let all : encode_utf8_all ((gs ++ ws) ++ chars rest) ≡ text = encodes-append (gs ++ ws) (chars rest)
-        ∙ ap (λ bs. encode_utf8_all (gs ++ ws) ++ bs) (encodes-chars rest utf_rest) ∙ sym whole in
+    ∙ ap (λ bs. encode_utf8_all (gs ++ ws) ++ bs) (encodes-chars rest utf_rest) ∙ sym whole in
     let cs : (gs ++ ws) ++ chars rest ≡ chars text = chars_from_encodes ((gs ++ ws) ++ chars rest) text utf all in
     let parts = split_starts rest more utf_rest starts in (
       ap (λ cs. map encode_utf8_all (char_words cs)) (sym cs ∙ append_assoc gs ws (chars rest))
           ∙ ap (map encode_utf8_all) (char_words_gap gs (ws ++ chars rest) gaps.2 ∙ char_words_word ws (chars rest) parts.0
-              (some_chars ws word letters.1 some) letters.2 parts.1)
+          (some_chars ws word letters.1 some) letters.2 parts.1)
           ∙ ap (λ w. w ∷ map encode_utf8_all (char_words (chars rest))) letters.1,
       utf_rest,
     )
@@ -150,7 +152,7 @@ unfolding words
 word_none text utf none =
     let is : none.0 ≡ chars text = chars_from_encodes none.0 text utf none.1 in
     ap (λ cs. map encode_utf8_all (char_words cs)) (sym is ∙ sym (append-nil none.0)) ∙ ap (map encode_utf8_all)
-        (char_words_gap none.0 [] none.2)
+    (char_words_gap none.0 [] none.2)
 
 -- Some words were taken off a text, and these bytes are left.
 pub record Taken (text : List ℕ) (ws : List (List ℕ)) (rest : List ℕ) : Type 0 where
@@ -165,9 +167,12 @@ pub taken_next : {text : List ℕ} {ws : List (List ℕ)} (s t : _) (x : Bor (Li
     → split_whitespace_steps s (Some x) t → Taken text (ws ++ x.now ∷ []) (split_whitespace_rest t)
 taken_next {text} {ws} s t x taken step =
     let next = word_first (split_whitespace_rest s) step.0 x.now (split_whitespace_rest t) step.5.0 taken.utf step.1 step.2 step.3 step.4
-        step.5.1 in
-    record { is = taken.is ∙ ap (λ more. ws ++ more) next.0 ∙ sym (append_assoc ws (x.now ∷ []) (words (split_whitespace_rest t))); utf =
-        next.1 }
+    step.5.1 in
+    record {
+      is = taken.is ∙ ap (λ more. ws ++ more) next.0 ∙ sym (append_assoc ws (x.now ∷ []) (words (split_whitespace_rest t)));
+      utf =
+          next.1;
+    }
 
 -- or none is left
 pub taken_end : {text : List ℕ} {ws : List (List ℕ)} (s t : _) → Taken text ws (split_whitespace_rest s)

@@ -10,7 +10,7 @@ pub in_first : (a b : List ℕ) (place n : ℕ) → place < length a → n ≤ l
 unfolding part
 in_first a b place n here few =
     let all : take (length a - place) (drop place a) ≡ drop place a = take_all (length a - place) (drop place a)
-        (omega (arith, length-drop place a)) in
+    (omega (arith, length-drop place a)) in
     let fits : n ≤ length (drop place a) = subst (λ xs. n ≤ length xs) all few in
     let within : place ≤ length a = omega (arith, here) in
     ap (take n) all ∙ sym (ap (take n) (drop-append-le place a b within) ∙ take-append-le n (drop place a) b fits)

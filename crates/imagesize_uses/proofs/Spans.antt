@@ -90,8 +90,11 @@ pub bytes_by_agreement : (d e : List ℕ) (spans : List Span) → Agrees d e spa
 bytes_by_agreement d e [] agrees = refl
 bytes_by_agreement d e (s ∷ spans) agrees =
     let front = same_part d e s agrees.as_long (λ place has. agrees.same_byte place (covered_first s spans place has)) in
-    let later : Agrees d e spans = record { as_long = agrees.as_long; same_byte = λ place here. agrees.same_byte place
-        (covered_later s spans place here) } in
+    let later : Agrees d e spans = record {
+      as_long = agrees.as_long;
+      same_byte = λ place here. agrees.same_byte place
+          (covered_later s spans place here);
+    } in
     ap (λ bs. bs ++ bytes_of e spans) front ∙ ap (λ bs. part d s.start s.len ++ bs) (bytes_by_agreement d e spans later)
 
 -- the bytes in a span of these

@@ -53,12 +53,12 @@ last_by : (best : Option ImageSize) (sizes : List ImageSize) (size : ImageSize) 
 last_by best sizes size greatest true test area is most =
     let here : eqb (area_of size) greatest ≡ true = grind (arith, nat_tests) in
     ap (last_or None) (filter-append (λ s. eqb (area_of s) greatest) sizes (size ∷ []) ∙ ap (λ b. filter (λ s. eqb (area_of s) greatest)
-        sizes ++ cond b (size ∷ []) []) here) ∙ last_push None (filter (λ s. eqb (area_of s) greatest) sizes) size
+    sizes ++ cond b (size ∷ []) []) here) ∙ last_push None (filter (λ s. eqb (area_of s) greatest) sizes) size
 last_by best sizes size greatest false test area is most =
     let not_here : eqb (area_of size) greatest ≡ false = grind (arith, nat_tests) in
     let same : greatest ≡ greatest_area sizes = grind (arith, nat_tests) in
     ap (last_or None) (filter-append (λ s. eqb (area_of s) greatest) sizes (size ∷ []) ∙ ap (λ b. filter (λ s. eqb (area_of s) greatest)
-        sizes ++ cond b (size ∷ []) []) not_here ∙ append-nil (filter (λ s. eqb (area_of s) greatest) sizes))
+    sizes ++ cond b (size ∷ []) []) not_here ∙ append-nil (filter (λ s. eqb (area_of s) greatest) sizes))
     ∙ ap (λ n. last_or None (filter (λ s. eqb (area_of s) n) sizes)) same ∙ is
 
 area_by : (best : Option ImageSize) (size : ImageSize) (b : Bool) → leb (area_if_some best) (area_of size) ≡ b → max (area_if_some best)
@@ -98,7 +98,7 @@ icon_advances count = advances (icon_entries count)
     (λ sizes place. by_count (Tells (λ p. place < p)) count sizes place
     (by_answer (Tells (λ p. place < p)) (last_largest sizes) tt (λ size. tt))
     (λ bs. by_entry (Tells (λ p. place < p)) sizes place (whole 2 bs) (by_answer (Tells (λ p. place < p)) (last_largest sizes) tt
-        (λ size. tt)) (λ size. omega arith)))
+    (λ size. tt)) (λ size. omega arith)))
     (λ sizes place. by_count (Begins place) count sizes place
     (by_answer (Begins place) (last_largest sizes) tt (λ size. tt))
     (omega arith, by_answer (Tells (λ _. ⊥)) (last_largest sizes) tt (λ size. tt)))
@@ -111,15 +111,20 @@ entries_within : (count : ℕ) (d : List ℕ) → total (chain_at (icon_entries 
 entries_within count d =
     let most = chain_ahead (icon_entries count) d (icon_advances count d)
     (λ sizes place. by_count (Ahead place) count sizes place
-    (by_answer (Ahead place) (last_largest sizes) tt (λ size. tt))
-    (omega arith, λ bs. by_entry (Ahead (place + 2)) sizes place (whole 2 bs) (by_answer (Ahead (place + 2)) (last_largest sizes) tt
-        (λ size. tt)) (λ size. omega arith))) in
+    (by_answer (Ahead place) (last_largest sizes) tt (λ size. tt)) (
+      omega arith,
+      λ bs. by_entry (Ahead (place + 2)) sizes place (whole 2 bs) (by_answer (Ahead (place + 2)) (last_largest sizes) tt
+          (λ size. tt)) (λ size. omega arith),
+    )) in
     omega arith
 
 -- the count and the entries are read from at most 2 bytes more than the input has
 pub ico_within : (d : List ℕ) → total (ico d).marks ≤ length d + 2
-ico_within d = omega (arith, then_within (number_read d Little 4 2) (λ count. chain_at (icon_entries count) d) 2 (length d)
-    (total-span_of d 4 2) (λ count _. entries_within count d))
+ico_within d = omega (
+  arith,
+  then_within (number_read d Little 4 2) (λ count. chain_at (icon_entries count) d) 2 (length d)
+      (total-span_of d 4 2) (λ count _. entries_within count d),
+)
 
 -- The sizes of so many entries are known, and this is their largest.
 pub record Found (i : ℕ) (best : Option ImageSize) (sizes : List ImageSize) : Type 0 where
@@ -141,7 +146,7 @@ more_said : {b end : State} {r : Result (Said ImageSize ImageSize) ImageError} (
 more_said {b} {end} {r} count i sizes place below many run =
     let more : eqb (length sizes) count ≡ false = grind (arith, nat_tests) in
     subst (λ t. Runs b end r (over b.held.input t))
-        (sym (ap (λ test. cond test (icon_answer (last_largest sizes)) (if_there place 2 (icon_entry sizes place))) more)) run
+    (sym (ap (λ test. cond test (icon_answer (last_largest sizes)) (if_there place 2 (icon_entry sizes place))) more)) run
 
 pub icon_on : {a b end : State} (count i : ℕ) (best : Option ImageSize) (bytes : List ℕ) → i < count → IconWalks count a b i best
     → Runs b end (Ok (Some bytes)) (over b.held.input (if_there (6 + 16 * i) 2 done)) → IconWalks count a end (i + 1)
@@ -149,11 +154,14 @@ pub icon_on : {a b end : State} (count i : ℕ) (best : Option ImageSize) (bytes
 icon_on {a} {b} {end} count i best bytes below w run =
     let place : ℕ = 6 + 16 * i in
     let on = walks_on (icon_entries count) (icon_advances count) (Found i best) w (Found (i + 1) (later_largest best (icon_size bytes)))
-        (icon_size bytes) (place + 16)
+    (icon_size bytes) (place + 16)
     (λ sizes h. more_said count i sizes place below h.many (runs_bind (Ok (Next (icon_size bytes) (place + 16))) (if_there place 2 done)
-        (icon_entry sizes place) run (λ d. refl) refl tt))
-    (λ sizes h. record { many = length_push sizes (icon_size bytes) ∙ ap (λ n. n + 1) h.many; largest = largest_on best sizes
-        (icon_size bytes) h.largest }) in
+    (icon_entry sizes place) run (λ d. refl) refl tt))
+    (λ sizes h. record {
+      many = length_push sizes (icon_size bytes) ∙ ap (λ n. n + 1) h.many;
+      largest = largest_on best sizes
+          (icon_size bytes) h.largest;
+    }) in
     let at : place + 16 ≡ 6 + 16 * (i + 1) = omega arith in
     subst (λ p. Walks (icon_entries count) (Found (i + 1) (later_largest best (icon_size bytes))) a end p) at on
 
@@ -163,7 +171,7 @@ pub icon_out : {a b end : State} (count i : ℕ) (best : Option ImageSize) (e : 
 icon_out count i best e below w run =
     walks_out (icon_entries count) (icon_advances count) (Found i best) w e
     (λ sizes h. more_said count i sizes (6 + 16 * i) below h.many (refused_bind (if_there (6 + 16 * i) 2 done)
-        (icon_entry sizes (6 + 16 * i)) run))
+    (icon_entry sizes (6 + 16 * i)) run))
 
 answers : (best : Option ImageSize) (sizes : List ImageSize) (d : List ℕ) → Largest best sizes
     → over d (icon_answer (last_largest sizes)) ≡ over d (icon_answer best)
@@ -177,32 +185,32 @@ icon_cut count i None below w run =
     walks_out (icon_entries count) (icon_advances count) (Found i None) w CorruptedImage
     (λ sizes h. more_said count i sizes (6 + 16 * i) below h.many
     (runs_bind (Err CorruptedImage) (if_there (6 + 16 * i) 2 done) (icon_entry sizes (6 + 16 * i)) run
-        (λ d. answers None sizes d h.largest) refl (record { budget = tt; memory = λ e. absurd cc })))
+    (λ d. answers None sizes d h.largest) refl (record { budget = tt; memory = λ e. absurd cc })))
 icon_cut count i (Some size) below w run =
     walks_stop (icon_entries count) (icon_advances count) (Found i (Some size)) w size
     (λ sizes h. more_said count i sizes (6 + 16 * i) below h.many
     (runs_bind (Ok (Decided size)) (if_there (6 + 16 * i) 2 done) (icon_entry sizes (6 + 16 * i)) run
-        (λ d. answers (Some size) sizes d h.largest) refl tt))
+    (λ d. answers (Some size) sizes d h.largest) refl tt))
 
 end_said : (count : ℕ) (sizes : List ImageSize) (place : ℕ) (best : Option ImageSize) (d : List ℕ) → length sizes ≡ count
     → Largest best sizes → over d ((icon_entries count).said sizes place) ≡ over d (icon_answer best)
 end_said count sizes place best d many h =
     let all : eqb (length sizes) count ≡ true = grind (arith, nat_tests) in
     ap (λ test. over d (cond test (icon_answer (last_largest sizes)) (if_there place 2 (icon_entry sizes place)))) all ∙ answers best
-        sizes d h
+    sizes d h
 
 -- all entries were read
 pub icon_done : {a b : State} (count i : ℕ) (best : Option ImageSize) → i ≡ count → Sound b → IconWalks count a b i best
     → Runs a b (ok_or best CorruptedImage) (chain_at (icon_entries count) a.held.input)
 icon_done count i None at sound w =
     walks_now (icon_entries count) (icon_advances count) (Found i None) w (Err CorruptedImage) sound refl
-        (record { budget = tt; memory = λ e. absurd cc })
+    (record { budget = tt; memory = λ e. absurd cc })
     (λ sizes d h. let says = end_said count sizes (6 + 16 * i) None d (h.many ∙ at) h.largest in
-        (ap (λ r. verdict r.answer) says, ap (λ r. r.marks) says))
+    (ap (λ r. verdict r.answer) says, ap (λ r. r.marks) says))
 icon_done count i (Some size) at sound w =
     walks_now (icon_entries count) (icon_advances count) (Found i (Some size)) w (Ok size) sound refl tt
     (λ sizes d h. let says = end_said count sizes (6 + 16 * i) (Some size) d (h.many ∙ at) h.largest in
-        (ap (λ r. verdict r.answer) says, ap (λ r. r.marks) says))
+    (ap (λ r. verdict r.answer) says, ap (λ r. r.marks) says))
 
 -- at the count of entries the list ends
 ends_at : (count : ℕ) (d : List ℕ) (t : Along ImageSize) (size : ImageSize) (place : ℕ) → (next_record (icon_entries count) d t).answer
@@ -211,12 +219,12 @@ ends_at count d t size place is at =
     let all : eqb (length t.held) count ≡ true = grind (arith, nat_tests) in
     tells (λ _. ⊥) d (icon_answer (last_largest t.held)) size place (by_answer (Tells (λ _. ⊥)) (last_largest t.held) tt (λ size. tt))
     (sym (ap (λ test. (over d (cond test (icon_answer (last_largest t.held)) (if_there t.place 2 (icon_entry t.held t.place)))).answer)
-        all) ∙ is)
+    all) ∙ is)
 
 records_few : (count : ℕ) (d : List ℕ) → records (icon_entries count) d ≤ count + 1
 records_few count d =
     let few = chain_induction (icon_entries count) d (λ t. length t.held ≤ count → records_from (icon_entries count) d t + length t.held
-        ≤ count + 1) (icon_advances count d)
+    ≤ count + 1) (icon_advances count d)
     (λ t size place is later fits.
     let apart : length t.held ≢ count = λ at. ends_at count d t size place is at in
     let below : length t.held < count = omega arith in
@@ -236,9 +244,11 @@ cost_by d (Ok count) =
     let few = records_few count d in
     let each = chain_cost (icon_entries count) d (icon_advances count d) 2
     (λ sizes place. by_count (AtMost 2) count sizes place
-    (by_answer (AtMost 2) (last_largest sizes) tt (λ size. tt))
-    (omega arith, λ bs. by_entry (AtMost 0) sizes place (whole 2 bs) (by_answer (AtMost 0) (last_largest sizes) tt (λ size. tt))
-        (λ size. tt))) in
+    (by_answer (AtMost 2) (last_largest sizes) tt (λ size. tt)) (
+      omega arith,
+      λ bs. by_entry (AtMost 0) sizes place (whole 2 bs) (by_answer (AtMost 0) (last_largest sizes) tt (λ size. tt))
+          (λ size. tt),
+    )) in
     omega arith
 cost_by d (Err e) = let first = total-span_of d 4 2 in omega arith
 

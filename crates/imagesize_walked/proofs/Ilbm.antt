@@ -25,7 +25,7 @@ by_name : (P : Layout (Said (Unit {0}) ImageSize) → Type 0) (place : ℕ) (hea
 by_name P place head body header other =
     on_test P (is_bitmap_header head) (bitmap_header place) _ (λ _. header)
     (λ _. on_test P (is_body head) (refuse CorruptedImage) (done (Next tt (place + chunk_bytes (chunk_length head)))) (λ _. body)
-        (λ _. other))
+    (λ _. other))
 
 ilbm_advances : (d : List ℕ) → Advances ilbm_chunks d
 ilbm_advances = advances ilbm_chunks
@@ -47,8 +47,11 @@ ilbm_cost d = chain_cost ilbm_chunks d (ilbm_advances d) 12
 pub ilbm_within : (d : List ℕ) → total (ilbm d).marks ≤ length d
 ilbm_within d =
     let most = chain_ahead ilbm_chunks d (ilbm_advances d)
-    (λ passed place. (omega arith, λ head. by_name (Ahead (place + 8)) place head tt (omega arith, λ width. (omega arith, λ height. tt))
-        (omega arith))) in
+    (λ passed place. (
+      omega arith,
+      λ head. by_name (Ahead (place + 8)) place head tt (omega arith, λ width. (omega arith, λ height. tt))
+          (omega arith),
+    )) in
     omega arith
 
 -- how far a walk has come

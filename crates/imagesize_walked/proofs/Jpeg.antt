@@ -35,13 +35,13 @@ by_head P k place head none frame other =
     on_test P (eqb (slice_index head 0) 0xFF) (jpeg_marked k place (slice_index head 1)) (refuse CorruptedImage)
     (λ _. on_test P (is_own_frame k (slice_index head 1)) (jpeg_frame place) _ (λ _. frame)
     (λ _. on_test P (is_own_end k (slice_index head 1)) (refuse CorruptedImage) (jpeg_other place (slice_index head 1)) (λ _. none)
-        (λ _. other (slice_index head 1))))
+    (λ _. other (slice_index head 1))))
     (λ _. none)
 
 jpeg_advances : (d : List ℕ) → Advances jpeg_segments d
 jpeg_advances = advances jpeg_segments
     (λ markers place head. by_head (Tells (λ p. place < p)) (depth markers) place head tt (λ height width. tt)
-        (λ marker length. omega arith))
+    (λ marker length. omega arith))
     (λ markers place. (omega arith, omega arith))
 
 pub jpeg_local : Local jpeg
@@ -55,11 +55,14 @@ marked_at_most : (k place marker : ℕ) → AtMost 4 (jpeg_marked k place marker
 marked_at_most k place marker =
     on_test (AtMost 4) (is_own_frame k marker) (jpeg_frame place) _ (λ _. (omega arith, λ height. (omega arith, λ width. tt)))
     (λ _. on_test (AtMost 4) (is_own_end k marker) (refuse CorruptedImage) (jpeg_other place marker) (λ _. tt)
-        (λ _. (omega arith, λ length. tt)))
+    (λ _. (omega arith, λ length. tt)))
 
 segment_at_most : (k place : ℕ) → AtMost 6 (jpeg_segment k place)
-segment_at_most k place = (omega arith, λ head. on_test (AtMost 4) (eqb (slice_index head 0) 0xFF)
-    (jpeg_marked k place (slice_index head 1)) (refuse CorruptedImage) (λ _. marked_at_most k place (slice_index head 1)) (λ _. tt))
+segment_at_most k place = (
+  omega arith,
+  λ head. on_test (AtMost 4) (eqb (slice_index head 0) 0xFF)
+      (jpeg_marked k place (slice_index head 1)) (refuse CorruptedImage) (λ _. marked_at_most k place (slice_index head 1)) (λ _. tt),
+)
 
 -- a segment is read from at most 6 bytes
 pub jpeg_cost : (d : List ℕ) → total (jpeg d).marks ≤ 6 * records jpeg_segments d
@@ -114,7 +117,7 @@ jpeg_out place k e w run = walks_out jpeg_segments jpeg_advances (Nested k) w e 
 pub jpeg_past : {a b : State} (place k : ℕ) → JpegWalks a b place k → 2 ^ 64 ≤ place → Runs a b (Err end_of_input) (jpeg a.held.input)
 jpeg_past place k w far = walks_past jpeg_segments jpeg_advances (Nested k) w (omega arith) (omega arith)
     (λ markers d _ h. bytes_beyond d place 2 (λ head. cond (eqb (slice_index head 0) 0xFF)
-        (jpeg_marked (depth markers) place (slice_index head 1)) (refuse CorruptedImage)) h (omega arith))
+    (jpeg_marked (depth markers) place (slice_index head 1)) (refuse CorruptedImage)) h (omega arith))
 
 -- What may be read from a place on: the bytes there, and 6 more where a segment can begin. A length below 2
 -- leads to one of its own bytes, which is not FF.
@@ -133,7 +136,7 @@ other_used : (d : List ℕ) (place marker : ℕ) → 2 ≤ length d - place → 
 unfolding Used
 other_used d place marker begun ff =
     on_answer (λ w. Used d place (behind (span_of d place 2) w)) (span_of d (place + 2) 2) (number_at d Big (place + 2) 2)
-        (λ l. over d (done (Next marker (place + (2 + l)))))
+    (λ l. over d (done (Next marker (place + (2 + l)))))
     (λ l got m next is.
     let at : place + (2 + l) ≡ next = cc in
     let fits = number_ok d Big (place + 2) 2 l got in
@@ -142,7 +145,7 @@ other_used d place marker begun ff =
     let all = total-append (span_of d place 2) (span_of d (place + 2) 2 ++ []) in
     let both = total-append (span_of d (place + 2) 2) [] in
     let left = leaves (length d) place l (slice_index d (place + 2)) (slice_index d (place + 2 + 1)) (slice_index d next) (omega arith)
-        (big_pair d (place + 2) l got)
+    (big_pair d (place + 2) l got)
     (λ none. ap (slice_index d) (omega arith)) (λ one. ap (slice_index d) (omega arith)) in
     let here : allowed d place ≡ (length d - place) + 6 = rw ff refl in
     omega arith)
@@ -154,14 +157,14 @@ segment_used d k place = on_answer (Used d place) (span_of d place 2) (bytes_at 
     (λ head got.
     let begun = bytes_ok d head place 2 got in
     let first : slice_index d place ≡ slice_index head 0 = sym (part_first d place 2 (omega arith)) ∙ ap (λ bs. slice_index bs 0)
-        (bytes_is d head place 2 got) in
+    (bytes_is d head place 2 got) in
     let P : Layout (Said ℕ ImageSize) → Type 0 = λ t. Used d place (behind (span_of d place 2) (over d t)) in
     on_test P (eqb (slice_index head 0) 0xFF) (jpeg_marked k place (slice_index head 1)) (refuse CorruptedImage)
     (λ is. let ff : slice_index head 0 ≡ 0xFF = grind (arith, nat_tests) in
     on_test P (is_own_frame k (slice_index head 1)) (jpeg_frame place) _
-        (λ _ m next says. absurd (tells (λ _. ⊥) d (jpeg_frame place) m next (λ height width. tt) says))
+    (λ _ m next says. absurd (tells (λ _. ⊥) d (jpeg_frame place) m next (λ height width. tt) says))
     (λ _. on_test P (is_own_end k (slice_index head 1)) (refuse CorruptedImage) (jpeg_other place (slice_index head 1))
-        (λ _ m next says. absurd cc)
+    (λ _ m next says. absurd cc)
     (λ _. other_used d place (slice_index head 1) begun (first ∙ ff))))
     (λ _ m next says. absurd cc))
     (λ e got m next is. absurd cc)
@@ -171,7 +174,7 @@ segment_allowed d k place = on_answer (λ w. total w.marks ≤ allowed d place) 
     (λ head got.
     let begun = bytes_ok d head place 2 got in
     let first : slice_index d place ≡ slice_index head 0 = sym (part_first d place 2 (omega arith)) ∙ ap (λ bs. slice_index bs 0)
-        (bytes_is d head place 2 got) in
+    (bytes_is d head place 2 got) in
     let here = total-span_of d place 2 in
     let P : Layout (Said ℕ ImageSize) → Type 0 = λ t. total (span_of d place 2 ++ (over d t).marks) ≤ allowed d place in
     on_test P (eqb (slice_index head 0) 0xFF) (jpeg_marked k place (slice_index head 1)) (refuse CorruptedImage)

@@ -80,11 +80,11 @@ record_behind header entries place = bind (tiff_entry header place) (says header
 by_field_type : (P : Layout (Said Entry ImageSize) → Type 0) (header : Header) (entries : List Entry) (place : ℕ) (head : List ℕ)
     → ((e : ImageError) → P (refuse e))
     → ((field_type : FieldType) → P
-        (bind (bind (tiff_value header.version (place + head_bytes header.version))
-        (λ value. done (entry_of header head field_type value))) (says header entries place)))
+    (bind (bind (tiff_value header.version (place + head_bytes header.version))
+    (λ value. done (entry_of header head field_type value))) (says header entries place)))
     → P (bind (accepted (field_type_of header.version (field_type_in header.order head))
-        (λ field_type. bind (tiff_value header.version (place + head_bytes header.version))
-        (λ value. done (entry_of header head field_type value)))) (says header entries place))
+    (λ field_type. bind (tiff_value header.version (place + head_bytes header.version))
+    (λ value. done (entry_of header head field_type value)))) (says header entries place))
 by_field_type P header entries place head out on = by_accepted P (field_type_of header.version (field_type_in header.order head))
     (λ field_type. bind (tiff_value header.version (place + head_bytes header.version))
     (λ value. done (entry_of header head field_type value))) (says header entries place) out on
@@ -99,12 +99,12 @@ by_value : (P : Layout (Said Entry ImageSize) → Type 0) (header : Header) (ent
     (field_type : FieldType) (value : List ℕ) → P (refuse (IoError InvalidIfdValueLength))
     → ((size : ImageSize) → P (done (Decided size))) → ((entry : Entry) → P (done (Next entry (place + entry_bytes header.version))))
     → P (bind (bind (accepted (whole_value (whole (value_bytes header.version) value)) done)
-        (λ value. done (entry_of header head field_type value))) (says header entries place))
+    (λ value. done (entry_of header head field_type value))) (says header entries place))
 by_value P header entries place head field_type value cut stop on =
     by_whole P (whole (value_bytes header.version) value) (λ value. done (entry_of header head field_type value))
-        (says header entries place) cut
+    (says header entries place) cut
     (λ value. let entry : Entry = entry_of header head field_type value in by_completed P (size_in (entries ++ entry ∷ [])) entry
-        (place + entry_bytes header.version) stop (on entry))
+    (place + entry_bytes header.version) stop (on entry))
 
 -- what holds of each record
 by_count : (P : Layout (Said Entry ImageSize) → Type 0) (header : Header) (count : ℕ) (entries : List Entry) (place : ℕ)
@@ -117,7 +117,7 @@ unfolding tiff_entry tiff_head tiff_value
 record_tells header entries place = λ head.
     by_field_type (Tells (λ p. place < p)) header entries place (take 4 head) (λ e. tt)
     (λ field_type value. by_value (Tells (λ p. place < p)) header entries place (take 4 head) field_type value tt (λ size. tt)
-        (λ entry. omega (arith, head_some header.version)))
+    (λ entry. omega (arith, head_some header.version)))
 
 record_begins : (header : Header) (entries : List Entry) (place : ℕ) → Begins place (record_behind header entries place)
 unfolding tiff_entry tiff_head
@@ -131,7 +131,7 @@ entries_advance header count = advances (tiff_entries header count)
 pub tiff_local : Local tiff
 tiff_local = local_then (λ d. over d tiff_header) (λ header d. tiff_directory d header) (local_layout tiff_header)
     (λ header. local_then (λ d. number_read d header.order header.directory (count_bytes header.version))
-        (λ count d. chain_at (tiff_entries header count) d) (local_number header.order header.directory (count_bytes header.version))
+    (λ count d. chain_at (tiff_entries header count) d) (local_number header.order header.directory (count_bytes header.version))
     (λ count. local_chain (tiff_entries header count) (entries_advance header count)))
 
 last_push : {A : Type 0} (o : Option A) (xs : List A) (x : A) → last_or o (xs ++ x ∷ []) ≡ Some x
@@ -143,11 +143,11 @@ last_by : (tag : ℕ) (entries : List Entry) (entry : Entry) (b : Bool) → eqb 
     (last_or None (filter (λ e. eqb e.tag tag) entries))
 last_by tag entries entry true is =
     ap (last_or None) (filter-append (λ e. eqb e.tag tag) entries (entry ∷ []) ∙ ap (λ b. filter (λ e. eqb e.tag tag) entries ++ cond b
-        (entry ∷ []) []) is)
+    (entry ∷ []) []) is)
     ∙ last_push None (filter (λ e. eqb e.tag tag) entries) entry
 last_by tag entries entry false is =
     ap (last_or None) (filter-append (λ e. eqb e.tag tag) entries (entry ∷ []) ∙ ap (λ b. filter (λ e. eqb e.tag tag) entries ++ cond b
-        (entry ∷ []) []) is ∙ append-nil (filter (λ e. eqb e.tag tag) entries))
+    (entry ∷ []) []) is ∙ append-nil (filter (λ e. eqb e.tag tag) entries))
 
 value_by : (b : Bool) (entry : Entry) (last : Option Entry) → option_and_then (λ e. e.value) (cond b (Some entry) last)
     ≡ cond b entry.value (option_and_then (λ e. e.value) last)
@@ -214,7 +214,7 @@ more_said : {b end : State} {r : Result (Said Entry ImageSize) ImageError} (head
 more_said {b} {end} {r} header count i entries place below many run =
     let more : eqb (length entries) count ≡ false = grind (arith, nat_tests) in
     subst (λ t. Runs b end r (over b.held.input t))
-        (sym (ap (λ test. cond test (refuse (IoError NoDimensionsInIfd)) (record_behind header entries place)) more)) run
+    (sym (ap (λ test. cond test (refuse (IoError NoDimensionsInIfd)) (record_behind header entries place)) more)) run
 
 -- at the entry of an index, whose place is held at the greatest
 module _ {a b : State} (header : Header) (count i : ℕ) (width height : Option ℕ) (below : i < count)
@@ -230,14 +230,14 @@ module _ {a b : State} (header : Header) (count i : ℕ) (width height : Option 
       entry.value width → high ≡ cond (eqb entry.tag 0x101) entry.value height → size_of_sides wide high ≡ size
       → Runs b end (Ok entry) (over b.held.input (tiff_entry header place)) → (entries : List Entry) → Known i width height entries
       → Runs b end (Ok (completed size entry (entry_at header i + entry_bytes header.version)))
-          (over b.held.input ((tiff_entries header count).said entries (entry_at header i)))
+      (over b.held.input ((tiff_entries header count).said entries (entry_at header i)))
   entry_said entry wide high size is_wide is_high is run entries h =
       let next : ℕ = entry_at header i + entry_bytes header.version in
       let known : size_in (entries ++ entry ∷ []) ≡ size = size_known (i + 1) wide high (entries ++ entry ∷ [])
-          (known_on i width height wide high entries entry is_wide is_high h) ∙ is in
+      (known_on i width height wide high entries entry is_wide is_high h) ∙ is in
       more_said header count i entries (entry_at header i) below h.many
       (runs_bind (Ok (completed size entry next)) (tiff_entry header (entry_at header i)) (says header entries (entry_at header i))
-          (entry_read run)
+      (entry_read run)
       (λ d. ap (λ o. over d (done (completed o entry next))) known) refl tt)
 
   -- the walk goes on where a side is still unknown
@@ -246,7 +246,7 @@ module _ {a b : State} (header : Header) (count i : ℕ) (width height : Option 
       → Runs b end (Ok entry) (over b.held.input (tiff_entry header place)) → TiffWalks header count a end (i + 1) wide high
   tiff_on {end} entry wide high is_wide is_high is run =
       let on = walks_on (tiff_entries header count) (entries_advance header count) (Known i width height) w (Known (i + 1) wide high)
-          entry (entry_at header i + entry_bytes header.version)
+      entry (entry_at header i + entry_bytes header.version)
       (entry_said entry wide high None is_wide is_high is run)
       (λ entries h. known_on i width height wide high entries entry is_wide is_high h) in
       let times = mul-add (entry_bytes header.version) i 1 in
@@ -257,10 +257,10 @@ module _ {a b : State} (header : Header) (count i : ℕ) (width height : Option 
   pub tiff_stop : {end : State} (entry : Entry) (wide high : Option ℕ) (size : ImageSize) → wide ≡ cond (eqb entry.tag 0x100) entry.value
       width → high ≡ cond (eqb entry.tag 0x101) entry.value height → size_of_sides wide high ≡ Some size
       → Runs b end (Ok entry) (over b.held.input (tiff_entry header place))
-          → Runs a end (Ok size) (chain_at (tiff_entries header count) a.held.input)
+      → Runs a end (Ok size) (chain_at (tiff_entries header count) a.held.input)
   tiff_stop entry wide high size is_wide is_high is run =
       walks_stop (tiff_entries header count) (entries_advance header count) (Known i width height) w size
-          (entry_said entry wide high (Some size) is_wide is_high is run)
+      (entry_said entry wide high (Some size) is_wide is_high is run)
 
   -- or where the entry is refused
   pub tiff_out : {end : State} (e : ImageError) → Runs {X = Entry} b end (Err e) (over b.held.input (tiff_entry header place))
@@ -282,9 +282,9 @@ pub tiff_done : {a b : State} (header : Header) (count i : ℕ) (width height : 
     (chain_at (tiff_entries header count) a.held.input)
 tiff_done header count i width height at sound w =
     walks_now (tiff_entries header count) (entries_advance header count) (Known i width height) w (Err (IoError NoDimensionsInIfd)) sound
-        refl (record { budget = tt; memory = λ e. absurd cc })
+    refl (record { budget = tt; memory = λ e. absurd cc })
     (λ entries d h. let says = end_said header count entries (entry_at header i) d (h.many ∙ at) in
-        (ap (λ r. verdict r.answer) says, ap (λ r. r.marks) says))
+    (ap (λ r. verdict r.answer) says, ap (λ r. r.marks) says))
 
 -- an entry has 12 bytes, and 20 in BigTIFF
 entry_few : (version : Version) → head_bytes version + value_bytes version ≤ 20
@@ -302,8 +302,11 @@ record_at_most header entries place =
     let behind_value : ℕ = behind_head - value_bytes header.version in (
       omega (arith, entry_few header.version),
       λ head. by_field_type (AtMost behind_head) header entries place (take 4 head) (λ e. tt)
-          (λ field_type. (omega (arith, entry_few header.version), λ value. by_value (AtMost behind_value) header entries place
-              (take 4 head) field_type value tt (λ size. tt) (λ entry. tt))),
+          (λ field_type. (
+            omega (arith, entry_few header.version),
+            λ value. by_value (AtMost behind_value) header entries place
+                (take 4 head) field_type value tt (λ size. tt) (λ entry. tt),
+          )),
     )
 
 record_ahead : (header : Header) (entries : List Entry) (place : ℕ) → Ahead place (record_behind header entries place)
@@ -313,8 +316,11 @@ record_ahead header entries place =
     let behind_value : ℕ = behind_head + value_bytes header.version in (
       omega arith,
       λ head. by_field_type (Ahead behind_head) header entries place (take 4 head) (λ e. tt)
-          (λ field_type. (omega arith, λ value. by_value (Ahead behind_value) header entries place (take 4 head) field_type value tt
-              (λ size. tt) (λ entry. omega arith))),
+          (λ field_type. (
+            omega arith,
+            λ value. by_value (Ahead behind_value) header entries place (take 4 head) field_type value tt
+                (λ size. tt) (λ entry. omega arith),
+          )),
     )
 
 entries_within : (header : Header) (count : ℕ) (d : List ℕ) → total (chain_at (tiff_entries header count) d).marks
@@ -327,7 +333,7 @@ directory_within : (d : List ℕ) (header : Header) → total (tiff_directory d 
 directory_within d header =
     let most = total_behind d header.directory (count_bytes header.version) in
     on_answer (λ w. total w.marks ≤ length d) (span_of d header.directory (count_bytes header.version))
-        (number_at d header.order header.directory (count_bytes header.version)) (λ count. chain_at (tiff_entries header count) d)
+    (number_at d header.order header.directory (count_bytes header.version)) (λ count. chain_at (tiff_entries header count) d)
     (λ count is.
     let some = number_ok d header.order header.directory (count_bytes header.version) count is in
     let few = total-span_of d header.directory (count_bytes header.version) in
@@ -368,21 +374,24 @@ header_at_most = (
 
 -- header and directory are read from at most 16 bytes more than the input has, since the directory may stand in the header
 pub tiff_within : (d : List ℕ) → total (tiff d).marks ≤ length d + 20
-tiff_within d = omega (arith, then_within (over d tiff_header) (tiff_directory d) 16 (length d) (at_most d 16 tiff_header header_at_most)
-    (λ header _. directory_within d header))
+tiff_within d = omega (
+  arith,
+  then_within (over d tiff_header) (tiff_directory d) 16 (length d) (at_most d 16 tiff_header header_at_most)
+      (λ header _. directory_within d header),
+)
 
 -- at the count of entries the directory ends
 ends_at : (header : Header) (count : ℕ) (d : List ℕ) (t : Along Entry) (entry : Entry) (place : ℕ)
     → (next_record (tiff_entries header count) d t).answer ≡ Ok (Next entry place) → length t.held ≡ count → ⊥
 ends_at header count d t entry place is at =
     let out : Err (IoError NoDimensionsInIfd) ≡ Ok (Next entry place) =
-        sym (ap (λ r. r.answer) (end_said header count t.held t.place d at)) ∙ is in
+    sym (ap (λ r. r.answer) (end_said header count t.held t.place d at)) ∙ is in
     absurd cc
 
 records_few : (header : Header) (count : ℕ) (d : List ℕ) → records (tiff_entries header count) d ≤ count + 1
 records_few header count d =
     let few = chain_induction (tiff_entries header count) d (λ t. length t.held ≤ count → records_from (tiff_entries header count) d t
-        + length t.held ≤ count + 1) (entries_advance header count d)
+    + length t.held ≤ count + 1) (entries_advance header count d)
     (λ t entry place is later fits.
     let apart : length t.held ≢ count = λ at. ends_at header count d t entry place is at in
     let below : length t.held < count = omega arith in
@@ -405,7 +414,7 @@ directory_cost d header = cost_by (number_at d header.order header.directory (co
       let short = count_few header.version in
       let few = records_few header count d in
       let each = chain_cost (tiff_entries header count) d (entries_advance header count d) 20
-          (λ entries place. by_count (AtMost 20) header count entries place tt (record_at_most header entries place)) in
+      (λ entries place. by_count (AtMost 20) header count entries place tt (record_at_most header entries place)) in
       omega arith
   cost_by (Err e) = let first = total-span_of d header.directory (count_bytes header.version) in let short = count_few header.version in
       omega arith
@@ -447,7 +456,7 @@ unfolding stated_place
 stated_plain order Tiff = λ place. accepted_plain (directory_at order Tiff place) done (λ header. tt)
 stated_plain order BigTiff = λ size. on_test (λ t. Plain (bind t (placed order BigTiff))) (eqb size 8) _ _
     (λ _ zeros. on_test (λ t. Plain (bind t (placed order BigTiff))) (eqb zeros 0) (field order 8 8 done) _
-        (λ _ place. accepted_plain (directory_at order BigTiff place) done (λ header. tt)) (λ _. tt))
+    (λ _ place. accepted_plain (directory_at order BigTiff place) done (λ header. tt)) (λ _. tt))
     (λ _. tt)
 
 header_plain : Plain tiff_header
@@ -473,9 +482,9 @@ directory_lasts d x header size = by_count_read (number_at d header.order header
   by_count_read (Ok count) read is =
       let read_more = count_more d x header.order header.directory (count_bytes header.version) count read in
       let same = lasts_chain (tiff_entries header count) (entries_advance header count)
-          (λ entries place. by_count Plain header count entries place tt (record_plain header entries place)) d x size is in
+      (λ entries place. by_count Plain header count entries place tt (record_plain header entries place)) d x size is in
       ap (λ r. (onward (span_of (d ++ x) header.directory (count_bytes header.version)) r (λ count. chain_at (tiff_entries header count)
-          (d ++ x))).answer) read_more ∙ ap (λ w. w.answer) same ∙ is
+      (d ++ x))).answer) read_more ∙ ap (λ w. w.answer) same ∙ is
   by_count_read (Err e) read is = absurd cc
 
 -- bytes that follow change no size
@@ -486,7 +495,7 @@ tiff_lasts d x size = by_header (over d tiff_header).answer refl where
   by_header (Ok header) read is =
       let same = more d x tiff_header header header_plain read in
       ap (λ w. (and_then w (tiff_directory (d ++ x))).answer) same
-          ∙ ap (λ r. (onward (over d tiff_header).marks r (tiff_directory (d ++ x))).answer) read ∙ directory_lasts d x header size is
+      ∙ ap (λ r. (onward (over d tiff_header).marks r (tiff_directory (d ++ x))).answer) read ∙ directory_lasts d x header size is
   by_header (Err e) read is = absurd cc
 
 pub tiff_laws : RecordedLaws 12 true 20 tiff entries_begun

@@ -151,7 +151,7 @@ tiff_entries header count = record {
   said = λ entries place.
       if length entries == count then refuse (IoError NoDimensionsInIfd)
       else bind (tiff_entry header place)
-          (λ entry. done (completed (size_in (entries ++ entry ∷ [])) entry (place + entry_bytes header.version)));
+      (λ entry. done (completed (size_in (entries ++ entry ∷ [])) entry (place + entry_bytes header.version)));
 }
 
 -- the directory

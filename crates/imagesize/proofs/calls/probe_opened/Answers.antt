@@ -6,7 +6,7 @@ use Rattle.imagesize.proofs.calls.probe_opened.Goals as goal
 pub returns-clause-probes : goal.returns-clause-probes
 returns-clause-probes g c = λ telling opens.
     probes_opened telling _ _ _ c.args.opened _ _ _ c.new-source.ensures.state opens c.probe-kind.ensures.runs c.probe-kind.ensures.kind
-        c.taken-taken.ensures
+    c.taken-taken.ensures
 
 pub returns-clause-spent : goal.returns-clause-spent
 returns-clause-spent g c = budget_taken c.args.opened.told _ _ _ (ap (λ s. s.frame.budget) c.new-source.ensures.state)

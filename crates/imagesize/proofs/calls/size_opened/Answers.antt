@@ -10,7 +10,7 @@ returns-clause-answers g c = λ telling opens.
 pub returns-clause-spent : goal.returns-clause-spent
 returns-clause-spent g c =
     budget_counted c.args.opened.told _ _ _ _ (ap (λ s. s.frame.budget) c.new-source.ensures.state)
-        (ap (λ s. s.frame.since) c.new-source.ensures.state) c.size-answer.ensures (search rules)
+    (ap (λ s. s.frame.since) c.new-source.ensures.state) c.size-answer.ensures (search rules)
 
 pub returns-clause-memory : goal.returns-clause-memory
 returns-clause-memory g c = no_memory _ _ (ap (λ s. s.frame.records) c.new-source.ensures.state) c.size-answer.ensures

@@ -13,4 +13,4 @@ returns-clause-spans c =
     let marks = recorded_marks _ _ _ _ _ _ _ _ c.new-source.ensures.bytes c.new-source.ensures.spans c.probe.ensures.runs in
     let name = ap (λ f. f.home) c.probe.ensures.runs.frame ∙ c.new-source.ensures.same_reference in
     room_marks _ _ _ _ _ marks (counted_marks c.args.«data».now _ _ (omega arith) marks c.probe.new.source.counted
-        c.probe.new.source.seen) c.probe.new.source.written (search (rules, name))
+    c.probe.new.source.seen) c.probe.new.source.written (search (rules, name))

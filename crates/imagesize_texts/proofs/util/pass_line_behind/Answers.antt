@@ -10,6 +10,6 @@ pub returns-clause-runs : goal.returns-clause-runs
 returns-clause-runs g c = text_saturated (Line c.args.delimiter) (c.args.place + c.args.distance) (length c.args.room.now)
     (line_length c.args.delimiter (length c.args.room.now))
     (subst (λ (place : ℕ). Runs (g.S.Source.state c.args.source.now) (g.S.Source.state c.pass_line_capped.new.source)
-        c.pass_line_capped.result
+    c.pass_line_capped.result
     (length_read (g.S.Source.state c.args.source.now).held.input c.args.delimiter place (length c.args.room.now)))
     c.saturating_add.ensures c.pass_line_capped.ensures.runs)

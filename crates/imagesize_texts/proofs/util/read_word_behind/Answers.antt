@@ -10,6 +10,6 @@ use Rattle.imagesize_texts.proofs.util.read_word_behind.Goals as goal
 pub returns : goal.returns
 returns g c = text_saturated Word (c.args.place + c.args.distance) word_room word_text
     (subst (λ (place : ℕ). Runs (g.S.Source.state c.args.source.now) (g.S.Source.state c.read_word.new.source)
-        (seen read_word_of c.read_word.result)
+    (seen read_word_of c.read_word.result)
     (word_read (g.S.Source.state c.args.source.now).held.input place))
     c.saturating_add.ensures c.read_word.ensures.runs)

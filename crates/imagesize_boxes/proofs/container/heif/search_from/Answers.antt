@@ -18,7 +18,7 @@ pub returns-in_err-place-in-Other : goal.returns-in_err-place-in-Other
 returns-in_err-place-in-Other g c =
     let next : ℕ = c.loop-found.place + c.in-Other.size in
     let on = search_on c.args.name.now c.args.from c.loop-found.place next c.loop-found.invariant.walks
-        (rw c.in-Other.is at c.in_ok-found.ensures.runs) in
+    (rw c.in-Other.is at c.in_ok-found.ensures.runs) in
     let nears = rw c.in-Other.is at c.in_ok-found.ensures.nears in
     let behind : c.args.from < next = omega (arith, c.loop-found.invariant.ahead, nears.0) in
     let h = search_past c.args.name.now c.args.from next behind on c.in_err-place-in-Other.ensures.beyond.1 in
@@ -27,7 +27,7 @@ returns-in_err-place-in-Other g c =
 pub loop-found-preserved : goal.loop-found-preserved
 loop-found-preserved g c =
     let on = search_on c.args.name.now c.args.from c.loop-found.place (c.loop-found.place + c.in-Other.size) c.loop-found.invariant.walks
-        (rw c.in-Other.is at c.in_ok-found.ensures.runs) in
+    (rw c.in-Other.is at c.in_ok-found.ensures.runs) in
     let nears = rw c.in-Other.is at c.in_ok-found.ensures.nears in
     record {
       walks = search (rules, on);

@@ -14,7 +14,7 @@ returns-in-Window g c = exr_stop c.args.names _ _ c.loop-size.invariant (rw c.in
 pub returns-in_err-place-in-Other : goal.returns-in_err-place-in-Other
 returns-in_err-place-in-Other g c =
     let on = exr_on c.args.names c.loop-size.place (c.loop-size.place + c.in-Other.taken) c.loop-size.invariant
-        (rw c.in-Other.is at c.in_ok-size.ensures.runs) in
+    (rw c.in-Other.is at c.in_ok-size.ensures.runs) in
     let far : 2 ^ 64 ≤ c.loop-size.place + c.in-Other.taken = omega (arith, c.in_err-place-in-Other.ensures.beyond.1) in
     let h = exr_past c.args.names _ c.requires.some on far in
     search (rules, h, c.in_err-place-in-Other.ensures.beyond.0)
@@ -22,5 +22,5 @@ returns-in_err-place-in-Other g c =
 pub loop-size-preserved : goal.loop-size-preserved
 loop-size-preserved g c =
     let on = exr_on c.args.names c.loop-size.place (c.loop-size.place + c.in-Other.taken) c.loop-size.invariant
-        (rw c.in-Other.is at c.in_ok-size.ensures.runs) in
+    (rw c.in-Other.is at c.in_ok-size.ensures.runs) in
     search (rules, on)

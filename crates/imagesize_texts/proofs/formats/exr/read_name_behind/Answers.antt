@@ -10,6 +10,6 @@ use Rattle.imagesize_texts.proofs.formats.exr.read_name_behind.Goals as goal
 pub returns-clause-runs : goal.returns-clause-runs
 returns-clause-runs g c = text_saturated (Line 0) (c.args.place + c.args.distance) c.args.names (line_text 0 c.args.names)
     (subst (λ (place : ℕ). Runs (g.S.Source.state c.args.source.now) (g.S.Source.state c.read_name.new.source)
-        (seen (λ text. text.now) c.read_name.result)
+    (seen (λ text. text.now) c.read_name.result)
     (line_read (g.S.Source.state c.args.source.now).held.input 0 place c.args.names))
     c.saturating_add.ensures c.read_name.ensures.runs)

@@ -14,7 +14,7 @@ returns-in-Size g c = hdr_stop c.args.first _ _ c.loop-size.invariant (rw c.in-S
 pub returns-in_err-place-in-Passed : goal.returns-in_err-place-in-Passed
 returns-in_err-place-in-Passed g c =
     let on = hdr_on c.args.first c.loop-size.place (c.loop-size.place + c.in-Passed.taken) c.loop-size.invariant
-        (rw c.in-Passed.is at c.in_ok-size.ensures.runs) in
+    (rw c.in-Passed.is at c.in_ok-size.ensures.runs) in
     let far : 2 ^ 64 ≤ c.loop-size.place + c.in-Passed.taken = omega (arith, c.in_err-place-in-Passed.ensures.beyond.1) in
     let small : c.args.first < 2 ^ 64 = search rules in
     let h = hdr_past c.args.first _ small on far in
@@ -23,5 +23,5 @@ returns-in_err-place-in-Passed g c =
 pub loop-size-preserved : goal.loop-size-preserved
 loop-size-preserved g c =
     let on = hdr_on c.args.first c.loop-size.place (c.loop-size.place + c.in-Passed.taken) c.loop-size.invariant
-        (rw c.in-Passed.is at c.in_ok-size.ensures.runs) in
+    (rw c.in-Passed.is at c.in_ok-size.ensures.runs) in
     search (rules, on)

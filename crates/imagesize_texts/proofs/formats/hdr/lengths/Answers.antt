@@ -9,49 +9,49 @@ use Rattle.imagesize_texts.proofs.formats.hdr.lengths.Goals as goal
 pub returns-in_err-next : goal.returns-in_err-next
 returns-in_err-next c =
     let t0 = taken_start c.args.text.now (split_whitespace_rest c.split_whitespace-words.result) c.utf8.text
-        c.split_whitespace-words.ensures.rest in
+    c.split_whitespace-words.ensures.rest in
     let is = taken_end c.split_whitespace-words.result c.next.new.self t0 c.in_err-next.ensures.steps in
     let none : second_and_fourth (words c.args.text.now) ≡ None = other_words (words c.args.text.now)
-        (λ four. absurd (omega (arith, four, ap length is))) in
+    (λ four. absurd (omega (arith, four, ap length is))) in
     search (rules, none, c.from_residual.ensures)
 
 pub returns-in_err-height : goal.returns-in_err-height
 returns-in_err-height c =
     let t0 = taken_start c.args.text.now (split_whitespace_rest c.split_whitespace-words.result) c.utf8.text
-        c.split_whitespace-words.ensures.rest in
+    c.split_whitespace-words.ensures.rest in
     let t1 = taken_next c.split_whitespace-words.result c.next.new.self c.in_ok-next.field-0 t0 c.in_ok-next.ensures.steps in
     let is = taken_end c.next.new.self c.next-2.new.self t1 c.in_err-height.ensures.steps in
     let none : second_and_fourth (words c.args.text.now) ≡ None = other_words (words c.args.text.now)
-        (λ four. absurd (omega (arith, four, ap length is))) in
+    (λ four. absurd (omega (arith, four, ap length is))) in
     search (rules, none, c.from_residual-in_err-height.ensures)
 
 pub returns-in_err-next-2 : goal.returns-in_err-next-2
 returns-in_err-next-2 c =
     let t0 = taken_start c.args.text.now (split_whitespace_rest c.split_whitespace-words.result) c.utf8.text
-        c.split_whitespace-words.ensures.rest in
+    c.split_whitespace-words.ensures.rest in
     let t1 = taken_next c.split_whitespace-words.result c.next.new.self c.in_ok-next.field-0 t0 c.in_ok-next.ensures.steps in
     let t2 = taken_next c.next.new.self c.next-2.new.self c.in_ok-height.height t1 c.in_ok-height.ensures.steps in
     let is = taken_end c.next-2.new.self c.next-3.new.self t2 c.in_err-next-2.ensures.steps in
     let none : second_and_fourth (words c.args.text.now) ≡ None = other_words (words c.args.text.now)
-        (λ four. absurd (omega (arith, four, ap length is))) in
+    (λ four. absurd (omega (arith, four, ap length is))) in
     search (rules, none, c.from_residual-in_err-next-2.ensures)
 
 pub returns-in_err-width : goal.returns-in_err-width
 returns-in_err-width c =
     let t0 = taken_start c.args.text.now (split_whitespace_rest c.split_whitespace-words.result) c.utf8.text
-        c.split_whitespace-words.ensures.rest in
+    c.split_whitespace-words.ensures.rest in
     let t1 = taken_next c.split_whitespace-words.result c.next.new.self c.in_ok-next.field-0 t0 c.in_ok-next.ensures.steps in
     let t2 = taken_next c.next.new.self c.next-2.new.self c.in_ok-height.height t1 c.in_ok-height.ensures.steps in
     let t3 = taken_next c.next-2.new.self c.next-3.new.self c.in_ok-next-2.field-0 t2 c.in_ok-next-2.ensures.steps in
     let is = taken_end c.next-3.new.self c.next-4.new.self t3 c.in_err-width.ensures.steps in
     let none : second_and_fourth (words c.args.text.now) ≡ None = other_words (words c.args.text.now)
-        (λ four. absurd (omega (arith, four, ap length is))) in
+    (λ four. absurd (omega (arith, four, ap length is))) in
     search (rules, none, c.from_residual-in_err-width.ensures)
 
 pub returns-in-Some : goal.returns-in-Some
 returns-in-Some c =
     let t0 = taken_start c.args.text.now (split_whitespace_rest c.split_whitespace-words.result) c.utf8.text
-        c.split_whitespace-words.ensures.rest in
+    c.split_whitespace-words.ensures.rest in
     let t1 = taken_next c.split_whitespace-words.result c.next.new.self c.in_ok-next.field-0 t0 c.in_ok-next.ensures.steps in
     let t2 = taken_next c.next.new.self c.next-2.new.self c.in_ok-height.height t1 c.in_ok-height.ensures.steps in
     let t3 = taken_next c.next-2.new.self c.next-3.new.self c.in_ok-next-2.field-0 t2 c.in_ok-next-2.ensures.steps in
@@ -62,7 +62,7 @@ returns-in-Some c =
 pub returns-in-None : goal.returns-in-None
 returns-in-None c =
     let t0 = taken_start c.args.text.now (split_whitespace_rest c.split_whitespace-words.result) c.utf8.text
-        c.split_whitespace-words.ensures.rest in
+    c.split_whitespace-words.ensures.rest in
     let t1 = taken_next c.split_whitespace-words.result c.next.new.self c.in_ok-next.field-0 t0 c.in_ok-next.ensures.steps in
     let t2 = taken_next c.next.new.self c.next-2.new.self c.in_ok-height.height t1 c.in_ok-height.ensures.steps in
     let t3 = taken_next c.next-2.new.self c.next-3.new.self c.in_ok-next-2.field-0 t2 c.in_ok-next-2.ensures.steps in

@@ -14,7 +14,7 @@ returns-in-Size g c = pnm_stop _ _ c.loop-size.invariant (rw c.in-Size.is at c.i
 pub returns-in_err-place-in-Passed : goal.returns-in_err-place-in-Passed
 returns-in_err-place-in-Passed g c =
     let on = pnm_on c.loop-size.place (c.loop-size.place + c.in-Passed.taken) c.loop-size.invariant
-        (rw c.in-Passed.is at c.in_ok-size.ensures.runs) in
+    (rw c.in-Passed.is at c.in_ok-size.ensures.runs) in
     let far : 2 ^ 64 ≤ c.loop-size.place + c.in-Passed.taken = omega (arith, c.in_err-place-in-Passed.ensures.beyond.1) in
     let h = pnm_past _ on far in
     search (rules, h, c.in_err-place-in-Passed.ensures.beyond.0)
@@ -22,5 +22,5 @@ returns-in_err-place-in-Passed g c =
 pub loop-size-preserved : goal.loop-size-preserved
 loop-size-preserved g c =
     let on = pnm_on c.loop-size.place (c.loop-size.place + c.in-Passed.taken) c.loop-size.invariant
-        (rw c.in-Passed.is at c.in_ok-size.ensures.runs) in
+    (rw c.in-Passed.is at c.in_ok-size.ensures.runs) in
     search (rules, on)

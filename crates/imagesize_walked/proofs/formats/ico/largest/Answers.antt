@@ -8,23 +8,23 @@ loop-index-init g c = record { walks = icon_start c.args.count _; sound = c.requ
 pub returns-in_err-bytes : goal.returns-in_err-bytes
 returns-in_err-bytes g c =
     let h = icon_out c.args.count c.loop-index.index c.loop-index.best _ c.loop-index-test.true c.loop-index.invariant.walks
-        c.in_err-bytes.ensures in
+    c.in_err-bytes.ensures in
     search (rules, h)
 
 pub returns-in_default : goal.returns-in_default
 returns-in_default g c =
     let h = icon_cut c.args.count c.loop-index.index c.loop-index.best c.loop-index-test.true c.loop-index.invariant.walks
-        (rw c.in_default.is at c.in_ok-bytes.ensures) in
+    (rw c.in_default.is at c.in_ok-bytes.ensures) in
     rw c.answer.ensures h
 
 pub loop-index-preserved : goal.loop-index-preserved
 loop-index-preserved g c =
     let h = icon_on c.args.count c.loop-index.index c.loop-index.best _ c.loop-index-test.true c.loop-index.invariant.walks
-        (rw c.in-Some.is at c.in_ok-bytes.ensures) in
+    (rw c.in-Some.is at c.in_ok-bytes.ensures) in
     record { walks = search (rules, h, c.icon_size.ensures, c.larger.ensures); sound = c.in_ok-bytes.ensures.sound_after }
 
 pub returns : goal.returns
 returns g c =
     let h = icon_done c.args.count c.loop-index.index c.loop-index.best
-        (omega (arith, c.loop-index-test.false, c.loop-index.auto.index-end)) c.loop-index.invariant.sound c.loop-index.invariant.walks in
+    (omega (arith, c.loop-index-test.false, c.loop-index.auto.index-end)) c.loop-index.invariant.sound c.loop-index.invariant.walks in
     rw c.answer-2.ensures h

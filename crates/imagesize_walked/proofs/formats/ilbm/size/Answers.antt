@@ -15,14 +15,17 @@ returns-in-Header g c = ilbm_stop _ _ c.loop-size.invariant (rw c.in-Header.is a
 pub returns-in_err-place-in-Other : goal.returns-in_err-place-in-Other
 returns-in_err-place-in-Other g c =
     let on = ilbm_on c.loop-size.place (c.loop-size.place + chunk_bytes c.in-Other.length) c.loop-size.invariant
-        (rw c.in-Other.is at c.in_ok-size.ensures.runs) in
-    let far : 2 ^ 64 ≤ c.loop-size.place + chunk_bytes c.in-Other.length = omega (arith, c.in_err-place-in-Other.ensures.beyond.1,
-        c.chunk_bytes.ensures) in
+    (rw c.in-Other.is at c.in_ok-size.ensures.runs) in
+    let far : 2 ^ 64 ≤ c.loop-size.place + chunk_bytes c.in-Other.length = omega (
+      arith,
+      c.in_err-place-in-Other.ensures.beyond.1,
+      c.chunk_bytes.ensures,
+    ) in
     let h = ilbm_past _ on far in
     search (rules, h, c.in_err-place-in-Other.ensures.beyond.0)
 
 pub loop-size-preserved : goal.loop-size-preserved
 loop-size-preserved g c =
     let on = ilbm_on c.loop-size.place (c.loop-size.place + chunk_bytes c.in-Other.length) c.loop-size.invariant
-        (rw c.in-Other.is at c.in_ok-size.ensures.runs) in
+    (rw c.in-Other.is at c.in_ok-size.ensures.runs) in
     search (rules, on, c.chunk_bytes.ensures)

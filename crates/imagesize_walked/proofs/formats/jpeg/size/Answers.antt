@@ -28,7 +28,13 @@ loop-size-preserved g c =
     let nears = rw c.in-Other.is at c.in_ok-size.ensures.nears in
     record {
       walks = search (rules, on);
-      shallow = omega (arith, c.loop-size.invariant.shallow, depth_rises c.loop-size.depth c.in-Other.marker,
-          c.depth_behind-depth.ensures, nears.0, c.in_ok-place-in-Other.ensures.next.0);
+      shallow = omega (
+        arith,
+        c.loop-size.invariant.shallow,
+        depth_rises c.loop-size.depth c.in-Other.marker,
+        c.depth_behind-depth.ensures,
+        nears.0,
+        c.in_ok-place-in-Other.ensures.next.0,
+      );
       below = c.in_ok-place-in-Other.ensures.next.1;
     }

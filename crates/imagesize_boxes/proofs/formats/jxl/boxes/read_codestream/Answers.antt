@@ -18,7 +18,10 @@ returns-in-Whole g c = walk_stop c.loop-bytes.place c.loop-bytes.codestream.item
 pub loop-bytes-preserved : goal.loop-bytes-preserved
 loop-bytes-preserved g c =
     let on = walk_on c.loop-bytes.place c.in-Passed.next c.loop-bytes.codestream.items c.in-Passed.piece.items
-        c.loop-bytes.invariant.walks (rw c.in-Passed.is at c.in_ok-bytes.ensures.runs) in
+    c.loop-bytes.invariant.walks (rw c.in-Passed.is at c.in_ok-bytes.ensures.runs) in
     let fits = rw c.in-Passed.is at c.in_ok-bytes.ensures.fits in
-    rw c.append.ensures (record { walks = on; few =
-        omega (arith, fits, length-append c.loop-bytes.codestream.items c.in-Passed.piece.items) })
+    rw c.append.ensures (record {
+      walks = on;
+      few =
+          omega (arith, fits, length-append c.loop-bytes.codestream.items c.in-Passed.piece.items);
+    })

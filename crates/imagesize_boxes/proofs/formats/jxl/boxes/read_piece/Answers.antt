@@ -10,11 +10,11 @@ pub returns-in_err-there-clause-runs : goal.returns-in_err-there-clause-runs
 returns-in_err-there-clause-runs g c =
     let long : length c.read_there.new.room ≡ c.args.most = search rules in
     let h = piece_some (c.args.place + c.args.distance) c.args.most (length c.read_there.new.room) c.if-most-eq0.false long
-        c.in_err-there.ensures.runs in
+    c.in_err-there.ensures.runs in
     search (rules, h)
 
 pub returns-clause-runs : goal.returns-clause-runs
 returns-clause-runs g c =
     let long : length c.read_there.new.room ≡ c.args.most = search rules in
     rw c.piece_of.ensures (piece_some (c.args.place + c.args.distance) c.args.most (length c.read_there.new.room) c.if-most-eq0.false
-        long c.in_ok-there.ensures.runs)
+    long c.in_ok-there.ensures.runs)

@@ -14,6 +14,6 @@ pub returns : goal.returns
 returns c =
     let within : c.args.len ≤ length c.args.bytes.now = search rules in
     let h = size_signed c.args.bytes.now c.args.len c.of.result.number c.of.result.count c.if-len-lt2.false within
-        (sym c.has_signature.ensures ∙ c.if-not-has_signature.false)
+    (sym c.has_signature.ensures ∙ c.if-not-has_signature.false)
     c.fits-bytes c.of.ensures.number c.of.ensures.count in
     c.header_size.ensures ∙ sym h

@@ -5,4 +5,4 @@ use Rattle.imagesize_source.proofs.source.lent.LentSourceSource.read_at.Goals as
 pub returns-clause-runs : goal.returns-clause-runs
 returns-clause-runs c =
     lent_reads _ _ _ _ _ _ _ _ _ _ (omega arith) c.record.ensures.bytes c.record.ensures.same_reference c.copy_part-count.ensures.count
-        c.copy_part-count.ensures.copied c.copy_part-count.auto.room c.record.ensures.recorded
+    c.copy_part-count.ensures.copied c.copy_part-count.auto.room c.record.ensures.recorded
