@@ -1,10 +1,8 @@
 //! The formats of images, the table that tells them apart, and the size by each.
 ghost use Rattle.std.specs.Prelude.{◌≡◌, length};
-ghost use Rattle.imagesize.specs.Kind.{first_row, kind, rows, tga_or_none, with_compression};
+ghost use Rattle.imagesize.specs.Kind.{first_row, kind, rows, with_compression};
 ghost use Rattle.imagesize.specs.Meaning.{size_of};
-ghost use Rattle.imagesize_boxes.specs.Heif.{heif_compression};
-ghost use Rattle.imagesize_fixed.specs.Tga.{is_tga};
-ghost use Rattle.imagesize_source.specs.Layout.{bind, over};
+ghost use Rattle.imagesize_source.specs.Layout.{over};
 ghost use Rattle.imagesize_source.specs.State.{Runs, Sound};
 
 use crate::types::ImageType;
@@ -16,7 +14,7 @@ use imagesize_fixed::formats::{
     aseprite, astc, bmp, farbfeld, gif, ktx2, psd, qoi, tga, vtf, webp,
 };
 use imagesize_source::source::Source;
-use imagesize_source::util::read_into;
+use imagesize_source::util::read_bytes;
 use imagesize_texts::formats::{exr, hdr, pnm};
 use imagesize_types::compression::{
     AtcCompression, Compression, DdsCompression, PkmCompression, PvrtcCompression,
@@ -31,22 +29,11 @@ pub(crate) fn detect<S: Source>(source: &mut S, place: u64) -> ImageResult<Image
     ensures { Runs (S.state source.old) (S.state source.new) result
         (over (S.state source.old).held.input (kind (length (S.state source.old).held.input) place)) }
 {
-    let mut head = [0u8; 12];
-    read_into(source, place, &mut head)?;
-    match first_row(&head) {
-        Some(found) => with_compression(source, place, &head, found),
-        None => without_row(source, &head),
+    let head = read_bytes::<S, 12>(source, place)?;
+    if let Some(found) = first_row(&head) {
+        return with_compression(source, place, &head, found);
     }
-}
-
-// The type where no row holds: a TGA, or none.
-#[inline(always)]
-#[tactic(auto, using(imagesize_source::proofs::Runs::steps, imagesize_source::proofs::Layouts::binding))]
-fn without_row<S: Source>(source: &mut S, head: &[u8; 12]) -> ImageResult<ImageType>
-    ensures { Runs (S.state source.old) (S.state source.new) result
-        (over (S.state source.old).held.input (bind (is_tga (length (S.state source.old).held.input) head.now) tga_or_none)) }
-{
-    if tga::matches(source, head)? {
+    if tga::matches(source, &head)? {
         return Ok(ImageType::Tga);
     }
     Err(ImageError::NotSupported)
@@ -89,7 +76,7 @@ fn first_row(head: &[u8; 12]) -> Option<ImageType>
 
 // The same type, with its compression read where it has several.
 #[inline(always)]
-#[tactic(auto, using(imagesize_source::proofs::Runs::steps, imagesize_source::proofs::Layouts::binding), unfolding(crate::specs::Kind::with_compression))]
+#[tactic(auto, using(imagesize_source::proofs::Runs::steps), unfolding(crate::specs::Kind::with_compression))]
 fn with_compression<S: Source>(
     source: &mut S,
     place: u64,
@@ -100,8 +87,31 @@ fn with_compression<S: Source>(
     ensures { Runs (S.state source.old) (S.state source.new) result
         (over (S.state source.old).held.input (with_compression place head.now found)) }
 {
+    match found {
+        ImageType::Heif(_)
+        | ImageType::Atc(_)
+        | ImageType::Pvrtc(_)
+        | ImageType::Eac(_)
+        | ImageType::Etc2(_)
+        | ImageType::Dds(_) => read_kind(source, place, head, found),
+        _ => Ok(found),
+    }
+}
+
+// The type with its compression read, of which it has several.
+#[tactic(auto, using(imagesize_source::proofs::Runs::steps, imagesize_source::proofs::Layouts::binding), unfolding(crate::specs::Kind::with_compression))]
+fn read_kind<S: Source>(
+    source: &mut S,
+    place: u64,
+    head: &[u8; 12],
+    found: ImageType,
+) -> ImageResult<ImageType>
+    requires { Sound (S.state source.old) }
+    ensures { Runs (S.state source.old) (S.state source.new) result
+        (over (S.state source.old).held.input (with_compression place head.now found)) }
+{
     Ok(match found {
-        ImageType::Heif(_) => ImageType::Heif(heif_compression(source, place, head)?),
+        ImageType::Heif(_) => ImageType::Heif(heif::detect_compression(source, place, head)?),
         ImageType::Atc(_) => ImageType::Atc(atc::detect_compression(source)?),
         ImageType::Pvrtc(_) => ImageType::Pvrtc(pvrtc::detect_compression(source)?),
         ImageType::Eac(_) => ImageType::Eac(pkm::detect_compression(source)?),
@@ -109,22 +119,6 @@ fn with_compression<S: Source>(
         ImageType::Dds(_) => ImageType::Dds(dds::detect_compression(source)?),
         _ => found,
     })
-}
-
-// The compression of a HEIF. Inlined, so that the room of its answer is made there alone.
-#[inline(always)]
-#[tactic(auto, using(imagesize_source::proofs::Runs::steps))]
-fn heif_compression<S: Source>(
-    source: &mut S,
-    place: u64,
-    head: &[u8; 12],
-) -> ImageResult<Compression>
-    requires { Sound (S.state source.old) }
-    ensures { Runs (S.state source.old) (S.state source.new) result
-        (over (S.state source.old).held.input (heif_compression place head.now)) }
-{
-    let compression = heif::detect_compression(source, place, head)?;
-    Ok(compression)
 }
 
 /// The size of the image, read as this type whatever its first bytes are.

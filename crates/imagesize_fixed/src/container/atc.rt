@@ -35,7 +35,6 @@ fn is_atc(header: &[u8]) -> bool
 }
 
 /// How the pixels are stored, by the data type where it is there.
-#[inline(always)]
 #[tactic(auto, using(imagesize_source::proofs::Runs::steps), unfolding(crate::specs::Atc::atc_compression))]
 pub fn detect_compression<S: Source>(source: &mut S) -> ImageResult<AtcCompression>
     ensures { Runs (S.state source.old) (S.state source.new) result
@@ -51,7 +50,6 @@ pub fn detect_compression<S: Source>(source: &mut S) -> ImageResult<AtcCompressi
 }
 
 // The data type of a PKM header.
-#[inline(always)]
 #[tactic(auto, using(imagesize_source::proofs::Bytes::last_two))]
 fn data_type(header: &[u8; 8]) -> u16
     ensures { result ≡ number endian.Big (drop 6 header.now) }
@@ -60,7 +58,6 @@ fn data_type(header: &[u8; 8]) -> u16
 }
 
 // How the pixels of a data type are stored.
-#[inline(always)]
 fn compression(data_type: u16) -> AtcCompression
     ensures { result ≡ look_up atc_data_types AtcCompression.Unknown data_type }
 {

@@ -31,7 +31,6 @@ pub(super) fn is_dds(header: &[u8]) -> bool
 }
 
 /// How the pixels are stored, by the four-character code where it is there.
-#[inline(always)]
 #[tactic(auto, using(imagesize_source::proofs::Runs::steps), unfolding(crate::specs::Dds::dds_compression))]
 pub fn detect_compression<S: Source>(source: &mut S) -> ImageResult<DdsCompression>
     ensures { Runs (S.state source.old) (S.state source.new) result
@@ -50,7 +49,6 @@ pub fn detect_compression<S: Source>(source: &mut S) -> ImageResult<DdsCompressi
 }
 
 // How the pixels are stored, by the format of the extended header where it is there.
-#[inline(always)]
 #[tactic(auto, using(imagesize_source::proofs::Runs::steps, imagesize_source::proofs::Numbers::little_4))]
 fn extended_compression<S: Source>(source: &mut S) -> ImageResult<DdsCompression>
     ensures { Runs (S.state source.old) (S.state source.new) result
@@ -63,7 +61,6 @@ fn extended_compression<S: Source>(source: &mut S) -> ImageResult<DdsCompression
 }
 
 // How the pixels are stored, by the bits of a pixel where they are there.
-#[inline(always)]
 #[tactic(auto, using(imagesize_source::proofs::Runs::steps, imagesize_source::proofs::Numbers::little_4))]
 fn plain_compression<S: Source>(source: &mut S) -> ImageResult<DdsCompression>
     ensures { Runs (S.state source.old) (S.state source.new) result
@@ -76,7 +73,6 @@ fn plain_compression<S: Source>(source: &mut S) -> ImageResult<DdsCompression>
 }
 
 // How the pixels of a four-character code are stored.
-#[inline(always)]
 fn code_compression(code: &[u8; 4]) -> DdsCompression
     ensures { result ≡ look_up_text dds_codes DdsCompression.Unknown code.now }
 {
@@ -93,7 +89,6 @@ fn code_compression(code: &[u8; 4]) -> DdsCompression
 }
 
 // How the pixels of a DXGI format are stored.
-#[inline(always)]
 fn format_compression(format: u32) -> DdsCompression
     ensures { result ≡ look_up dxgi_formats DdsCompression.Unknown format }
 {
@@ -105,7 +100,6 @@ fn format_compression(format: u32) -> DdsCompression
 }
 
 // How pixels of so many bits are stored.
-#[inline(always)]
 fn bits_compression(bits: u32) -> DdsCompression
     ensures { result ≡ look_up dds_bit_counts DdsCompression.Unknown bits }
 {

@@ -38,7 +38,6 @@ pub fn is_pkm(header: &[u8]) -> bool
 }
 
 /// How the pixels are stored, by the data type where it is there.
-#[inline(always)]
 #[tactic(auto, using(imagesize_source::proofs::Runs::steps, imagesize_source::proofs::Numbers::big_2), unfolding(crate::specs::Pkm::pkm_compression))]
 pub fn detect_compression<S: Source>(source: &mut S) -> ImageResult<PkmCompression>
     ensures { Runs (S.state source.old) (S.state source.new) result
@@ -51,7 +50,6 @@ pub fn detect_compression<S: Source>(source: &mut S) -> ImageResult<PkmCompressi
 }
 
 // How the pixels of a data type are stored.
-#[inline(always)]
 fn compression(data_type: u16) -> PkmCompression
     ensures { result ≡ look_up pkm_data_types PkmCompression.Unknown data_type }
 {

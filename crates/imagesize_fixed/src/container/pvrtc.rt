@@ -30,7 +30,6 @@ fn is_version_3(header: &[u8]) -> bool
 }
 
 /// How the pixels are stored, which the newer header tells.
-#[inline(always)]
 #[tactic(auto, using(imagesize_source::proofs::Runs::steps), unfolding(crate::specs::Pvrtc::pvrtc_compression))]
 pub fn detect_compression<S: Source>(source: &mut S) -> ImageResult<PvrtcCompression>
     ensures { Runs (S.state source.old) (S.state source.new) result
@@ -46,7 +45,6 @@ pub fn detect_compression<S: Source>(source: &mut S) -> ImageResult<PvrtcCompres
 }
 
 // How the pixels are stored, by the format where it is there.
-#[inline(always)]
 #[tactic(auto, using(imagesize_source::proofs::Runs::steps, imagesize_source::proofs::Numbers::little_8))]
 fn format<S: Source>(source: &mut S) -> ImageResult<PvrtcCompression>
     ensures { Runs (S.state source.old) (S.state source.new) result
@@ -59,7 +57,6 @@ fn format<S: Source>(source: &mut S) -> ImageResult<PvrtcCompression>
 }
 
 // How the pixels of a format are stored.
-#[inline(always)]
 fn format_compression(format: u64) -> PvrtcCompression
     ensures { result ≡ look_up pvrtc_formats PvrtcCompression.Unknown format }
 {
