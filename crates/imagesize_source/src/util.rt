@@ -2,7 +2,7 @@
 ghost use Rattle.std.specs.Prelude.{◌≡◌, ◌+◌, ◌^◌, ◌<◌, ◌≤◌, IfOk, IfErr, IfSome};
 ghost use Rattle.imagesize_source.specs.Numbers.{number};
 ghost use Rattle.imagesize_source.specs.Paying.{Paid};
-ghost use Rattle.imagesize_source.specs.Reading.{bytes_read, end_of_input, number_read, seen};
+ghost use Rattle.imagesize_source.specs.Reading.{bytes_read, end_of_input, number_read};
 ghost use Rattle.imagesize_source.specs.Layout.{Layout, over, if_there};
 ghost use Rattle.imagesize_source.specs.Layout.Layout.{«done»};
 ghost use Rattle.imagesize_source.specs.State.{Runs};
@@ -29,23 +29,6 @@ pub fn read_bytes<S: Source, const N: usize>(source: &mut S, place: u64) -> Imag
     match source.read_at(place, &mut room) {
         Ok(count) if count >= N => Ok(room),
         Ok(_) => Err(ImageError::IoError(Reason::EndOfInput)),
-        Err(error) => Err(error),
-    }
-}
-
-/// Fills the room with the bytes from a place on.
-#[inline(always)]
-#[tactic(auto, using(crate::proofs::Runs::bytes_there, crate::proofs::Runs::bytes_missing))]
-pub fn read_into<S: Source, const N: usize>(
-    source: &mut S,
-    place: u64,
-    room: &mut [u8; N],
-) -> ImageResult<()>
-    ensures { Runs (S.state source.old) (S.state source.new) (seen (λ _. room.new) result) (bytes_read (S.state source.old).held.input place N) }
-{
-    match source.read_at(place, room) {
-        Ok(count) if count < N => Err(ImageError::IoError(Reason::EndOfInput)),
-        Ok(_) => Ok(()),
         Err(error) => Err(error),
     }
 }
