@@ -48,12 +48,6 @@ pub counted_marks : (d : List ℕ) (spans : List Span) (count : ℕ) → length 
 counted_marks d spans count short same counted seen =
     omega (arith, counted, seen, short, ap length same, ap total same, cost_within d 0)
 
--- a room of just so many has them all
-pub whole_room : (marks room new : List Span) (count : ℕ) → count ≡ length marks → take count new ≡ take (length new) marks
-    → length new ≡ count → new ≡ marks
-whole_room marks room new count is same long =
-    sym (take_all count new (omega (arith, long))) ∙ same ∙ take_all (length new) marks (omega (arith, is, long))
-
 -- a room holds as many of them as it has places for
 pub room_marks : (marks spans room new : List Span) (count : ℕ) → spans ≡ marks → count ≡ length marks → take (length spans) room ≡ take
     (length room) spans → new ≡ room → take count new ≡ take (length new) marks

@@ -89,17 +89,6 @@ number_missing {a} {b} d order place k e h = record {
   ended = h.ended;
 }
 
--- the number of bytes that all came
-pub number_whole : {a b : State} (d room : List ℕ) (order : Endian) (place k n v : ℕ) → Runs a b (Ok (take n room))
-    (part_read d place (length room)) → length room ≡ k → k ≤ n → v ≡ number order room → Runs a b (Ok v) (number_read d order place k)
-number_whole d room order place k n v h long all is = number_there d room order place k v (bytes_there d room place k n h long all) is
-
--- too few bytes have no number
-pub number_short : {a b : State} (d room : List ℕ) (order : Endian) (place k n : ℕ) → Runs a b (Ok (take n room))
-    (part_read d place (length room)) → length room ≡ k → n < k → Runs a b (Err end_of_input) (number_read d order place k)
-number_short d room order place k n h long short = number_missing d order place k end_of_input
-    (bytes_missing d room place k n h long short)
-
 pub past-past : (a : State) (s t : List Span) → past (past a s) t ≡ past a (s ++ t)
 unfolding past
 past-past a [] t = refl

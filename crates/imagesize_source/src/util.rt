@@ -1,6 +1,5 @@
 //! Bytes and numbers of both byte orders.
 ghost use Rattle.std.specs.Prelude.{◌≡◌, ◌+◌, ◌^◌, ◌<◌, ◌≤◌, IfOk, IfErr, IfSome};
-ghost use Rattle.imagesize_source.specs.Numbers.{number};
 ghost use Rattle.imagesize_source.specs.Paying.{Paid};
 ghost use Rattle.imagesize_source.specs.Reading.{bytes_read, end_of_input, number_read};
 ghost use Rattle.imagesize_source.specs.Layout.{Layout, over, if_there};
@@ -88,27 +87,15 @@ pub fn read_u8<S: Source>(source: &mut S, place: u64) -> ImageResult<u8>
 
 /// The number of the two bytes from a place on.
 #[inline(always)]
+#[tactic(auto, using(crate::proofs::Runs::number_there, crate::proofs::Runs::number_missing, crate::proofs::Numbers::little_2, crate::proofs::Numbers::big_2))]
 pub fn read_u16<S: Source>(source: &mut S, place: u64, endian: Endian) -> ImageResult<u16>
     ensures { Runs (S.state source.old) (S.state source.new) result (number_read (S.state source.old).held.input endian place 2) }
 {
-    let mut room = [0u8; 2];
-    match source.read_at(place, &mut room) {
-        Ok(count) if count < 2 => Err(ImageError::IoError(Reason::EndOfInput)),
-        Ok(_) => Ok(u16_of(room, endian)),
-        Err(error) => Err(error),
-    }
-}
-
-// The number of two bytes.
-#[inline(always)]
-#[tactic(auto, using(crate::proofs::Numbers::little_2, crate::proofs::Numbers::big_2))]
-fn u16_of(bytes: [u8; 2], endian: Endian) -> u16
-    ensures { result ≡ number endian bytes }
-{
-    match endian {
+    let bytes = read_bytes::<S, 2>(source, place)?;
+    Ok(match endian {
         Endian::Little => u16::from_le_bytes(bytes),
         Endian::Big => u16::from_be_bytes(bytes),
-    }
+    })
 }
 
 /// The number of the two bytes that stand so far behind a place. A place above 2^64 - 1 is behind the end of
@@ -148,76 +135,39 @@ pub fn place_behind(place: u64, distance: u64) -> ImageResult<u64>
 
 /// The number of the three bytes from a place on.
 #[inline(always)]
+#[tactic(auto, using(crate::proofs::Runs::number_there, crate::proofs::Runs::number_missing, crate::proofs::Numbers::little_3, crate::proofs::Numbers::big_3))]
 pub fn read_u24<S: Source>(source: &mut S, place: u64, endian: Endian) -> ImageResult<u32>
     ensures { Runs (S.state source.old) (S.state source.new) result (number_read (S.state source.old).held.input endian place 3) }
 {
-    let mut room = [0u8; 3];
-    match source.read_at(place, &mut room) {
-        Ok(count) if count < 3 => Err(ImageError::IoError(Reason::EndOfInput)),
-        Ok(_) => Ok(u24_of(room, endian)),
-        Err(error) => Err(error),
-    }
-}
-
-// The number of three bytes.
-#[inline(always)]
-#[tactic(auto, using(crate::proofs::Numbers::little_3, crate::proofs::Numbers::big_3))]
-fn u24_of(bytes: [u8; 3], endian: Endian) -> u32
-    ensures { result ≡ number endian bytes }
-{
-    let [a, b, c] = bytes;
-    match endian {
+    let [a, b, c] = read_bytes::<S, 3>(source, place)?;
+    Ok(match endian {
         Endian::Little => u32::from_le_bytes([a, b, c, 0]),
         Endian::Big => u32::from_be_bytes([0, a, b, c]),
-    }
+    })
 }
 
 /// The number of the four bytes from a place on.
 #[inline(always)]
+#[tactic(auto, using(crate::proofs::Runs::number_there, crate::proofs::Runs::number_missing, crate::proofs::Numbers::little_4, crate::proofs::Numbers::big_4))]
 pub fn read_u32<S: Source>(source: &mut S, place: u64, endian: Endian) -> ImageResult<u32>
     ensures { Runs (S.state source.old) (S.state source.new) result (number_read (S.state source.old).held.input endian place 4) }
 {
-    let mut room = [0u8; 4];
-    match source.read_at(place, &mut room) {
-        Ok(count) if count < 4 => Err(ImageError::IoError(Reason::EndOfInput)),
-        Ok(_) => Ok(u32_of(room, endian)),
-        Err(error) => Err(error),
-    }
-}
-
-// The number of four bytes.
-#[inline(always)]
-#[tactic(auto, using(crate::proofs::Numbers::little_4, crate::proofs::Numbers::big_4))]
-fn u32_of(bytes: [u8; 4], endian: Endian) -> u32
-    ensures { result ≡ number endian bytes }
-{
-    match endian {
+    let bytes = read_bytes::<S, 4>(source, place)?;
+    Ok(match endian {
         Endian::Little => u32::from_le_bytes(bytes),
         Endian::Big => u32::from_be_bytes(bytes),
-    }
+    })
 }
 
 /// The number of the eight bytes from a place on.
 #[inline(always)]
+#[tactic(auto, using(crate::proofs::Runs::number_there, crate::proofs::Runs::number_missing, crate::proofs::Numbers::little_8, crate::proofs::Numbers::big_8))]
 pub fn read_u64<S: Source>(source: &mut S, place: u64, endian: Endian) -> ImageResult<u64>
     ensures { Runs (S.state source.old) (S.state source.new) result (number_read (S.state source.old).held.input endian place 8) }
 {
-    let mut room = [0u8; 8];
-    match source.read_at(place, &mut room) {
-        Ok(count) if count < 8 => Err(ImageError::IoError(Reason::EndOfInput)),
-        Ok(_) => Ok(u64_of(room, endian)),
-        Err(error) => Err(error),
-    }
-}
-
-// The number of eight bytes.
-#[inline(always)]
-#[tactic(auto, using(crate::proofs::Numbers::little_8, crate::proofs::Numbers::big_8))]
-fn u64_of(bytes: [u8; 8], endian: Endian) -> u64
-    ensures { result ≡ number endian bytes }
-{
-    match endian {
+    let bytes = read_bytes::<S, 8>(source, place)?;
+    Ok(match endian {
         Endian::Little => u64::from_le_bytes(bytes),
         Endian::Big => u64::from_be_bytes(bytes),
-    }
+    })
 }
