@@ -1,5 +1,5 @@
 -- The type at a place: what it is read from, and what bytes that follow leave of it.
-use Rattle.std.proofs.Common.{◌≡◌, ℕ, ◌≤◌, Bool, true, false, List, ◌++◌, length, Option, Some, None, Result, Ok, Err, refl, sym, ap, ◌∙◌, subst, arith}
+use Rattle.std.proofs.Common.{◌≡◌, ℕ, ◌+◌, ◌≤◌, Bool, true, false, List, ◌++◌, length, Option, Some, None, Result, Ok, Err, refl, sym, ap, ◌∙◌, subst, arith}
 use Rattle.imagesize_boxes.proofs.Heif.{heif_compression_laws}
 use Rattle.imagesize_boxes.specs.Heif.{heif_compression}
 use Rattle.imagesize_fixed.proofs.Atc.{atc_compression_laws}
@@ -24,8 +24,9 @@ use Rattle.imagesize_source.proofs.Extension.{bytes_ok, bytes_more}
 use Rattle.imagesize_source.specs.Counts.{CostsBy}
 use Rattle.imagesize_source.specs.Input.{span_of}
 use Rattle.imagesize_source.specs.Layout.{over, bind}
-use Rattle.imagesize_source.specs.Reading.{Reads, onward, bytes_at}
-use Rattle.imagesize_source.specs.State.{total}
+use Rattle.imagesize_source.proofs.Runs.{runs_then}
+use Rattle.imagesize_source.specs.Reading.{Reads, onward, bytes_at, bytes_read, part_read}
+use Rattle.imagesize_source.specs.State.{State, Runs, total}
 use Rattle.imagesize_source.specs.declared.error.ImageError.{ImageError}
 use Rattle.imagesize_source.specs.declared.span.Span.{Span}
 
@@ -146,3 +147,26 @@ kind_more d x place type is stays =
           (λ bs. over (d ++ x) (kind_by (length (d ++ x)) place bs (first_row rows bs)))).answer) there ∙ after.1,
       after.2,
     )
+
+-- a head that was read, and the type by it
+pub head_then : {a m b : State} (r : Result ImageType ImageError) (place : ℕ) (head : List ℕ)
+    → Runs a m (Ok head) (bytes_read a.held.input place 12)
+    → Runs m b r (over m.held.input (kind_by (length m.held.input) place head (first_row rows head)))
+    → Runs a b r (over a.held.input (kind (length a.held.input) place))
+head_then {a} {m} {b} r place head first second = runs_then (bytes_read a.held.input place 12)
+    (λ bs held. over held.input (kind_by (length held.input) place bs (first_row rows bs))) first second
+
+-- a head that was not read
+pub head_refused : {a b : State} (d room : List ℕ) (place : ℕ) (e : ImageError) → length room ≡ 12
+    → Runs a b (Err e) (part_read d place (length room)) → Runs a b (Err e) (bytes_read d place 12)
+head_refused {a} {b} d room place e long h = record {
+  sound = h.sound;
+  sound_after = h.sound_after;
+  frame = h.frame;
+  taken = h.taken;
+  within = subst (λ k. (honest : a.held.honest ≡ true) → b.taken ≤ a.taken + total (span_of d place k)) long h.within;
+  answer = λ honest goes_on. let no = h.answer honest goes_on in absurd cc;
+  state = λ honest goes_on. let no = h.answer honest goes_on in absurd cc;
+  fault = h.fault;
+  ended = h.ended;
+}

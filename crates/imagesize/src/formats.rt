@@ -1,12 +1,13 @@
 //! The formats of images, the table that tells them apart, and the size by each.
 ghost use Rattle.std.specs.Prelude.{◌≡◌, length};
-ghost use Rattle.imagesize.specs.Kind.{first_row, kind, rows, with_compression};
+ghost use Rattle.imagesize.specs.Kind.{first_row, kind, kind_by, rows, tga_or_none, with_compression};
 ghost use Rattle.imagesize.specs.Meaning.{size_of};
-ghost use Rattle.imagesize_source.specs.Layout.{over};
+ghost use Rattle.imagesize_fixed.specs.Tga.{is_tga};
+ghost use Rattle.imagesize_source.specs.Layout.{bind, over};
 ghost use Rattle.imagesize_source.specs.State.{Runs, Sound};
 
 use crate::types::ImageType;
-use crate::{ImageError, ImageResult};
+use crate::{ImageError, ImageResult, Reason};
 use imagesize_boxes::container::heif;
 use imagesize_boxes::formats::jxl;
 use imagesize_fixed::container::{atc, dds, pkm, pvrtc};
@@ -14,7 +15,6 @@ use imagesize_fixed::formats::{
     aseprite, astc, bmp, farbfeld, gif, ktx2, psd, qoi, tga, vtf, webp,
 };
 use imagesize_source::source::Source;
-use imagesize_source::util::read_bytes;
 use imagesize_texts::formats::{exr, hdr, pnm};
 use imagesize_types::compression::{
     AtcCompression, Compression, DdsCompression, PkmCompression, PvrtcCompression,
@@ -24,23 +24,47 @@ use imagesize_walked::formats::{ico, ilbm, jpeg, tiff};
 
 /// The type at a place, by the twelve bytes there.
 #[inline(always)]
-#[tactic(auto, using(imagesize_source::proofs::Runs::steps, imagesize_source::proofs::Layouts::binding))]
 pub(crate) fn detect<S: Source>(source: &mut S, place: u64) -> ImageResult<ImageType>
     ensures { Runs (S.state source.old) (S.state source.new) result
         (over (S.state source.old).held.input (kind (length (S.state source.old).held.input) place)) }
 {
-    let head = read_bytes::<S, 12>(source, place)?;
-    if let Some(found) = first_row(&head) {
-        return with_compression(source, place, &head, found);
+    let mut head = [0u8; 12];
+    match source.read_at(place, &mut head) {
+        Ok(count) if count >= head.len() => by_head(source, place, &head),
+        Ok(_) => Err(ImageError::IoError(Reason::EndOfInput)),
+        Err(error) => Err(error),
     }
-    if tga::matches(source, &head)? {
+}
+
+// The type by the twelve bytes at a place.
+#[inline(always)]
+#[tactic(auto, using(imagesize_source::proofs::Runs::steps, imagesize_source::proofs::Layouts::binding))]
+fn by_head<S: Source>(source: &mut S, place: u64, head: &[u8; 12]) -> ImageResult<ImageType>
+    requires { Sound (S.state source.old) }
+    ensures { Runs (S.state source.old) (S.state source.new) result
+        (over (S.state source.old).held.input (kind_by (length (S.state source.old).held.input) place head.now (first_row rows head.now))) }
+{
+    match first_row(head) {
+        Some(found) => with_compression(source, place, head, found),
+        None => tga_or_none(source, head),
+    }
+}
+
+// TGA has no signature at its beginning, so it comes behind the rows.
+#[inline(always)]
+#[tactic(auto, using(imagesize_source::proofs::Runs::steps, imagesize_source::proofs::Layouts::binding))]
+fn tga_or_none<S: Source>(source: &mut S, head: &[u8; 12]) -> ImageResult<ImageType>
+    requires { Sound (S.state source.old) }
+    ensures { Runs (S.state source.old) (S.state source.new) result
+        (over (S.state source.old).held.input (bind (is_tga (length (S.state source.old).held.input) head.now) tga_or_none)) }
+{
+    if tga::matches(source, head)? {
         return Ok(ImageType::Tga);
     }
     Err(ImageError::NotSupported)
 }
 
-// The type of the first row that holds, its compression still unknown. TGA has no signature at its beginning, so it
-// has no row.
+// The type of the first row that holds, its compression still unknown.
 #[inline(always)]
 fn first_row(head: &[u8; 12]) -> Option<ImageType>
     ensures { result ≡ first_row rows head.now }
@@ -99,6 +123,7 @@ fn with_compression<S: Source>(
 }
 
 // The type with its compression read, of which it has several.
+#[inline(always)]
 #[tactic(auto, using(imagesize_source::proofs::Runs::steps, imagesize_source::proofs::Layouts::binding), unfolding(crate::specs::Kind::with_compression))]
 fn read_kind<S: Source>(
     source: &mut S,

@@ -167,6 +167,3 @@ impl From<io::Error> for ImageError {
         ImageError::IoError(Reason::Fault(error))
     }
 }
-
-#[cfg(test)]
-mod tests;

@@ -145,6 +145,3 @@ fn go_back<R: Read + Seek>(reader: &mut BufReader<R>, distance: u64, target: u64
     reader.seek_relative(-distance)?;
     Ok(target)
 }
-
-#[cfg(test)]
-mod tests;

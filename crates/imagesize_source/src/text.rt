@@ -76,6 +76,3 @@ pub(crate) fn is_end(text: Text, begun: bool, byte: u8) -> bool
         Text::Word => begun && byte.is_ascii_whitespace(),
     }
 }
-
-#[cfg(test)]
-mod tests;

@@ -144,6 +144,3 @@ fn distance(from: u64, to: u64) -> Option<i64>
     let to = i64::try_from(to).ok()?;
     to.checked_sub(from)
 }
-
-#[cfg(test)]
-mod tests;

@@ -6,7 +6,8 @@ ghost use Rattle.imagesize.specs.Meaning.{kind_of, meaning};
 
 use imagesize::{ImageSize, ImageType, blob_size, image_type};
 
-/// The size in pixels of the image in a file, by the file's first bytes; none where more bytes are needed to tell it.
+/// The size in pixels of the image in a file, by the file's first bytes; none where more bytes are needed to tell it,
+/// and none where the bytes are of no type or their type's layout refuses them.
 ///
 /// Bytes that follow may change the size of a HEIF, an icon and a TGA, so no front tells theirs.
 pub fn size_by_front(front: &[u8]) -> Option<ImageSize>

@@ -1,11 +1,11 @@
 //! What each call returns of the worked inputs.
 
-use crate::readers::{Counting, Cutting, OneByte};
 use crate::rows::{ReadAs, Row, Wanted, kinds, read_as, tables};
 use imagesize::{
     ImageError, ImageResult, ImageSize, ImageType, Probed, Told, blob_size, image_type,
     reader_probe, reader_size, reader_type,
 };
+use imagesize_readers::readers::{Counting, Cutting, OneByte};
 use std::alloc::{AllocError, Global};
 use std::fmt::Display;
 use std::io::Cursor;

@@ -2,7 +2,6 @@
 ghost use Rattle.std.specs.Prelude.{None};
 
 use crate::calls::is_answer;
-use crate::readers::{Calls, Counting, OneByte};
 use crate::rows::fixed::{GIF, TGA};
 use crate::rows::records::NESTED_JPEG;
 use crate::rows::textures::ETC2;
@@ -11,6 +10,7 @@ use imagesize::{
     ImageError, ImageType, PkmCompression, Reason, Stop, Told, reader_probe, reader_size,
     reader_type,
 };
+use imagesize_readers::readers::{Calls, Counting, OneByte};
 use std::io::{self, Cursor, ErrorKind, SeekFrom};
 use std::process::Abort;
 use std::test::Fail;

@@ -1,7 +1,6 @@
 //! What is returned of readers whose calls fail, and of readers that are interrupted.
 
 use crate::long::{JPEG_SIZE, jpeg_behind};
-use crate::readers::{Failing, Halting, Interrupted, OneByte};
 use crate::rows::fixed::{GIF, TGA};
 use crate::rows::heif::GENERAL_HEIF;
 use crate::rows::records::{ICON, NESTED_JPEG};
@@ -10,6 +9,7 @@ use imagesize::{
     ImageError, ImageResult, ImageSize, ImageType, Reason, Told, reader_probe, reader_size,
     reader_type,
 };
+use imagesize_readers::readers::{Failing, Halting, Interrupted, OneByte};
 use std::alloc::{AllocError, Global};
 use std::io::{self, Cursor, ErrorKind};
 use std::process::Abort;
@@ -104,7 +104,8 @@ fn check_failures(
     Ok(())
 }
 
-// The same for each call and each failure.
+/// The same for each call and each failure: over these bytes, of this type, the failure of each read and each seek in
+/// turn is the fault that the call answers.
 pub fn check_each_failure(
     rt: &(impl Abort + AllocGlobal),
     bytes: &[u8],

@@ -2,10 +2,10 @@
 
 use crate::calls::is_answer;
 use crate::failures::check_each_failure;
-use crate::readers::OneByte;
 use crate::rows::Wanted;
 use crate::rows::jxl::{ALONE, IN_A_BOX};
 use imagesize::{ImageSize, ImageType, blob_size, reader_size};
+use imagesize_readers::readers::OneByte;
 use std::alloc::{AllocError, Global};
 use std::io::{BufReader, Cursor};
 use std::test::Fail;

@@ -1,12 +1,12 @@
 //! What is returned of inputs of many records.
 
-use crate::readers::OneByte;
 use imagesize::{ImageSize, blob_size, reader_size};
+use imagesize_readers::readers::OneByte;
 use std::alloc::{AllocError, Global};
 use std::io::{BufReader, Cursor};
 use std::test::Fail;
 
-// A JPEG of 7 by 5 pixels behind a number of empty segments.
+/// A JPEG of 7 by 5 pixels behind a number of empty segments.
 pub fn jpeg_behind(alloc: Global, segments: usize) -> Result<Vec<u8>, AllocError> {
     let mut bytes = Vec::new(alloc);
     bytes.extend_from_slice(b"\xFF\xD8")?;
@@ -17,6 +17,7 @@ pub fn jpeg_behind(alloc: Global, segments: usize) -> Result<Vec<u8>, AllocError
     Ok(bytes)
 }
 
+/// The size of that JPEG, in pixels.
 pub const JPEG_SIZE: ImageSize = ImageSize {
     width: 7,
     height: 5,

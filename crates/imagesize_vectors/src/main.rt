@@ -1,8 +1,6 @@
-//! Worked inputs with their answers, and readers that cut, count, interrupt, fail, lie and never end. The program prints
-//! the size of one file.
+//! Worked inputs with their answers, over slices and over readers of all kinds. The program prints the size of one file.
 #![tactic(auto)]
 
-pub mod allocators;
 #[cfg(test)]
 mod calls;
 #[cfg(test)]
@@ -21,7 +19,6 @@ mod long;
 mod memory;
 #[cfg(test)]
 mod queries;
-pub mod readers;
 #[cfg(test)]
 mod rows;
 #[cfg(test)]

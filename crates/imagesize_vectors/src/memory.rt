@@ -1,12 +1,12 @@
 //! What is returned where memory is refused.
 
-use crate::allocators::Refusing;
 use crate::rows::fixed::GIF;
 use crate::rows::heif::TURNED;
 use crate::rows::records::NESTED_JPEG;
 use crate::rows::{Row, row_of};
 use crate::traces::is_traced;
 use imagesize::blob_trace;
+use imagesize_readers::allocators::Refusing;
 use std::process::Abort;
 use std::test::Fail;
 

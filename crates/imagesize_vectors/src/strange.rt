@@ -1,10 +1,10 @@
 //! What is returned of readers that lie about their length, stand behind it, or never end.
 
-use crate::readers::{Calls, Claiming, Counting, Elsewhere, Endless};
 use crate::rows::fixed::GIF;
 use imagesize::{
     ImageError, ImageResult, ImageSize, ImageType, Reason, reader_probe, reader_size, reader_type,
 };
+use imagesize_readers::readers::{Calls, Claiming, Counting, Elsewhere, Endless};
 use std::io::Cursor;
 use std::test::Fail;
 

@@ -2,10 +2,10 @@
 
 use crate::calls::is_answer;
 use crate::failures::check_each_failure;
-use crate::readers::{Claiming, Endless, OneByte};
 use crate::rows::Wanted;
 use crate::rows::texts::{EXR_OF_ONE_ATTRIBUTE, HDR_BEHIND_A_LINE, PNM_WITH_A_COMMENT};
 use imagesize::{ImageError, ImageType, Reason, blob_size, reader_probe, reader_size};
+use imagesize_readers::readers::{Claiming, Endless, OneByte};
 use std::alloc::{AllocError, Global};
 use std::io::Cursor;
 use std::process::Abort;

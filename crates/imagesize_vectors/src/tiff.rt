@@ -1,9 +1,9 @@
 //! What is answered of long directories of TIFF and BigTIFF.
 
 use crate::failures::check_each_failure;
-use crate::readers::{Claiming, Endless, OneByte};
 use crate::rows::tiff::{BIG_TIFF, TIFF};
 use imagesize::{ImageError, ImageSize, ImageType, Reason, blob_size, reader_probe, reader_size};
+use imagesize_readers::readers::{Claiming, Endless, OneByte};
 use std::alloc::{AllocError, Global};
 use std::io::{BufReader, Cursor};
 use std::test::Fail;

@@ -6,10 +6,10 @@ ghost use Rattle.imagesize.specs.Meaning.{meaning, size_of};
 ghost use Rattle.imagesize_source.specs.Reading.{stopped, faulted};
 ghost use Rattle.imagesize_source.specs.State.{total};
 
-use crate::readers::{Counting, Cutting, Failing, Halting, Interrupted, OneByte};
 use crate::rows::fixed::GIF;
 use crate::rows::records::NESTED_JPEG;
 use imagesize::{ImageResult, ImageSize, ImageType, Probed, reader_probe, reader_size};
+use imagesize_readers::readers::{Counting, Cutting, Failing, Halting, Interrupted, OneByte};
 use std::io::{self, Cursor, ErrorKind};
 use std::test::Fail;
 

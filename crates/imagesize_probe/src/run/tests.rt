@@ -11,6 +11,8 @@ use imagesize::{ImageError, ImageResult, Reason};
 use std::alloc::{AllocError, Global};
 use std::fs;
 use std::io::{self, Cursor, ErrorKind, Write};
+use std::process::Abort;
+use std::rt::Files;
 use std::test::Fail;
 
 const GIF: &[u8] = b"GIF89a\x64\0\x64\0\0\0";
@@ -377,59 +379,50 @@ fn files_are_read_whole_up_to_a_length(rt: HostRuntime) -> Result<(), Fail> {
     Ok(())
 }
 
-#[test]
-fn files_that_cannot_be_loaded_have_a_line(rt: HostRuntime) -> Result<(), Fail> {
+// What the program writes of these arguments over the files of this machine, where it ends with 1.
+fn refused_lines<R: Files + AllocGlobal + Abort>(
+    rt: &R,
+    arguments: &[&str],
+) -> Result<String, Fail> {
     let alloc = rt.alloc();
-    let arguments = strings(alloc, &["--spans", "no such file", "/dev/null", "."])?;
+    let arguments = strings(alloc, arguments)?;
     let mut output = Vec::new(alloc);
     let mut errors = Vec::new(alloc);
-    assert_eq!(rt;
-        run(
-            alloc,
-            &arguments,
-            &mut Disk { rt: &rt },
-            &mut output,
-            &mut errors
-        )?,
-        1
-    );
+    let mut disk = Disk { rt };
+    let status = run(alloc, &arguments, &mut disk, &mut output, &mut errors)?;
+    assert_eq!(rt; status, 1);
+    Ok(String::from_utf8(output)?)
+}
+
+#[test]
+fn files_that_cannot_be_read_have_a_line(rt: HostRuntime) -> Result<(), Fail> {
     let error = fs::open(&rt, "no such file").expect_err(&rt, "a file that is not there");
-    let none = format!(in alloc; "no such file: error: {error}")?;
-    let text = String::from_utf8(output)?;
-    let mut lines = text.lines();
-    assert_eq!(rt; lines.next(), Some(none.as_str()));
-    assert_eq!(rt;
-        lines.next(),
-        Some("/dev/null: error: failed to fill whole buffer")
-    );
-    let folder = lines.next().unwrap_or("");
-    assert!(rt;
-        folder.starts_with(".: error: ") && !folder.ends_with("whole buffer"),
-        "{folder}"
-    );
-    assert_eq!(rt; lines.next(), None);
+    let none = format!(in rt.alloc(); "no such file: error: {error}")?;
+    let arguments = ["--spans", "no such file", "/dev/null", ".", "no such file"];
+    for given in [&arguments[..], &arguments[1..]] {
+        let text = refused_lines(&rt, given)?;
+        let mut lines = text.lines();
+        assert_eq!(rt; lines.next(), Some(none.as_str()));
+        assert_eq!(rt;
+            lines.next(),
+            Some("/dev/null: error: failed to fill whole buffer")
+        );
+        let folder = lines.next().unwrap_or("");
+        assert!(rt;
+            folder.starts_with(".: error: ") && !folder.ends_with("whole buffer"),
+            "{folder}"
+        );
+        assert_eq!(rt; lines.next(), Some(none.as_str()));
+        assert_eq!(rt; lines.next(), None);
+    }
     Ok(())
 }
 
 #[test]
 fn no_more_of_a_file_is_read_than_shows_that_it_is_too_long(rt: HostRuntime) -> Result<(), Fail> {
-    let alloc = rt.alloc();
-    let arguments = strings(alloc, &["--spans", "/dev/zero"])?;
-    let mut output = Vec::new(alloc);
-    let mut errors = Vec::new(alloc);
     assert_eq!(rt;
-        run(
-            alloc,
-            &arguments,
-            &mut Disk { rt: &rt },
-            &mut output,
-            &mut errors
-        )?,
-        1
-    );
-    assert_eq!(rt;
-        output.as_slice(),
-        b"/dev/zero: error: file is longer than 16777216 bytes\n".as_slice()
+        refused_lines(&rt, &["--spans", "/dev/zero"])?.as_str(),
+        "/dev/zero: error: file is longer than 16777216 bytes\n"
     );
     Ok(())
 }
@@ -438,41 +431,6 @@ fn no_more_of_a_file_is_read_than_shows_that_it_is_too_long(rt: HostRuntime) -> 
 fn a_failed_output_is_status_1(rt: HostRuntime) {
     assert_eq!(rt; exit_code(Ok(2)), 2);
     assert_eq!(rt; exit_code(Err(lost())), 1);
-}
-
-#[test]
-fn files_are_opened_by_their_names(rt: HostRuntime) -> Result<(), Fail> {
-    let alloc = rt.alloc();
-    let names = strings(alloc, &["no such file", "/dev/null", ".", "no such file"])?;
-    let mut output = Vec::new(alloc);
-    let mut errors = Vec::new(alloc);
-    assert_eq!(rt;
-        run(
-            alloc,
-            &names,
-            &mut Disk { rt: &rt },
-            &mut output,
-            &mut errors
-        )?,
-        1
-    );
-    let error = fs::open(&rt, "no such file").expect_err(&rt, "a file that is not there");
-    let none = format!(in alloc; "no such file: error: {error}")?;
-    let text = String::from_utf8(output)?;
-    let mut lines = text.lines();
-    assert_eq!(rt; lines.next(), Some(none.as_str()));
-    assert_eq!(rt;
-        lines.next(),
-        Some("/dev/null: error: failed to fill whole buffer")
-    );
-    let folder = lines.next().unwrap_or("");
-    assert!(rt;
-        folder.starts_with(".: error: ") && !folder.ends_with("whole buffer"),
-        "{folder}"
-    );
-    assert_eq!(rt; lines.next(), Some(none.as_str()));
-    assert_eq!(rt; lines.next(), None);
-    Ok(())
 }
 
 #[test]

@@ -37,14 +37,14 @@ use denote.RawPtr.{block_ptr}
 use denote.Builtin.{usize, RefOf}
 use denote.Triple.Call.{calls_at}
 use Rattle.std.proofs.alloc.Calls.{Al, α, seen, Answer, answer_val, Answer-typed, Answer-Ok, Answer-err, takes_key, Takes, at_takes, Answered, Takes-goes, Takes-gives, answers}
-use Rattle.imagesize_vectors.proofs.Noting.{Refuses, at_refuses, refuses_goes, refuses_gives}
-use Rattle.imagesize_vectors.proofs.allocators.refuses.Symbol as c_sym
-use Rattle.imagesize_vectors.proofs.allocators.refuses.Met as c_met
-use Rattle.imagesize_vectors.specs.contracts.allocators.Refusing as wrapper
-use Rattle.imagesize_vectors.specs.contracts.allocators.RefusingAllocator.allocate as F
-use Rattle.imagesize_vectors.specs.contracts.allocators.RefusingAllocator.allocate.Key as key
-use Rattle.imagesize_vectors.proofs.allocators.RefusingAllocator.allocate.Statement as stated
-use Rattle.imagesize_vectors.proofs.allocators.RefusingAllocator.allocate.Code as code
+use Rattle.imagesize_readers.proofs.Noting.{Refuses, at_refuses, refuses_goes, refuses_gives}
+use Rattle.imagesize_readers.proofs.allocators.refuses.Symbol as c_sym
+use Rattle.imagesize_readers.proofs.allocators.refuses.Met as c_met
+use Rattle.imagesize_readers.specs.contracts.allocators.Refusing as wrapper
+use Rattle.imagesize_readers.specs.contracts.allocators.RefusingAllocator.allocate as F
+use Rattle.imagesize_readers.specs.contracts.allocators.RefusingAllocator.allocate.Key as key
+use Rattle.imagesize_readers.proofs.allocators.RefusingAllocator.allocate.Statement as stated
+use Rattle.imagesize_readers.proofs.allocators.RefusingAllocator.allocate.Code as code
 
 module _ (Z : Al) where
   abbrev args : Args
@@ -149,5 +149,5 @@ allocate_spec 𝓤 𝓛 𝓜 𝓡 wired Y L g d d' met _ =
     (walked 𝓛 (ended Z) (stayed Z) c (WpFn 𝓤 𝓛.H 𝓣.C 𝓣.Λ (here Z)) (λ κs. (shr_vals, (uint_vals w64, (uint_vals w64, tt))))
     (λ κs. ((λ r vs s. s.0), (uint_Tells w64, (uint_Tells w64, tt))))
     (λ κs qs bounds a τ are. walk Z 𝓛 𝓜.mem 𝓡.returns 𝓣 (met.allocate d') (cited 𝓤 𝓛.H _ 𝓜 𝓡 𝓡.env c_sym.name (𝓡.env c_sym.name) refl
-    (c_met.met 𝓤 𝓛 𝓜 𝓡 (code.calls-imagesize_vectors::allocators::refuses 𝓡.env wired))) κs.0 κs.1.0 qs.0 qs.1.0 bounds.0 a.0 a.1.0
+    (c_met.met 𝓤 𝓛 𝓜 𝓡 (code.calls-imagesize_readers::allocators::refuses 𝓡.env wired))) κs.0 κs.1.0 qs.0 qs.1.0 bounds.0 a.0 a.1.0
     a.1.1.0 τ are.1.0.1 are.1.1.0.1)))

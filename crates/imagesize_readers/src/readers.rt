@@ -2,9 +2,9 @@
 ghost use Rattle.std.specs.Prelude.{◌≡◌, ◌≢◌, ℕ, pos, zero, ◌+◌, ◌-◌, ◌%◌, ◌^◌, ◌<◌, ◌≤◌, min, length, slice_get, Option, None, Some, Ok, Err, IfOk, IfErr, IsErr, true, not};
 ghost use Rattle.std.specs.Io.Cursor.{cursor_inner, cursor_position};
 ghost use Rattle.imagesize_source.specs.Telling.{ReadTells, SeekTells, counted};
-ghost use Rattle.imagesize_vectors.specs.Readers.{may_fail, interrupted_more, halting_telling, StandsAt, StandsAtEnd, failure_at, left_after};
+ghost use Rattle.imagesize_readers.specs.Readers.{may_fail, interrupted_more, halting_telling, StandsAt, StandsAtEnd, failure_at, left_after};
 
-use imagesize::{Stop, Told};
+use imagesize_source::{Stop, Told};
 use std::io::{self, Cursor, ErrorKind, SeekFrom};
 
 /// Gives what another reader gives, one byte a read.

@@ -17,9 +17,9 @@ use denote.Steps.{nothing, only}
 use denote.Triple.Statement.{Contract}
 use denote.Triple.Spec.{triple_of}
 use Rattle.std.specs.contracts.cell.Cell as CE
-use Rattle.imagesize_vectors.specs.contracts.allocators.Book as B
-use Rattle.imagesize_vectors.specs.contracts.allocators.refuses as R
-use Rattle.imagesize_vectors.specs.contracts.allocators.take_back as K
+use Rattle.imagesize_readers.specs.contracts.allocators.Book as B
+use Rattle.imagesize_readers.specs.contracts.allocators.refuses as R
+use Rattle.imagesize_readers.specs.contracts.allocators.take_back as K
 
 abbrev Noted : RattleType
 Noted = CE.the_row B.the_row

@@ -38,14 +38,14 @@ use denote.RawPtr.{Ptr, block_ptr, null_ptr, ptr_val, rawptr_vals, rawptr_Tells}
 use denote.Builtin.{usize, RawPtr, RefOf}
 use denote.Triple.Call.{calls_at}
 use Rattle.std.proofs.alloc.Calls.{Al, α, seen, token, gives_key, Gives, at_gives, Gives-goes, Gives-Gives}
-use Rattle.imagesize_vectors.proofs.Noting.{TakesBack, at_take_back, take_back_goes, take_back_gives}
-use Rattle.imagesize_vectors.proofs.allocators.take_back.Symbol as c_sym
-use Rattle.imagesize_vectors.proofs.allocators.take_back.Met as c_met
-use Rattle.imagesize_vectors.specs.contracts.allocators.Refusing as wrapper
-use Rattle.imagesize_vectors.specs.contracts.allocators.RefusingAllocator.deallocate as F
-use Rattle.imagesize_vectors.specs.contracts.allocators.RefusingAllocator.deallocate.Key as key
-use Rattle.imagesize_vectors.proofs.allocators.RefusingAllocator.deallocate.Statement as stated
-use Rattle.imagesize_vectors.proofs.allocators.RefusingAllocator.deallocate.Code as code
+use Rattle.imagesize_readers.proofs.Noting.{TakesBack, at_take_back, take_back_goes, take_back_gives}
+use Rattle.imagesize_readers.proofs.allocators.take_back.Symbol as c_sym
+use Rattle.imagesize_readers.proofs.allocators.take_back.Met as c_met
+use Rattle.imagesize_readers.specs.contracts.allocators.Refusing as wrapper
+use Rattle.imagesize_readers.specs.contracts.allocators.RefusingAllocator.deallocate as F
+use Rattle.imagesize_readers.specs.contracts.allocators.RefusingAllocator.deallocate.Key as key
+use Rattle.imagesize_readers.proofs.allocators.RefusingAllocator.deallocate.Statement as stated
+use Rattle.imagesize_readers.proofs.allocators.RefusingAllocator.deallocate.Code as code
 
 module _ (Z : Al) where
   abbrev args : Args
@@ -163,5 +163,5 @@ deallocate_spec 𝓤 𝓛 𝓜 𝓡 wired Y L g d d' met _ =
     (λ κs. (shr_vals, (rawptr_vals, (uint_vals w64, (uint_vals w64, tt)))))
     (λ κs. ((λ r vs s. s.0), (rawptr_Tells, (uint_Tells w64, (uint_Tells w64, tt)))))
     (λ κs qs bounds a τ are. walk Z 𝓛 𝓜.mem 𝓡.returns 𝓣 (met.deallocate d') (cited 𝓤 𝓛.H _ 𝓜 𝓡 𝓡.env c_sym.name (𝓡.env c_sym.name) refl
-    (c_met.met 𝓤 𝓛 𝓜 𝓡 (code.calls-imagesize_vectors::allocators::take_back 𝓡.env wired))) κs.0 κs.1.0 qs.0 qs.1.0 bounds.0 a.0
+    (c_met.met 𝓤 𝓛 𝓜 𝓡 (code.calls-imagesize_readers::allocators::take_back 𝓡.env wired))) κs.0 κs.1.0 qs.0 qs.1.0 bounds.0 a.0
     a.1.1.0 a.1.1.1.0 τ are.1.1.0.1 are.1.1.1.0.1 a.1.0)))

@@ -1,4 +1,6 @@
-use super::{ImageError, Reason};
+//! The texts of refusals.
+
+use imagesize_source::{ImageError, Reason};
 use std::fmt::Display;
 use std::io;
 use std::test::Fail;

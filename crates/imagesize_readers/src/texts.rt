@@ -1,9 +1,9 @@
 //! A text is the same over a slice and over a reader, which takes none of the bytes behind it.
 
-use super::Text;
-use crate::source::Source;
-use crate::source::reader::{ReaderSource, open};
-use crate::source::slice::SliceSource;
+use imagesize_source::Text;
+use imagesize_source::source::Source;
+use imagesize_source::source::reader::{ReaderSource, open};
+use imagesize_source::source::slice::SliceSource;
 use std::io::Cursor;
 use std::process::Abort;
 use std::test::Fail;

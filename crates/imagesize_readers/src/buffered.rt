@@ -1,0 +1,130 @@
+//! Buffered readers keep their block where a place lies in it, and one that keeps its place calls the reader below no
+//! more than it must.
+
+use imagesize_source::{KeptReader, Stop, Told};
+use std::io::{self, BufReader, Cursor, ErrorKind, Read, Seek, SeekFrom};
+use std::process::Abort;
+use std::test::Fail;
+
+// How many reads and seeks were made.
+#[derive(Clone, Copy, Debug, PartialEq, Eq)]
+struct Made {
+    reads: u64,
+    seeks: u64,
+}
+
+const NONE: Made = Made { reads: 0, seeks: 0 };
+
+// Counts the calls that reach it.
+#[derive(Drop)]
+struct Counted<'a> {
+    inner: Cursor<&'a [u8]>,
+    made: &'a mut Made,
+}
+
+impl Read for Counted<'_> {
+    fn read(&mut self, room: &mut [u8]) -> io::Result<usize> {
+        self.made.reads = self.made.reads.saturating_add(1);
+        self.inner.read(room)
+    }
+}
+
+impl Seek for Counted<'_> {
+    fn seek(&mut self, to: SeekFrom) -> io::Result<u64> {
+        self.made.seeks = self.made.seeks.saturating_add(1);
+        self.inner.seek(to)
+    }
+}
+
+// Walks over a hundred places of so many bytes that are so far apart.
+fn walk<R: Told>(rt: &impl Abort, reader: &mut R, length: u64, step: u64) -> Result<(), Fail> {
+    assert_eq!(rt; reader.seek_told(SeekFrom::Current(0))?, 0);
+    assert_eq!(rt; reader.seek_told(SeekFrom::End(0))?, length);
+    let mut place = 0u64;
+    for _ in 0..100u64 {
+        assert_eq!(rt; reader.seek_told(SeekFrom::Start(place))?, place);
+        assert!(rt; matches!(reader.read_told(&mut [0u8; 4]), Ok(4)));
+        place = place.saturating_add(step);
+    }
+    Ok(())
+}
+
+#[test]
+fn a_walk_in_a_block_fetches_it_once(rt: HostRuntime) -> Result<(), Fail> {
+    let bytes = [7u8; 4096];
+    let mut made = NONE;
+    let counted = Counted {
+        inner: Cursor::new(bytes.as_slice()),
+        made: &mut made,
+    };
+    let mut reader = BufReader::new(rt.alloc(), counted)?;
+    walk(&rt, &mut reader, 4096, 40)?;
+    assert_eq!(rt; reader.seek_told(SeekFrom::Start(8))?, 8);
+    assert_eq!(rt; reader.seek_told(SeekFrom::Current(0))?, 8);
+    drop(reader);
+    assert_eq!(rt; made.reads, 1);
+    Ok(())
+}
+
+// The calls of the reader below on a walk over so many bytes by a reader that keeps its place.
+fn made_on_walk<H: AllocGlobal + Abort>(rt: &H, length: usize, step: u64) -> Result<Made, Fail> {
+    let bytes = Vec::from_elem(rt.alloc(), 7u8, length)?;
+    let mut made = NONE;
+    let counted = Counted {
+        inner: Cursor::new(bytes.as_slice()),
+        made: &mut made,
+    };
+    let mut reader = KeptReader::new(BufReader::new(rt.alloc(), counted)?);
+    walk(rt, &mut reader, length as u64, step)?;
+    drop(reader);
+    Ok(made)
+}
+
+#[test]
+fn a_walk_in_a_block_makes_four_calls(rt: HostRuntime) -> Result<(), Fail> {
+    let made = made_on_walk(&rt, 4096, 40)?;
+    assert_eq!(rt; made, Made { reads: 1, seeks: 3 });
+    Ok(())
+}
+
+#[test]
+fn a_walk_over_blocks_makes_two_calls_a_place(rt: HostRuntime) -> Result<(), Fail> {
+    let made = made_on_walk(&rt, 1_000_000, 10_000)?;
+    assert_eq!(rt;
+        made,
+        Made {
+            reads: 100,
+            seeks: 102
+        }
+    );
+    Ok(())
+}
+
+#[test]
+fn a_place_behind_in_the_block_is_reached_with_no_call(rt: HostRuntime) -> Result<(), Fail> {
+    let bytes = [1u8, 2, 3, 4, 5, 6, 7, 8];
+    let mut made = NONE;
+    let counted = Counted {
+        inner: Cursor::new(bytes.as_slice()),
+        made: &mut made,
+    };
+    let mut reader = KeptReader::new(BufReader::new(rt.alloc(), counted)?);
+    assert_eq!(rt; reader.seek_told(SeekFrom::Start(2))?, 2);
+    let mut room = [0u8; 4];
+    assert!(rt; matches!(reader.read_told(&mut room), Ok(4)));
+    assert_eq!(rt; reader.seek_told(SeekFrom::Start(3))?, 3);
+    assert!(rt; matches!(reader.read_told(&mut room), Ok(4)));
+    assert_eq!(rt; room, [4, 5, 6, 7]);
+    assert_eq!(rt; reader.seek_told(SeekFrom::Current(0))?, 7);
+    drop(reader);
+    assert_eq!(rt; made, Made { reads: 1, seeks: 1 });
+    Ok(())
+}
+
+#[test]
+fn an_interruption_may_be_tried_again(rt: HostRuntime) {
+    let stop = Stop::from(io::Error::from(ErrorKind::Interrupted));
+    assert!(rt; matches!(stop, Stop::Interrupted(_)));
+    let fault = Stop::from(io::Error::from(ErrorKind::UnexpectedEof));
+    assert!(rt; matches!(fault, Stop::Fault(_)));
+}
