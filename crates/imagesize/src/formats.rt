@@ -42,7 +42,8 @@ pub(crate) fn detect<S: Source>(source: &mut S, place: u64) -> ImageResult<Image
 fn by_head<S: Source>(source: &mut S, place: u64, head: &[u8; 12]) -> ImageResult<ImageType>
     requires { Sound (S.state source.old) }
     ensures { Runs (S.state source.old) (S.state source.new) result
-        (over (S.state source.old).held.input (kind_by (length (S.state source.old).held.input) place head.now (first_row rows head.now))) }
+        (over (S.state source.old).held.input
+        (kind_by (length (S.state source.old).held.input) place head.now (first_row rows head.now))) }
 {
     match first_row(head) {
         Some(found) => with_compression(source, place, head, found),

@@ -19,7 +19,8 @@ saturated_by {a} f other place beyond h = runs_as (f place a.held.input) h (λ h
       within : (d : List ℕ) → length d < 2 ^ 63 → (is_within : Bool) → leb place (2 ^ 64 - 1) ≡ is_within → f (min place (2 ^ 64 - 1)) d
           ≡ f place d
       within d short true is = ap (λ p. f p d) (grind (arith, nat_tests))
-      within d short false is = beyond d (min place (2 ^ 64 - 1)) (grind (arith, nat_tests)) ∙ sym (beyond d place (grind (arith, nat_tests)))
+      within d short false is = beyond d (min place (2 ^ 64 - 1)) (grind (arith, nat_tests))
+          ∙ sym (beyond d place (grind (arith, nat_tests)))
 
 -- no byte is there
 part_beyond : (d : List ℕ) (place k : ℕ) → length d ≤ place → part_read d place k ≡ gives []

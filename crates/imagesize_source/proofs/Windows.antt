@@ -7,6 +7,7 @@ use Rattle.imagesize_source.specs.declared.error.ImageError.{ImageError}
 use Rattle.imagesize_source.specs.declared.span.Span.{Span}
 use Rattle.imagesize_source.specs.declared.source.progress.Progress.{Progress}
 use Rattle.imagesize_source.specs.Telling.{Telling}
+use Rattle.imagesize_source.proofs.Layouts.{no_part}
 use Rattle.imagesize_source.proofs.Standings.{told_at}
 use Rattle.imagesize_source.specs.Input.{part, span_at, span_of}
 use Rattle.imagesize_source.specs.Reading.{part_read, seen, is_fault, is_stop, spent}
@@ -459,10 +460,6 @@ ended_by count home p st w e stops = record {
   budget = paid_by (reader_frame count home p) p.taken (spent e) refl stops.budget;
   memory = λ refused. absurd cc;
 }
-
-no_part : (d : List ℕ) (place k : ℕ) → length d < place → part d place k ≡ []
-unfolding part
-no_part d place k far = ap (take k) (drop_all place d (omega arith)) ∙ take-nil k
 
 end_answer : (f : Frame) (st : Option Standing) (w : List ℕ) (place k : ℕ) → ToldBy f st → f.told < place → (held_at st w).honest ≡ true
     → part (held_at st w).input place k ≡ []

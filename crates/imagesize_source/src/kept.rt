@@ -46,7 +46,8 @@ impl<R: Read + Seek + Drop> Told for KeptReader<R> {
         ensures told { ReadTells None None room.new result }
         ensures counts { ◌≡◌ {A = Option ℕ} None (counted None result) }
         ensures stops { IfErr result (λ stop. (e : Error) × (stop ≡ stop_of e)) }
-        ensures reads { ReadConsumes (reader_remaining R.remaining self.old.reader) (reader_remaining R.remaining self.new.reader) result room.new }
+        ensures reads { ReadConsumes (reader_remaining R.remaining self.old.reader)
+            (reader_remaining R.remaining self.new.reader) result room.new }
         ensures place { self.new.place ≡ read_place self.old.place result }
     {
         let place = self.place;

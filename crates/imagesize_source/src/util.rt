@@ -108,7 +108,8 @@ pub fn read_u16_behind<S: Source>(
     distance: u64,
     endian: Endian,
 ) -> ImageResult<u16>
-    ensures { Runs (S.state source.old) (S.state source.new) result (number_read (S.state source.old).held.input endian (place + distance) 2) }
+    ensures { Runs (S.state source.old) (S.state source.new) result
+        (number_read (S.state source.old).held.input endian (place + distance) 2) }
 {
     match place_behind(place, distance) {
         Ok(next) => read_u16(source, next, endian),

@@ -148,11 +148,12 @@ attribute_at_most room place few = line_at_most 0 place room (exr_named room pla
     (line_at_most 0 (place + (length name + 1)) room (exr_typed place name) (532 - room) (omega arith)
     (λ type_name. (
       omega arith,
-      λ size. by_value (AtMost (532 - room - room - 4)) place (value_behind name type_name) (is_data_window name && is_box type_name) size (
-        omega arith,
-        λ bs. by_window (AtMost (532 - room - room - 4 - 16)) place (value_behind name type_name) (window_size bs)
-            (λ size. tt) tt,
-      )
+      λ size. by_value (AtMost (532 - room - room - 4)) place (value_behind name type_name)
+          (is_data_window name && is_box type_name) size (
+            omega arith,
+            λ bs. by_window (AtMost (532 - room - room - 4 - 16)) place (value_behind name type_name) (window_size bs)
+                (λ size. tt) tt,
+          )
           tt,
     ))))
 

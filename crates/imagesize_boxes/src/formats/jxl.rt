@@ -70,7 +70,8 @@ fn read_boxes<S: Source>(source: &mut S) -> ImageResult<Front>
 // Those of a codestream that stands alone; none where boxes stand.
 #[tactic(auto, using(imagesize_source::proofs::Runs::steps))]
 fn read_start<S: Source>(source: &mut S) -> ImageResult<Option<Front>>
-    ensures { Runs (S.state source.old) (S.state source.new) (seen (λ found. option_map (λ front. take front.len front.bytes) found) result)
+    ensures { Runs (S.state source.old) (S.state source.new)
+        (seen (λ found. option_map (λ front. take front.len front.bytes) found) result)
         (over (S.state source.old).held.input jxl_start) }
 {
     let start = read_bytes::<S, 2>(source, 0)?;

@@ -17,13 +17,16 @@ pub(super) fn read_text<R: Told>(
     room: &mut [u8],
 ) -> ImageResult<usize>
     ensures bound { IfOk result (λ n. n ≤ length room.new) }
-    ensures pays { IfOk result (λ n. 0 < n → max source.old.progress.told 32 < place → source.old.progress.taken < source.new.progress.taken) }
+    ensures pays { IfOk result (λ n. 0 < n → max source.old.progress.told 32 < place
+        → source.old.progress.taken < source.new.progress.taken) }
     ensures runs { Runs
-        (reader_state (R.telling source.old.reader.now) (R.count source.old.reader.now) source.old.reader.ghost_name source.old.progress source.old.window.items)
-        (reader_state (R.telling source.new.reader.now) (R.count source.new.reader.now) source.new.reader.ghost_name source.new.progress source.new.window.items)
+        (reader_state (R.telling source.old.reader.now) (R.count source.old.reader.now) source.old.reader.ghost_name
+        source.old.progress source.old.window.items)
+        (reader_state (R.telling source.new.reader.now) (R.count source.new.reader.now) source.new.reader.ghost_name
+        source.new.progress source.new.window.items)
         (seen (λ n. take n room.new) result)
-        (text_read (reader_state (R.telling source.old.reader.now) (R.count source.old.reader.now) source.old.reader.ghost_name source.old.progress source.old.window.items).held.input
-        text place (length room.new)) }
+        (text_read (reader_state (R.telling source.old.reader.now) (R.count source.old.reader.now) source.old.reader.ghost_name
+        source.old.progress source.old.window.items).held.input text place (length room.new)) }
 {
     let mut begun = false;
     let mut count = 0;
