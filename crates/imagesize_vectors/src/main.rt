@@ -27,8 +27,7 @@ mod strange;
 mod texts;
 #[cfg(test)]
 mod tiff;
-#[cfg(test)]
-mod told;
+pub mod told;
 #[cfg(test)]
 mod traces;
 #[cfg(test)]

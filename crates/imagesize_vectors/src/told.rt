@@ -6,15 +6,21 @@ ghost use Rattle.imagesize.specs.Meaning.{meaning, size_of};
 ghost use Rattle.imagesize_source.specs.Reading.{stopped, faulted};
 ghost use Rattle.imagesize_source.specs.State.{total};
 
+#[cfg(test)]
 use crate::rows::fixed::GIF;
+#[cfg(test)]
 use crate::rows::records::NESTED_JPEG;
 use imagesize::{ImageResult, ImageSize, ImageType, Probed, reader_probe, reader_size};
 use imagesize_readers::readers::{Counting, Cutting, Failing, Halting, Interrupted, OneByte};
-use std::io::{self, Cursor, ErrorKind};
+#[cfg(test)]
+use std::io::ErrorKind;
+use std::io::{self, Cursor};
+#[cfg(test)]
 use std::test::Fail;
 
-// The size through a reader of which a call fails, or that failure.
-fn size_or_fault(bytes: &[u8], left: u64, error: io::Error) -> ImageResult<ImageSize>
+/// The size in pixels through a reader of which a call fails, or the fault of that failure; the refusals of the layouts
+/// are those of `blob_size`.
+pub fn size_or_fault(bytes: &[u8], left: u64, error: io::Error) -> ImageResult<ImageSize>
     ensures size { stopped result ≡ false → (meaning bytes.now 0).answer ≡ result }
     ensures fault { stopped result ≡ true → faulted result ≡ true }
 {
@@ -27,8 +33,9 @@ fn size_or_fault(bytes: &[u8], left: u64, error: io::Error) -> ImageResult<Image
     })
 }
 
-// The size through a reader of one byte a read, of which every second read is interrupted.
-fn size_in_pieces(bytes: &[u8], left: u64, error: io::Error) -> ImageResult<ImageSize>
+/// The size in pixels through a reader of one byte a read, of which every second read is interrupted, at most 64
+/// times: that of `blob_size`, or its refusal.
+pub fn size_in_pieces(bytes: &[u8], left: u64, error: io::Error) -> ImageResult<ImageSize>
     requires { left ≤ 64 }
     ensures { result ≡ (meaning bytes.now 0).answer }
 {
@@ -43,8 +50,9 @@ fn size_in_pieces(bytes: &[u8], left: u64, error: io::Error) -> ImageResult<Imag
     })
 }
 
-// The size through a reader whose reads give pieces of these lengths.
-fn size_by_lengths(bytes: &[u8], lengths: &[usize]) -> ImageResult<ImageSize>
+/// The size in pixels through a reader whose reads give pieces of these lengths, in bytes: that of `blob_size`, or its
+/// refusal.
+pub fn size_by_lengths(bytes: &[u8], lengths: &[usize]) -> ImageResult<ImageSize>
     ensures { result ≡ (meaning bytes.now 0).answer }
 {
     let _length = bytes.len();
@@ -55,8 +63,9 @@ fn size_by_lengths(bytes: &[u8], lengths: &[usize]) -> ImageResult<ImageSize>
     })
 }
 
-// The size through a reader whose first reads are interrupted.
-fn size_at_last(bytes: &[u8], left: u64, error: io::Error) -> ImageResult<ImageSize>
+/// The size in pixels through a reader whose first reads are interrupted, at most 64 times: that of `blob_size`, or its
+/// refusal.
+pub fn size_at_last(bytes: &[u8], left: u64, error: io::Error) -> ImageResult<ImageSize>
     requires { left ≤ 64 }
     ensures { result ≡ (meaning bytes.now 0).answer }
 {
@@ -68,8 +77,12 @@ fn size_at_last(bytes: &[u8], left: u64, error: io::Error) -> ImageResult<ImageS
     })
 }
 
-// The size of this type through a reader that counts, whose count rises by no more than the readings' bytes.
-fn counted_size(kind: ImageType, reader: &mut Counting<'_, Cursor<&[u8]>>) -> ImageResult<ImageSize>
+/// The size in pixels of this type through a reader that counts, whose count rises by no more than the readings' bytes;
+/// the errors are those of `ImageType::reader_size`, a fault where the count is full.
+pub fn counted_size(
+    kind: ImageType,
+    reader: &mut Counting<'_, Cursor<&[u8]>>,
+) -> ImageResult<ImageSize>
     requires { length (cursor_inner reader.old.reader).now < 2 ^ 63 }
     ensures size { stopped result ≡ false → (size_of kind (cursor_inner reader.old.reader).now).answer ≡ result }
     ensures counts { RisesWithin (Some reader.old.count.now) (Some reader.new.count.now)
@@ -78,13 +91,14 @@ fn counted_size(kind: ImageType, reader: &mut Counting<'_, Cursor<&[u8]>>) -> Im
     kind.reader_size(reader)
 }
 
-// What is found through a reader that counts, whose count rises by the bytes that are taken.
-fn counted_probe(reader: &mut Counting<'_, Cursor<&[u8]>>) -> Probed
+/// What is found through a reader that counts, whose count rises by the bytes that are taken.
+pub fn counted_probe(reader: &mut Counting<'_, Cursor<&[u8]>>) -> Probed
     ensures { reader.new.count.now ≡ reader.old.count.now + result.taken }
 {
     reader_probe(reader)
 }
 
+#[cfg(test)]
 const GIF_SIZE: ImageSize = ImageSize {
     width: 100,
     height: 100,
