@@ -13,6 +13,15 @@ use std::test::Fail;
 // A GIF of 100 by 100.
 const GIF: &[u8] = b"GIF89ad\0d\0\0\0";
 
+// A JPEG of 7 by 5 behind 30 empty segments, read to its end.
+const LONG_JPEG: &[u8] = b"\xFF\xD8\
+    \xFF\xE0\0\x02\xFF\xE0\0\x02\xFF\xE0\0\x02\xFF\xE0\0\x02\xFF\xE0\0\x02\xFF\xE0\0\x02\
+    \xFF\xE0\0\x02\xFF\xE0\0\x02\xFF\xE0\0\x02\xFF\xE0\0\x02\xFF\xE0\0\x02\xFF\xE0\0\x02\
+    \xFF\xE0\0\x02\xFF\xE0\0\x02\xFF\xE0\0\x02\xFF\xE0\0\x02\xFF\xE0\0\x02\xFF\xE0\0\x02\
+    \xFF\xE0\0\x02\xFF\xE0\0\x02\xFF\xE0\0\x02\xFF\xE0\0\x02\xFF\xE0\0\x02\xFF\xE0\0\x02\
+    \xFF\xE0\0\x02\xFF\xE0\0\x02\xFF\xE0\0\x02\xFF\xE0\0\x02\xFF\xE0\0\x02\xFF\xE0\0\x02\
+    \xFF\xC0\0\x11\x08\0\x05\0\x07";
+
 // A size of equal sides.
 fn square(side: usize) -> ImageSize {
     ImageSize {
@@ -34,6 +43,8 @@ fn a_gate_admits_by_the_area(rt: HostRuntime) {
 fn a_limited_gate_takes_no_more(rt: HostRuntime) {
     let admission = admit_within(&mut Cursor::new(GIF), 12, 10_000);
     assert!(rt; matches!(admission.verdict, Ok(size) if size == square(100)));
+    let admission = admit_within(&mut Cursor::new(LONG_JPEG), LONG_JPEG.len() as u64, 35);
+    assert!(rt; matches!(admission.verdict, Ok(size) if size == ImageSize { width: 7, height: 5 }));
     let mut limited = Limited {
         reader: &mut Cursor::new(GIF),
         left: 11,
