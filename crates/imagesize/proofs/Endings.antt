@@ -1,8 +1,9 @@
--- How calls over a reader end: they want no memory, and spend a budget whole.
-use Rattle.std.proofs.Common.{◌≡◌, ℕ, ◌+◌, ◌-◌, ◌^◌, ◌≤◌, min, Bool, true, false, Option, Some, None, Result, Ok, Err, IfErr, IfSome, refl, sym, ap, ◌∙◌, arith}
+-- How calls end: over a reader they want no memory, and spend a budget whole; over a slice nothing stops them.
+use Rattle.std.proofs.Common.{◌≡◌, ℕ, ◌+◌, ◌-◌, ◌^◌, ◌≤◌, min, Bool, true, false, Option, Some, None, Result, Ok, Err, IfErr, IfSome, inl, inr, refl, sym, ap, ◌∙◌, arith}
 use Rattle.std.specs.Prelude.{option_map}
 use Rattle.imagesize.specs.Probed.{SpentAll}
-use Rattle.imagesize_source.specs.Reading.{Reads, is_memory, spent}
+use Rattle.imagesize_source.proofs.Openings.{stop_cases, some_spent}
+use Rattle.imagesize_source.specs.Reading.{Reads, is_memory, is_stop, spent, stopped}
 use Rattle.imagesize_source.specs.Standing.{since}
 use Rattle.imagesize_source.specs.State.{State, Runs}
 use Rattle.imagesize_source.specs.declared.error.ImageError.{ImageError}
@@ -18,6 +19,30 @@ pub no_memory : {X : Type 0} {a b : State} (r : Result X ImageError) (reads : Re
 no_memory (Ok x) reads none h = tt
 no_memory {b = b} (Err e) reads none h = without e b.frame.records (is_memory e) refl (λ refused. (h.ended.memory refused).0)
     (ap (λ f. f.records) h.frame ∙ none)
+
+unless : (b : Bool) → (b ≡ true → ⊥) → b ≡ false
+unless true h = absurd (h refl)
+unless false h = refl
+
+-- a source that cannot fail and counts nothing stops a call for want of memory alone
+pub stops_for_memory : {X : Type 0} {a b : State} (r : Result X ImageError) (reads : Reads X) → a.held.honest ≡ true → a.held.can_fail ≡ false
+    → a.frame.counts ≡ false → IfErr r (λ e. is_memory e ≡ false) → Runs a b r reads → stopped r ≡ false
+stops_for_memory (Ok x) reads honest sure uncounted memory h = refl
+stops_for_memory {b = b} (Err e) reads honest sure uncounted memory h = unless (is_stop e) (λ stops. elim (stop_cases e stops) [
+  | inl faults ↦ let no : true ≡ false = sym (h.fault honest faults) ∙ sure in (cc)
+  | inr other ↦ elim other [
+    | inl all ↦
+        let counts = (some_spent (spent e) all.0 (λ n. (b.frame.counts ≡ true) × (n ≡ b.frame.budget) × (n ≡ b.taken)) all.1
+        h.ended.budget).0 in
+        let no : true ≡ false = sym counts ∙ ap (λ f. f.counts) h.frame ∙ uncounted in (cc)
+    | inr refused ↦ let no : true ≡ false = sym refused ∙ memory in (cc)
+  ]
+])
+
+-- over a slice that records nothing nothing does
+pub never_stopped : {X : Type 0} {a b : State} (r : Result X ImageError) (reads : Reads X) → a.held.honest ≡ true → a.held.can_fail ≡ false
+    → a.frame.counts ≡ false → a.frame.records ≡ false → Runs a b r reads → stopped r ≡ false
+never_stopped r reads honest sure uncounted none h = stops_for_memory r reads honest sure uncounted (no_memory r reads none h) h
 
 some_budget : (named : Option ℕ) (budget taken n : ℕ) (counts : Bool) → 64 ≤ budget → n ≡ taken
     → IfSome named (λ k. (counts ≡ true) × (k ≡ budget) × (k ≡ taken)) → IfSome named (λ k. (k ≡ n) × (64 ≤ k))

@@ -1,13 +1,13 @@
 -- What a lent room holds of an answer.
-use Rattle.std.proofs.Common.{◌≡◌, ℕ, ◌-◌, ◌^◌, ◌<◌, ◌≤◌, min, Bool, true, false, List, [], ◌++◌, length, take, Result, Ok, Err, inl, inr, refl, sym, ap, ◌∙◌, arith}
+use Rattle.std.proofs.Common.{◌≡◌, ℕ, ◌-◌, ◌^◌, ◌<◌, ◌≤◌, min, Bool, true, false, List, [], ◌++◌, length, take, Result, Ok, Err, refl, sym, ap, ◌∙◌, arith}
 use Rattle.std.proofs.lemmas.List.{take_all}
 use Rattle.imagesize.specs.Meaning.{meaning}
 use Rattle.imagesize_types.specs.declared.size.ImageSize.{ImageSize}
 use Rattle.imagesize.proofs.Counts.{cost_within}
+use Rattle.imagesize.proofs.Endings.{never_stopped}
 use Rattle.imagesize_source.proofs.Lendings.{past-lent}
-use Rattle.imagesize_source.proofs.Openings.{stop_cases, some_spent}
 use Rattle.imagesize_source.specs.Lent.{lent_state}
-use Rattle.imagesize_source.specs.Reading.{Reads, stopped, is_stop, spent}
+use Rattle.imagesize_source.specs.Reading.{Reads}
 use Rattle.imagesize_source.specs.State.{State, Runs, total}
 use Rattle.imagesize_source.specs.declared.error.ImageError.{ImageError}
 use Rattle.imagesize_source.specs.declared.span.Span.{Span}
@@ -16,28 +16,11 @@ use Rattle.imagesize_source.specs.declared.span.Span.{Span}
 spans_of : {d e : List ℕ} {s t : List Span} {g h : ℕ} → lent_state e s h ≡ lent_state d t g → s ≡ t
 spans_of e = let same = ap (λ (a : State). a.recorded) e in (cc)
 
-unless : (b : Bool) → (b ≡ true → ⊥) → b ≡ false
-unless true h = absurd (h refl)
-unless false h = refl
-
--- nothing ends a call over such a slice
-goes_on : (d e : List ℕ) (first spans : List Span) (home there : ℕ) (r : Result ImageSize ImageError) (reads : Reads ImageSize)
-    → Runs (lent_state d first home) (lent_state e spans there) r reads → stopped r ≡ false
-goes_on d e first spans home there (Ok _) reads h = refl
-goes_on d e first spans home there (Err why) reads h = unless (is_stop why) (λ stops. elim (stop_cases why stops) [
-  | inl faults ↦ let no : false ≡ true = h.fault refl faults in (cc)
-  | inr other ↦ elim other [
-    | inl all ↦ let no : false ≡ true = (some_spent (spent why) all.0 (λ n. (false ≡ true) × (n ≡ 0) × (n ≡ 0)) all.1 h.ended.budget).0
-        in (cc)
-    | inr refused ↦ let no : false ≡ true = (h.ended.memory refused).0 in (cc)
-  ]
-])
-
 -- the spans are the marks
 pub recorded_marks : (d held e : List ℕ) (first spans : List Span) (home there : ℕ) (r : Result ImageSize ImageError) → held ≡ d
     → first ≡ [] → Runs (lent_state held first home) (lent_state e spans there) r (meaning held 0) → spans ≡ (meaning d 0).marks
 recorded_marks d held e first spans home there r bytes none h =
-    let on = goes_on held e first spans home there r (meaning held 0) h in
+    let on = never_stopped r (meaning held 0) refl refl refl refl h in
     spans_of (h.state refl on ∙ past-lent held home first (meaning held 0).marks)
     ∙ ap (λ f. f ++ (meaning held 0).marks) none
     ∙ ap (λ b. (meaning b 0).marks) bytes

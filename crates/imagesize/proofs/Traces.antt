@@ -1,5 +1,5 @@
 -- What a recording slice shows of an answer.
-use Rattle.std.proofs.Common.{◌≡◌, ℕ, ◌+◌, ◌≤◌, Bool, true, false, List, [], ◌++◌, length, Result, Ok, Err, IfOk, IsTrue, refl, sym, ap, ◌∙◌, inl, inr, arith}
+use Rattle.std.proofs.Common.{◌≡◌, ℕ, ◌+◌, ◌≤◌, Bool, true, false, List, [], ◌++◌, length, Result, Ok, Err, IfErr, IfOk, IsTrue, refl, sym, ap, ◌∙◌, arith}
 use Rattle.imagesize.specs.Counts.{lasts_as, stated}
 use Rattle.imagesize.specs.Meaning.{kind_of, meaning, size_of}
 use Rattle.imagesize.specs.Probed.{FindsKind}
@@ -7,13 +7,13 @@ use Rattle.imagesize.specs.Traced.{IsSame, Traces, lacks_memory}
 use Rattle.imagesize.specs.declared.trace.Trace.{Trace}
 use Rattle.imagesize_types.specs.declared.size.ImageSize.{ImageSize}
 use Rattle.imagesize.proofs.Counts.{cost_stated, cost_within}
+use Rattle.imagesize.proofs.Endings.{stops_for_memory}
 use Rattle.imagesize.proofs.Extension.{size_lasts}
 use Rattle.imagesize.proofs.Locality.{local_kind, local_meaning}
 use Rattle.imagesize_source.proofs.Agreement.{agrees_first}
-use Rattle.imagesize_source.proofs.Openings.{stop_cases, some_spent}
 use Rattle.imagesize_source.proofs.Recordings.{past-recording}
 use Rattle.imagesize_source.specs.Agreement.{Agrees}
-use Rattle.imagesize_source.specs.Reading.{Reads, stopped, is_stop, spent}
+use Rattle.imagesize_source.specs.Reading.{Reads, is_memory, stopped}
 use Rattle.imagesize_source.specs.State.{State, Runs, recording_state, total}
 use Rattle.imagesize_source.specs.declared.error.ImageError.{ImageError}
 use Rattle.imagesize_source.specs.declared.span.Span.{Span}
@@ -22,22 +22,14 @@ use Rattle.imagesize_source.specs.declared.span.Span.{Span}
 spans_of : {d e : List ℕ} {s t : List Span} → recording_state e s ≡ recording_state d t → s ≡ t
 spans_of e = let same = ap (λ (a : State). a.recorded) e in (cc)
 
-unless : (b : Bool) → (b ≡ true → ⊥) → b ≡ false
-unless true h = absurd (h refl)
-unless false h = refl
+memory_there : {X : Type 0} (r : Result X ImageError) → lacks_memory r ≡ false → IfErr r (λ e. is_memory e ≡ false)
+memory_there (Ok x) memory = tt
+memory_there (Err e) memory = memory
 
 -- over a slice no failure and no spent budget ends a call
 goes_on : (d after : List ℕ) (spans : List Span) (r : Result ImageSize ImageError) (reads : Reads ImageSize)
     → Runs (recording_state d []) (recording_state after spans) r reads → lacks_memory r ≡ false → stopped r ≡ false
-goes_on d after spans (Ok _) reads h memory = refl
-goes_on d after spans (Err e) reads h memory = unless (is_stop e) (λ stops. elim (stop_cases e stops) [
-  | inl faults ↦ let no : false ≡ true = h.fault refl faults in (cc)
-  | inr other ↦ elim other [
-    | inl all ↦ let no : false ≡ true = (some_spent (spent e) all.0 (λ n. (false ≡ true) × (n ≡ 0) × (n ≡ 0)) all.1 h.ended.budget).0 in
-        (cc)
-    | inr refused ↦ (cc)
-  ]
-])
+goes_on d after spans r reads h memory = stops_for_memory r reads refl refl refl (memory_there r memory) h
 
 -- where memory was found, the spans are those of the readings
 marked : (d after : List ℕ) (spans : List Span) (r : Result ImageSize ImageError) → Runs (recording_state d [])

@@ -1,7 +1,7 @@
 //! The calls: type and size of a slice's bytes, or of a reader's.
 ghost use Rattle.std.specs.Prelude.{◌≡◌, ℕ, ◌+◌, ◌≤◌, List, length, ◌++◌, IsTrue, IfOk, IfErr, IfSome, IsSome, Some, true, false, Option, Ok, option_map};
 ghost use Rattle.imagesize_source.specs.Answers.{Answers, Counts};
-ghost use Rattle.imagesize_source.specs.Reading.{is_fault, is_memory, spent};
+ghost use Rattle.imagesize_source.specs.Reading.{is_fault, is_memory, spent, stopped};
 ghost use Rattle.imagesize_source.specs.State.{Runs};
 ghost use Rattle.imagesize_source.specs.ReaderState.{Opens};
 ghost use Rattle.imagesize_source.specs.Telling.{Telling};
@@ -43,6 +43,9 @@ pub struct Probed {
 pub fn image_type(header: &[u8]) -> ImageResult<ImageType>
     ensures value { result ≡ (kind_of header.now 0).answer }
     ensures local { (e : List ℕ) → Agrees header.now e (kind_of header.now 0).marks → kind_of e 0 ≡ kind_of header.now 0 }
+
+    // A slice fails at no reading, has no budget and wants no memory.
+    ensures unstopped { stopped result ≡ false }
 {
     detect(&mut SliceSource { bytes: header }, 0)
 }
@@ -74,13 +77,17 @@ pub fn blob_size(data: &[u8]) -> ImageResult<ImageSize>
     // Bytes that follow change no size, but those of HEIF, of icons and of TGA.
     ensures lasts { IsTrue (lasts_as (kind_of «data».now 0).answer) → IfOk result (λ size.
         (x : List ℕ) → (meaning («data».now ++ x) 0).answer ≡ Ok size) }
+
+    // A slice fails at no reading, has no budget and wants no memory.
+    ensures unstopped { stopped result ≡ false }
 {
     probe_slice(data)
 }
 
 // The size that a slice's bytes mean.
 fn probe_slice(data: &[u8]) -> ImageResult<ImageSize>
-    ensures { result ≡ (meaning «data».now 0).answer }
+    ensures value { result ≡ (meaning «data».now 0).answer }
+    ensures unstopped { stopped result ≡ false }
 {
     probe(&mut SliceSource { bytes: data }, 0).1
 }

@@ -14,6 +14,7 @@ use imagesize_fixed::container::{atc, dds, pkm, pvrtc};
 use imagesize_fixed::formats::{
     aseprite, astc, bmp, farbfeld, gif, ktx2, psd, qoi, tga, vtf, webp,
 };
+use imagesize_source::halt::answered;
 use imagesize_source::source::Source;
 use imagesize_texts::formats::{exr, hdr, pnm};
 use imagesize_types::compression::{
@@ -32,7 +33,7 @@ pub(crate) fn detect<S: Source>(source: &mut S, place: u64) -> ImageResult<Image
     match source.read_at(place, &mut head) {
         Ok(count) if count >= head.len() => by_head(source, place, &head),
         Ok(_) => Err(ImageError::IoError(Reason::EndOfInput)),
-        Err(error) => Err(error),
+        Err(halt) => Err(source.refusal(halt)),
     }
 }
 
@@ -154,29 +155,29 @@ pub(crate) fn size<S: Source>(source: &mut S, kind: ImageType) -> ImageResult<Im
         (size_of kind (S.state source.old).held.input) }
 {
     match kind {
-        ImageType::Aseprite => aseprite::size(source),
-        ImageType::Astc => astc::size(source),
-        ImageType::Atc(_) => atc::size(source),
-        ImageType::Bmp => bmp::size(source),
-        ImageType::Dds(_) => dds::size(source),
-        ImageType::Eac(_) | ImageType::Etc2(_) => pkm::size(source),
+        ImageType::Aseprite => answered(aseprite::size(source), source),
+        ImageType::Astc => answered(astc::size(source), source),
+        ImageType::Atc(_) => answered(atc::size(source), source),
+        ImageType::Bmp => answered(bmp::size(source), source),
+        ImageType::Dds(_) => answered(dds::size(source), source),
+        ImageType::Eac(_) | ImageType::Etc2(_) => answered(pkm::size(source), source),
         ImageType::Exr => exr::size(source),
-        ImageType::Farbfeld => farbfeld::size(source),
-        ImageType::Gif => gif::size(source),
+        ImageType::Farbfeld => answered(farbfeld::size(source), source),
+        ImageType::Gif => answered(gif::size(source), source),
         ImageType::Hdr => hdr::size(source),
         ImageType::Heif(_) => heif::size(source),
         ImageType::Ico => ico::size(source),
         ImageType::Ilbm => ilbm::size(source),
-        ImageType::Jpeg => jpeg::size(source),
+        ImageType::Jpeg => answered(jpeg::size(source), source),
         ImageType::Jxl => jxl::size(source),
-        ImageType::Ktx2 => ktx2::size(source),
+        ImageType::Ktx2 => answered(ktx2::size(source), source),
         ImageType::Pnm => pnm::size(source),
-        ImageType::Pvrtc(_) => pvrtc::size(source),
-        ImageType::Psd => psd::size(source),
-        ImageType::Qoi => qoi::size(source),
-        ImageType::Tga => tga::size(source),
+        ImageType::Pvrtc(_) => answered(pvrtc::size(source), source),
+        ImageType::Psd => answered(psd::size(source), source),
+        ImageType::Qoi => answered(qoi::size(source), source),
+        ImageType::Tga => answered(tga::size(source), source),
         ImageType::Tiff => tiff::size(source),
-        ImageType::Vtf => vtf::size(source),
-        ImageType::Webp => webp::size(source),
+        ImageType::Vtf => answered(vtf::size(source), source),
+        ImageType::Webp => answered(webp::size(source), source),
     }
 }

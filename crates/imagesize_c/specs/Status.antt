@@ -1,5 +1,5 @@
 -- The status numbers of the calls.
-use Rattle.std.specs.Prelude.{ℕ, Result, Ok, Err}
+use Rattle.std.specs.Prelude.{ℕ, Bool, ◌==◌, ◌||◌, Result, Ok, Err}
 use Rattle.imagesize_source.specs.declared.error.ImageError.{ImageError}
 use Rattle.imagesize_source.specs.declared.error.ImageError.TheVariants.{NotSupported, CorruptedImage, IoError}
 use Rattle.imagesize_source.specs.declared.error.Reason.{Reason}
@@ -42,3 +42,7 @@ refusal_status (IoError reason) = reason_status reason
 abbrev pub status_of : {X : Type 0} → Result X ImageError → ℕ
 status_of (Ok _) = 0
 status_of (Err e) = refusal_status e
+
+-- the statuses of what stops a reader: its fault, its spent budget, and want of memory
+abbrev pub is_stop_status : ℕ → Bool
+is_stop_status status = (status == 3) || (status == 6) || (status == 7)

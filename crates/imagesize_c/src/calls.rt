@@ -1,7 +1,7 @@
 //! Type and size of the image in some bytes.
-ghost use Rattle.std.specs.Prelude.{◌≡◌};
+ghost use Rattle.std.specs.Prelude.{◌≡◌, false};
 ghost use Rattle.imagesize.specs.Meaning.{kind_of, meaning};
-ghost use Rattle.imagesize_c.specs.Status.{status_of};
+ghost use Rattle.imagesize_c.specs.Status.{is_stop_status, status_of};
 ghost use Rattle.imagesize_c.specs.Told.{TellsSize, TellsType};
 
 use crate::numbers::{compression_number, type_number};
@@ -12,6 +12,7 @@ use imagesize::{blob_size, image_type};
 #[unsafe(no_mangle)]
 pub extern "C" fn imagesize_type(bytes: &[u8], number: &mut u32, compression: &mut u32) -> u32
     ensures status { result ≡ status_of (kind_of bytes.now 0).answer }
+    ensures unstopped { is_stop_status result ≡ false }
     ensures told { TellsType (kind_of bytes.now 0).answer number.old number.new compression.old compression.new }
 {
     match image_type(bytes) {
@@ -28,6 +29,7 @@ pub extern "C" fn imagesize_type(bytes: &[u8], number: &mut u32, compression: &m
 #[unsafe(no_mangle)]
 pub extern "C" fn imagesize_size(bytes: &[u8], width: &mut u64, height: &mut u64) -> u32
     ensures status { result ≡ status_of (meaning bytes.now 0).answer }
+    ensures unstopped { is_stop_status result ≡ false }
     ensures told { TellsSize (meaning bytes.now 0).answer width.old width.new height.old height.new }
 {
     match blob_size(bytes) {
@@ -51,6 +53,7 @@ pub extern "C" fn imagesize_probe(
     height: &mut u64,
 ) -> u32
     ensures status { result ≡ status_of (meaning bytes.now 0).answer }
+    ensures unstopped { is_stop_status result ≡ false }
     ensures kind { TellsType (kind_of bytes.now 0).answer number.old number.new compression.old compression.new }
     ensures size { TellsSize (meaning bytes.now 0).answer width.old width.new height.old height.new }
 {

@@ -3,6 +3,7 @@ pub mod Answers
 pub mod Chain
 pub mod Counts
 pub mod Extension
+pub mod Halts
 pub mod Input
 pub mod Kept
 pub mod Layout

@@ -1,12 +1,10 @@
 -- What a reader claims, as far as the numbers kept beside it agree with what it tells.
 use Rattle.std.specs.Prelude.{◌≡◌, ℕ, ◌+◌, ◌-◌, ◌^◌, ◌<◌, ◌≤◌, min, Bool, true, false, ◌||◌, ◌&&◌, List, length, take, nat_le, nat_lt, ◌==◌, if◌then◌else◌, Option, None, Some, Result, Ok, Err, IfSome, IfOk, IfErr, IsSomeAnd, option_map, ⊤}
 use Rattle.imagesize_source.specs.declared.error.ImageError.{ImageError}
-use Rattle.imagesize_source.specs.declared.error.ImageError.TheVariants.{IoError}
-use Rattle.imagesize_source.specs.declared.error.Reason.TheVariants.{BudgetSpent}
-use Rattle.imagesize_source.specs.declared.source.reader.Halt.{Halt}
-use Rattle.imagesize_source.specs.declared.source.reader.Halt.TheVariants.{Failed, Spent}
+use Rattle.imagesize_source.specs.declared.halt.Halt.{Halt}
 use Rattle.imagesize_source.specs.declared.source.progress.Progress.{Progress}
 use Rattle.std.specs.declared.io.Error.{Error}
+use Rattle.imagesize_source.specs.Halts.{error_by, with_error}
 use Rattle.imagesize_source.specs.StopOf.{fault_of}
 use Rattle.imagesize_source.specs.Input.{part}
 use Rattle.imagesize_source.specs.Reading.{is_fault, is_memory, is_stop, spent}
@@ -78,13 +76,11 @@ Tries (Some t) tries new tries' = IsSomeAnd new (λ u. t.interruptions + tries �
 
 -- the error that a halt ends a call with
 abbrev pub error_at : Progress → Halt → ImageError
-error_at p Failed = fault_of p.fault
-error_at p Spent = IoError (BudgetSpent p.budget)
+error_at p halt = error_by (fault_of p.fault) p.budget halt
 
 -- an answer, with the error of its halt
 abbrev pub named : {X : Type 0} → Progress → Result X Halt → Result X ImageError
-named p (Ok x) = Ok x
-named p (Err halt) = Err (error_at p halt)
+named p r = with_error (fault_of p.fault) p.budget r
 
 -- the bytes that a read gave, or the error that it left
 abbrev pub given_or : Error → Option ℕ → Result ℕ ImageError

@@ -2,6 +2,7 @@
 #![tactic(auto)]
 
 pub mod error;
+pub mod halt;
 pub mod kept;
 pub mod source;
 pub mod span;
@@ -10,6 +11,7 @@ pub mod told;
 pub mod util;
 
 pub use error::{ImageError, ImageResult, Reason};
+pub use halt::Halt;
 pub use kept::KeptReader;
 pub use span::Span;
 pub use text::Text;

@@ -1,10 +1,12 @@
 //! A source: the bytes of an input, read by place.
 ghost use Rattle.std.specs.Prelude.{◌≡◌, ◌<◌, ◌≤◌, take, length, IfOk};
+ghost use Rattle.imagesize_source.specs.Halts.{error_by, with_error};
 ghost use Rattle.imagesize_source.specs.Paying.{Paid};
 ghost use Rattle.imagesize_source.specs.Reading.{seen, part_read, text_read};
 ghost use Rattle.imagesize_source.specs.State.{State, Runs, Sound};
+ghost use Rattle.imagesize_source.specs.declared.error.ImageError.{ImageError};
 
-use crate::{ImageResult, Text};
+use crate::{Halt, ImageError, Text};
 
 pub mod lent;
 pub mod progress;
@@ -18,6 +20,9 @@ pub trait Source {
     /// The input, what was taken and what was recorded.
     ghost state: { Self → State };
 
+    /// The error of the last call that failed.
+    ghost failure: { Self → ImageError };
+
     /// The length of the input, as it was told.
     fn told(&self) -> u64
         ensures told { result ≡ (state self.now).frame.told }
@@ -27,22 +32,28 @@ pub trait Source {
     fn taken(&self) -> u64
         ensures { result ≡ (state self.now).taken };
 
-    /// Reads what is there from a place on into the room, and answers how many bytes that is.
-    fn read_at(&mut self, place: u64, room: &mut [u8]) -> ImageResult<usize>
+    /// The error that a halt of a reading ends the call with.
+    fn refusal(&self, halt: Halt) -> ImageError
+        ensures { result ≡ error_by (failure self.now) (state self.now).frame.budget halt };
+
+    /// Reads what is there from a place on into the room, and answers how many bytes that is, or a halt.
+    fn read_at(&mut self, place: u64, room: &mut [u8]) -> Result<usize, Halt>
         ensures bound { IfOk result (λ n. n ≤ length room.new) }
 
         // Above the told length and the bytes held, what comes is paid for.
         ensures pays { IfOk result (λ n. 0 < n → Paid (state self.old) (state self.new) place) }
-        ensures runs { Runs (state self.old) (state self.new) (seen (λ n. take n room.new) result)
+        ensures runs { Runs (state self.old) (state self.new)
+            (seen (λ n. take n room.new) (with_error (failure self.new) (state self.new).frame.budget result))
             (part_read (state self.old).held.input place (length room.new)) };
 
     /// Reads the text from a place on into the room, as far as there is room, and answers how many bytes that
-    /// is: the white space before a word, the text, and the byte that ends it. It takes nothing behind them.
-    fn read_text(&mut self, place: u64, text: Text, room: &mut [u8]) -> ImageResult<usize>
+    /// is, or a halt: the white space before a word, the text, and the byte that ends it. It takes nothing behind them.
+    fn read_text(&mut self, place: u64, text: Text, room: &mut [u8]) -> Result<usize, Halt>
         ensures bound { IfOk result (λ n. n ≤ length room.new) }
 
         // Above the told length and the bytes held, what comes is paid for.
         ensures pays { IfOk result (λ n. 0 < n → Paid (state self.old) (state self.new) place) }
-        ensures runs { Runs (state self.old) (state self.new) (seen (λ n. take n room.new) result)
+        ensures runs { Runs (state self.old) (state self.new)
+            (seen (λ n. take n room.new) (with_error (failure self.new) (state self.new).frame.budget result))
             (text_read (state self.old).held.input text place (length room.new)) };
 }

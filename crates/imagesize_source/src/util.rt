@@ -1,13 +1,14 @@
 //! Bytes and numbers of both byte orders.
-ghost use Rattle.std.specs.Prelude.{◌≡◌, ◌+◌, ◌^◌, ◌<◌, ◌≤◌, IfOk, IfErr, IfSome};
+ghost use Rattle.std.specs.Prelude.{◌≡◌, ◌+◌, ◌^◌, ◌<◌, ◌≤◌, length, take, IfOk, IfErr, IfSome};
 ghost use Rattle.imagesize_source.specs.Paying.{Paid};
-ghost use Rattle.imagesize_source.specs.Reading.{bytes_read, end_of_input, number_read};
+ghost use Rattle.imagesize_source.specs.Reading.{bytes_read, end_of_input, number_read, part_read, seen, text_read};
 ghost use Rattle.imagesize_source.specs.Layout.{Layout, over, if_there};
 ghost use Rattle.imagesize_source.specs.Layout.Layout.{«done»};
 ghost use Rattle.imagesize_source.specs.State.{Runs};
 
+use crate::halt::{self, answered};
 use crate::source::Source;
-use crate::{ImageError, ImageResult, Reason};
+use crate::{ImageError, ImageResult, Reason, Text};
 
 /// The order of a number's bytes.
 #[derive(Clone, Copy, Debug, PartialEq, Eq)]
@@ -18,18 +19,40 @@ pub enum Endian {
     Big,
 }
 
+/// Reads what is there from a place on into the room, and answers how many bytes that is.
+#[inline(always)]
+pub fn read_part<S: Source>(source: &mut S, place: u64, room: &mut [u8]) -> ImageResult<usize>
+    ensures bound { IfOk result (λ n. n ≤ length room.new) }
+    ensures pays { IfOk result (λ n. 0 < n → Paid (S.state source.old) (S.state source.new) place) }
+    ensures runs { Runs (S.state source.old) (S.state source.new) (seen (λ n. take n room.new) result)
+        (part_read (S.state source.old).held.input place (length room.new)) }
+{
+    answered(source.read_at(place, room), source)
+}
+
+/// Reads the text from a place on into the room, as `Source::read_text`.
+#[inline(always)]
+pub fn read_text<S: Source>(
+    source: &mut S,
+    place: u64,
+    text: Text,
+    room: &mut [u8],
+) -> ImageResult<usize>
+    ensures bound { IfOk result (λ n. n ≤ length room.new) }
+    ensures pays { IfOk result (λ n. 0 < n → Paid (S.state source.old) (S.state source.new) place) }
+    ensures runs { Runs (S.state source.old) (S.state source.new) (seen (λ n. take n room.new) result)
+        (text_read (S.state source.old).held.input text place (length room.new)) }
+{
+    answered(source.read_text(place, text, room), source)
+}
+
 /// The `N` bytes from a place on.
 #[inline(always)]
 pub fn read_bytes<S: Source, const N: usize>(source: &mut S, place: u64) -> ImageResult<[u8; N]>
     ensures pays { IfOk result (λ bytes. 0 < N → Paid (S.state source.old) (S.state source.new) place) }
     ensures runs { Runs (S.state source.old) (S.state source.new) result (bytes_read (S.state source.old).held.input place N) }
 {
-    let mut room = [0u8; N];
-    match source.read_at(place, &mut room) {
-        Ok(count) if count >= N => Ok(room),
-        Ok(_) => Err(ImageError::IoError(Reason::EndOfInput)),
-        Err(error) => Err(error),
-    }
+    answered(halt::read_bytes::<S, N>(source, place), source)
 }
 
 /// The `N` bytes from a place on, or none where the input ends before the last of them.
@@ -42,7 +65,7 @@ pub fn read_if_there<S: Source, const N: usize>(
     ensures runs { Runs (S.state source.old) (S.state source.new) result (over (S.state source.old).held.input (if_there place N done)) }
 {
     let mut room = [0u8; N];
-    if source.read_at(place, &mut room)? < N {
+    if read_part(source, place, &mut room)? < N {
         return Ok(None);
     }
     Ok(Some(room))
@@ -87,21 +110,15 @@ pub fn read_u8<S: Source>(source: &mut S, place: u64) -> ImageResult<u8>
 
 /// The number of the two bytes from a place on.
 #[inline(always)]
-#[tactic(auto, using(crate::proofs::Runs::number_there, crate::proofs::Runs::number_missing, crate::proofs::Numbers::little_2, crate::proofs::Numbers::big_2))]
 pub fn read_u16<S: Source>(source: &mut S, place: u64, endian: Endian) -> ImageResult<u16>
     ensures { Runs (S.state source.old) (S.state source.new) result (number_read (S.state source.old).held.input endian place 2) }
 {
-    let bytes = read_bytes::<S, 2>(source, place)?;
-    Ok(match endian {
-        Endian::Little => u16::from_le_bytes(bytes),
-        Endian::Big => u16::from_be_bytes(bytes),
-    })
+    answered(halt::read_u16(source, place, endian), source)
 }
 
 /// The number of the two bytes that stand so far behind a place. A place above 2^64 - 1 is behind the end of
 /// every input.
 #[inline(always)]
-#[tactic(auto, using(crate::proofs::PastTheEnd::number_refused))]
 pub fn read_u16_behind<S: Source>(
     source: &mut S,
     place: u64,
@@ -111,14 +128,10 @@ pub fn read_u16_behind<S: Source>(
     ensures { Runs (S.state source.old) (S.state source.new) result
         (number_read (S.state source.old).held.input endian (place + distance) 2) }
 {
-    match place_behind(place, distance) {
-        Ok(next) => read_u16(source, next, endian),
-        Err(error) => {
-            // The proof needs that the input is not so long.
-            let _told = source.told();
-            Err(error)
-        }
-    }
+    answered(
+        halt::read_u16_behind(source, place, distance, endian),
+        source,
+    )
 }
 
 /// The place so far behind another. One above 2^64 - 1 is behind the end of every input.
@@ -127,37 +140,18 @@ pub fn place_behind(place: u64, distance: u64) -> ImageResult<u64>
     ensures next { IfOk result (λ next. (next ≡ place + distance) × (next < 2 ^ 64)) }
     ensures beyond { IfErr result (λ e. (e ≡ end_of_input) × (2 ^ 64 ≤ place + distance)) }
 {
-    let next = place.wrapping_add(distance);
-    if next < place {
-        return Err(ImageError::IoError(Reason::EndOfInput));
+    match halt::place_behind(place, distance) {
+        Ok(next) => Ok(next),
+        Err(_) => Err(ImageError::IoError(Reason::EndOfInput)),
     }
-    Ok(next)
-}
-
-/// The number of the three bytes from a place on.
-#[inline(always)]
-#[tactic(auto, using(crate::proofs::Runs::number_there, crate::proofs::Runs::number_missing, crate::proofs::Numbers::little_3, crate::proofs::Numbers::big_3))]
-pub fn read_u24<S: Source>(source: &mut S, place: u64, endian: Endian) -> ImageResult<u32>
-    ensures { Runs (S.state source.old) (S.state source.new) result (number_read (S.state source.old).held.input endian place 3) }
-{
-    let [a, b, c] = read_bytes::<S, 3>(source, place)?;
-    Ok(match endian {
-        Endian::Little => u32::from_le_bytes([a, b, c, 0]),
-        Endian::Big => u32::from_be_bytes([0, a, b, c]),
-    })
 }
 
 /// The number of the four bytes from a place on.
 #[inline(always)]
-#[tactic(auto, using(crate::proofs::Runs::number_there, crate::proofs::Runs::number_missing, crate::proofs::Numbers::little_4, crate::proofs::Numbers::big_4))]
 pub fn read_u32<S: Source>(source: &mut S, place: u64, endian: Endian) -> ImageResult<u32>
     ensures { Runs (S.state source.old) (S.state source.new) result (number_read (S.state source.old).held.input endian place 4) }
 {
-    let bytes = read_bytes::<S, 4>(source, place)?;
-    Ok(match endian {
-        Endian::Little => u32::from_le_bytes(bytes),
-        Endian::Big => u32::from_be_bytes(bytes),
-    })
+    answered(halt::read_u32(source, place, endian), source)
 }
 
 /// The number of the eight bytes from a place on.

@@ -7,7 +7,7 @@ ghost use Rattle.imagesize_texts.specs.Contents.{ended_word, is_word_end, line_l
 ghost use Rattle.imagesize_texts.specs.Texts.{length_read, line_read, read_word_of, word_read};
 
 use imagesize_source::source::Source;
-use imagesize_source::util::{Endian, read_u32};
+use imagesize_source::util::{Endian, read_text, read_u32};
 use imagesize_source::{ImageError, ImageResult, Reason, Text};
 
 /// A word takes fewer bytes of an input than this.
@@ -42,7 +42,7 @@ pub fn read_line_capped<'a, S: Source>(
         (line_read (S.state source.old).held.input delimiter place (length room.old)) }
 {
     let most = room.len();
-    let count = source.read_text(place, Text::Line { delimiter }, room)?;
+    let count = read_text(source, place, Text::Line { delimiter }, room)?;
     line_text(&room[..count], delimiter, most)
 }
 
@@ -73,7 +73,7 @@ pub fn pass_line_capped<S: Source>(
         (length_read (S.state source.old).held.input delimiter place (length room.old)) }
 {
     let most = room.len();
-    let count = source.read_text(place, Text::Line { delimiter }, room)?;
+    let count = read_text(source, place, Text::Line { delimiter }, room)?;
     line_length(&room[..count], delimiter, most)
 }
 
@@ -94,7 +94,7 @@ pub fn read_word<'a, S: Source>(
     ensures runs { Runs (S.state source.old) (S.state source.new) (seen (λ word. read_word_of word) result)
         (word_read (S.state source.old).held.input place) }
 {
-    let count = source.read_text(place, Text::Word, room)?;
+    let count = read_text(source, place, Text::Word, room)?;
     word_text(&room[..count])
 }
 

@@ -1,6 +1,8 @@
 -- JPEG, by ITU-T T.81, annex B.
 use Rattle.std.specs.Prelude.{◌≡◌, ℕ, ◌+◌, ◌-◌, ◌<◌, Bool, ◌&&◌, ◌||◌, not, List, [], ◌∷◌, ◌==◌, nat_le, if◌then◌else◌, slice_index, count_by}
 use Rattle.imagesize_types.specs.Head.{begins}
+use Rattle.imagesize_walked.specs.declared.formats.jpeg.Role.{Role}
+use Rattle.imagesize_walked.specs.declared.formats.jpeg.Role.TheVariants as role
 use Rattle.imagesize_walked.specs.declared.formats.jpeg.Segment.{Segment}
 use Rattle.imagesize_walked.specs.declared.formats.jpeg.Segment.TheVariants.{Frame, Other}
 use Rattle.imagesize_types.specs.declared.size.ImageSize.{ImageSize}
@@ -70,13 +72,22 @@ jpeg d = chain_at jpeg_segments d
 -- what a segment at a place says
 abbrev pub segment_said : ℕ → Segment → Said ℕ ImageSize
 segment_said place (Frame size) = Decided size
-segment_said place (Other marker length) = Next marker (place + (2 + length))
+segment_said place (Other marker behind length) = Next marker (place + (2 + length))
 
--- an image that ends, and is not the whole, was started
-abbrev pub EndsInner : ℕ → Segment → Type 0
-EndsInner depth (Frame size) = Unit {0}
-EndsInner depth (Other marker length) = marker ≡ 0xD9 → 0 < depth
-
--- the depth behind a segment
+-- the depth behind a segment with this marker
 abbrev pub depth_behind : ℕ → ℕ → ℕ
 depth_behind depth marker = if marker == 0xD8 then depth + 1 else if marker == 0xD9 then depth - 1 else depth
+
+-- the depth behind a segment that does not end the image; one that ends an inner image stands within it
+unfoldable pub LeadsTo : ℕ → ℕ → ℕ → Type 0
+LeadsTo depth marker behind = (behind ≡ depth_behind depth marker) × (marker ≡ 0xD9 → 0 < depth)
+
+-- and behind a segment that is none of the image's own frames
+abbrev pub LeadsOn : ℕ → Segment → Type 0
+LeadsOn depth (Frame size) = Unit {0}
+LeadsOn depth (Other marker behind length) = LeadsTo depth marker behind
+
+abbrev pub RoleLeadsOn : ℕ → ℕ → Role → Type 0
+RoleLeadsOn depth marker role.Frame = Unit {0}
+RoleLeadsOn depth marker role.End = Unit {0}
+RoleLeadsOn depth marker (role.Other behind) = LeadsTo depth marker behind

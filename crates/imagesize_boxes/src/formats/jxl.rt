@@ -14,7 +14,7 @@ mod header;
 use front::Front;
 use imagesize_source::ImageResult;
 use imagesize_source::source::Source;
-use imagesize_source::util::read_bytes;
+use imagesize_source::util::{read_bytes, read_part};
 use imagesize_types::size::ImageSize;
 
 /// Whether a codestream or a signature box stands first.
@@ -79,7 +79,7 @@ fn read_start<S: Source>(source: &mut S) -> ImageResult<Option<Front>>
         return Ok(None);
     }
     let mut room = [0u8; 14];
-    let there = source.read_at(2, &mut room)?;
+    let there = read_part(source, 2, &mut room)?;
     Ok(Some(joined(start, room, there)))
 }
 

@@ -4,13 +4,15 @@ ghost use Rattle.imagesize_fixed.specs.Atc.{atc, atc_compression, atc_data_types
 ghost use Rattle.imagesize_types.specs.Table.{look_up};
 ghost use Rattle.imagesize_source.specs.Numbers.{number};
 ghost use Rattle.imagesize_source.specs.declared.util.Endian.TheVariants as endian;
+ghost use Rattle.imagesize_source.specs.Halts.{RunsOrHalts};
 ghost use Rattle.imagesize_source.specs.Layout.{over};
 ghost use Rattle.imagesize_source.specs.State.{Runs};
 
 use crate::container::{dds, pkm, pvrtc};
 use imagesize_source::ImageResult;
+use imagesize_source::halt::{Halt, read_bytes};
 use imagesize_source::source::Source;
-use imagesize_source::util::{read_bytes, read_if_there};
+use imagesize_source::util::read_if_there;
 use imagesize_types::compression::AtcCompression;
 use imagesize_types::size::ImageSize;
 
@@ -72,8 +74,8 @@ fn compression(data_type: u16) -> AtcCompression
 /// The width and the height, by the header that is there.
 #[inline(always)]
 #[tactic(auto, using(imagesize_source::proofs::Runs::steps))]
-pub fn size<S: Source>(source: &mut S) -> ImageResult<ImageSize>
-    ensures { Runs (S.state source.old) (S.state source.new) result
+pub fn size<S: Source>(source: &mut S) -> Result<ImageSize, Halt>
+    ensures { RunsOrHalts (S.state source.old) (S.state source.new) (S.failure source.new) result
         (over (S.state source.old).held.input atc) }
 {
     let tag = read_bytes::<S, 4>(source, 0)?;

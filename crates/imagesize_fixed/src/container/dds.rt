@@ -3,13 +3,15 @@
 ghost use Rattle.std.specs.Prelude.{◌≡◌};
 ghost use Rattle.imagesize_fixed.specs.Dds.{dds, dds_bit_counts, dds_codes, dds_compression, dds_number_of, dxgi_formats, is_dds};
 ghost use Rattle.imagesize_types.specs.Table.{look_up, look_up_text};
+ghost use Rattle.imagesize_source.specs.Halts.{RunsOrHalts};
 ghost use Rattle.imagesize_source.specs.Layout.{if_there, over};
 ghost use Rattle.imagesize_source.specs.Layout.Layout.{«done»};
 ghost use Rattle.imagesize_source.specs.State.{Runs};
 
 use imagesize_source::ImageResult;
+use imagesize_source::halt::{Halt, read_u32};
 use imagesize_source::source::Source;
-use imagesize_source::util::{Endian, read_if_there, read_u32};
+use imagesize_source::util::{Endian, read_if_there};
 use imagesize_types::compression::DdsCompression;
 use imagesize_types::size::ImageSize;
 
@@ -113,8 +115,8 @@ fn bits_compression(bits: u32) -> DdsCompression
 /// The height and the width.
 #[inline(always)]
 #[tactic(auto, using(imagesize_source::proofs::Runs::steps))]
-pub fn size<S: Source>(source: &mut S) -> ImageResult<ImageSize>
-    ensures { Runs (S.state source.old) (S.state source.new) result
+pub fn size<S: Source>(source: &mut S) -> Result<ImageSize, Halt>
+    ensures { RunsOrHalts (S.state source.old) (S.state source.new) (S.failure source.new) result
         (over (S.state source.old).held.input dds) }
 {
     let height = read_u32(source, 12, Endian::Little)? as usize;

@@ -2,12 +2,14 @@
 ghost use Rattle.std.specs.Prelude.{◌≡◌};
 ghost use Rattle.imagesize_fixed.specs.Pkm.{is_eac, is_pkm, pkm, pkm_compression, pkm_data_types};
 ghost use Rattle.imagesize_types.specs.Table.{look_up};
+ghost use Rattle.imagesize_source.specs.Halts.{RunsOrHalts};
 ghost use Rattle.imagesize_source.specs.Layout.{over};
 ghost use Rattle.imagesize_source.specs.State.{Runs};
 
 use imagesize_source::ImageResult;
+use imagesize_source::halt::{Halt, read_u16};
 use imagesize_source::source::Source;
-use imagesize_source::util::{Endian, read_if_there, read_u16};
+use imagesize_source::util::{Endian, read_if_there};
 use imagesize_types::compression::PkmCompression;
 use imagesize_types::size::ImageSize;
 
@@ -69,8 +71,8 @@ fn compression(data_type: u16) -> PkmCompression
 /// The width and the height. Those that are rounded up to whole blocks are read too.
 #[inline(always)]
 #[tactic(auto, using(imagesize_source::proofs::Runs::steps))]
-pub fn size<S: Source>(source: &mut S) -> ImageResult<ImageSize>
-    ensures { Runs (S.state source.old) (S.state source.new) result
+pub fn size<S: Source>(source: &mut S) -> Result<ImageSize, Halt>
+    ensures { RunsOrHalts (S.state source.old) (S.state source.new) (S.failure source.new) result
         (over (S.state source.old).held.input pkm) }
 {
     let _padded_width = read_u16(source, 8, Endian::Big)?;

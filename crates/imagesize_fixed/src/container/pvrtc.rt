@@ -2,13 +2,15 @@
 ghost use Rattle.std.specs.Prelude.{◌≡◌};
 ghost use Rattle.imagesize_fixed.specs.Pvrtc.{is_pvr3, is_pvrtc, pvr2, pvr3, pvrtc, pvrtc_compression, pvrtc_format_of, pvrtc_formats};
 ghost use Rattle.imagesize_types.specs.Table.{look_up};
+ghost use Rattle.imagesize_source.specs.Halts.{RunsOrHalts};
 ghost use Rattle.imagesize_source.specs.Layout.{if_there, over};
 ghost use Rattle.imagesize_source.specs.Layout.Layout.{«done»};
 ghost use Rattle.imagesize_source.specs.State.{Runs};
 
 use imagesize_source::ImageResult;
+use imagesize_source::halt::{Halt, read_bytes, read_u32};
 use imagesize_source::source::Source;
-use imagesize_source::util::{Endian, read_bytes, read_if_there, read_u32};
+use imagesize_source::util::{Endian, read_if_there};
 use imagesize_types::compression::PvrtcCompression;
 use imagesize_types::size::ImageSize;
 
@@ -77,8 +79,8 @@ fn format_compression(format: u64) -> PvrtcCompression
 /// The height and the width, by the header that is there.
 #[inline(always)]
 #[tactic(auto, using(imagesize_source::proofs::Runs::steps))]
-pub fn size<S: Source>(source: &mut S) -> ImageResult<ImageSize>
-    ensures { Runs (S.state source.old) (S.state source.new) result
+pub fn size<S: Source>(source: &mut S) -> Result<ImageSize, Halt>
+    ensures { RunsOrHalts (S.state source.old) (S.state source.new) (S.failure source.new) result
         (over (S.state source.old).held.input pvrtc) }
 {
     let tag = read_bytes::<S, 4>(source, 0)?;
@@ -91,8 +93,8 @@ pub fn size<S: Source>(source: &mut S) -> ImageResult<ImageSize>
 // The height and the width of the newer header.
 #[inline(always)]
 #[tactic(auto, using(imagesize_source::proofs::Runs::steps))]
-fn newer_size<S: Source>(source: &mut S) -> ImageResult<ImageSize>
-    ensures { Runs (S.state source.old) (S.state source.new) result
+fn newer_size<S: Source>(source: &mut S) -> Result<ImageSize, Halt>
+    ensures { RunsOrHalts (S.state source.old) (S.state source.new) (S.failure source.new) result
         (over (S.state source.old).held.input pvr3) }
 {
     let height = read_u32(source, 24, Endian::Little)? as usize;
@@ -103,8 +105,8 @@ fn newer_size<S: Source>(source: &mut S) -> ImageResult<ImageSize>
 // The height and the width of the older header.
 #[inline(always)]
 #[tactic(auto, using(imagesize_source::proofs::Runs::steps))]
-pub(super) fn older_size<S: Source>(source: &mut S) -> ImageResult<ImageSize>
-    ensures { Runs (S.state source.old) (S.state source.new) result
+pub(super) fn older_size<S: Source>(source: &mut S) -> Result<ImageSize, Halt>
+    ensures { RunsOrHalts (S.state source.old) (S.state source.new) (S.failure source.new) result
         (over (S.state source.old).held.input pvr2) }
 {
     let height = read_u32(source, 4, Endian::Little)? as usize;

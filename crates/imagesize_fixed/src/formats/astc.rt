@@ -1,12 +1,12 @@
 //! Textures in ASTC, by the header of the files of `astcenc` ("The .astc File Format").
 ghost use Rattle.std.specs.Prelude.{◌≡◌};
 ghost use Rattle.imagesize_fixed.specs.Astc.{is_astc, astc};
+ghost use Rattle.imagesize_source.specs.Halts.{RunsOrHalts};
 ghost use Rattle.imagesize_source.specs.Layout.{over};
-ghost use Rattle.imagesize_source.specs.State.{Runs};
 
-use imagesize_source::ImageResult;
+use imagesize_source::halt::{Halt, read_u24};
 use imagesize_source::source::Source;
-use imagesize_source::util::{Endian, read_u24};
+use imagesize_source::util::Endian;
 use imagesize_types::size::ImageSize;
 
 /// Whether the magic number stands first.
@@ -21,8 +21,8 @@ pub fn matches(head: &[u8; 12]) -> bool
 /// The first two of the three dimensions.
 #[inline(always)]
 #[tactic(auto, using(imagesize_source::proofs::Runs::steps))]
-pub fn size<S: Source>(source: &mut S) -> ImageResult<ImageSize>
-    ensures { Runs (S.state source.old) (S.state source.new) result
+pub fn size<S: Source>(source: &mut S) -> Result<ImageSize, Halt>
+    ensures { RunsOrHalts (S.state source.old) (S.state source.new) (S.failure source.new) result
         (over (S.state source.old).held.input astc) }
 {
     let width = read_u24(source, 7, Endian::Little)? as usize;

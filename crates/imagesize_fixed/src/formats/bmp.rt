@@ -1,12 +1,12 @@
 //! Windows bitmaps, by `BITMAPFILEHEADER` and `BITMAPINFOHEADER` of the Windows GDI reference ("Bitmap Storage").
 ghost use Rattle.std.specs.Prelude.{◌≡◌};
 ghost use Rattle.imagesize_fixed.specs.Bmp.{is_bmp, bmp};
+ghost use Rattle.imagesize_source.specs.Halts.{RunsOrHalts};
 ghost use Rattle.imagesize_source.specs.Layout.{over};
-ghost use Rattle.imagesize_source.specs.State.{Runs};
 
-use imagesize_source::ImageResult;
+use imagesize_source::halt::{Halt, read_u32};
 use imagesize_source::source::Source;
-use imagesize_source::util::{Endian, read_u32};
+use imagesize_source::util::Endian;
 use imagesize_types::size::ImageSize;
 
 /// Whether the file is of the type `BM`.
@@ -21,8 +21,8 @@ pub fn matches(head: &[u8; 12]) -> bool
 /// The width and the height, which is read as a number without a sign.
 #[inline(always)]
 #[tactic(auto, using(imagesize_source::proofs::Runs::steps))]
-pub fn size<S: Source>(source: &mut S) -> ImageResult<ImageSize>
-    ensures { Runs (S.state source.old) (S.state source.new) result
+pub fn size<S: Source>(source: &mut S) -> Result<ImageSize, Halt>
+    ensures { RunsOrHalts (S.state source.old) (S.state source.new) (S.failure source.new) result
         (over (S.state source.old).held.input bmp) }
 {
     let width = read_u32(source, 18, Endian::Little)? as usize;

@@ -1,12 +1,12 @@
 //! Farbfeld, by "FORMAT" of the manual page farbfeld(5).
 ghost use Rattle.std.specs.Prelude.{◌≡◌};
 ghost use Rattle.imagesize_fixed.specs.Farbfeld.{is_farbfeld, farbfeld};
+ghost use Rattle.imagesize_source.specs.Halts.{RunsOrHalts};
 ghost use Rattle.imagesize_source.specs.Layout.{over};
-ghost use Rattle.imagesize_source.specs.State.{Runs};
 
-use imagesize_source::ImageResult;
+use imagesize_source::halt::{Halt, read_u32};
 use imagesize_source::source::Source;
-use imagesize_source::util::{Endian, read_u32};
+use imagesize_source::util::Endian;
 use imagesize_types::size::ImageSize;
 
 /// Whether the magic value stands first.
@@ -21,8 +21,8 @@ pub fn matches(head: &[u8; 12]) -> bool
 /// The width and the height.
 #[inline(always)]
 #[tactic(auto, using(imagesize_source::proofs::Runs::steps))]
-pub fn size<S: Source>(source: &mut S) -> ImageResult<ImageSize>
-    ensures { Runs (S.state source.old) (S.state source.new) result
+pub fn size<S: Source>(source: &mut S) -> Result<ImageSize, Halt>
+    ensures { RunsOrHalts (S.state source.old) (S.state source.new) (S.failure source.new) result
         (over (S.state source.old).held.input farbfeld) }
 {
     let width = read_u32(source, 8, Endian::Big)? as usize;

@@ -1,12 +1,14 @@
 //! TGA, by "Truevision TGA File Format Specification", version 2.0: fields 1 to 5 (the header) and the footer.
 ghost use Rattle.std.specs.Prelude.{◌≡◌, length};
 ghost use Rattle.imagesize_fixed.specs.Tga.{is_map_sound, is_pixel_sound, is_tga, is_tga_footer, lacks_its_map, may_be_tga, tga, tga_by_header};
+ghost use Rattle.imagesize_source.specs.Halts.{RunsOrHalts};
 ghost use Rattle.imagesize_source.specs.Layout.{over};
 ghost use Rattle.imagesize_source.specs.State.{Runs, Sound};
 
 use imagesize_source::ImageResult;
+use imagesize_source::halt::{Halt, read_u16};
 use imagesize_source::source::Source;
-use imagesize_source::util::{Endian, read_bytes, read_u8, read_u16};
+use imagesize_source::util::{Endian, read_bytes, read_u8};
 use imagesize_types::size::ImageSize;
 
 /// Whether the footer has the signature, or the header alone can be that of a TGA.
@@ -109,8 +111,8 @@ fn is_pixel_sound(bits: u8, descriptor: u8) -> bool
 /// The width and the height.
 #[inline(always)]
 #[tactic(auto, using(imagesize_source::proofs::Runs::steps))]
-pub fn size<S: Source>(source: &mut S) -> ImageResult<ImageSize>
-    ensures { Runs (S.state source.old) (S.state source.new) result
+pub fn size<S: Source>(source: &mut S) -> Result<ImageSize, Halt>
+    ensures { RunsOrHalts (S.state source.old) (S.state source.new) (S.failure source.new) result
         (over (S.state source.old).held.input tga) }
 {
     let width = read_u16(source, 12, Endian::Little)? as usize;

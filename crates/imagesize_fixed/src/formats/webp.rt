@@ -1,12 +1,12 @@
 //! WebP, by RFC 9649, sections 2.4 (the file header) and 2.5 to 2.7 (its three forms), and RFC 6386, section 9.1.
 ghost use Rattle.std.specs.Prelude.{◌≡◌, ◌%◌, ◌^◌};
 ghost use Rattle.imagesize_fixed.specs.Webp.{is_webp, webp, lossy_webp, lossless_webp, extended_webp};
+ghost use Rattle.imagesize_source.specs.Halts.{RunsOrHalts};
 ghost use Rattle.imagesize_source.specs.Layout.{over};
-ghost use Rattle.imagesize_source.specs.State.{Runs};
 
+use imagesize_source::halt::{Halt, read_bytes, read_u16, read_u24, read_u32};
 use imagesize_source::source::Source;
-use imagesize_source::util::{Endian, read_bytes, read_u16, read_u24, read_u32};
-use imagesize_source::{ImageError, ImageResult, Reason};
+use imagesize_source::util::Endian;
 use imagesize_types::size::ImageSize;
 
 /// Whether a RIFF form of the type `WEBP` stands first.
@@ -24,8 +24,8 @@ pub fn matches(head: &[u8; 12]) -> bool
 /// The width and the height of the canvas, or of the one image.
 #[inline(always)]
 #[tactic(auto, using(imagesize_source::proofs::Runs::steps))]
-pub fn size<S: Source>(source: &mut S) -> ImageResult<ImageSize>
-    ensures { Runs (S.state source.old) (S.state source.new) result
+pub fn size<S: Source>(source: &mut S) -> Result<ImageSize, Halt>
+    ensures { RunsOrHalts (S.state source.old) (S.state source.new) (S.failure source.new) result
         (over (S.state source.old).held.input webp) }
 {
     let [_, _, _, form] = read_bytes::<S, 4>(source, 12)?;
@@ -33,15 +33,15 @@ pub fn size<S: Source>(source: &mut S) -> ImageResult<ImageSize>
         b' ' => lossy_size(source),
         b'L' => lossless_size(source),
         b'X' => extended_size(source),
-        _ => Err(ImageError::IoError(Reason::InvalidVp8Tag)),
+        _ => Err(Halt::InvalidVp8Tag),
     }
 }
 
 // Of each dimension the low 14 bits; above them stands how to scale it.
 #[inline(always)]
 #[tactic(auto, using(imagesize_source::proofs::Runs::steps))]
-fn lossy_size<S: Source>(source: &mut S) -> ImageResult<ImageSize>
-    ensures { Runs (S.state source.old) (S.state source.new) result
+fn lossy_size<S: Source>(source: &mut S) -> Result<ImageSize, Halt>
+    ensures { RunsOrHalts (S.state source.old) (S.state source.new) (S.failure source.new) result
         (over (S.state source.old).held.input lossy_webp) }
 {
     let width = low_14_bits(read_u16(source, 26, Endian::Little)? as u32);
@@ -52,8 +52,8 @@ fn lossy_size<S: Source>(source: &mut S) -> ImageResult<ImageSize>
 // 14 bits each for the width less one and the height less one.
 #[inline(always)]
 #[tactic(auto, using(imagesize_source::proofs::Runs::steps))]
-fn lossless_size<S: Source>(source: &mut S) -> ImageResult<ImageSize>
-    ensures { Runs (S.state source.old) (S.state source.new) result
+fn lossless_size<S: Source>(source: &mut S) -> Result<ImageSize, Halt>
+    ensures { RunsOrHalts (S.state source.old) (S.state source.new) (S.failure source.new) result
         (over (S.state source.old).held.input lossless_webp) }
 {
     let dimensions = read_u32(source, 21, Endian::Little)?;
@@ -65,8 +65,8 @@ fn lossless_size<S: Source>(source: &mut S) -> ImageResult<ImageSize>
 // 24 bits each for the width less one and the height less one.
 #[inline(always)]
 #[tactic(auto, using(imagesize_source::proofs::Runs::steps))]
-fn extended_size<S: Source>(source: &mut S) -> ImageResult<ImageSize>
-    ensures { Runs (S.state source.old) (S.state source.new) result
+fn extended_size<S: Source>(source: &mut S) -> Result<ImageSize, Halt>
+    ensures { RunsOrHalts (S.state source.old) (S.state source.new) (S.failure source.new) result
         (over (S.state source.old).held.input extended_webp) }
 {
     let width = read_u24(source, 24, Endian::Little)? as usize + 1;

@@ -3,6 +3,7 @@
 ghost use Rattle.std.specs.Prelude.{◌≡◌, ◌-◌, ◌^◌, ◌<◌, ◌≤◌, [], ◌∷◌, ◌++◌, min, length, take, slice_set};
 ghost use Rattle.imagesize_source.specs.Input.{span_at};
 ghost use Rattle.imagesize_source.specs.Lent.{lent_state};
+ghost use Rattle.imagesize_source.specs.Reading.{end_of_input};
 ghost use Rattle.imagesize_source.specs.State.{total};
 
 mod log;
@@ -10,7 +11,7 @@ mod log;
 use self::log::SpanLog;
 use super::Source;
 use super::slice::{copy_part, text_at};
-use crate::{ImageResult, Span, Text};
+use crate::{Halt, ImageError, Reason, Span, Text};
 
 /// A slice that is read by place, and the spans of the readings so far, in their order. A reading that saw no byte has no
 /// span.
@@ -85,6 +86,8 @@ fn put(room: &mut [Span], place: usize, span: Span)
 impl Source for LentSource<'_, '_> {
     ghost state = { λ s. lent_state s.bytes.now s.log.spans s.room.ghost_name };
 
+    ghost failure = { λ _. end_of_input };
+
     fn told(&self) -> u64 {
         self.bytes.len() as u64
     }
@@ -93,7 +96,11 @@ impl Source for LentSource<'_, '_> {
         0
     }
 
-    fn read_at(&mut self, place: u64, room: &mut [u8]) -> ImageResult<usize> {
+    fn refusal(&self, halt: Halt) -> ImageError {
+        halt.error(Reason::EndOfInput)
+    }
+
+    fn read_at(&mut self, place: u64, room: &mut [u8]) -> Result<usize, Halt> {
         // The proof needs that the length is below 2^63.
         let _length = self.bytes.len();
         let count = copy_part(self.bytes, place, room);
@@ -101,7 +108,7 @@ impl Source for LentSource<'_, '_> {
         Ok(count)
     }
 
-    fn read_text(&mut self, place: u64, text: Text, room: &mut [u8]) -> ImageResult<usize> {
+    fn read_text(&mut self, place: u64, text: Text, room: &mut [u8]) -> Result<usize, Halt> {
         // The proof needs that the length is below 2^63.
         let _length = self.bytes.len();
         let found = text_at(self.bytes, place, text, room.len());

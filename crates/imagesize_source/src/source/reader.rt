@@ -1,18 +1,18 @@
 //! A reader as a source.
-ghost use Rattle.std.specs.Prelude.{◌≡◌, ℕ, max, ◌+◌, ◌-◌, ◌^◌, ◌<◌, ◌≤◌, ◌≢◌, min, take, length, IfOk, IfErr, OnOk, OnSome, IfSome, true, false};
+ghost use Rattle.std.specs.Prelude.{◌≡◌, ◌==◌, not, ℕ, max, ◌+◌, ◌-◌, ◌^◌, ◌<◌, ◌≤◌, ◌≢◌, min, take, length, IfOk, IfErr, OnOk, OnSome, IfSome, true, false};
 ghost use Rattle.imagesize_source.specs.Reading.{is_fault, is_memory, seen, part_read};
 ghost use Rattle.imagesize_source.specs.ReaderState.{held_at, reader_state, start_state, Opens};
 ghost use Rattle.imagesize_source.specs.State.{Runs};
 ghost use Rattle.imagesize_source.specs.Telling.{counted, given, SeekTells};
 ghost use Rattle.imagesize_source.specs.Standing.{Standing, steady, stand, GivesSome, GivesAll, StopsBy, Keeps, Tries, since, error_at, named, given_or, GoesTo, ReadsFrom};
-ghost use Rattle.imagesize_source.specs.StopOf.{ending_of};
+ghost use Rattle.imagesize_source.specs.StopOf.{ending_of, fault_of};
 
 mod text;
 
 use super::Source;
 use super::progress::Progress;
 use super::window::{Window, copy_kept, keep};
-use crate::{ImageError, ImageResult, Reason, Stop, Text, Told};
+use crate::{Halt, ImageError, ImageResult, Reason, Stop, Text, Told};
 use std::io::{self, ErrorKind, SeekFrom};
 
 /// A reader that is read by place. It takes bytes within a budget, and keeps the first 32 of the input.
@@ -55,6 +55,8 @@ impl<'a, R: Told> ReaderSource<'a, R> {
 impl<R: Told> Source for ReaderSource<'_, R> {
     ghost state = { λ s. reader_state (R.telling s.reader.now) (R.count s.reader.now) s.reader.ghost_name s.progress s.window.items };
 
+    ghost failure = { λ s. fault_of s.progress.fault };
+
     #[inline]
     fn told(&self) -> u64 {
         self.progress.told
@@ -66,21 +68,23 @@ impl<R: Told> Source for ReaderSource<'_, R> {
     }
 
     #[inline(always)]
-    fn read_at(&mut self, place: u64, room: &mut [u8]) -> ImageResult<usize> {
-        match read_on(
+    fn refusal(&self, halt: Halt) -> ImageError {
+        refused(halt, &self.progress)
+    }
+
+    #[inline(always)]
+    fn read_at(&mut self, place: u64, room: &mut [u8]) -> Result<usize, Halt> {
+        read_on(
             self.reader,
             &mut self.progress,
             &mut self.window,
             &mut self.present,
             place,
             room,
-        ) {
-            Ok(count) => Ok(count),
-            Err(halt) => refused(halt, &self.progress),
-        }
+        )
     }
 
-    fn read_text(&mut self, place: u64, text: Text, room: &mut [u8]) -> ImageResult<usize> {
+    fn read_text(&mut self, place: u64, text: Text, room: &mut [u8]) -> Result<usize, Halt> {
         text::read_text(self, place, text, room)
     }
 }
@@ -122,27 +126,20 @@ fn seek<R: Told>(reader: &mut R, to: SeekFrom) -> ImageResult<u64>
     Ok(place)
 }
 
-// Why a reading was stopped. The error of a call that failed is kept beside the reader, so that what each layer
-// of a reading answers is small.
-#[derive(Clone, Copy)]
-enum Halt {
-    // A call of the reader failed.
-    Failed,
-    // The budget is spent.
-    Spent,
-}
-
 // What a halt ends the call with.
 #[inline(always)]
-fn refused(halt: Halt, progress: &Progress) -> ImageResult<usize>
-    ensures { result ≡ Err (error_at progress.now halt) }
+fn refused(halt: Halt, progress: &Progress) -> ImageError
+    ensures { result ≡ error_at progress.now halt }
 {
-    Err(match halt {
+    match halt {
         Halt::Failed => ImageError::from(progress.fault),
         Halt::Spent => ImageError::IoError(Reason::BudgetSpent {
             budget: progress.budget,
         }),
-    })
+        Halt::Ended => ImageError::IoError(Reason::EndOfInput),
+        Halt::Corrupted => ImageError::CorruptedImage,
+        Halt::InvalidVp8Tag => ImageError::IoError(Reason::InvalidVp8Tag),
+    }
 }
 
 // How many interruptions of reads are tried again in one call.
@@ -457,10 +454,19 @@ fn read_on<R: Told>(
         (seen (λ n. take n room.new) (named progress.new result))
         (part_read (held_at (stand (R.telling reader.old) progress.old) window.old.items).input place (length room.new)) }
 {
-    if place > progress.told && place != *present {
+    if place > progress.told && is_elsewhere(place, *present) {
         return Ok(0);
     }
     let count = read_windowed(reader, progress, window, place, room)?;
     *present = place.saturating_add(count as u64);
     Ok(count)
+}
+
+// Whether a place is another than the end of the last reading. A call of its own, since few readings ask.
+#[cold]
+#[inline(never)]
+fn is_elsewhere(place: u64, present: u64) -> bool
+    ensures { result ≡ not (place == present) }
+{
+    place != present
 }

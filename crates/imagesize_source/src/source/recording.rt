@@ -8,7 +8,7 @@ ghost use Rattle.imagesize_source.specs.declared.error.Reason.TheVariants as rea
 
 use super::Source;
 use super::slice::{copy_part, text_at};
-use crate::{ImageError, ImageResult, Reason, Span, Text};
+use crate::{Halt, ImageError, Reason, Span, Text};
 use std::alloc::Allocator;
 
 /// A slice that is read by place, and the spans of the readings so far, in their order.
@@ -23,6 +23,8 @@ pub struct RecordingSource<'a, A: Allocator> {
 impl<A: Allocator> Source for RecordingSource<'_, A> {
     ghost state = { λ s. recording_state s.bytes.now s.spans.items };
 
+    ghost failure = { λ _. error.IoError reason.Memory };
+
     fn told(&self) -> u64 {
         self.bytes.len() as u64
     }
@@ -31,7 +33,11 @@ impl<A: Allocator> Source for RecordingSource<'_, A> {
         0
     }
 
-    fn read_at(&mut self, place: u64, room: &mut [u8]) -> ImageResult<usize> {
+    fn refusal(&self, halt: Halt) -> ImageError {
+        halt.error(Reason::Memory)
+    }
+
+    fn read_at(&mut self, place: u64, room: &mut [u8]) -> Result<usize, Halt> {
         // The proof needs that the length is below 2^63.
         let _length = self.bytes.len();
         let count = copy_part(self.bytes, place, room);
@@ -39,7 +45,7 @@ impl<A: Allocator> Source for RecordingSource<'_, A> {
         Ok(count)
     }
 
-    fn read_text(&mut self, place: u64, text: Text, room: &mut [u8]) -> ImageResult<usize> {
+    fn read_text(&mut self, place: u64, text: Text, room: &mut [u8]) -> Result<usize, Halt> {
         // The proof needs that the length is below 2^63.
         let _length = self.bytes.len();
         let found = text_at(self.bytes, place, text, room.len());
@@ -51,10 +57,10 @@ impl<A: Allocator> Source for RecordingSource<'_, A> {
 
 // Adds the span of so many bytes from a place on; no byte has no span.
 #[tactic(auto, unfolding(crate::specs::Input::span_at))]
-fn record<A: Allocator>(spans: &mut Vec<Span, A>, start: u64, count: usize) -> ImageResult<()>
+fn record<A: Allocator>(spans: &mut Vec<Span, A>, start: u64, count: usize) -> Result<(), Halt>
     ensures recorded { OnOk result (spans.new.items ≡ spans.old.items ++ span_at start count) }
     ensures unchanged { OnErr result (spans.new.items ≡ spans.old.items) }
-    ensures refused { IfErr result (λ e. (e ≡ error.IoError reason.Memory) × (0 < count)) }
+    ensures refused { IfErr result (λ halt. (halt ≡ Halt.Failed) × (0 < count)) }
 {
     if count == 0 {
         return Ok(());
@@ -62,6 +68,6 @@ fn record<A: Allocator>(spans: &mut Vec<Span, A>, start: u64, count: usize) -> I
     let len = count as u64;
     match spans.push(Span { start, len }) {
         Ok(()) => Ok(()),
-        Err(_) => Err(ImageError::IoError(Reason::Memory)),
+        Err(_) => Err(Halt::Failed),
     }
 }

@@ -1,12 +1,12 @@
 //! The bytes of a slice as a source. It takes nothing, and no reading of it fails.
 ghost use Rattle.std.specs.Prelude.{◌≡◌, ◌<◌, ◌≤◌, min, ◌-◌, ◌++◌, take, drop, length};
 ghost use Rattle.imagesize_source.specs.Input.{part};
-ghost use Rattle.imagesize_source.specs.Reading.{text_part};
+ghost use Rattle.imagesize_source.specs.Reading.{end_of_input, text_part};
 ghost use Rattle.imagesize_source.specs.State.{slice_state};
 
 use super::Source;
 use crate::text::text_length;
-use crate::{ImageResult, Text};
+use crate::{Halt, ImageError, Reason, Text};
 
 /// A slice that is read by place.
 #[derive(Clone, Copy, Debug)]
@@ -16,6 +16,8 @@ pub struct SliceSource<'a> {
 
 impl Source for SliceSource<'_> {
     ghost state = { λ s. slice_state s.bytes.now };
+
+    ghost failure = { λ _. end_of_input };
 
     #[inline(always)]
     fn told(&self) -> u64 {
@@ -28,14 +30,19 @@ impl Source for SliceSource<'_> {
     }
 
     #[inline(always)]
-    fn read_at(&mut self, place: u64, room: &mut [u8]) -> ImageResult<usize> {
+    fn refusal(&self, halt: Halt) -> ImageError {
+        halt.error(Reason::EndOfInput)
+    }
+
+    #[inline(always)]
+    fn read_at(&mut self, place: u64, room: &mut [u8]) -> Result<usize, Halt> {
         // The proof needs that the length is below 2^63.
         let _length = self.bytes.len();
         Ok(copy_part(self.bytes, place, room))
     }
 
     #[inline]
-    fn read_text(&mut self, place: u64, text: Text, room: &mut [u8]) -> ImageResult<usize> {
+    fn read_text(&mut self, place: u64, text: Text, room: &mut [u8]) -> Result<usize, Halt> {
         // The proof needs that the length is below 2^63.
         let _length = self.bytes.len();
         let found = text_at(self.bytes, place, text, room.len());

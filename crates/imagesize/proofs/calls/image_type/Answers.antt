@@ -1,5 +1,10 @@
+use Rattle.std.proofs.Common.{refl}
+use Rattle.imagesize.proofs.Endings.{never_stopped}
 use Rattle.imagesize.proofs.Locality.{local_kind}
 use Rattle.imagesize.proofs.calls.image_type.Goals as goal
 
 pub returns-clause-local : goal.returns-clause-local
 returns-clause-local c = local_kind 0 c.args.header.now
+
+pub returns-clause-unstopped : goal.returns-clause-unstopped
+returns-clause-unstopped c = never_stopped _ _ refl refl refl refl c.detect.ensures

@@ -10,4 +10,4 @@ pub returns-in-Ok-2 : goal.returns-in-Ok-2
 returns-in-Ok-2 g c = runs_refused _ _ (bytes_missing _ _ _ _ _ c.in-Ok.ensures.runs (search rules) c.if-count-ge12.false)
 
 pub returns-in-Err : goal.returns-in-Err
-returns-in-Err g c = runs_refused _ _ (head_refused _ _ _ _ (search rules) c.in-Err.ensures.runs)
+returns-in-Err g c = rw c.refusal.ensures (runs_refused _ _ (head_refused _ _ _ _ (search rules) c.in-Err.ensures.runs))

@@ -14,7 +14,7 @@ ghost use Rattle.imagesize_source.specs.declared.util.Endian.TheVariants as endi
 use super::front::MOST;
 use arrayvec::ArrayVec;
 use imagesize_source::source::Source;
-use imagesize_source::util::{Endian, read_bytes, read_bytes_behind, read_u64};
+use imagesize_source::util::{Endian, read_bytes, read_bytes_behind, read_part, read_u64};
 use imagesize_source::{ImageError, ImageResult, Reason};
 
 /// The first bytes of a codestream, or a piece of them.
@@ -266,7 +266,7 @@ fn read_there<S: Source>(
     ensures runs { Runs (S.state source.old) (S.state source.new) (seen (λ n. take n room.new) result)
         (part_read (S.state source.old).held.input (place + distance) (length room.new)) }
 {
-    source.read_at(place.saturating_add(distance), room)
+    read_part(source, place.saturating_add(distance), room)
 }
 
 // These bytes as a piece.

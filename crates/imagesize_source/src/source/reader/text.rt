@@ -1,13 +1,15 @@
 //! The text of a reader: it is read byte by byte, since what is read is taken.
 ghost use Rattle.std.specs.Prelude.{◌≡◌, ◌<◌, ◌≤◌, max, take, length, IfOk};
+ghost use Rattle.imagesize_source.specs.Halts.{with_error};
 ghost use Rattle.imagesize_source.specs.Reading.{seen, text_read};
 ghost use Rattle.imagesize_source.specs.ReaderState.{reader_state};
 ghost use Rattle.imagesize_source.specs.State.{Runs};
+ghost use Rattle.imagesize_source.specs.StopOf.{fault_of};
 
 use super::ReaderSource;
 use crate::source::Source;
 use crate::text::is_end;
-use crate::{ImageResult, Text, Told};
+use crate::{Halt, Text, Told};
 
 /// Reads the text from a place on into the room, as far as there is room, and takes nothing behind it.
 pub(super) fn read_text<R: Told>(
@@ -15,7 +17,7 @@ pub(super) fn read_text<R: Told>(
     place: u64,
     text: Text,
     room: &mut [u8],
-) -> ImageResult<usize>
+) -> Result<usize, Halt>
     ensures bound { IfOk result (λ n. n ≤ length room.new) }
     ensures pays { IfOk result (λ n. 0 < n → max source.old.progress.told 32 < place
         → source.old.progress.taken < source.new.progress.taken) }
@@ -24,7 +26,7 @@ pub(super) fn read_text<R: Told>(
         source.old.progress source.old.window.items)
         (reader_state (R.telling source.new.reader.now) (R.count source.new.reader.now) source.new.reader.ghost_name
         source.new.progress source.new.window.items)
-        (seen (λ n. take n room.new) result)
+        (seen (λ n. take n room.new) (with_error (fault_of source.new.progress.fault) source.new.progress.budget result))
         (text_read (reader_state (R.telling source.old.reader.now) (R.count source.old.reader.now) source.old.reader.ghost_name
         source.old.progress source.old.window.items).held.input text place (length room.new)) }
 {

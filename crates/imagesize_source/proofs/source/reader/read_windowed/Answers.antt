@@ -1,5 +1,5 @@
 use Rattle.std.proofs.Common.{◌≡◌, ℕ, Result, Err, ◌+◌, refl, ap, arith, rules}
-use Rattle.imagesize_source.specs.declared.source.reader.Halt.{Halt}
+use Rattle.imagesize_source.specs.declared.halt.Halt.{Halt}
 use Rattle.imagesize_source.specs.Standing.{named}
 use Rattle.imagesize_source.proofs.Windows.{none_in, straight, straight_stopped, told_by, same_frame, ended_by}
 use Rattle.imagesize_source.proofs.source.reader.read_windowed.Goals as goal

@@ -1,5 +1,5 @@
 use Rattle.std.proofs.Common.{◌≡◌, ◌+◌, ◌-◌, ℕ, Result, Err, length, arith, rules, refl}
-use Rattle.imagesize_source.specs.declared.error.ImageError.{ImageError}
+use Rattle.imagesize_source.specs.declared.halt.Halt.{Halt}
 use Rattle.imagesize_source.proofs.TextReads.{one_long, reader_sound, taking_none, taking_full, text_goes_on, text_ends, input_ends, text_stopped}
 use Rattle.imagesize_source.proofs.source.reader.text.read_text.Goals as goal
 
@@ -23,7 +23,7 @@ loop-count-preserved g c =
 pub returns-in_err-read_at-clause-runs : goal.returns-in_err-read_at-clause-runs
 returns-in_err-read_at-clause-runs g c =
     let source = c.args.source.now in
-    let is : ◌≡◌ {A = Result ℕ ImageError} c.from_residual.result (Err c.in_err-read_at.field-0.0) = search rules in
+    let is : ◌≡◌ {A = Result ℕ Halt} c.from_residual.result (Err c.in_err-read_at.field-0.0) = search rules in
     rw is (text_stopped c.loop-count.room c.loop-count.invariant c.saturating_add-next.result
     (c.loop-count.count + 1 - c.loop-count.count) c.read_at.new.room
     c.saturating_add-next.ensures c.loop-count-test.true (omega arith) (one_long c.loop-count.count c.loop-count.room c.read_at.new.room

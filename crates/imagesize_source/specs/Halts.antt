@@ -1,0 +1,26 @@
+-- What halts a reading, and the error that this ends a call with.
+use Rattle.std.specs.Prelude.{ℕ, Result, Ok, Err}
+use Rattle.imagesize_source.specs.declared.error.ImageError.{ImageError}
+use Rattle.imagesize_source.specs.declared.error.ImageError.TheVariants.{CorruptedImage, IoError}
+use Rattle.imagesize_source.specs.declared.error.Reason.TheVariants.{BudgetSpent, InvalidVp8Tag}
+use Rattle.imagesize_source.specs.declared.halt.Halt.{Halt}
+use Rattle.imagesize_source.specs.declared.halt.Halt.TheVariants as halt
+use Rattle.imagesize_source.specs.Reading.{Reads, end_of_input}
+use Rattle.imagesize_source.specs.State.{State, Runs}
+
+-- the error that a halt ends a call with, where this is the error of a call that failed and this the budget
+abbrev pub error_by : ImageError → ℕ → Halt → ImageError
+error_by failure budget halt.Failed = failure
+error_by failure budget halt.Spent = IoError (BudgetSpent budget)
+error_by failure budget halt.Ended = end_of_input
+error_by failure budget halt.Corrupted = CorruptedImage
+error_by failure budget halt.InvalidVp8Tag = IoError InvalidVp8Tag
+
+-- an answer, with the error of its halt
+abbrev pub with_error : {X : Type 0} → ImageError → ℕ → Result X Halt → Result X ImageError
+with_error failure budget (Ok x) = Ok x
+with_error failure budget (Err why) = Err (error_by failure budget why)
+
+-- what was read, where a halt may stand for its error
+abbrev pub RunsOrHalts : {X : Type 0} → State → State → ImageError → Result X Halt → Reads X → Type 0
+RunsOrHalts a b failure r reads = Runs a b (with_error failure b.frame.budget r) reads
