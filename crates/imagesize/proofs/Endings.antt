@@ -2,9 +2,9 @@
 use Rattle.std.proofs.Common.{◌≡◌, ℕ, ◌+◌, ◌-◌, ◌^◌, ◌≤◌, min, Bool, true, false, Option, Some, None, Result, Ok, Err, IfErr, IfSome, inl, inr, refl, sym, ap, ◌∙◌, arith}
 use Rattle.std.specs.Prelude.{option_map}
 use Rattle.imagesize.specs.Probed.{SpentAll}
-use Rattle.imagesize_source.proofs.Openings.{stop_cases, some_spent}
+use Rattle.imagesize_io.proofs.Openings.{stop_cases, some_spent}
 use Rattle.imagesize_source.specs.Reading.{Reads, is_memory, is_stop, spent, stopped}
-use Rattle.imagesize_source.specs.Standing.{since}
+use Rattle.imagesize_io.specs.Standing.{since}
 use Rattle.imagesize_source.specs.State.{State, Runs}
 use Rattle.imagesize_source.specs.declared.error.ImageError.{ImageError}
 

@@ -9,15 +9,15 @@ use Rattle.imagesize.specs.Probed.{FindsKind, Probes}
 use Rattle.imagesize.specs.declared.calls.Probed.{Probed}
 use Rattle.imagesize_types.specs.declared.size.ImageSize.{ImageSize}
 use Rattle.imagesize.specs.declared.types.ImageType.{ImageType}
-use Rattle.imagesize_source.proofs.Openings.{IsBounded, Began, claim, start_of, start_holds, opened_answers, opened_takes}
+use Rattle.imagesize_io.proofs.Openings.{IsBounded, Began, claim, start_of, start_holds, opened_answers, opened_takes}
 use Rattle.imagesize_source.proofs.Runs.{runs_then, runs_refused}
-use Rattle.imagesize_source.specs.Answers.{Answers, TakesAs}
+use Rattle.imagesize_io.specs.Answers.{Answers, TakesAs}
 use Rattle.imagesize_source.specs.Reading.{stopped}
-use Rattle.imagesize_source.specs.ReaderState.{Opens, start_state}
+use Rattle.imagesize_io.specs.ReaderState.{Opens, start_state}
 use Rattle.imagesize_source.specs.State.{State, Runs}
-use Rattle.imagesize_source.specs.Telling.{Telling, IsHonest}
+use Rattle.imagesize_io.specs.Telling.{Telling, IsHonest}
 use Rattle.imagesize_source.specs.declared.error.ImageError.{ImageError}
-use Rattle.imagesize_source.specs.declared.source.reader.Opened.{Opened}
+use Rattle.imagesize_io.specs.declared.reader.Opened.{Opened}
 
 -- a type that was found, and the size by it
 pub found_then : {a m b : State} (type : ImageType) (r : Result ImageSize ImageError) (place : ℕ)

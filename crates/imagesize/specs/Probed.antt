@@ -7,10 +7,10 @@ use Rattle.imagesize_types.specs.declared.size.ImageSize.{ImageSize}
 use Rattle.imagesize.specs.declared.types.ImageType.{ImageType}
 use Rattle.imagesize.specs.declared.calls.Probed.{Probed}
 use Rattle.imagesize_source.specs.declared.error.ImageError.{ImageError}
-use Rattle.imagesize_source.specs.Answers.{AnswersAs, TakesAs, over_reader}
+use Rattle.imagesize_io.specs.Answers.{AnswersAs, TakesAs, over_reader}
 use Rattle.imagesize_source.specs.Reading.{stopped}
 use Rattle.imagesize_source.specs.State.{State}
-use Rattle.imagesize_source.specs.Telling.{Telling, IsHonest}
+use Rattle.imagesize_io.specs.Telling.{Telling, IsHonest}
 
 -- A type that is named is the input's, and where nothing failed it is named if there is one.
 pub record FindsKind (a : State) (place : ℕ) (found : Option ImageType) (r : Result ImageSize ImageError) : Type 0 where

@@ -1,10 +1,10 @@
 //! The calls: type and size of a slice's bytes, or of a reader's.
 ghost use Rattle.std.specs.Prelude.{◌≡◌, ℕ, ◌+◌, ◌≤◌, List, length, ◌++◌, IsTrue, IfOk, IfErr, IfSome, IsSome, Some, true, false, Option, Ok, option_map};
-ghost use Rattle.imagesize_source.specs.Answers.{Answers, Counts};
+ghost use Rattle.imagesize_io.specs.Answers.{Answers, Counts};
 ghost use Rattle.imagesize_source.specs.Reading.{is_fault, is_memory, spent, stopped};
 ghost use Rattle.imagesize_source.specs.State.{Runs};
-ghost use Rattle.imagesize_source.specs.ReaderState.{Opens};
-ghost use Rattle.imagesize_source.specs.Telling.{Telling};
+ghost use Rattle.imagesize_io.specs.ReaderState.{Opens};
+ghost use Rattle.imagesize_io.specs.Telling.{Telling};
 ghost use Rattle.imagesize_source.specs.Agreement.{Agrees};
 ghost use Rattle.imagesize.specs.Counts.{cost, lasts_as, stated};
 ghost use Rattle.imagesize.specs.Meaning.{kind_of, meaning, size_of};
@@ -14,7 +14,7 @@ use crate::formats::{detect, size};
 use crate::types::ImageType;
 use crate::{ImageResult, Told};
 use imagesize_source::source::Source;
-use imagesize_source::source::reader::{Opened, ReaderSource, open};
+use imagesize_io::reader::{Opened, ReaderSource, open};
 use imagesize_source::source::slice::SliceSource;
 use imagesize_types::size::ImageSize;
 use std::io::SeekFrom;

@@ -3,7 +3,7 @@ ghost use Rattle.std.specs.Prelude.{◌≤◌, IfErr, IfSome};
 ghost use Rattle.imagesize_source.specs.Reading.{spent};
 
 use crate::{ImageError, ImageResult, Reason, reader_size};
-use imagesize_source::KeptReader;
+use imagesize_io::KeptReader;
 use imagesize_types::size::ImageSize;
 use std::alloc::Global;
 use std::fs;

@@ -13,7 +13,8 @@ mod types;
 
 pub use calls::{Probed, blob_size, image_type, reader_probe, reader_size, reader_type};
 pub use file::size;
-pub use imagesize_source::{ImageError, ImageResult, Reason, Span, Stop, Told};
+pub use imagesize_io::{Stop, Told};
+pub use imagesize_source::{ImageError, ImageResult, Reason, Span};
 pub use imagesize_types::compression::{
     AtcCompression, Compression, DdsCompression, PkmCompression, PvrtcCompression,
 };

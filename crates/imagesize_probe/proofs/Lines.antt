@@ -10,10 +10,10 @@ use Rattle.imagesize_types.specs.declared.size.ImageSize.{ImageSize}
 use Rattle.imagesize.specs.declared.types.ImageType.{ImageType}
 use Rattle.imagesize.specs.declared.calls.Probed.{Probed}
 use Rattle.imagesize_probe.specs.Line.{line, line_of, refused_line, Reports, ReportsOf}
-use Rattle.imagesize_source.specs.Answers.{over_reader}
+use Rattle.imagesize_io.specs.Answers.{over_reader}
 use Rattle.imagesize_source.specs.Reading.{Reads, onward, stopped, is_stop}
 use Rattle.imagesize_source.specs.Reason.{error_text}
-use Rattle.imagesize_source.specs.Telling.{Telling}
+use Rattle.imagesize_io.specs.Telling.{Telling}
 use Rattle.imagesize_source.specs.declared.span.Span.{Span}
 use Rattle.imagesize_source.specs.declared.error.ImageError.{ImageError}
 use Rattle.imagesize_source.specs.declared.error.ImageError.TheVariants.{NotSupported, CorruptedImage, IoError}

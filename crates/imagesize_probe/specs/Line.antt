@@ -6,9 +6,9 @@ use Rattle.imagesize.specs.Meaning.{kind_of, meaning}
 use Rattle.imagesize_types.specs.declared.size.ImageSize.{ImageSize}
 use Rattle.imagesize.specs.declared.types.ImageType.{ImageType}
 use Rattle.imagesize.specs.Names.{type_text}
-use Rattle.imagesize_source.specs.Answers.{over_reader}
+use Rattle.imagesize_io.specs.Answers.{over_reader}
 use Rattle.imagesize_source.specs.Reason.{error_text}
-use Rattle.imagesize_source.specs.Telling.{Telling, IsHonest}
+use Rattle.imagesize_io.specs.Telling.{Telling, IsHonest}
 use Rattle.imagesize_source.specs.declared.error.ImageError.{ImageError}
 use Rattle.imagesize_source.specs.declared.span.Span.{Span}
 

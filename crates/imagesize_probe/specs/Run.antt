@@ -8,7 +8,7 @@ use Rattle.imagesize.specs.Meaning.{kind_of, meaning}
 use Rattle.imagesize_probe.specs.Line.{line, refused_line, LacksMemory, ReportsSpans}
 use Rattle.imagesize_probe.specs.Status.{status_of}
 use Rattle.imagesize_source.specs.Reason.{error_text}
-use Rattle.imagesize_source.specs.Telling.{Telling, IsHonest}
+use Rattle.imagesize_io.specs.Telling.{Telling, IsHonest}
 use Rattle.imagesize_source.specs.declared.error.ImageError.{ImageError}
 use Rattle.imagesize_source.specs.declared.error.ImageError.TheVariants.{IoError}
 use Rattle.imagesize_source.specs.declared.error.Reason.TheVariants.{Memory}

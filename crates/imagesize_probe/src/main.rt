@@ -11,7 +11,7 @@ mod report;
 mod run;
 
 use imagesize::{ImageError, ImageResult, Reason};
-use imagesize_source::KeptReader;
+use imagesize_io::KeptReader;
 use run::{Open, WHOLE, exit_code, run};
 use std::io::{self, BufReader, BufWriter, ErrorKind, Printer, Read};
 use std::process::ExitCode;

@@ -1,7 +1,7 @@
 //! Buffered readers keep their block where a place lies in it, and one that keeps its place calls the reader below no
 //! more than it must.
 
-use imagesize_source::{KeptReader, Stop, Told};
+use imagesize_io::{KeptReader, Stop, Told};
 use std::io::{self, BufReader, Cursor, ErrorKind, Read, Seek, SeekFrom};
 use std::process::Abort;
 use std::test::Fail;

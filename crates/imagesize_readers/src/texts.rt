@@ -2,7 +2,7 @@
 
 use imagesize_source::Text;
 use imagesize_source::source::Source;
-use imagesize_source::source::reader::{ReaderSource, open};
+use imagesize_io::reader::{ReaderSource, open};
 use imagesize_source::source::slice::SliceSource;
 use std::io::Cursor;
 use std::process::Abort;

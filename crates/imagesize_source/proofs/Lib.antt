@@ -8,24 +8,18 @@ pub mod ChainLaws
 pub mod Chains
 pub mod Costs
 pub mod Counts
-mod Cursors
 pub mod Extension
-pub mod Filling
 pub mod Layouts
 pub mod Lendings
 pub mod Marks
 pub mod Numbers
-pub mod Openings
 pub mod PastTheEnd
 pub mod Reached
 pub mod Recordings
 pub mod Runs
 pub mod Slices
 pub mod Spends
-pub mod Standings
 pub mod Tests
-pub mod TextReads
 pub mod Texts
 pub mod Walks
 pub mod Way
-pub mod Windows

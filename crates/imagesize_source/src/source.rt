@@ -9,11 +9,8 @@ ghost use Rattle.imagesize_source.specs.declared.error.ImageError.{ImageError};
 use crate::{Halt, ImageError, Text};
 
 pub mod lent;
-pub mod progress;
-pub mod reader;
 pub mod recording;
 pub mod slice;
-mod window;
 
 /// An input that is read by place. A place counts bytes from 0.
 pub trait Source {

@@ -68,7 +68,7 @@ fn first_white(bytes: &[u8]) -> Option<usize>
 }
 
 /// Whether a byte ends the text, of which a byte other than white space came before or none did.
-pub(crate) fn is_end(text: Text, begun: bool, byte: u8) -> bool
+pub fn is_end(text: Text, begun: bool, byte: u8) -> bool
     ensures { result ≡ ends text begun byte }
 {
     match text {

@@ -1,9 +1,9 @@
 -- What a gate for uploads admits.
 use Rattle.std.specs.Prelude.{◌≡◌, ℕ, ◌+◌, ◌≤◌, nat_le, false, true, length, if◌then◌else◌, Option, None, Some, Result, Ok, Err, IfOk, option_map}
 use Rattle.imagesize.specs.Meaning.{meaning}
-use Rattle.imagesize_source.specs.Answers.{over_reader}
+use Rattle.imagesize_io.specs.Answers.{over_reader}
 use Rattle.imagesize_source.specs.Reading.{is_fault}
-use Rattle.imagesize_source.specs.Telling.{Telling, IsHonest}
+use Rattle.imagesize_io.specs.Telling.{Telling, IsHonest}
 use Rattle.imagesize_source.specs.declared.error.ImageError.{ImageError}
 use Rattle.imagesize_types.specs.Order.{area_of}
 use Rattle.imagesize_types.specs.declared.size.ImageSize.{ImageSize}

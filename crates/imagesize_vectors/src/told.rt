@@ -1,6 +1,6 @@
 //! What is promised over readers that tell their bytes: each of these is proved of readers that there are.
 ghost use Rattle.std.specs.Prelude.{◌≡◌, ◌+◌, ◌^◌, ◌<◌, ◌≤◌, length, false, true, Some};
-ghost use Rattle.imagesize_source.specs.Answers.{RisesWithin};
+ghost use Rattle.imagesize_io.specs.Answers.{RisesWithin};
 ghost use Rattle.std.specs.Io.Cursor.{cursor_inner};
 ghost use Rattle.imagesize.specs.Meaning.{meaning, size_of};
 ghost use Rattle.imagesize_source.specs.Reading.{stopped, faulted};

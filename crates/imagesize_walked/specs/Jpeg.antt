@@ -87,6 +87,7 @@ abbrev pub LeadsOn : ℕ → Segment → Type 0
 LeadsOn depth (Frame size) = Unit {0}
 LeadsOn depth (Other marker behind length) = LeadsTo depth marker behind
 
+-- the same of what a marker says of its segment, before the segment is read
 abbrev pub RoleLeadsOn : ℕ → ℕ → Role → Type 0
 RoleLeadsOn depth marker role.Frame = Unit {0}
 RoleLeadsOn depth marker role.End = Unit {0}

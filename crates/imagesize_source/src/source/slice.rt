@@ -54,7 +54,7 @@ impl Source for SliceSource<'_> {
 /// Copies what is there of the bytes from a place on into the room, and answers how many that is.
 #[inline(always)]
 #[tactic(auto, unfolding(crate::specs::Input::part))]
-pub(crate) fn copy_part(bytes: &[u8], place: u64, room: &mut [u8]) -> usize
+pub fn copy_part(bytes: &[u8], place: u64, room: &mut [u8]) -> usize
     ensures count { result ≡ min (length room.old) (length bytes.now - place) }
     ensures copied { room.new ≡ part bytes.now place (length room.old) ++ drop result room.old }
 {

@@ -1,0 +1,139 @@
+-- A room that is filled by one read after another.
+use Rattle.std.proofs.Common.{◌≡◌, ℕ, ◌+◌, ◌-◌, ◌<◌, ◌≤◌, min, List, ◌++◌, length, take, drop, Option, Some, None, IfSome, Ok, refl, sym, ap, ◌∙◌, subst, arith}
+use Rattle.std.proofs.lemmas.List.{length-append, length-take, length-drop, length-take-le, take-append-le}
+use Rattle.std.proofs.Math.Seq.{take-append-add, take-add, drop-append-add, drop-drop}
+use Rattle.std.specs.List.{slice_range}
+use borrow.Rule.Slice.PartMut.{put_mid}
+use Rattle.imagesize_io.specs.declared.progress.Progress.{Progress}
+use Rattle.imagesize_source.specs.Input.{part}
+use Rattle.imagesize_io.proofs.Standings.{keeps_both}
+use Rattle.imagesize_io.specs.Standing.{Standing, onto, GivesSome, GivesAll, Keeps, since}
+
+-- so many bytes of the room are the next of the bytes that the reader stood at first
+abbrev pub Filled : Option Standing → Option Standing → ℕ → List ℕ → Type 0
+Filled None now filled room = Unit {0}
+Filled (Some s) now filled room =
+    (now ≡ Some (onto s filled)) × (take filled room ≡ part s.bytes s.place filled) × (filled ≤ length s.bytes - s.place)
+
+-- the reads so far
+pub record Filling (first now : Option Standing) (count count' : Option ℕ) (old new : Progress) (filled : ℕ) (room : List ℕ) : Type 0 where
+  pub fits : filled ≤ length room
+  pub reached : Filled first now filled room
+  pub taken : new.taken ≡ old.taken + filled
+  pub counts : since count' new.taken ≡ since count old.taken
+  pub keeps : Keeps old new
+
+none_reached : (first : Option Standing) (room : List ℕ) → Filled first first 0 room
+unfolding part
+none_reached None room = tt
+none_reached (Some s) room = (ap (λ p. Some (record s { place = p })) (omega arith), refl, omega arith)
+
+-- before the first read
+pub filled_none : (first : Option Standing) (count : Option ℕ) (p : Progress) (room : List ℕ) → Filling first first count count p p 0 room
+filled_none first count p room = record {
+  fits = omega arith;
+  reached = none_reached first room;
+  taken = omega arith;
+  counts = refl;
+  keeps = record { told = refl; budget = refl; taken = omega arith; retries = omega arith; limit = λ few. few };
+}
+
+-- the bytes of one more read stand behind those before
+pub take_more : (room more : List ℕ) (filled n : ℕ) → filled ≤ length room → n ≤ length more
+    → take (filled + n) (put_mid filled (length room - filled) room more) ≡ take filled room ++ take n more
+take_more room more filled n fits enough =
+    let front : length (take filled room) ≡ filled = length-take-le filled room fits in
+    ap (λ k. take (k + n) (put_mid filled (length room - filled) room more)) (sym front)
+    ∙ take-append-add (take filled room) (more ++ drop (length room - filled) (drop filled room)) n
+    ∙ ap (λ l. take filled room ++ l) (take-append-le n more (drop (length room - filled) (drop filled room)) enough)
+
+-- and they are that part of the room
+pub put_there : (room more : List ℕ) (filled n : ℕ) → filled ≤ length room → n ≤ length more
+    → slice_range (put_mid filled (length room - filled) room more) filled (filled + n) ≡ take n more
+put_there room more filled n fits enough =
+    let front : length (take filled room) + 0 ≡ filled = omega (arith, length-take-le filled room fits) in
+    let count : filled + n - filled ≡ n = omega arith in
+    ap (λ k. take k (drop filled (put_mid filled (length room - filled) room more))) count
+    ∙ ap (λ k. take n (drop k (put_mid filled (length room - filled) room more))) (sym front)
+    ∙ ap (take n) (drop-append-add (take filled room) (more ++ drop (length room - filled) (drop filled room)) 0)
+    ∙ take-append-le n more (drop (length room - filled) (drop filled room)) enough
+
+pub length-put : (room more : List ℕ) (filled : ℕ) → filled ≤ length room → length more ≡ length room - filled
+    → length (put_mid filled (length room - filled) room more) ≡ length room
+length-put room more filled fits long =
+    simp (length-append, length-take, length-drop) (omega (arith, fits, long))
+
+-- a part, and what follows it, is a longer part
+pub part-add : (d : List ℕ) (place k n : ℕ) → part d place k ++ part d (place + k) n ≡ part d place (k + n)
+unfolding part
+part-add d place k n = ap (λ l. take k (drop place d) ++ take n l) (sym (drop-drop k place d)) ∙ sym (take-add k n (drop place d))
+
+reached_more : (first now next : Option Standing) (room more : List ℕ) (filled n : ℕ) → filled ≤ length room → n ≤ length more
+    → Filled first now filled room → GivesSome now next more (Ok n) → Filled first next (filled + n)
+    (put_mid filled (length room - filled) room more)
+reached_more None now next room more filled n fits enough reached gave = tt
+reached_more (Some s) now next room more filled n fits enough reached gave =
+    let gives : GivesSome (Some (onto s filled)) next more (Ok n) = subst (λ w. GivesSome w next more (Ok n)) reached.0 gave in (
+      gives.0 ∙ ap (λ p. Some (record s { place = p })) (omega arith),
+      take_more room more filled n fits enough ∙ ap (λ l. l ++ take n more) reached.1 ∙ ap (λ l. part s.bytes s.place filled ++ l)
+          gives.1 ∙ part-add s.bytes s.place filled n,
+      omega (arith, gives.2, reached.2),
+    )
+
+-- one more read
+pub filling_more : {first now next : Option Standing} {count before after : Option ℕ} {old new newer : Progress} {filled : ℕ}
+    {room : List ℕ} (more : List ℕ) (n : ℕ) → Filling first now count before old new filled room → n ≤ length more
+    → length more ≡ length room - filled → GivesSome now next more (Ok n) → newer.taken ≡ new.taken + n → since after newer.taken
+    ≡ since before new.taken → Keeps new newer → Filling first next count after old newer (filled + n)
+    (put_mid filled (length room - filled) room more)
+filling_more {first} {now} {next} {filled = filled} {room = room} more n h enough long gave taken same keeps = record {
+  fits = rw (length-put room more filled h.fits long) (omega (arith, h.fits, long));
+  reached = reached_more first now next room more filled n h.fits enough h.reached gave;
+  taken = omega (arith, h.taken);
+  counts = same ∙ h.counts;
+  keeps = keeps_both h.keeps keeps;
+}
+
+ends : (first now next : Option Standing) (room more : List ℕ) (filled : ℕ) → filled ≤ length room → Filled first now filled room
+    → filled < length room → length more ≡ length room - filled → GivesSome now next more (Ok 0)
+    → GivesAll first next (put_mid filled (length room - filled) room more) (Ok filled)
+ends None now next room more filled fits reached left long gave = tt
+ends (Some s) now next room more filled fits reached left long gave =
+    let all = reached_more (Some s) now next room more filled 0 fits (omega arith) reached gave in
+    let at_end : GivesSome (Some (onto s filled)) next more (Ok 0) = subst (λ w. GivesSome w next more (Ok 0)) reached.0 gave in
+    let same : filled + 0 ≡ filled = omega arith in (
+      all.0 ∙ ap (λ k. Some (onto s k)) same,
+      ap (λ k. take k (put_mid filled (length room - filled) room more)) (sym same) ∙ all.1 ∙ ap (part s.bytes s.place) same,
+      rw (length-put room more filled fits long) (grind (arith, at_end.3, reached.2)),
+    )
+
+-- a read that gave nothing where there was room: the bytes end there
+pub filling_ends : {first now : Option Standing} (next : Option Standing) {count before : Option ℕ} {old new : Progress} {filled : ℕ}
+    {room : List ℕ} (more : List ℕ) (n : ℕ) → Filling first now count before old new filled room → filled < length room
+    → length more ≡ length room - filled → GivesSome now next more (Ok n) → n ≡ 0
+    → GivesAll first next (put_mid filled (length room - filled) room more) (Ok filled)
+filling_ends {first} {now} next {filled = filled} {room = room} more n h left long gave none =
+    let nothing : GivesSome now next more (Ok 0) = subst (λ k. GivesSome now next more (Ok k)) none gave in
+    ends first now next room more filled h.fits h.reached left long nothing
+
+-- a read, and all that follows it
+pub gave_rest : (first now last : Option Standing) (room more : List ℕ) (n k : ℕ) → GivesSome first now room (Ok n) → n ≤ length room
+    → GivesAll now last more (Ok k) → k ≤ length more → length more ≡ length room - n
+    → GivesAll first last (put_mid n (length room - n) room more) (Ok (n + k))
+gave_rest None now last room more n k gave fits rest enough long = tt
+gave_rest (Some s) now last room more n k gave fits rest enough long =
+    let gives : GivesAll (Some (onto s n)) last more (Ok k) = subst (λ w. GivesAll w last more (Ok k)) gave.0 rest in (
+      gives.0 ∙ ap (λ p. Some (record s { place = p })) (omega arith),
+      take_more room more n k fits enough ∙ ap (λ l. l ++ take k more) gave.1 ∙ ap (λ l. part s.bytes s.place n ++ l) gives.1 ∙ part-add
+          s.bytes s.place n k,
+      rw (length-put room more n fits long) (omega (arith, gives.2, gave.2, long)),
+    )
+
+pub within_rest : (first now : Option Standing) (room : List ℕ) (n m long taken mid taken' : ℕ) → GivesSome first now room (Ok n)
+    → mid ≡ taken + n → n ≤ long → m ≡ long - n → IfSome now (λ s. taken' ≤ mid + min m (length s.bytes - s.place))
+    → IfSome first (λ s. taken' ≤ taken + min long (length s.bytes - s.place))
+within_rest None now room n m long taken mid taken' gave took fits left within = tt
+within_rest (Some s) now room n m long taken mid taken' gave took fits left within =
+    let after : IfSome (Some (onto s n)) (λ s. taken' ≤ mid + min m (length s.bytes - s.place)) =
+    subst (λ w. IfSome w (λ s. taken' ≤ mid + min m (length s.bytes - s.place))) gave.0 within in
+    omega (arith, after, gave.2)

@@ -1,0 +1,6 @@
+mod Cursors
+pub mod Filling
+pub mod Openings
+pub mod Standings
+pub mod TextReads
+pub mod Windows

@@ -1,0 +1,172 @@
+-- From the state of a source to what a call answers to its reader.
+use Rattle.std.proofs.Common.{◌≡◌, ℕ, ◌+◌, ◌-◌, ◌^◌, ◌<◌, ◌≤◌, ◌⊎◌, inl, inr, min, Bool, true, false, ◌||◌, List, length, leb, ltb, eqb, Option, Some, None, Result, Ok, Err, IfSome, refl, sym, ap, ◌∙◌, subst, arith}
+use Rattle.std.proofs.lemmas.Bool.Decides.{nat_tests}
+use Rattle.imagesize_source.specs.declared.error.ImageError.{ImageError}
+use Rattle.imagesize_source.specs.declared.error.ImageError.TheVariants.{NotSupported, CorruptedImage, IoError}
+use Rattle.imagesize_source.specs.declared.error.Reason.TheVariants.{Fault, BudgetSpent, Memory}
+use Rattle.imagesize_io.specs.declared.reader.Opened.{Opened}
+use Rattle.imagesize_io.specs.Answers.{AnswersAs, TakesAs, Answers, Takes, over_reader}
+use Rattle.imagesize_source.specs.Reading.{Reads, is_fault, is_stop, is_memory, spent}
+use Rattle.imagesize_io.specs.ReaderState.{start_state, Opens}
+use Rattle.imagesize_source.specs.State.{State, Held, Runs, past, total}
+use Rattle.imagesize_io.specs.Telling.{Telling, IsHonest, at_place}
+use Rattle.imagesize_source.proofs.Counts.{places_past}
+
+few_leb : (n : ℕ) → n ≤ 64 → leb (n + 0) 64 ≡ true
+few_leb n h = grind (arith, nat_tests)
+
+is_below : (a b : ℕ) → a < b → ltb a b ≡ true
+is_below a b h = grind (arith, nat_tests)
+
+zero_leb : (n : ℕ) → leb 0 n ≡ true
+zero_leb n = grind (arith, nat_tests)
+
+is_same : (a : ℕ) → eqb a a ≡ true
+is_same a = grind (arith, nat_tests)
+
+patient : (t : Telling) (b : Bool) → t.can_fail ≡ b → (b ≡ false → t.interruptions ≤ 64) → (t.can_fail || leb (t.interruptions + 0) 64)
+    ≡ true
+patient t true fails few = rw fails refl
+patient t false fails few = let k : leb (t.interruptions + 0) 64 ≡ true = few_leb t.interruptions (few refl) in rw (fails, k) refl
+
+least_of : (n : ℕ) → n < 2 ^ 63 → min (n + 64) (2 ^ 64 - 1) ≡ n + 64
+least_of n short = omega arith
+
+-- what is claimed of an honest reader as a call begins
+abbrev pub claim : Telling → Held
+claim t = record { honest = true; input = t.bytes; can_fail = t.can_fail }
+
+pub start_holds : (t : Telling) (count : Option ℕ) (home : ℕ) → IsHonest t
+    → (start_state (Some (at_place t (length t.bytes))) count home (length t.bytes)).held ≡ claim t
+start_holds t count home honest =
+    let n = length t.bytes in
+    let waits : (t.can_fail || leb (t.interruptions + 0) 64) ≡ true = patient t t.can_fail refl honest.patient in
+    let short : ltb n (2 ^ 63) ≡ true = is_below n (2 ^ 63) honest.short in
+    let same : eqb n n ≡ true = is_same n in
+    let none : leb 0 n ≡ true = zero_leb n in
+    rw (waits, short, same, none) refl
+
+-- a stop is a failure, a spent budget or refused memory
+pub stop_cases : (e : ImageError) → is_stop e ≡ true → (is_fault e ≡ true) ⊎ (((n : ℕ) × (spent e ≡ Some n)) ⊎ (is_memory e ≡ true))
+stop_cases NotSupported stops = absurd cc
+stop_cases CorruptedImage stops = absurd cc
+stop_cases (IoError (Fault f)) stops = inl refl
+stop_cases (IoError (BudgetSpent n)) stops = inr (inl (n, refl))
+stop_cases (IoError Memory) stops = inr (inr refl)
+stop_cases (IoError _) stops = absurd cc
+
+pub some_spent : (o : Option ℕ) (n : ℕ) (P : ℕ → Type 0) → o ≡ Some n → IfSome o P → P n
+some_spent o n P is h = subst (λ v. IfSome v P) is h
+
+-- what is known of a state that a call began with, over an honest reader
+record Starts (t : Telling) (a : State) : Type 0 where
+  held : a.held ≡ claim t
+  budget : a.frame.budget ≡ length t.bytes + 64
+  counts : a.frame.counts ≡ true
+  records : a.frame.records ≡ false
+  front : a.front ≡ 0
+  taken : a.taken ≡ 0
+
+fault_only : {X : Type 0} (t : Telling) (a b : State) (e : ImageError) (reads : Reads X) → Starts t a → Runs {X = X} a b (Err e) reads
+    → total reads.marks < length t.bytes + 64 → is_stop e ≡ true → (is_fault e ≡ true) × (t.can_fail ≡ true)
+fault_only {X} t a b e reads starts h small stops =
+    let honest : a.held.honest ≡ true = ap (λ k. k.honest) starts.held in
+    elim (stop_cases e stops) [
+      | inl faults ↦ (faults, sym (ap (λ k. k.can_fail) starts.held) ∙ h.fault honest faults)
+      | inr other ↦ elim other [
+        | inl spent_all ↦
+            let named = some_spent (spent e) spent_all.0 (λ n. (b.frame.counts ≡ true) × (n ≡ b.frame.budget) × (n ≡ b.taken))
+            spent_all.1 h.ended.budget in
+            absurd (omega (arith, named.1, named.2, ap (λ f. f.budget) h.frame, starts.budget, starts.taken, h.within honest, small))
+        | inr refused ↦
+            let on : b.frame.records ≡ true = (h.ended.memory refused).0 in
+            let off : b.frame.records ≡ false = ap (λ f. f.records) h.frame ∙ starts.records in
+            absurd cc
+      ]
+    ]
+
+answers_of : {X : Type 0} (t : Telling) (a b : State) (r : Result X ImageError) (reads : Reads X) → Starts t a → Runs a b r reads
+    → total reads.marks < length t.bytes + 64 → AnswersAs t reads r
+answers_of {X} t a b (Ok x) reads starts h small = record {
+  answer = λ goes_on. h.answer (ap (λ k. k.honest) starts.held) goes_on;
+  fault = λ stops. absurd cc;
+}
+answers_of {X} t a b (Err e) reads starts h small = record {
+  answer = λ goes_on. h.answer (ap (λ k. k.honest) starts.held) goes_on;
+  fault = λ stops. fault_only t a b e reads starts h small stops;
+}
+
+takes_of : {X : Type 0} (t : Telling) (a b : State) (r : Result X ImageError) (reads : Reads X) → Starts t a → Runs a b r reads
+    → TakesAs t reads r b.taken
+takes_of {X} t a b r reads starts h =
+    let honest : a.held.honest ≡ true = ap (λ k. k.honest) starts.held in
+    record {
+      most = omega (arith, h.within honest, starts.taken);
+      least = λ goes_on.
+          let after : b.taken ≡ (past a reads.marks).taken = ap (λ s. s.taken) (h.state honest goes_on) in
+          omega (arith, after, places_past (length t.bytes) a reads.marks starts.counts starts.front, starts.taken);
+    }
+
+starts_at : (t : Telling) (count : Option ℕ) (home : ℕ) → IsHonest t
+    → Starts t (start_state (Some (at_place t (length t.bytes))) count home (length t.bytes))
+starts_at t count home honest = record {
+  held = start_holds t count home honest;
+  budget = least_of (length t.bytes) honest.short;
+  counts = refl;
+  records = refl;
+  front = refl;
+  taken = refl;
+}
+
+-- a call reads fewer bytes than an honest budget has
+abbrev pub IsBounded : {X : Type 0} → (List ℕ → ℕ → Reads X) → Type 0
+IsBounded reads_of = (d : List ℕ) (place : ℕ) → total (reads_of d place).marks < length d + 64
+
+-- what readings say of the input that a source claims
+abbrev pub over_state : {X : Type 0} → State → (List ℕ → ℕ → Reads X) → ℕ → Reads X
+over_state a reads_of place = reads_of a.held.input place
+
+-- the states before and after a call that ran behind an opening
+pub record Began (t : Telling) (mid : Option Telling) (told place : ℕ) : Type 0 where
+  pub at_end : mid ≡ Some (at_place t (length t.bytes))
+  pub length_told : told ≡ length t.bytes
+  pub at : place ≡ t.place
+
+pub start_of : (t : Telling) (mid : Option Telling) (count : Option ℕ) (home told place : ℕ) → Began t mid told place
+    → start_state mid count home told ≡ start_state (Some (at_place t (length t.bytes))) count home (length t.bytes)
+start_of t mid count home told place h = ap (λ m. start_state m count home told) h.at_end
+    ∙ ap (λ n. start_state (Some (at_place t (length t.bytes))) count home n) h.length_told
+
+runs_of : {X : Type 0} (t : Telling) (mid : Option Telling) (count : Option ℕ) (home told place : ℕ) (b : State)
+    (r : Result X ImageError) (reads_of : List ℕ → ℕ → Reads X) → IsHonest t → Began t mid told place
+    → Runs (start_state mid count home told) b r (over_state (start_state mid count home told) reads_of place)
+    → Runs (start_state (Some (at_place t (length t.bytes))) count home (length t.bytes)) b r (over_reader t reads_of)
+runs_of t mid count home told place b r reads_of honest began h =
+    let a = start_state (Some (at_place t (length t.bytes))) count home (length t.bytes) in
+    let begun : Runs a b r (over_state a reads_of place) = subst (λ s. Runs s b r (over_state s reads_of place))
+    (start_of t mid count home told place began) h in
+    let there : Runs a b r (reads_of t.bytes place) = subst (λ k. Runs a b r (reads_of k.input place)) (start_holds t count home honest)
+    begun in
+    subst (λ p. Runs a b r (reads_of t.bytes p)) began.at there
+
+-- what a call that ran behind an opening answers
+pub opened_answers : {X : Type 0} (telling mid : Option Telling) (count : Option ℕ) (home : ℕ) (opened : Opened) (b : State)
+    (r : Result X ImageError) (reads_of : List ℕ → ℕ → Reads X) → IsBounded reads_of → Opens telling mid (Ok opened)
+    → Runs (start_state mid count home opened.told) b r (over_state (start_state mid count home opened.told) reads_of opened.place)
+    → Answers telling reads_of r
+opened_answers None mid count home opened b r reads_of bounded opens h = tt
+opened_answers (Some t) mid count home opened b r reads_of bounded opens h = λ honest.
+    let began : Began t mid opened.told opened.place = record { at_end = opens.0; length_told = opens.2; at = opens.1 } in
+    answers_of t _ b r (over_reader t reads_of) (starts_at t count home honest) (runs_of t mid count home opened.told opened.place b r
+    reads_of honest began h) (bounded t.bytes t.place)
+
+-- and what it took
+pub opened_takes : {X : Type 0} (telling mid : Option Telling) (count : Option ℕ) (home : ℕ) (opened : Opened) (b : State)
+    (r : Result X ImageError) (reads_of : List ℕ → ℕ → Reads X) → Opens telling mid (Ok opened)
+    → Runs (start_state mid count home opened.told) b r (over_state (start_state mid count home opened.told) reads_of opened.place)
+    → Takes telling reads_of r b.taken
+opened_takes None mid count home opened b r reads_of opens h = tt
+opened_takes (Some t) mid count home opened b r reads_of opens h = λ honest.
+    let began : Began t mid opened.told opened.place = record { at_end = opens.0; length_told = opens.2; at = opens.1 } in
+    takes_of t _ b r (over_reader t reads_of) (starts_at t count home honest) (runs_of t mid count home opened.told opened.place b r
+    reads_of honest began h)

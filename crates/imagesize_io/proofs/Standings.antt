@@ -1,0 +1,89 @@
+-- How a reader stands after its calls.
+use Rattle.std.proofs.Common.{◌≡◌, ℕ, ◌+◌, ◌-◌, ◌^◌, ◌<◌, ◌≤◌, min, Bool, true, false, cond, List, length, Option, Some, None, Ok, Err, IfSome, refl, sym, ap, ◌∙◌, subst, arith}
+use Rattle.std.proofs.lemmas.Bool.Decides.{nat_tests}
+use Rattle.imagesize_source.specs.declared.error.ImageError.{ImageError}
+use Rattle.imagesize_io.specs.declared.progress.Progress.{Progress}
+use Rattle.imagesize_source.specs.Input.{part}
+use Rattle.imagesize_io.specs.Telling.{Telling}
+use Rattle.imagesize_io.specs.Standing.{Standing, steady, in_step, stand_of, stand, GivesAll, GoesTo, GivesFrom, Keeps, Tries}
+
+kept_if : (b : Bool) (s t : Standing) → cond b (Some s) None ≡ Some t → (b ≡ true) × (s ≡ t)
+kept_if true s t e = (refl, cc)
+kept_if false s t e = absurd cc
+
+in_step_of : (told place : ℕ) (st : Option Standing) (s : Standing) → stand_of told place st ≡ Some s → in_step told place s ≡ true
+in_step_of told place None s e = absurd cc
+in_step_of told place (Some t) s e = let k = kept_if (in_step told place t) t s e in ap (in_step told place) (sym k.1) ∙ k.0
+
+-- the numbers agree with a reader that stands somewhere
+pub in_step_at : (telling : Option Telling) (p : Progress) (s : Standing) → stand telling p ≡ Some s → in_step p.told p.place s ≡ true
+in_step_at telling p s e = in_step_of p.told p.place (steady telling p.retries) s e
+
+pub place_at : (telling : Option Telling) (p : Progress) (s : Standing) → stand telling p ≡ Some s → p.place ≡ s.place
+place_at telling p s e = let k = in_step_at telling p s e in grind (arith, nat_tests)
+
+pub told_at : (telling : Option Telling) (p : Progress) (s : Standing) → stand telling p ≡ Some s → (p.told ≡ length s.bytes)
+    × (length s.bytes < 2 ^ 63)
+told_at telling p s e = let k = in_step_at telling p s e in (grind (arith, nat_tests), grind (arith, nat_tests))
+
+-- a place that was not reached has no bytes
+pub not_reached : (first new : Option Standing) (place now : ℕ) (b : Bool) (room : List ℕ) → GoesTo first new place now (Ok b)
+    → b ≡ false → GivesFrom first new place now room (Ok 0)
+unfolding part
+not_reached None new place now b room h off = tt
+not_reached (Some s) new place now true room h off = absurd cc
+not_reached (Some s) new place now false room h off = (h.0 ∙ ap (λ k. Some (record s { place = k })) (sym h.2), refl, omega (arith, h.1))
+
+goes_there : (s : Standing) (mid : Option Standing) (place at : ℕ) (b : Bool) → GoesTo (Some s) mid place at (Ok b) → b ≡ true
+    → mid ≡ Some (record s { place = place })
+goes_there s mid place at true h on = h.0
+goes_there s mid place at false h on = absurd cc
+
+-- the bytes from a place that was reached
+pub from_there : (first mid : Option Standing) (telling : Option Telling) (p : Progress) (place at n : ℕ) (b : Bool) (room : List ℕ)
+    → GoesTo first mid place at (Ok b) → b ≡ true → GivesAll mid (stand telling p) room (Ok n) → GivesFrom first (stand telling p) place
+    p.place room (Ok n)
+from_there None mid telling p place at n b room goes on gives = tt
+from_there (Some s) mid telling p place at n b room goes on gives =
+    let all : GivesAll (Some (record s { place = place })) (stand telling p) room (Ok n) =
+    subst (λ w. GivesAll w (stand telling p) room (Ok n)) (goes_there s mid place at b goes on) gives in
+    (all.0 ∙ ap (λ k. Some (record s { place = k })) (sym (place_at telling p _ all.0)), all.1, all.2)
+
+-- a failure behind a place that was reached
+pub fails_there : (first mid new last : Option Standing) (place at now : ℕ) (b : Bool) (room : List ℕ) (e : ImageError)
+    → GoesTo first mid place at (Ok b) → b ≡ true → GivesAll mid new room (Err e) → GivesFrom first last place now room (Err e)
+fails_there None mid new last place at now b room e goes on gives = tt
+fails_there (Some s) mid new last place at now b room e goes on gives =
+    subst (λ w. GivesAll w new room (Err e)) (goes_there s mid place at b goes on) gives
+
+pub within_reached : (first mid : Option Standing) (place at old between new k : ℕ) (b : Bool) → GoesTo first mid place at (Ok b)
+    → b ≡ true → between ≡ old → IfSome mid (λ s. new ≤ between + min k (length s.bytes - s.place))
+    → IfSome first (λ s. new ≤ old + min k (length s.bytes - place))
+within_reached None mid place at old between new k b goes on same within = tt
+within_reached (Some s) mid place at old between new k b goes on same within =
+    subst (λ o. new ≤ o + min k (length s.bytes - place)) same
+    (subst (λ w. IfSome w (λ t. new ≤ between + min k (length t.bytes - t.place))) (goes_there s mid place at b goes on) within)
+
+-- nothing was taken
+pub within_none : (first : Option Standing) (old new place k : ℕ) → new ≡ old
+    → IfSome first (λ s. new ≤ old + min k (length s.bytes - place))
+within_none None old new place k same = tt
+within_none (Some s) old new place k same = omega arith
+
+-- what one call keeps after another
+pub keeps_both : {old mid new : Progress} → Keeps old mid → Keeps mid new → Keeps old new
+keeps_both h k = record {
+  told = k.told ∙ h.told;
+  budget = k.budget ∙ h.budget;
+  taken = omega (arith, h.taken, k.taken);
+  retries = omega (arith, h.retries, k.retries);
+  limit = λ few. k.limit (h.limit few);
+}
+
+-- the tries of a read so far
+pub record Retried (first now : Option Telling) (count count' : Option ℕ) (old new : ℕ) : Type 0 where
+  pub steady : steady now new ≡ steady first old
+  pub counts : count' ≡ count
+  pub tried : old ≤ new
+  pub limit : old ≤ 64 → new ≤ 64
+  pub tries : Tries first old now new

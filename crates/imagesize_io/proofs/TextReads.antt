@@ -1,0 +1,464 @@
+-- A text that is read byte by byte: its readings are one, and it takes none behind it.
+use Rattle.std.proofs.Common.{◌≡◌, ℕ, zero, suc, ◌+◌, ◌-◌, ◌^◌, ◌<◌, ◌≤◌, min, max, Bool, true, false, ◌||◌, not, cond, List, [], ◌∷◌, ◌++◌, length, take, drop, slice_index, Option, None, Ok, Err, inl, inr, refl, sym, ap, ◌∙◌, subst, arith, append_assoc}
+use Rattle.std.proofs.Math.Nat.{add-zero}
+use Rattle.std.proofs.lemmas.Bool.{cases_lt}
+use Rattle.std.proofs.lemmas.Bool.Decides.{nat_tests}
+use Rattle.std.proofs.lemmas.List.{append-nil, length-append, length-drop, length-take, take_all}
+use Rattle.std.proofs.lemmas.Slice.{take-put_mid, take-put_mid_below}
+use borrow.Rule.Slice.PartMut.{put_mid}
+use Rattle.std.specs.Char.{is_ascii_whitespace}
+use Rattle.imagesize_source.specs.declared.error.ImageError.{ImageError}
+use Rattle.imagesize_source.specs.declared.span.Span.{Span}
+use Rattle.imagesize_source.specs.declared.text.Text.{Text}
+use Rattle.imagesize_source.specs.declared.text.Text.TheVariants.{Line, Word}
+use Rattle.imagesize_source.specs.Input.{part, span_at, span_of}
+use Rattle.imagesize_source.specs.Paying.{Paid}
+use Rattle.imagesize_source.specs.Reading.{part_read, text_part, text_read}
+use Rattle.imagesize_source.specs.State.{State, Runs, Sound, total, past, step, fresh, front_after}
+use Rattle.imagesize_io.specs.declared.progress.Progress.{Progress}
+use Rattle.imagesize_io.specs.ReaderState.{reader_frame, reader_state}
+use Rattle.imagesize_io.specs.Standing.{stand}
+use Rattle.imagesize_io.specs.Telling.{Telling}
+use Rattle.imagesize_source.specs.Text.{delimits, through, text_front, ends}
+use Rattle.imagesize_source.proofs.Counts.{total-span_at, total-span_of, total_there}
+use Rattle.imagesize_source.proofs.Layouts.{no_part, no_span}
+use Rattle.imagesize_source.proofs.Agreement.{whole_span}
+use Rattle.imagesize_source.proofs.Runs.{part_is, part_length, past-held}
+use Rattle.imagesize_io.proofs.Windows.{sound_at, told_by}
+use Rattle.imagesize_source.proofs.Texts.{line_front, no_front, through-cons, word_front}
+
+-- what is left of a text behind some of its bytes, of which one was no white space or none was
+abbrev pub text_rest : Text → Bool → List ℕ → List ℕ
+text_rest (Line delimiter) begun bs = through (delimits (Line delimiter)) bs
+text_rest Word true bs = through is_ascii_whitespace bs
+text_rest Word false bs = text_front Word bs
+
+rest_start : (t : Text) (bs : List ℕ) → text_front t bs ≡ text_rest t false bs
+rest_start (Line delimiter) bs = line_front delimiter bs
+rest_start Word bs = refl
+
+rest_none : (t : Text) (begun : Bool) → text_rest t begun [] ≡ []
+rest_none (Line delimiter) begun = refl
+rest_none Word true = refl
+rest_none Word false = no_front
+
+rest_ends : (t : Text) (begun : Bool) (b : ℕ) (bs : List ℕ) → ends t begun b ≡ true → text_rest t begun (b ∷ bs) ≡ b ∷ []
+rest_ends (Line delimiter) begun b bs is = through-cons (delimits (Line delimiter)) b bs ∙ ap (λ test. cond test (b ∷ [])
+    (b ∷ through (delimits (Line delimiter)) bs)) is
+rest_ends Word true b bs is = through-cons is_ascii_whitespace b bs ∙ ap (λ test. cond test (b ∷ [])
+    (b ∷ through is_ascii_whitespace bs)) is
+rest_ends Word false b bs is = absurd cc
+
+rest_goes_on : (t : Text) (begun : Bool) (b : ℕ) (bs : List ℕ) → ends t begun b ≡ false → text_rest t begun (b ∷ bs) ≡ b ∷ text_rest t
+    (begun || not (is_ascii_whitespace b)) bs
+rest_goes_on (Line delimiter) begun b bs is = through-cons (delimits (Line delimiter)) b bs ∙ ap (λ test. cond test (b ∷ [])
+    (b ∷ through (delimits (Line delimiter)) bs)) is
+rest_goes_on Word true b bs is = through-cons is_ascii_whitespace b bs ∙ ap (λ test. cond test (b ∷ [])
+    (b ∷ through is_ascii_whitespace bs)) is
+rest_goes_on Word false b bs is =
+    let Goal : Bool → Type 0 = λ white. cond white (b ∷ text_front Word bs) (b ∷ through is_ascii_whitespace bs) ≡ b ∷ text_rest Word
+    (not white) bs in
+    let cases : Goal (is_ascii_whitespace b) = elim (is_ascii_whitespace b) as Goal [ true ↦ refl | false ↦ refl ] in
+    word_front b bs ∙ cases
+
+-- where a byte is left, the text has it
+rest_some : (t : Text) (begun : Bool) (b : ℕ) (bs : List ℕ) → 0 < length (text_rest t begun (b ∷ bs))
+rest_some t begun b bs = by_end (ends t begun b) refl where
+  by_end : (is : Bool) → ends t begun b ≡ is → 0 < length (text_rest t begun (b ∷ bs))
+  by_end true is = omega (arith, ap length (rest_ends t begun b bs is))
+  by_end false is = omega (arith, ap length (rest_goes_on t begun b bs is))
+
+-- the readings of a span and of the byte behind it, by a source that counts and records nothing, are one
+abbrev pub CountsOnly : State → Type 0
+CountsOnly a = (a.frame.counts ≡ true) × (a.recorded ≡ None)
+
+front_joins : (front place n : ℕ) → front_after (front_after front place n) (place + n) 1 ≡ front_after front place (n + 1)
+front_joins front place n = grind (arith, nat_tests)
+
+fresh_joins : (front place n : ℕ) → fresh front place n + fresh (front_after front place n) (place + n) 1 ≡ fresh front place (n + 1)
+fresh_joins front place n = grind (arith, nat_tests)
+
+-- a state by what was taken
+abbrev having : State → ℕ → ℕ → State
+having a front taken = record a { front = front; taken = taken; recorded = None }
+
+step_counts : (a : State) (s : Span) → CountsOnly a → step a s ≡ having a (front_after a.front s.start s.len)
+    (a.taken + fresh a.front s.start s.len)
+step_counts a s only = let counts = only.0 in let none = only.1 in rw (counts, none) refl
+
+step_joins : (a : State) (place n : ℕ) → CountsOnly a → step (step a (record { start = place; len = n }))
+    (record { start = place + n; len = 1 }) ≡ step a (record { start = place; len = n + 1 })
+step_joins a place n only =
+    let first = step_counts a (record { start = place; len = n }) only in
+    let front : ℕ = front_after a.front place n in
+    let taken : ℕ = a.taken + fresh a.front place n in
+    let more : taken + fresh front (place + n) 1 ≡ a.taken + fresh a.front place (n + 1) = omega (arith, fresh_joins a.front place n) in
+    ap (λ s. step s (record { start = place + n; len = 1 })) first
+    ∙ step_counts (having a front taken) (record { start = place + n; len = 1 }) (only.0, refl)
+    ∙ ap (λ w. having a w (taken + fresh front (place + n) 1)) (front_joins a.front place n)
+    ∙ ap (λ m. having a (front_after a.front place (n + 1)) m) more
+    ∙ sym (step_counts a (record { start = place; len = n + 1 }) only)
+
+span_some : (place n : ℕ) → 0 < n → span_at place n ≡ record { start = place; len = n } ∷ []
+unfolding span_at
+span_some place n some = grind (arith, nat_tests)
+
+span_joins : (a : State) (place n : ℕ) → CountsOnly a → past (past a (span_at place n)) (span_at (place + n) 1) ≡ past a
+    (span_at place (n + 1))
+unfolding past span_at
+span_joins a place zero only = rw add-zero refl
+span_joins a place (suc n) only =
+    ap (λ s. past (past a s) (span_at (place + suc n) 1)) (span_some place (suc n) (omega arith))
+    ∙ step_joins a place (suc n) only
+    ∙ sym (ap (past a) (span_some place (suc n + 1) (omega arith)))
+
+-- what stands from a place on, where one byte there is known
+drop_byte : (d : List ℕ) (place b : ℕ) → take 1 (drop place d) ≡ b ∷ [] → drop place d ≡ b ∷ drop (suc place) d
+drop_byte [] zero b is = absurd cc
+drop_byte (x ∷ d) zero b is = let same : x ≡ b = cc in ap (λ y. y ∷ d) same
+drop_byte [] (suc place) b is = absurd cc
+drop_byte (x ∷ d) (suc place) b is = drop_byte d place b is
+
+part_byte : (d : List ℕ) (place b k : ℕ) → part d place 1 ≡ b ∷ [] → 0 < k → part d place k ≡ b ∷ part d (place + 1) (k - 1)
+unfolding part
+part_byte d place b zero is some = absurd (omega arith)
+part_byte d place b (suc k) is some =
+    let next : suc place ≡ place + 1 = omega arith in
+    let fewer : k ≡ suc k - 1 = omega arith in
+    ap (take (suc k)) (drop_byte d place b is) ∙ ap (λ p. b ∷ take k (drop p d)) next ∙ ap (λ n. b ∷ take n (drop (place + 1) d)) fewer
+
+part_none : (d : List ℕ) (place : ℕ) → part d place 0 ≡ []
+unfolding part
+part_none d place = refl
+
+-- Of a text so many bytes were read, and what is left of it is known where the source is honest.
+pub record Taking (a b : State) (t : Text) (place count : ℕ) (begun : Bool) (k : ℕ) (got : List ℕ) : Type 0 where
+  pub fits : count ≤ k
+  pub long : length got ≡ count
+  pub frame : b.frame ≡ a.frame
+  pub taken : a.taken ≤ b.taken
+  pub pays : 0 < count → max a.frame.told 32 < place → a.taken < b.taken
+  pub sound : Sound b
+  pub within : a.held.honest ≡ true → b.taken ≤ a.taken + count
+  pub state : a.held.honest ≡ true → b ≡ past a (span_at place count)
+  pub left : a.held.honest ≡ true → text_part a.held.input t place k ≡ got ++ text_rest t begun
+      (part a.held.input (place + count) (k - count))
+
+-- before the first
+pub taking_none : (a : State) (t : Text) (place k : ℕ) → Sound a → Taking a a t place 0 false k []
+unfolding past span_at text_part
+taking_none a t place k sound = record {
+  fits = omega arith;
+  long = refl;
+  frame = refl;
+  taken = omega arith;
+  pays = λ some far. absurd (omega (arith, some));
+  sound = sound;
+  within = λ honest. omega arith;
+  state = λ honest. refl;
+  left = λ honest.
+      let here : place ≡ place + 0 = omega arith in
+      let all : k ≡ k - 0 = omega arith in
+      rest_start t (part a.held.input place k)
+      ∙ ap (λ p. text_rest t false (part a.held.input p k)) here
+      ∙ ap (λ j. text_rest t false (part a.held.input (place + 0) j)) all;
+}
+
+module _ {a b : State} {t : Text} {place count k : ℕ} {begun : Bool} {got : List ℕ} (h : Taking a b t place count begun k got) where
+  same_held : a.held.honest ≡ true → b.held ≡ a.held
+  same_held honest = ap (λ s. s.held) (h.state honest) ∙ past-held a (span_at place count)
+
+  same_honest : a.held.honest ≡ true → b.held.honest ≡ true
+  same_honest honest = ap (λ x. x.honest) (same_held honest) ∙ honest
+
+  same_input : a.held.honest ≡ true → b.held.input ≡ a.held.input
+  same_input honest = ap (λ x. x.input) (same_held honest)
+
+  -- the text has the bytes that were read, and what is left
+  text_long : a.held.honest ≡ true → length (text_part a.held.input t place k) ≡ count + length
+      (text_rest t begun (part a.held.input (place + count) (k - count)))
+  text_long honest = omega (
+    arith,
+    ap length (h.left honest),
+    length-append got
+        (text_rest t begun (part a.held.input (place + count) (k - count))),
+    h.long,
+  )
+
+  -- what is left of it is nothing
+  all_read : a.held.honest ≡ true → part a.held.input (place + count) (k - count) ≡ [] → text_part a.held.input t place k ≡ got
+  all_read honest none = h.left honest ∙ ap (λ bs. got ++ text_rest t begun bs) none ∙ ap (λ bs. got ++ bs) (rest_none t begun)
+      ∙ append-nil got
+
+  module _ {c : State} (next : ℕ) (next_is : next ≡ min (place + count) (2 ^ 64 - 1)) where
+    -- where no byte is read, none is there
+    end_there : Runs b c (Ok []) (part_read b.held.input next 1) → a.held.honest ≡ true → length a.held.input ≤ next
+    end_there run honest =
+        let none : part a.held.input next 1 ≡ [] = ap (λ d. part d next 1) (sym (same_input honest)) ∙ part_is
+        (run.answer (same_honest honest) refl) in
+        omega (arith, part_length a.held.input next 1, ap length none)
+
+    -- a text ends where the input does
+    pub taking_ends : Runs b c (Ok []) (part_read b.held.input next 1) → Sound a → Runs a c (Ok got) (text_read a.held.input t place k)
+    unfolding past
+    taking_ends run sound = record {
+      sound = sound;
+      sound_after = run.sound_after;
+      frame = run.frame ∙ h.frame;
+      taken = omega (arith, h.taken, run.taken);
+      within = λ honest. omega (
+        arith,
+        h.within honest,
+        run.within (same_honest honest),
+        ap total (no_mark honest),
+        total-span_at place
+            (length (text_part a.held.input t place k)),
+        ap length (ends_now honest),
+        h.long,
+      );
+      answer = λ honest goes_on. ap Ok (ends_now honest);
+      state = λ honest goes_on.
+          run.state (same_honest honest) refl ∙ ap (past b) (no_mark honest) ∙ h.state honest
+          ∙ ap (λ n. past a (span_at place n)) (sym (ap length (ends_now honest) ∙ h.long));
+      fault = λ honest faults. absurd cc;
+      ended = tt;
+    } where
+      ends_now : a.held.honest ≡ true → text_part a.held.input t place k ≡ got
+      ends_now honest = all_read honest (no_part a.held.input (place + count) (k - count) (omega (arith, end_there run honest, next_is)))
+
+      no_mark : a.held.honest ≡ true → span_of b.held.input next 1 ≡ []
+      no_mark honest = ap (λ d. span_of d next 1) (same_input honest) ∙ no_span a.held.input next 1 (end_there run honest)
+
+    -- a failure on the way
+    pub taking_stopped : {e : ImageError} → count < k → Runs b c (Err e) (part_read b.held.input next 1) → Sound a
+        → Runs a c (Err e) (text_read a.held.input t place k)
+    taking_stopped {e} more run sound = record {
+      sound = sound;
+      sound_after = run.sound_after;
+      frame = run.frame ∙ h.frame;
+      taken = omega (arith, h.taken, run.taken);
+      within = λ honest. omega (
+        arith,
+        h.within honest,
+        run.within (same_honest honest),
+        few honest,
+        total-span_at place
+            (length (text_part a.held.input t place k)),
+      );
+      answer = λ honest goes_on. absurd (let no = run.answer (same_honest honest) goes_on in cc);
+      state = λ honest goes_on. absurd (let no = run.answer (same_honest honest) goes_on in cc);
+      fault = λ honest faults. ap (λ x. x.can_fail) (sym (same_held honest)) ∙ run.fault (same_honest honest) faults;
+      ended = run.ended;
+    } where
+      one_more : (bs : List ℕ) → 0 < length bs → 0 < length (text_rest t begun bs)
+      one_more [] some = absurd (omega (arith, some))
+      one_more (x ∷ bs) some = rest_some t begun x bs
+
+      few : a.held.honest ≡ true → count + total (span_of b.held.input next 1) ≤ length (text_part a.held.input t place k)
+      few honest = elim (cases_lt next (length a.held.input)) [
+        | inl there ↦ (
+            let short : length a.held.input < 2 ^ 63 = subst (λ d. length d < 2 ^ 63) (same_input honest)
+            (h.sound (same_honest honest)).1 in
+            let some = one_more (part a.held.input (place + count) (k - count))
+            (omega (arith, part_length a.held.input (place + count) (k - count), there, next_is, short, more)) in
+            omega (arith, some, text_long honest, total-span_of b.held.input next 1))
+        | inr beyond ↦ omega (arith, text_long honest, total_there b.held.input next 1, ap length (same_input honest), beyond)
+      ]
+
+    module _ (byte : ℕ) (more : count < k) (run : Runs b c (Ok (byte ∷ [])) (part_read b.held.input next 1)) where
+      byte_read : a.held.honest ≡ true → part a.held.input next 1 ≡ byte ∷ []
+      byte_read honest = ap (λ d. part d next 1) (sym (same_input honest)) ∙ part_is (run.answer (same_honest honest) refl)
+
+      -- a byte that is there stands at its own place
+      next_place : a.held.honest ≡ true → next ≡ place + count
+      next_place honest =
+          let short : length a.held.input < 2 ^ 63 = subst (λ d. length d < 2 ^ 63) (same_input honest) (h.sound (same_honest honest)).1 in
+          omega (arith, part_length a.held.input next 1, ap length (byte_read honest), next_is, short)
+
+      rest_read : a.held.honest ≡ true → part a.held.input (place + count) (k - count) ≡ byte ∷ part a.held.input (place + (count + 1))
+          (k - (count + 1))
+      rest_read honest =
+          let one : part a.held.input (place + count) 1 ≡ byte ∷ [] = ap (λ p. part a.held.input p 1) (sym (next_place honest))
+          ∙ byte_read honest in
+          let there : place + count + 1 ≡ place + (count + 1) = omega arith in
+          let fewer : k - count - 1 ≡ k - (count + 1) = omega arith in
+          part_byte a.held.input (place + count) byte (k - count) one (omega (arith, more))
+          ∙ ap (λ p. byte ∷ part a.held.input p (k - count - 1)) there
+          ∙ ap (λ j. byte ∷ part a.held.input (place + (count + 1)) j) fewer
+
+      joined : CountsOnly a → a.held.honest ≡ true → c ≡ past a (span_at place (count + 1))
+      joined only honest =
+          let there : 1 ≤ length b.held.input - next = omega (
+            arith,
+            part_length b.held.input next 1,
+            ap length (part_is (run.answer (same_honest honest) refl)),
+          ) in
+          run.state (same_honest honest) refl
+          ∙ ap (past b) (whole_span b.held.input next 1 there)
+          ∙ ap (λ p. past b (span_at p 1)) (next_place honest)
+          ∙ ap (λ s. past s (span_at (place + count) 1)) (h.state honest)
+          ∙ span_joins a place count only
+
+      -- a byte that does not end it
+      pub taking_more : CountsOnly a → place ≤ next → Paid b c next → ends t begun byte ≡ false → Taking a c t place (count + 1)
+          (begun || not (is_ascii_whitespace byte)) k (got ++ byte ∷ [])
+      taking_more only behind paid goes_on = record {
+        fits = omega (arith, more);
+        long = omega (arith, length-append got (byte ∷ []), h.long);
+        frame = run.frame ∙ h.frame;
+        taken = omega (arith, h.taken, run.taken);
+        pays = λ some far.
+            let same : b.frame.told ≡ a.frame.told = ap (λ f. f.told) h.frame in
+            let rises = (paid (omega (arith, far, behind, same))).0 in
+            omega (arith, h.taken, rises);
+        sound = run.sound_after;
+        within = λ honest. omega (arith, h.within honest, run.within (same_honest honest), total-span_of b.held.input next 1);
+        state = joined only;
+        left = λ honest.
+            let rest : List ℕ = part a.held.input (place + (count + 1)) (k - (count + 1)) in
+            h.left honest
+            ∙ ap (λ bs. got ++ text_rest t begun bs) (rest_read honest)
+            ∙ ap (λ bs. got ++ bs) (rest_goes_on t begun byte rest goes_on)
+            ∙ sym (append_assoc got (byte ∷ []) (text_rest t (begun || not (is_ascii_whitespace byte)) rest));
+      }
+
+      -- the one that does
+      pub taking_done : CountsOnly a → ends t begun byte ≡ true → Sound a → Runs a c (Ok (got ++ byte ∷ []))
+          (text_read a.held.input t place k)
+      taking_done only is_end sound = record {
+        sound = sound;
+        sound_after = run.sound_after;
+        frame = run.frame ∙ h.frame;
+        taken = omega (arith, h.taken, run.taken);
+        within = λ honest. omega (
+          arith,
+          h.within honest,
+          run.within (same_honest honest),
+          total-span_of b.held.input next 1,
+          total-span_at place (length (text_part a.held.input t place k)),
+          long_now honest,
+        );
+        answer = λ honest goes_on. ap Ok (done_now honest);
+        state = λ honest goes_on. joined only honest ∙ ap (λ n. past a (span_at place n)) (sym (long_now honest));
+        fault = λ honest faults. absurd cc;
+        ended = tt;
+      } where
+        done_now : a.held.honest ≡ true → text_part a.held.input t place k ≡ got ++ byte ∷ []
+        done_now honest =
+            h.left honest
+            ∙ ap (λ bs. got ++ text_rest t begun bs) (rest_read honest)
+            ∙ ap (λ bs. got ++ bs) (rest_ends t begun byte (part a.held.input (place + (count + 1)) (k - (count + 1))) is_end)
+
+        long_now : a.held.honest ≡ true → length (text_part a.held.input t place k) ≡ count + 1
+        long_now honest = omega (arith, ap length (done_now honest), length-append got (byte ∷ []), h.long)
+
+  -- there is no more room
+  pub taking_full : k ≤ count → Sound a → Runs a b (Ok got) (text_read a.held.input t place k)
+  taking_full full sound = record {
+    sound = sound;
+    sound_after = h.sound;
+    frame = h.frame;
+    taken = h.taken;
+    within = λ honest. omega (
+      arith,
+      h.within honest,
+      total-span_at place (length (text_part a.held.input t place k)),
+      ap length (full_now honest),
+      h.long,
+    );
+    answer = λ honest goes_on. ap Ok (full_now honest);
+    state = λ honest goes_on. h.state honest ∙ ap (λ n. past a (span_at place n)) (sym (ap length (full_now honest) ∙ h.long));
+    fault = λ honest faults. absurd cc;
+    ended = tt;
+  } where
+    full_now : a.held.honest ≡ true → text_part a.held.input t place k ≡ got
+    full_now honest =
+        let none : k - count ≡ 0 = omega (arith, full) in
+        all_read honest (ap (part a.held.input (place + count)) none ∙ part_none a.held.input (place + count))
+
+-- a room in which one byte more was put
+one_byte : (count : ℕ) (room more behind : List ℕ) → count ≤ length room → length more ≡ 1
+    → more ≡ slice_index (take count room ++ (more ++ behind)) count ∷ []
+one_byte zero room [] behind fits one = absurd (omega (arith, one))
+one_byte zero room (b ∷ []) behind fits one = refl
+one_byte zero room (b ∷ x ∷ more) behind fits one = absurd (omega (arith, one))
+one_byte (suc count) [] more behind fits one = absurd (omega (arith, fits))
+one_byte (suc count) (x ∷ room) more behind fits one = one_byte count room more behind (omega (arith, fits)) one
+
+room_long : (count m : ℕ) (room more : List ℕ) → count < length room → m ≡ 1 → length more ≡ 1 → length (put_mid count m room more)
+    ≡ length room
+room_long count m room more fits is_one one = simp (length-append, length-take, length-drop) (omega (arith, fits, is_one, one))
+
+-- a reading into a room of one byte
+one_read : {b c : State} (d more got : List ℕ) (next n : ℕ) → length more ≡ 1 → take n more ≡ got → Runs b c (Ok (take n more))
+    (part_read d next (length more)) → Runs b c (Ok got) (part_read d next 1)
+one_read {b} {c} d more got next n one is run = subst (λ k. Runs b c (Ok got) (part_read d next k)) one
+    (subst (λ bs. Runs b c (Ok bs) (part_read d next (length more))) is run)
+
+-- a reader tells the true length where it is honest
+pub reader_sound : (telling : Option Telling) (count : Option ℕ) (home : ℕ) (p : Progress) (window : List ℕ)
+    → Sound (reader_state telling count home p window)
+reader_sound telling count home p window = sound_at (reader_frame count home p) (stand telling p) window p.taken
+    (told_by count home telling p)
+
+-- a room of one byte
+pub one_long : (count : ℕ) (room more : List ℕ) → count < length room → length more ≡ length (take (count + 1 - count) (drop count room))
+    → length more ≡ 1
+one_long count room more fits long = omega (arith, long, length-take (count + 1 - count) (drop count room), length-drop count room, fits)
+
+module _ {a b : State} {t : Text} {place count : ℕ} {begun : Bool} (room : List ℕ) (h : Taking a b t place count begun (length room)
+    (take count room)) where
+  module _ {c : State} (next n m : ℕ) (more : List ℕ) (next_is : next ≡ min (place + count) (2 ^ 64 - 1)) (fits : count < length room)
+      (is_one : m ≡ 1) (one : length more ≡ 1) (run : Runs b c (Ok (take n more)) (part_read b.held.input next (length more))) where
+    module _ (some : 0 < n) (few : n ≤ length more) where
+      read_one : Runs b c (Ok (slice_index (put_mid count m room more) count ∷ [])) (part_read b.held.input next 1)
+      read_one = one_read b.held.input more (slice_index (put_mid count m room more) count ∷ []) next n one
+          (take_all n more (omega (arith, some, one)) ∙ one_byte count room more (drop m (drop count room)) (omega (arith, fits)) one) run
+
+      room_more : take (count + 1) (put_mid count m room more) ≡ take count room ++ slice_index (put_mid count m room more) count ∷ []
+      room_more = take-put_mid count m room more (count + 1) (omega (arith, one)) (omega (arith, fits))
+          ∙ ap (λ bs. take count room ++ bs) (one_byte count room more (drop m (drop count room)) (omega (arith, fits)) one)
+
+      -- one byte more, and the text goes on
+      pub text_goes_on : (white is_end : Bool) → CountsOnly a → place < 2 ^ 64 → Paid b c next → white ≡ is_ascii_whitespace
+          (slice_index (put_mid count m room more) count) → is_end ≡ ends t begun (slice_index (put_mid count m room more) count)
+          → is_end ≡ false → Taking a c t place (count + 1) (begun || not white) (length (put_mid count m room more))
+          (take (count + 1) (put_mid count m room more))
+      text_goes_on white is_end only short paid white_is end_is goes_on =
+          let on = taking_more h next next_is (slice_index (put_mid count m room more) count) fits read_one only
+          (omega (arith, next_is, short)) paid (sym end_is ∙ goes_on) in
+          subst (λ w. Taking a c t place (count + 1) (begun || not w) (length (put_mid count m room more))
+          (take (count + 1) (put_mid count m room more))) (sym white_is)
+          (subst (λ k. Taking a c t place (count + 1)
+          (begun || not (is_ascii_whitespace (slice_index (put_mid count m room more) count))) k
+          (take (count + 1) (put_mid count m room more))) (sym (room_long count m room more fits is_one one))
+          (subst (λ bs. Taking a c t place (count + 1)
+          (begun || not (is_ascii_whitespace (slice_index (put_mid count m room more) count))) (length room) bs) (sym room_more) on))
+
+      -- one byte more, which ends the text
+      pub text_ends : (is_end : Bool) → CountsOnly a → Sound a → is_end ≡ ends t begun (slice_index (put_mid count m room more) count)
+          → is_end ≡ true → Runs a c (Ok (take (count + 1) (put_mid count m room more)))
+          (text_read a.held.input t place (length (put_mid count m room more)))
+      text_ends is_end only sound end_is ends_here =
+          subst (λ k. Runs a c (Ok (take (count + 1) (put_mid count m room more))) (text_read a.held.input t place k))
+          (sym (room_long count m room more fits is_one one))
+          (subst (λ bs. Runs a c (Ok bs) (text_read a.held.input t place (length room))) (sym room_more)
+          (taking_done h next next_is (slice_index (put_mid count m room more) count) fits read_one only (sym end_is ∙ ends_here) sound))
+
+    -- no byte more
+    pub input_ends : Sound a → n ≡ 0 → Runs a c (Ok (take count (put_mid count m room more)))
+        (text_read a.held.input t place (length (put_mid count m room more)))
+    input_ends sound none =
+        subst (λ k. Runs a c (Ok (take count (put_mid count m room more))) (text_read a.held.input t place k))
+        (sym (room_long count m room more fits is_one one))
+        (subst (λ bs. Runs a c (Ok bs) (text_read a.held.input t place (length room)))
+        (sym (take-put_mid_below count m room more count (omega arith) (omega (arith, fits))))
+        (taking_ends h next next_is (one_read b.held.input more [] next n one (ap (λ j. take j more) none) run) sound))
+
+  -- a failure
+  pub text_stopped : {c : State} {e : ImageError} (next m : ℕ) (more : List ℕ) → next ≡ min (place + count) (2 ^ 64 - 1)
+      → count < length room → m ≡ 1 → length more ≡ 1 → Runs b c (Err e) (part_read b.held.input next (length more)) → Sound a
+      → Runs a c (Err e) (text_read a.held.input t place (length (put_mid count m room more)))
+  text_stopped {c} {e} next m more next_is fits is_one one run sound =
+      subst (λ k. Runs a c (Err e) (text_read a.held.input t place k)) (sym (room_long count m room more fits is_one one))
+      (taking_stopped h next next_is fits (subst (λ k. Runs b c (Err e) (part_read b.held.input next k)) one run) sound)

@@ -1,0 +1,495 @@
+-- What a reading sees through the window of a reader's source.
+use Rattle.std.proofs.Common.{◌≡◌, ◌≢◌, ℕ, ◌+◌, ◌-◌, ◌^◌, ◌<◌, ◌≤◌, min, zero, suc, Bool, true, false, cond, List, [], ◌∷◌, ◌++◌, length, take, drop, leb, eqb, Option, Some, None, Result, Ok, Err, IfSome, refl, sym, ap, ◌∙◌, subst, arith}
+use Rattle.std.proofs.lemmas.Bool.Decides.{nat_tests}
+use Rattle.std.proofs.lemmas.List.{length-append, length-take, length-drop, take-append-le, drop-append-le, take-append-drop, append_assoc, append-nil, take_min, drop_all, take_all}
+use Rattle.std.proofs.Math.Seq.{drop-append-add, take-nil, drop-drop, take-take}
+use Rattle.imagesize_source.specs.declared.error.ImageError.{ImageError}
+use Rattle.imagesize_source.specs.declared.span.Span.{Span}
+use Rattle.imagesize_io.specs.declared.progress.Progress.{Progress}
+use Rattle.imagesize_io.specs.Telling.{Telling}
+use Rattle.imagesize_source.proofs.Layouts.{no_part}
+use Rattle.imagesize_io.proofs.Standings.{told_at}
+use Rattle.imagesize_source.specs.Input.{part, span_at, span_of}
+use Rattle.imagesize_source.specs.Reading.{part_read, seen, is_fault, is_stop, spent}
+use Rattle.imagesize_io.specs.ReaderState.{held_at, unclaimed, overlaid, kept_window, state_at, reader_frame}
+use Rattle.imagesize_io.specs.Standing.{Standing, GivesFrom, stand, since, Keeps, StopsBy}
+use borrow.Rule.Slice.PartMut.{put_mid}
+use Rattle.imagesize_io.proofs.Filling.{part-add, take_more, length-put}
+use Rattle.imagesize_source.proofs.Slices.{front_is}
+use Rattle.imagesize_source.specs.State.{State, Frame, Held, Runs, EndedBy, Sound, past, step, total, fresh, front_after}
+
+-- the told length is that of the bytes
+abbrev pub ToldBy : Frame → Option Standing → Type 0
+ToldBy f None = Unit {0}
+ToldBy f (Some s) = (f.told ≡ length s.bytes) × (length s.bytes < 2 ^ 63)
+
+length-overlaid : (w d : List ℕ) → length w ≤ length d → length (overlaid w d) ≡ length d
+length-overlaid w d fits = simp (length-append, length-drop) (omega arith)
+
+honest_if : (b : Bool) (h : Held) → (cond b h unclaimed).honest ≡ true → b ≡ true
+honest_if true h e = refl
+honest_if false h e = absurd cc
+
+leb_is : (a b : ℕ) → leb a b ≡ true → a ≤ b
+leb_is a b e = grind (arith, nat_tests)
+
+-- what an honest source holds
+holds : (s : Standing) (w : List ℕ) → (held_at (Some s) w).honest ≡ true → (length w ≤ length s.bytes)
+    × (held_at (Some s) w ≡ record { honest = true; input = overlaid w s.bytes; can_fail = s.can_fail })
+holds s w honest =
+    let fits = honest_if (leb (length w) (length s.bytes)) _ honest in
+    (leb_is (length w) (length s.bytes) fits, rw fits refl)
+
+pub sound_at : (f : Frame) (st : Option Standing) (w : List ℕ) (taken : ℕ) → ToldBy f st → Sound (state_at f st w taken)
+sound_at f None w taken told honest = absurd cc
+sound_at f (Some s) w taken told honest =
+    let h = holds s w honest in
+    rw h.1 (told.0 ∙ sym (length-overlaid w s.bytes h.0), rw (length-overlaid w s.bytes h.0) told.1)
+
+-- the state after a reading, whether or not it has a span
+abbrev pub read_on : State → ℕ → ℕ → State
+read_on a place n = record a { front = front_after a.front place n; taken = a.taken + fresh a.front place n }
+
+no_span : (front place : ℕ) → front_after front place 0 ≡ front
+no_span front place = grind (arith, nat_tests)
+
+step_is : (a : State) (s : Span) → a.frame.counts ≡ true → a.recorded ≡ None → step a s ≡ read_on a s.start s.len
+step_is a s counts bare = rw (counts, bare) refl
+
+span-suc : (place n : ℕ) → span_at place (suc n) ≡ record { start = place; len = suc n } ∷ []
+unfolding span_at
+span-suc place n = let some : eqb (suc n) 0 ≡ false = grind (arith, nat_tests) in rw some refl
+
+pub past-span : (a : State) (place n : ℕ) → a.frame.counts ≡ true → a.recorded ≡ None → past a (span_at place n) ≡ read_on a place n
+unfolding past span_at
+past-span a place zero counts bare =
+    let taken : a.taken + fresh a.front place 0 ≡ a.taken = omega arith in
+    rw (no_span a.front place, taken) refl
+past-span a place (suc n) counts bare = ap (past a) (span-suc place n) ∙ step_is a _ counts bare
+
+-- no more of a part is there than its input has
+pub part-min : (d : List ℕ) (place k n : ℕ) → n ≡ min k (length d - place) → part d place k ≡ part d place n
+unfolding part
+part-min d place k n is = sym (take_min k (drop place d)) ∙ ap (λ i. take i (drop place d)) (ap (min k) (length-drop place d) ∙ sym is)
+
+-- a part of the window is one of the whole
+part-window : (w d : List ℕ) (place k : ℕ) → k ≤ length w - place → part (overlaid w d) place k ≡ part w place k
+unfolding part
+part-window w d place zero fits = refl
+part-window w d place (suc k) fits =
+    ap (take (suc k)) (drop-append-le place w (drop (length w) d) (omega arith))
+    ∙ take-append-le (suc k) (drop place w) (drop (length w) d) (rw (length-drop place w) (omega arith))
+
+-- and a part behind the window one of the bytes behind the reader
+part-behind : (w d : List ℕ) (place k : ℕ) → length w ≤ place → part (overlaid w d) place k ≡ part d place k
+unfolding part
+part-behind w d place k far =
+    let split : length w + (place - length w) ≡ place = omega arith in
+    ap (λ p. take k (drop p (overlaid w d))) (sym split)
+    ∙ ap (take k) (drop-append-add w (drop (length w) d) (place - length w) ∙ drop-drop (place - length w) (length w) d)
+    ∙ ap (λ p. take k (drop p d)) split
+
+-- a part that begins in the window and goes on behind it
+part-across : (w d : List ℕ) (place k copied : ℕ) → copied ≡ min k (length w - place) → copied < k → part (overlaid w d) place k
+    ≡ part w place k ++ part d (place + copied) (k - copied)
+part-across w d place k copied is short =
+    let whole : copied + (k - copied) ≡ k = omega arith in
+    ap (part (overlaid w d) place) (sym whole)
+    ∙ sym (part-add (overlaid w d) place copied (k - copied))
+    ∙ ap (λ l. l ++ part (overlaid w d) (place + copied) (k - copied))
+    (part-window w d place copied (omega arith) ∙ sym (part-min w place k copied is))
+    ∙ ap (λ l. part w place k ++ l) (part-behind w d (place + copied) (k - copied) (omega arith))
+
+-- a front of a front, and what follows it
+rejoined : (j n : ℕ) (l : List ℕ) → take j (take n l) ++ drop (length (take j (take n l))) l ≡ l
+rejoined j n l =
+    let i = min j (length (take n l)) in
+    let long : length (take j (take n l)) ≡ i = length-take j (take n l) in
+    let front : take j (take n l) ≡ take i l = sym (take_min j (take n l)) ∙ take-take i n l (omega (arith, length-take n l)) in
+    ap (λ k. take j (take n l) ++ drop k l) long ∙ ap (λ u. u ++ drop i l) front ∙ take-append-drop i l
+
+-- a window that takes in the bytes that follow it
+overlaid-kept : (w d : List ℕ) (j n : ℕ) → n ≤ length d - length w → overlaid (w ++ take j (part d (length w) n)) d ≡ overlaid w d
+unfolding part
+overlaid-kept w d j n fits =
+    let u = take j (take n (drop (length w) d)) in
+    append_assoc w u (drop (length (w ++ u)) d)
+    ∙ ap (λ k. w ++ (u ++ drop k d)) (length-append w u)
+    ∙ ap (λ l. w ++ (u ++ l)) (sym (drop-drop (length u) (length w) d))
+    ∙ ap (λ l. w ++ l) (rejoined j n (drop (length w) d))
+
+length-kept : (w d : List ℕ) (j n : ℕ) → n ≤ length d - length w → length (w ++ take j (part d (length w) n)) ≡ length w + min j n
+unfolding part
+length-kept w d j n fits = simp (length-append, length-take, length-drop) (omega arith)
+
+input_is : (s : Standing) (w : List ℕ) → (held_at (Some s) w).honest ≡ true → (held_at (Some s) w).input ≡ overlaid w s.bytes
+input_is s w honest = ap (λ h. h.input) (holds s w honest).1
+
+-- a reading that lies in the window changes nothing
+kept_front : (front place k : ℕ) → k ≤ front - place → front_after front place k ≡ front
+kept_front front place k fits = grind (arith, nat_tests)
+
+in_window_answer : (st : Option Standing) (w room old : List ℕ) (place n : ℕ) → n ≡ min (length old) (length w - place)
+    → room ≡ part w place (length old) ++ drop n old → n ≡ length room → length room ≡ length old → (held_at st w).honest ≡ true
+    → part (held_at st w).input place (length room) ≡ take n room
+in_window_answer None w room old place n count copied all kept honest = absurd cc
+in_window_answer (Some s) w room old place n count copied all kept honest =
+    ap (λ d. part d place (length room)) (input_is s w honest)
+    ∙ part-window w s.bytes place (length room) (omega arith)
+    ∙ ap (part w place) kept
+    ∙ sym (append-nil (part w place (length old)))
+    ∙ ap (λ l. part w place (length old) ++ l) (sym (drop_all n old (omega arith)))
+    ∙ sym copied
+    ∙ sym (take_all n room (omega arith))
+
+in_window_state : (f : Frame) (st : Option Standing) (w : List ℕ) (taken place k : ℕ) → f.counts ≡ true → k ≤ length w - place
+    → (held_at st w).honest ≡ true → state_at f st w taken ≡ past (state_at f st w taken) (span_of (held_at st w).input place k)
+unfolding span_of
+in_window_state f None w taken place k counts fits honest = absurd cc
+in_window_state f (Some s) w taken place k counts fits honest =
+    let a = state_at f (Some s) w taken in
+    let long : length (held_at (Some s) w).input ≡ length s.bytes = ap length (input_is s w honest) ∙ length-overlaid w s.bytes
+    (holds s w honest).0 in
+    let within : length w ≤ length s.bytes = (holds s w honest).0 in
+    let all : min k (length (held_at (Some s) w).input - place) ≡ k = omega (arith, long, within) in
+    let same : taken + fresh (length w) place k ≡ taken = omega arith in
+    sym (ap (λ m. past a (span_at place m)) all ∙ past-span a place k counts refl
+    ∙ ap (λ n. record a { front = n; taken = taken + fresh (length w) place k }) (kept_front (length w) place k fits)
+    ∙ ap (λ t. record a { taken = t }) same)
+
+pub in_window : (f : Frame) (st : Option Standing) (w room old : List ℕ) (taken place n : ℕ) → ToldBy f st → f.counts ≡ true
+    → n ≡ min (length old) (length w - place) → room ≡ part w place (length old) ++ drop n old → n ≡ length room
+    → length room ≡ length old → Runs (state_at f st w taken) (state_at f st w taken) (Ok (take n room))
+    (part_read (held_at st w).input place (length room))
+in_window f st w room old taken place n told counts count copied all kept = record {
+  sound = sound_at f st w taken told;
+  sound_after = sound_at f st w taken told;
+  frame = refl;
+  taken = omega arith;
+  within = λ honest. omega arith;
+  answer = λ honest goes_on. ap Ok (in_window_answer st w room old place n count copied all kept honest);
+  state = λ honest goes_on. in_window_state f st w taken place (length room) counts (omega arith) honest;
+  fault = λ honest faults. absurd cc;
+  ended = tt;
+}
+
+-- a reading that goes on behind the window: its bytes
+behind_answer : (s : Standing) (st' : Option Standing) (w room old more : List ℕ) (place now copied n : ℕ) → copied ≡ min (length old)
+    (length w - place) → room ≡ part w place (length old) ++ drop copied old → length room ≡ length old → copied < length room
+    → GivesFrom (Some s) st' (place + copied) now more (Ok n) → n ≤ length more → length more ≡ length room - copied
+    → part (overlaid w s.bytes) place (length room) ≡ take (copied + n) (put_mid copied (length room - copied) room more)
+behind_answer s st' w room old more place now copied n count front kept short gives enough long =
+    part-across w s.bytes place (length room) copied (count ∙ ap (λ k. min k (length w - place)) (sym kept)) short
+    ∙ ap (λ l. l ++ part s.bytes (place + copied) (length room - copied)) (sym (front_is w room old place copied count front kept))
+    ∙ ap (λ l. take copied room ++ l) (part-min s.bytes (place + copied) (length room - copied) n
+    (gives.2 ∙ ap (λ k. min k (length s.bytes - (place + copied))) long) ∙ sym gives.1)
+    ∙ sym (take_more room more copied n (omega arith) enough)
+
+-- its window
+behind_held : (s : Standing) (w w' : List ℕ) (now : ℕ) → length w ≤ length s.bytes → length w' ≤ length s.bytes → overlaid w' s.bytes
+    ≡ overlaid w s.bytes → held_at (Some (record s { place = now })) w' ≡ held_at (Some s) w
+behind_held s w w' now fits fits' same =
+    let yes : leb (length w) (length s.bytes) ≡ true = grind (arith, nat_tests) in
+    let yes' : leb (length w') (length s.bytes) ≡ true = grind (arith, nat_tests) in
+    rw (yes, yes', same) refl
+
+differs : (a b : ℕ) → eqb a b ≡ false → a ≡ b → ⊥
+differs a b off e = grind (arith, nat_tests)
+
+leb-false : (a b : ℕ) → b < a → leb a b ≡ false
+leb-false a b h = grind (arith, nat_tests)
+
+-- what is known of the window after bytes came
+record Grown (w w' : List ℕ) (d : List ℕ) (place m : ℕ) : Type 0 where
+  fits : length w' ≤ length d
+  same : overlaid w' d ≡ overlaid w d
+  front : length w' ≡ front_after (length w) place m
+
+grows_to : (front place copied n : ℕ) → place + copied ≡ front → front ≤ 32 → front + min (32 - front) n ≡ front_after front place
+    (copied + n)
+grows_to front place copied n here small =
+    let before : leb place front ≡ true = grind (arith, nat_tests) in
+    rw before (omega arith)
+
+stays_at : (front place k copied n : ℕ) → eqb (place + copied) front ≡ false → copied ≡ min k (front - place) → copied < k
+    → front ≡ front_after front place (copied + n)
+stays_at front place k copied n at count short =
+    let elsewhere : place + copied ≢ front = λ e. absurd (differs (place + copied) front at e) in
+    let behind : leb place front ≡ false = leb-false place front (omega (arith, count)) in
+    rw behind refl
+
+grown_if : (w d more : List ℕ) (place k copied n : ℕ) (b : Bool) → eqb (place + copied) (length w) ≡ b → length w ≤ 32
+    → length w ≤ length d → copied ≡ min k (length w - place) → copied < k → take n more ≡ part d (place + copied) n
+    → n ≤ length d - (place + copied) → Grown w (cond b (w ++ take (32 - length w) (take n more)) w) d place (copied + n)
+grown_if w d more place k copied n true at small fits count short gave n_fits =
+    let here : place + copied ≡ length w = grind (arith, nat_tests) in
+    let bytes : w ++ take (32 - length w) (take n more) ≡ w ++ take (32 - length w) (part d (length w) n) =
+    ap (λ l. w ++ take (32 - length w) l) (gave ∙ ap (λ p. part d p n) here) in
+    let room : n ≤ length d - length w = omega (arith, here, n_fits) in
+    let long : length (w ++ take (32 - length w) (take n more)) ≡ length w + min (32 - length w) n = ap length bytes ∙ length-kept w d
+    (32 - length w) n room in
+    record {
+      fits = omega (arith, long, room, fits);
+      same = ap (λ v. overlaid v d) bytes ∙ overlaid-kept w d (32 - length w) n room;
+      front = long ∙ grows_to (length w) place copied n here small;
+    }
+grown_if w d more place k copied n false at small fits count short gave n_fits = record {
+  fits = fits;
+  same = refl;
+  front = stays_at (length w) place k copied n at count short;
+}
+
+-- states that agree in each part
+together : (f f' : Frame) (h h' : Held) (m m' t t' : ℕ) → f ≡ f' → h ≡ h' → m ≡ m' → t ≡ t'
+    → ◌≡◌ {A = State} (record { frame = f; held = h; front = m; taken = t; recorded = None })
+    (record { frame = f'; held = h'; front = m'; taken = t'; recorded = None })
+together f f' h h' m m' t t' p q r s = cc
+
+-- the source after a reading that went on behind the window
+behind_state : (f f' : Frame) (s : Standing) (w w' : List ℕ) (taken taken' place now k copied n : ℕ) → f.counts ≡ true → f' ≡ f
+    → length w ≤ length s.bytes → Grown w w' s.bytes place (copied + n) → (held_at (Some s) w).honest ≡ true
+    → copied ≡ min k (length w - place) → n ≡ min (k - copied) (length s.bytes - (place + copied)) → copied < k → taken' ≡ taken + n
+    → state_at f' (Some (record s { place = now })) w' taken' ≡ past (state_at f (Some s) w taken)
+    (span_of (held_at (Some s) w).input place k)
+unfolding span_of
+behind_state f f' s w w' taken taken' place now k copied n counts frame fits grown honest count rest short took =
+    let a = state_at f (Some s) w taken in
+    let long : length (held_at (Some s) w).input ≡ length s.bytes = ap length (input_is s w honest) ∙ length-overlaid w s.bytes fits in
+    let all : min k (length (held_at (Some s) w).input - place) ≡ copied + n = omega (arith, long, count, rest) in
+    let held : held_at (Some (record s { place = now })) w' ≡ held_at (Some s) w = behind_held s w w' now fits grown.fits grown.same in
+    let paid : taken' ≡ taken + fresh (length w) place (copied + n) = omega (arith, took, count) in
+    let front = grown.front in
+    together f' f (held_at (Some (record s { place = now })) w') (held_at (Some s) w) (length w')
+    (front_after (length w) place (copied + n)) taken' (taken + fresh (length w) place (copied + n)) frame held front paid
+    ∙ sym (ap (λ m. past a (span_at place m)) all ∙ past-span a place (copied + n) counts refl)
+
+-- A reading that the window does not hold: it copied what the window has, and got n bytes more.
+pub record Behind (f f' : Frame) (st st' : Option Standing) (w w' room old more : List ℕ) (taken taken' place now copied n : ℕ) : Type 0
+  where
+    pub told : ToldBy f st
+    pub told_after : ToldBy f' st'
+    pub counts : f.counts ≡ true
+    pub frame : f' ≡ f
+    pub small : length w ≤ 32
+    pub count : copied ≡ min (length old) (length w - place)
+    pub front : room ≡ part w place (length old) ++ drop copied old
+    pub kept : length room ≡ length old
+    pub short : copied < length room
+    pub gives : GivesFrom st st' (place + copied) now more (Ok n)
+    pub enough : n ≤ length more
+    pub long : length more ≡ length room - copied
+    pub took : taken' ≡ taken + n
+    pub window : w' ≡ kept_window w (place + copied) (take n more)
+    pub within : IfSome st (λ s. taken' ≤ taken + min (length more) (length s.bytes - (place + copied)))
+
+behind_grown : (s : Standing) (st' : Option Standing) (w w' more : List ℕ) (place now k copied n : ℕ) → length w ≤ 32
+    → length w ≤ length s.bytes → copied ≡ min k (length w - place) → copied < k → GivesFrom (Some s) st' (place + copied) now more
+    (Ok n) → w' ≡ kept_window w (place + copied) (take n more) → Grown w w' s.bytes place (copied + n)
+behind_grown s st' w w' more place now k copied n small fits count short gives window =
+    subst (λ v. Grown w v s.bytes place (copied + n)) (sym window)
+    (grown_if w s.bytes more place k copied n (eqb (place + copied) (length w)) refl small fits count short gives.1
+    (omega (arith, gives.2)))
+
+behind_runs_answer : (f f' : Frame) (st st' : Option Standing) (w w' room old more : List ℕ) (taken taken' place now copied n : ℕ)
+    → Behind f f' st st' w w' room old more taken taken' place now copied n → (held_at st w).honest ≡ true
+    → part (held_at st w).input place (length room) ≡ take (copied + n) (put_mid copied (length room - copied) room more)
+behind_runs_answer f f' None st' w w' room old more taken taken' place now copied n h honest = absurd cc
+behind_runs_answer f f' (Some s) st' w w' room old more taken taken' place now copied n h honest =
+    ap (λ d. part d place (length room)) (input_is s w honest)
+    ∙ behind_answer s st' w room old more place now copied n h.count h.front h.kept h.short h.gives h.enough h.long
+
+behind_runs_state : (f f' : Frame) (st st' : Option Standing) (w w' room old more : List ℕ) (taken taken' place now copied n : ℕ)
+    → Behind f f' st st' w w' room old more taken taken' place now copied n → (held_at st w).honest ≡ true → state_at f' st' w' taken'
+    ≡ past (state_at f st w taken) (span_of (held_at st w).input place (length room))
+behind_runs_state f f' None st' w w' room old more taken taken' place now copied n h honest = absurd cc
+behind_runs_state f f' (Some s) st' w w' room old more taken taken' place now copied n h honest =
+    let fits = (holds s w honest).0 in
+    let count : copied ≡ min (length room) (length w - place) = h.count ∙ ap (λ k. min k (length w - place)) (sym h.kept) in
+    ap (λ v. state_at f' v w' taken') h.gives.0
+    ∙ behind_state f f' s w w' taken taken' place now (length room) copied n h.counts h.frame fits
+    (behind_grown s st' w w' more place now (length room) copied n h.small fits count h.short h.gives h.window)
+    honest count (h.gives.2 ∙ ap (λ k. min k (length s.bytes - (place + copied))) h.long) h.short h.took
+
+length-total : (place n : ℕ) → total (span_at place n) ≡ n
+unfolding span_at
+length-total place zero = refl
+length-total place (suc n) = ap total (span-suc place n) ∙ omega arith
+
+total-span : (d : List ℕ) (place k : ℕ) → total (span_of d place k) ≡ min k (length d - place)
+unfolding span_of
+total-span d place k = length-total place (min k (length d - place))
+
+within_claim : (st : Option Standing) (w : List ℕ) (taken taken' place copied k rest : ℕ) → copied ≡ min k (length w - place)
+    → rest ≡ k - copied → IfSome st (λ s. taken' ≤ taken + min rest (length s.bytes - (place + copied))) → (held_at st w).honest ≡ true
+    → taken' ≤ taken + total (span_of (held_at st w).input place k)
+within_claim None w taken taken' place copied k rest count left within honest = absurd cc
+within_claim (Some s) w taken taken' place copied k rest count left within honest =
+    let fits = (holds s w honest).0 in
+    let long : length (held_at (Some s) w).input ≡ length s.bytes = ap length (input_is s w honest) ∙ length-overlaid w s.bytes fits in
+    let all : total (span_of (held_at (Some s) w).input place k) ≡ min k (length s.bytes - place) = total-span (held_at (Some s) w).input
+    place k ∙ ap (λ n. min k (n - place)) long in
+    omega (arith, all, within, count, left)
+
+pub behind_window : {f f' : Frame} {st st' : Option Standing} {w w' room old more : List ℕ} {taken taken' place now copied n : ℕ}
+    → Behind f f' st st' w w' room old more taken taken' place now copied n → Runs (state_at f st w taken) (state_at f' st' w' taken')
+    (Ok (take (copied + n) (put_mid copied (length room - copied) room more)))
+    (part_read (held_at st w).input place (length (put_mid copied (length room - copied) room more)))
+behind_window {f} {f'} {st} {st'} {w} {w'} {room} {old} {more} {taken} {taken'} {place} {now} {copied} {n} h =
+    let whole : length (put_mid copied (length room - copied) room more) ≡ length room = length-put room more copied
+    (omega (arith, h.short)) h.long in
+    let count : copied ≡ min (length room) (length w - place) = h.count ∙ ap (λ k. min k (length w - place)) (sym h.kept) in
+    subst (λ k. Runs (state_at f st w taken) (state_at f' st' w' taken')
+    (Ok (take (copied + n) (put_mid copied (length room - copied) room more))) (part_read (held_at st w).input place k)) (sym whole)
+    (record {
+      sound = sound_at f st w taken h.told;
+      sound_after = sound_at f' st' w' taken' h.told_after;
+      frame = h.frame;
+      taken = omega (arith, h.took);
+      within = λ honest. within_claim st w taken taken' place copied (length room) (length more) count h.long h.within honest;
+      answer = λ honest goes_on. ap Ok (behind_runs_answer f f' st st' w w' room old more taken taken' place now copied n h honest);
+      state = λ honest goes_on. behind_runs_state f f' st st' w w' room old more taken taken' place now copied n h honest;
+      fault = λ honest faults. absurd cc;
+      ended = tt;
+    })
+
+fails_claim : (st st' : Option Standing) (w more : List ℕ) (place now : ℕ) (e : ImageError) → GivesFrom st st' place now more (Err e)
+    → (held_at st w).honest ≡ true → is_fault e ≡ true → (held_at st w).can_fail ≡ true
+fails_claim None st' w more place now e gives honest faults = absurd cc
+fails_claim (Some s) st' w more place now e gives honest faults = ap (λ h. h.can_fail) (holds s w honest).1 ∙ gives faults
+
+-- A reading behind the window that was stopped.
+pub record Halted (f f' : Frame) (st st' : Option Standing) (w w' room old more : List ℕ) (taken taken' place now copied : ℕ)
+    (e : ImageError) : Type 0 where
+  pub told : ToldBy f st
+  pub told_after : ToldBy f' st'
+  pub frame : f' ≡ f
+  pub window : w' ≡ w
+  pub count : copied ≡ min (length old) (length w - place)
+  pub kept : length room ≡ length old
+  pub long : length more ≡ length room - copied
+  pub gives : GivesFrom st st' (place + copied) now more (Err e)
+  pub paid : taken ≤ taken'
+  pub within : IfSome st (λ s. taken' ≤ taken + min (length more) (length s.bytes - (place + copied)))
+  pub stops : is_stop e ≡ true
+  pub ended : EndedBy (state_at f' st' w' taken') e
+
+halted : {f f' : Frame} {st st' : Option Standing} {w w' room old more : List ℕ} {taken taken' place now copied : ℕ} {e : ImageError}
+    (value : ℕ → List ℕ) → Halted f f' st st' w w' room old more taken taken' place now copied e → Runs (state_at f st w taken)
+    (state_at f' st' w' taken') (seen value (Err e)) (part_read (held_at st w).input place (length room))
+halted {f} {f'} {st} {st'} {w} {w'} {room} {old} {more} {taken} {taken'} {place} {now} {copied} {e} value h = record {
+  sound = sound_at f st w taken h.told;
+  sound_after = sound_at f' st' w' taken' h.told_after;
+  frame = h.frame;
+  taken = h.paid;
+  within = λ honest. within_claim st w taken taken' place copied (length room) (length more)
+      (h.count ∙ ap (λ k. min k (length w - place)) (sym h.kept)) h.long h.within honest;
+  answer = λ honest goes_on. absurd cc;
+  state = λ honest goes_on. absurd cc;
+  fault = λ honest faults. fails_claim st st' w more (place + copied) now e h.gives honest faults;
+  ended = h.ended;
+}
+
+pub behind_stopped : {f f' : Frame} {st st' : Option Standing} {w w' room old more : List ℕ} {taken taken' place now copied : ℕ}
+    {e : ImageError} (value : ℕ → List ℕ) (r : Result ℕ ImageError) → Halted f f' st st' w w' room old more taken taken' place now copied
+    e → r ≡ Err e → Runs (state_at f st w taken) (state_at f' st' w' taken') (seen value r)
+    (part_read (held_at st w).input place (length (put_mid copied (length room - copied) room more)))
+behind_stopped {f} {f'} {st} {st'} {w} {w'} {room} {old} {more} {taken} {taken'} {place} {now} {copied} {e} value r h is =
+    let whole : length (put_mid copied (length room - copied) room more) ≡ length room = length-put room more copied
+    (omega (arith, h.count, h.kept)) h.long in
+    subst (λ k. Runs (state_at f st w taken) (state_at f' st' w' taken') (seen value r) (part_read (held_at st w).input place k))
+    (sym whole)
+    (subst (λ q. Runs (state_at f st w taken) (state_at f' st' w' taken') (seen value q)
+    (part_read (held_at st w).input place (length room))) (sym is) (halted value h))
+
+-- the window has nothing from a place on that lies behind it
+pub none_in : (w more : List ℕ) (place k : ℕ) → length w ≤ place → more ≡ part w place k ++ drop 0 more
+unfolding part
+none_in w more place k far = ap (λ l. l ++ more) (sym (ap (take k) (drop_all place w far) ∙ take-nil k))
+
+put_whole : (more : List ℕ) → put_mid 0 (length more - 0) more more ≡ more
+put_whole more = ap (λ l. more ++ l) (drop_all (length more - 0) more (omega arith)) ∙ append-nil more
+
+-- a reading of which the window has nothing
+pub straight : {f f' : Frame} {st st' : Option Standing} {w w' more : List ℕ} {taken taken' place now n : ℕ}
+    → Behind f f' st st' w w' more more more taken taken' place now 0 n → Runs (state_at f st w taken) (state_at f' st' w' taken')
+    (Ok (take n more)) (part_read (held_at st w).input place (length more))
+straight {f} {f'} {st} {st'} {w} {w'} {more} {taken} {taken'} {place} {now} {n} h =
+    let sum : 0 + n ≡ n = omega arith in
+    subst (λ l. Runs (state_at f st w taken) (state_at f' st' w' taken') (Ok (take n l))
+    (part_read (held_at st w).input place (length l))) (put_whole more)
+    (subst (λ m. Runs (state_at f st w taken) (state_at f' st' w' taken') (Ok (take m (put_mid 0 (length more - 0) more more)))
+    (part_read (held_at st w).input place (length (put_mid 0 (length more - 0) more more)))) sum (behind_window h))
+
+-- and one that was stopped
+pub straight_stopped : {f f' : Frame} {st st' : Option Standing} {w w' more : List ℕ} {taken taken' place now : ℕ} {e : ImageError}
+    (value : ℕ → List ℕ) (r : Result ℕ ImageError) → Halted f f' st st' w w' more more more taken taken' place now 0 e → r ≡ Err e
+    → Runs (state_at f st w taken) (state_at f' st' w' taken') (seen value r) (part_read (held_at st w).input place (length more))
+straight_stopped {f} {f'} {st} {st'} {w} {w'} {more} {taken} {taken'} {place} value r h is =
+    subst (λ l. Runs (state_at f st w taken) (state_at f' st' w' taken') (seen value r)
+    (part_read (held_at st w).input place (length l))) (put_whole more) (behind_stopped value r h is)
+
+told_if : (f : Frame) (telling : Option Telling) (p : Progress) (st : Option Standing) → f.told ≡ p.told → stand telling p ≡ st
+    → ToldBy f st
+told_if f telling p None told is = tt
+told_if f telling p (Some s) told is = let t = told_at telling p s is in (told ∙ t.0, t.1)
+
+-- the length that stands beside a reader is that of the bytes that it claims
+pub told_by : (count : Option ℕ) (home : ℕ) (telling : Option Telling) (p : Progress) → ToldBy (reader_frame count home p)
+    (stand telling p)
+told_by count home telling p = told_if (reader_frame count home p) telling p (stand telling p) refl refl
+
+same_frames : (told told' budget budget' home : ℕ) (s s' : Option (ℕ × ℕ)) → told ≡ told' → budget ≡ budget' → s ≡ s'
+    → ◌≡◌ {A = Frame} (record { told = told; budget = budget; counts = true; records = false; home = home; since = s })
+    (record { told = told'; budget = budget'; counts = true; records = false; home = home; since = s' })
+same_frames told told' budget budget' home s s' p q r = cc
+
+-- what never changes
+pub same_frame : (count count' : Option ℕ) (home : ℕ) (p p' : Progress) → Keeps p p' → since count' p'.taken ≡ since count p.taken
+    → reader_frame count' home p' ≡ reader_frame count home p
+same_frame count count' home p p' keeps same = same_frames p'.told p.told p'.budget p.budget home _ _ keeps.told keeps.budget same
+
+paid_by : (f : Frame) (taken : ℕ) (spent : Option ℕ) → f.counts ≡ true → IfSome spent (λ n. (n ≡ f.budget) × (n ≡ taken))
+    → IfSome spent (λ n. (f.counts ≡ true) × (n ≡ f.budget) × (n ≡ taken))
+paid_by f taken None counts named = tt
+paid_by f taken (Some n) counts named = (counts, named.0, named.1)
+
+-- a stop of the reader is one of the source
+pub ended_by : (count : Option ℕ) (home : ℕ) (p : Progress) (st : Option Standing) (w : List ℕ) (e : ImageError) → StopsBy p e
+    → EndedBy (state_at (reader_frame count home p) st w p.taken) e
+ended_by count home p st w e stops = record {
+  budget = paid_by (reader_frame count home p) p.taken (spent e) refl stops.budget;
+  memory = λ refused. absurd cc;
+}
+
+end_answer : (f : Frame) (st : Option Standing) (w : List ℕ) (place k : ℕ) → ToldBy f st → f.told < place → (held_at st w).honest ≡ true
+    → part (held_at st w).input place k ≡ []
+end_answer f None w place k told far honest = absurd cc
+end_answer f (Some s) w place k told far honest =
+    let long : length (held_at (Some s) w).input ≡ length s.bytes = ap length (input_is s w honest) ∙ length-overlaid w s.bytes
+    (holds s w honest).0 in
+    no_part (held_at (Some s) w).input place k (omega (arith, long, told.0, far))
+
+end_state : (f : Frame) (st : Option Standing) (w : List ℕ) (taken place k : ℕ) → ToldBy f st → f.told < place → (held_at st w).honest
+    ≡ true → state_at f st w taken ≡ past (state_at f st w taken) (span_of (held_at st w).input place k)
+unfolding span_of span_at past
+end_state f None w taken place k told far honest = absurd cc
+end_state f (Some s) w taken place k told far honest =
+    let long : length (held_at (Some s) w).input ≡ length s.bytes = ap length (input_is s w honest) ∙ length-overlaid w s.bytes
+    (holds s w honest).0 in
+    let none : min k (length (held_at (Some s) w).input - place) ≡ 0 = omega (arith, long, told.0, far) in
+    sym (ap (λ n. past (state_at f (Some s) w taken) (span_at place n)) none)
+
+-- a reading above the told length sees nothing, and changes nothing
+pub behind_end : {f : Frame} (st : Option Standing) (w : List ℕ) (taken place k : ℕ) → ToldBy f st → f.told < place
+    → Runs (state_at f st w taken) (state_at f st w taken) (Ok []) (part_read (held_at st w).input place k)
+behind_end {f} st w taken place k told far = record {
+  sound = sound_at f st w taken told;
+  sound_after = sound_at f st w taken told;
+  frame = refl;
+  taken = omega arith;
+  within = λ honest. omega arith;
+  answer = λ honest goes_on. ap Ok (end_answer f st w place k told far honest);
+  state = λ honest goes_on. end_state f st w taken place k told far honest;
+  fault = λ honest faults. absurd cc;
+  ended = tt;
+}

@@ -1,0 +1,35 @@
+use Rattle.std.proofs.Common.{◌∙◌, arith}
+use Rattle.imagesize_io.specs.Standing.{stand}
+use Rattle.imagesize_io.proofs.Standings.{from_there, keeps_both, not_reached, within_none, within_reached}
+use Rattle.imagesize_io.proofs.reader.read_from.Goals as goal
+
+pub returns-then-not-branch : goal.returns-then-not-branch
+returns-then-not-branch g c =
+    let goes = c.in_ok-go_to.ensures in
+    record {
+      bound = omega arith;
+      stand = not_reached _ _ _ _ _ _ goes.stand c.if-not-branch.true;
+      taken = omega (arith, goes.taken);
+      within = within_none _ _ _ _ _ goes.taken;
+      pays = λ far some. omega arith;
+      since = goes.since;
+      keeps = goes.keeps;
+      stops = tt;
+    }
+
+pub returns : goal.returns
+returns g c =
+    let goes = c.in_ok-go_to.ensures in
+    let filled = c.in_ok-count.ensures in
+    record {
+      bound = filled.bound;
+      stand = from_there _ _ (g.R.Told.telling c.fill.new.reader) c.fill.new.progress _ _ _ _ _ goes.stand c.if-not-branch.false
+          filled.stand;
+      taken = omega (arith, goes.taken, filled.taken);
+      within = within_reached (stand (g.R.Told.telling c.args.reader.now) c.args.progress.now) _ _ _ _ _ _ _ _ goes.stand
+          c.if-not-branch.false goes.taken filled.within;
+      pays = λ far some. omega (arith, goes.taken, filled.taken);
+      since = filled.since ∙ goes.since;
+      keeps = keeps_both goes.keeps filled.keeps;
+      stops = tt;
+    }

@@ -1,0 +1,6 @@
+pub mod Answers
+pub mod Kept
+pub mod ReaderState
+pub mod Standing
+pub mod StopOf
+pub mod Telling

@@ -1,0 +1,65 @@
+-- A reader as a source: what it tells, the numbers beside it, and a window of its first bytes.
+use Rattle.std.specs.Prelude.{◌≡◌, ℕ, ◌+◌, ◌^◌, ◌-◌, min, ◌==◌, true, false, List, [], ◌++◌, length, take, drop, nat_le, if◌then◌else◌, Option, None, Some, Result, Ok, Err}
+use Rattle.imagesize_source.specs.declared.error.ImageError.{ImageError}
+use Rattle.imagesize_io.specs.declared.reader.Opened.{Opened}
+use Rattle.imagesize_io.specs.declared.progress.Progress.{Progress}
+use Rattle.imagesize_io.specs.Telling.{Telling, at_place}
+use Rattle.imagesize_io.specs.Standing.{Standing, steady, stand_of, stand, since}
+use Rattle.imagesize_source.specs.State.{State, Frame, Held}
+
+-- no claim
+abbrev pub unclaimed : Held
+unclaimed = record { honest = false; input = []; can_fail = false }
+
+-- the window's bytes in front of those behind the reader
+abbrev pub overlaid : List ℕ → List ℕ → List ℕ
+overlaid window d = window ++ drop (length window) d
+
+-- What is claimed: the bytes behind the reader, the first of them as the window has them.
+abbrev pub held_at : Option Standing → List ℕ → Held
+held_at None window = unclaimed
+held_at (Some s) window =
+    if nat_le (length window) (length s.bytes)
+    then record { honest = true; input = overlaid window s.bytes; can_fail = s.can_fail } else unclaimed
+
+-- what never changes of a reader as a source, with the name of its borrow
+abbrev pub reader_frame : Option ℕ → ℕ → Progress → Frame
+reader_frame count home p = record {
+  told = p.told;
+  budget = p.budget;
+  counts = true;
+  records = false;
+  home = home;
+  since = since count p.taken;
+}
+
+-- a reader as a source
+abbrev pub state_at : Frame → Option Standing → List ℕ → ℕ → State
+state_at frame standing window taken = record {
+  frame = frame;
+  held = held_at standing window;
+  front = length window;
+  taken = taken;
+  recorded = None;
+}
+
+abbrev pub reader_state : Option Telling → Option ℕ → ℕ → Progress → List ℕ → State
+reader_state telling count home p window = state_at (reader_frame count home p) (stand telling p) window p.taken
+
+-- the window after bytes came from a place on: it takes in those that follow it, up to 32 in all
+abbrev pub kept_window : List ℕ → ℕ → List ℕ → List ℕ
+kept_window window place bytes = if place == length window then window ++ take (32 - length window) bytes else window
+
+-- what a reader told as a call began: its place and its length, and it stands at the end
+abbrev pub Opens : Option Telling → Option Telling → Result Opened ImageError → Type 0
+Opens None new r = new ≡ None
+Opens (Some t) new (Ok opened) =
+    (new ≡ Some (at_place t (length t.bytes))) × (opened.place ≡ t.place) × (opened.told ≡ length t.bytes)
+Opens (Some t) new (Err e) = t.can_fail ≡ true
+
+-- A reader as a source, before the first reading, where its length is told: it stands at the end, and the
+-- budget is the told length and 64 bytes more.
+abbrev pub start_state : Option Telling → Option ℕ → ℕ → ℕ → State
+start_state telling count home told = state_at
+    (record { told = told; budget = min (told + 64) (2 ^ 64 - 1); counts = true; records = false; home = home; since = since count 0 })
+    (stand_of told told (steady telling 0)) [] 0

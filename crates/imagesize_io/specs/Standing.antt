@@ -1,0 +1,118 @@
+-- What a reader claims, as far as the numbers kept beside it agree with what it tells.
+use Rattle.std.specs.Prelude.{◌≡◌, ℕ, ◌+◌, ◌-◌, ◌^◌, ◌<◌, ◌≤◌, min, Bool, true, false, ◌||◌, ◌&&◌, List, length, take, nat_le, nat_lt, ◌==◌, if◌then◌else◌, Option, None, Some, Result, Ok, Err, IfSome, IfOk, IfErr, IsSomeAnd, option_map, ⊤}
+use Rattle.imagesize_source.specs.declared.error.ImageError.{ImageError}
+use Rattle.imagesize_source.specs.declared.halt.Halt.{Halt}
+use Rattle.imagesize_io.specs.declared.progress.Progress.{Progress}
+use Rattle.std.specs.declared.io.Error.{Error}
+use Rattle.imagesize_source.specs.Halts.{error_by, with_error}
+use Rattle.imagesize_io.specs.StopOf.{fault_of}
+use Rattle.imagesize_source.specs.Input.{part}
+use Rattle.imagesize_source.specs.Reading.{is_fault, is_memory, is_stop, spent}
+use Rattle.imagesize_io.specs.Telling.{Telling}
+
+-- the bytes behind a reader, where it stands, and whether a call may fail
+pub record Standing : Type 0 where
+  pub bytes : List ℕ
+  pub place : ℕ
+  pub can_fail : Bool
+
+-- n bytes further on
+abbrev pub onto : Standing → ℕ → Standing
+onto s n = record s { place = s.place + n }
+
+-- Interruptions hidden, of which so many were tried again: a reader that cannot fail has at most 64 in all.
+abbrev pub steady : Option Telling → ℕ → Option Standing
+steady None retries = None
+steady (Some t) retries =
+    if t.can_fail || nat_le (t.interruptions + retries) 64
+    then Some (record { bytes = t.bytes; place = t.place; can_fail = t.can_fail }) else None
+
+-- the told length and the place kept beside a reader agree with where it stands
+abbrev pub in_step : ℕ → ℕ → Standing → Bool
+in_step told place s = nat_lt (length s.bytes) (2 ^ 63) && (told == length s.bytes) && (place == s.place)
+
+-- where a reader stands, if these numbers agree
+abbrev pub stand_of : ℕ → ℕ → Option Standing → Option Standing
+stand_of told place None = None
+stand_of told place (Some s) = if in_step told place s then Some s else None
+
+abbrev pub stand : Option Telling → Progress → Option Standing
+stand telling p = stand_of p.told p.place (steady telling p.retries)
+
+-- what a read did that went on from where a reader stands: as much as it gave was the next of the bytes, at
+-- least one where there is one and there is room; a failure comes only from a reader that can fail
+abbrev pub GivesSome : Option Standing → Option Standing → List ℕ → Result ℕ ImageError → Type 0
+GivesSome None new room r = ⊤
+GivesSome (Some s) new room (Ok n) =
+    (new ≡ Some (onto s n)) × (take n room ≡ part s.bytes s.place n) × (n ≤ length s.bytes - s.place)
+    × (0 < length room → s.place < length s.bytes → 0 < n)
+GivesSome (Some s) new room (Err e) = is_fault e ≡ true → s.can_fail ≡ true
+
+-- the same of a read that goes on until the room is full or the bytes end
+abbrev pub GivesAll : Option Standing → Option Standing → List ℕ → Result ℕ ImageError → Type 0
+GivesAll None new room r = ⊤
+GivesAll (Some s) new room (Ok n) =
+    (new ≡ Some (onto s n)) × (take n room ≡ part s.bytes s.place n) × (n ≡ min (length room) (length s.bytes - s.place))
+GivesAll (Some s) new room (Err e) = is_fault e ≡ true → s.can_fail ≡ true
+
+-- what a seek did from where a reader stands: it stands at the place now, or the place is behind its bytes
+abbrev pub GoesTo : Option Standing → Option Standing → ℕ → ℕ → Result Bool ImageError → Type 0
+GoesTo None new place now r = ⊤
+GoesTo (Some s) new place now (Ok true) = (new ≡ Some (record s { place = place })) × (now ≡ place)
+GoesTo (Some s) new place now (Ok false) = (new ≡ Some s) × (length s.bytes < place) × (now ≡ s.place)
+GoesTo (Some s) new place now (Err e) = is_fault e ≡ true → s.can_fail ≡ true
+
+-- what a read from a place on did, until the room is full or the bytes end
+abbrev pub GivesFrom : Option Standing → Option Standing → ℕ → ℕ → List ℕ → Result ℕ ImageError → Type 0
+GivesFrom None new place now room r = ⊤
+GivesFrom (Some s) new place now room (Ok n) =
+    (new ≡ Some (record s { place = now })) × (take n room ≡ part s.bytes place n) × (n ≡ min (length room) (length s.bytes - place))
+GivesFrom (Some s) new place now room (Err e) = is_fault e ≡ true → s.can_fail ≡ true
+
+-- a reader that tells itself still does, and each interruption of it that came was counted as a try
+abbrev pub Tries : Option Telling → ℕ → Option Telling → ℕ → Type 0
+Tries None tries new tries' = ⊤
+Tries (Some t) tries new tries' = IsSomeAnd new (λ u. t.interruptions + tries ≤ u.interruptions + tries')
+
+-- the error that a halt ends a call with
+abbrev pub error_at : Progress → Halt → ImageError
+error_at p halt = error_by (fault_of p.fault) p.budget halt
+
+-- an answer, with the error of its halt
+abbrev pub named : {X : Type 0} → Progress → Result X Halt → Result X ImageError
+named p r = with_error (fault_of p.fault) p.budget r
+
+-- the bytes that a read gave, or the error that it left
+abbrev pub given_or : Error → Option ℕ → Result ℕ ImageError
+given_or e (Some n) = Ok n
+given_or e None = Err (fault_of e)
+
+-- by how much a count is above a number, and below it
+abbrev pub since : Option ℕ → ℕ → Option (ℕ × ℕ)
+since count taken = option_map (λ c. (c - taken, taken - c)) count
+
+-- Only a failure or a spent budget stops a read: the budget that is named is the one that was taken.
+pub record StopsBy (p : Progress) (e : ImageError) : Type 0 where
+  pub stops : is_stop e ≡ true
+  pub memory : is_memory e ≡ false
+  pub budget : IfSome (spent e) (λ n. (n ≡ p.budget) × (n ≡ p.taken))
+
+-- What a call leaves of the numbers beside the reader. Tries are never forgotten, and never more than 64.
+pub record Keeps (old new : Progress) : Type 0 where
+  pub told : new.told ≡ old.told
+  pub budget : new.budget ≡ old.budget
+  pub taken : old.taken ≤ new.taken
+  pub retries : old.retries ≤ new.retries
+  pub limit : old.retries ≤ 64 → new.retries ≤ 64
+
+-- what a reading from a place on did, over every reader
+pub record ReadsFrom (old new : Progress) (before after : Option Standing) (count count' : Option ℕ) (place : ℕ) (room : List ℕ)
+    (r : Result ℕ ImageError) : Type 0 where
+  pub bound : IfOk r (λ n. n ≤ length room)
+  pub stand : GivesFrom before after place new.place room r
+  pub taken : IfOk r (λ n. new.taken ≡ old.taken + n)
+  pub within : IfSome before (λ s. new.taken ≤ old.taken + min (length room) (length s.bytes - place))
+  pub pays : IfOk r (λ n. old.told < place → 0 < n → old.taken < new.taken)
+  pub since : since count' new.taken ≡ since count old.taken
+  pub keeps : Keeps old new
+  pub stops : IfErr r (StopsBy new)

@@ -1,0 +1,81 @@
+-- What a reader may tell of itself, and what its calls then owe.
+use Rattle.std.specs.Prelude.{◌≡◌, ℕ, pos, negsuc, zero, suc, ◌+◌, ◌-◌, ◌^◌, ◌<◌, ◌≤◌, Bool, true, false, List, length, take, nat_le, if◌then◌else◌, Option, None, Some, Result, Ok, Err, IsSome, IsSomeAnd, option_map}
+use Rattle.std.specs.declared.io.traits.SeekFrom.{SeekFrom}
+use Rattle.std.specs.declared.io.traits.SeekFrom.TheVariants.{Start, End, Current}
+use Rattle.imagesize_io.specs.declared.told.Stop.{Stop}
+use Rattle.imagesize_io.specs.declared.told.Stop.TheVariants.{Interrupted, Fault}
+use Rattle.imagesize_source.specs.Input.{part}
+
+-- The bytes behind a reader, where it stands, whether a call may fail, and how many reads may still be
+-- interrupted. Where calls may fail, any number of reads may be interrupted.
+pub record Telling : Type 0 where
+  pub bytes : List ℕ
+  pub place : ℕ
+  pub can_fail : Bool
+  pub interruptions : ℕ
+
+-- n bytes further on
+abbrev pub moved : Telling → ℕ → Telling
+moved t n = record t { place = t.place + n }
+
+-- at a place
+abbrev pub at_place : Telling → ℕ → Telling
+at_place t place = record t { place = place }
+
+-- after one more interruption
+abbrev pub interrupted : Telling → Telling
+interrupted t = record t { interruptions = t.interruptions - 1 }
+
+-- after a failed call, which only a reader that can fail makes, nothing is known of the place
+abbrev pub Fails : Telling → Option Telling → Type 0
+Fails t new = (t.can_fail ≡ true) × IsSomeAnd new (λ u. (u.bytes ≡ t.bytes) × (u.can_fail ≡ true))
+
+-- What a read into a room did, which holds `room` afterwards: it gave n bytes from the place on, at
+-- least one where there is one and there is room; or it gave nothing, and an interruption leaves the place.
+abbrev pub ReadGives : Telling → Option Telling → List ℕ → Result ℕ Stop → Type 0
+ReadGives t new room (Ok n) =
+    (new ≡ Some (moved t n)) × (take n room ≡ part t.bytes t.place n) × (n ≤ length t.bytes - t.place)
+    × (0 < length room → t.place < length t.bytes → 0 < n)
+ReadGives t new room (Err (Interrupted e)) = (new ≡ Some (interrupted t)) × (t.can_fail ≡ false → 0 < t.interruptions)
+ReadGives t new room (Err (Fault e)) = Fails t new
+
+-- the same of a reader that may tell nothing
+abbrev pub ReadTells : Option Telling → Option Telling → List ℕ → Result ℕ Stop → Type 0
+ReadTells None new room r = new ≡ None
+ReadTells (Some t) new room r = ReadGives t new room r
+
+-- where a seek is known to go: to a place within the bytes or at their end, to the end, or nowhere else
+abbrev pub seek_target : Telling → SeekFrom → Option ℕ
+seek_target t (Start place) = if nat_le place (length t.bytes) then Some place else None
+seek_target t (End (pos zero)) = Some (length t.bytes)
+seek_target t (End (pos (suc _))) = None
+seek_target t (End (negsuc _)) = None
+seek_target t (Current (pos zero)) = Some t.place
+seek_target t (Current (pos (suc _))) = None
+seek_target t (Current (negsuc _)) = None
+
+-- what a seek did that is known to go to a place; of any other only that the reader still tells
+abbrev pub SeekGives : {E : Type 0} → Telling → Option Telling → Option ℕ → Result ℕ E → Type 0
+SeekGives t new None r = IsSome new
+SeekGives t new (Some place) (Ok answer) = (answer ≡ place) × (new ≡ Some (at_place t place))
+SeekGives t new (Some place) (Err e) = Fails t new
+
+-- the same of a reader that may tell nothing
+abbrev pub SeekTells : {E : Type 0} → Option Telling → Option Telling → SeekFrom → Result ℕ E → Type 0
+SeekTells None new to r = new ≡ None
+SeekTells (Some t) new to r = SeekGives t new (seek_target t to) r
+
+-- how many bytes a read gave
+abbrev pub given : {E : Type 0} → Result ℕ E → ℕ
+given (Ok n) = n
+given (Err _) = 0
+
+-- a named count rises by the bytes that a read gave
+abbrev pub counted : {E : Type 0} → Option ℕ → Result ℕ E → Option ℕ
+counted count r = option_map (λ c. c + given r) count
+
+-- An honest reader: its bytes are fewer than 2^63, and where none of its calls fails, at most 64 of its reads
+-- are interrupted.
+pub record IsHonest (t : Telling) : Type 0 where
+  pub short : length t.bytes < 2 ^ 63
+  pub patient : t.can_fail ≡ false → t.interruptions ≤ 64

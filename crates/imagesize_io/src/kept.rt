@@ -1,0 +1,148 @@
+//! A buffered reader that keeps its place.
+ghost use Rattle.std.specs.Prelude.{◌≡◌, ℕ, ◌+◌, ◌-◌, ◌≤◌, drop, length, Option, Some, None, Ok, pos, IfOk, IfErr};
+ghost use Rattle.std.specs.Io.Buffered.{reader_buffer, reader_inner, reader_position, reader_remaining};
+ghost use Rattle.std.specs.Io.KnownBytes.{ReadConsumes};
+ghost use Rattle.std.specs.Io.Seek.{SeekMoves};
+ghost use Rattle.std.specs.declared.io.Error.{Error};
+ghost use Rattle.imagesize_io.specs.Kept.{place_after, read_place, sought_place, Agrees, IsBack, LeavesBuffer};
+ghost use Rattle.imagesize_io.specs.StopOf.{stop_of};
+ghost use Rattle.imagesize_io.specs.Telling.{ReadTells, SeekTells, counted};
+
+use crate::{Stop, Told};
+use std::io::{self, BufRead, BufReader, Read, Seek, SeekFrom};
+
+/// A buffered reader that keeps the place where it stands. A move to a place ahead in its buffer makes no call of
+/// the reader below, and any other move makes one.
+///
+/// It tells nothing of what it reads from. Its reads and seeks give what those of `BufReader` give. What the reader
+/// below is moved by from elsewhere is not seen.
+#[derive(Drop)]
+pub struct KeptReader<R: Read + Seek + Drop> {
+    reader: BufReader<R>,
+    // Where it stands, where that is known.
+    place: Option<u64>,
+}
+
+impl<R: Read + Seek + Drop> KeptReader<R> {
+    /// A buffered reader, whose place is asked for where it is wanted first.
+    pub fn new(reader: BufReader<R>) -> Self
+        ensures reader { result.reader ≡ reader }
+        ensures place { result.place ≡ None }
+    {
+        KeptReader {
+            reader,
+            place: None,
+        }
+    }
+}
+
+impl<R: Read + Seek + Drop> Told for KeptReader<R> {
+    ghost telling = { λ _. None };
+
+    ghost count = { λ _. None };
+
+    fn read_told(&mut self, room: &mut [u8]) -> Result<usize, Stop>
+        ensures bound { IfOk result (λ n. n ≤ length room.new) }
+        ensures told { ReadTells None None room.new result }
+        ensures counts { ◌≡◌ {A = Option ℕ} None (counted None result) }
+        ensures stops { IfErr result (λ stop. (e : Error) × (stop ≡ stop_of e)) }
+        ensures reads { ReadConsumes (reader_remaining R.remaining self.old.reader)
+            (reader_remaining R.remaining self.new.reader) result room.new }
+        ensures place { self.new.place ≡ read_place self.old.place result }
+    {
+        let place = self.place;
+        self.place = None;
+        let count = self.reader.read(room)?;
+        self.place = place_after(place, count);
+        Ok(count)
+    }
+
+    fn seek_told(&mut self, to: SeekFrom) -> io::Result<u64>
+        ensures told { SeekTells None None to result }
+        ensures counts { ◌≡◌ {A = Option ℕ} None None }
+        ensures place { self.new.place ≡ sought_place result }
+
+        // Where it stands already, and ahead in the buffer, the reader below is not called.
+        ensures stands { (place : ℕ) → self.old.place ≡ Some place → to ≡ SeekFrom.Current (pos 0) → (result ≡ Ok place)
+            × (self.new.reader ≡ self.old.reader) }
+        ensures ahead { (place target : ℕ) → self.old.place ≡ Some place → to ≡ SeekFrom.Start target
+            → place ≤ target → target ≤ place + length (reader_buffer self.old.reader)
+            → (result ≡ Ok target) × (reader_inner self.new.reader ≡ reader_inner self.old.reader)
+            × (reader_buffer self.new.reader ≡ drop (target - place) (reader_buffer self.old.reader)) }
+        ensures seeks { Agrees self.old.place (reader_position R.stream_position self.old.reader)
+            → LeavesBuffer self.old.place (length (reader_buffer self.old.reader)) to
+            → SeekMoves (reader_position R.stream_position self.old.reader) (reader_position R.stream_position self.new.reader)
+            (R.stream_bytes (reader_inner self.old.reader)) to result }
+    {
+        let place = self.place;
+        self.place = None;
+        let there = seek_from(&mut self.reader, place, to)?;
+        self.place = Some(there);
+        Ok(there)
+    }
+}
+
+// The place so many bytes on, where it is known and a place.
+fn place_after(place: Option<u64>, count: usize) -> Option<u64>
+    ensures { result ≡ place_after place count }
+{
+    place?.checked_add(count as u64)
+}
+
+// Goes where a seek leads from a place, if that is known.
+fn seek_from<R: Read + Seek>(
+    reader: &mut BufReader<R>,
+    place: Option<u64>,
+    to: SeekFrom,
+) -> io::Result<u64>
+    ensures stands { (at : ℕ) → place ≡ Some at → to ≡ SeekFrom.Current (pos 0) → (result ≡ Ok at) × (reader.new ≡ reader.old) }
+    ensures ahead { (at target : ℕ) → place ≡ Some at → to ≡ SeekFrom.Start target
+        → at ≤ target → target ≤ at + length (reader_buffer reader.old)
+        → (result ≡ Ok target) × (reader_inner reader.new ≡ reader_inner reader.old)
+        × (reader_buffer reader.new ≡ drop (target - at) (reader_buffer reader.old)) }
+    ensures seeks { Agrees place (reader_position R.stream_position reader.old)
+        → LeavesBuffer place (length (reader_buffer reader.old)) to
+        → SeekMoves (reader_position R.stream_position reader.old) (reader_position R.stream_position reader.new)
+        (R.stream_bytes (reader_inner reader.old)) to result }
+{
+    match (to, place) {
+        (SeekFrom::Start(target), Some(place)) => go(reader, place, target),
+        (SeekFrom::Current(0), Some(place)) => Ok(place),
+        (SeekFrom::Current(0), None) => reader.stream_position(),
+        _ => reader.seek(to),
+    }
+}
+
+// Goes from a place to another.
+fn go<R: Read + Seek>(reader: &mut BufReader<R>, place: u64, target: u64) -> io::Result<u64>
+    ensures ahead { place ≤ target → target ≤ place + length (reader_buffer reader.old)
+        → (result ≡ Ok target) × (reader_inner reader.new ≡ reader_inner reader.old)
+        × (reader_buffer reader.new ≡ drop (target - place) (reader_buffer reader.old)) }
+    ensures seeks { Agrees (Some place) (reader_position R.stream_position reader.old)
+        → LeavesBuffer (Some place) (length (reader_buffer reader.old)) (SeekFrom.Start target)
+        → SeekMoves (reader_position R.stream_position reader.old) (reader_position R.stream_position reader.new)
+        (R.stream_bytes (reader_inner reader.old)) (SeekFrom.Start target) result }
+{
+    if target < place {
+        return go_back(reader, place - target, target);
+    }
+    let distance = target - place;
+    if distance > reader.buffer().len() as u64 {
+        return reader.seek(SeekFrom::Start(target));
+    }
+    reader.consume(distance as usize);
+    Ok(target)
+}
+
+// Goes so many bytes back to a place, and keeps the buffer where the place lies in it.
+fn go_back<R: Read + Seek>(reader: &mut BufReader<R>, distance: u64, target: u64) -> io::Result<u64>
+    ensures { IsBack (reader_position R.stream_position reader.old) distance target
+        → SeekMoves (reader_position R.stream_position reader.old) (reader_position R.stream_position reader.new)
+        (R.stream_bytes (reader_inner reader.old)) (SeekFrom.Start target) result }
+{
+    let Ok(distance) = i64::try_from(distance) else {
+        return reader.seek(SeekFrom::Start(target));
+    };
+    reader.seek_relative(-distance)?;
+    Ok(target)
+}

@@ -1,0 +1,49 @@
+//! The text of a reader: it is read byte by byte, since what is read is taken.
+ghost use Rattle.std.specs.Prelude.{◌≡◌, ◌<◌, ◌≤◌, max, take, length, IfOk};
+ghost use Rattle.imagesize_source.specs.Halts.{with_error};
+ghost use Rattle.imagesize_source.specs.Reading.{seen, text_read};
+ghost use Rattle.imagesize_io.specs.ReaderState.{reader_state};
+ghost use Rattle.imagesize_source.specs.State.{Runs};
+ghost use Rattle.imagesize_io.specs.StopOf.{fault_of};
+
+use super::ReaderSource;
+use crate::Told;
+use imagesize_source::source::Source;
+use imagesize_source::text::is_end;
+use imagesize_source::{Halt, Text};
+
+/// Reads the text from a place on into the room, as far as there is room, and takes nothing behind it.
+pub(super) fn read_text<R: Told>(
+    source: &mut ReaderSource<'_, R>,
+    place: u64,
+    text: Text,
+    room: &mut [u8],
+) -> Result<usize, Halt>
+    ensures bound { IfOk result (λ n. n ≤ length room.new) }
+    ensures pays { IfOk result (λ n. 0 < n → max source.old.progress.told 32 < place
+        → source.old.progress.taken < source.new.progress.taken) }
+    ensures runs { Runs
+        (reader_state (R.telling source.old.reader.now) (R.count source.old.reader.now) source.old.reader.ghost_name
+        source.old.progress source.old.window.items)
+        (reader_state (R.telling source.new.reader.now) (R.count source.new.reader.now) source.new.reader.ghost_name
+        source.new.progress source.new.window.items)
+        (seen (λ n. take n room.new) (with_error (fault_of source.new.progress.fault) source.new.progress.budget result))
+        (text_read (reader_state (R.telling source.old.reader.now) (R.count source.old.reader.now) source.old.reader.ghost_name
+        source.old.progress source.old.window.items).held.input text place (length room.new)) }
+{
+    let mut begun = false;
+    let mut count = 0;
+    while count < room.len() {
+        let next = place.saturating_add(count as u64);
+        if source.read_at(next, &mut room[count..count + 1])? == 0 {
+            break;
+        }
+        let byte = room[count];
+        count += 1;
+        if is_end(text, begun, byte) {
+            break;
+        }
+        begun |= !byte.is_ascii_whitespace();
+    }
+    Ok(count)
+}

@@ -1,0 +1,146 @@
+//! Readers, and what they may tell of themselves.
+ghost use Rattle.std.specs.Prelude.{◌≡◌, ℕ, ◌≤◌, length, Option, Some, None, false, ◌<◌, ◌^◌, IfOk, IfErr, IfSome, IsSome, List};
+ghost use Rattle.std.specs.Io.Buffered.{reader_inner, reader_position, reader_remaining};
+ghost use Rattle.std.specs.Io.Cursor.{cursor_inner, cursor_position};
+ghost use Rattle.std.specs.Io.KnownBytes.{ReadConsumes};
+ghost use Rattle.std.specs.Io.Seek.{SeekMoves, IsAtOffset};
+ghost use Rattle.std.specs.declared.io.Error.{Error};
+ghost use Rattle.imagesize_io.specs.Telling.{Telling, ReadTells, SeekTells, counted};
+ghost use Rattle.imagesize_io.specs.StopOf.{stop_of};
+
+use imagesize_source::source::slice::copy_part;
+use std::io::{self, BufReader, Cursor, ErrorKind, Read, Seek, SeekFrom};
+
+/// Why a read gave nothing.
+#[derive(Debug, Drop)]
+pub enum Stop {
+    /// The read was interrupted, and may be tried again.
+    Interrupted(io::Error),
+    /// The read failed in any other way.
+    Fault(io::Error),
+}
+
+impl From<io::Error> for Stop {
+    ghost from_gives = { λ e stop. stop ≡ stop_of e };
+
+    fn from(error: io::Error) -> Stop {
+        if error.kind() == ErrorKind::Interrupted {
+            Stop::Interrupted(error)
+        } else {
+            Stop::Fault(error)
+        }
+    }
+}
+
+/// A reader whose calls do what `read` and `seek` do, and which may tell its bytes and count them.
+pub trait Told: Drop {
+    /// The bytes, the place, whether a call can fail and how many reads may still be interrupted; or nothing.
+    ghost telling: { Self → Option Telling };
+
+    /// How many bytes the reader has given; or nothing.
+    ghost count: { Self → Option ℕ };
+
+    /// Reads into the room, and answers how many bytes it gave.
+    fn read_told(&mut self, room: &mut [u8]) -> Result<usize, Stop>
+        ensures bound { IfOk result (λ n. n ≤ length room.new) }
+        ensures told { ReadTells (telling self.old) (telling self.new) room.new result }
+        ensures counts { count self.new ≡ counted (count self.old) result };
+
+    /// Moves to a place, and answers it. Places count bytes from 0.
+    fn seek_told(&mut self, to: SeekFrom) -> io::Result<u64>
+        ensures told { SeekTells (telling self.old) (telling self.new) to result }
+        ensures counts { count self.new ≡ count self.old };
+}
+
+/// A cursor over bytes tells them and its place, cannot fail, is never interrupted and counts nothing.
+impl Told for Cursor<&[u8]> {
+    ghost telling = { λ c. Some (record {
+      bytes = (cursor_inner c).now;
+      place = cursor_position c;
+      can_fail = false;
+      interruptions = 0;
+    }) };
+
+    ghost count = { λ _. None };
+
+    #[inline(always)]
+    fn read_told(&mut self, room: &mut [u8]) -> Result<usize, Stop> {
+        let bytes = *self.get_ref();
+        let place = self.position();
+        let count = copy_part(bytes, place, room);
+        self.set_position(place + count as u64);
+        Ok(count)
+    }
+
+    #[inline(always)]
+    fn seek_told(&mut self, to: SeekFrom) -> io::Result<u64> {
+        // The proof needs that the place and the length are below 2^64.
+        let place = self.position();
+        let length = self.get_ref().len() as u64;
+        let target = match to {
+            SeekFrom::Start(target) => target,
+            SeekFrom::Current(0) => place,
+            SeekFrom::End(0) => length,
+            _ => return self.seek(to),
+        };
+        self.set_position(target);
+        Ok(target)
+    }
+}
+
+/// A buffered reader tells nothing of what it reads from. Its reads and seeks give what those of `BufReader`
+/// give, and a place within its buffer is reached with the buffer kept.
+impl<R: Read + Seek + Drop> Told for BufReader<R> {
+    ghost telling = { λ _. None };
+
+    ghost count = { λ _. None };
+
+    fn read_told(&mut self, room: &mut [u8]) -> Result<usize, Stop>
+        ensures bound { IfOk result (λ n. n ≤ length room.new) }
+        ensures told { ReadTells None None room.new result }
+        ensures counts { ◌≡◌ {A = Option ℕ} None (counted None result) }
+        ensures stops { IfErr result (λ stop. (e : Error) × (stop ≡ stop_of e)) }
+        ensures reads { ReadConsumes (reader_remaining R.remaining self.old) (reader_remaining R.remaining self.new) result room.new }
+    {
+        let count = self.read(room)?;
+        Ok(count)
+    }
+
+    fn seek_told(&mut self, to: SeekFrom) -> io::Result<u64>
+        ensures told { SeekTells None None to result }
+        ensures counts { ◌≡◌ {A = Option ℕ} None None }
+        ensures seeks { SeekMoves (reader_position R.stream_position self.old) (reader_position R.stream_position self.new)
+            (R.stream_bytes (reader_inner self.old)) to result }
+    {
+        match to {
+            SeekFrom::Start(target) => seek_kept(self, target),
+            SeekFrom::Current(0) => self.stream_position(),
+            _ => self.seek(to),
+        }
+    }
+}
+
+// Goes to a place, and keeps the buffer where the place lies within it.
+fn seek_kept<R: Read + Seek>(reader: &mut BufReader<R>, target: u64) -> io::Result<u64>
+    ensures { SeekMoves (reader_position R.stream_position reader.old) (reader_position R.stream_position reader.new)
+        (R.stream_bytes (reader_inner reader.old)) (SeekFrom.Start target) result }
+{
+    let place = reader.stream_position()?;
+    match distance(place, target) {
+        Some(offset) => {
+            reader.seek_relative(offset)?;
+            Ok(target)
+        }
+        None => reader.seek(SeekFrom::Start(target)),
+    }
+}
+
+// How far one place is from another, where both are below 2^63.
+fn distance(from: u64, to: u64) -> Option<i64>
+    ensures offset { IfSome result (λ offset. IsAtOffset from offset to) }
+    ensures known { from < 2 ^ 63 → to < 2 ^ 63 → IsSome result }
+{
+    let from = i64::try_from(from).ok()?;
+    let to = i64::try_from(to).ok()?;
+    to.checked_sub(from)
+}

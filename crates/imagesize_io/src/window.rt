@@ -1,0 +1,43 @@
+//! The first bytes of an input, kept as they were taken.
+ghost use Rattle.std.specs.Prelude.{◌≡◌, ◌-◌, ◌≤◌, ◌++◌, min, drop, length};
+ghost use Rattle.imagesize_source.specs.Input.{part};
+ghost use Rattle.imagesize_io.specs.ReaderState.{kept_window};
+
+use arrayvec::ArrayVec;
+use imagesize_source::source::slice::copy_part;
+
+// How many of its first bytes a reader's source keeps.
+pub(crate) const WINDOW: usize = 32;
+
+/// The first bytes of an input.
+pub(crate) type Window = ArrayVec<u8, WINDOW>;
+
+// After bytes came from a place on: adds those that follow the window, as far as there is room.
+#[inline(always)]
+pub(crate) fn keep(window: &mut Window, place: u64, bytes: &[u8])
+    ensures { window.new.items ≡ kept_window window.old.items place bytes.now }
+{
+    if place != window.len() as u64 {
+        return;
+    }
+    if window.try_extend_from_slice(bytes).is_ok() {
+        return;
+    }
+    // There is room for what is kept.
+    let kept = window.remaining_capacity();
+    let _ = window.try_extend_from_slice(&bytes[..kept]);
+}
+
+// Copies what the window has from a place on into the room, and answers how many bytes that is.
+#[inline(always)]
+#[tactic(auto, unfolding(imagesize_source::specs::Input::part))]
+pub(crate) fn copy_kept(window: &Window, place: u64, room: &mut [u8]) -> usize
+    ensures count { result ≡ min (length room.old) (length window.now.items - place) }
+    ensures copied { room.new ≡ part window.now.items place (length room.old) ++ drop result room.old }
+    ensures small { length window.now.items ≤ 32 }
+{
+    if place >= window.len() as u64 {
+        return 0;
+    }
+    copy_part(window.as_slice(), place, room)
+}
