@@ -1,8 +1,8 @@
 //! A text is the same over a slice and over a reader, which takes none of the bytes behind it.
 
+use imagesize_io::reader::{ReaderSource, open};
 use imagesize_source::Text;
 use imagesize_source::source::Source;
-use imagesize_io::reader::{ReaderSource, open};
 use imagesize_source::source::slice::SliceSource;
 use std::io::Cursor;
 use std::process::Abort;
