@@ -167,7 +167,7 @@ pub(crate) fn size<S: Source>(source: &mut S, kind: ImageType) -> ImageResult<Im
         ImageType::Hdr => hdr::size(source),
         ImageType::Heif(_) => heif::size(source),
         ImageType::Ico => ico::size(source),
-        ImageType::Ilbm => ilbm::size(source),
+        ImageType::Ilbm => answered(ilbm::size(source), source),
         ImageType::Jpeg => answered(jpeg::size(source), source),
         ImageType::Jxl => jxl::size(source),
         ImageType::Ktx2 => answered(ktx2::size(source), source),

@@ -116,24 +116,6 @@ pub fn read_u16<S: Source>(source: &mut S, place: u64, endian: Endian) -> ImageR
     answered(halt::read_u16(source, place, endian), source)
 }
 
-/// The number of the two bytes that stand so far behind a place. A place above 2^64 - 1 is behind the end of
-/// every input.
-#[inline(always)]
-pub fn read_u16_behind<S: Source>(
-    source: &mut S,
-    place: u64,
-    distance: u64,
-    endian: Endian,
-) -> ImageResult<u16>
-    ensures { Runs (S.state source.old) (S.state source.new) result
-        (number_read (S.state source.old).held.input endian (place + distance) 2) }
-{
-    answered(
-        halt::read_u16_behind(source, place, distance, endian),
-        source,
-    )
-}
-
 /// The place so far behind another. One above 2^64 - 1 is behind the end of every input.
 #[inline(always)]
 pub fn place_behind(place: u64, distance: u64) -> ImageResult<u64>

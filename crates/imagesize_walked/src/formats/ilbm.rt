@@ -1,14 +1,15 @@
 //! Interleaved bitmaps, by "EA IFF 85" (forms and chunks) and its supplement "ILBM" (the bitmap header).
 ghost use Rattle.std.specs.Prelude.{◌≡◌, IfOk};
 ghost use Rattle.imagesize_walked.specs.Ilbm.{chunk_bytes, chunk_length, chunk_said, ilbm, ilbm_chunk, is_bitmap_header, is_body, is_ilbm};
+ghost use Rattle.imagesize_source.specs.Halts.{RunsOrHalts, with_error};
 ghost use Rattle.imagesize_source.specs.Layout.{over};
 ghost use Rattle.imagesize_source.specs.Paying.{Nears};
 ghost use Rattle.imagesize_source.specs.Reading.{seen};
 ghost use Rattle.imagesize_source.specs.State.{Runs};
 
+use imagesize_source::halt::{Halt, place_behind, read_bytes, read_u16_behind};
 use imagesize_source::source::Source;
-use imagesize_source::util::{Endian, place_behind, read_bytes, read_u16_behind};
-use imagesize_source::{ImageError, ImageResult};
+use imagesize_source::util::Endian;
 use imagesize_types::size::ImageSize;
 
 /// Whether a form of the type `ILBM` or `PBM ` stands first.
@@ -23,8 +24,8 @@ pub fn matches(head: &[u8; 12]) -> bool
 }
 
 /// The width and the height of the first bitmap header that stands before the pixels.
-pub fn size<S: Source>(source: &mut S) -> ImageResult<ImageSize>
-    ensures { Runs (S.state source.old) (S.state source.new) result (ilbm (S.state source.old).held.input) }
+pub fn size<S: Source>(source: &mut S) -> Result<ImageSize, Halt>
+    ensures { RunsOrHalts (S.state source.old) (S.state source.new) (S.failure source.new) result (ilbm (S.state source.old).held.input) }
 {
     let mut place: u64 = 12;
     loop {
@@ -45,9 +46,10 @@ enum Chunk {
 
 // The chunk at a place.
 #[tactic(auto, using(imagesize_source::proofs::Runs::steps))]
-fn read_chunk<S: Source>(source: &mut S, place: u64) -> ImageResult<Chunk>
+fn read_chunk<S: Source>(source: &mut S, place: u64) -> Result<Chunk, Halt>
     ensures nears { IfOk result (λ found. Nears (S.state source.old) (S.state source.new) place (chunk_said place found)) }
-    ensures runs { Runs (S.state source.old) (S.state source.new) (seen (λ found. chunk_said place found) result)
+    ensures runs { Runs (S.state source.old) (S.state source.new)
+        (seen (λ found. chunk_said place found) (with_error (S.failure source.new) (S.state source.new).frame.budget result))
         (over (S.state source.old).held.input (ilbm_chunk place)) }
 {
     let head = read_bytes::<S, 8>(source, place)?;
@@ -57,7 +59,7 @@ fn read_chunk<S: Source>(source: &mut S, place: u64) -> ImageResult<Chunk>
         return Ok(Chunk::Header(ImageSize { width, height }));
     }
     if is_body(&head) {
-        return Err(ImageError::CorruptedImage);
+        return Err(Halt::Corrupted);
     }
     Ok(Chunk::Other {
         length: chunk_length(&head),
