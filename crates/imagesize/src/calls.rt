@@ -229,6 +229,7 @@ fn size_opened<R: Told>(kind: ImageType, reader: &mut R, opened: Opened) -> Imag
 }
 
 // Type and size of what a reader holds that was opened.
+#[inline(always)]
 fn probe_opened<R: Told>(reader: &mut R, opened: Opened) -> Probed
     ensures probes { (telling : Option Telling) → Opens telling (R.telling reader.old) (Ok opened) → Probes telling result }
     ensures typed { IfOk result.answer (λ _. IsSome result.kind) }

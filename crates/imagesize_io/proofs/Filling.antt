@@ -1,5 +1,5 @@
 -- A room that is filled by one read after another.
-use Rattle.std.proofs.Common.{◌≡◌, ℕ, ◌+◌, ◌-◌, ◌<◌, ◌≤◌, min, List, ◌++◌, length, take, drop, Option, Some, None, IfSome, Ok, refl, sym, ap, ◌∙◌, subst, arith}
+use Rattle.std.proofs.Common.{◌≡◌, ℕ, ◌+◌, ◌-◌, ◌^◌, ◌<◌, ◌≤◌, min, List, ◌++◌, length, take, drop, Option, Some, None, IfSome, Ok, refl, sym, ap, ◌∙◌, subst, arith}
 use Rattle.std.proofs.lemmas.List.{length-append, length-take, length-drop, length-take-le, take-append-le}
 use Rattle.std.proofs.Math.Seq.{take-append-add, take-add, drop-append-add, drop-drop}
 use Rattle.std.specs.List.{slice_range}
@@ -20,6 +20,7 @@ pub record Filling (first now : Option Standing) (count count' : Option ℕ) (ol
   pub fits : filled ≤ length room
   pub reached : Filled first now filled room
   pub taken : new.taken ≡ old.taken + filled
+  pub place : new.place ≡ min (old.place + filled) (2 ^ 64 - 1)
   pub counts : since count' new.taken ≡ since count old.taken
   pub keeps : Keeps old new
 
@@ -29,11 +30,13 @@ none_reached None room = tt
 none_reached (Some s) room = (ap (λ p. Some (record s { place = p })) (omega arith), refl, omega arith)
 
 -- before the first read
-pub filled_none : (first : Option Standing) (count : Option ℕ) (p : Progress) (room : List ℕ) → Filling first first count count p p 0 room
-filled_none first count p room = record {
+pub filled_none : (first : Option Standing) (count : Option ℕ) (p : Progress) (room : List ℕ) → p.place < 2 ^ 64
+    → Filling first first count count p p 0 room
+filled_none first count p room small = record {
   fits = omega arith;
   reached = none_reached first room;
   taken = omega arith;
+  place = omega (arith, small);
   counts = refl;
   keeps = record { told = refl; budget = refl; taken = omega arith; retries = omega arith; limit = λ few. few };
 }
@@ -83,13 +86,15 @@ reached_more (Some s) now next room more filled n fits enough reached gave =
 -- one more read
 pub filling_more : {first now next : Option Standing} {count before after : Option ℕ} {old new newer : Progress} {filled : ℕ}
     {room : List ℕ} (more : List ℕ) (n : ℕ) → Filling first now count before old new filled room → n ≤ length more
-    → length more ≡ length room - filled → GivesSome now next more (Ok n) → newer.taken ≡ new.taken + n → since after newer.taken
+    → length more ≡ length room - filled → GivesSome now next more (Ok n) → newer.taken ≡ new.taken + n
+    → newer.place ≡ min (new.place + n) (2 ^ 64 - 1) → since after newer.taken
     ≡ since before new.taken → Keeps new newer → Filling first next count after old newer (filled + n)
     (put_mid filled (length room - filled) room more)
-filling_more {first} {now} {next} {filled = filled} {room = room} more n h enough long gave taken same keeps = record {
+filling_more {first} {now} {next} {filled = filled} {room = room} more n h enough long gave taken place same keeps = record {
   fits = rw (length-put room more filled h.fits long) (omega (arith, h.fits, long));
   reached = reached_more first now next room more filled n h.fits enough h.reached gave;
   taken = omega (arith, h.taken);
+  place = omega (arith, h.place, place);
   counts = same ∙ h.counts;
   keeps = keeps_both h.keeps keeps;
 }

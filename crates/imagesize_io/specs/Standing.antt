@@ -110,6 +110,7 @@ pub record ReadsFrom (old new : Progress) (before after : Option Standing) (coun
     (r : Result ℕ ImageError) : Type 0 where
   pub bound : IfOk r (λ n. n ≤ length room)
   pub stand : GivesFrom before after place new.place room r
+  pub stands : IfOk r (λ n. place ≤ old.told → new.place ≡ min (place + n) (2 ^ 64 - 1))
   pub taken : IfOk r (λ n. new.taken ≡ old.taken + n)
   pub within : IfSome before (λ s. new.taken ≤ old.taken + min (length room) (length s.bytes - place))
   pub pays : IfOk r (λ n. old.told < place → 0 < n → old.taken < new.taken)

@@ -189,14 +189,16 @@ fn read_retrying<R: Told>(
     }
 }
 
-// One read, which is counted and moves the place on.
+// One read from the place where the reader stands, which is counted and moves the place on.
 #[inline(always)]
 fn read_counted<R: Told>(
     reader: &mut R,
     progress: &mut Progress,
+    place: u64,
     room: &mut [u8],
 ) -> Result<usize, Halt>
-    requires { progress.old.taken + length room.old ≤ progress.old.budget }
+    requires fits { progress.old.taken + length room.old ≤ progress.old.budget }
+    requires stands { progress.old.place ≡ place }
     ensures bound { IfOk result (λ n. n ≤ length room.new) }
     ensures stand { GivesSome (stand (R.telling reader.old) progress.old) (stand (R.telling reader.new) progress.new)
         room.new (named progress.new result) }
@@ -210,8 +212,14 @@ fn read_counted<R: Told>(
     let Some(count) = read_retrying(reader, &mut progress.retries, &mut progress.fault, room) else {
         return Err(Halt::Failed);
     };
+    // Most reads fill the room, whose length the compiler knows.
+    if count == room.len() {
+        progress.taken += room.len() as u64;
+        progress.place = place.saturating_add(room.len() as u64);
+        return Ok(room.len());
+    }
     progress.taken += count as u64;
-    progress.place = progress.place.saturating_add(count as u64);
+    progress.place = place.saturating_add(count as u64);
     Ok(count)
 }
 
@@ -226,35 +234,47 @@ fn read_some<R: Told>(
     ensures stand { GivesSome (stand (R.telling reader.old) progress.old) (stand (R.telling reader.new) progress.new)
         room.new (named progress.new result) }
     ensures taken { progress.new.taken ≡ progress.old.taken + given result }
+    ensures place { IfOk result (λ n. progress.new.place ≡ min (progress.old.place + n) (2 ^ 64 - 1)) }
     ensures since { since (R.count reader.new) progress.new.taken ≡ since (R.count reader.old) progress.old.taken }
     ensures tries { OnOk result (Tries (R.telling reader.old) progress.old.retries (R.telling reader.new) progress.new.retries) }
     ensures keeps { Keeps progress.old progress.new }
     ensures stops { IfErr (named progress.new result) (StopsBy progress.new) }
 {
+    let place = progress.place;
     let left = progress.budget - progress.taken;
     if room.len() as u64 <= left {
-        return read_counted(reader, progress, room);
+        return read_counted(reader, progress, place, room);
     }
     if left == 0 {
         return Err(Halt::Spent);
     }
-    read_counted(reader, progress, &mut room[..left as usize])
+    read_counted(reader, progress, place, &mut room[..left as usize])
 }
 
-// Reads until the room is full or the bytes end.
+// Reads from the place where the reader stands until the room is full or the bytes end.
 #[inline(always)]
-fn fill<R: Told>(reader: &mut R, progress: &mut Progress, room: &mut [u8]) -> Result<usize, Halt>
+fn fill<R: Told>(
+    reader: &mut R,
+    progress: &mut Progress,
+    place: u64,
+    room: &mut [u8],
+) -> Result<usize, Halt>
+    requires { progress.old.place ≡ place }
     ensures bound { IfOk result (λ n. n ≤ length room.new) }
     ensures stand { GivesAll (stand (R.telling reader.old) progress.old)
         (stand (R.telling reader.new) progress.new) room.new (named progress.new result) }
     ensures taken { IfOk result (λ n. progress.new.taken ≡ progress.old.taken + n) }
+    ensures place { IfOk result (λ n. progress.new.place ≡ min (place + n) (2 ^ 64 - 1)) }
     ensures within { IfSome (stand (R.telling reader.old) progress.old)
         (λ s. progress.new.taken ≤ progress.old.taken + min (length room.new) (length s.bytes - s.place)) }
     ensures since { since (R.count reader.new) progress.new.taken ≡ since (R.count reader.old) progress.old.taken }
     ensures keeps { Keeps progress.old progress.new }
     ensures stops { IfErr (named progress.new result) (StopsBy progress.new) }
 {
-    let count = read_some(reader, progress, room)?;
+    if room.len() as u64 > progress.budget - progress.taken {
+        return fill_behind(reader, progress, room);
+    }
+    let count = read_counted(reader, progress, place, room)?;
     if count == room.len() || count == 0 {
         return Ok(count);
     }
@@ -269,10 +289,12 @@ fn fill_behind<R: Told>(
     progress: &mut Progress,
     room: &mut [u8],
 ) -> Result<usize, Halt>
+    requires { progress.old.place < 2 ^ 64 }
     ensures bound { IfOk result (λ n. n ≤ length room.new) }
     ensures stand { GivesAll (stand (R.telling reader.old) progress.old)
         (stand (R.telling reader.new) progress.new) room.new (named progress.new result) }
     ensures taken { IfOk result (λ n. progress.new.taken ≡ progress.old.taken + n) }
+    ensures place { IfOk result (λ n. progress.new.place ≡ min (progress.old.place + n) (2 ^ 64 - 1)) }
     ensures within { IfSome (stand (R.telling reader.old) progress.old)
         (λ s. progress.new.taken ≤ progress.old.taken + min (length room.new) (length s.bytes - s.place)) }
     ensures since { since (R.count reader.new) progress.new.taken ≡ since (R.count reader.old) progress.old.taken }
@@ -291,10 +313,12 @@ fn fill_rest<R: Told>(
     progress: &mut Progress,
     room: &mut [u8],
 ) -> Result<usize, Halt>
+    requires { progress.old.place < 2 ^ 64 }
     ensures bound { IfOk result (λ n. n ≤ length room.new) }
     ensures stand { GivesAll (stand (R.telling reader.old) progress.old)
         (stand (R.telling reader.new) progress.new) room.new (named progress.new result) }
     ensures taken { IfOk result (λ n. progress.new.taken ≡ progress.old.taken + n) }
+    ensures place { IfOk result (λ n. progress.new.place ≡ min (progress.old.place + n) (2 ^ 64 - 1)) }
     ensures within { IfSome (stand (R.telling reader.old) progress.old)
         (λ s. progress.new.taken ≤ progress.old.taken + min (length room.new) (length s.bytes - s.place)) }
     ensures since { since (R.count reader.new) progress.new.taken ≡ since (R.count reader.old) progress.old.taken }
@@ -355,7 +379,7 @@ fn read_from<R: Told>(
     if !go_to(reader, progress, place)? {
         return Ok(0);
     }
-    let count = fill(reader, progress, room)?;
+    let count = fill(reader, progress, place, room)?;
     Ok(count)
 }
 
@@ -365,10 +389,13 @@ fn read_windowed<R: Told>(
     reader: &mut R,
     progress: &mut Progress,
     window: &mut Window,
+    present: &mut u64,
     place: u64,
     room: &mut [u8],
 ) -> Result<usize, Halt>
+    requires { place ≤ progress.old.told }
     ensures bound { IfOk result (λ n. n ≤ length room.new) }
+    ensures present { IfOk result (λ n. present.new ≡ min (place + n) (2 ^ 64 - 1)) }
     ensures pays { IfOk result (λ n. 0 < n → max progress.old.told 32 < place → (progress.old.taken < progress.new.taken)
         × (progress.new.taken ≤ progress.old.budget)) }
     ensures keeps { Keeps progress.old progress.new }
@@ -379,9 +406,12 @@ fn read_windowed<R: Told>(
         (part_read (held_at (stand (R.telling reader.old) progress.old) window.old.items).input place (length room.new)) }
 {
     if place < window.len() as u64 || room.is_empty() {
-        return read_within(reader, progress, window, place, room);
+        let count = read_within(reader, progress, window, place, room)?;
+        *present = place.saturating_add(count as u64);
+        return Ok(count);
     }
     let count = read_from(reader, progress, place, room)?;
+    *present = progress.place;
     keep(window, place, &room[..count]);
     Ok(count)
 }
@@ -455,19 +485,67 @@ fn read_on<R: Told>(
         (seen (λ n. take n room.new) (named progress.new result))
         (part_read (held_at (stand (R.telling reader.old) progress.old) window.old.items).input place (length room.new)) }
 {
-    if place > progress.told && is_elsewhere(place, *present) {
-        return Ok(0);
+    if progress.told < place {
+        return read_beyond(reader, progress, window, present, place, room);
     }
-    let count = read_windowed(reader, progress, window, place, room)?;
-    *present = place.saturating_add(count as u64);
+    read_windowed(reader, progress, window, present, place, room)
+}
+
+// The same as `read_above`. Inlined, so that the room of its answer is made there alone.
+#[inline(always)]
+fn read_beyond<R: Told>(
+    reader: &mut R,
+    progress: &mut Progress,
+    window: &mut Window,
+    present: &mut u64,
+    place: u64,
+    room: &mut [u8],
+) -> Result<usize, Halt>
+    requires { progress.old.told < place }
+    ensures bound { IfOk result (λ n. n ≤ length room.new) }
+    ensures ends { place ≢ present.old → (result ≡ Ok 0) × (reader.new ≡ reader.old) × (present.new ≡ present.old) }
+    ensures goes_on { place ≡ present.old → IfOk result (λ n. present.new ≡ min (place + n) (2 ^ 64 - 1)) }
+    ensures keeps { Keeps progress.old progress.new }
+    ensures pays { IfOk result (λ n. 0 < n → max progress.old.told 32 < place → (progress.old.taken < progress.new.taken)
+        × (progress.new.taken ≤ progress.old.budget)) }
+    ensures runs { (home : ℕ) → Runs
+        (reader_state (R.telling reader.old) (R.count reader.old) home progress.old window.old.items)
+        (reader_state (R.telling reader.new) (R.count reader.new) home progress.new window.new.items)
+        (seen (λ n. take n room.new) (named progress.new result))
+        (part_read (held_at (stand (R.telling reader.old) progress.old) window.old.items).input place (length room.new)) }
+{
+    let count = read_above(reader, progress, window, present, place, room)?;
     Ok(count)
 }
 
-// Whether a place is another than the end of the last reading. A call of its own, since few readings ask.
+// A reading above the told length. A call of its own, since few readings are.
 #[cold]
 #[inline(never)]
-fn is_elsewhere(place: u64, present: u64) -> bool
-    ensures { result ≡ not (place == present) }
+fn read_above<R: Told>(
+    reader: &mut R,
+    progress: &mut Progress,
+    window: &mut Window,
+    present: &mut u64,
+    place: u64,
+    room: &mut [u8],
+) -> Result<usize, Halt>
+    requires { progress.old.told < place }
+    ensures bound { IfOk result (λ n. n ≤ length room.new) }
+    ensures ends { place ≢ present.old → (result ≡ Ok 0) × (reader.new ≡ reader.old) × (present.new ≡ present.old) }
+    ensures goes_on { place ≡ present.old → IfOk result (λ n. present.new ≡ min (place + n) (2 ^ 64 - 1)) }
+    ensures keeps { Keeps progress.old progress.new }
+    ensures pays { IfOk result (λ n. 0 < n → max progress.old.told 32 < place → (progress.old.taken < progress.new.taken)
+        × (progress.new.taken ≤ progress.old.budget)) }
+    ensures runs { (home : ℕ) → Runs
+        (reader_state (R.telling reader.old) (R.count reader.old) home progress.old window.old.items)
+        (reader_state (R.telling reader.new) (R.count reader.new) home progress.new window.new.items)
+        (seen (λ n. take n room.new) (named progress.new result))
+        (part_read (held_at (stand (R.telling reader.old) progress.old) window.old.items).input place (length room.new)) }
 {
-    place != present
+    if place != *present {
+        return Ok(0);
+    }
+    let count = read_within(reader, progress, window, place, room)?;
+    *present = place.saturating_add(count as u64);
+    Ok(count)
 }

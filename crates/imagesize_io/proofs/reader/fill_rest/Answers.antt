@@ -3,12 +3,12 @@ use Rattle.imagesize_io.proofs.Filling.{filled_none, filling_more, filling_ends}
 use Rattle.imagesize_io.proofs.reader.fill_rest.Goals as goal
 
 pub loop-filled-init : goal.loop-filled-init
-loop-filled-init g c = filled_none _ _ _ _
+loop-filled-init g c = filled_none _ _ _ _ c.requires
 
 pub loop-filled-preserved : goal.loop-filled-preserved
 loop-filled-preserved g c =
     let read = c.in_ok-count.ensures in
-    filling_more _ _ c.loop-filled.invariant read.bound (search rules) read.stand read.taken read.since read.keeps
+    filling_more _ _ c.loop-filled.invariant read.bound (search rules) read.stand read.taken read.place read.since read.keeps
 
 pub returns-then-count-eq0-clause-stand : goal.returns-then-count-eq0-clause-stand
 returns-then-count-eq0-clause-stand g c =

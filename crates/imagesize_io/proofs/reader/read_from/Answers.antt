@@ -9,6 +9,7 @@ returns-then-not-branch g c =
     record {
       bound = omega arith;
       stand = not_reached _ _ _ _ _ _ goes.stand c.if-not-branch.true;
+      stands = λ near. omega (arith, near, goes.far, c.if-not-branch.true);
       taken = omega (arith, goes.taken);
       within = within_none _ _ _ _ _ goes.taken;
       pays = λ far some. omega arith;
@@ -25,6 +26,7 @@ returns g c =
       bound = filled.bound;
       stand = from_there _ _ (g.R.Told.telling c.fill.new.reader) c.fill.new.progress _ _ _ _ _ goes.stand c.if-not-branch.false
           filled.stand;
+      stands = λ near. filled.place;
       taken = omega (arith, goes.taken, filled.taken);
       within = within_reached (stand (g.R.Told.telling c.args.reader.now) c.args.progress.now) _ _ _ _ _ _ _ _ goes.stand
           c.if-not-branch.false goes.taken filled.within;

@@ -6,10 +6,15 @@ use Rattle.imagesize_io.proofs.reader.read_windowed.Goals as goal
 
 pub returns-in_err-count-clause-runs : goal.returns-in_err-count-clause-runs
 returns-in_err-count-clause-runs g c = λ home.
-    let read = c.in_err-count.ensures in
-    let here : c.args.place + 0 ≡ c.args.place = omega arith in
     let is : ◌≡◌ {A = Result ℕ Halt} c.from_residual.result (Err c.in_err-count.field-0.0) = search rules in
-    straight_stopped {now = c.read_from.new.progress.place} _ (named c.read_from.new.progress c.from_residual.result) (record {
+    rw is (c.in_err-count.ensures.runs home)
+
+pub returns-in_err-count-2-clause-runs : goal.returns-in_err-count-2-clause-runs
+returns-in_err-count-2-clause-runs g c = λ home.
+    let read = c.in_err-count-2.ensures in
+    let here : c.args.place + 0 ≡ c.args.place = omega arith in
+    let is : ◌≡◌ {A = Result ℕ Halt} c.from_residual-in_err-count-2.result (Err c.in_err-count-2.field-0.0) = search rules in
+    straight_stopped {now = c.read_from.new.progress.place} _ (named c.read_from.new.progress c.from_residual-in_err-count-2.result) (record {
       told = told_by (g.R.Told.count c.args.reader.now) home (g.R.Told.telling c.args.reader.now) c.args.progress.now;
       told_after = told_by (g.R.Told.count c.read_from.new.reader) home (g.R.Told.telling c.read_from.new.reader) c.read_from.new.progress;
       frame = same_frame (g.R.Told.count c.args.reader.now) (g.R.Told.count c.read_from.new.reader) home c.args.progress.now
@@ -27,7 +32,7 @@ returns-in_err-count-clause-runs g c = λ home.
 
 pub returns-clause-runs : goal.returns-clause-runs
 returns-clause-runs g c = λ home.
-    let read = c.in_ok-count.ensures in
+    let read = c.in_ok-count-2.ensures in
     let here : c.args.place + 0 ≡ c.args.place = omega arith in
     straight {now = c.read_from.new.progress.place} (record {
       told = told_by (g.R.Told.count c.args.reader.now) home (g.R.Told.telling c.args.reader.now) c.args.progress.now;

@@ -1,12 +1,12 @@
 use Rattle.std.proofs.Common.{◌≡◌, ℕ, Result, Err, rules}
 use Rattle.imagesize_source.specs.declared.halt.Halt.{Halt}
 use Rattle.imagesize_io.proofs.Windows.{behind_end, told_by}
-use Rattle.imagesize_io.proofs.reader.read_on.Goals as goal
+use Rattle.imagesize_io.proofs.reader.read_above.Goals as goal
 
-pub returns-then-is_elsewhere-clause-runs : goal.returns-then-is_elsewhere-clause-runs
-returns-then-is_elsewhere-clause-runs g c = λ home.
+pub returns-then-place-present-clause-runs : goal.returns-then-place-present-clause-runs
+returns-then-place-present-clause-runs g c = λ home.
     let told = told_by (g.R.Told.count c.args.reader.now) home (g.R.Told.telling c.args.reader.now) c.args.progress.now in
-    behind_end _ _ _ _ _ told c.if-place-progress.true
+    behind_end _ _ _ _ _ told c.requires
 
 pub returns-in_err-count-clause-runs : goal.returns-in_err-count-clause-runs
 returns-in_err-count-clause-runs g c = λ home.
