@@ -1,5 +1,5 @@
 //! A reader as a source.
-ghost use Rattle.std.specs.Prelude.{◌≡◌, ◌==◌, not, ℕ, max, ◌+◌, ◌-◌, ◌^◌, ◌<◌, ◌≤◌, ◌≢◌, min, take, length, IfOk, IfErr, OnOk, OnSome, IfSome, true, false};
+ghost use Rattle.std.specs.Prelude.{◌≡◌, ℕ, max, ◌+◌, ◌-◌, ◌^◌, ◌<◌, ◌≤◌, ◌≢◌, min, take, length, IfOk, IfErr, OnOk, OnSome, IfSome, true, false};
 ghost use Rattle.imagesize_source.specs.Reading.{is_fault, is_memory, seen, part_read};
 ghost use Rattle.imagesize_io.specs.ReaderState.{held_at, reader_state, start_state, Opens};
 ghost use Rattle.imagesize_source.specs.State.{Runs};
@@ -127,20 +127,13 @@ fn seek<R: Told>(reader: &mut R, to: SeekFrom) -> ImageResult<u64>
     Ok(place)
 }
 
-// What a halt ends the call with.
-#[inline(always)]
+// What a halt ends the call with. A call of its own, since few readings are halted.
+#[cold]
+#[inline(never)]
 fn refused(halt: Halt, progress: &Progress) -> ImageError
     ensures { result ≡ error_at progress.now halt }
 {
-    match halt {
-        Halt::Failed => ImageError::from(progress.fault),
-        Halt::Spent => ImageError::IoError(Reason::BudgetSpent {
-            budget: progress.budget,
-        }),
-        Halt::Ended => ImageError::IoError(Reason::EndOfInput),
-        Halt::Corrupted => ImageError::CorruptedImage,
-        Halt::InvalidVp8Tag => ImageError::IoError(Reason::InvalidVp8Tag),
-    }
+    halt.error(Reason::Fault(progress.fault), progress.budget)
 }
 
 // How many interruptions of reads are tried again in one call.

@@ -26,14 +26,14 @@ pub enum Halt {
 }
 
 impl Halt {
-    /// The error of this halt of a slice, where a call fails for this reason. A slice has no budget.
+    /// The error of this halt, where a call fails for this reason and no more bytes than the budget may be taken.
     #[inline(always)]
-    pub fn error(self, failure: Reason) -> ImageError
-        ensures { result ≡ error_by (error.IoError failure) 0 self }
+    pub fn error(self, failure: Reason, budget: u64) -> ImageError
+        ensures { result ≡ error_by (error.IoError failure) budget self }
     {
         match self {
             Halt::Failed => ImageError::IoError(failure),
-            Halt::Spent => ImageError::IoError(Reason::BudgetSpent { budget: 0 }),
+            Halt::Spent => ImageError::IoError(Reason::BudgetSpent { budget }),
             Halt::Ended => ImageError::IoError(Reason::EndOfInput),
             Halt::Corrupted => ImageError::CorruptedImage,
             Halt::InvalidVp8Tag => ImageError::IoError(Reason::InvalidVp8Tag),

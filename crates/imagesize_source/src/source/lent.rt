@@ -97,7 +97,7 @@ impl Source for LentSource<'_, '_> {
     }
 
     fn refusal(&self, halt: Halt) -> ImageError {
-        halt.error(Reason::EndOfInput)
+        halt.error(Reason::EndOfInput, 0)
     }
 
     fn read_at(&mut self, place: u64, room: &mut [u8]) -> Result<usize, Halt> {

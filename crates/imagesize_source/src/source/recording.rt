@@ -34,7 +34,7 @@ impl<A: Allocator> Source for RecordingSource<'_, A> {
     }
 
     fn refusal(&self, halt: Halt) -> ImageError {
-        halt.error(Reason::Memory)
+        halt.error(Reason::Memory, 0)
     }
 
     fn read_at(&mut self, place: u64, room: &mut [u8]) -> Result<usize, Halt> {

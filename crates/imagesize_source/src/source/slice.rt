@@ -31,7 +31,7 @@ impl Source for SliceSource<'_> {
 
     #[inline(always)]
     fn refusal(&self, halt: Halt) -> ImageError {
-        halt.error(Reason::EndOfInput)
+        halt.error(Reason::EndOfInput, 0)
     }
 
     #[inline(always)]
