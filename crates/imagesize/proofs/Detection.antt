@@ -25,8 +25,8 @@ use Rattle.imagesize_source.specs.Counts.{CostsBy}
 use Rattle.imagesize_source.specs.Input.{span_of}
 use Rattle.imagesize_source.specs.Layout.{over, bind}
 use Rattle.imagesize_source.proofs.Runs.{runs_then}
-use Rattle.imagesize_source.specs.Reading.{Reads, onward, bytes_at, bytes_read, part_read}
-use Rattle.imagesize_source.specs.State.{State, Runs, total}
+use Rattle.imagesize_source.specs.Reading.{Reads, faulted, onward, bytes_at, bytes_read, part_read}
+use Rattle.imagesize_source.specs.State.{State, Runs, Missed, total}
 use Rattle.imagesize_source.specs.declared.error.ImageError.{ImageError}
 use Rattle.imagesize_source.specs.declared.span.Span.{Span}
 
@@ -168,5 +168,6 @@ head_refused {a} {b} d room place e long h = record {
   answer = λ honest goes_on. let no = h.answer honest goes_on in absurd cc;
   state = λ honest goes_on. let no = h.answer honest goes_on in absurd cc;
   fault = h.fault;
+  misses = subst (λ k. (honest : a.held.honest ≡ true) → faulted {X = List ℕ} (Err e) ≡ true → Missed a b (span_of d place k)) long h.misses;
   ended = h.ended;
 }

@@ -10,7 +10,7 @@ use Rattle.imagesize.proofs.Counts.{cost_stated, cost_within}
 use Rattle.imagesize.proofs.Endings.{stops_for_memory}
 use Rattle.imagesize.proofs.Extension.{size_lasts}
 use Rattle.imagesize.proofs.Locality.{local_kind, local_meaning}
-use Rattle.imagesize_source.proofs.Agreement.{agrees_first}
+use Rattle.imagesize_source.proofs.Agreement.{agrees_first, same_by_local}
 use Rattle.imagesize_source.proofs.Recordings.{past-recording}
 use Rattle.imagesize_source.specs.Agreement.{Agrees}
 use Rattle.imagesize_source.specs.Reading.{Reads, is_memory, stopped}
@@ -73,6 +73,6 @@ answer_lasts d after spans r h memory = size_lasts d 0 r (answered d after spans
 pub same : (d e : List ℕ) → Agrees d e (meaning d 0).marks → IsSame d e
 unfolding meaning
 same d e agrees = record {
-  kind = local_kind 0 d e (agrees_first (kind_of d 0).marks (kind_of d 0).answer (λ found. size_of found d) agrees);
-  meaning = local_meaning 0 d e agrees;
+  kind = same_by_local (λ x. kind_of x 0) (local_kind 0) d e (agrees_first (kind_of d 0).marks (kind_of d 0).answer (λ found. size_of found d) agrees);
+  meaning = same_by_local (λ x. meaning x 0) (local_meaning 0) d e agrees;
 }

@@ -2,6 +2,7 @@ pub mod Counts
 pub mod Kind
 pub mod Meaning
 pub mod Names
+pub mod Parted
 pub mod Probed
 pub mod Queries
 pub mod Ranks

@@ -6,6 +6,7 @@ mod file;
 mod formats;
 mod laws;
 mod names;
+mod parts;
 mod queries;
 mod spans;
 mod trace;
@@ -20,6 +21,7 @@ pub use imagesize_types::compression::{
 };
 pub use imagesize_types::size::ImageSize;
 pub use names::TypeName;
+pub use parts::{PartsAnswer, parts_probe};
 pub use spans::blob_spans;
 pub use trace::{Trace, blob_trace};
 pub use types::{CompressionFamily, ImageType};

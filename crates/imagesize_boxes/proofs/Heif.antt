@@ -42,7 +42,7 @@ use Rattle.imagesize_source.proofs.Chains.{chain_stop}
 use Rattle.imagesize_source.proofs.Counts.{then_within, total-span_of, total_behind}
 use Rattle.imagesize_source.proofs.Bytes.{first_four}
 use Rattle.imagesize_source.proofs.Layouts.{no_part, no_span}
-use Rattle.imagesize_source.proofs.Agreement.{local_then, local_number, same_span, same_bytes}
+use Rattle.imagesize_source.proofs.Agreement.{local_bytes, local_then, local_number}
 use Rattle.imagesize_source.proofs.Reached.{runs_bind, refused_bind, reached_now}
 use Rattle.imagesize_source.proofs.Runs.{total-append}
 use Rattle.imagesize_source.proofs.Tests.{on_test}
@@ -407,9 +407,6 @@ heif_compression_laws place head =
     (λ _. record { few = tt; answers = tt })
 
 -- what is seen of an input
-local_bytes : (place k : ℕ) → Local (λ d. bytes_read d place k)
-local_bytes place k d e a = rw (same_span d e place k a.as_long, same_bytes d e place k a) refl
-
 local_search : (tag : List ℕ) (place : ℕ) → Local (λ d. chain_at (search_for tag place) d)
 local_search tag place = local_chain (search_for tag place) (search_advances tag place)
 

@@ -1,5 +1,5 @@
 -- JPEG XL: how many bytes its size is read from, and what it sees of an input.
-use Rattle.std.proofs.Common.{◌≡◌, ℕ, ◌+◌, ◌-◌, ◌*◌, ◌<◌, ◌≤◌, min, true, List, [], ◌∷◌, ◌++◌, length, take, drop, Option, None, Some, Result, Ok, Err, refl, ap, ◌∙◌, arith}
+use Rattle.std.proofs.Common.{◌≡◌, ℕ, ◌+◌, ◌-◌, ◌*◌, ◌<◌, ◌≤◌, min, true, List, [], ◌∷◌, ◌++◌, length, take, drop, Option, None, Some, Result, Ok, Err, inl, refl, ap, ◌∙◌, arith}
 use Rattle.std.proofs.lemmas.List.{append-nil, length-append}
 use Rattle.std.proofs.lemmas.List.Folds.{concat-append}
 use Rattle.std.specs.List.{concat}
@@ -30,12 +30,12 @@ use Rattle.imagesize_boxes.proofs.JxlGrowth.{jxl_lasts, box_sized}
 
 local_behind : (found : Option (List ℕ)) → Local (λ d. codestream d found)
 local_behind None = local_chain jxl_chain jxl_advances
-local_behind (Some front) = λ d e a. refl
+local_behind (Some front) = λ d e long. inl refl
 
 pub jxl_local : Local jxl
 jxl_local = local_then jxl_codestream (λ front d. record { answer = jxl_size front; marks = [] })
     (local_then (λ d. over d jxl_start) (λ found d. codestream d found) (local_layout jxl_start) local_behind)
-    (λ front d e a. refl)
+    (λ front d e long. inl refl)
 
 -- a box goes forward: its content stands behind its head, and the next box behind both
 content_ahead : (q : ℕ) (held : List ℕ) (place : ℕ) (head : BoxHead) → q ≤ place + head.length

@@ -221,6 +221,7 @@ module _ {a b : State} {t : Text} {place count k : ℕ} {begun : Bool} {got : Li
           run.state (same_honest honest) refl ∙ ap (past b) (no_mark honest) ∙ h.state honest
           ∙ ap (λ n. past a (span_at place n)) (sym (ap length (ends_now honest) ∙ h.long));
       fault = λ honest faults. absurd cc;
+      misses = λ honest faults. absurd cc;
       ended = tt;
     } where
       ends_now : a.held.honest ≡ true → text_part a.held.input t place k ≡ got
@@ -230,9 +231,9 @@ module _ {a b : State} {t : Text} {place count k : ℕ} {begun : Bool} {got : Li
       no_mark honest = ap (λ d. span_of d next 1) (same_input honest) ∙ no_span a.held.input next 1 (end_there run honest)
 
     -- a failure on the way
-    pub taking_stopped : {e : ImageError} → count < k → Runs b c (Err e) (part_read b.held.input next 1) → Sound a
+    pub taking_stopped : {e : ImageError} → count < k → Runs b c (Err e) (part_read b.held.input next 1) → Sound a → c.missed ≡ None
         → Runs a c (Err e) (text_read a.held.input t place k)
-    taking_stopped {e} more run sound = record {
+    taking_stopped {e} more run sound untold = record {
       sound = sound;
       sound_after = run.sound_after;
       frame = run.frame ∙ h.frame;
@@ -248,6 +249,7 @@ module _ {a b : State} {t : Text} {place count k : ℕ} {begun : Bool} {got : Li
       answer = λ honest goes_on. absurd (let no = run.answer (same_honest honest) goes_on in cc);
       state = λ honest goes_on. absurd (let no = run.answer (same_honest honest) goes_on in cc);
       fault = λ honest faults. ap (λ x. x.can_fail) (sym (same_held honest)) ∙ run.fault (same_honest honest) faults;
+      misses = λ honest faults. record { told = rw untold tt };
       ended = run.ended;
     } where
       one_more : (bs : List ℕ) → 0 < length bs → 0 < length (text_rest t begun bs)
@@ -341,6 +343,7 @@ module _ {a b : State} {t : Text} {place count k : ℕ} {begun : Bool} {got : Li
         answer = λ honest goes_on. ap Ok (done_now honest);
         state = λ honest goes_on. joined only honest ∙ ap (λ n. past a (span_at place n)) (sym (long_now honest));
         fault = λ honest faults. absurd cc;
+        misses = λ honest faults. absurd cc;
         ended = tt;
       } where
         done_now : a.held.honest ≡ true → text_part a.held.input t place k ≡ got ++ byte ∷ []
@@ -369,6 +372,7 @@ module _ {a b : State} {t : Text} {place count k : ℕ} {begun : Bool} {got : Li
     answer = λ honest goes_on. ap Ok (full_now honest);
     state = λ honest goes_on. h.state honest ∙ ap (λ n. past a (span_at place n)) (sym (ap length (full_now honest) ∙ h.long));
     fault = λ honest faults. absurd cc;
+    misses = λ honest faults. absurd cc;
     ended = tt;
   } where
     full_now : a.held.honest ≡ true → text_part a.held.input t place k ≡ got
@@ -457,8 +461,8 @@ module _ {a b : State} {t : Text} {place count : ℕ} {begun : Bool} (room : Lis
 
   -- a failure
   pub text_stopped : {c : State} {e : ImageError} (next m : ℕ) (more : List ℕ) → next ≡ min (place + count) (2 ^ 64 - 1)
-      → count < length room → m ≡ 1 → length more ≡ 1 → Runs b c (Err e) (part_read b.held.input next (length more)) → Sound a
+      → count < length room → m ≡ 1 → length more ≡ 1 → Runs b c (Err e) (part_read b.held.input next (length more)) → Sound a → c.missed ≡ None
       → Runs a c (Err e) (text_read a.held.input t place (length (put_mid count m room more)))
-  text_stopped {c} {e} next m more next_is fits is_one one run sound =
+  text_stopped {c} {e} next m more next_is fits is_one one run sound untold =
       subst (λ k. Runs a c (Err e) (text_read a.held.input t place k)) (sym (room_long count m room more fits is_one one))
-      (taking_stopped h next next_is fits (subst (λ k. Runs b c (Err e) (part_read b.held.input next k)) one run) sound)
+      (taking_stopped h next next_is fits (subst (λ k. Runs b c (Err e) (part_read b.held.input next k)) one run) sound untold)

@@ -170,6 +170,7 @@ in_window f st w room old taken place n told counts count copied all kept = reco
   answer = λ honest goes_on. ap Ok (in_window_answer st w room old place n count copied all kept honest);
   state = λ honest goes_on. in_window_state f st w taken place (length room) counts (omega arith) honest;
   fault = λ honest faults. absurd cc;
+  misses = λ honest faults. absurd cc;
   ended = tt;
 }
 
@@ -241,8 +242,8 @@ grown_if w d more place k copied n false at small fits count short gave n_fits =
 
 -- states that agree in each part
 together : (f f' : Frame) (h h' : Held) (m m' t t' : ℕ) → f ≡ f' → h ≡ h' → m ≡ m' → t ≡ t'
-    → ◌≡◌ {A = State} (record { frame = f; held = h; front = m; taken = t; recorded = None })
-    (record { frame = f'; held = h'; front = m'; taken = t'; recorded = None })
+    → ◌≡◌ {A = State} (record { frame = f; held = h; front = m; taken = t; recorded = None; missed = None })
+    (record { frame = f'; held = h'; front = m'; taken = t'; recorded = None; missed = None })
 together f f' h h' m m' t t' p q r s = cc
 
 -- the source after a reading that went on behind the window
@@ -349,6 +350,7 @@ behind_window {f} {f'} {st} {st'} {w} {w'} {room} {old} {more} {taken} {taken'} 
       answer = λ honest goes_on. ap Ok (behind_runs_answer f f' st st' w w' room old more taken taken' place now copied n h honest);
       state = λ honest goes_on. behind_runs_state f f' st st' w w' room old more taken taken' place now copied n h honest;
       fault = λ honest faults. absurd cc;
+      misses = λ honest faults. absurd cc;
       ended = tt;
     })
 
@@ -386,6 +388,7 @@ halted {f} {f'} {st} {st'} {w} {w'} {room} {old} {more} {taken} {taken'} {place}
   answer = λ honest goes_on. absurd cc;
   state = λ honest goes_on. absurd cc;
   fault = λ honest faults. fails_claim st st' w more (place + copied) now e h.gives honest faults;
+  misses = λ honest faults. record { told = tt };
   ended = h.ended;
 }
 
@@ -439,8 +442,8 @@ pub told_by : (count : Option ℕ) (home : ℕ) (telling : Option Telling) (p : 
 told_by count home telling p = told_if (reader_frame count home p) telling p (stand telling p) refl refl
 
 same_frames : (told told' budget budget' home : ℕ) (s s' : Option (ℕ × ℕ)) → told ≡ told' → budget ≡ budget' → s ≡ s'
-    → ◌≡◌ {A = Frame} (record { told = told; budget = budget; counts = true; records = false; home = home; since = s })
-    (record { told = told'; budget = budget'; counts = true; records = false; home = home; since = s' })
+    → ◌≡◌ {A = Frame} (record { told = told; budget = budget; counts = true; records = false; home = home; since = s; parts = None })
+    (record { told = told'; budget = budget'; counts = true; records = false; home = home; since = s'; parts = None })
 same_frames told told' budget budget' home s s' p q r = cc
 
 -- what never changes
@@ -491,5 +494,6 @@ behind_end {f} st w taken place k told far = record {
   answer = λ honest goes_on. ap Ok (end_answer f st w place k told far honest);
   state = λ honest goes_on. end_state f st w taken place k told far honest;
   fault = λ honest faults. absurd cc;
+  misses = λ honest faults. absurd cc;
   ended = tt;
 }

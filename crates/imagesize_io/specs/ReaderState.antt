@@ -31,6 +31,7 @@ reader_frame count home p = record {
   records = false;
   home = home;
   since = since count p.taken;
+  parts = None;
 }
 
 -- a reader as a source
@@ -41,6 +42,7 @@ state_at frame standing window taken = record {
   front = length window;
   taken = taken;
   recorded = None;
+  missed = None;
 }
 
 abbrev pub reader_state : Option Telling → Option ℕ → ℕ → Progress → List ℕ → State
@@ -61,5 +63,5 @@ Opens (Some t) new (Err e) = t.can_fail ≡ true
 -- budget is the told length and 64 bytes more.
 abbrev pub start_state : Option Telling → Option ℕ → ℕ → ℕ → State
 start_state telling count home told = state_at
-    (record { told = told; budget = min (told + 64) (2 ^ 64 - 1); counts = true; records = false; home = home; since = since count 0 })
+    (record { told = told; budget = min (told + 64) (2 ^ 64 - 1); counts = true; records = false; home = home; since = since count 0; parts = None })
     (stand_of told told (steady telling 0)) [] 0

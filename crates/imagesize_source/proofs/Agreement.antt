@@ -1,20 +1,23 @@
 -- A layout sees an input by its readings alone.
-use Rattle.std.proofs.Common.{◌≡◌, ℕ, zero, suc, ◌+◌, ◌-◌, ◌<◌, ◌≤◌, min, Bool, true, false, ◌||◌, List, [], ◌∷◌, ◌++◌, length, take, drop, Result, Ok, Err, refl, sym, ap, ◌∙◌, subst, arith}
-use Rattle.std.proofs.lemmas.List.{length-take, take-take, length-drop, get_or-take, get_or-drop, ext_get_or}
+use Rattle.std.proofs.Common.{◌≡◌, ℕ, zero, suc, ◌+◌, ◌-◌, ◌<◌, ◌≤◌, min, Bool, true, false, ◌||◌, ◌&&◌, ◌⊎◌, inl, inr, eqb, leb, get_or, slice_index, append_assoc, List, [], ◌∷◌, ◌++◌, length, take, drop, Result, Ok, Err, refl, sym, ap, ◌∙◌, subst, arith}
+use Rattle.std.proofs.lemmas.List.{append-nil, length-take, take-take, length-drop, get_or-take, get_or-drop, ext_get_or}
 use Rattle.std.proofs.Math.Seq.{take-append_seam}
 use Rattle.std.proofs.lemmas.Bool.Decides.{nat_tests}
 use Rattle.imagesize_source.specs.declared.error.ImageError.{ImageError}
 use Rattle.imagesize_source.specs.declared.span.Span.{Span}
 use Rattle.imagesize_source.specs.declared.util.Endian.{Endian}
-use Rattle.imagesize_source.specs.Agreement.{Agrees, Local, has_place, covered}
+use Rattle.std.proofs.lemmas.Bool.{cases_lt}
+use Rattle.std.specs.List.{list_any, range_with_len}
+use Rattle.imagesize_source.specs.State.{places_in}
+use Rattle.imagesize_source.specs.Agreement.{Agrees, Alike, Local, Parting, has_place, covered}
 use Rattle.imagesize_source.specs.Input.{part, span_at, span_of}
 use Rattle.imagesize_source.specs.Layout.{Layout, done, refuse, field, reading, over}
 use Rattle.imagesize_source.specs.Numbers.{number}
 use Rattle.imagesize_source.specs.declared.text.Text.{Text}
 use Rattle.imagesize_source.specs.Text.{text_front}
-use Rattle.imagesize_source.proofs.Texts.{front_first, front_length, front_same}
-use Rattle.imagesize_source.proofs.Runs.{part_length}
-use Rattle.imagesize_source.specs.Reading.{Reads, Reading, AllOf, PartOf, TextOf, onward, behind, and_then, bytes_at, number_at, number_read, text_part, read_of, seen}
+use Rattle.imagesize_source.proofs.Texts.{front_first, front_length, front_same, front_take}
+use Rattle.imagesize_source.proofs.Runs.{part_length, places-append, places_onward}
+use Rattle.imagesize_source.specs.Reading.{Reads, Reading, AllOf, PartOf, TextOf, onward, behind, and_then, bytes_at, bytes_read, number_at, number_read, text_part, read_of, seen}
 
 covered-left : (s t : List Span) (place : ℕ) → covered s place ≡ true → covered (s ++ t) place ≡ true
 covered-left [] t place h = absurd cc
@@ -139,21 +142,255 @@ local d e (reading r place f) a =
     (onward_local (read_of d r place).marks (read_of d r place).answer (λ bs. over d (f bs)) (λ bs. over e (f bs)) a
     (λ bs. local d e (f bs)))
 
+-- ---- where two inputs part
+
+-- whether a place is among some
+any_there : (place : ℕ) (seen rest : List ℕ) → list_any (λ q. eqb q place) (seen ++ place ∷ rest) ≡ true
+any_there place [] rest = let same : eqb place place ≡ true = grind (arith, nat_tests) in ap (λ b. b || list_any (λ q. eqb q place) rest) same
+any_there place (q ∷ seen) rest =
+    let Goal : Bool → Type 0 = λ b. b || list_any (λ q. eqb q place) (seen ++ place ∷ rest) ≡ true in
+    elim (eqb q place) as Goal [ true ↦ refl | false ↦ any_there place seen rest ]
+
+any_both : (p : ℕ → Bool) (xs ys : List ℕ) → list_any p (xs ++ ys) ≡ list_any p xs || list_any p ys
+any_both p [] ys = refl
+any_both p (x ∷ xs) ys =
+    let Goal : Bool → Type 0 = λ b. b || list_any p (xs ++ ys) ≡ (b || list_any p xs) || list_any p ys in
+    elim (p x) as Goal [ true ↦ refl | false ↦ any_both p xs ys ]
+
+any_range : (a n place : ℕ) → list_any (λ q. eqb q place) (range_with_len a n) ≡ leb a place && leb (suc place) (a + n)
+any_range a zero place = grind (arith, nat_tests)
+any_range a (suc n) place = rw (any_range (a + 1) n place) (grind (arith, nat_tests))
+
+pub covered-places : (s : List Span) (place : ℕ) → covered s place ≡ list_any (λ q. eqb q place) (places_in s)
+covered-places [] place = refl
+covered-places (x ∷ s) place = rw (any_both (λ q. eqb q place) (range_with_len x.start x.len) (places_in s), any_range x.start x.len place)
+    (ap (λ b. has_place x place || b) (covered-places s place))
+
+-- a place that the readings see is one of their marks
+pub covered_at : (s : List Span) (place : ℕ) (seen rest : List ℕ) → places_in s ≡ seen ++ place ∷ rest → covered s place ≡ true
+covered_at s place seen rest is = covered-places s place ∙ ap (list_any (λ q. eqb q place)) is ∙ any_there place seen rest
+
+-- inputs that agree do not part
+pub same_by_local : {X : Type 0} (r : List ℕ → Reads X) → Local r → (d e : List ℕ) → Agrees d e (r d).marks → r e ≡ r d
+same_by_local r is_local d e a = elim (is_local d e a.as_long) [
+  | inl same ↦ same
+  | inr parts ↦ absurd (parts.differs (a.same_byte parts.place (covered_at (r d).marks parts.place parts.seen parts.rest parts.here)))
+]
+
+-- two lists of one length are the same, or differ at a first place
+record Differ (xs ys : List ℕ) : Type 0 where
+  at : ℕ
+  below : at < length xs
+  before : take at ys ≡ take at xs
+  unlike : get_or ys at 0 ≡ get_or xs at 0 → ⊥
+
+differ : (xs ys : List ℕ) → length ys ≡ length xs → (ys ≡ xs) ⊎ Differ xs ys
+differ [] [] long = inl refl
+differ [] (y ∷ ys) long = absurd (omega (arith, long))
+differ (x ∷ xs) [] long = absurd (omega (arith, long))
+differ (x ∷ xs) (y ∷ ys) long = by_test (eqb y x) refl (differ xs ys (omega (arith, long))) where
+  later : y ≡ x → (ys ≡ xs) ⊎ Differ xs ys → (y ∷ ys ≡ x ∷ xs) ⊎ Differ (x ∷ xs) (y ∷ ys)
+  later same (inl rest) = inl (ap (λ z. z ∷ ys) same ∙ ap (λ zs. x ∷ zs) rest)
+  later same (inr d) = inr (record {
+    at = suc d.at;
+    below = let less = d.below in omega arith;
+    before = ap (λ z. z ∷ take d.at ys) same ∙ ap (λ zs. x ∷ zs) d.before;
+    unlike = d.unlike;
+  })
+
+  by_test : (test : Bool) → eqb y x ≡ test → (ys ≡ xs) ⊎ Differ xs ys → (y ∷ ys ≡ x ∷ xs) ⊎ Differ (x ∷ xs) (y ∷ ys)
+  by_test true is rest = later (grind (arith, nat_tests)) rest
+  by_test false is rest = inr (record {
+    at = 0;
+    below = omega arith;
+    before = refl;
+    unlike = λ same. let no : y ≡ x = same in absurd (grind (arith, nat_tests));
+  })
+
+pub places-span : (place n : ℕ) → places_in (span_at place n) ≡ range_with_len place n
+unfolding span_at
+places-span place zero = refl
+places-span place (suc n) = let some : eqb (suc n) 0 ≡ false = grind (arith, nat_tests) in rw some (append-nil (range_with_len place (suc n)))
+
+pub range_split : (a n i : ℕ) → i < n → range_with_len a n ≡ range_with_len a i ++ (a + i) ∷ range_with_len (a + i + 1) (n - i - 1)
+range_split a zero i below = absurd (omega (arith, below))
+range_split a (suc n) zero below =
+    let here : a ≡ a + 0 = omega arith in
+    let next : a + 1 ≡ a + 0 + 1 = omega arith in
+    let fewer : n ≡ suc n - 0 - 1 = omega arith in
+    ap (λ p. p ∷ range_with_len (a + 1) n) here ∙ ap (λ p. (a + 0) ∷ range_with_len p n) next
+    ∙ ap (λ k. (a + 0) ∷ range_with_len (a + 0 + 1) k) fewer
+range_split a (suc n) (suc i) below =
+    let at : a + 1 + i ≡ a + suc i = omega arith in
+    let fewer : n - i - 1 ≡ suc n - suc i - 1 = omega arith in
+    ap (λ ps. a ∷ ps) (range_split (a + 1) n i (omega (arith, below))
+    ∙ ap (λ p. range_with_len (a + 1) i ++ p ∷ range_with_len (p + 1) (n - i - 1)) at
+    ∙ ap (λ k. range_with_len (a + 1) i ++ (a + suc i) ∷ range_with_len (a + suc i + 1) k) fewer)
+
+-- two spans from one place on, at a place of both
+parting_at : (d e : List ℕ) (place m n i : ℕ) → i < m → i < n → (slice_index e (place + i) ≡ slice_index d (place + i) → ⊥)
+    → Parting d e (span_at place m) (span_at place n)
+parting_at d e place m n i within also unlike = record {
+  seen = range_with_len place i;
+  place = place + i;
+  rest = range_with_len (place + i + 1) (m - i - 1);
+  others = range_with_len (place + i + 1) (n - i - 1);
+  here = places-span place m ∙ range_split place m i within;
+  there = places-span place n ∙ range_split place n i also;
+  differs = unlike;
+}
+
+part-at : (d : List ℕ) (place k i : ℕ) → i < k → get_or (part d place k) i 0 ≡ slice_index d (place + i)
+unfolding part
+part-at d place k i below = get_or-take k (drop place d) i 0 below ∙ get_or-drop place d i 0
+
+-- a difference of two parts is one of the inputs
+unlike_at : (d e : List ℕ) (place k i : ℕ) → i < k → (get_or (part e place k) i 0 ≡ get_or (part d place k) i 0 → ⊥)
+    → slice_index e (place + i) ≡ slice_index d (place + i) → ⊥
+unlike_at d e place k i below unlike same = unlike (part-at e place k i below ∙ same ∙ sym (part-at d place k i below))
+
+parts_long : (d e : List ℕ) (place k : ℕ) → length e ≡ length d → length (part e place k) ≡ length (part d place k)
+parts_long d e place k long = part_length e place k ∙ ap (λ m. min k (m - place)) long ∙ sym (part_length d place k)
+
+-- bytes are the same, or the inputs part
+alike_part : (d e : List ℕ) (place k : ℕ) → length e ≡ length d → (part e place k ≡ part d place k)
+    ⊎ Parting d e (span_of d place k) (span_of e place k)
+unfolding span_of
+alike_part d e place k long = elim (differ (part d place k) (part e place k) (parts_long d e place k long)) [
+  | inl same ↦ inl same
+  | inr x ↦ (
+      let within : x.at < min k (length d - place) = omega (arith, x.below, part_length d place k) in
+      inr (parting_at d e place (min k (length d - place)) (min k (length e - place)) x.at within
+      (omega (arith, within, long)) (unlike_at d e place k x.at (omega (arith, within)) x.unlike))
+      )
+]
+
+-- and so is what is made of them
+alike_made : {X : Type 0} (f : List ℕ → ℕ → Result X ImageError) (d e : List ℕ) (place k : ℕ) → length e ≡ length d
+    → (part e place k ≡ part d place k → f e place ≡ f d place)
+    → Alike d e (record { answer = f d place; marks = span_of d place k }) (record { answer = f e place; marks = span_of e place k })
+alike_made f d e place k long same = elim (alike_part d e place k long) [
+  | inl is ↦ (let span = same_span d e place k long in inl (rw (span, same is) refl))
+  | inr parts ↦ inr parts
+]
+
+bytes_made : (d e : List ℕ) (place k : ℕ) → length e ≡ length d → part e place k ≡ part d place k → bytes_at e place k ≡ bytes_at d place k
+unfolding bytes_at
+bytes_made d e place k long same = rw (long, same) refl
+
+number_made : (d e : List ℕ) (order : Endian) (place k : ℕ) → length e ≡ length d → part e place k ≡ part d place k
+    → number_at e order place k ≡ number_at d order place k
+unfolding number_at
+number_made d e order place k long same = ap (seen (number order)) (bytes_made d e place k long same)
+
+-- a text is the same, or the inputs part within both
+alike_text : (d e : List ℕ) (t : Text) (place k : ℕ) → length e ≡ length d → (text_part e t place k ≡ text_part d t place k)
+    ⊎ Parting d e (span_at place (length (text_part d t place k))) (span_at place (length (text_part e t place k)))
+unfolding text_part
+alike_text d e t place k long = elim (differ xs ys (parts_long d e place k long)) [
+  | inl same ↦ inl (ap (text_front t) same)
+  | inr x ↦ by_first x (cases_lt x.at m) (cases_lt x.at n)
+] where
+  xs : List ℕ
+  xs = part d place k
+
+  ys : List ℕ
+  ys = part e place k
+
+  m : ℕ
+  m = length (text_front t xs)
+
+  n : ℕ
+  n = length (text_front t ys)
+
+  first_same : (cs bs : List ℕ) (j i : ℕ) → j ≤ i → take i bs ≡ take i cs → take j bs ≡ take j cs
+  first_same cs bs j i few same = sym (take-take j i bs few) ∙ ap (take j) same ∙ take-take j i cs few
+
+  by_first : (x : Differ xs ys) → (x.at < m) ⊎ (m ≤ x.at) → (x.at < n) ⊎ (n ≤ x.at)
+      → (text_front t ys ≡ text_front t xs) ⊎ Parting d e (span_at place m) (span_at place n)
+  by_first x (inr early) also =
+      let begins : take m ys ≡ take m xs = first_same xs ys m x.at early x.before in
+      inl (front_same t xs ys (parts_long d e place k long) (begins ∙ front_take t xs))
+  by_first x (inl within) (inr early) =
+      let begins : take n xs ≡ take n ys = first_same ys xs n x.at early (sym x.before) in
+      inl (sym (front_same t ys xs (sym (parts_long d e place k long)) (begins ∙ front_take t ys)))
+  by_first x (inl within) (inl also) =
+      let fits : x.at < k = omega (arith, x.below, part_length d place k) in
+      inr (parting_at d e place m n x.at within also (unlike_at d e place k x.at fits x.unlike))
+
+alike_reading : (d e : List ℕ) (r : Reading) (place : ℕ) → length e ≡ length d → Alike d e (read_of d r place) (read_of e r place)
+alike_reading d e (AllOf k) place long = alike_made (λ x p. bytes_at x p k) d e place k long (bytes_made d e place k long)
+alike_reading d e (PartOf k) place long = alike_made (λ x p. Ok (part x p k)) d e place k long (λ same. ap Ok same)
+alike_reading d e (TextOf t k) place long = elim (alike_text d e t place k long) [
+  | inl same ↦ inl (ap (λ bs. record { answer = Ok bs; marks = span_at place (length bs) }) same)
+  | inr parts ↦ inr parts
+]
+
+-- readings behind others, and before others
+parting_behind : {d e : List ℕ} {s t : List Span} (before : List Span) → Parting d e s t → Parting d e (before ++ s) (before ++ t)
+parting_behind {d} {e} {s} {t} before x = record {
+  seen = places_in before ++ x.seen;
+  place = x.place;
+  rest = x.rest;
+  others = x.others;
+  here = places-append before s ∙ ap (λ ps. places_in before ++ ps) x.here ∙ sym (append_assoc (places_in before) x.seen (x.place ∷ x.rest));
+  there = places-append before t ∙ ap (λ ps. places_in before ++ ps) x.there
+      ∙ sym (append_assoc (places_in before) x.seen (x.place ∷ x.others));
+  differs = x.differs;
+}
+
+parting_before : {d e : List ℕ} {s t : List Span} (all whole : List Span) (more others : List ℕ) → places_in all ≡ places_in s ++ more
+    → places_in whole ≡ places_in t ++ others → Parting d e s t → Parting d e all whole
+parting_before all whole more others is also x = record {
+  seen = x.seen;
+  place = x.place;
+  rest = x.rest ++ more;
+  others = x.others ++ others;
+  here = is ∙ ap (λ ps. ps ++ more) x.here ∙ append_assoc x.seen (x.place ∷ x.rest) more;
+  there = also ∙ ap (λ ps. ps ++ others) x.there ∙ append_assoc x.seen (x.place ∷ x.others) others;
+  differs = x.differs;
+}
+
+-- what goes on from answers that are alike, where it is alike behind each
+pub alike_then : {X Y : Type 0} (d e : List ℕ) (p q : Reads X) (f g : X → Reads Y) → Alike d e p q
+    → ((x : X) → p.answer ≡ Ok x → Alike d e (f x) (g x)) → Alike d e (and_then p f) (and_then q g)
+alike_then d e p q f g (inr parts) rest =
+    let here = places_onward p.marks p.answer f in
+    let there = places_onward q.marks q.answer g in
+    inr (parting_before (and_then p f).marks (and_then q g).marks here.0 there.0 here.1 there.1 parts)
+alike_then {X} {Y} d e p q f g (inl same) rest = subst (λ w. Alike d e (and_then p f) (and_then w g)) (sym same) (by_answer p.answer refl) where
+  by_answer : (r : Result X ImageError) → p.answer ≡ r → Alike d e (onward p.marks r f) (onward p.marks r g)
+  by_answer (Err x) is = inl refl
+  by_answer (Ok x) is = elim (rest x is) [
+    | inl rest_same ↦ inl (ap (behind p.marks) rest_same)
+    | inr parts ↦ inr (parting_behind p.marks parts)
+  ]
+
 -- a layout is local
+pub alike_layout : {X : Type 0} (d e : List ℕ) (t : Layout X) → length e ≡ length d → Alike d e (over d t) (over e t)
+alike_layout d e (done x) long = inl refl
+alike_layout d e (refuse x) long = inl refl
+alike_layout d e (field order place k f) long = alike_then d e (number_read d order place k) (number_read e order place k)
+    (λ v. over d (f v)) (λ v. over e (f v))
+    (alike_made (λ x p. number_at x order p k) d e place k long (number_made d e order place k long)) (λ v is. alike_layout d e (f v) long)
+alike_layout d e (reading r place f) long = alike_then d e (read_of d r place) (read_of e r place) (λ bs. over d (f bs))
+    (λ bs. over e (f bs)) (alike_reading d e r place long) (λ bs is. alike_layout d e (f bs) long)
+
 pub local_layout : {X : Type 0} (t : Layout X) → Local (λ d. over d t)
-local_layout t d e a = local d e t a
+local_layout t d e long = alike_layout d e t long
 
 -- readings behind readings
 pub local_then : {X Y : Type 0} (r : List ℕ → Reads X) (f : X → List ℕ → Reads Y) → Local r → ((x : X) → Local (f x))
     → Local (λ d. and_then (r d) (λ x. f x d))
-local_then r f first rest d e a =
-    let same : r e ≡ r d = first d e (agrees_first (r d).marks (r d).answer (λ x. f x d) a) in
-    ap (λ w. and_then w (λ x. f x e)) same ∙ onward_local (r d).marks (r d).answer (λ x. f x d) (λ x. f x e) a (λ x. rest x d e)
+local_then r f first rest d e long = alike_then d e (r d) (r e) (λ x. f x d) (λ x. f x e) (first d e long) (λ x is. rest x d e long)
 
 -- readings that take the length of the input
 pub local_length : {X : Type 0} (f : ℕ → List ℕ → Reads X) → ((n : ℕ) → Local (f n)) → Local (λ d. f (length d) d)
-local_length f each d e a = ap (λ n. f n e) a.as_long ∙ each (length d) d e a
+local_length f each d e long = subst (λ n. Alike d e (f (length d) d) (f n e)) (sym long) (each (length d) d e long)
 
--- one number is local
+-- one number is local, and bytes are
 pub local_number : (order : Endian) (place k : ℕ) → Local (λ d. number_read d order place k)
-local_number order place k d e a = rw (same_span d e place k a.as_long, same_number d e order place k a) refl
+local_number order place k d e long = alike_made (λ x p. number_at x order p k) d e place k long (number_made d e order place k long)
+
+pub local_bytes : (place k : ℕ) → Local (λ d. bytes_read d place k)
+local_bytes place k d e long = alike_made (λ x p. bytes_at x p k) d e place k long (bytes_made d e place k long)

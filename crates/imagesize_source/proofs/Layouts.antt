@@ -9,7 +9,7 @@ use Rattle.imagesize_source.specs.Input.{part, span_of, span_at}
 use Rattle.imagesize_source.specs.Layout.{Layout, over, bind, whole, if_there}
 use Rattle.imagesize_source.specs.Layout.Layout.{«done», refuse, field, reading}
 use Rattle.imagesize_source.specs.Reading.{Reads, and_then, onward, behind, number_at, part_read, read_of}
-use Rattle.imagesize_source.specs.State.{State, Runs, total, past}
+use Rattle.imagesize_source.specs.State.{State, Runs, Missed, total, past}
 use Rattle.imagesize_source.proofs.Runs.{answered, part_is}
 
 behind-onward : {Y Z : Type 0} (marks more : List Span) (r : Result Y ImageError) (g : Y → Reads Z) → behind marks (onward more r g)
@@ -70,6 +70,7 @@ runs_as {X} {a} {b} {r} other h same = record {
   answer = λ honest goes_on. ap (λ reads. reads.answer) (sym (same honest)) ∙ h.answer honest goes_on;
   state = λ honest goes_on. h.state honest goes_on ∙ ap (λ reads. past a reads.marks) (same honest);
   fault = h.fault;
+  misses = λ honest faults. subst (λ reads. Missed a b reads.marks) (same honest) (h.misses honest faults);
   ended = h.ended;
 }
 

@@ -80,5 +80,6 @@ number_refused {a} order place k sound beyond some =
       answer = λ honest goes_on. ap (λ q. q.answer) (gone honest);
       state = λ honest goes_on. sym (past-none a) ∙ ap (λ q. past a q.marks) (sym (gone honest));
       fault = λ honest faults. absurd cc;
+      misses = λ honest faults. absurd cc;
       ended = record { budget = tt; memory = λ e. absurd cc };
     }

@@ -1,5 +1,5 @@
 -- How a call's readings follow from those of the calls that it makes.
-use Rattle.std.proofs.Common.{◌≡◌, ℕ, ◌+◌, ◌-◌, ◌*◌, ◌^◌, ◌<◌, ◌≤◌, min, zero, suc, Bool, true, false, cond, List, [], ◌∷◌, ◌++◌, length, take, drop, leb, Result, Ok, Err, zero-add, add_assoc, refl, sym, ap, ◌∙◌, subst, arith, IfErr}
+use Rattle.std.proofs.Common.{◌≡◌, ℕ, ◌+◌, ◌-◌, ◌*◌, ◌^◌, ◌<◌, ◌≤◌, min, zero, suc, Bool, true, false, cond, List, [], ◌∷◌, ◌++◌, length, take, drop, leb, Result, Ok, Err, zero-add, add_assoc, append_assoc, refl, sym, ap, ◌∙◌, subst, arith, IfErr}
 use Rattle.std.proofs.lemmas.List.{length-take, length-drop, take_all, append-nil}
 use Rattle.std.proofs.lemmas.Bool.Decides.{nat_tests}
 use Rattle.imagesize_source.specs.declared.error.ImageError.{ImageError}
@@ -8,7 +8,10 @@ use Rattle.imagesize_source.specs.declared.util.Endian.{Endian}
 use Rattle.imagesize_source.specs.Input.{part, span_of}
 use Rattle.imagesize_source.specs.Numbers.{number}
 use Rattle.imagesize_source.specs.Reading.{Reads, onward, behind, and_then, bytes_at, number_at, part_read, bytes_read, number_read, seen, stopped, faulted, end_of_input}
-use Rattle.imagesize_source.specs.State.{State, Held, Runs, EndedBy, total, past, step}
+use Rattle.std.proofs.lemmas.Grind.{flat_map-append}
+use Rattle.std.specs.Prelude.{Option, None, Some, IfSome, IsSomeAnd, option_map}
+use Rattle.std.specs.List.{range_with_len}
+use Rattle.imagesize_source.specs.State.{State, Held, Runs, EndedBy, Misses, Missed, places_in, total, past, step}
 
 -- the same readings, answered otherwise where nothing stopped them
 pub answered : {X Y : Type 0} {a b : State} {x : X} {reads : Reads X} (r : Result Y ImageError) (other : Reads Y) → Runs a b (Ok x) reads
@@ -23,6 +26,7 @@ answered {a} {b} {x} {reads} r other h marks answer goes_on no_fault ended = rec
   answer = λ honest _. answer (h.answer honest refl);
   state = λ honest _. h.state honest refl ∙ ap (past a) (sym marks);
   fault = λ honest faults. absurd cc;
+  misses = λ honest faults. absurd cc;
   ended = ended;
 }
 
@@ -86,6 +90,7 @@ number_missing {a} {b} d order place k e h = record {
   answer = λ honest goes_on. ap (seen (number order)) (h.answer honest goes_on);
   state = h.state;
   fault = h.fault;
+  misses = h.misses;
   ended = h.ended;
 }
 
@@ -98,16 +103,68 @@ pub past-none : (a : State) → past a [] ≡ a
 unfolding past
 past-none a = refl
 
+both : (o : Option (List Span)) (s t : List Span) → option_map (λ spans. spans ++ t) (option_map (λ spans. spans ++ s) o)
+    ≡ option_map (λ spans. spans ++ (s ++ t)) o
+both None s t = refl
+both (Some spans) s t = ap Some (append_assoc spans s t)
+
+one_more : (o : Option (List Span)) (x : Span) (s : List Span) → option_map (λ spans. spans ++ s) (option_map (λ spans. spans ++ x ∷ []) o)
+    ≡ option_map (λ spans. spans ++ x ∷ s) o
+one_more o x s = both o (x ∷ []) s
+
 pub total-append : (s t : List Span) → total (s ++ t) ≡ total s + total t
 total-append [] t = sym (zero-add (total t))
 total-append (x ∷ s) t = ap (λ n. x.len + n) (total-append s t) ∙ sym (add_assoc x.len (total s) (total t))
+
+pub past-recorded : (a : State) (s : List Span) → (past a s).recorded ≡ option_map (λ spans. spans ++ s) a.recorded
+unfolding past
+past-recorded a [] = none_more a.recorded where
+  none_more : (o : Option (List Span)) → o ≡ option_map (λ spans. spans ++ []) o
+  none_more None = refl
+  none_more (Some spans) = ap Some (sym (append-nil spans))
+past-recorded a (x ∷ s) = past-recorded (step a x) s ∙ one_more a.recorded x s
+
+pub places-append : (s t : List Span) → places_in (s ++ t) ≡ places_in s ++ places_in t
+places-append s t = flat_map-append (λ (x : Span). range_with_len x.start x.len) s t
+
+-- what was missed in some spans' readings was missed in those of others
+pub missed_as : (a m b : State) (marks others : List Span) → ((p : ℕ) → Misses m b marks p → Misses a b others p) → Missed m b marks
+    → Missed a b others
+missed_as a m b marks others same h = record { told = by_told b.missed h.told } where
+  by_place : (o : Option ℕ) → IsSomeAnd o (Misses m b marks) → IsSomeAnd o (Misses a b others)
+  by_place None none = none
+  by_place (Some p) is = same p is
+
+  by_told : (o : Option (Option ℕ)) → IfSome o (λ x. IsSomeAnd x (Misses m b marks)) → IfSome o (λ x. IsSomeAnd x (Misses a b others))
+  by_told None none = tt
+  by_told (Some o) is = by_place o is
+
+-- behind other readings, and before others
+pub missed_behind : (a m b : State) (before marks : List Span) → m.recorded ≡ option_map (λ spans. spans ++ before) a.recorded
+    → Missed m b marks → Missed a b (before ++ marks)
+missed_behind a m b before marks past_before h = missed_as a m b marks (before ++ marks) (λ p is. record {
+  made = before ++ is.made;
+  rest = is.rest;
+  recorded = is.recorded ∙ ap (option_map (λ spans. spans ++ is.made)) past_before ∙ both a.recorded before is.made;
+  places = places-append before marks ∙ ap (λ ps. places_in before ++ ps) is.places
+      ∙ sym (append_assoc (places_in before) (places_in is.made) (p ∷ is.rest))
+      ∙ ap (λ ps. ps ++ p ∷ is.rest) (sym (places-append before is.made));
+}) h
+
+pub missed_before : (a b : State) (marks more : List Span) → Missed a b marks → Missed a b (marks ++ more)
+missed_before a b marks more h = missed_as a a b marks (marks ++ more) (λ p is. record {
+  made = is.made;
+  rest = is.rest ++ places_in more;
+  recorded = is.recorded;
+  places = places-append marks more ∙ ap (λ ps. ps ++ places_in more) is.places
+      ∙ append_assoc (places_in is.made) (p ∷ is.rest) (places_in more);
+}) h
 
 pub past-held : (a : State) (s : List Span) → (past a s).held ≡ a.held
 unfolding past
 past-held a [] = refl
 past-held a (x ∷ s) = past-held (step a x) s
 
-pub ruleset steps = (past-past, past-none, total-append, append-nil, past-held)
 
 past_honest : {X : Type 0} {a m : State} {x : X} {r : Reads X} → Runs a m (Ok x) r → a.held.honest ≡ true → m.held ≡ a.held
 past_honest {X} {a} {m} {x} {r} h honest = ap (λ s. s.held) (h.state honest refl) ∙ past-held a r.marks
@@ -116,6 +173,22 @@ past_honest {X} {a} {m} {x} {r} h honest = ap (λ s. s.held) (h.state honest ref
 total_first : {X Y : Type 0} (spans : List Span) (r : Result X ImageError) (f : X → Reads Y) → total spans ≤ total (onward spans r f).marks
 total_first spans (Ok x) f = omega (arith, total-append spans (f x).marks)
 total_first spans (Err e) f = omega arith
+
+pub missed_past : (a m b : State) (before marks : List Span) → m ≡ past a before → Missed m b marks → Missed a b (before ++ marks)
+missed_past a m b before marks is h = missed_behind a m b before marks (ap (λ s. s.recorded) is ∙ past-recorded a before) h
+
+pub missed_first : {X Y : Type 0} (a b : State) (spans : List Span) (r : Result X ImageError) (f : X → Reads Y) → Missed a b spans
+    → Missed a b (onward spans r f).marks
+missed_first a b spans (Ok x) f h = missed_before a b spans (f x).marks h
+missed_first a b spans (Err e) f h = h
+
+-- the spans of the readings before are the first of the whole
+pub places_onward : {X Y : Type 0} (spans : List Span) (r : Result Y ImageError) (f : Y → Reads X)
+    → (more : List ℕ) × (places_in (onward spans r f).marks ≡ places_in spans ++ more)
+places_onward spans (Ok y) f = (places_in (f y).marks, places-append spans (f y).marks)
+places_onward spans (Err e) f = ([], sym (append-nil (places_in spans)))
+
+pub ruleset steps = (past-past, past-none, total-append, append-nil, past-held, missed_past, missed_first)
 
 -- a call that read, and went on from what it found
 pub runs_then : {X Y : Type 0} {a m b : State} {x : X} {y : Result Y ImageError} (r : Reads X) (f : X → Held → Reads Y)
@@ -144,6 +217,9 @@ runs_then {X} {Y} {a} {m} {b} {x} {y} r f first second =
           ∙ past-past a r.marks (f x m.held).marks
           ∙ ap (past a) (sym (ap (λ q. q.marks) (next honest)));
       fault = λ honest faults. ap (λ h. h.can_fail) (sym (same honest)) ∙ second.fault (honest_then honest) faults;
+      misses = λ honest faults. subst (λ (w : Reads Y). Missed a b w.marks) (sym (next honest))
+          (missed_behind a m b r.marks (f x m.held).marks (ap (λ s. s.recorded) (first.state honest refl) ∙ past-recorded a r.marks)
+          (second.misses (honest_then honest) faults));
       ended = second.ended;
     }
 
@@ -159,5 +235,6 @@ runs_refused {X} {Y} {a} {b} {e} r f h = record {
   answer = λ honest goes_on. ap (λ v. (onward r.marks v f).answer) (h.answer honest goes_on);
   state = λ honest goes_on. h.state honest goes_on ∙ ap (past a) (sym (ap (λ v. (onward r.marks v f).marks) (h.answer honest goes_on)));
   fault = h.fault;
+  misses = λ honest faults. missed_first a b r.marks r.answer f (h.misses honest faults);
   ended = h.ended;
 }

@@ -42,6 +42,7 @@ given_runs x sound sound_after same none is passed = record {
   answer = λ honest goes_on. is;
   state = λ honest goes_on. passed;
   fault = λ honest faults. absurd cc;
+  misses = λ honest faults. absurd cc;
   ended = tt;
 }
 

@@ -1,7 +1,8 @@
 -- When one input cannot be told from another by the bytes at some places.
-use Rattle.std.specs.Prelude.{◌≡◌, ℕ, ◌+◌, Bool, true, false, ◌&&◌, ◌||◌, List, [], ◌∷◌, length, slice_index, nat_le, nat_lt}
+use Rattle.std.specs.Prelude.{◌≡◌, ℕ, ◌+◌, Bool, true, false, ◌&&◌, ◌||◌, ◌⊎◌, List, [], ◌∷◌, ◌++◌, length, slice_index, nat_le, nat_lt}
 use Rattle.imagesize_source.specs.declared.span.Span.{Span}
 use Rattle.imagesize_source.specs.Reading.{Reads}
+use Rattle.imagesize_source.specs.State.{places_in}
 
 -- a span has the places from its start on, as many as it is long
 abbrev pub has_place : Span → ℕ → Bool
@@ -17,6 +18,21 @@ pub record Agrees (d e : List ℕ) (spans : List Span) : Type 0 where
   pub as_long : length e ≡ length d
   pub same_byte : (place : ℕ) → covered spans place ≡ true → slice_index e place ≡ slice_index d place
 
--- readings see an input by their marks alone: where e agrees with d on those of d, it has the same answer and the same marks
+-- Where two inputs part: some readings of each see the same places up to one at which the inputs differ.
+pub record Parting (d e : List ℕ) (s t : List Span) : Type 0 where
+  pub seen : List ℕ
+  pub place : ℕ
+  pub rest : List ℕ
+  pub others : List ℕ
+  pub here : places_in s ≡ seen ++ place ∷ rest
+  pub there : places_in t ≡ seen ++ place ∷ others
+  pub differs : slice_index e place ≡ slice_index d place → ⊥
+
+-- the same answer with the same marks, or the inputs part
+abbrev pub Alike : {X : Type 0} → List ℕ → List ℕ → Reads X → Reads X → Type 0
+Alike d e p q = (q ≡ p) ⊎ Parting d e p.marks q.marks
+
+-- Readings see an input by their marks alone, one behind another: of two inputs as long they have the same answer and
+-- marks, or see the same places up to one at which these differ.
 abbrev pub Local : {X : Type 0} → (List ℕ → Reads X) → Type 0
-Local r = (d e : List ℕ) → Agrees d e (r d).marks → r e ≡ r d
+Local r = (d e : List ℕ) → length e ≡ length d → Alike d e (r d) (r e)

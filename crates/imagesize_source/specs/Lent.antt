@@ -7,9 +7,10 @@ use Rattle.imagesize_source.specs.State.{State}
 -- of it fails, and it takes no memory that could be refused
 abbrev pub lent_state : List ℕ → List Span → ℕ → State
 lent_state d spans home = record {
-  frame = record { told = length d; budget = 0; counts = false; records = false; home = home; since = None };
+  frame = record { told = length d; budget = 0; counts = false; records = false; home = home; since = None; parts = None };
   held = record { honest = true; input = d; can_fail = false };
   front = 0;
   taken = 0;
   recorded = Some spans;
+  missed = None;
 }

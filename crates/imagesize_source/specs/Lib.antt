@@ -4,6 +4,7 @@ pub mod Counts
 pub mod Extension
 pub mod Halts
 pub mod Input
+pub mod Known
 pub mod Layout
 pub mod Lent
 pub mod Numbers

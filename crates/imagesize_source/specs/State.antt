@@ -1,12 +1,13 @@
 -- What stands behind a source of bytes, and what readings do to it.
-use Rattle.std.specs.Prelude.{◌≡◌, ℕ, ◌+◌, ◌-◌, ◌^◌, ◌<◌, ◌≤◌, min, max, Bool, true, false, List, [], ◌∷◌, ◌++◌, length, nat_le, if◌then◌else◌, Option, None, Some, Result, IfErr, IfSome, option_map}
+use Rattle.std.specs.Prelude.{◌≡◌, ℕ, ◌+◌, ◌-◌, ◌^◌, ◌<◌, ◌≤◌, min, max, Bool, true, false, List, [], ◌∷◌, ◌++◌, length, nat_le, if◌then◌else◌, Option, None, Some, Result, IfErr, IfSome, IsSomeAnd, option_map, flat_map}
+use Rattle.std.specs.List.{range_with_len}
 use Rattle.imagesize_source.specs.declared.error.ImageError.{ImageError}
 use Rattle.imagesize_source.specs.declared.span.Span.{Span}
 use Rattle.imagesize_source.specs.Reading.{Reads, stopped, faulted, is_memory, spent}
 
 -- What never changes: the told length and the budget, whether bytes taken are counted and spans recorded,
--- the name of the borrow behind the source, and by how much what the reader itself counts is above what
--- was taken, and below it.
+-- the name of the borrow behind the source, by how much what the reader itself counts is above what was taken,
+-- and below it, and the parts that are known, of a source of parts.
 pub record Frame : Type 0 where
   pub told : ℕ
   pub budget : ℕ
@@ -14,6 +15,7 @@ pub record Frame : Type 0 where
   pub records : Bool
   pub home : ℕ
   pub since : Option (ℕ × ℕ)
+  pub parts : Option (List Span × List ℕ)
 
 -- The bytes that the source claims to read, while it is honest, and whether a call on it can fail.
 pub record Held : Type 0 where
@@ -21,14 +23,15 @@ pub record Held : Type 0 where
   pub input : List ℕ
   pub can_fail : Bool
 
--- A source as a whole: how many of its first bytes it holds, how many bytes it has taken, and the spans
--- that it has recorded.
+-- A source as a whole: how many of its first bytes it holds, how many bytes it has taken, the spans that it
+-- has recorded, and, of a source that tells it, the place of the byte that its last failed reading missed.
 pub record State : Type 0 where
   pub frame : Frame
   pub held : Held
   pub front : ℕ
   pub taken : ℕ
   pub recorded : Option (List Span)
+  pub missed : Option (Option ℕ)
 
 -- how many of n bytes from a place on lie behind the first `front`
 abbrev pub fresh : ℕ → ℕ → ℕ → ℕ
@@ -66,6 +69,21 @@ pub record EndedBy (b : State) (e : ImageError) : Type 0 where
   pub budget : IfSome (spent e) (λ n. (b.frame.counts ≡ true) × (n ≡ b.frame.budget) × (n ≡ b.taken))
   pub memory : is_memory e ≡ true → (b.frame.records ≡ true) × (0 < length b.held.input)
 
+-- the places of the spans, in their order
+abbrev pub places_in : List Span → List ℕ
+places_in spans = flat_map (λ s. range_with_len s.start s.len) spans
+
+-- A failed call made the first of these spans' readings, has seen their places up to this one, and missed it.
+pub record Misses (a b : State) (marks : List Span) (place : ℕ) : Type 0 where
+  pub made : List Span
+  pub rest : List ℕ
+  pub recorded : b.recorded ≡ option_map (λ spans. spans ++ made) a.recorded
+  pub places : places_in marks ≡ places_in made ++ place ∷ rest
+
+-- where the source tells what it missed
+pub record Missed (a b : State) (marks : List Span) : Type 0 where
+  pub told : IfSome b.missed (λ m. IsSomeAnd m (Misses a b marks))
+
 -- A call led from one state to another and gave this answer, as these readings say. Where the source is
 -- honest, it has taken no more than the readings' spans; where nothing stopped it, the answer is theirs, and
 -- the state the one past their spans; a failure comes only from a source that can fail.
@@ -78,24 +96,27 @@ pub record Runs {X : Type 0} (a b : State) (r : Result X ImageError) (reads : Re
   pub answer : a.held.honest ≡ true → stopped r ≡ false → reads.answer ≡ r
   pub state : a.held.honest ≡ true → stopped r ≡ false → b ≡ past a reads.marks
   pub fault : a.held.honest ≡ true → faulted r ≡ true → a.held.can_fail ≡ true
+  pub misses : a.held.honest ≡ true → faulted r ≡ true → Missed a b reads.marks
   pub ended : IfErr r (EndedBy b)
 
 -- a slice as a source: it counts nothing, records nothing and cannot fail
 abbrev pub slice_state : List ℕ → State
 slice_state d = record {
-  frame = record { told = length d; budget = 0; counts = false; records = false; home = 0; since = None };
+  frame = record { told = length d; budget = 0; counts = false; records = false; home = 0; since = None; parts = None };
   held = record { honest = true; input = d; can_fail = false };
   front = 0;
   taken = 0;
   recorded = None;
+  missed = None;
 }
 
 -- a slice whose readings' spans are recorded behind these
 abbrev pub recording_state : List ℕ → List Span → State
 recording_state d spans = record {
-  frame = record { told = length d; budget = 0; counts = false; records = true; home = 0; since = None };
+  frame = record { told = length d; budget = 0; counts = false; records = true; home = 0; since = None; parts = None };
   held = record { honest = true; input = d; can_fail = false };
   front = 0;
   taken = 0;
   recorded = Some spans;
+  missed = None;
 }

@@ -9,6 +9,7 @@ ghost use Rattle.imagesize_source.specs.declared.error.ImageError.{ImageError};
 use crate::{Halt, ImageError, Text};
 
 pub mod lent;
+pub mod parts;
 pub mod recording;
 pub mod slice;
 

@@ -2,7 +2,7 @@
 ghost use Rattle.std.specs.Prelude.{◌≡◌, ◌≤◌, ◌==◌, not, length};
 ghost use Rattle.std.specs.List.{position};
 ghost use Rattle.std.specs.Char.{is_ascii_whitespace};
-ghost use Rattle.imagesize_source.specs.Text.{ends, through, text_front};
+ghost use Rattle.imagesize_source.specs.Text.{ends, is_ended, through, text_front};
 
 /// A text, by what ends it. Where nothing ends it, it goes on to the end of the input or of the room.
 #[derive(Clone, Copy, Debug, PartialEq, Eq)]
@@ -65,6 +65,34 @@ fn first_white(bytes: &[u8]) -> Option<usize>
     ensures { result ≡ position is_ascii_whitespace bytes.now }
 {
     bytes.iter().position(|byte| byte.is_ascii_whitespace())
+}
+
+/// Whether one of the bytes ends the text at their front.
+pub(crate) fn is_closed(text: Text, bytes: &[u8]) -> bool
+    ensures { result ≡ is_ended text bytes.now }
+{
+    match text {
+        Text::Line { delimiter } => line_is_closed(delimiter, bytes),
+        Text::Word => word_is_closed(bytes),
+    }
+}
+
+// Whether the delimiter is among them.
+#[tactic(auto, using(crate::proofs::Known::line_ended))]
+fn line_is_closed(delimiter: u8, bytes: &[u8]) -> bool
+    ensures { result ≡ is_ended (Text.Line delimiter) bytes.now }
+{
+    first_delimiter(delimiter, bytes).is_some()
+}
+
+// Whether white space stands behind a word.
+fn word_is_closed(bytes: &[u8]) -> bool
+    ensures { result ≡ is_ended Text.Word bytes.now }
+{
+    match first_of_word(bytes) {
+        Some(start) => first_white(&bytes[start..]).is_some(),
+        None => false,
+    }
 }
 
 /// Whether a byte ends the text, of which a byte other than white space came before or none did.

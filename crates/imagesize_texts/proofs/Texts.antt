@@ -79,6 +79,7 @@ text_stopped d t place k e f h = record {
   answer = λ honest goes_on. absurd (let no = h.answer honest goes_on in cc);
   state = h.state;
   fault = h.fault;
+  misses = h.misses;
   ended = h.ended;
 }
 

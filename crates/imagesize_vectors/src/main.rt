@@ -18,6 +18,8 @@ mod long;
 #[cfg(test)]
 mod memory;
 #[cfg(test)]
+mod parts;
+#[cfg(test)]
 mod queries;
 #[cfg(test)]
 mod rows;

@@ -259,7 +259,7 @@ fn largest_from<S: Source>(source: &mut S, from: u64, all: u32) -> ImageResult<I
 
 // The property at a place, or none where the list ends: so many bytes are left for the boxes that are passed.
 #[inline(always)]
-#[tactic(auto, using(imagesize_source::proofs::Runs::steps))]
+#[tactic(auto, using(imagesize_source::proofs::Runs::steps, imagesize_source::proofs::Runs::missed_before))]
 fn read_property<S: Source>(source: &mut S, place: u64, left: u32) -> ImageResult<Option<Property>>
     ensures nears { IfOk result (λ found. Nears (S.state source.old) (S.state source.new) place (property_said place found)) }
     ensures fits { IfOk result (λ found. Fits left found) }

@@ -33,7 +33,7 @@ pub(super) fn is_dds(header: &[u8]) -> bool
 }
 
 /// How the pixels are stored, by the four-character code where it is there.
-#[tactic(auto, using(imagesize_source::proofs::Runs::steps), unfolding(crate::specs::Dds::dds_compression))]
+#[tactic(auto, using(imagesize_source::proofs::Runs::steps, imagesize_source::proofs::Runs::missed_before), unfolding(crate::specs::Dds::dds_compression))]
 pub fn detect_compression<S: Source>(source: &mut S) -> ImageResult<DdsCompression>
     ensures { Runs (S.state source.old) (S.state source.new) result
         (over (S.state source.old).held.input dds_compression) }

@@ -32,7 +32,7 @@ fn is_version_3(header: &[u8]) -> bool
 }
 
 /// How the pixels are stored, which the newer header tells.
-#[tactic(auto, using(imagesize_source::proofs::Runs::steps), unfolding(crate::specs::Pvrtc::pvrtc_compression))]
+#[tactic(auto, using(imagesize_source::proofs::Runs::steps, imagesize_source::proofs::Runs::missed_before), unfolding(crate::specs::Pvrtc::pvrtc_compression))]
 pub fn detect_compression<S: Source>(source: &mut S) -> ImageResult<PvrtcCompression>
     ensures { Runs (S.state source.old) (S.state source.new) result
         (over (S.state source.old).held.input pvrtc_compression) }

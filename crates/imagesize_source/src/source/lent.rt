@@ -6,7 +6,7 @@ ghost use Rattle.imagesize_source.specs.Lent.{lent_state};
 ghost use Rattle.imagesize_source.specs.Reading.{end_of_input};
 ghost use Rattle.imagesize_source.specs.State.{total};
 
-mod log;
+pub(super) mod log;
 
 use self::log::SpanLog;
 use super::Source;

@@ -68,7 +68,7 @@ enum Attribute {
 }
 
 // The attribute at a place.
-#[tactic(auto, using(imagesize_source::proofs::Runs::steps))]
+#[tactic(auto, using(imagesize_source::proofs::Runs::steps, imagesize_source::proofs::Runs::missed_before))]
 fn read_attribute<S: Source>(source: &mut S, place: u64, names: usize) -> ImageResult<Attribute>
     requires { names ≤ 256 }
     ensures nears { IfOk result (λ found. Nears (S.state source.old) (S.state source.new) place (attribute_said place found)) }

@@ -44,7 +44,7 @@ enum Part {
 }
 
 // The word at a place: with the height, where it is the width, and where it begins a comment with the rest of that.
-#[tactic(auto, using(imagesize_source::proofs::Runs::steps))]
+#[tactic(auto, using(imagesize_source::proofs::Runs::steps, imagesize_source::proofs::Runs::missed_before))]
 fn read_part<S: Source>(source: &mut S, place: u64) -> ImageResult<Part>
     ensures nears { IfOk result (λ part. Nears (S.state source.old) (S.state source.new) place (part_said place part)) }
     ensures runs { Runs (S.state source.old) (S.state source.new) (seen (λ part. part_said place part) result)

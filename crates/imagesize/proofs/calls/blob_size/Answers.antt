@@ -2,10 +2,12 @@ use Rattle.std.proofs.Common.{arith}
 use Rattle.imagesize.proofs.Counts.{cost_stated, cost_within}
 use Rattle.imagesize.proofs.Extension.{size_lasts}
 use Rattle.imagesize.proofs.Locality.{local_meaning}
+use Rattle.imagesize_source.proofs.Agreement.{same_by_local}
+use Rattle.imagesize.specs.Meaning.{meaning}
 use Rattle.imagesize.proofs.calls.blob_size.Goals as goal
 
 pub returns-clause-local : goal.returns-clause-local
-returns-clause-local c = local_meaning 0 c.args.«data».now
+returns-clause-local c = same_by_local (λ d. meaning d 0) (local_meaning 0) c.args.«data».now
 
 pub returns-clause-stated : goal.returns-clause-stated
 returns-clause-stated c = cost_stated c.args.«data».now 0

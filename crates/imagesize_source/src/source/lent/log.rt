@@ -17,13 +17,13 @@ impl Model for SpanLog {
 }
 
 impl SpanLog {
-    pub(super) fn new() -> SpanLog
+    pub(crate) fn new() -> SpanLog
         ensures { result.spans ≡ [] }
     {
         SpanLog {}
     }
 
-    pub(super) fn with(_before: &SpanLog, _span: &Span) -> SpanLog
+    pub(crate) fn with(_before: &SpanLog, _span: &Span) -> SpanLog
         ensures { result.spans ≡ _before.now.spans ++ _span.now ∷ [] }
     {
         SpanLog {}

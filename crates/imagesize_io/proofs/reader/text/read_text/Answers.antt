@@ -29,7 +29,7 @@ returns-in_err-read_at-clause-runs g c =
     c.saturating_add-next.ensures c.loop-count-test.true (omega arith) (one_long c.loop-count.count c.loop-count.room c.read_at.new.room
     c.loop-count-test.true c.read_at.auto.room) c.in_err-read_at.ensures.runs
     (reader_sound (g.R.Told.telling source.reader.now) (g.R.Told.count source.reader.now) source.reader.ghost_name source.progress
-    source.window.items))
+    source.window.items) refl)
 
 pub returns-after-loop-count-clause-runs : goal.returns-after-loop-count-clause-runs
 returns-after-loop-count-clause-runs g c =

@@ -1,0 +1,57 @@
+-- The parts of an input that are known.
+use Rattle.std.specs.Prelude.{◌≡◌, ℕ, ◌+◌, ◌-◌, ◌^◌, ◌<◌, ◌≤◌, min, Bool, true, false, ◌&&◌, List, [], ◌∷◌, length, drop, map, slice_index, nat_le, nat_lt, if◌then◌else◌, Option, None, Some, is_some, option_map}
+use Rattle.std.specs.Prelude.{unwrap_or, flat_map}
+use Rattle.std.specs.List.{range_with_len}
+use Rattle.imagesize_source.specs.declared.span.Span.{Span}
+use Rattle.imagesize_source.specs.Agreement.{covered}
+use Rattle.imagesize_source.specs.Input.{part}
+use Rattle.imagesize_source.specs.State.{State}
+
+-- how many bytes of a span an input of n bytes has
+abbrev pub within : ℕ → Span → ℕ
+within n s = min s.len (n - s.start)
+
+-- the span has the place, in an input of n bytes
+abbrev pub reaches : ℕ → Span → ℕ → Bool
+reaches n s place = nat_le s.start place && nat_lt (place - s.start) (within n s)
+
+abbrev pub byte_of : List ℕ → ℕ → Option ℕ
+byte_of bytes i = if nat_lt i (length bytes) then Some (slice_index bytes i) else None
+
+-- the byte at a place that parts have, whose bytes stand one behind another: that of the first that has the place
+abbrev pub known : ℕ → List Span → List ℕ → ℕ → Option ℕ
+known n [] bytes place = None
+known n (s ∷ spans) bytes place =
+    if reaches n s place then byte_of bytes (place - s.start) else known n spans (drop (within n s) bytes) place
+
+-- an input that has these parts, and 0 at every other place
+unfoldable pub filled : ℕ → List Span → List ℕ → List ℕ
+filled n spans bytes = map (λ place. unwrap_or (known n spans bytes place) 0) (range_with_len 0 n)
+
+-- the bytes of an input in these spans, span behind span
+abbrev pub bytes_of : List ℕ → List Span → List ℕ
+bytes_of d spans = flat_map (λ s. part d s.start s.len) spans
+
+-- The input has n bytes, and these in the spans, one behind another. What of a span lies behind its end has none.
+pub record HasParts (d : List ℕ) (n : ℕ) (spans : List Span) (content : List ℕ) : Type 0 where
+  pub as_long : length d ≡ n
+  pub bytes : bytes_of d spans ≡ content
+
+-- the parts have each place of these spans
+abbrev pub AllKnown : ℕ → List Span → List ℕ → List Span → Type 0
+AllKnown n spans bytes seen = (place : ℕ) → covered seen place ≡ true → is_some (known n spans bytes place) ≡ true
+
+-- what is missed lies within the input, and its first byte is not known
+abbrev pub Lacks : ℕ → List Span → List ℕ → Span → Type 0
+Lacks n spans bytes w = (0 < w.len) × (w.start + w.len ≤ n) × (is_some (known n spans bytes w.start) ≡ false)
+
+-- the known parts as a source: it counts nothing, and what it misses is a failure
+abbrev pub parts_state : ℕ → List Span → List ℕ → List Span → Option Span → State
+parts_state n spans bytes seen missed = record {
+  frame = record { told = n; budget = 0; counts = false; records = false; home = 0; since = None; parts = Some (spans, bytes) };
+  held = record { honest = nat_lt n (2 ^ 63); input = filled n spans bytes; can_fail = true };
+  front = 0;
+  taken = 0;
+  recorded = Some seen;
+  missed = Some (option_map (λ w. w.start) missed);
+}
