@@ -174,11 +174,10 @@ class Failing(unittest.TestCase):
             pipe = os.path.join(folder, "pipe")
             os.mkfifo(pipe)
             for path, error in ((folder, IsADirectoryError), (pathlib.Path(folder) / "none", FileNotFoundError), (pipe, OSError)):
-                calls: Any = (imagesize.probe, imagesize.spans)
-                for call in calls:
-                    with self.assertRaises(error) as raised:
-                        call(path)
-                    self.assertEqual(raised.exception.filename, str(path))
+                self.assertRaises(error, imagesize.spans, path)
+                with self.assertRaises(error) as raised:
+                    imagesize.probe(path)
+                self.assertEqual(raised.exception.filename, str(path))
 
     def test_open_pipe(self) -> None:
         reader, writer = os.pipe()
