@@ -49,7 +49,7 @@ _type = _LIBRARY.imagesize_type
 _probe = _LIBRARY.imagesize_probe
 _probe_parts = _LIBRARY.imagesize_probe_parts
 _spans = _LIBRARY.imagesize_spans
-_probe_front = ctypes.PyDLL(_LIBRARY._name).imagesize_probe_parts
+_probe_front = ctypes.PyDLL(_LIBRARY._name).imagesize_probe_parts  # over one block it is over before another thread would run
 
 
 class _Room:

@@ -173,7 +173,8 @@ class Failing(unittest.TestCase):
         with tempfile.TemporaryDirectory() as folder:
             pipe = os.path.join(folder, "pipe")
             os.mkfifo(pipe)
-            for path, error in ((folder, IsADirectoryError), (pathlib.Path(folder) / "none", FileNotFoundError), (pipe, OSError)):
+            nowhere: Any = pathlib.Path(folder) / "none"
+            for path, error in ((folder, IsADirectoryError), (nowhere, FileNotFoundError), (pipe, OSError)):
                 self.assertRaises(error, imagesize.spans, path)
                 with self.assertRaises(error) as raised:
                     imagesize.probe(path)
