@@ -150,12 +150,11 @@ fn run_same(
     output: &mut Vec<u8>,
     errors: &mut Vec<u8>,
 ) -> io::Result<u8>
-    ensures lines { IfOk result (λ status. wants_spans (map string_bytes names.now) ≡ false
+    ensures { IfOk result (λ status. wants_spans (map string_bytes names.now) ≡ false
         → IfSome (lines_of (λ _. Ok bytes.now) (names_in (map string_bytes names.now)))
-        (λ text. output.new.items ≡ output.old.items ++ text)) }
-    ensures status { IfOk result (λ status. wants_spans (map string_bytes names.now) ≡ false
-        → status ≡ status_of (length (names_in (map string_bytes names.now)))
-        (is_any_refused (λ _. Ok bytes.now) (names_in (map string_bytes names.now)))) }
+        (λ text. output.new.items ≡ output.old.items ++ text)
+        × (status ≡ status_of (length (names_in (map string_bytes names.now)))
+        (is_any_refused (λ _. Ok bytes.now) (names_in (map string_bytes names.now))))) }
 {
     run(alloc, names, &mut Same { alloc, bytes }, output, errors)
 }
