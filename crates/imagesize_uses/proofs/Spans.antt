@@ -9,7 +9,7 @@ use Rattle.std.proofs.Math.Seq.{drop-append_seam, drop-cons, take-append_seam}
 use Rattle.imagesize_source.specs.Agreement.{Agrees, covered, has_place}
 use Rattle.imagesize_source.specs.Input.{part}
 use Rattle.imagesize_source.specs.declared.span.Span.{Span}
-use Rattle.imagesize_uses.specs.Cache.{bytes_of}
+use Rattle.imagesize_source.specs.Known.{bytes_of}
 
 -- the byte at a place of a part
 part-at : (d : List ℕ) (start k i : ℕ) → i < k → get_or (part d start k) i 0 ≡ slice_index d (start + i)
