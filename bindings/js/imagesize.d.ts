@@ -43,10 +43,10 @@ export interface Reads {
   /** How many bytes they have together. */
   bytesRead: number;
   /**
-   * Where `trace` was asked for: bytes that the answer rests on, in the order of their places. Every input of this length
-   * that has them has this answer. Of more than 1,024 such bytes, the first 1,024 that were asked for.
+   * Where `trace` was asked for: the bytes of each span that the answer rests on, as `spans` tells them. It is null where
+   * there are more than 65,536, or where the input is longer than the engine has memory for (some gigabytes).
    */
-  trace?: Piece[];
+  trace?: Piece[] | null;
 }
 
 export interface Options {
@@ -54,7 +54,7 @@ export interface Options {
   signal?: AbortSignal;
   /** How many bytes may be read: 1 MiB of a server and 64 MiB of a file or blob, where nothing else is said. */
   maxBytes?: number;
-  /** Whether the bytes that the answer rests on are told. */
+  /** Whether the bytes that the answer rests on are told, also of an `ImageError`. */
   trace?: boolean;
 }
 
@@ -196,5 +196,5 @@ export class ImageError extends Error implements Partial<Reads> {
   readonly total?: number;
   readonly reads?: number;
   readonly bytesRead?: number;
-  readonly trace?: Piece[];
+  readonly trace?: Piece[] | null;
 }

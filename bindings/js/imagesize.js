@@ -3,11 +3,12 @@
 import { ImageError } from './errors.js';
 import { Remote } from './http.js';
 import { library } from './library.js';
-import { Parts, firstBlock, nextBlock, traceOf } from './parts.js';
+import { Parts, firstBlock, nextBlock } from './parts.js';
 
 export { ImageError };
 
 const MEBIBYTE = 2 ** 20;
+const MOST_SPANS = 65536;
 
 /** Type and size of the image in some bytes. */
 export function probe(data) {
@@ -24,7 +25,7 @@ export function probe(data) {
 }
 
 /** The spans of the readings that the answer of `probe` rests on. */
-export function spans(data, { limit = 65536 } = {}) {
+export function spans(data, { limit = MOST_SPANS } = {}) {
   return library().spans(bytesOf(data), limit);
 }
 
@@ -65,20 +66,18 @@ async function readBlock(file, { start, end }) {
 // Type and size of the image in a source: its `read` gives the bytes of a block, and its `total` is known behind the first.
 async function probeSource(source, most, { signal, maxBytes = most, trace = false } = {}) {
   const parts = new Parts();
-  const told = () => ({
-    total: source.total,
-    reads: parts.reads,
-    bytesRead: parts.length,
-    ...(trace && { trace: traceOf(parts, source.total) }),
-  });
+  const read = () => ({ total: source.total, reads: parts.reads, bytesRead: parts.length });
   try {
-    return { ...(await imageOf(source, parts, maxBytes, signal)), ...told() };
+    const { image, error } = await answerOf(source, parts, maxBytes, signal);
+    const traced = trace ? { trace: await traceOf(parts, source.total) } : {};
+    if (error) throw Object.assign(error, traced);
+    return { ...image, ...read(), ...traced };
   } catch (error) {
-    throw error instanceof ImageError ? Object.assign(error, told()) : error;
+    throw error instanceof ImageError ? Object.assign(error, read()) : error;
   }
 }
 
-async function imageOf(source, parts, maxBytes, signal) {
+async function answerOf(source, parts, maxBytes, signal) {
   let block = firstBlock(maxBytes);
   for (;;) {
     signal?.throwIfAborted();
@@ -86,10 +85,20 @@ async function imageOf(source, parts, maxBytes, signal) {
     const length = Math.min(block.end, source.total) - block.start;
     if (bytes.length < length) throw new ImageError('CUT_SHORT', `${bytes.length} of ${length} bytes came`);
     parts.add(block.start, bytes);
-    const { wanted, image, error } = library().probeParts(parts, source.total);
-    if (error) throw error;
-    if (image) return image;
-    block = nextBlock(wanted, source.total, parts, maxBytes);
+    const answer = library().probeParts(parts, source.total);
+    if (!answer.wanted) return answer;
+    block = nextBlock(answer.wanted, source.total, parts, maxBytes);
+  }
+}
+
+// The spans of an answer with their bytes; null where there are too many, or too little memory for an input of this length.
+async function traceOf(parts, total) {
+  try {
+    const found = await library().spansOfParts(parts, total, MOST_SPANS);
+    return found.map(({ start, len }) => ({ start, bytes: parts.slice(start, len) }));
+  } catch (error) {
+    if (error instanceof RangeError || error.code === 'TOO_MANY_SPANS') return null;
+    throw error;
   }
 }
 

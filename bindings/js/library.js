@@ -31,8 +31,7 @@ async function load() {
     throw new ImageError('NO_MEMORY64', 'This engine has no 64-bit WebAssembly memory; Node 20 has it by --experimental-wasm-memory64');
   }
   try {
-    const module = await WebAssembly.instantiate(await binary(new URL('./out/imagesize.wasm', import.meta.url)));
-    return new Library(module.instance.exports);
+    return await Library.of(await WebAssembly.compile(await binary(new URL('./out/imagesize.wasm', import.meta.url))));
   } catch (cause) {
     throw new ImageError('NO_LIBRARY', `The library cannot be loaded (${cause.message}); bindings/js/build builds it`, { cause });
   }
@@ -54,6 +53,7 @@ export function library() {
 }
 
 class Library {
+  #module;
   #calls;
   #memory;
   #base;
@@ -63,7 +63,12 @@ class Library {
   #names = [];
   #texts = [];
 
-  constructor(exports) {
+  static async of(module) {
+    return new Library(module, (await WebAssembly.instantiate(module)).exports);
+  }
+
+  constructor(module, exports) {
+    this.#module = module;
     this.#calls = exports;
     this.#memory = exports.memory;
     this.#base = Math.ceil(Number(exports.__heap_base.value) / SPAN) * SPAN;
@@ -78,7 +83,7 @@ class Library {
     const bytes = AT.lent + SPAN * parts.spans.length;
     this.#lend(bytes + parts.length);
     this.#putSpans(AT.lent, parts.spans);
-    this.#putBytes(bytes, parts.pieces);
+    this.#putPieces(bytes, parts.pieces);
     this.#putNumber(AT.type, 0);
     const { type, compression, width, height, wanted } = this.#answers;
     const status = this.#calls.imagesize_probe_parts(
@@ -90,13 +95,25 @@ class Library {
 
   /** The spans of the readings that type and size of these bytes rest on, where there are at most so many. */
   spans(bytes, most) {
-    const room = AT.lent + Math.ceil(bytes.length / SPAN) * SPAN;
+    return this.#spansOf([{ start: 0, bytes }], bytes.length, most);
+  }
+
+  /**
+   * The same of an input of `total` bytes, whose answer its known parts tell: all other bytes may be zeros, which a memory
+   * that nobody wrote to has of itself.
+   */
+  async spansOfParts(parts, total, most) {
+    return (await Library.of(this.#module)).#spansOf(parts.pieces, total, most);
+  }
+
+  #spansOf(pieces, length, most) {
+    const room = AT.lent + Math.ceil(length / SPAN) * SPAN;
     this.#lend(room);
-    this.#putBytes(AT.lent, [{ bytes }]);
-    const count = this.#tellSpans(bytes.length, room, 0);
+    for (const { start, bytes } of pieces) this.#bytes.set(bytes, this.#base + AT.lent + start);
+    const count = this.#tellSpans(length, room, 0);
     if (count > most) throw new ImageError('TOO_MANY_SPANS', `The answer rests on ${count} spans, and ${most} are allowed`);
     this.#lend(room + SPAN * count);
-    this.#tellSpans(bytes.length, room, count);
+    this.#tellSpans(length, room, count);
     return Array.from({ length: count }, (_, index) => this.#span(room + SPAN * index));
   }
 
@@ -119,7 +136,8 @@ class Library {
     return BigInt(this.#base + at);
   }
 
-  #putBytes(at, pieces) {
+  // Pieces one behind another.
+  #putPieces(at, pieces) {
     let place = this.#base + at;
     for (const { bytes } of pieces) {
       this.#bytes.set(bytes, place);
@@ -187,13 +205,13 @@ class Library {
   }
 }
 
-// Engines from before the last rules of 64-bit memory count its pages by a number, and the others by a BigInt.
+// Engines from before the last rules of 64-bit memory count its pages by a number of 32 bits, and the others by a BigInt.
 function grow(memory, pages) {
   try {
     memory.grow(BigInt(pages));
   } catch (error) {
     if (!(error instanceof TypeError)) throw error;
-    memory.grow(pages);
+    memory.grow(Math.min(pages, 2 ** 32 - 1));
   }
 }
 

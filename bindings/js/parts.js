@@ -1,16 +1,12 @@
 // How a probe goes on: which block of an input is read next, until the parts that are known tell type and size.
 
 import { ImageError } from './errors.js';
-import { library } from './library.js';
 
 // Blocks begin at multiples of so many bytes.
 const BLOCK = 4096;
 
 // After so many reads each block is twice as long as the one before, so that an input of any length is read in a few more.
 const SINGLE_BLOCKS = 16;
-
-// How many bytes a trace has at most.
-const TRACE_MOST = 1024;
 
 
 /** The parts of an input that are known. */
@@ -31,10 +27,15 @@ export class Parts {
     this.reads += 1;
   }
 
-  /** The byte at a place, where it is known. */
-  at(place) {
-    const piece = this.pieces.find(({ start, bytes }) => start <= place && place < start + bytes.length);
-    return piece?.bytes[place - piece.start];
+  /** The bytes of a span that is known. */
+  slice(start, len) {
+    const slice = new Uint8Array(len);
+    for (const piece of this.pieces) {
+      const from = Math.max(start, piece.start);
+      const to = Math.min(start + len, piece.start + piece.bytes.length);
+      if (from < to) slice.set(piece.bytes.subarray(from - piece.start, to - piece.start), from - start);
+    }
+    return slice;
   }
 }
 
@@ -55,30 +56,4 @@ export function nextBlock(wanted, total, parts, most) {
   const end = Math.min(Math.max(last, ahead), total, start + most - parts.length);
   if (end <= wanted.start) throw new ImageError('LIMIT_REACHED', `There is no answer within ${most} bytes`);
   return { start, end };
-}
-
-/**
- * The bytes that the answer of these parts rests on, in the order of their places, as pieces `{ start, bytes }`: what is
- * asked for where nothing is known but what was asked for before.
- */
-export function traceOf(parts, total) {
-  const asked = new Parts();
-  while (parts.reads > 0 && asked.length < TRACE_MOST) {
-    const { wanted } = library().probeParts(asked, total);
-    const byte = wanted && parts.at(wanted.start);
-    if (byte === undefined) break;
-    asked.add(wanted.start, [byte]);
-  }
-  return joined(asked.pieces.sort((a, b) => a.start - b.start));
-}
-
-// Pieces in order, with neighbours in one.
-function joined(pieces) {
-  const runs = [];
-  for (const { start, bytes } of pieces) {
-    const last = runs.at(-1);
-    if (last !== undefined && last.start + last.bytes.length === start) last.bytes.push(...bytes);
-    else runs.push({ start, bytes: [...bytes] });
-  }
-  return runs.map(({ start, bytes }) => ({ start, bytes: Uint8Array.from(bytes) }));
 }

@@ -120,6 +120,17 @@ test('a blob is read by aligned slices, each place once', async () => {
   assert.ok(slices.every(([start, end], index) => start % 4096 === 0 && end <= bytes.length && (index === 0 || start >= slices[index - 1][1])));
 });
 
+test('a trace has the bytes of a few blocks of a long input, or is null', async () => {
+  const tiff = tiffBehind(50_000_000);
+  const { trace } = await probeBlob(new Blob([tiff]), { trace: true });
+  assert.deepEqual(trace.map(({ start, bytes }) => [start, bytes.length]), spans(tiff).map(({ start, len }) => [start, len]));
+  assert.deepEqual(Buffer.from(trace.at(-1).bytes), tiff.subarray(-8, -4));
+  const endless = { size: 2 ** 50, slice: (start, end) => new Blob([Buffer.concat([gif, Buffer.alloc(end - start - 12)])]) };
+  const image = await probeBlob(endless, { trace: true });
+  assert.deepEqual([image.width, image.trace], [100, null]);
+  assert.equal((await probeBlob(new Blob([jpegBehind(40000, 4)]), { trace: true })).trace, null);
+});
+
 test('a blob that is cut is refused', async () => {
   await assert.rejects(probeBlob({ size: 5000, slice: () => new Blob([gif]) }), { code: 'CUT_SHORT', message: '12 of 4096 bytes came', reads: 0 });
 });

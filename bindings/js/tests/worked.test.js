@@ -44,18 +44,10 @@ test('from a server', async () => {
   });
 });
 
-test('the trace of an answer has bytes of its spans, and is enough for it', async () => {
-  for (const { bytes, line } of worked) {
-    const blob = new Blob([bytes]);
-    const { trace } = await probeBlob(blob, { trace: true }).catch((error) => error);
-    const seen = new Set(spans(bytes).flatMap(({ start, len }) => Array.from({ length: len }, (_, index) => start + index)));
-    const sparse = Buffer.alloc(bytes.length, 0x55);
-    for (const { start, bytes: piece } of trace) {
-      assert.ok([...piece.keys()].every((index) => seen.has(start + index)), line);
-      sparse.set(piece, start);
-    }
-    if (trace.reduce((sum, piece) => sum + piece.bytes.length, 0) < 1024) {
-      assert.equal(await lineOf(() => probe(sparse)), line);
-    }
+test('the trace of a blob has these spans and their bytes', async () => {
+  for (const { bytes, spans: wanted } of worked.filter((row) => row.spans !== '?')) {
+    const { trace } = await probeBlob(new Blob([bytes]), { trace: true }).catch((error) => error);
+    assert.equal(trace.map((piece) => `${piece.start}+${piece.bytes.length}`).join(' ') || '-', wanted);
+    for (const { start, bytes: piece } of trace) assert.deepEqual(Buffer.from(piece), bytes.subarray(start, start + piece.length));
   }
 });
