@@ -3,7 +3,7 @@
 use crate::sys::{self, Parts, Span, Told};
 use crate::{ImageError, ImageResult};
 use std::fs::File;
-use std::io::{Read, Seek, SeekFrom};
+use std::io::{self, Read, Seek, SeekFrom};
 
 /// Blocks begin and end at multiples of this, or where the input ends.
 const BLOCK: u64 = 4096;
@@ -87,8 +87,7 @@ impl<R: Read + Seek> Input<R> {
 
     /// Fetches the block around a span.
     fn fetch(&mut self, wanted: Span) -> ImageResult<()> {
-        let known = self.bytes.len();
-        if known >= MOST_BYTES {
+        if self.bytes.len() >= MOST_BYTES {
             return Err(ImageError::of_status(sys::BUDGET_SPENT));
         }
         let block = self.block(wanted);
@@ -96,8 +95,13 @@ impl<R: Read + Seek> Input<R> {
         if place != self.place {
             self.reader.seek(SeekFrom::Start(place))?;
         }
-        self.bytes.resize(known + block.len as usize, 0);
-        self.reader.read_exact(&mut self.bytes[known..])?;
+        self.bytes
+            .try_reserve(block.len as usize)
+            .map_err(io::Error::from)?;
+        let mut rest = self.reader.by_ref().take(block.len);
+        if (rest.read_to_end(&mut self.bytes)? as u64) < block.len {
+            return Err(ImageError::of_status(sys::END_OF_INPUT));
+        }
         self.place = place + block.len;
         match self.spans.last_mut() {
             Some(last) if last.start + last.len == block.start => last.len += block.len,

@@ -212,7 +212,7 @@ fn long_walks_take_few_readings() {
         let mut reader = Counting::new(bytes);
         let _ = reader_size(&mut reader);
         assert!(
-            reader.readings.len() <= 40,
+            reader.readings.len() <= 64,
             "{} readings",
             reader.readings.len()
         );
