@@ -11,8 +11,8 @@ const BLOCK: u64 = 4096;
 /// With a wanted byte come so many behind it, since the readings of one record stand together.
 const AHEAD: u64 = 64;
 
-/// Where so many blocks stand apart from one another, the next ones grow.
-const FEW_SPANS: usize = 16;
+/// Where more spans than these stand apart from one another, the next blocks grow.
+const FEW_SPANS: usize = 64;
 
 /// A call that holds so many bytes fetches no more.
 const MOST_BYTES: usize = 64 << 20;
@@ -115,17 +115,18 @@ impl<R: Read + Seek> Input<R> {
     fn block(&self, wanted: Span) -> Span {
         let start = wanted.start - wanted.start % BLOCK;
         let goes_on = matches!(self.spans.last(), Some(last) if last.start + last.len == start);
+        let held = self.bytes.len();
         let grown = if goes_on || self.spans.len() > FEW_SPANS {
-            self.bytes.len() as u64
+            held.min(MOST_BYTES - held) as u64
         } else {
             0
         };
         let least = wanted.start.saturating_add(wanted.len.max(AHEAD));
-        let end = least.max(start + grown).checked_next_multiple_of(BLOCK);
-        let end = end.unwrap_or(u64::MAX).min(self.total);
+        let end = least.max(start.saturating_add(grown));
+        let end = end.checked_next_multiple_of(BLOCK).unwrap_or(end);
         Span {
             start,
-            len: end - start,
+            len: end.min(self.total) - start,
         }
     }
 }
