@@ -119,9 +119,15 @@ fn tiff(pixels: u32) -> Vec<u8> {
     bytes
 }
 
-/// An interleaved bitmap that has this many empty chunks and no head.
+/// An interleaved bitmap of 320x200, of which the head stands behind this many empty chunks.
 fn ilbm(chunks: usize) -> Vec<u8> {
-    [b"FORM\0\0\0\0ILBM".to_vec(), b"ANNO\0\0\0\0".repeat(chunks)].concat()
+    let head = b"BMHD\0\0\0\x14\x01\x40\0\xC8";
+    [
+        b"FORM\0\0\0\0ILBM",
+        &b"ANNO\0\0\0\0".repeat(chunks)[..],
+        head,
+    ]
+    .concat()
 }
 
 fn pixels(width: usize, height: usize) -> ImageSize {
@@ -223,16 +229,33 @@ fn a_record_across_two_blocks_is_read_at_once() {
 }
 
 #[test]
-fn long_walks_take_few_readings() {
-    for bytes in [ilbm(1 << 20), jpeg(2_000, 2), jpeg(1_000, 9_000)] {
+fn a_walk_from_block_to_block_reads_each_byte_once_and_seeks_no_more() {
+    for chunks in [1 << 10, 1 << 16, 1 << 20] {
+        let bytes = ilbm(chunks);
+        let length = bytes.len();
         let mut reader = Counting::new(bytes);
-        let _ = reader_size(&mut reader);
+        assert_eq!(reader_size(&mut reader).ok(), Some(pixels(320, 200)));
+        let fetched: usize = reader.readings.iter().map(|reading| reading.1).sum();
+        assert_eq!(fetched, length);
         assert!(
-            reader.readings.len() <= 128,
+            reader.readings.len() <= 64,
             "{} readings",
             reader.readings.len()
         );
+        // It asks for the place and the length, and goes back to the beginning.
+        assert_eq!(reader.calls, reader.readings.len() + 3);
     }
+}
+
+#[test]
+fn a_walk_over_many_places_takes_few_readings() {
+    let mut reader = Counting::new(jpeg(1_000, 9_000));
+    assert_eq!(reader_size(&mut reader).ok(), Some(pixels(7, 5)));
+    assert!(
+        reader.readings.len() <= 128,
+        "{} readings",
+        reader.readings.len()
+    );
 }
 
 /// A JPEG without end: its first two bytes, and then empty segments.
