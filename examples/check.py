@@ -78,7 +78,7 @@ def check_wrong_calls():
     empty = refused(imagesize.ImageError, imagesize.probe, b"")
     assert empty.status == imagesize.Status.END_OF_INPUT and empty.image_type is None
     assert imagesize.spans(b"") == []
-    refused(ValueError, imagesize.status_text, 30)
+    refused(ValueError, imagesize.status_text, 31)
     refused(ValueError, str, imagesize.ImageType(26))
     refused(ValueError, lambda: imagesize.ImageType(10, 11).compression_family)
     for status in imagesize.Status:

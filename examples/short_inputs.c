@@ -1,6 +1,6 @@
 /*
- * Calls the library over a hundred thousand short inputs, each of which ends at a page that cannot be read, and with buffers
- * that end there: a call that reads or writes behind what it is lent faults. Then over what a caller may do wrong.
+ * Calls the library over a hundred thousand short inputs, in eight threads at once. Each input ends at a page that cannot be
+ * read, and so does each buffer: a call that reads or writes behind what it is lent faults. Then over what a caller may do wrong.
  *
  *     short_inputs
  *
@@ -10,14 +10,16 @@
 #include "imagesize.h"
 
 #include <inttypes.h>
+#include <pthread.h>
+#include <stdatomic.h>
 #include <stdio.h>
 #include <string.h>
 #include <sys/mman.h>
 #include <unistd.h>
 
-enum { INPUTS = 100000, LONGEST = 96, SPANS = 64 };
+enum { THREADS = 8, INPUTS = 12500, LONGEST = 96, SPANS = 64, PAGES = 4 };
 
-static int failures;
+static atomic_int failures;
 
 static void expect(int holds, const char *what)
 {
@@ -30,22 +32,27 @@ static void expect(int holds, const char *what)
 /* The end of memory behind which nothing can be read or written. */
 static uint8_t *guarded_end(void)
 {
-    size_t page = (size_t)sysconf(_SC_PAGESIZE);
-    uint8_t *pages = mmap(NULL, 2 * page, PROT_READ | PROT_WRITE, MAP_PRIVATE | MAP_ANONYMOUS, -1, 0);
-    if (pages == MAP_FAILED || mprotect(pages + page, page, PROT_NONE) != 0) {
+    size_t page = (size_t)sysconf(_SC_PAGESIZE), room = PAGES * page;
+    uint8_t *pages = mmap(NULL, room + page, PROT_READ | PROT_WRITE, MAP_PRIVATE | MAP_ANONYMOUS, -1, 0);
+    if (pages == MAP_FAILED || mprotect(pages + room, page, PROT_NONE) != 0) {
         return NULL;
     }
-    return pages + page;
+    return pages + room;
 }
 
-static uint64_t state = 0x9E3779B97F4A7C15U;
+/* What a thread works with: where its input, its buffers of bytes and its buffer of spans end, and the last random number. */
+struct worker {
+    uint8_t *input_end, *bytes_end;
+    imagesize_span *spans_end;
+    uint64_t random;
+};
 
-static uint64_t random_number(void)
+static uint64_t random_number(struct worker *worker)
 {
-    state ^= state << 13;
-    state ^= state >> 7;
-    state ^= state << 17;
-    return state;
+    worker->random ^= worker->random << 13;
+    worker->random ^= worker->random >> 7;
+    worker->random ^= worker->random << 17;
+    return worker->random;
 }
 
 /* The fronts that short inputs begin with, so that most are of a type that is known. */
@@ -61,56 +68,151 @@ static const struct front {
     {"\0\0\x02\0\0\0\0\0\0\0\0\0\x03\0\x04\0\x18\0", 18}, {"VTF\0", 4}, {"\xABKTX 20\xBB\r\n\x1A\n", 12},
 };
 
-static size_t short_input(uint8_t *end)
+/* A short input, at the end of a worker's room. Its length is returned. */
+static size_t short_input(struct worker *worker)
 {
-    size_t length = random_number() % (LONGEST + 1);
-    uint8_t *bytes = end - length;
+    size_t length = random_number(worker) % (LONGEST + 1);
+    uint8_t *bytes = worker->input_end - length;
     for (size_t i = 0; i < length; i++) {
-        uint64_t number = random_number();
+        uint64_t number = random_number(worker);
         bytes[i] = (uint8_t)(number % 3 == 0 ? number >> 8 : number % 3 - 1);
     }
-    const struct front *front = &fronts[random_number() % (sizeof fronts / sizeof fronts[0])];
+    const struct front *front = &fronts[random_number(worker) % (sizeof fronts / sizeof fronts[0])];
     memcpy(bytes, front->bytes, length < front->length ? length : front->length);
     return length;
 }
 
-static void one_input(uint8_t *end, uint8_t *text_end)
+/* What a call answers, and what it tells. The numbers are no answers until it tells others. */
+struct answer {
+    uint32_t status, type, compression;
+    uint64_t width, height;
+};
+
+static const struct answer nothing_told = {0, 0, 0, 7, 9};
+
+static int is_same(const struct answer *a, const struct answer *b)
 {
-    size_t length = short_input(end);
-    const uint8_t *bytes = end - length;
-    uint32_t type = 0, compression = 0;
-    uint64_t width = 7, height = 9;
-    uint32_t status = imagesize_probe(bytes, length, &type, &compression, &width, &height);
-    expect(status < IMAGESIZE_BUFFER_TOO_SMALL, "a probe answers a refusal of bytes");
-    expect(status != IMAGESIZE_FAULT && status != IMAGESIZE_BUDGET_SPENT && status != IMAGESIZE_OUT_OF_MEMORY,
-           "no refusal of a reader");
-    expect(status == IMAGESIZE_ANSWERED || (width == 7 && height == 9), "no size beside a refusal");
-
-    uint64_t width_alone = 7, height_alone = 9;
-    expect(imagesize_size(bytes, length, &width_alone, &height_alone) == status, "the size alone has the same status");
-    expect(width_alone == width && height_alone == height, "and the same size");
-    uint32_t type_alone = 0, compression_alone = 0;
-    uint32_t type_status = imagesize_type(bytes, length, &type_alone, &compression_alone);
-    expect((type_status == IMAGESIZE_ANSWERED) == (type != 0), "the type alone is told where it is told beside the size");
-    expect(type_alone == type && compression_alone == compression, "and is the same");
-
-    imagesize_span spans[SPANS] = {{0, 0}};
-    size_t count = SPANS + 1;
-    uint32_t spans_status = imagesize_spans(bytes, length, spans, SPANS, &count);
-    expect(spans_status == (count <= SPANS ? IMAGESIZE_ANSWERED : IMAGESIZE_BUFFER_TOO_SMALL), "spans where they fit");
-    for (size_t i = 0; spans_status == IMAGESIZE_ANSWERED && i < count; i++) {
-        expect(spans[i].len > 0 && spans[i].start < length && spans[i].len <= length - spans[i].start, "spans of the input");
-    }
-
-    size_t written = 0;
-    expect(imagesize_status_text(status, text_end, 0, &written) == IMAGESIZE_BUFFER_TOO_SMALL, "no text has no byte");
-    expect(imagesize_status_text(status, text_end - written, written, &written) == IMAGESIZE_ANSWERED, "a room that is just enough");
+    return a->status == b->status && a->type == b->type && a->compression == b->compression && a->width == b->width
+           && a->height == b->height;
 }
 
-static void spans_in_just_enough_room(uint8_t *end)
+static struct answer probe(const uint8_t *bytes, size_t length)
+{
+    struct answer a = nothing_told;
+    a.status = imagesize_probe(bytes, length, &a.type, &a.compression, &a.width, &a.height);
+    return a;
+}
+
+/* The calls for type and size alone answer as the one for both. */
+static void calls_agree(const uint8_t *bytes, size_t length, const struct answer *both)
+{
+    expect(both->status < IMAGESIZE_BUFFER_TOO_SMALL, "a probe answers a refusal of bytes");
+    expect(both->status != IMAGESIZE_FAULT && both->status != IMAGESIZE_BUDGET_SPENT && both->status != IMAGESIZE_OUT_OF_MEMORY,
+           "no refusal of a reader");
+    expect(both->status == IMAGESIZE_ANSWERED || (both->width == 7 && both->height == 9), "no size beside a refusal");
+    struct answer size = nothing_told, type = nothing_told;
+    size.status = imagesize_size(bytes, length, &size.width, &size.height);
+    expect(size.status == both->status, "the size alone has the same status");
+    expect(size.width == both->width && size.height == both->height, "and the same size");
+    type.status = imagesize_type(bytes, length, &type.type, &type.compression);
+    expect((type.status == IMAGESIZE_ANSWERED) == (type.type != 0), "the type alone is told where it is told beside the size");
+    expect(type.type == both->type && type.compression == both->compression, "and is the same");
+}
+
+static void spans_lie_within(struct worker *worker, size_t length)
+{
+    imagesize_span *spans = worker->spans_end - SPANS;
+    size_t count = SPANS + 1;
+    uint32_t status = imagesize_spans(worker->input_end - length, length, spans, SPANS, &count);
+    expect(status == (count <= SPANS ? IMAGESIZE_ANSWERED : IMAGESIZE_BUFFER_TOO_SMALL), "spans where they fit");
+    for (size_t i = 0; status == IMAGESIZE_ANSWERED && i < count; i++) {
+        expect(spans[i].len > 0 && spans[i].start < length && spans[i].len <= length - spans[i].start, "spans of the input");
+    }
+}
+
+/* One call with the parts of an input that these spans are. Their bytes, and the spans, end at a page that cannot be read. */
+static struct answer probe_parts(struct worker *worker, size_t length, const imagesize_span *parts, size_t count,
+                                 imagesize_span *wanted)
+{
+    uint8_t known[SPANS * LONGEST];
+    size_t bytes = 0;
+    for (size_t i = 0; i < count; i++) {
+        memcpy(known + bytes, worker->input_end - length + parts[i].start, (size_t)parts[i].len);
+        bytes += (size_t)parts[i].len;
+    }
+    memcpy(worker->bytes_end - bytes, known, bytes);
+    memcpy(worker->spans_end - count, parts, count * sizeof *parts);
+    struct answer a = nothing_told;
+    a.status = imagesize_probe_parts(worker->bytes_end - bytes, bytes, worker->spans_end - count, count, length, &a.type,
+                                     &a.compression, &a.width, &a.height, wanted);
+    return a;
+}
+
+/* From no part on, with each part that is wanted added, the answer is that of the whole. */
+static void parts_lead_to(struct worker *worker, size_t length, const struct answer *whole)
+{
+    imagesize_span parts[SPANS], wanted = {0, 0};
+    for (size_t count = 0; count < SPANS; count++) {
+        struct answer a = probe_parts(worker, length, parts, count, &wanted);
+        if (a.status != IMAGESIZE_BYTES_WANTED) {
+            expect(is_same(&a, whole), "the parts answer as the whole");
+            return;
+        }
+        expect(a.type == 0 && a.compression == 0 && a.width == 7 && a.height == 9, "beside a wanted part nothing else is told");
+        expect(wanted.len > 0 && wanted.start < length && wanted.len <= length - wanted.start, "a wanted part of the input");
+        parts[count] = wanted;
+    }
+    expect(0, "a probe of parts ends");
+}
+
+/* Parts that no input may have: the call returns, and a part that it wants lies within the input. */
+static void parts_of_any_kind(struct worker *worker, size_t length)
+{
+    imagesize_span parts[4], wanted = {0, 0};
+    size_t count = random_number(worker) % 5;
+    for (size_t i = 0; i < count; i++) {
+        parts[i].start = random_number(worker) >> (random_number(worker) % 64);
+        parts[i].len = random_number(worker) >> (random_number(worker) % 64);
+    }
+    memcpy(worker->spans_end - count, parts, count * sizeof *parts);
+    uint64_t total = random_number(worker) >> (random_number(worker) % 64);
+    struct answer a = nothing_told;
+    a.status = imagesize_probe_parts(worker->input_end - length, length, worker->spans_end - count, count, total, &a.type,
+                                     &a.compression, &a.width, &a.height, &wanted);
+    expect(a.status <= IMAGESIZE_BYTES_WANTED, "a probe of parts answers a status");
+    if (a.status == IMAGESIZE_BYTES_WANTED) {
+        expect(wanted.len > 0 && wanted.start < total && wanted.len <= total - wanted.start, "and wants a part of the input");
+    }
+}
+
+static void text_of(struct worker *worker, uint32_t status)
+{
+    size_t written = 0;
+    uint8_t *end = worker->bytes_end;
+    expect(imagesize_status_text(status, end, 0, &written) == IMAGESIZE_BUFFER_TOO_SMALL, "no text has no byte");
+    expect(imagesize_status_text(status, end - written, written, &written) == IMAGESIZE_ANSWERED, "a room that is just enough");
+}
+
+/* A thread's inputs. */
+static void *work(void *its)
+{
+    struct worker *worker = its;
+    for (int i = 0; i < INPUTS; i++) {
+        size_t length = short_input(worker);
+        struct answer whole = probe(worker->input_end - length, length);
+        calls_agree(worker->input_end - length, length, &whole);
+        spans_lie_within(worker, length);
+        parts_lead_to(worker, length, &whole);
+        parts_of_any_kind(worker, length);
+        text_of(worker, whole.status);
+    }
+    return NULL;
+}
+
+static void spans_in_just_enough_room(imagesize_span *end)
 {
     const uint8_t gif[] = "GIF89a\x64\0\x64\0\0";
-    imagesize_span *spans = (imagesize_span *)(void *)end - 3;
+    imagesize_span *spans = end - 3;
     memset(spans, 0xFF, 3 * sizeof *spans);
     size_t count = 0;
     expect(imagesize_spans(gif, 12, spans, 2, &count) == IMAGESIZE_BUFFER_TOO_SMALL && count == 3, "two are too few for three");
@@ -127,7 +229,7 @@ static void wrong_calls(void)
     size_t written = 11;
     expect(imagesize_probe(&nothing, 0, &type, &compression, &width, &height) == IMAGESIZE_END_OF_INPUT, "no byte has no type");
     expect(type == 5 && compression == 6 && width == 7 && height == 9, "and nothing is told");
-    expect(imagesize_status_text(30, text, sizeof text, &written) == IMAGESIZE_UNKNOWN_STATUS, "30 is no status");
+    expect(imagesize_status_text(31, text, sizeof text, &written) == IMAGESIZE_UNKNOWN_STATUS, "31 is no status");
     expect(imagesize_status_text(UINT32_MAX, text, sizeof text, &written) == IMAGESIZE_UNKNOWN_STATUS, "nor is the greatest number");
     expect(imagesize_type_name(0, 0, text, sizeof text, &written) == IMAGESIZE_UNKNOWN_TYPE, "0 is no type");
     expect(imagesize_type_name(26, 0, text, sizeof text, &written) == IMAGESIZE_UNKNOWN_TYPE, "nor is 26");
@@ -160,18 +262,28 @@ static void queries(void)
 
 int main(void)
 {
-    uint8_t *end = guarded_end();
-    uint8_t *text_end = guarded_end();
-    if (end == NULL || text_end == NULL) {
-        fprintf(stderr, "no page can be guarded\n");
-        return 2;
+    struct worker workers[THREADS];
+    pthread_t threads[THREADS];
+    for (int i = 0; i < THREADS; i++) {
+        uint8_t *input_end = guarded_end(), *bytes_end = guarded_end(), *spans_end = guarded_end();
+        if (input_end == NULL || bytes_end == NULL || spans_end == NULL) {
+            fprintf(stderr, "no page can be guarded\n");
+            return 2;
+        }
+        workers[i] = (struct worker){input_end, bytes_end, (imagesize_span *)(void *)spans_end, 0x9E3779B97F4A7C15U + (uint64_t)i};
     }
-    for (int i = 0; i < INPUTS; i++) {
-        one_input(end, text_end);
+    for (int i = 0; i < THREADS; i++) {
+        if (pthread_create(&threads[i], NULL, work, &workers[i]) != 0) {
+            fprintf(stderr, "no thread can be started\n");
+            return 2;
+        }
     }
-    spans_in_just_enough_room(text_end);
+    for (int i = 0; i < THREADS; i++) {
+        pthread_join(threads[i], NULL);
+    }
+    spans_in_just_enough_room(workers[0].spans_end);
     wrong_calls();
     queries();
-    printf("%d short inputs: %s\n", INPUTS, failures == 0 ? "as they should be" : "NOT as they should be");
+    printf("%d short inputs in %d threads: %s\n", THREADS * INPUTS, THREADS, failures == 0 ? "as they should be" : "NOT as they should be");
     return failures != 0;
 }

@@ -59,7 +59,8 @@ enum imagesize_status {
     IMAGESIZE_PNM_DIMENSIONS_NOT_FOUND = 26, /* the words of a PNM's size are no numbers */
     IMAGESIZE_BUFFER_TOO_SMALL = 27, /* the answer has more items than the buffer has room for */
     IMAGESIZE_UNKNOWN_TYPE = 28, /* no type has these numbers */
-    IMAGESIZE_UNKNOWN_STATUS = 29 /* no status has this number */
+    IMAGESIZE_UNKNOWN_STATUS = 29, /* no status has this number */
+    IMAGESIZE_BYTES_WANTED = 30 /* imagesize_probe_parts needs another part of the input; no other call answers it */
 };
 
 /* The types of images. */
@@ -169,6 +170,24 @@ uint32_t imagesize_size(const uint8_t *bytes, size_t length, uint64_t *width, ui
  */
 uint32_t imagesize_probe(const uint8_t *bytes, size_t length, uint32_t *type, uint32_t *compression,
                          uint64_t *width, uint64_t *height);
+
+/*
+ * Type and size of the image in an input of `total` bytes, of which some parts are known; or a part that it needs.
+ *
+ * The parts are `count` spans, in any order; they may overlap. `bytes` are those of the spans, one span behind another; a span
+ * has no bytes behind the end of the input. With no part at all the call begins.
+ *
+ * Where bytes are wanted it answers IMAGESIZE_BYTES_WANTED and writes `wanted` alone: at least one byte, within the input; the
+ * first is one that the answer rests on and no part has, and the whole span is enough for the reading that wants it. A caller
+ * may fetch more around it, as a block of 4096 bytes. With a part that has the first byte added, the next call gets on.
+ * Else status, type, compression, width and height are those of imagesize_probe over the whole input, and `wanted` stays as it
+ * was. Where the parts have every byte that the answer rests on, it is answered.
+ *
+ * Of parts that no input has (other bytes for the same place, too few bytes or too many), and of a total of 2^63 bytes or more,
+ * nothing is said but that the call returns, and reads and writes what is lent alone.
+ */
+uint32_t imagesize_probe_parts(const uint8_t *bytes, size_t length, const imagesize_span *spans, size_t count, uint64_t total,
+                               uint32_t *type, uint32_t *compression, uint64_t *width, uint64_t *height, imagesize_span *wanted);
 
 /*
  * The bytes that type and size rest on, a span for each reading, in their order, repeats kept. Every other input of this length

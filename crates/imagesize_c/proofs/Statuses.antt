@@ -1,5 +1,6 @@
--- The statuses of refusals that stop a reader.
+-- What a status of a refusal is not.
 use Rattle.std.proofs.Common.{◌≡◌, false, Result, Ok, Err, refl, ◌∙◌}
+use Rattle.imagesize_c.specs.Parts.{is_wanted}
 use Rattle.imagesize_c.specs.Status.{is_stop_status, refusal_status, status_of}
 use Rattle.imagesize_source.specs.Reading.{is_stop, stopped}
 use Rattle.imagesize_source.specs.declared.error.ImageError.{ImageError}
@@ -38,3 +39,36 @@ stop_status (IoError PnmDimensionsNotFound) = refl
 pub unstopped : {X : Type 0} (r : Result X ImageError) → stopped r ≡ false → is_stop_status (status_of r) ≡ false
 unstopped (Ok x) on = refl
 unstopped (Err e) on = stop_status e ∙ on
+
+refuses : (e : ImageError) → is_wanted (refusal_status e) ≡ false
+refuses NotSupported = refl
+refuses CorruptedImage = refl
+refuses (IoError (Fault _)) = refl
+refuses (IoError EndOfInput) = refl
+refuses (IoError NotEnoughData) = refl
+refuses (IoError (BudgetSpent _)) = refl
+refuses (IoError Memory) = refl
+refuses (IoError (NoDelimiter _)) = refl
+refuses (IoError NotUtf8) = refl
+refuses (IoError (InvalidHeifBoxSize _)) = refl
+refuses (IoError (InvalidJxlBoxSize _ _)) = refl
+refuses (IoError InvalidJxlSignature) = refl
+refuses (IoError InvalidTiffHeader) = refl
+refuses (IoError BigTiffOffsetSize) = refl
+refuses (IoError InvalidBigTiffHeader) = refl
+refuses (IoError InvalidIfdOffset) = refl
+refuses (IoError IfdTypeForStandardTiff) = refl
+refuses (IoError InvalidIfdType) = refl
+refuses (IoError InvalidIfdValueLength) = refl
+refuses (IoError NoDimensionsInIfd) = refl
+refuses (IoError InvalidVp8Tag) = refl
+refuses (IoError DataWindowNotFound) = refl
+refuses (IoError InvalidHdrIdentifier) = refl
+refuses (IoError InvalidHdrDimensionsLine) = refl
+refuses (IoError HdrDimensionsNotFound) = refl
+refuses (IoError PnmDimensionsNotFound) = refl
+
+-- no answer and no refusal is the status of a part that is wanted
+pub never_wanted : {X : Type 0} (r : Result X ImageError) → is_wanted (status_of r) ≡ false
+never_wanted (Ok x) = refl
+never_wanted (Err e) = refuses e

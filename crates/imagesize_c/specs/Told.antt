@@ -13,10 +13,10 @@ use Rattle.imagesize_source.specs.declared.error.Reason.TheVariants.{EndOfInput,
 use Rattle.imagesize_types.specs.Table.{look_up}
 use Rattle.imagesize_types.specs.declared.size.ImageSize.{ImageSize}
 
--- The numbers of a type and of its compression, which were a and c: beside a refusal nothing has changed.
-abbrev pub TellsType : Result ImageType ImageError → ℕ → ℕ → ℕ → ℕ → Type 0
-TellsType (Ok image) a number c compression = (number ≡ type_number image) × (compression ≡ compression_number image)
-TellsType (Err _) a number c compression = (number ≡ a) × (compression ≡ c)
+-- The numbers of a type and of its compression, which were a and c: where no type was found nothing has changed.
+abbrev pub TellsType : Option ImageType → ℕ → ℕ → ℕ → ℕ → Type 0
+TellsType (Some image) a number c compression = (number ≡ type_number image) × (compression ≡ compression_number image)
+TellsType None a number c compression = (number ≡ a) × (compression ≡ c)
 
 -- The width and the height of a size, which were w and h: beside a refusal nothing has changed.
 abbrev pub TellsSize : Result ImageSize ImageError → ℕ → ℕ → ℕ → ℕ → Type 0
@@ -57,6 +57,7 @@ status_text status = look_up (
     ∷ (27, Some (codes "The buffer is too small"))
     ∷ (28, Some (codes "No type has these numbers"))
     ∷ (29, Some (codes "No status has this number"))
+    ∷ (30, Some (codes "More bytes are wanted"))
     ∷ []) None status
 
 -- nothing of what there is

@@ -1,5 +1,6 @@
 //! Type and size of the image in some bytes.
 ghost use Rattle.std.specs.Prelude.{◌≡◌, false};
+ghost use Rattle.std.specs.Result.{result_ok};
 ghost use Rattle.imagesize.specs.Meaning.{kind_of, meaning};
 ghost use Rattle.imagesize_c.specs.Status.{is_stop_status, status_of};
 ghost use Rattle.imagesize_c.specs.Told.{TellsSize, TellsType};
@@ -13,7 +14,7 @@ use imagesize::{blob_size, image_type};
 pub extern "C" fn imagesize_type(bytes: &[u8], number: &mut u32, compression: &mut u32) -> u32
     ensures status { result ≡ status_of (kind_of bytes.now 0).answer }
     ensures unstopped { is_stop_status result ≡ false }
-    ensures told { TellsType (kind_of bytes.now 0).answer number.old number.new compression.old compression.new }
+    ensures told { TellsType (result_ok (kind_of bytes.now 0).answer) number.old number.new compression.old compression.new }
 {
     match image_type(bytes) {
         Ok(image) => {
@@ -54,7 +55,7 @@ pub extern "C" fn imagesize_probe(
 ) -> u32
     ensures status { result ≡ status_of (meaning bytes.now 0).answer }
     ensures unstopped { is_stop_status result ≡ false }
-    ensures kind { TellsType (kind_of bytes.now 0).answer number.old number.new compression.old compression.new }
+    ensures kind { TellsType (result_ok (kind_of bytes.now 0).answer) number.old number.new compression.old compression.new }
     ensures size { TellsSize (meaning bytes.now 0).answer width.old width.new height.old height.new }
 {
     imagesize_type(bytes, number, compression);

@@ -5,6 +5,7 @@
 pub mod calls;
 mod laws;
 mod numbers;
+pub mod parts;
 pub mod queries;
 pub mod spans;
 mod status;

@@ -18,6 +18,9 @@ pub const UNKNOWN_TYPE: u32 = 28;
 /// The status of a call about a status, where there is none of this number.
 pub const UNKNOWN_STATUS: u32 = 29;
 
+/// The status of a call that was lent some parts of an input, and needs another.
+pub const BYTES_WANTED: u32 = 30;
+
 /// The status of a refusal.
 pub fn refusal_status(error: &ImageError) -> u32
     ensures { result ≡ refusal_status error.now }
@@ -96,6 +99,7 @@ pub fn status_text(status: u32) -> Option<&'static str>
         27 => "The buffer is too small",
         28 => "No type has these numbers",
         29 => "No status has this number",
+        30 => "More bytes are wanted",
         _ => return None,
     })
 }

@@ -1,0 +1,85 @@
+//! Type and size by the parts of an input that the caller has so far.
+ghost use Rattle.std.specs.Prelude.{◌≡◌, ℕ, ◌^◌, ◌<◌, List, Option, Some, None, true, false};
+ghost use Rattle.std.specs.Result.{result_ok};
+ghost use Rattle.imagesize.specs.Meaning.{kind_of, meaning};
+ghost use Rattle.imagesize.specs.Parted.{Cover, Fits, Says};
+ghost use Rattle.imagesize.specs.declared.parts.PartsAnswer.TheVariants.{Wanted};
+ghost use Rattle.imagesize_c.specs.Parts.{is_answered, is_wanted};
+ghost use Rattle.imagesize_c.specs.Status.{status_of};
+ghost use Rattle.imagesize_c.specs.Told.{TellsSize, TellsType};
+ghost use Rattle.imagesize_source.specs.Known.{HasParts};
+
+use crate::numbers::{compression_number, type_number};
+use crate::status::{ANSWERED, BYTES_WANTED, refusal_status};
+use imagesize::{ImageResult, ImageSize, ImageType, PartsAnswer, Span, parts_probe};
+
+/// Type and size of the image in an input of which these parts are known, or a part that it needs.
+#[unsafe(no_mangle)]
+#[tactic(auto, using(crate::proofs::Statuses::never_wanted))]
+pub extern "C" fn imagesize_probe_parts(
+    bytes: &[u8],
+    spans: &[Span],
+    total: u64,
+    number: &mut u32,
+    compression: &mut u32,
+    width: &mut u64,
+    height: &mut u64,
+    wanted: &mut Span,
+) -> u32
+    // Of each input of that length that has these parts:
+    ensures status { (d : List ℕ) → HasParts d total spans.now bytes.now → total < 2 ^ 63 → is_wanted result ≡ false
+        → result ≡ status_of (meaning d 0).answer }
+    ensures kind { (d : List ℕ) → HasParts d total spans.now bytes.now → total < 2 ^ 63 → is_wanted result ≡ false
+        → TellsType (result_ok (kind_of d 0).answer) number.old number.new compression.old compression.new }
+    ensures size { (d : List ℕ) → HasParts d total spans.now bytes.now → total < 2 ^ 63 → is_wanted result ≡ false
+        → TellsSize (meaning d 0).answer width.old width.new height.old height.new }
+    ensures wants { (d : List ℕ) → HasParts d total spans.now bytes.now → total < 2 ^ 63 → is_wanted result ≡ true
+        → Says d spans.now (Wanted wanted.new) }
+
+    // Where the parts have every byte that the answer rests on, it is given.
+    ensures complete { (d : List ℕ) → HasParts d total spans.now bytes.now → total < 2 ^ 63
+        → Cover spans.now (meaning d 0).marks → is_wanted result ≡ false }
+    ensures fits { is_wanted result ≡ true → Fits total (Wanted wanted.new) }
+
+    // What is not told stays as it was.
+    ensures unknown { is_wanted result ≡ true → (number.new ≡ number.old) × (compression.new ≡ compression.old) }
+    ensures sides { is_answered result ≡ false → (width.new ≡ width.old) × (height.new ≡ height.old) }
+    ensures enough { is_wanted result ≡ false → wanted.new ≡ wanted.old }
+{
+    match parts_probe(bytes, spans, total) {
+        PartsAnswer::Found { kind, answer } => {
+            tell_type(kind, number, compression);
+            tell_size(answer, width, height)
+        }
+        PartsAnswer::Wanted(span) => {
+            *wanted = span;
+            BYTES_WANTED
+        }
+    }
+}
+
+// Tells the numbers of a type, where one is known.
+fn tell_type(kind: Option<ImageType>, number: &mut u32, compression: &mut u32)
+    ensures { TellsType kind number.old number.new compression.old compression.new }
+{
+    if let Some(image) = kind {
+        *number = type_number(image);
+        *compression = compression_number(image);
+    }
+}
+
+// Tells a size, where there is one, and answers its status.
+fn tell_size(answer: ImageResult<ImageSize>, width: &mut u64, height: &mut u64) -> u32
+    ensures status { result ≡ status_of answer }
+    ensures told { TellsSize answer width.old width.new height.old height.new }
+    ensures sides { is_answered result ≡ false → (width.new ≡ width.old) × (height.new ≡ height.old) }
+{
+    match answer {
+        Ok(size) => {
+            *width = size.width as u64;
+            *height = size.height as u64;
+            ANSWERED
+        }
+        Err(error) => refusal_status(&error),
+    }
+}
