@@ -1,5 +1,5 @@
 -- Inputs that are too short to be told apart: a type is read from twelve bytes.
-use Rattle.std.specs.Prelude.{◌≡◌, ℕ, ◌+◌, ◌<◌, false, length, Option, None, Some, Result, Err}
+use Rattle.std.specs.Prelude.{◌≡◌, ◌+◌, ◌<◌, false, length, Option, None, Some, Result, Err}
 use Rattle.imagesize_io.specs.Telling.{Telling, IsHonest}
 use Rattle.imagesize_source.specs.Reading.{end_of_input, stopped}
 use Rattle.imagesize_source.specs.declared.error.ImageError.{ImageError}

@@ -14,7 +14,6 @@ use Rattle.imagesize_source.specs.declared.text.Text.TheVariants.{Line, Word}
 use Rattle.imagesize_source.specs.declared.span.Span.{Span}
 use Rattle.imagesize_source.specs.declared.util.Endian.{Endian}
 use Rattle.imagesize_source.specs.Chain.{Said}
-use Rattle.imagesize_source.specs.Counts.{AtMost}
 use Rattle.imagesize_source.specs.Extension.{Plain, Never, Lasts}
 use Rattle.imagesize_source.specs.Input.{span_at, span_of}
 use Rattle.imagesize_source.specs.Layout.{Layout, over}
@@ -287,9 +286,6 @@ found_by P (Err e) f goes_on out = out e
 
 -- lines
 module _ {X : Type 0} (delimiter place most : ℕ) (f : List ℕ → Layout X) where
-  pub line_at_most : (k : ℕ) → most ≤ k → ((text : List ℕ) → AtMost (k - most) (f text)) → AtMost k (line delimiter place most f)
-  line_at_most k few rest = (few, λ bs. found_by (AtMost (k - most)) (line_text delimiter most bs) f (λ text _. rest text) (λ e. tt))
-
   -- where each text leads on to at most k bytes with its own, so does the line
   pub line_total : (d : List ℕ) (k : ℕ) → most ≤ k
       → ((text : List ℕ) → length text + 1 ≤ most → length text + 1 + total (over d (f text)).marks ≤ k)
