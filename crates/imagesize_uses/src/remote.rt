@@ -6,9 +6,11 @@ ghost use Rattle.imagesize_source.specs.State.{total};
 ghost use Rattle.imagesize_uses.specs.Remote.{Fetch, IsOf, Stops};
 ghost use Rattle.imagesize_uses.specs.declared.remote.Interrupted.TheVariants.{Memory};
 
+use crate::cache::bytes_of_span;
+use crate::joined::copy_front;
 use imagesize::{ImageResult, ImageSize, ImageType, PartsAnswer, Span, parts_probe};
 use std::alloc::{AllocError, Allocator};
-use std::io;
+use std::io::{self, ErrorKind};
 
 /// An input whose bytes stand elsewhere, and are fetched by place.
 pub trait Remote {
@@ -101,4 +103,74 @@ fn fetch_part<A: Allocator, R: Remote>(alloc: A, remote: &mut R, span: &Span, by
         Ok(count) if count < room.len() => Err(Interrupted::Short),
         Ok(_) => Ok(bytes.extend_from_slice(&room)?),
     }
+}
+
+/// An input in memory as one that is fetched: each fetch gives at most so many bytes, and after so many each fails.
+#[derive(Drop)]
+pub struct Held<'a> {
+    bytes: &'a [u8],
+    most: usize,
+    left: u64,
+    fetches: u64,
+    wanted: usize,
+    gave: io::Result<usize>,
+}
+
+impl<'a> Held<'a> {
+    /// These bytes, with at most `most` of them a fetch, and with `left` fetches that do not fail.
+    pub fn new(bytes: &'a [u8], most: usize, left: u64) -> Held<'a>
+        ensures { result.bytes.now ≡ bytes.now }
+    {
+        Held {
+            bytes,
+            most,
+            left,
+            fetches: 0,
+            wanted: 0,
+            gave: Ok(0),
+        }
+    }
+
+    /// How many fetches there were.
+    pub fn fetches(&self) -> u64
+        ensures { result ≡ self.now.fetches }
+    {
+        self.fetches
+    }
+}
+
+impl Remote for Held<'_> {
+    ghost input = { λ h. h.bytes.now };
+
+    ghost fetches = { λ h. h.fetches };
+
+    ghost last = { λ h. Some (record { wanted = h.wanted; gave = h.gave }) };
+
+    fn length(&self) -> u64 {
+        self.bytes.len() as u64
+    }
+
+    fn fetch(&mut self, place: u64, room: &mut [u8]) -> io::Result<usize> {
+        self.fetches = self.fetches.saturating_add(1);
+        self.wanted = room.len();
+        self.gave = if self.left > 0 {
+            Ok(copy_part(self.bytes, place, self.most, room))
+        } else {
+            Err(io::Error::from(ErrorKind::TimedOut))
+        };
+        self.left = self.left.saturating_sub(1);
+        self.gave
+    }
+}
+
+// Copies what is there of the bytes from a place on, at most so many, and answers how many that is.
+fn copy_part(bytes: &[u8], place: u64, most: usize, room: &mut [u8]) -> usize
+    ensures bound { result ≤ length room.new }
+    ensures copied { take result room.new ≡ part bytes.now place result }
+{
+    let span = Span {
+        start: place,
+        len: most as u64,
+    };
+    copy_front(bytes_of_span(bytes, &span), room)
 }
