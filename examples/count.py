@@ -1,0 +1,73 @@
+"""Counts the instructions of a call of the library on ordinary files, beside those of the crate's blob_size, by callgrind.
+
+    python3 count.py FOLDER
+
+FOLDER has the program `repeat`, as `run` compiles it. A line for each file of counted.tsv: the crate's instructions, those of
+imagesize_size, of imagesize_probe, and of imagesize_probe_parts over one part that has all bytes. The instructions of a call that
+does nothing are left out. The status is 1 where imagesize_size takes more than the crate and 10 for the call.
+"""
+
+import concurrent.futures
+import os
+import pathlib
+import re
+import subprocess
+import sys
+import tempfile
+
+HERE = pathlib.Path(__file__).resolve().parent
+TIMES = 100
+CALLS = ("size", "probe", "parts")
+OF_THE_CALL = 10
+
+
+def rows():
+    """The name, the crate's instructions and the bytes of each file."""
+    for row in (HERE / "counted.tsv").read_text().splitlines():
+        if not row.startswith("#"):
+            name, length, crate, parts = row.split("\t")
+            data = bytearray(int(length))
+            for place, text in (part.split(":") for part in parts.split()):
+                known = bytes.fromhex(text)
+                data[int(place) : int(place) + len(known)] = known
+            yield name, int(crate), bytes(data)
+
+
+def instructions(program, call, times, file):
+    """How many instructions the program takes."""
+    command = ["valgrind", "--tool=callgrind", "--callgrind-out-file=/dev/null", program, call, str(times), file]
+    run = subprocess.run(command, check=True, capture_output=True, text=True)
+    return int(re.search(r"I +refs: +([0-9,]+)", run.stderr)[1].replace(",", ""))
+
+
+def of_a_call(program, call, file):
+    """How many of them one call takes."""
+    return (instructions(program, call, 2 * TIMES, file) - instructions(program, call, TIMES, file)) / TIMES
+
+
+def count(program, name, data):
+    """The instructions of each call on a file."""
+    with tempfile.TemporaryDirectory() as folder:
+        file = pathlib.Path(folder) / name
+        file.write_bytes(data)
+        nothing = of_a_call(program, "none", file)
+        return [round(of_a_call(program, call, file) - nothing) for call in CALLS]
+
+
+def main(program):
+    """The table."""
+    above = []
+    print(f"{'file':<24}{'crate':>8}" + "".join(f"{call:>8}" for call in CALLS))
+    files = list(rows())
+    with concurrent.futures.ThreadPoolExecutor(os.cpu_count()) as pool:
+        counts = pool.map(lambda file: count(program, file[0], file[2]), files)
+        for (name, crate, _), found in zip(files, counts):
+            print(f"{name:<24}{crate:>8}" + "".join(f"{each:>8}" for each in found), flush=True)
+            if found[0] > crate + OF_THE_CALL:
+                above.append(name)
+    print(f"{len(files)} files, above the crate: {' '.join(above) or 'none'}")
+    return 1 if above else 0
+
+
+if __name__ == "__main__":
+    sys.exit(main(f"{sys.argv[1]}/repeat"))

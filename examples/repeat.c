@@ -1,0 +1,69 @@
+/*
+ * Calls the library so many times over the bytes of a file, for count.py.
+ *
+ *     repeat CALL TIMES FILE
+ *
+ * CALL is size, probe, parts (with one part, which has all bytes) or none.
+ */
+#include "imagesize.h"
+
+#include <stdio.h>
+#include <stdlib.h>
+#include <string.h>
+
+enum { ROOM = 1 << 20 };
+
+struct told {
+    uint32_t type, compression;
+    uint64_t width, height;
+};
+
+typedef uint32_t call(const uint8_t *bytes, size_t length, struct told *told);
+
+static uint32_t none(const uint8_t *bytes, size_t length, struct told *told)
+{
+    (void)bytes;
+    told->width = length;
+    return 0;
+}
+
+static uint32_t size(const uint8_t *bytes, size_t length, struct told *told)
+{
+    return imagesize_size(bytes, length, &told->width, &told->height);
+}
+
+static uint32_t probe(const uint8_t *bytes, size_t length, struct told *told)
+{
+    return imagesize_probe(bytes, length, &told->type, &told->compression, &told->width, &told->height);
+}
+
+static uint32_t parts(const uint8_t *bytes, size_t length, struct told *told)
+{
+    imagesize_span all = {0, length}, wanted;
+    return imagesize_probe_parts(bytes, length, &all, 1, length, &told->type, &told->compression, &told->width, &told->height,
+                                 &wanted);
+}
+
+static call *called(const char *name)
+{
+    return strcmp(name, "size") == 0 ? size : strcmp(name, "probe") == 0 ? probe : strcmp(name, "parts") == 0 ? parts : none;
+}
+
+int main(int count, char **words)
+{
+    FILE *file = count == 4 ? fopen(words[3], "rb") : NULL;
+    uint8_t *bytes = malloc(ROOM);
+    if (file == NULL || bytes == NULL) {
+        return 2;
+    }
+    size_t length = fread(bytes, 1, ROOM, file);
+    fclose(file);
+    call *volatile chosen = called(words[1]);
+    struct told told = {0, 0, 0, 0};
+    uint64_t sum = 0;
+    for (long i = strtol(words[2], NULL, 10); i > 0; i--) {
+        sum += chosen(bytes, length, &told) + told.width;
+    }
+    free(bytes);
+    return sum == 1;
+}
