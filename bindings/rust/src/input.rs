@@ -3,7 +3,7 @@
 use crate::sys::{self, Parts, Span, Told};
 use crate::{ImageError, ImageResult};
 use std::fs::File;
-use std::io::{self, Read, Seek, SeekFrom};
+use std::io::{Read, Seek, SeekFrom};
 
 /// Blocks begin and end at multiples of this, or where the input ends.
 const BLOCK: u64 = 4096;
@@ -35,7 +35,7 @@ pub(crate) struct Input<R> {
 }
 
 impl Input<File> {
-    /// A file that was opened.
+    /// A file that was opened. What is no regular file is asked for its length by a seek, which a pipe refuses.
     pub(crate) fn of_file(file: File) -> ImageResult<Input<File>> {
         let metadata = file.metadata()?;
         if metadata.is_file() {
@@ -73,7 +73,7 @@ impl<R: Read + Seek> Input<R> {
 
     /// Type and size of the image in the input.
     ///
-    /// Each round adds bytes that are not known yet, since the library wants no others.
+    /// Each round fetches a byte that was not known, since the library wants no others, so there is an end.
     pub(crate) fn probe(mut self) -> ImageResult<Told> {
         let mut wanted = FIRST;
         loop {
@@ -87,7 +87,8 @@ impl<R: Read + Seek> Input<R> {
 
     /// Fetches the block around a span.
     fn fetch(&mut self, wanted: Span) -> ImageResult<()> {
-        if self.bytes.len() >= MOST_BYTES {
+        let known = self.bytes.len();
+        if known >= MOST_BYTES {
             return Err(ImageError::of_status(sys::BUDGET_SPENT));
         }
         let block = self.block(wanted);
@@ -95,13 +96,8 @@ impl<R: Read + Seek> Input<R> {
         if place != self.place {
             self.reader.seek(SeekFrom::Start(place))?;
         }
-        self.bytes
-            .try_reserve(block.len as usize)
-            .map_err(io::Error::from)?;
-        let mut rest = self.reader.by_ref().take(block.len);
-        if (rest.read_to_end(&mut self.bytes)? as u64) < block.len {
-            return Err(ImageError::of_status(sys::END_OF_INPUT));
-        }
+        self.bytes.resize(known + block.len as usize, 0);
+        self.reader.read_exact(&mut self.bytes[known..])?;
         self.place = place + block.len;
         match self.spans.last_mut() {
             Some(last) if last.start + last.len == block.start => last.len += block.len,

@@ -101,8 +101,8 @@ pub fn blob_size(data: &[u8]) -> ImageResult<ImageSize> {
 ///
 /// # Errors
 ///
-/// Those of [`blob_size`], and [`ImageError::IoError`] with the reader's own error where one of its calls fails. A reader that
-/// gives fewer bytes than the length that it tells is an `UnexpectedEof`.
+/// Those of [`blob_size`], and [`ImageError::IoError`] with the reader's own error where one of its calls fails. Its kind is
+/// `UnexpectedEof` where the reader gives fewer bytes than it told, and `InvalidData` where more is wanted after 64 MiB.
 ///
 /// ```
 /// use std::io::Cursor;

@@ -92,6 +92,26 @@ fn a_path_need_not_be_text() {
     );
 }
 
+#[test]
+fn a_file_is_read_where_its_bytes_stand() {
+    let directory = b"\x02\0\0\x01\x03\0\x01\0\0\0\x05\0\0\0\x01\x01\x04\0\x01\0\0\0\x07\0\0\0";
+    let folder = Scratch::new("places");
+    for place in [8, 4095, 4096, 10_000, 2_000_001_u32] {
+        let mut tiff = [b"II*\0", &place.to_le_bytes()[..]].concat();
+        tiff.resize(place as usize, 0);
+        tiff.extend(directory);
+        let found = size(folder.file("a.tif", &tiff)).ok();
+        assert_eq!(
+            found,
+            Some(ImageSize {
+                width: 5,
+                height: 7
+            }),
+            "{place}"
+        );
+    }
+}
+
 /// A reader of a file that shrinks as soon as its length was asked for.
 struct Shrinking(BufReader<File>);
 

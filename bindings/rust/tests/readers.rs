@@ -238,7 +238,7 @@ fn a_walk_from_block_to_block_reads_each_byte_once_and_seeks_no_more() {
         let fetched: usize = reader.readings.iter().map(|reading| reading.1).sum();
         assert_eq!(fetched, length);
         assert!(
-            reader.readings.len() <= 64,
+            reader.readings.len() <= 16,
             "{} readings",
             reader.readings.len()
         );
@@ -252,7 +252,7 @@ fn a_walk_over_many_places_takes_few_readings() {
     let mut reader = Counting::new(jpeg(1_000, 9_000));
     assert_eq!(reader_size(&mut reader).ok(), Some(pixels(7, 5)));
     assert!(
-        reader.readings.len() <= 128,
+        reader.readings.len() <= 80,
         "{} readings",
         reader.readings.len()
     );
