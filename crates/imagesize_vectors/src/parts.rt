@@ -3,9 +3,7 @@
 use crate::calls::is_answer;
 use crate::long::jpeg_behind;
 use crate::rows::{Row, tables};
-use imagesize::{
-    ImageResult, ImageSize, ImageType, PartsAnswer, Span, blob_size, image_type, parts_probe,
-};
+use imagesize::{ImageResult, ImageSize, ImageType, PartsAnswer, Span, blob_size, image_type, parts_probe};
 use std::alloc::{AllocError, Global};
 use std::process::Abort;
 use std::test::Fail;
@@ -35,27 +33,12 @@ fn fetch(
     for _ in 0..10000u64 {
         match parts_probe(&bytes, &spans, whole) {
             PartsAnswer::Found { kind, answer } => {
-                return Ok(Fetched {
-                    rounds,
-                    bytes: bytes.len() as u64,
-                    kind,
-                    answer,
-                });
+                return Ok(Fetched { rounds, bytes: bytes.len() as u64, kind, answer });
             }
             PartsAnswer::Wanted(wanted) => {
-                assert!(rt;
-                    wanted.len > 0 && wanted.start + wanted.len <= whole,
-                    "{}",
-                    shows
-                );
-                let start = if aligned {
-                    wanted.start / block * block
-                } else {
-                    wanted.start
-                };
-                let len = (wanted.len + (wanted.start - start))
-                    .max(block)
-                    .min(whole - start);
+                assert!(rt; wanted.len > 0 && wanted.start + wanted.len <= whole, "{}", shows);
+                let start = if aligned { wanted.start / block * block } else { wanted.start };
+                let len = (wanted.len + (wanted.start - start)).max(block).min(whole - start);
                 bytes.extend_from_slice(&input[start as usize..(start + len) as usize])?;
                 spans.push(Span { start, len })?;
                 rounds += 1;
@@ -66,11 +49,7 @@ fn fetch(
 }
 
 // Where each fetch is of one byte alone, though more may be wanted.
-fn byte_by_byte(
-    rt: &(impl Abort + AllocGlobal),
-    input: &[u8],
-    shows: &str,
-) -> Result<Fetched, Fail> {
+fn byte_by_byte(rt: &(impl Abort + AllocGlobal), input: &[u8], shows: &str) -> Result<Fetched, Fail> {
     let alloc = rt.alloc();
     let mut bytes: Vec<u8> = Vec::new(alloc);
     let mut spans: Vec<Span> = Vec::new(alloc);
@@ -79,19 +58,11 @@ fn byte_by_byte(
     for _ in 0..100000u64 {
         match parts_probe(&bytes, &spans, whole) {
             PartsAnswer::Found { kind, answer } => {
-                return Ok(Fetched {
-                    rounds,
-                    bytes: bytes.len() as u64,
-                    kind,
-                    answer,
-                });
+                return Ok(Fetched { rounds, bytes: bytes.len() as u64, kind, answer });
             }
             PartsAnswer::Wanted(wanted) => {
                 bytes.push(input[wanted.start as usize])?;
-                spans.push(Span {
-                    start: wanted.start,
-                    len: 1,
-                })?;
+                spans.push(Span { start: wanted.start, len: 1 })?;
                 rounds += 1;
             }
         }
@@ -105,34 +76,12 @@ fn parts_that_are_wanted_tell_the_worked_answers(rt: HostRuntime) -> Result<(), 
     for rows in tables() {
         for row in rows {
             let exact = fetch(&rt, row.bytes, 1, false, row.shows)?;
-            assert!(rt;
-                exact.kind == row.kind && is_answer(alloc, row.answer, &exact.answer)?,
-                "{}",
-                row.shows
-            );
+            assert!(rt; exact.kind == row.kind && is_answer(alloc, row.answer, &exact.answer)?, "{}", row.shows);
             let block = fetch(&rt, row.bytes, 4096, true, row.shows)?;
-            assert!(rt;
-                block.kind == row.kind && is_answer(alloc, row.answer, &block.answer)?,
-                "{}",
-                row.shows
-            );
+            assert!(rt; block.kind == row.kind && is_answer(alloc, row.answer, &block.answer)?, "{}", row.shows);
             let single = byte_by_byte(&rt, row.bytes, row.shows)?;
-            assert!(rt;
-                single.kind == row.kind && is_answer(alloc, row.answer, &single.answer)?,
-                "{}",
-                row.shows
-            );
-            println!(rt;
-                "{}\t{:?}\t{}\t{}\t{}\t{}\t{}\t{}",
-                row.shows,
-                row.kind,
-                row.bytes.len(),
-                row.spans.len(),
-                exact.rounds,
-                exact.bytes,
-                block.rounds,
-                single.rounds
-            )?;
+            assert!(rt; single.kind == row.kind && is_answer(alloc, row.answer, &single.answer)?, "{}", row.shows);
+            println!(rt; "{}\t{:?}\t{}\t{}\t{}\t{}\t{}\t{}", row.shows, row.kind, row.bytes.len(), row.spans.len(), exact.rounds, exact.bytes, block.rounds, single.rounds)?;
         }
     }
     Ok(())
@@ -187,16 +136,7 @@ fn parts_of_large_inputs_are_few(rt: HostRuntime) -> Result<(), Fail> {
         let block = fetch(&rt, &bytes, 4096, true, "large")?;
         assert!(rt; exact.answer.is_ok() == blob_size(&bytes).is_ok());
         assert_eq!(rt; exact.kind, image_type(&bytes).ok());
-        println!(rt;
-            "large {}: {:?} {} bytes: exact {} rounds {} bytes; blocks {} rounds {} bytes",
-            which,
-            exact.kind,
-            bytes.len(),
-            exact.rounds,
-            exact.bytes,
-            block.rounds,
-            block.bytes
-        )?;
+        println!(rt; "large {}: {:?} {} bytes: exact {} rounds {} bytes; blocks {} rounds {} bytes", which, exact.kind, bytes.len(), exact.rounds, exact.bytes, block.rounds, block.bytes)?;
         if let (Ok(one), Ok(two), Ok(all)) = (&exact.answer, &block.answer, &blob_size(&bytes)) {
             assert!(rt; one == all && two == all);
             println!(rt; "  {}x{}", one.width, one.height)?;
