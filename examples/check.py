@@ -56,6 +56,20 @@ def check_examples(out):
     print(f"{count} worked inputs: both examples print their answers")
 
 
+def check_blocks(out):
+    """The example that reads blocks alone prints the worked answers too."""
+    with tempfile.TemporaryDirectory() as folder:
+        names, want = [], ""
+        for index, (data, line, _) in enumerate(rows()):
+            name = pathlib.Path(folder) / f"{index}.bin"
+            name.write_bytes(data)
+            names.append(str(name))
+            want += line + "\n"
+        got = printed([f"{out}/blocks"], names, False)
+        assert got == want, differs(got, want)
+    print(f"{len(names)} worked inputs by blocks: their answers")
+
+
 def differs(got, want):
     """The first line that is another."""
     for a, b in zip(got.splitlines() + [""], want.splitlines() + [""]):
@@ -104,5 +118,6 @@ def check_queries():
 
 if __name__ == "__main__":
     check_examples(sys.argv[1])
+    check_blocks(sys.argv[1])
     check_wrong_calls()
     check_queries()

@@ -6,56 +6,16 @@
  * A line for each file, as "Gif 100x100", "Jpeg: failed to fill whole buffer" or "Could not decode image"; with --spans below
  * it the bytes that this rests on, as "  0+12" for twelve bytes from place 0 on. The status is 0 where each file was read.
  */
-#include "imagesize.h"
+#include "print.h"
 
-#include <inttypes.h>
-#include <stdio.h>
 #include <stdlib.h>
 #include <string.h>
 
-/* The longest text of the library has fewer bytes. */
-enum { TEXT_ROOM = 128 };
-
-static void print_status(uint32_t status)
-{
-    uint8_t text[TEXT_ROOM] = {0};
-    size_t length = 0;
-    if (imagesize_status_text(status, text, sizeof text, &length) == IMAGESIZE_ANSWERED) {
-        printf("%.*s", (int)length, (const char *)text);
-    } else {
-        printf("status %" PRIu32, status);
-    }
-}
-
-static void print_type(uint32_t type, uint32_t compression)
-{
-    uint8_t text[TEXT_ROOM] = {0};
-    size_t length = 0;
-    if (imagesize_type_name(type, compression, text, sizeof text, &length) == IMAGESIZE_ANSWERED) {
-        printf("%.*s", (int)length, (const char *)text);
-    }
-    if (imagesize_compression_name(type, compression, text, sizeof text, &length) == IMAGESIZE_ANSWERED && length > 0) {
-        printf("(%.*s)", (int)length, (const char *)text);
-    }
-}
-
 static void print_image(const uint8_t *bytes, size_t length)
 {
-    uint32_t type = 0;
-    uint32_t compression = 0;
-    uint64_t width = 0;
-    uint64_t height = 0;
-    uint32_t status = imagesize_probe(bytes, length, &type, &compression, &width, &height);
-    if (type != 0) {
-        print_type(type, compression);
-    }
-    if (status == IMAGESIZE_ANSWERED) {
-        printf(" %" PRIu64 "x%" PRIu64 "\n", width, height);
-        return;
-    }
-    printf(type != 0 ? ": " : "");
-    print_status(status);
-    printf("\n");
+    struct answer answer = {0};
+    answer.status = imagesize_probe(bytes, length, &answer.type, &answer.compression, &answer.width, &answer.height);
+    print_answer(&answer);
 }
 
 /* Asks for the count first, and then lends room for just so many. */

@@ -103,12 +103,17 @@ static struct answer probe(const uint8_t *bytes, size_t length)
     return a;
 }
 
+/* It answers, or refuses bytes: no reader was asked, and no memory. */
+static int is_of_bytes(uint32_t status)
+{
+    return status < IMAGESIZE_BUFFER_TOO_SMALL && status != IMAGESIZE_FAULT && status != IMAGESIZE_BUDGET_SPENT
+           && status != IMAGESIZE_OUT_OF_MEMORY;
+}
+
 /* The calls for type and size alone answer as the one for both. */
 static void calls_agree(const uint8_t *bytes, size_t length, const struct answer *both)
 {
-    expect(both->status < IMAGESIZE_BUFFER_TOO_SMALL, "a probe answers a refusal of bytes");
-    expect(both->status != IMAGESIZE_FAULT && both->status != IMAGESIZE_BUDGET_SPENT && both->status != IMAGESIZE_OUT_OF_MEMORY,
-           "no refusal of a reader");
+    expect(is_of_bytes(both->status), "a probe answers a refusal of bytes");
     expect(both->status == IMAGESIZE_ANSWERED || (both->width == 7 && both->height == 9), "no size beside a refusal");
     struct answer size = nothing_told, type = nothing_told;
     size.status = imagesize_size(bytes, length, &size.width, &size.height);
@@ -179,7 +184,7 @@ static void parts_of_any_kind(struct worker *worker, size_t length)
     struct answer a = nothing_told;
     a.status = imagesize_probe_parts(worker->input_end - length, length, worker->spans_end - count, count, total, &a.type,
                                      &a.compression, &a.width, &a.height, &wanted);
-    expect(a.status <= IMAGESIZE_BYTES_WANTED, "a probe of parts answers a status");
+    expect(a.status == IMAGESIZE_BYTES_WANTED || is_of_bytes(a.status), "a probe of parts answers, refuses bytes or wants some");
     if (a.status == IMAGESIZE_BYTES_WANTED) {
         expect(wanted.len > 0 && wanted.start < total && wanted.len <= total - wanted.start, "and wants a part of the input");
     }

@@ -6,8 +6,8 @@
  * run at the same time on several threads, where none writes what another reads.
  *
  * What a caller owes, since nothing can check it:
- *  - A pointer is never null, not even beside a length of 0 (any pointer that is aligned will do there), and is aligned as its
- *    type is.
+ *  - A pointer is never NULL and is aligned as its type is. This holds beside a length of 0, where any such pointer will do, and
+ *    of an answer that is not wanted: the calls are proved over references, which are never NULL, and no call tests for it.
  *  - Behind a pointer to bytes, to text or to spans stand as many items as the length beside it says, fewer than 2^63 bytes in all;
  *    what is written to overlaps nothing else that is lent to the call. Text and spans are initialised.
  *
@@ -17,6 +17,9 @@
  * A text is of ASCII characters with no zero behind it. It is written where the buffer has room for all of it, and its length is
  * told either way; a buffer that is too small (IMAGESIZE_BUFFER_TOO_SMALL) stays as it was. The same holds of spans. A buffer
  * of length 0 is a way to ask for the length.
+ *
+ * The library is built for Linux on x86-64 processors that have the instructions of x86-64-v2, as nearly all since 2009. It asks
+ * the C library for memcpy, memmove and memset alone.
  */
 #ifndef IMAGESIZE_H
 #define IMAGESIZE_H
@@ -159,8 +162,17 @@ uint32_t imagesize_type(const uint8_t *bytes, size_t length, uint32_t *type, uin
 /*
  * Width and height, in pixels, of the image that these bytes hold: all bytes of its file, or a front of them.
  *
+ * A size of a front is that of the whole, but for three types. A front of a HEIF or of an icon can have another size: of the
+ * 24 bytes 00 00 01 00 FC FF 80 20 00 DA 26 00 3D FF E9 FF 13 9A FF B8 0F 93 80 00 the first 12 are an icon of 128x32, and all
+ * are one of 128x256. A TGA can be told by its footer alone, which only the whole has. imagesize_probe_parts answers for the
+ * whole from a few parts of it.
+ *
  * Refusals: those of imagesize_type, IMAGESIZE_END_OF_INPUT where the bytes end before the size, and the refusals of the
  * type's layout, which stand above by their type.
+ *
+ * Of a front, more bytes may cure these: IMAGESIZE_END_OF_INPUT of any type, IMAGESIZE_INVALID_IFD_VALUE_LENGTH of a TIFF,
+ * IMAGESIZE_NOT_ENOUGH_DATA of a HEIF, IMAGESIZE_CORRUPTED_IMAGE of a JPEG XL, and IMAGESIZE_NOT_SUPPORTED, which may become
+ * a TGA.
  */
 uint32_t imagesize_size(const uint8_t *bytes, size_t length, uint64_t *width, uint64_t *height);
 
@@ -174,17 +186,32 @@ uint32_t imagesize_probe(const uint8_t *bytes, size_t length, uint32_t *type, ui
 /*
  * Type and size of the image in an input of `total` bytes, of which some parts are known; or a part that it needs.
  *
- * The parts are `count` spans, in any order; they may overlap. `bytes` are those of the spans, one span behind another; a span
- * has no bytes behind the end of the input. With no part at all the call begins.
+ * The parts are `count` spans of the input, in any order; they may overlap, and there may be none. `bytes` are those of the
+ * spans, one span behind another. What of a span lies behind the end of the input has no bytes.
  *
- * Where bytes are wanted it answers IMAGESIZE_BYTES_WANTED and writes `wanted` alone: at least one byte, within the input; the
- * first is one that the answer rests on and no part has, and the whole span is enough for the reading that wants it. A caller
- * may fetch more around it, as a block of 4096 bytes. With a part that has the first byte added, the next call gets on.
+ * Where another part is needed the status is IMAGESIZE_BYTES_WANTED, and `wanted` alone is written. It has at least one byte
+ * and lies within the input. Its first byte is one that the answer rests on and no part has. A call that has the first byte
+ * too gets further; a caller may fetch all of it, or a block around it.
+ *
  * Else status, type, compression, width and height are those of imagesize_probe over the whole input, and `wanted` stays as it
- * was. Where the parts have every byte that the answer rests on, it is answered.
+ * was. So it is where the parts have every byte that the answer rests on.
  *
- * Of parts that no input has (other bytes for the same place, too few bytes or too many), and of a total of 2^63 bytes or more,
- * nothing is said but that the call returns, and reads and writes what is lent alone.
+ *     uint8_t bytes[4096];
+ *     imagesize_span parts[64], wanted;
+ *     size_t length = 0, count = 0;
+ *     while ((status = imagesize_probe_parts(bytes, length, parts, count, total, &type, &compression, &width, &height,
+ *                                            &wanted)) == IMAGESIZE_BYTES_WANTED) {
+ *         if (count == 64 || wanted.len > sizeof bytes - length || !fetch(wanted.start, wanted.len, bytes + length)) {
+ *             return GAVE_UP;
+ *         }
+ *         parts[count++] = wanted;
+ *         length += wanted.len;
+ *     }
+ *
+ * examples/blocks.c does so in blocks of 4096 bytes.
+ *
+ * Nothing is said of parts that no input has (two bytes for one place, fewer bytes than the spans have, or more), nor of a
+ * total of 2^63 bytes or more, but that the call returns a status, and that a wanted part lies within `total`.
  */
 uint32_t imagesize_probe_parts(const uint8_t *bytes, size_t length, const imagesize_span *spans, size_t count, uint64_t total,
                                uint32_t *type, uint32_t *compression, uint64_t *width, uint64_t *height, imagesize_span *wanted);
@@ -192,7 +219,7 @@ uint32_t imagesize_probe_parts(const uint8_t *bytes, size_t length, const images
 /*
  * The bytes that type and size rest on, a span for each reading, in their order, repeats kept. Every other input of this length
  * that has the same bytes there has the same type and size, or the same refusal. `count` is told how many spans there are; at
- * most `room` are written.
+ * most `room` are written. An ordinary image has a few or some dozens, and one made for it about as many as it has bytes.
  *
  * It is answered also where the size is refused. Refusal: IMAGESIZE_BUFFER_TOO_SMALL.
  */
