@@ -34,7 +34,7 @@ abbrev pub fault_after : {X : Type 0} → Error → Result X Error → Error
 fault_after before (Ok x) = before
 fault_after before (Err e) = e
 
--- a call that failed halts the reading, and no other does so for that
+-- a call that failed halts the reading, and no other does
 abbrev pub halted : {X : Type 0} → Result X Error → Result X Halt
 halted (Ok x) = Ok x
 halted (Err e) = Err Failed

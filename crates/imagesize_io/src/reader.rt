@@ -152,7 +152,7 @@ fn ending(stop: Stop, tries: u64) -> Option<io::Error>
     }
 }
 
-// What a call of the reader answered. The error of one that failed is kept, and nothing else keeps one or fails.
+// What a call of the reader answered. The error of one that failed is kept, and halts the reading.
 #[inline(always)]
 fn kept<T>(answer: Result<T, io::Error>, fault: &mut io::Error) -> Result<T, Halt>
     ensures fault { fault.new ≡ fault_after fault.old answer }
