@@ -7,8 +7,8 @@ import os
 import sys
 from typing import TYPE_CHECKING, Awaitable, Callable, List, Union
 
-from ._library import Told, probe_whole, spans_of, type_of
-from ._parts import BLOCK, BUDGET, Parts, first_block
+from ._library import Told, probe_front, probe_whole, spans_of, type_of
+from ._parts import BLOCK, BUDGET, WANTED, Parts, first_block
 from ._types import ImageError, ImageType, Probed, Size, Span, Status, known_type
 
 if TYPE_CHECKING:
@@ -30,7 +30,7 @@ if TYPE_CHECKING:
 LIMIT = 1 << 16
 """The spans that are told at most, where a call names no other number."""
 
-_FLAGS = os.O_RDONLY | os.O_NONBLOCK
+_FLAGS = os.O_RDONLY | os.O_NONBLOCK  # so that a pipe without a writer does not wait
 
 
 def probe(image: Image, *, budget: int = BUDGET) -> Probed:
@@ -46,10 +46,10 @@ def probe(image: Image, *, budget: int = BUDGET) -> Probed:
     would be read. A file that cannot be read raises its `OSError`, and one that becomes shorter meanwhile `EOFError`.
     """
     if type(image) is str:
-        return _probed(_parts_at(image, budget).told)
+        return _probed(_told_at(image, budget))
     if type(image) is bytes:
         return _probed(probe_whole(image))
-    return _probed(_parts(image, budget).told)
+    return _probed(_told(image, budget))
 
 
 def size(image: Image, *, budget: int = BUDGET) -> Size:
@@ -62,7 +62,7 @@ def image_type(image: Image, *, budget: int = BUDGET) -> ImageType:
 
     Of bytes only those are looked at that tell the type, so that the first twelve of a file are enough for most types.
     """
-    status, told = type_of(image) if type(image) is bytes else _parts(image, budget).told
+    status, told = type_of(image) if type(image) is bytes else _told(image, budget)
     if not told[0]:
         raise ImageError(status)
     return known_type(told[0], told[1])
@@ -121,31 +121,43 @@ def _probed(told: Told) -> Probed:
     return Probed(known_type(number, compression), Size(width, height))
 
 
+def _told(image: Image, budget: int) -> Told:
+    if isinstance(image, (str, os.PathLike)):
+        return _told_at(image, budget)
+    return _parts(image, budget).told
+
+
+def _told_at(path: Union[str, "os.PathLike[str]"], budget: int) -> Told:
+    file = os.open(path, _FLAGS)
+    try:
+        front = os.pread(file, BLOCK, 0)  # refuses a folder and a pipe
+        total = os.lseek(file, 0, os.SEEK_END)
+        if total < BLOCK:
+            front = front[:total]
+        told = probe_front(front, total)
+        if told[0] != WANTED:
+            return told
+        parts = Parts(front, total, budget, told)
+        while parts.length:
+            parts.add(os.pread(file, parts.length, parts.start))
+        return parts.told
+    except OSError as error:
+        error.filename = os.fspath(path)
+        raise
+    finally:
+        os.close(file)
+
+
 def _parts(image: Image, budget: int) -> Parts:
     if isinstance(image, (str, os.PathLike)):
-        return _parts_at(image, budget)
+        with open(image, "rb", buffering=0, opener=lambda path, _: os.open(path, _FLAGS)) as file:
+            return _parts_in(file, budget)
     try:
         view = memoryview(image)  # type: ignore[arg-type]
     except TypeError:
         return _parts_in(image, budget)  # type: ignore[arg-type]
     with view:
         return _parts_of(view)
-
-
-def _parts_at(path: Union[str, "os.PathLike[str]"], budget: int) -> Parts:
-    file = os.open(path, _FLAGS)
-    try:
-        front = os.pread(file, BLOCK, 0)  # refuses a folder and a pipe
-        total = os.lseek(file, 0, os.SEEK_END)
-        parts = Parts(front[: first_block(total)], total, budget)
-        while parts.length:
-            parts.add(os.pread(file, parts.length, parts.start))
-        return parts
-    except OSError as error:
-        error.filename = os.fspath(path)
-        raise
-    finally:
-        os.close(file)
 
 
 def _parts_in(file: BinaryFile, budget: int) -> Parts:

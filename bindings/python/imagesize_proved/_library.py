@@ -49,6 +49,7 @@ _type = _LIBRARY.imagesize_type
 _probe = _LIBRARY.imagesize_probe
 _probe_parts = _LIBRARY.imagesize_probe_parts
 _spans = _LIBRARY.imagesize_spans
+_probe_front = ctypes.PyDLL(_LIBRARY._name).imagesize_probe_parts
 
 
 class _Room:
@@ -96,8 +97,14 @@ def probe_whole(data: bytes) -> Told:
 
 def probe_front(front: bytes, total: int) -> Told:
     """Type and size of the image in an input of `total` bytes, of which the first are known."""
-    room = _room(len(front), total)
-    told = _probe_parts(front, *room.arguments), room.read()
+    try:
+        room = _ROOMS.pop()
+    except IndexError:
+        room = _Room()
+    room.numbers[0] = 0
+    room.length.value = len(front)
+    room.total.value = total
+    told = _probe_front(front, *room.arguments), room.read()
     _ROOMS.append(room)
     return told
 

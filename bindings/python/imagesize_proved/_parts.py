@@ -3,9 +3,9 @@
 from __future__ import annotations
 
 import mmap
-from typing import TYPE_CHECKING, Union
+from typing import TYPE_CHECKING, Optional, Union
 
-from ._library import probe_front, probe_parts
+from ._library import Told, probe_front, probe_parts
 from ._types import ImageError, Status
 
 if TYPE_CHECKING:
@@ -19,7 +19,7 @@ BLOCK = 4096
 BUDGET = 64 << 20
 """The bytes that are fetched at most, where a call names no other number."""
 
-_WANTED = int(Status.BYTES_WANTED)
+WANTED = int(Status.BYTES_WANTED)
 
 
 def first_block(total: int) -> int:
@@ -30,14 +30,14 @@ def first_block(total: int) -> int:
 
 
 class Parts:
-    """The parts of an input of `total` bytes that are known, beginning with its first block.
+    """The parts of an input of `total` bytes that are known, beginning with its first block, of which the library may have told.
 
     Wanted are `length` bytes from place `start` on. Where `length` is 0 no more are wanted, and `told` stands.
     """
 
     __slots__ = ("total", "budget", "known", "spans", "rounds", "start", "length", "told")
 
-    def __init__(self, front: BytesLike, total: int, budget: int) -> None:
+    def __init__(self, front: BytesLike, total: int, budget: int, told: Optional[Told] = None) -> None:
         self.total = total
         self.budget = budget
         self.start = 0
@@ -45,7 +45,7 @@ class Parts:
         self.known = self._taken(front)
         self.spans = [0, self.length]
         self.rounds = 1
-        self.told = probe_front(self.known, total)
+        self.told = told or probe_front(self.known, total)
         self._go_on()
 
     def add(self, data: BytesLike) -> None:
@@ -78,14 +78,13 @@ class Parts:
 
     def _go_on(self) -> None:
         status, told = self.told
-        self.length = 0
-        if status == _WANTED:
-            self._want(told[4], told[4] + told[5])
-
-    def _want(self, start: int, end: int) -> None:
+        if status != WANTED:
+            self.length = 0
+            return
         # Whole blocks, none of them twice. The more rounds there were, the more blocks, so that a long walk takes few rounds.
+        start, length = told[4:]
         self.start = start - start % BLOCK
-        end = max(end, self.start + (BLOCK << max(0, self.rounds // 2 - 3)))
+        end = max(start + length, self.start + (BLOCK << max(0, self.rounds // 2 - 3)))
         known_behind = [known for known in self.spans[::2] if known > start]
         self.length = min(end + -end % BLOCK, self.total, *known_behind) - self.start
         if len(self.known) + self.length > self.budget:

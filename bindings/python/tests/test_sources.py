@@ -97,7 +97,8 @@ class Reading(unittest.TestCase):
     def test_limit(self) -> None:
         data = jpeg(10, 2)
         self.assertEqual(len(imagesize.spans(data, limit=24)), 24)
-        for form in (data, bytearray(data), io.BytesIO(data)):
+        forms: List[Any] = [data, bytearray(data), io.BytesIO(data)]
+        for form in forms:
             with self.assertRaises(ImageError) as raised:
                 imagesize.spans(form, limit=23)
             self.assertIs(raised.exception.status, Status.BUFFER_TOO_SMALL)
@@ -173,10 +174,10 @@ class Failing(unittest.TestCase):
             pipe = os.path.join(folder, "pipe")
             os.mkfifo(pipe)
             for path, error in ((folder, IsADirectoryError), (pathlib.Path(folder) / "none", FileNotFoundError), (pipe, OSError)):
-                for call in (imagesize.probe, imagesize.spans):
-                    with self.assertRaises(error) as raised:
-                        call(path)
-                    self.assertEqual(raised.exception.filename, str(path))
+                self.assertRaises(error, imagesize.spans, path)
+                with self.assertRaises(error) as raised:
+                    imagesize.probe(path)
+                self.assertEqual(raised.exception.filename, str(path))
 
     def test_open_pipe(self) -> None:
         reader, writer = os.pipe()

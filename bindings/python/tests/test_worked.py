@@ -8,7 +8,7 @@ import pathlib
 import re
 import tempfile
 import unittest
-from typing import Any, Callable, Iterator, Tuple
+from typing import Any, Callable, Iterator, List, Tuple
 
 import imagesize_proved as imagesize
 
@@ -78,19 +78,22 @@ class Worked(unittest.TestCase):
             self.path.write_bytes(data)
             sized = re.fullmatch(r"(\S+) (\d+)x(\d+)", wanted)
             refused = re.match(r"(\S+): ", wanted)
-            for form in (data, self.path):
+            found = sized or refused
+            forms: List[Any] = [data, self.path]
+            for form in forms:
                 with self.subTest(data=data, form=type(form)):
                     if sized:
                         self.assertEqual(imagesize.size(form), (int(sized[2]), int(sized[3])))
-                    if sized or refused:
-                        self.assertEqual(str(imagesize.image_type(form)), (sized or refused)[1])
+                    if found:
+                        self.assertEqual(str(imagesize.image_type(form)), found[1])
                     else:
                         self.assertRaisesRegex(imagesize.ImageError, wanted, imagesize.image_type, form)
 
     def test_spans(self) -> None:
         for data, _, wanted in rows():
             self.path.write_bytes(data)
-            for form in (data, bytearray(data), self.path, io.BytesIO(data)):
+            forms: List[Any] = [data, bytearray(data), self.path, io.BytesIO(data)]
+            for form in forms:
                 with self.subTest(data=data, form=type(form)):
                     found = " ".join(f"{span.start}+{span.len}" for span in imagesize.spans(form)) or "-"
                     self.assertIn(wanted, (found, "?"))

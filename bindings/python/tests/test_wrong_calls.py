@@ -51,6 +51,9 @@ class Values(unittest.TestCase):
             self.assertRaises(ValueError, ImageError, status)
             self.assertRaises(ValueError, imagesize.status_text, status)
 
+    def test_each_status_has_a_text(self) -> None:
+        self.assertEqual(len({imagesize.status_text(status) for status in Status}), len(Status))
+
     def test_queries(self) -> None:
         bc7, gif = ImageType(Kind.DDS, Compression.DDS_BC7), imagesize.image_type(GIF)
         self.assertEqual((str(bc7), bc7.name, bc7.compression_name, bc7.container_format), ("Dds(Bc7)", "Dds", "Bc7", "DDS"))
@@ -60,7 +63,7 @@ class Values(unittest.TestCase):
         self.assertFalse(gif.is_block_compressed or gif.is_multi_compression_container)
         self.assertIs(gif.kind, Kind.GIF)
         self.assertLess(gif, ImageType(Kind.JPEG))
-        self.assertEqual({gif, ImageType(10)}, {gif})
+        self.assertEqual({gif, ImageType(Kind(10))}, {gif})
 
 
 class Arguments(unittest.TestCase):
@@ -73,8 +76,9 @@ class Arguments(unittest.TestCase):
     def test_other_things(self) -> None:
         texts: Any = open(__file__)
         self.addCleanup(texts.close)
+        calls: Any = (imagesize.probe, imagesize.size, imagesize.image_type, imagesize.spans)
         for thing in (Disguised(), None, 7, [71, 73, 70], object(), texts):
-            for call in (imagesize.probe, imagesize.size, imagesize.image_type, imagesize.spans):
+            for call in calls:
                 self.assertRaises(TypeError, call, thing)
 
     def test_views(self) -> None:
