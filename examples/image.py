@@ -13,25 +13,24 @@ import sys
 
 sys.path.insert(0, str(pathlib.Path(__file__).resolve().parent.parent / "bindings" / "python"))
 
-import imagesize  # noqa: E402
+import imagesize_proved  # noqa: E402
 
 
-def line(data: bytes) -> str:
+def line(name: str) -> str:
     """The line about one image."""
     try:
-        probed = imagesize.probe(data)
-    except imagesize.ImageError as error:
+        image_type, size = imagesize_proved.probe(name)
+    except imagesize_proved.ImageError as error:
         return f"{error.image_type}: {error}" if error.image_type else str(error)
-    return f"{probed.image_type} {probed.size.width}x{probed.size.height}"
+    return f"{image_type} {size.width}x{size.height}"
 
 
 def main(arguments: list[str]) -> None:
     with_spans = arguments[:1] == ["--spans"]
     for name in arguments[with_spans:]:
-        data = pathlib.Path(name).read_bytes()
-        print(line(data))
+        print(line(name))
         if with_spans:
-            for span in imagesize.spans(data):
+            for span in imagesize_proved.spans(name):
                 print(f"  {span.start}+{span.len}")
 
 

@@ -72,7 +72,7 @@ pub fn probe_remote<A: Allocator + Copy, R: Remote>(alloc: A, remote: &mut R) ->
     ensures answer { IfOk result (IsOf (R.input remote.old)) }
     ensures stops { Stops (R.last remote.new) result }
 
-    // There are no more fetches than bytes that the answer rests on.
+    // There are no more fetches than the spans of the trace have places, repeats counted.
     ensures few { R.fetches remote.new ≤ R.fetches remote.old + total (meaning (R.input remote.old) 0).marks }
 {
     let whole = remote.length();

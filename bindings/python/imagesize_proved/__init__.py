@@ -1,0 +1,43 @@
+"""The type of an image and its width and height in pixels, from a few bytes, with no pixel decoded.
+
+The calls are those of the library that is proved, `include/imagesize.h`, as Python has them:
+
+    >>> import imagesize_proved
+    >>> imagesize_proved.probe("photo.gif").size
+    Size(width=640, height=480)
+
+An image is bytes, a path, or an open binary file; `probe_with` and `probe_async` take a function that gives some of its bytes.
+"""
+
+from ._calls import image_type, probe, probe_async, probe_with, size, spans
+from ._types import (
+    Compression,
+    Family,
+    ImageError,
+    ImageType,
+    Kind,
+    Probed,
+    Size,
+    Span,
+    Status,
+    status_text,
+)
+
+__all__ = [
+    "Compression",
+    "Family",
+    "ImageError",
+    "ImageType",
+    "Kind",
+    "Probed",
+    "Size",
+    "Span",
+    "Status",
+    "image_type",
+    "probe",
+    "probe_async",
+    "probe_with",
+    "size",
+    "spans",
+    "status_text",
+]

@@ -1,0 +1,139 @@
+"""The shared library, and its calls as Python has them.
+
+It is looked for at the path in the environment's IMAGESIZE_LIBRARY, or else in this folder, where the wheel has it, or else where
+`examples/run build` puts it.
+"""
+
+from __future__ import annotations
+
+import ctypes
+import os
+import pathlib
+from typing import List, Optional, Tuple, Union
+
+Told = Tuple[int, List[int]]
+"""A status, and the numbers of type and compression, width and height, and start and length of what is wanted."""
+
+_HERE = pathlib.Path(__file__).resolve().parent
+_PACKED = _HERE / "libimagesize.so"
+_BUILT = _HERE.joinpath("..", "..", "..", "examples", "out", "libimagesize.so")
+
+_CALLS = (
+    "imagesize_type",
+    "imagesize_probe",
+    "imagesize_probe_parts",
+    "imagesize_spans",
+    "imagesize_type_name",
+    "imagesize_compression_name",
+    "imagesize_container_format",
+    "imagesize_status_text",
+    "imagesize_compression_family",
+    "imagesize_is_block_compressed",
+    "imagesize_is_multi_compression_container",
+)
+
+
+def _loaded() -> ctypes.CDLL:
+    path = os.environ.get("IMAGESIZE_LIBRARY") or str(_PACKED if _PACKED.exists() else _BUILT)
+    try:
+        library = ctypes.CDLL(path)
+        for name in _CALLS:
+            getattr(library, name).restype = ctypes.c_uint32
+    except (OSError, AttributeError) as error:
+        raise ImportError(f"no library of imagesize_proved ({error}); `examples/run build` builds it", path=path) from error
+    return library
+
+
+_LIBRARY = _loaded()
+_type = _LIBRARY.imagesize_type
+_probe = _LIBRARY.imagesize_probe
+_probe_parts = _LIBRARY.imagesize_probe_parts
+_spans = _LIBRARY.imagesize_spans
+
+
+class _Room:
+    """What is lent to a call beside the bytes. A room is used again, since to make one takes longer than a call."""
+
+    def __init__(self) -> None:
+        self.numbers = (ctypes.c_uint64 * 6)()
+        self.read = memoryview(self.numbers).cast("B").cast("Q").tolist
+        self.told = [ctypes.byref(self.numbers, 8 * index) for index in range(5)]
+        self.front = (ctypes.c_uint64 * 2)()
+        self.length = ctypes.c_size_t.from_buffer(self.front, 8)  # a span from place 0 on is as long as its bytes
+        self.total = ctypes.c_uint64()
+        self.arguments = (self.length, self.front, ctypes.c_size_t(1), self.total, *self.told)
+
+
+_ROOMS: List[_Room] = []
+
+
+def _room(length: int, total: int) -> _Room:
+    try:
+        room = _ROOMS.pop()
+    except IndexError:
+        room = _Room()
+    room.numbers[0] = 0
+    room.length.value = length
+    room.total.value = total
+    return room
+
+
+def type_of(data: bytes) -> Told:
+    """The type of the image in some bytes."""
+    room = _room(len(data), 0)
+    told = _type(data, room.length, *room.told[:2]), room.read()
+    _ROOMS.append(room)
+    return told
+
+
+def probe_whole(data: bytes) -> Told:
+    """Type and size of the image in some bytes."""
+    room = _room(len(data), 0)
+    told = _probe(data, room.length, *room.told[:4]), room.read()
+    _ROOMS.append(room)
+    return told
+
+
+def probe_front(front: bytes, total: int) -> Told:
+    """Type and size of the image in an input of `total` bytes, of which the first are known."""
+    room = _room(len(front), total)
+    told = _probe_parts(front, *room.arguments), room.read()
+    _ROOMS.append(room)
+    return told
+
+
+def probe_parts(known: bytes, spans: List[int], total: int) -> Told:
+    """Type and size of the image in an input of `total` bytes, of which some parts are known: start and length of each."""
+    room = _room(len(known), total)
+    parts, count = (ctypes.c_uint64 * len(spans))(*spans), ctypes.c_size_t(len(spans) // 2)
+    told = _probe_parts(known, room.length, parts, count, room.total, *room.told), room.read()
+    _ROOMS.append(room)
+    return told
+
+
+def spans_of(data: Union[bytes, ctypes.c_char], length: int, limit: int) -> Optional[List[int]]:
+    """Start and length of each span that an answer rests on; None where there are more than `limit`."""
+    place = data if isinstance(data, bytes) else ctypes.byref(data)
+    size, count = ctypes.c_size_t(length), ctypes.c_size_t()
+    _spans(place, size, (ctypes.c_uint64 * 2)(), ctypes.c_size_t(), ctypes.byref(count))
+    if count.value > limit:
+        return None
+    room = (ctypes.c_uint64 * (2 * count.value + 2))()
+    _spans(place, size, room, count, ctypes.byref(count))
+    return room[: 2 * count.value]
+
+
+def text(call: str, *numbers: int) -> Optional[str]:
+    """The text of a call that tells one; None where no text has these numbers."""
+    told, asked, length = getattr(_LIBRARY, call), list(map(ctypes.c_uint32, numbers)), ctypes.c_size_t()
+    told(*asked, ctypes.create_string_buffer(1), ctypes.c_size_t(), ctypes.byref(length))
+    room = ctypes.create_string_buffer(length.value + 1)
+    refused = told(*asked, room, length, ctypes.byref(length))
+    return None if refused else room.raw[: length.value].decode("ascii")
+
+
+def number(call: str, *numbers: int) -> int:
+    """The number of a call that tells one."""
+    told = ctypes.c_uint32()
+    getattr(_LIBRARY, call)(*map(ctypes.c_uint32, numbers), ctypes.byref(told))
+    return told.value

@@ -1,0 +1,92 @@
+"""The parts of an input that are known, of which the library answers, or says what it still needs."""
+
+from __future__ import annotations
+
+import mmap
+from typing import TYPE_CHECKING, Union
+
+from ._library import probe_front, probe_parts
+from ._types import ImageError, Status
+
+if TYPE_CHECKING:
+    from array import array
+
+    BytesLike = Union[bytes, bytearray, memoryview, mmap.mmap, "array[int]"]
+
+BLOCK = 4096
+"""The bytes of a block. What is wanted is fetched with the blocks around it."""
+
+BUDGET = 64 << 20
+"""The bytes that are fetched at most, where a call names no other number."""
+
+_WANTED = int(Status.BYTES_WANTED)
+
+
+def first_block(total: int) -> int:
+    """The bytes in the first block of an input of `total` bytes. Raises `ValueError` where no input is as long."""
+    if not 0 <= total < 1 << 63:
+        raise ValueError(f"an input has from 0 to 2^63-1 bytes, and not {total}")
+    return total if total < BLOCK else BLOCK
+
+
+class Parts:
+    """The parts of an input of `total` bytes that are known, beginning with its first block.
+
+    Wanted are `length` bytes from place `start` on. Where `length` is 0 no more are wanted, and `told` stands.
+    """
+
+    __slots__ = ("total", "budget", "known", "spans", "rounds", "start", "length", "told")
+
+    def __init__(self, front: BytesLike, total: int, budget: int) -> None:
+        self.total = total
+        self.budget = budget
+        self.start = 0
+        self.length = first_block(total)
+        self.known = self._taken(front)
+        self.spans = [0, self.length]
+        self.rounds = 1
+        self.told = probe_front(self.known, total)
+        self._go_on()
+
+    def add(self, data: BytesLike) -> None:
+        """Takes the bytes that are wanted. Raises `EOFError` where there are fewer, and `ValueError` where there are more."""
+        self.known += self._taken(data)
+        if self.start == self.spans[-2] + self.spans[-1]:
+            self.spans[-1] += self.length
+        else:
+            self.spans += self.start, self.length
+        self.rounds += 1
+        self.told = probe_parts(self.known, self.spans, self.total)
+        self._go_on()
+
+    def filled(self) -> mmap.mmap:
+        """An input of this length that has the known parts, and zeros elsewhere."""
+        room = mmap.mmap(-1, self.total, mmap.MAP_PRIVATE | mmap.MAP_ANONYMOUS)
+        taken = 0
+        for start, length in zip(self.spans[::2], self.spans[1::2]):
+            room[start : start + length] = self.known[taken : taken + length]
+            taken += length
+        return room
+
+    def _taken(self, data: BytesLike) -> bytes:
+        if type(data) is not bytes:
+            data = bytes(memoryview(data))
+        if len(data) != self.length:
+            error = EOFError if len(data) < self.length else ValueError
+            raise error(f"{self.length} bytes from place {self.start} on were wanted, and {len(data)} came")
+        return data
+
+    def _go_on(self) -> None:
+        status, told = self.told
+        self.length = 0
+        if status == _WANTED:
+            self._want(told[4], told[4] + told[5])
+
+    def _want(self, start: int, end: int) -> None:
+        # Whole blocks, none of them twice. The more rounds there were, the more blocks, so that a long walk takes few rounds.
+        self.start = start - start % BLOCK
+        end = max(end, self.start + (BLOCK << max(0, self.rounds // 2 - 3)))
+        known_behind = [known for known in self.spans[::2] if known > start]
+        self.length = min(end + -end % BLOCK, self.total, *known_behind) - self.start
+        if len(self.known) + self.length > self.budget:
+            raise ImageError(Status.BUDGET_SPENT)

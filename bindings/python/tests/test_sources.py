@@ -1,0 +1,192 @@
+"""Files and fetches that fail, and how much is read of those that do not."""
+
+import asyncio
+import io
+import os
+import pathlib
+import struct
+import tempfile
+import unittest
+from typing import Any, List, Tuple
+from unittest import mock
+
+import imagesize_proved as imagesize
+from imagesize_proved import ImageError, Size, Status
+
+from . import GIF
+
+FRAME = b"\xff\xc0\0\x11\x08\0\x05\0\x07" + bytes(8)
+"""The frame of a JPEG of 7x5."""
+
+
+def jpeg(segments: int, length: int = 65535) -> bytes:
+    """A JPEG with segments of this length before its frame."""
+    return b"\xff\xd8" + (b"\xff\xe0" + struct.pack(">H", length) + bytes(length - 2)) * segments + FRAME
+
+
+class Sliced:
+    """An input that notes what is fetched of it."""
+
+    def __init__(self, data: bytes, more: int = 0) -> None:
+        self.data = data
+        self.fetched: List[Tuple[int, int]] = []
+        self.more = more
+
+    def fetch(self, start: int, length: int) -> bytes:
+        self.fetched.append((start, length))
+        return self.data[start : start + length + self.more][: max(0, length + self.more)]
+
+    def probe(self, **options: int) -> Size:
+        return imagesize.probe_with(self.fetch, len(self.data), **options).size
+
+
+class Halting(io.RawIOBase):
+    """A file that gives its bytes seven at a time, and ends before its length."""
+
+    def __init__(self, data: bytes, length: int) -> None:
+        self.data, self.length, self.place = data, length, 0
+
+    def seekable(self) -> bool:
+        return True
+
+    def seek(self, place: int, whence: int = 0) -> int:
+        self.place = place + (self.length if whence == os.SEEK_END else 0)
+        return self.place
+
+    def tell(self) -> int:
+        return self.place
+
+    def read(self, size: int = -1) -> bytes:
+        data = self.data[self.place : self.place + min(size, 7)]
+        self.place += len(data)
+        return data
+
+
+class Reading(unittest.TestCase):
+    def test_blocks(self) -> None:
+        """A block is fetched once, and within the input; the larger the input the more at once."""
+        for count in (0, 1, 3, 7, 40, 200):
+            image = Sliced(jpeg(count))
+            self.assertEqual(image.probe(), (7, 5))
+            for start, length in image.fetched:
+                self.assertEqual(start % 4096, 0)
+                self.assertTrue(length % 4096 == 0 or start + length == len(image.data))
+            places = sorted(image.fetched)
+            self.assertTrue(all(a + b <= c for (a, b), (c, _) in zip(places, places[1:])))
+            self.assertLess(len(places), 40)
+            if count < 8:
+                self.assertLessEqual(sum(length for _, length in places), 4096 * (count + 1))
+
+    def test_whole_walk_is_few_rounds(self) -> None:
+        image = Sliced(jpeg(1 << 18, 2))
+        self.assertEqual(image.probe(), (7, 5))
+        self.assertLess(len(image.fetched), 30)
+
+    def test_directory_at_the_end(self) -> None:
+        entries = b"\x03\0" + b"".join(struct.pack("<HHII", tag, 4, 1, size) for tag, size in ((256, 5), (257, 7), (258, 8)))
+        image = Sliced(b"II*\0" + struct.pack("<I", 1 << 21) + bytes((1 << 21) - 8) + entries)
+        self.assertEqual(image.probe(), (5, 7))
+        self.assertEqual(image.fetched, [(0, 4096), (1 << 21, len(entries))])
+
+    def test_budget(self) -> None:
+        with self.assertRaises(ImageError) as raised:
+            Sliced(jpeg(40)).probe(budget=20000)
+        self.assertIs(raised.exception.status, Status.BUDGET_SPENT)
+        self.assertEqual(imagesize.probe(bytearray(jpeg(40)), budget=20000).size, (7, 5))
+
+    def test_limit(self) -> None:
+        data = jpeg(10, 2)
+        self.assertEqual(len(imagesize.spans(data, limit=24)), 24)
+        for form in (data, bytearray(data), io.BytesIO(data)):
+            with self.assertRaises(ImageError) as raised:
+                imagesize.spans(form, limit=23)
+            self.assertIs(raised.exception.status, Status.BUFFER_TOO_SMALL)
+
+    def test_spans_of_a_large_file(self) -> None:
+        with tempfile.NamedTemporaryFile() as file:
+            file.write(GIF)
+            file.truncate(3 << 30)
+            self.assertEqual(imagesize.spans(file.name), [(0, 12), (6, 2), (8, 2)])
+
+    def test_place_of_an_open_file_stays(self) -> None:
+        for data in (GIF, GIF[:3]):
+            file = io.BytesIO(data)
+            file.seek(5)
+            try:
+                imagesize.probe(file)
+            except ImageError:
+                pass
+            self.assertEqual(file.tell(), 5)
+
+
+class Failing(unittest.TestCase):
+    def test_fetch_of_another_length(self) -> None:
+        for more, error in ((-1, EOFError), (-4096, EOFError), (1, ValueError)):
+            image = Sliced(jpeg(3), more)
+            self.assertRaisesRegex(error, "4096 bytes from place 0 on", image.probe)
+            self.assertEqual(len(image.fetched), 1)
+
+    def test_fetch_that_raises(self) -> None:
+        def fetch(start: int, length: int) -> bytes:
+            raise ConnectionResetError(start)
+
+        self.assertRaises(ConnectionResetError, imagesize.probe_with, fetch, 100)
+
+    def test_fetch_of_no_bytes(self) -> None:
+        for thing in (None, "GIF89a", 12):
+            give: Any = lambda start, length: thing
+            self.assertRaises(TypeError, imagesize.probe_with, give, 12)
+
+    def test_lengths(self) -> None:
+        async def read(start: int, length: int) -> bytes:
+            return GIF
+
+        wrong: Any
+        for wrong, error in ((-1, ValueError), (1 << 63, ValueError), (1 << 64, ValueError), ("12", TypeError), (None, TypeError)):
+            self.assertRaises(error, imagesize.probe_with, Sliced(GIF).fetch, wrong)
+            with self.assertRaises(error):
+                asyncio.run(imagesize.probe_async(read, wrong))
+        self.assertEqual(asyncio.run(imagesize.probe_async(read, 12)).size, (640, 480))
+        image = Sliced(b"")
+        self.assertRaises(ImageError, image.probe)
+        self.assertEqual(image.fetched, [])
+
+    def test_coroutine_that_is_cut(self) -> None:
+        async def read(start: int, length: int) -> bytes:
+            return jpeg(3)[start : start + length - 1]
+
+        with self.assertRaises(EOFError):
+            asyncio.run(imagesize.probe_async(read, len(jpeg(3))))
+
+    def test_file_that_shrinks(self) -> None:
+        data = jpeg(3)
+        with tempfile.NamedTemporaryFile() as file:
+            file.write(data[:70000])
+            file.flush()
+            with mock.patch("os.lseek", return_value=len(data)):
+                self.assertRaises(EOFError, imagesize.probe, file.name)
+        self.assertEqual(imagesize.probe(Halting(data, len(data))).size, (7, 5))
+        self.assertRaises(EOFError, imagesize.probe, Halting(data[:70000], len(data)))
+
+    def test_files_that_cannot_be_read(self) -> None:
+        with tempfile.TemporaryDirectory() as folder:
+            pipe = os.path.join(folder, "pipe")
+            os.mkfifo(pipe)
+            for path, error in ((folder, IsADirectoryError), (pathlib.Path(folder) / "none", FileNotFoundError), (pipe, OSError)):
+                for call in (imagesize.probe, imagesize.spans):
+                    with self.assertRaises(error) as raised:
+                        call(path)
+                    self.assertEqual(raised.exception.filename, str(path))
+
+    def test_open_pipe(self) -> None:
+        reader, writer = os.pipe()
+        os.close(writer)
+        with open(reader, "rb") as pipe:
+            self.assertRaises(OSError, imagesize.probe, pipe)
+
+    def test_descriptors_are_closed(self) -> None:
+        before = len(os.listdir("/proc/self/fd"))
+        for path in ("/", __file__, "/nowhere"):
+            for _ in range(20):
+                self.assertRaises((OSError, ImageError), imagesize.probe, path)
+        self.assertEqual(len(os.listdir("/proc/self/fd")), before)

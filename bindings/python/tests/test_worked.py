@@ -1,0 +1,96 @@
+"""Every worked input through every call, equal to the table."""
+
+import array
+import asyncio
+import io
+import mmap
+import pathlib
+import re
+import tempfile
+import unittest
+from typing import Any, Callable, Iterator, Tuple
+
+import imagesize_proved as imagesize
+
+from . import EXAMPLES
+
+
+def rows() -> Iterator[Tuple[bytes, str, str]]:
+    """The bytes, the line and the spans of each worked input."""
+    for row in (EXAMPLES / "worked.tsv").read_text().splitlines():
+        if not row.startswith("#"):
+            data, line, spans = row.split("\t")
+            yield bytes.fromhex(data.replace("-", "")), line, spans
+
+
+def line(call: Callable[..., imagesize.Probed], *arguments: Any) -> str:
+    """The line about what a call answers."""
+    try:
+        found, size = call(*arguments)
+    except imagesize.ImageError as error:
+        return f"{error.image_type}: {error}" if error.image_type else str(error)
+    return f"{found} {size.width}x{size.height}"
+
+
+def by_coroutine(data: bytes) -> imagesize.Probed:
+    async def read(start: int, length: int) -> bytes:
+        await asyncio.sleep(0)
+        return data[start : start + length]
+
+    return asyncio.run(imagesize.probe_async(read, len(data)))
+
+
+def by_fetch(data: bytes) -> imagesize.Probed:
+    return imagesize.probe_with(lambda start, length: data[start : start + length], len(data))
+
+
+class Worked(unittest.TestCase):
+    def setUp(self) -> None:
+        folder = tempfile.TemporaryDirectory()
+        self.addCleanup(folder.cleanup)
+        self.path = pathlib.Path(folder.name) / "image"
+
+    def test_bytes(self) -> None:
+        for data, wanted, _ in rows():
+            forms = [data, bytearray(data), memoryview(data), array.array("B", data), memoryview(data * 2)[: len(data)]]
+            for form in forms + ([mmap.mmap(-1, len(data))] if data else []):
+                if isinstance(form, mmap.mmap):
+                    form[:] = data
+                with self.subTest(data=data, form=type(form)):
+                    self.assertEqual(line(imagesize.probe, form), wanted)
+
+    def test_files(self) -> None:
+        for data, wanted, _ in rows():
+            self.path.write_bytes(data)
+            with open(self.path, "rb") as buffered, open(self.path, "rb", buffering=0) as raw:
+                for form in (str(self.path), self.path, buffered, raw, io.BytesIO(data)):
+                    with self.subTest(data=data, form=type(form)):
+                        self.assertEqual(line(imagesize.probe, form), wanted)
+
+    def test_parts(self) -> None:
+        for data, wanted, _ in rows():
+            with self.subTest(data=data):
+                self.assertEqual(line(by_coroutine, data), wanted)
+                self.assertEqual(line(by_fetch, data), wanted)
+
+    def test_type_and_size_alone(self) -> None:
+        for data, wanted, _ in rows():
+            self.path.write_bytes(data)
+            sized = re.fullmatch(r"(\S+) (\d+)x(\d+)", wanted)
+            refused = re.match(r"(\S+): ", wanted)
+            for form in (data, self.path):
+                with self.subTest(data=data, form=type(form)):
+                    if sized:
+                        self.assertEqual(imagesize.size(form), (int(sized[2]), int(sized[3])))
+                    if sized or refused:
+                        self.assertEqual(str(imagesize.image_type(form)), (sized or refused)[1])
+                    else:
+                        self.assertRaisesRegex(imagesize.ImageError, wanted, imagesize.image_type, form)
+
+    def test_spans(self) -> None:
+        for data, _, wanted in rows():
+            self.path.write_bytes(data)
+            for form in (data, bytearray(data), self.path, io.BytesIO(data)):
+                with self.subTest(data=data, form=type(form)):
+                    found = " ".join(f"{span.start}+{span.len}" for span in imagesize.spans(form)) or "-"
+                    self.assertIn(wanted, (found, "?"))

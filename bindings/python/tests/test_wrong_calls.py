@@ -1,0 +1,103 @@
+"""What a caller may do wrong is refused with an error that says what it is, and nothing else is read."""
+
+import copy
+import os
+import pathlib
+import pickle
+import subprocess
+import sys
+import unittest
+from concurrent.futures import ProcessPoolExecutor
+from typing import Any
+
+import imagesize_proved as imagesize
+from imagesize_proved import Compression, ImageError, ImageType, Kind, Status
+
+from . import GIF
+
+PACKAGE = pathlib.Path(imagesize.__file__).parent.parent
+
+
+class Longer(bytes):
+    def __len__(self) -> int:
+        return 1 << 20
+
+
+class Shorter(bytes):
+    def __len__(self) -> int:
+        return 4
+
+
+class Disguised:
+    _as_parameter_ = GIF
+
+
+class Values(unittest.TestCase):
+    def test_errors_are_copied(self) -> None:
+        for error in (ImageError(Status.NOT_SUPPORTED), ImageError(Status.END_OF_INPUT, ImageType(Kind.DDS, Compression.DDS_BC7))):
+            for same in (copy.copy(error), copy.deepcopy(error), pickle.loads(pickle.dumps(error))):
+                self.assertEqual((same.status, same.image_type, str(same)), (error.status, error.image_type, str(error)))
+
+    def test_error_leaves_a_pool_of_processes(self) -> None:
+        with ProcessPoolExecutor(1) as pool:
+            refused = pool.submit(imagesize.probe, GIF[:8])
+            self.assertRaises(ImageError, refused.result)
+            self.assertEqual(pool.submit(imagesize.probe, GIF).result().size, (640, 480))
+
+    def test_numbers_are_whole(self) -> None:
+        for numbers in ((2**32 + 10, 0), (10, 2**32), (-1, 0), (0, 0), (26, 0), (10, 11), (10, 34), ("Gif", 0)):
+            self.assertRaises(ValueError, ImageType, *numbers)
+        for status in (2**32, -1, 31):
+            self.assertRaises(ValueError, ImageError, status)
+            self.assertRaises(ValueError, imagesize.status_text, status)
+
+    def test_queries(self) -> None:
+        bc7, gif = ImageType(Kind.DDS, Compression.DDS_BC7), imagesize.image_type(GIF)
+        self.assertEqual((str(bc7), bc7.name, bc7.compression_name, bc7.container_format), ("Dds(Bc7)", "Dds", "Bc7", "DDS"))
+        self.assertEqual(bc7.compression_family, imagesize.Family.BLOCK_COMPRESSION)
+        self.assertTrue(bc7.is_block_compressed and bc7.is_multi_compression_container)
+        self.assertEqual((str(gif), gif.compression_name, gif.container_format, gif.compression_family), ("Gif", None, None, None))
+        self.assertFalse(gif.is_block_compressed or gif.is_multi_compression_container)
+        self.assertIs(gif.kind, Kind.GIF)
+        self.assertLess(gif, ImageType(Kind.JPEG))
+        self.assertEqual({gif, ImageType(10)}, {gif})
+
+
+class Arguments(unittest.TestCase):
+    def test_false_lengths(self) -> None:
+        for data in (Longer(GIF), Shorter(GIF)):
+            self.assertEqual(imagesize.probe(data).size, (640, 480))
+            self.assertEqual(imagesize.spans(data), imagesize.spans(GIF))
+        self.assertRaises(ImageError, imagesize.probe, Longer(GIF[:10]))
+
+    def test_other_things(self) -> None:
+        texts: Any = open(__file__)
+        self.addCleanup(texts.close)
+        for thing in (Disguised(), None, 7, [71, 73, 70], object(), texts):
+            for call in (imagesize.probe, imagesize.size, imagesize.image_type, imagesize.spans):
+                self.assertRaises(TypeError, call, thing)
+
+    def test_views(self) -> None:
+        words = memoryview(GIF * 3).cast("I")
+        self.assertEqual(imagesize.probe(words).size, (640, 480))
+        self.assertEqual(imagesize.probe(memoryview(bytes(b for byte in GIF for b in (byte, 0)))[::2]).size, (640, 480))
+
+    def test_empty(self) -> None:
+        for nothing in (b"", bytearray(), memoryview(b"").cast("I")):
+            with self.assertRaises(ImageError) as raised:
+                imagesize.probe(nothing)
+            self.assertEqual((raised.exception.status, raised.exception.image_type), (Status.END_OF_INPUT, None))
+            self.assertEqual(imagesize.spans(nothing), [])
+
+
+class Libraries(unittest.TestCase):
+    def importing(self, library: str) -> str:
+        environment = {**os.environ, "IMAGESIZE_LIBRARY": library, "PYTHONPATH": str(PACKAGE)}
+        command = [sys.executable, "-c", "import imagesize_proved"]
+        return subprocess.run(command, env=environment, stderr=subprocess.PIPE, text=True).stderr
+
+    def test_missing_library(self) -> None:
+        self.assertRegex(self.importing("/nowhere/libimagesize.so"), "ImportError: .*nowhere.*examples/run build")
+
+    def test_wrong_library(self) -> None:
+        self.assertRegex(self.importing("libc.so.6"), "ImportError: .*imagesize_type.*examples/run build")
