@@ -167,7 +167,7 @@ test('no more is read than is allowed, however the input goes on', async () => {
   };
   const error = await refused(endless);
   assert.equal(error.code, 'LIMIT_REACHED');
-  assert.ok(error.bytesRead <= 2 ** 20 && error.reads <= 24, `${error.bytesRead} bytes in ${error.reads} reads`);
+  assert.ok(error.bytesRead <= 2 ** 20 && error.reads === 23, `${error.bytesRead} bytes in ${error.reads} reads`);
   const early = await refused(endless, { maxBytes: 5000 });
   assert.deepEqual([early.code, early.bytesRead], ['LIMIT_REACHED', 5000]);
 });
