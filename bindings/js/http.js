@@ -76,7 +76,7 @@ function rangeOf({ status, headers }, start) {
   if (status !== 206) throw new ImageError('HTTP_STATUS', `The server answers ${status}`, { status });
   const [, first, last, total] = /^bytes (\d+)-(\d+)\/(\d+)$/.exec(range)?.map(Number) ?? [];
   if (Number.isSafeInteger(total)) return { start: first, length: last + 1 - first, total };
-  throw new ImageError('NO_CONTENT_RANGE', 'The server does not tell this origin, by Content-Range, which bytes of how many it gives');
+  throw new ImageError('NO_CONTENT_RANGE', 'The server does not tell this origin, by Content-Range, which bytes it gives');
 }
 
 function cutShort(length, wanted, cause) {

@@ -43,7 +43,8 @@ for name in sys.argv[1:]:
 // The same in Python, where its package is there.
 function timedInPython(files) {
   const path = fileURLToPath(new URL('../python', import.meta.url));
-  const { status, stdout } = spawnSync('python3', ['-c', PYTHON, ...files], { env: { ...process.env, PYTHONPATH: path }, encoding: 'utf8' });
+  const env = { ...process.env, PYTHONPATH: path };
+  const { status, stdout } = spawnSync('python3', ['-c', PYTHON, ...files], { env, encoding: 'utf8' });
   return status === 0 ? stdout.split('\n') : files.map(() => '-');
 }
 
@@ -52,7 +53,8 @@ function measureCalls(files) {
   const inPython = timedInPython(files);
   files.forEach((file, index) => {
     const bytes = readFileSync(file);
-    row(basename(file), bytes.length, timed(() => { try { probe(bytes); } catch { /* a refusal costs too */ } }), inPython[index]);
+    const call = () => { try { probe(bytes); } catch { /* a refusal costs too */ } };
+    row(basename(file), bytes.length, timed(call), inPython[index]);
   });
 }
 

@@ -40,7 +40,9 @@ export class Parts {
 
 /** The block that is read first of each input, where at most so many bytes may be read. */
 export function firstBlock(most) {
-  if (most !== Infinity && !(Number.isInteger(most) && most > 0)) throw new RangeError('maxBytes is a whole number of bytes, from 1 on');
+  if (most !== Infinity && !(Number.isInteger(most) && most > 0)) {
+    throw new RangeError('maxBytes is a whole number of bytes, from 1 on');
+  }
   return { start: 0, end: Math.min(BLOCK, most) };
 }
 

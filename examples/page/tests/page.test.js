@@ -203,7 +203,7 @@ test('the page', async (t) => {
         const lines = await lookUp(tab, [...Object.keys(given).map((name) => `${url}?as=${name}`), 'http://']);
         assert.deepEqual(lines.map(({ answer }) => answer).slice(0, 3), [
           'Jpeg, 7 × 5 pixels',
-          'The server does not tell this origin, by Content-Range, which bytes of how many it gives',
+          'The server does not tell this origin, by Content-Range, which bytes it gives',
           'The server gives no answer, or none that this origin may read',
         ]);
         assert.match(lines[3].answer, /URL/);
