@@ -8,7 +8,7 @@ use Rattle.imagesize.specs.Meaning.{meaning}
 use Rattle.imagesize.proofs.calls.blob_size.Goals as goal
 
 pub returns-clause-short : goal.returns-clause-short
-returns-clause-short c = λ few. c.probe_slice.ensures.value ∙ no_meaning c.args.«data».now 0 few
+returns-clause-short c = λ few. c.blob_probe.ensures.value ∙ no_meaning c.args.«data».now 0 few
 
 pub returns-clause-local : goal.returns-clause-local
 returns-clause-local c = λ place. same_by_local (λ d. meaning d place) (local_meaning place) c.args.«data».now
