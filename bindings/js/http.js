@@ -19,10 +19,12 @@ export class Remote {
     const response = await this.#fetched(`bytes=${start}-${end - 1}`);
     const body = response.body?.getReader();
     try {
-      const range = rangeOf(response);
+      const range = rangeOf(response, start);
       this.#checkVersion(response.headers, range.total);
       const wanted = Math.min(end, range.total) - start;
-      if (range.start !== start || range.length > wanted) throw new ImageError('WRONG_RANGE', 'The server gives another range than it was asked for');
+      if (range.start !== start || range.length > wanted) {
+        throw new ImageError('WRONG_RANGE', 'The server gives another range than the one that was asked for');
+      }
       if (range.length < wanted) throw cutShort(range.length, wanted);
       return await this.#bytesOf(body, wanted);
     } finally {
@@ -65,15 +67,16 @@ export class Remote {
   }
 }
 
-// Which bytes an answer says that it has, and of how many.
-function rangeOf({ status, headers }) {
+// Which bytes an answer says that it has, and of how many. It has none where the input ends before the start that was asked for.
+function rangeOf({ status, headers }, start) {
   const range = headers.get('Content-Range') ?? '';
-  if (status === 416 && /^bytes \*\/0$/.test(range)) return { start: 0, length: 0, total: 0 };
+  const ended = /^bytes \*\/(\d+)$/.exec(range);
+  if (status === 416 && ended) return { start, length: 0, total: Number(ended[1]) };
   if (status === 200) throw new ImageError('NO_RANGES', 'The server gives no ranges: it answers 200 with the whole');
   if (status !== 206) throw new ImageError('HTTP_STATUS', `The server answers ${status}`, { status });
   const [, first, last, total] = /^bytes (\d+)-(\d+)\/(\d+)$/.exec(range)?.map(Number) ?? [];
   if (Number.isSafeInteger(total)) return { start: first, length: last + 1 - first, total };
-  throw new ImageError('NO_CONTENT_RANGE', 'The server does not tell this origin, by Content-Range, which bytes of how many it gives');
+  throw new ImageError('NO_CONTENT_RANGE', 'The server does not tell this origin, by Content-Range, which bytes it gives');
 }
 
 function cutShort(length, wanted, cause) {

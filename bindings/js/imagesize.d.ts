@@ -70,7 +70,7 @@ export function probe(bytes: ArrayBufferLike | ArrayBufferView): Image;
 
 /**
  * The spans of the readings that the answer of `probe` rests on, in their order, repeats kept; also where it is refused.
- * Every other input of this length that has the same bytes there has the same answer.
+ * Every other input of this length that has the same bytes there has the same answer. All bytes are copied once.
  *
  * @throws {ImageError} `'TOO_MANY_SPANS'` where there are more than `limit`, which is 65,536 if nothing else is said
  * @throws {TypeError} where these are no bytes

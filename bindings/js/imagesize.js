@@ -83,7 +83,7 @@ async function answerOf(source, parts, maxBytes, signal) {
     signal?.throwIfAborted();
     const bytes = await source.read(block);
     const length = Math.min(block.end, source.total) - block.start;
-    if (bytes.length < length) throw new ImageError('CUT_SHORT', `${bytes.length} of ${length} bytes came`);
+    if (bytes.length !== length) throw new ImageError('CUT_SHORT', `${bytes.length} of ${length} bytes came`);
     parts.add(block.start, bytes);
     const answer = library().probeParts(parts, source.total);
     if (!answer.wanted) return answer;

@@ -28,7 +28,8 @@ const MEMORY64 = new Uint8Array([0, 97, 115, 109, 1, 0, 0, 0, 5, 3, 1, 4, 0]);
 
 async function load() {
   if (!WebAssembly.validate(MEMORY64)) {
-    throw new ImageError('NO_MEMORY64', 'This engine has no 64-bit WebAssembly memory; Node 20 has it by --experimental-wasm-memory64');
+    const message = 'This engine has no 64-bit WebAssembly memory; Node 20 has it by --experimental-wasm-memory64';
+    throw new ImageError('NO_MEMORY64', message);
   }
   try {
     return await Library.of(await WebAssembly.compile(await binary(new URL('./out/imagesize.wasm', import.meta.url))));
@@ -118,7 +119,9 @@ class Library {
   }
 
   #tellSpans(length, room, count) {
-    this.#calls.imagesize_spans(this.#pointer(AT.lent), BigInt(length), this.#pointer(room), BigInt(count), this.#pointer(AT.count));
+    this.#calls.imagesize_spans(
+      this.#pointer(AT.lent), BigInt(length), this.#pointer(room), BigInt(count), this.#pointer(AT.count),
+    );
     return this.#number(AT.count);
   }
 

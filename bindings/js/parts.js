@@ -5,9 +5,8 @@ import { ImageError } from './errors.js';
 // Blocks begin at multiples of so many bytes.
 const BLOCK = 4096;
 
-// After so many reads each block is twice as long as the one before, so that an input of any length is read in a few more.
+// Behind so many each block is twice as long as the one before, so that an input of any length is read in a few more.
 const SINGLE_BLOCKS = 16;
-
 
 /** The parts of an input that are known. */
 export class Parts {
@@ -41,8 +40,10 @@ export class Parts {
 
 /** The block that is read first of each input, where at most so many bytes may be read. */
 export function firstBlock(most) {
-  if (!(most >= 1)) throw new RangeError('At least one byte has to be read');
-  return { start: 0, end: Math.min(BLOCK, Math.floor(most)) };
+  if (most !== Infinity && !(Number.isInteger(most) && most > 0)) {
+    throw new RangeError('maxBytes is a whole number of bytes, from 1 on');
+  }
+  return { start: 0, end: Math.min(BLOCK, most) };
 }
 
 /**
@@ -52,7 +53,7 @@ export function firstBlock(most) {
 export function nextBlock(wanted, total, parts, most) {
   const start = Math.floor(wanted.start / BLOCK) * BLOCK;
   const last = Math.ceil((wanted.start + wanted.len) / BLOCK) * BLOCK;
-  const ahead = start + BLOCK * 2 ** Math.max(0, parts.reads - SINGLE_BLOCKS);
+  const ahead = start + BLOCK * 2 ** Math.max(0, parts.reads + 1 - SINGLE_BLOCKS);
   const end = Math.min(Math.max(last, ahead), total, start + most - parts.length);
   if (end <= wanted.start) throw new ImageError('LIMIT_REACHED', `There is no answer within ${most} bytes`);
   return { start, end };

@@ -59,8 +59,8 @@ function showAnswer(item, answer, time) {
     ? `${type && `${type}, no size: `}${message}`
     : `${type}, ${width.toLocaleString('en')} × ${height.toLocaleString('en')} pixels`;
   if (answer.reads > 0) {
-    within(item, '.cost').textContent =
-      `${count(answer.bytesRead, 'byte')} of ${answer.total.toLocaleString('en')} read, in ${count(answer.reads, 'step')} and ${time.toFixed(1)} ms`
+    const read = `${count(answer.bytesRead, 'byte')} of ${answer.total.toLocaleString('en')} read`;
+    within(item, '.cost').textContent = `${read}, in ${count(answer.reads, 'step')} and ${time.toFixed(1)} ms`
       + (answer.trace === null ? '; its spans are too many to be drawn' : '');
   }
 }

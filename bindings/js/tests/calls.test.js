@@ -47,7 +47,8 @@ test('bytes in every form', () => {
   const around = new Uint8Array([1, 2, 3, ...gif, 4, 5]);
   const shared = new SharedArrayBuffer(gif.length);
   new Uint8Array(shared).set(gif);
-  for (const bytes of [gif, gif.buffer, Buffer.from(gif), around.subarray(3, 15), new DataView(around.buffer, 3, 12), shared, new Uint16Array(gif.buffer)]) {
+  const views = [around.subarray(3, 15), new DataView(around.buffer, 3, 12), new Uint16Array(gif.buffer)];
+  for (const bytes of [gif, gif.buffer, Buffer.from(gif), shared, ...views]) {
     isGif(probe(bytes));
     assert.equal(spans(bytes).length, 3);
   }
@@ -65,7 +66,8 @@ test('a refusal has a code, a text and the type that was found', () => {
   const short = refused(() => probe(gif.subarray(0, 10)), 'END_OF_INPUT');
   assert.deepEqual([short.name, short.kind, short.message], ['ImageError', null, 'failed to fill whole buffer']);
   const cut = Buffer.from('00000010667479706176696600000000000000396d657461', 'hex');
-  assert.deepEqual([refused(() => probe(cut), 'END_OF_INPUT').kind, refused(() => probe(cut), 'END_OF_INPUT').compression], ['Heif', 'Av1']);
+  const { kind, compression } = refused(() => probe(cut), 'END_OF_INPUT');
+  assert.deepEqual([kind, compression], ['Heif', 'Av1']);
   assert.equal(Object.prototype.propertyIsEnumerable.call(short, 'name'), false);
 });
 
@@ -113,11 +115,16 @@ test('a walk over many megabytes ends soon', () => {
 test('a blob is read by aligned slices, each place once', async () => {
   const bytes = jpegBehind(4, 50000);
   const slices = [];
-  const blob = { size: bytes.length, slice: (start, end) => { slices.push([start, end]); return new Blob([bytes.subarray(start, end)]); } };
+  const slice = (start, end) => {
+    slices.push([start, end]);
+    return new Blob([bytes.subarray(start, end)]);
+  };
+  const blob = { size: bytes.length, slice };
   const { width, reads, bytesRead, total } = await probeBlob(blob);
   assert.deepEqual([width, reads, total], [7, 5, bytes.length]);
   assert.equal(bytesRead, slices.reduce((sum, [start, end]) => sum + end - start, 0));
-  assert.ok(slices.every(([start, end], index) => start % 4096 === 0 && end <= bytes.length && (index === 0 || start >= slices[index - 1][1])));
+  assert.ok(slices.every(([start, end]) => start % 4096 === 0 && end <= bytes.length));
+  assert.ok(slices.slice(1).every(([start], index) => start >= slices[index][1]));
 });
 
 test('a trace has the bytes of a few blocks of a long input, or is null', async () => {
@@ -132,12 +139,13 @@ test('a trace has the bytes of a few blocks of a long input, or is null', async 
 });
 
 test('a blob that is cut is refused', async () => {
-  await assert.rejects(probeBlob({ size: 5000, slice: () => new Blob([gif]) }), { code: 'CUT_SHORT', message: '12 of 4096 bytes came', reads: 0 });
+  const cut = { size: 5000, slice: () => new Blob([gif]) };
+  await assert.rejects(probeBlob(cut), { code: 'CUT_SHORT', message: '12 of 4096 bytes came', reads: 0 });
 });
 
 test('a signal ends a probe, and bad limits are refused', async () => {
   await assert.rejects(probeBlob(new Blob([gif]), { signal: AbortSignal.abort() }), { name: 'AbortError' });
-  for (const maxBytes of [0, -1, NaN, 'many']) await assert.rejects(probeBlob(new Blob([gif]), { maxBytes }), RangeError);
+  for (const maxBytes of [0, -1, 4096.5, NaN, 'many']) await assert.rejects(probeBlob(new Blob([gif]), { maxBytes }), RangeError);
   await assert.rejects(probeBlob(new Blob([gif]), { maxBytes: 11 }), { code: 'LIMIT_REACHED' });
 });
 
@@ -180,7 +188,8 @@ test('each worker has a library of its own', async () => {
 
 test('an engine without 64-bit memory says so at the first call', async () => {
   const code = `WebAssembly.validate = () => false;
-    import(${JSON.stringify(module)}).then(({ probe }) => probe(new Uint8Array(12))).catch((error) => console.log(error.name, error.code, error.message));`;
+    import(${JSON.stringify(module)}).then(({ probe }) => probe(new Uint8Array(12)))
+      .catch((error) => console.log(error.name, error.code, error.message));`;
   const { stdout } = await promisify(execFile)(process.execPath, ['-e', code]);
   assert.match(stdout, /^ImageError NO_MEMORY64 .*--experimental-wasm-memory64/);
 });
@@ -199,6 +208,7 @@ test('the codes are those of the header, and the declarations have them', async 
   const [, listed] = /enum imagesize_status \{(.*?)\};/s.exec(header);
   for (const [, name, number] of listed.matchAll(/IMAGESIZE_(\w+) = (\d+)/g)) assert.equal(STATUSES[number], name);
   const declared = readFileSync(fileURLToPath(new URL('../imagesize.d.ts', import.meta.url)), 'utf8');
-  const unanswered = ['ANSWERED', 'FAULT', 'BUDGET_SPENT', 'OUT_OF_MEMORY', 'BUFFER_TOO_SMALL', 'UNKNOWN_TYPE', 'UNKNOWN_STATUS', 'BYTES_WANTED'];
+  const ofReaders = ['FAULT', 'BUDGET_SPENT', 'OUT_OF_MEMORY'];
+  const unanswered = [...ofReaders, 'ANSWERED', 'BUFFER_TOO_SMALL', 'UNKNOWN_TYPE', 'UNKNOWN_STATUS', 'BYTES_WANTED'];
   for (const name of STATUSES) assert.equal(declared.includes(`  | '${name}'`), !unanswered.includes(name), name);
 });

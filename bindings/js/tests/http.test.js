@@ -1,6 +1,7 @@
 // Servers that give no ranges, cut them, lie, change what they give, or stall.
 
 import assert from 'node:assert/strict';
+import { EventEmitter, once } from 'node:events';
 import { createServer } from 'node:http';
 import { test } from 'node:test';
 import { ImageError, probeUrl } from '../imagesize.js';
@@ -30,8 +31,8 @@ function writeForever(response) {
 
 test('few ranges are fetched, each aligned and within the input', async () => {
   await withServer((request, response) => giveRange(request, response, jpeg), async (url, requests) => {
-    const image = await probeUrl(url);
-    assert.deepEqual(image, { kind: 'Jpeg', compression: null, width: 7, height: 5, total: jpeg.length, reads: 5, bytesRead: image.bytesRead });
+    const { bytesRead, ...image } = await probeUrl(url);
+    assert.deepEqual(image, { kind: 'Jpeg', compression: null, width: 7, height: 5, total: jpeg.length, reads: 5 });
     assert.equal(requests.length, 5);
     let fetched = 0;
     for (const { headers } of requests) {
@@ -39,7 +40,7 @@ test('few ranges are fetched, each aligned and within the input', async () => {
       assert.ok(start % 4096 === 0 && last < jpeg.length);
       fetched += last + 1 - start;
     }
-    assert.equal(image.bytesRead, fetched);
+    assert.equal(bytesRead, fetched);
     assert.ok(fetched <= 5 * 4096);
   });
 });
@@ -68,22 +69,26 @@ test('an empty input is one that ends', async () => {
 });
 
 test('a server without ranges is refused, and its body is left', async () => {
-  let taken;
-  const closed = new Promise((resolve) => { taken = resolve; });
-  const error = await refused((_, response) => {
-    response.on('close', taken);
+  const leaving = new EventEmitter();
+  await withServer((_, response) => {
+    response.on('close', () => leaving.emit('close'));
     response.writeHead(200, { 'Content-Type': 'image/jpeg' });
     writeForever(response);
+  }, async (url) => {
+    const closed = once(leaving, 'close', { signal: AbortSignal.timeout(10000) });
+    await assert.rejects(probeUrl(url), { code: 'NO_RANGES' });
+    await closed;
   });
-  assert.equal(error.code, 'NO_RANGES');
-  await closed;
 });
 
 test('a server that answers another status is refused by it', async () => {
   const error = await refused((_, response) => response.writeHead(404).end('nothing'));
   assert.equal(error.code, 'HTTP_STATUS');
   assert.equal(error.status, 404);
-  const late = await refused((request, response, index) => (index < 3 ? giveRange(request, response, jpeg) : response.writeHead(503).end()));
+  const late = await refused((request, response, index) => {
+    if (index < 3) giveRange(request, response, jpeg);
+    else response.writeHead(503).end();
+  });
   assert.deepEqual([late.code, late.status, late.reads], ['HTTP_STATUS', 503, 2]);
 });
 
@@ -136,9 +141,11 @@ test('an input that changes between two ranges is refused', async () => {
     const error = await refused((request, response, index) => giveRange(request, response, jpeg, { [header]: version(index) }));
     assert.deepEqual([error.code, error.reads], ['CHANGED', 1]);
   }
-  const grown = Buffer.concat([jpeg, Buffer.alloc(1)]);
-  const shrunk = await refused((request, response, index) => giveRange(request, response, index < 2 ? grown : jpeg));
-  assert.equal(shrunk.code, 'CHANGED');
+  for (const length of [jpeg.length - 1, 5000, 0]) {
+    const shorter = jpeg.subarray(0, length);
+    const shrunk = await refused((request, response, index) => giveRange(request, response, index < 2 ? jpeg : shorter));
+    assert.equal(shrunk.code, 'CHANGED', `${length} bytes`);
+  }
 });
 
 test('a server that stalls is left when the caller says so', async () => {
@@ -160,13 +167,13 @@ test('no more is read than is allowed, however the input goes on', async () => {
   // Segments without end, four bytes each, so that no block tells the size.
   const endless = (request, response) => {
     const [, start, last] = /^bytes=(\d+)-(\d+)$/.exec(request.headers.range).map(Number);
-    const bytes = Buffer.from(Array.from({ length: last + 1 - start }, (_, index) => [0xff, 0xe1, 0, 2][(start + index + 2) % 4]));
+    const bytes = Buffer.alloc(last + 3, Buffer.from([0xff, 0xe1, 0, 2])).subarray(start + 2);
     if (start === 0) bytes.set([0xff, 0xd8]);
     say(response, `bytes ${start}-${last}/1000000000000`, bytes);
   };
   const error = await refused(endless);
   assert.equal(error.code, 'LIMIT_REACHED');
-  assert.ok(error.bytesRead <= 2 ** 20 && error.reads <= 24, `${error.bytesRead} bytes in ${error.reads} reads`);
+  assert.ok(error.bytesRead <= 2 ** 20 && error.reads === 23, `${error.bytesRead} bytes in ${error.reads} reads`);
   const early = await refused(endless, { maxBytes: 5000 });
   assert.deepEqual([early.code, early.bytesRead], ['LIMIT_REACHED', 5000]);
 });

@@ -47,7 +47,8 @@ export function giveRange(request, response, bytes, headers = {}) {
   const [, first, last] = /^bytes=(\d+)-(\d+)$/.exec(request.headers.range).map(Number);
   if (first >= bytes.length) return response.writeHead(416, { 'Content-Range': `bytes */${bytes.length}` }).end();
   const end = Math.min(last + 1, bytes.length);
-  response.writeHead(206, { 'Content-Range': `bytes ${first}-${end - 1}/${bytes.length}`, 'Content-Length': end - first, ...headers });
+  const range = `bytes ${first}-${end - 1}/${bytes.length}`;
+  response.writeHead(206, { 'Content-Range': range, 'Content-Length': end - first, ...headers });
   return response.end(bytes.subarray(first, end));
 }
 

@@ -48,6 +48,8 @@ test('the trace of a blob has these spans and their bytes', async () => {
   for (const { bytes, spans: wanted } of worked.filter((row) => row.spans !== '?')) {
     const { trace } = await probeBlob(new Blob([bytes]), { trace: true }).catch((error) => error);
     assert.equal(trace.map((piece) => `${piece.start}+${piece.bytes.length}`).join(' ') || '-', wanted);
-    for (const { start, bytes: piece } of trace) assert.deepEqual(Buffer.from(piece), bytes.subarray(start, start + piece.length));
+    for (const { start, bytes: piece } of trace) {
+      assert.deepEqual(Buffer.from(piece), bytes.subarray(start, start + piece.length));
+    }
   }
 });

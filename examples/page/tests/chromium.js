@@ -1,21 +1,17 @@
 // A browser without a window, driven over a pipe by its own protocol.
 
-import { spawn, spawnSync } from 'node:child_process';
+import { spawn } from 'node:child_process';
 import { mkdtemp, rm } from 'node:fs/promises';
 import { tmpdir } from 'node:os';
 import { join } from 'node:path';
 
-/** The browser's program, by CHROMIUM in the environment or by its usual names; undefined where there is none. */
-export const program = [process.env.CHROMIUM, 'chromium', 'chromium-browser', 'google-chrome']
-  .find((name) => name && spawnSync(name, ['--version']).status === 0);
-
 const PATIENCE = 20_000;
 
-/** Runs `use` with a tab of a new browser. */
+/** Runs `use` with a tab of a new browser: of $CHROMIUM, or chromium. */
 export async function withTab(use) {
   const profile = await mkdtemp(join(tmpdir(), 'imagesize-chromium-'));
   const sandbox = process.getuid() === 0 ? ['--no-sandbox'] : [];
-  const browser = spawn(program, [
+  const browser = spawn(process.env.CHROMIUM ?? 'chromium', [
     '--headless', ...sandbox, '--disable-gpu', '--disable-dev-shm-usage', '--no-first-run', '--no-proxy-server',
     `--user-data-dir=${profile}`, '--remote-debugging-pipe', 'about:blank',
   ], { stdio: ['ignore', 'ignore', 'ignore', 'pipe', 'pipe'] });

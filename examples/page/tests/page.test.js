@@ -9,7 +9,7 @@ import { join } from 'node:path';
 import { test } from 'node:test';
 import { fileURLToPath } from 'node:url';
 import { giveRange, jpegBehind, withServer, worked } from '../../../bindings/js/tests/support.js';
-import { program, withTab } from './chromium.js';
+import { withTab } from './chromium.js';
 
 const out = fileURLToPath(new URL('../../out/', import.meta.url));
 const serve = fileURLToPath(new URL('../serve', import.meta.url));
@@ -93,7 +93,7 @@ async function screenshot(tab, name, width, scheme) {
   writeFileSync(join(out, `page-${name}.png`), Buffer.from(data, 'base64'));
 }
 
-test('the page', { skip: program === undefined && 'there is no chromium' }, async (t) => {
+test('the page', async (t) => {
   await withPage(async (tab, folder, { origin }) => {
     const sized = worked.filter(({ line, spans }) => /\dx\d/.test(line) && spans !== '?');
     const ten = Array.from({ length: 10 }, (_, index) => sized[Math.floor((index * sized.length) / 10)]);
@@ -203,7 +203,7 @@ test('the page', { skip: program === undefined && 'there is no chromium' }, asyn
         const lines = await lookUp(tab, [...Object.keys(given).map((name) => `${url}?as=${name}`), 'http://']);
         assert.deepEqual(lines.map(({ answer }) => answer).slice(0, 3), [
           'Jpeg, 7 × 5 pixels',
-          'The server does not tell this origin, by Content-Range, which bytes of how many it gives',
+          'The server does not tell this origin, by Content-Range, which bytes it gives',
           'The server gives no answer, or none that this origin may read',
         ]);
         assert.match(lines[3].answer, /URL/);
