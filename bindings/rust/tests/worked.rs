@@ -154,3 +154,37 @@ fn refusals_have_the_kinds_of_the_crate() {
         assert_eq!(error.kind(), kind, "{wanted}");
     }
 }
+
+/// Numbers without a pattern, the same in each run.
+struct Numbers(u64);
+
+impl Numbers {
+    fn below(&mut self, limit: usize) -> usize {
+        self.0 ^= self.0 << 13;
+        self.0 ^= self.0 >> 7;
+        self.0 ^= self.0 << 17;
+        (self.0 % limit as u64) as usize
+    }
+}
+
+#[test]
+fn changed_inputs_of_many_blocks_have_the_answers_of_their_bytes() {
+    let mut numbers = Numbers(0x9E37_79B9_7F4A_7C15);
+    for (mut data, _) in rows().into_iter().filter(|row| !row.0.is_empty()) {
+        let length = data.len();
+        data.resize(length + 20_000, 0);
+        for _ in 0..50 {
+            // Near the front most bytes say something; large ones lead far away.
+            let place = numbers.below(length);
+            data[place] = numbers.below(256) as u8;
+            let front = &data[..length + numbers.below(20_000)];
+            let wanted = line(image_type(front), blob_size(front));
+            let cursor = || Cursor::new(front);
+            assert_eq!(
+                line(reader_type(cursor()), reader_size(cursor())),
+                wanted,
+                "{front:?}"
+            );
+        }
+    }
+}
