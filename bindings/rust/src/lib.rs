@@ -13,6 +13,8 @@
 //! whole of a large file. A walk over very many records is met with larger blocks; where it wants more after 64 MiB, the
 //! call is refused.
 
+#![warn(missing_docs)]
+
 mod compression;
 mod error;
 mod image_size;

@@ -154,3 +154,34 @@ fn refusals_have_the_kinds_of_the_crate() {
         assert_eq!(error.kind(), kind, "{wanted}");
     }
 }
+
+/// Numbers without a pattern, the same in each run.
+struct Numbers(u64);
+
+impl Numbers {
+    fn below(&mut self, limit: usize) -> usize {
+        self.0 ^= self.0 << 13;
+        self.0 ^= self.0 >> 7;
+        self.0 ^= self.0 << 17;
+        (self.0 % limit as u64) as usize
+    }
+}
+
+#[test]
+fn changed_inputs_of_many_blocks_have_the_answers_of_their_bytes() {
+    let mut numbers = Numbers(0x9E37_79B9_7F4A_7C15);
+    for (worked, _) in rows().into_iter().filter(|row| !row.0.is_empty()) {
+        for _ in 0..50 {
+            let mut data = worked.clone();
+            for _ in 0..1 + numbers.below(3) {
+                // A length that grows leads to another block.
+                let place = numbers.below(data.len());
+                data[place] = numbers.below(256) as u8;
+            }
+            data.resize(worked.len() + numbers.below(80_000), 0);
+            let wanted = line(image_type(&data), blob_size(&data));
+            let cursor = || Cursor::new(&data);
+            assert_eq!(line(reader_type(cursor()), reader_size(cursor())), wanted);
+        }
+    }
+}
