@@ -35,7 +35,7 @@ extern "C" {
 enum imagesize_status {
     IMAGESIZE_ANSWERED = 0, /* the call is answered */
     IMAGESIZE_NOT_SUPPORTED = 1, /* the bytes are of no type that is known */
-    IMAGESIZE_CORRUPTED_IMAGE = 2, /* the type is known, and its records end before one gives the size */
+    IMAGESIZE_CORRUPTED_IMAGE = 2, /* the type is known, and its records are malformed, or end before the size */
     IMAGESIZE_FAULT = 3, /* a reader failed; no call of this library answers it */
     IMAGESIZE_END_OF_INPUT = 4, /* the bytes end before some that the layout needs */
     IMAGESIZE_NOT_ENOUGH_DATA = 5, /* a HEIF property list holds no image size */
@@ -58,8 +58,8 @@ enum imagesize_status {
     IMAGESIZE_DATA_WINDOW_NOT_FOUND = 22, /* an EXR header ends before a data window */
     IMAGESIZE_INVALID_HDR_IDENTIFIER = 23, /* an HDR does not begin with its identifier */
     IMAGESIZE_INVALID_HDR_DIMENSIONS_LINE = 24, /* an HDR's line of sizes has not four words */
-    IMAGESIZE_HDR_DIMENSIONS_NOT_FOUND = 25, /* the sizes in an HDR's line are no numbers */
-    IMAGESIZE_PNM_DIMENSIONS_NOT_FOUND = 26, /* the words of a PNM's size are no numbers */
+    IMAGESIZE_HDR_DIMENSIONS_NOT_FOUND = 25, /* one of the sizes in an HDR's line is no number */
+    IMAGESIZE_PNM_DIMENSIONS_NOT_FOUND = 26, /* the width or the height of a PNM is no number */
     IMAGESIZE_BUFFER_TOO_SMALL = 27, /* the answer has more items than the buffer has room for */
     IMAGESIZE_UNKNOWN_TYPE = 28, /* no type has these numbers */
     IMAGESIZE_UNKNOWN_STATUS = 29, /* no status has this number */

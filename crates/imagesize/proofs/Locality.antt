@@ -2,7 +2,7 @@
 use Rattle.std.proofs.Common.{ℕ}
 use Rattle.imagesize.proofs.Detection.{kind_cost}
 use Rattle.imagesize.proofs.Ways.{laws_of}
-use Rattle.imagesize.specs.Counts.{lasts}
+use Rattle.imagesize.specs.Counts.{in_record, lasts, outside}
 use Rattle.imagesize.specs.Kind.{kind}
 use Rattle.imagesize.specs.Meaning.{kind_of, size_of, meaning, way_of}
 use Rattle.imagesize.specs.declared.types.ImageType.{ImageType}
@@ -16,7 +16,7 @@ pub local_kind : (place : ℕ) → Local (λ d. kind_of d place)
 local_kind place = local_length (λ n d. over d (kind n place)) (λ n. local_layout (kind n place))
 
 local_size : (type : ImageType) → Local (size_of type)
-local_size type = local_way (kind_cost type) (lasts type) (way_of type) (laws_of type)
+local_size type = local_way (kind_cost type) (outside type) (in_record type) (lasts type) (way_of type) (laws_of type)
 
 -- an input that agrees with another on its marks has the same type, the same size and the same marks
 pub local_meaning : (place : ℕ) → Local (λ d. meaning d place)

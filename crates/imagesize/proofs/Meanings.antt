@@ -3,6 +3,7 @@ use Rattle.std.proofs.Common.{◌≡◌, ℕ, ◌≤◌, Option, Some, None, Res
 use Rattle.std.specs.Result.{result_ok}
 use Rattle.imagesize.proofs.Counts.{cost_stated, cost_within, size_within}
 use Rattle.imagesize.proofs.Detection.{kind_within}
+use Rattle.imagesize.proofs.Short.{no_meaning}
 use Rattle.imagesize.specs.Counts.{cost}
 use Rattle.imagesize.specs.Meaning.{kind_of, meaning, size_of}
 use Rattle.imagesize.specs.Probed.{FindsKind, Probes}
@@ -74,13 +75,15 @@ probes_opened (Some t) mid count home opened a b probed start opens h finds took
     let takes = subst (λ n. TakesAs t (meaning t.bytes t.place) probed.answer n) (sym took)
     (opened_takes (Some t) mid count home opened b probed.answer meaning opens runs honest) in
     let most : probed.taken ≤ cost t.bytes t.place = takes.most in
+    let answers = opened_answers (Some t) mid count home opened b probed.answer meaning bounded_meaning opens runs honest in
     record {
-      answer = opened_answers (Some t) mid count home opened b probed.answer meaning bounded_meaning opens runs honest;
+      answer = answers;
       takes = takes;
       right = kinds.0;
       whole = kinds.1;
       stated = omega (arith, most, cost_stated t.bytes t.place);
       within = omega (arith, most, cost_within t.bytes t.place);
+      short = λ few goes_on. sym (answers.answer goes_on) ∙ no_meaning t.bytes t.place few;
     }
 
 bounded_size : (type : ImageType) → IsBounded (λ d place. size_of type d)

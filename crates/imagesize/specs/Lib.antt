@@ -6,4 +6,5 @@ pub mod Parted
 pub mod Probed
 pub mod Queries
 pub mod Ranks
+pub mod Short
 pub mod Traced

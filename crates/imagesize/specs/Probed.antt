@@ -3,6 +3,7 @@ use Rattle.std.specs.Prelude.{◌≡◌, ℕ, ◌+◌, ◌≤◌, true, false, l
 use Rattle.std.specs.Result.{result_ok}
 use Rattle.imagesize.specs.Counts.{stated}
 use Rattle.imagesize.specs.Meaning.{kind_of, meaning}
+use Rattle.imagesize.specs.Short.{EndsAs}
 use Rattle.imagesize_types.specs.declared.size.ImageSize.{ImageSize}
 use Rattle.imagesize.specs.declared.types.ImageType.{ImageType}
 use Rattle.imagesize.specs.declared.calls.Probed.{Probed}
@@ -18,7 +19,8 @@ pub record FindsKind (a : State) (place : ℕ) (found : Option ImageType) (r : R
   pub whole : a.held.honest ≡ true → stopped r ≡ false → found ≡ result_ok (kind_of a.held.input place).answer
 
 -- Over an honest reader the answer is that of the layouts or a failure, the type named beside it is right, and the
--- bytes taken are those of their readings, at most as many as are stated, and 64 more than the input has.
+-- bytes taken are those of their readings, at most as many as are stated, and 64 more than the input has. What is too short
+-- for a type ends there.
 pub record ProbesOf (t : Telling) (probed : Probed) : Type 0 where
   pub answer : AnswersAs t (over_reader t meaning) probed.answer
   pub takes : TakesAs t (over_reader t meaning) probed.answer probed.taken
@@ -26,6 +28,7 @@ pub record ProbesOf (t : Telling) (probed : Probed) : Type 0 where
   pub whole : stopped probed.answer ≡ false → probed.kind ≡ result_ok (over_reader t kind_of).answer
   pub stated : probed.taken ≤ stated t.bytes t.place
   pub within : probed.taken ≤ length t.bytes + 64
+  pub short : EndsAs t probed.answer
 
 abbrev pub Probes : Option Telling → Probed → Type 0
 Probes None probed = Unit {0}

@@ -1,14 +1,16 @@
 //! The calls: type and size of a slice's bytes, or of a reader's.
-ghost use Rattle.std.specs.Prelude.{◌≡◌, ℕ, ◌+◌, ◌≤◌, List, length, ◌++◌, IsTrue, IfOk, IfErr, IfSome, IsSome, Some, true, false, Option, Ok, option_map};
+ghost use Rattle.std.specs.Prelude.{◌≡◌, ℕ, ◌+◌, ◌<◌, ◌≤◌, List, length, ◌++◌, IsTrue, IfOk, IfErr, IfSome, IsSome, Some, true, false, Option, Ok, Err, option_map};
+ghost use Rattle.std.specs.Result.{result_ok};
 ghost use Rattle.imagesize_io.specs.Answers.{Answers, Counts};
-ghost use Rattle.imagesize_source.specs.Reading.{is_fault, is_memory, spent, stopped};
+ghost use Rattle.imagesize_source.specs.Reading.{end_of_input, is_fault, is_memory, spent, stopped};
 ghost use Rattle.imagesize_source.specs.State.{Runs};
 ghost use Rattle.imagesize_io.specs.ReaderState.{Opens};
 ghost use Rattle.imagesize_io.specs.Telling.{Telling};
 ghost use Rattle.imagesize_source.specs.Agreement.{Agrees};
-ghost use Rattle.imagesize.specs.Counts.{cost, lasts_as, stated};
+ghost use Rattle.imagesize.specs.Counts.{cost, lasts_as, most, stated};
 ghost use Rattle.imagesize.specs.Meaning.{kind_of, meaning, size_of};
 ghost use Rattle.imagesize.specs.Probed.{FindsKind, Probes, SpentAll};
+ghost use Rattle.imagesize.specs.Short.{Ends};
 
 use crate::formats::{detect, size};
 use crate::types::ImageType;
@@ -42,7 +44,11 @@ pub struct Probed {
 /// ```
 pub fn image_type(header: &[u8]) -> ImageResult<ImageType>
     ensures value { result ≡ (kind_of header.now 0).answer }
-    ensures local { (e : List ℕ) → Agrees header.now e (kind_of header.now 0).marks → kind_of e 0 ≡ kind_of header.now 0 }
+    ensures short { length header.now < 12 → result ≡ Err end_of_input }
+
+    // Another input of this length that agrees on the marks has the same type, at every place.
+    ensures local { (place : ℕ) (e : List ℕ) → Agrees header.now e (kind_of header.now place).marks
+        → kind_of e place ≡ kind_of header.now place }
 
     // A slice fails at no reading, has no budget and wants no memory.
     ensures unstopped { stopped result ≡ false }
@@ -63,16 +69,22 @@ pub fn image_type(header: &[u8]) -> ImageResult<ImageType>
 /// ```
 pub fn blob_size(data: &[u8]) -> ImageResult<ImageSize>
     ensures value { result ≡ (meaning «data».now 0).answer }
+    ensures short { length «data».now < 12 → result ≡ Err end_of_input }
 
-    // Another input of this length that agrees on the marks has the same size, and the same marks.
-    ensures local { (e : List ℕ) → Agrees «data».now e (meaning «data».now 0).marks → meaning e 0 ≡ meaning «data».now 0 }
+    // Another input of this length that agrees on the marks has the same size, and the same marks, at every place.
+    ensures local { (place : ℕ) (e : List ℕ) → Agrees «data».now e (meaning «data».now place).marks
+        → meaning e place ≡ meaning «data».now place }
 
-    // A refused type, and a size at fixed places, are read from at most 41 bytes; a size behind records from at
-    // most 64, and 20 for each record that is begun.
-    ensures stated { cost «data».now 0 ≤ stated «data».now 0 }
+    // At every place, a refused type and a size at fixed places are read from at most 41 bytes; a size behind records
+    // from at most 64, and 20 for each record that is begun.
+    ensures stated { (place : ℕ) → cost «data».now place ≤ stated «data».now place }
+
+    // Each format has its own count: what stands outside of its records, and so much for each that is begun, and of
+    // all formats but those at fixed places at most 28 bytes more than there are.
+    ensures most { (place : ℕ) → cost «data».now place ≤ most «data».now place }
 
     // Every size, and every refusal, is read from at most 64 bytes more than there are.
-    ensures within { cost «data».now 0 ≤ length «data».now + 64 }
+    ensures within { (place : ℕ) → cost «data».now place ≤ length «data».now + 64 }
 
     // Bytes that follow change no size, but those of HEIF, of icons and of TGA.
     ensures lasts { IsTrue (lasts_as (kind_of «data».now 0).answer) → IfOk result (λ size.
@@ -81,18 +93,34 @@ pub fn blob_size(data: &[u8]) -> ImageResult<ImageSize>
     // A slice fails at no reading, has no budget and wants no memory.
     ensures unstopped { stopped result ≡ false }
 {
-    probe_slice(data)
+    blob_probe(data).1
 }
 
-// The size that a slice's bytes mean.
-fn probe_slice(data: &[u8]) -> ImageResult<ImageSize>
-    ensures value { result ≡ (meaning «data».now 0).answer }
-    ensures unstopped { stopped result ≡ false }
+/// Type and size of the image that a slice's bytes hold, found at once. The type is told wherever one was found, also beside a
+/// size that is refused.
+///
+/// The errors are those of `blob_size`.
+///
+/// ```
+/// use imagesize::{ImageType, blob_probe};
+///
+/// let (kind, size) = blob_probe(b"GIF89a\x80\x02\xe0\x01\0\0");
+/// assert_eq!(kind, Some(ImageType::Gif));
+/// assert_eq!(size?.height, 480);
+/// ```
+#[inline(always)]
+pub fn blob_probe(data: &[u8]) -> (Option<ImageType>, ImageResult<ImageSize>)
+    ensures kind { result.0 ≡ result_ok (kind_of «data».now 0).answer }
+    ensures value { result.1 ≡ (meaning «data».now 0).answer }
+
+    // A slice fails at no reading, has no budget and wants no memory.
+    ensures unstopped { stopped result.1 ≡ false }
 {
-    probe(&mut SliceSource { bytes: data }, 0).1
+    probe(&mut SliceSource { bytes: data }, 0)
 }
 
 // The type at a place of a source, and the size by it.
+#[inline(always)]
 pub(crate) fn probe<S: Source>(
     source: &mut S,
     place: u64,
@@ -122,16 +150,14 @@ pub(crate) fn probe<S: Source>(
 /// ```
 pub fn reader_type<R: Told>(mut reader: R) -> ImageResult<ImageType>
     ensures answers { Answers (R.telling reader) kind_of result }
+    ensures short { Ends (R.telling reader) result }
     ensures memory { IfErr result (λ e. is_memory e ≡ false) }
 
     // The budget that is spent is the length that was told, and 64.
     ensures spent { IfErr result (λ e. IfSome (spent e) (λ budget. 64 ≤ budget)) }
 {
     let opened = open_at_place(&mut reader)?;
-    detect(
-        &mut ReaderSource::new(&mut reader, opened.told),
-        opened.place,
-    )
+    type_opened(&mut reader, opened)
 }
 
 /// The size in pixels of the image in a reader's bytes, of the type that the twelve bytes tell where it stands.
@@ -148,6 +174,7 @@ pub fn reader_type<R: Told>(mut reader: R) -> ImageResult<ImageType>
 /// ```
 pub fn reader_size<R: Told>(mut reader: R) -> ImageResult<ImageSize>
     ensures answers { Answers (R.telling reader) meaning result }
+    ensures short { Ends (R.telling reader) result }
     ensures memory { IfErr result (λ e. is_memory e ≡ false) }
 
     // The budget that is spent is the length that was told, and 64.
@@ -212,6 +239,18 @@ impl ImageType {
         let opened = open(reader)?;
         size_opened(*self, reader, opened)
     }
+}
+
+// The type of what a reader holds that was opened.
+#[inline(always)]
+fn type_opened<R: Told>(reader: &mut R, opened: Opened) -> ImageResult<ImageType>
+    ensures answers { (telling : Option Telling) → Opens telling (R.telling reader.old) (Ok opened)
+        → Answers telling kind_of result }
+    ensures short { (telling : Option Telling) → Opens telling (R.telling reader.old) (Ok opened) → Ends telling result }
+    ensures memory { IfErr result (λ e. is_memory e ≡ false) }
+    ensures spent { IfErr result (λ e. IfSome (spent e) (λ budget. 64 ≤ budget)) }
+{
+    detect(&mut ReaderSource::new(reader, opened.told), opened.place)
 }
 
 // The size of what a reader holds that was opened, read as this type.

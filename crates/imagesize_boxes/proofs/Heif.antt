@@ -548,7 +548,7 @@ heif_within d = omega (
 )
 
 -- the properties may go on in bytes that follow
-pub heif_laws : RecordedLaws 24 false 20 heif heif_boxes
+pub heif_laws : RecordedLaws 24 32 20 false heif heif_boxes
 heif_laws = record {
   local = heif_local;
   cost = λ d. omega (arith, heif_cost d);

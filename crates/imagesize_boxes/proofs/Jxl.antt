@@ -8,7 +8,7 @@ use Rattle.imagesize_source.specs.declared.span.Span.{Span}
 use Rattle.imagesize_source.specs.declared.util.Endian.TheVariants.{Big}
 use Rattle.imagesize_source.specs.Agreement.{Local}
 use Rattle.imagesize_source.specs.Chain.{Said, Decided, Next, Along, start, next_record, records_from, chain_from, chain_at}
-use Rattle.imagesize_source.specs.Counts.{AtMost}
+use Rattle.imagesize_source.specs.Counts.{AtMost, CostsBy}
 use Rattle.imagesize_source.specs.Input.{part, span_of}
 use Rattle.imagesize_source.specs.Layout.{over, there}
 use Rattle.imagesize_source.specs.Layout.Layout.{«done»}
@@ -18,6 +18,7 @@ use Rattle.imagesize_source.specs.State.{total}
 use Rattle.imagesize_source.proofs.Ahead.{Ahead, chain_ahead}
 use Rattle.imagesize_source.proofs.ChainLaws.{chain_induction, local_chain}
 use Rattle.imagesize_source.proofs.Chains.{chain_next, chain_stop, records_next, records_stop}
+use Rattle.imagesize_source.proofs.Costs.{bound_of, costs}
 use Rattle.imagesize_source.proofs.Counts.{at_most, at_most_more, then_within, total-span_of, total_behind}
 use Rattle.imagesize_source.proofs.Agreement.{local_layout, local_then}
 use Rattle.imagesize_source.proofs.Runs.{part_length, total-append}
@@ -84,6 +85,18 @@ start_few = (
       (done None) (λ _. (omega arith, λ more. tt)) (λ _. tt),
 )
 
+-- a codestream that stands alone is read from at most 16 bytes, and 2 tell that boxes stand
+abbrev start_bound : Option (List ℕ) → ℕ
+start_bound (Some front) = 16
+start_bound None = 2
+
+start_costs : CostsBy start_bound 16 0 jxl_start
+start_costs = (
+  omega arith,
+  λ front. on_test (CostsBy start_bound 16 2) (has_signature front) (there 2 14 (λ more. done (Some (front ++ more))))
+      (done None) (λ _ more. omega arith) (λ _. omega arith),
+)
+
 -- the codestream is read from at most 16 bytes more than the input has
 pub jxl_within : (d : List ℕ) → total (jxl d).marks ≤ length d + 16
 jxl_within d =
@@ -96,35 +109,40 @@ jxl_within d =
       by_start None boxes = omega arith
       by_start (Some front) boxes = omega arith
 
--- a box reads at most 36 bytes
-content_few : (held : List ℕ) (place : ℕ) (head : BoxHead) → AtMost 20 (box_content held place head)
+-- a box reads at most 32 bytes, and those that its piece may still have
+content_few : (held : List ℕ) (place : ℕ) (head : BoxHead) → AtMost (16 + (16 - length held)) (box_content held place head)
 content_few held place head =
-    by_content (AtMost 20) held place head
-    (by_piece (AtMost 20) (place + head.length) (min 16 (box_room head)) (λ front. done (Decided front)) (λ _. tt)
+    let k : ℕ = 16 + (16 - length held) in
+    by_content (AtMost k) held place head
+    (by_piece (AtMost k) (place + head.length) (min 16 (box_room head)) (λ front. done (Decided front)) (λ _. tt)
     (λ _. (omega arith, λ front. tt)))
     tt
     (λ _. (
       omega arith,
-      λ index. by_piece (AtMost 16) (place + (head.length + 4)) (min (box_room head - 4) (16 - length held))
+      λ index. by_piece (AtMost (k - 4)) (place + (head.length + 4)) (min (box_room head - 4) (16 - length held))
           (λ piece. done (partial_said held place head index piece))
           (λ _. tt) (λ _. (omega arith, λ piece. tt)),
     ))
     tt
 
-box_few : (held : List ℕ) (place : ℕ) → AtMost 36 (jxl_box held place)
+box_few : (held : List ℕ) (place : ℕ) → AtMost (32 + (16 - length held)) (jxl_box held place)
 unfolding box_head
-box_few held place = (
-  omega arith,
-  λ front. by_head (AtMost 28) place front (box_content held place) (
-    omega arith,
-    λ size. by_checked (AtMost 20) place (record { tag = drop 4 front; size = size; length = 16 })
-        (box_content held place) (λ e. tt) (λ _ _. content_few held place (record { tag = drop 4 front; size = size; length = 16 })),
-  )
-      (by_checked (AtMost 28) place (record { tag = drop 4 front; size = number Big (take 4 front); length = 8 })
-      (box_content held place) (λ e. tt)
-      (λ _ _. at_most_more 20 28 (box_content held place (record { tag = drop 4 front; size = number Big (take 4 front); length = 8 }))
-      (omega arith) (content_few held place (record { tag = drop 4 front; size = number Big (take 4 front); length = 8 })))),
-)
+box_few held place =
+    let k : ℕ = 16 + (16 - length held) in
+    let long : ℕ = 32 + (16 - length held) in
+    let content : (j : ℕ) (head : BoxHead) → k ≤ j → AtMost j (box_content held place head) =
+    λ j head fits. at_most_more k j (box_content held place head) fits (content_few held place head) in (
+      omega arith,
+      λ front. by_head (AtMost (long - 8)) place front (box_content held place) (
+        omega arith,
+        λ size. by_checked (AtMost (long - 8 - 8)) place (record { tag = drop 4 front; size = size; length = 16 })
+            (box_content held place) (λ e. tt)
+            (λ _ _. content (long - 8 - 8) (record { tag = drop 4 front; size = size; length = 16 }) (omega arith)),
+      )
+          (by_checked (AtMost (long - 8)) place (record { tag = drop 4 front; size = number Big (take 4 front); length = 8 })
+          (box_content held place) (λ e. tt)
+          (λ _ _. content (long - 8) (record { tag = drop 4 front; size = number Big (take 4 front); length = 8 }) (omega arith))),
+    )
 
 -- Behind u bytes: where it leads to a next box, it has read at most 20 bytes and its piece, for which there is room.
 Lean : ℕ → List ℕ → Reads (Said (List ℕ) (List ℕ)) → Type 0
@@ -194,11 +212,11 @@ module _ (d : List ℕ) where
       (box_content held place) (λ e piece next is. absurd cc)
       (λ _ _. content_lean 8 held place (record { tag = drop 4 front; size = number Big (take 4 front); length = 8 }) (omega arith))))
 
-  -- the pieces together have at most 16 bytes, and the last box reads at most 16 more
-  boxes_lean : (t : Along (List ℕ)) → total (chain_from jxl_chain d t).marks ≤ 20 * records_from jxl_chain d t + 16
+  -- the pieces together have at most 16 bytes, and the last box reads at most 12 more
+  boxes_lean : (t : Along (List ℕ)) → total (chain_from jxl_chain d t).marks ≤ 20 * records_from jxl_chain d t + 12
       + (16 - length (concat t.held))
   unfolding Lean
-  boxes_lean = chain_induction jxl_chain d (λ t. total (chain_from jxl_chain d t).marks ≤ 20 * records_from jxl_chain d t + 16
+  boxes_lean = chain_induction jxl_chain d (λ t. total (chain_from jxl_chain d t).marks ≤ 20 * records_from jxl_chain d t + 12
       + (16 - length (concat t.held))) (jxl_advances d)
       (λ t v place is later.
       let u : Along (List ℕ) = record { held = t.held ++ v ∷ []; place = place } in
@@ -216,25 +234,25 @@ module _ (d : List ℕ) where
       let all : total (chain_from jxl_chain d t).marks ≡ total (next_record jxl_chain d t).marks = ap (λ w. total w.marks)
       (chain_stop jxl_chain d t r is) in
       let one = records_stop jxl_chain d t r is in
-      let few = at_most d 36 (jxl_box (concat t.held) t.place) (box_few (concat t.held) t.place) in
+      let few = at_most d (32 + (16 - length (concat t.held))) (jxl_box (concat t.held) t.place) (box_few (concat t.held) t.place) in
       omega arith)
 
-  begun_within : (found : Result (Option (List ℕ)) ImageError) (spans : List Span) → total spans ≤ 16
-      → total (onward spans found (codestream d)).marks ≤ 48 + 20 * begun_behind d found
+  begun_within : (found : Result (Option (List ℕ)) ImageError) (spans : List Span) → total spans ≤ bound_of start_bound 16 found
+      → total (onward spans found (codestream d)).marks ≤ 30 + 20 * begun_behind d found
   begun_within (Ok None) spans few = let boxes = boxes_lean (start jxl_chain) in let all = total-append spans
       (chain_at jxl_chain d).marks in omega arith
   begun_within (Ok (Some front)) spans few = let all = total-append spans [] in omega arith
   begun_within (Err e) spans few = omega arith
 
 -- a box is read from at most 20 bytes and its piece
-pub jxl_cost : (d : List ℕ) → total (jxl d).marks ≤ 48 + 20 * jxl_boxes d
+pub jxl_cost : (d : List ℕ) → total (jxl d).marks ≤ 30 + 20 * jxl_boxes d
 jxl_cost d =
-    let found = begun_within d (over d jxl_start).answer (over d jxl_start).marks (at_most d 16 jxl_start start_few) in
-    let all = then_within (jxl_codestream d) (λ front. record { answer = jxl_size front; marks = [] }) (48 + 20 * jxl_boxes d) 0 found
+    let found = begun_within d (over d jxl_start).answer (over d jxl_start).marks (omega (arith, costs start_bound 16 0 d jxl_start start_costs)) in
+    let all = then_within (jxl_codestream d) (λ front. record { answer = jxl_size front; marks = [] }) (30 + 20 * jxl_boxes d) 0 found
     (λ front _. omega arith) in
     omega arith
 
-pub jxl_laws : RecordedLaws 12 true 20 jxl jxl_boxes
+pub jxl_laws : RecordedLaws 12 45 20 true jxl jxl_boxes
 jxl_laws = record {
   local = jxl_local;
   cost = λ d. omega (arith, jxl_cost d);

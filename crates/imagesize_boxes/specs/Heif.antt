@@ -85,7 +85,7 @@ unfoldable pub extents_size : List ℕ → ImageSize
 extents_size content = record { width = number Big (four_at 4 content); height = number Big (four_at 8 content) }
 
 -- The property at a place of the list, or its end. Extents and a rotation (ISO/IEC 23008-12, 6.5.10) are read
--- whatever their size is; any other box is passed where it is smaller than the bytes that are left.
+-- whatever size of 8 or more they have; any other box is passed where it is smaller than the bytes that are left.
 abbrev pub property_named : ℕ → ℕ → List ℕ → Layout (Option Property)
 property_named left place head =
     if nat_lt (box_size head) 8 then (if is_named (codes "mdat") head then done None else refuse CorruptedImage)

@@ -94,7 +94,7 @@ jxl_size front =
 unfoldable pub piece_at : ℕ → ℕ → Layout (List ℕ)
 piece_at place count = if count == 0 then done [] else there place count (λ piece. done piece)
 
--- a box ends within 64 bits, and not before its head does; an open one has the size 0
+-- a box ends at 2^64-1 at the latest, and not before its head does; an open one has the size 0
 abbrev pub box_checked : ℕ → BoxHead → Result BoxHead ImageError
 box_checked place head =
     if nat_lt (2 ^ 64 - 1) (place + head.size) then Err CorruptedImage
@@ -124,7 +124,7 @@ said_behind held place head piece = if head.size == 0 then Decided (held ++ piec
 abbrev pub codestream_box : ℕ → BoxHead → Layout (Said (List ℕ) (List ℕ))
 codestream_box place head = bind (piece_at (place + head.length) (min 16 (box_room head))) (λ front. done (Decided front))
 
--- what a piece says: it is the last wanted where it is the sixteenth byte's, or where the high bit of its index is set
+-- what a piece says: the walk ends where sixteen bytes are there with it, or where the high bit of its index is set
 abbrev pub partial_said : List ℕ → ℕ → BoxHead → List ℕ → List ℕ → Said (List ℕ) (List ℕ)
 partial_said held place head index piece = if length held + length piece == 16 || nat_le 0x80 (slice_index index 0) then Decided
     (held ++ piece) else said_behind held place head piece

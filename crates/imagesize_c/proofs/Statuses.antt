@@ -1,7 +1,6 @@
 -- What a status of a refusal is not.
 use Rattle.std.proofs.Common.{◌≡◌, false, Result, Ok, Err, refl, ◌∙◌}
-use Rattle.imagesize_c.specs.Parts.{is_wanted}
-use Rattle.imagesize_c.specs.Status.{is_stop_status, refusal_status, status_of}
+use Rattle.imagesize_c.specs.Status.{is_stop_status, is_wanted, refusal_status, status_of}
 use Rattle.imagesize_source.specs.Reading.{is_stop, stopped}
 use Rattle.imagesize_source.specs.declared.error.ImageError.{ImageError}
 use Rattle.imagesize_source.specs.declared.error.ImageError.TheVariants.{NotSupported, CorruptedImage, IoError}

@@ -1,6 +1,5 @@
 -- What the calls answer in numbers, and what they write where the caller lends room.
 pub mod Lends
 pub mod Numbers
-pub mod Parts
 pub mod Status
 pub mod Told

@@ -1,5 +1,5 @@
 -- The numbers of types and of compressions.
-use Rattle.std.specs.Prelude.{ℕ, List, [], ◌∷◌, ◌==◌, if◌then◌else◌, Option, None, Some, option_map}
+use Rattle.std.specs.Prelude.{ℕ, [], ◌∷◌, ◌==◌, if◌then◌else◌, Option, None, Some, option_map}
 use Rattle.imagesize.specs.declared.types.CompressionFamily.{CompressionFamily}
 use Rattle.imagesize.specs.declared.types.CompressionFamily.TheVariants as family
 use Rattle.imagesize.specs.declared.types.ImageType.{ImageType}

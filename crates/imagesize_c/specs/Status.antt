@@ -46,3 +46,10 @@ status_of (Err e) = refusal_status e
 -- the statuses of what stops a reader: its fault, its spent budget, and want of memory
 abbrev pub is_stop_status : ℕ → Bool
 is_stop_status status = (status == 3) || (status == 6) || (status == 7)
+
+-- the status of a call that is answered, and of one that wants another part of the input
+abbrev pub is_answered : ℕ → Bool
+is_answered status = status == 0
+
+abbrev pub is_wanted : ℕ → Bool
+is_wanted status = status == 30

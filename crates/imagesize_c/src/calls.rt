@@ -5,9 +5,9 @@ ghost use Rattle.imagesize.specs.Meaning.{kind_of, meaning};
 ghost use Rattle.imagesize_c.specs.Status.{is_stop_status, status_of};
 ghost use Rattle.imagesize_c.specs.Told.{TellsSize, TellsType};
 
-use crate::numbers::{compression_number, type_number};
 use crate::status::{ANSWERED, refusal_status};
-use imagesize::{blob_size, image_type};
+use crate::tell::{tell_size, tell_type};
+use imagesize::{blob_probe, blob_size, image_type};
 
 /// The type of the image whose first bytes these are, and its compression. Beside a refusal both stay as they are.
 #[unsafe(no_mangle)]
@@ -18,8 +18,7 @@ pub extern "C" fn imagesize_type(bytes: &[u8], number: &mut u32, compression: &m
 {
     match image_type(bytes) {
         Ok(image) => {
-            *number = type_number(image);
-            *compression = compression_number(image);
+            tell_type(Some(image), number, compression);
             ANSWERED
         }
         Err(error) => refusal_status(&error),
@@ -33,14 +32,7 @@ pub extern "C" fn imagesize_size(bytes: &[u8], width: &mut u64, height: &mut u64
     ensures unstopped { is_stop_status result ≡ false }
     ensures told { TellsSize (meaning bytes.now 0).answer width.old width.new height.old height.new }
 {
-    match blob_size(bytes) {
-        Ok(size) => {
-            *width = size.width as u64;
-            *height = size.height as u64;
-            ANSWERED
-        }
-        Err(error) => refusal_status(&error),
-    }
+    tell_size(blob_size(bytes), width, height)
 }
 
 /// Both at once. Where a type is found and its size is refused, the type is told beside the refusal, and width and height
@@ -58,6 +50,7 @@ pub extern "C" fn imagesize_probe(
     ensures kind { TellsType (result_ok (kind_of bytes.now 0).answer) number.old number.new compression.old compression.new }
     ensures size { TellsSize (meaning bytes.now 0).answer width.old width.new height.old height.new }
 {
-    imagesize_type(bytes, number, compression);
-    imagesize_size(bytes, width, height)
+    let (kind, answer) = blob_probe(bytes);
+    tell_type(kind, number, compression);
+    tell_size(answer, width, height)
 }

@@ -9,4 +9,5 @@ pub mod parts;
 pub mod queries;
 pub mod spans;
 mod status;
+mod tell;
 pub mod texts;

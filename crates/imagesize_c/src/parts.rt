@@ -1,17 +1,16 @@
 //! Type and size by the parts of an input that the caller has so far.
-ghost use Rattle.std.specs.Prelude.{◌≡◌, ℕ, ◌^◌, ◌<◌, List, Option, Some, None, true, false};
+ghost use Rattle.std.specs.Prelude.{◌≡◌, ℕ, ◌^◌, ◌<◌, List, true, false};
 ghost use Rattle.std.specs.Result.{result_ok};
 ghost use Rattle.imagesize.specs.Meaning.{kind_of, meaning};
 ghost use Rattle.imagesize.specs.Parted.{Cover, Fits, Says};
 ghost use Rattle.imagesize.specs.declared.parts.PartsAnswer.TheVariants.{Wanted};
-ghost use Rattle.imagesize_c.specs.Parts.{is_answered, is_wanted};
-ghost use Rattle.imagesize_c.specs.Status.{status_of};
+ghost use Rattle.imagesize_c.specs.Status.{is_answered, is_wanted, status_of};
 ghost use Rattle.imagesize_c.specs.Told.{TellsSize, TellsType};
 ghost use Rattle.imagesize_source.specs.Known.{HasParts};
 
-use crate::numbers::{compression_number, type_number};
-use crate::status::{ANSWERED, BYTES_WANTED, refusal_status};
-use imagesize::{ImageResult, ImageSize, ImageType, PartsAnswer, Span, parts_probe};
+use crate::status::BYTES_WANTED;
+use crate::tell::{tell_size, tell_type};
+use imagesize::{PartsAnswer, Span, parts_probe};
 
 /// Type and size of the image in an input of which these parts are known, or a part that it needs.
 #[unsafe(no_mangle)]
@@ -55,31 +54,5 @@ pub extern "C" fn imagesize_probe_parts(
             *wanted = span;
             BYTES_WANTED
         }
-    }
-}
-
-// Tells the numbers of a type, where one is known.
-fn tell_type(kind: Option<ImageType>, number: &mut u32, compression: &mut u32)
-    ensures { TellsType kind number.old number.new compression.old compression.new }
-{
-    if let Some(image) = kind {
-        *number = type_number(image);
-        *compression = compression_number(image);
-    }
-}
-
-// Tells a size, where there is one, and answers its status.
-fn tell_size(answer: ImageResult<ImageSize>, width: &mut u64, height: &mut u64) -> u32
-    ensures status { result ≡ status_of answer }
-    ensures told { TellsSize answer width.old width.new height.old height.new }
-    ensures sides { is_answered result ≡ false → (width.new ≡ width.old) × (height.new ≡ height.old) }
-{
-    match answer {
-        Ok(size) => {
-            *width = size.width as u64;
-            *height = size.height as u64;
-            ANSWERED
-        }
-        Err(error) => refusal_status(&error),
     }
 }

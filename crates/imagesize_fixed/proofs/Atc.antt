@@ -15,12 +15,12 @@ unfolding atc_compression
 atc_compression_laws = record { few = (omega arith, λ _. tt); answers = λ _. tt }
 
 -- with the compression, 40 bytes
-pub atc_laws : FixedLaws 20 atc
+pub atc_laws : FixedLaws 20 40 atc
 atc_laws = record {
   few = (
     omega arith,
-    λ tag. on_test (AtMost 17) (is_dds tag) dds _ (λ _. search rules)
-        (λ _. (omega arith, λ head. on_test (AtMost 9) (is_atc head) pkm pvr2 (λ _. search rules) (λ _. search rules))),
+    λ tag. on_test (AtMost 16) (is_dds tag) dds _ (λ _. search rules)
+        (λ _. (omega arith, λ head. on_test (AtMost 8) (is_atc head) pkm pvr2 (λ _. search rules) (λ _. search rules))),
   );
   plain = λ tag. on_test Plain (is_dds tag) dds _ (λ _. search rules)
       (λ _ head. on_test Plain (is_atc head) pkm pvr2 (λ _. search rules) (λ _. search rules));

@@ -3,5 +3,5 @@ use Rattle.std.proofs.Common.{rules}
 use Rattle.imagesize_fixed.specs.Bmp.{bmp}
 use Rattle.imagesize_source.proofs.Way.{FixedLaws}
 
-pub bmp_laws : FixedLaws 12 bmp
+pub bmp_laws : FixedLaws 12 41 bmp
 bmp_laws = record { few = search rules; plain = search rules }

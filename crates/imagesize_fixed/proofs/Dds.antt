@@ -19,5 +19,5 @@ pub dds_compression_laws : CompressionLaws 8 dds_compression
 unfolding dds_compression
 dds_compression_laws = record { few = (omega arith, λ bs. (by_code (whole 4 bs)).few); answers = λ bs. (by_code (whole 4 bs)).answers }
 
-pub dds_laws : FixedLaws 20 dds
+pub dds_laws : FixedLaws 20 28 dds
 dds_laws = record { few = search rules; plain = search rules }

@@ -8,5 +8,5 @@ pub pkm_compression_laws : CompressionLaws 2 pkm_compression
 unfolding pkm_compression
 pkm_compression_laws = record { few = (omega arith, λ _. tt); answers = λ _. tt }
 
-pub pkm_laws : FixedLaws 14 pkm
+pub pkm_laws : FixedLaws 14 41 pkm
 pkm_laws = record { few = search rules; plain = search rules }

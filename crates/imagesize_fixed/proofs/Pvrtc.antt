@@ -18,11 +18,11 @@ pub pvrtc_compression_laws : CompressionLaws 12 pvrtc_compression
 unfolding pvrtc_compression
 pvrtc_compression_laws = record { few = (omega arith, λ bs. (by_tag (whole 4 bs)).few); answers = λ bs. (by_tag (whole 4 bs)).answers }
 
-pub pvrtc_laws : FixedLaws 24 pvrtc
+pub pvrtc_laws : FixedLaws 24 36 pvrtc
 pvrtc_laws = record {
   few = (
     omega arith,
-    λ tag. on_test (AtMost 13) (is_pvr3 tag) pvr3 pvr2 (λ _. (omega arith, λ _. (omega arith, λ _. tt)))
+    λ tag. on_test (AtMost 8) (is_pvr3 tag) pvr3 pvr2 (λ _. (omega arith, λ _. (omega arith, λ _. tt)))
         (λ _. (omega arith, λ _. (omega arith, λ _. tt))),
   );
   plain = λ tag. on_test Plain (is_pvr3 tag) pvr3 pvr2 (λ _ _ _. tt) (λ _ _ _. tt);

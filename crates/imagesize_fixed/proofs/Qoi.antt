@@ -3,5 +3,5 @@ use Rattle.std.proofs.Common.{rules}
 use Rattle.imagesize_fixed.specs.Qoi.{qoi}
 use Rattle.imagesize_source.proofs.Way.{FixedLaws}
 
-pub qoi_laws : FixedLaws 12 qoi
+pub qoi_laws : FixedLaws 12 41 qoi
 qoi_laws = record { few = search rules; plain = search rules }

@@ -27,5 +27,5 @@ is_tga_few n head =
     ))
     (λ _. tt)
 
-pub tga_laws : FixedLaws 37 tga
+pub tga_laws : FixedLaws 37 41 tga
 tga_laws = record { few = search rules; plain = search rules }

@@ -19,7 +19,7 @@ by_form P letter lossy lossless extended none =
     (λ _. on_test P (eqb letter 0x4C) lossless_webp _ (λ _. lossless)
     (λ _. on_test P (eqb letter 0x58) extended_webp _ (λ _. extended) (λ _. none)))
 
-pub webp_laws : FixedLaws 12 webp
+pub webp_laws : FixedLaws 12 41 webp
 webp_laws = record {
   few = (
     omega arith,

@@ -82,10 +82,10 @@ error_at p halt = error_by (fault_of p.fault) p.budget halt
 abbrev pub named : {X : Type 0} → Progress → Result X Halt → Result X ImageError
 named p r = with_error (fault_of p.fault) p.budget r
 
--- the bytes that a read gave, or the error that it left
-abbrev pub given_or : Error → Option ℕ → Result ℕ ImageError
-given_or e (Some n) = Ok n
-given_or e None = Err (fault_of e)
+-- the bytes that a read gave, or the error that is kept
+abbrev pub given_or : Error → Result ℕ Halt → Result ℕ ImageError
+given_or e (Ok n) = Ok n
+given_or e (Err halt) = Err (fault_of e)
 
 -- by how much a count is above a number, and below it
 abbrev pub since : Option ℕ → ℕ → Option (ℕ × ℕ)

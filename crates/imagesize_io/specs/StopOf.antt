@@ -1,5 +1,5 @@
 -- Which stop stands for an error, and with which error a stop ends a call.
-use Rattle.std.specs.Prelude.{ℕ, nat_lt, if◌then◌else◌, Option, None, Some}
+use Rattle.std.specs.Prelude.{ℕ, nat_lt, if◌then◌else◌, Option, None, Some, Result, Ok, Err}
 use Rattle.std.specs.declared.io.Error.{Error}
 use Rattle.std.specs.declared.io.ErrorKind.{ErrorKind}
 use Rattle.std.specs.declared.io.ErrorKind.TheVariants.{Interrupted as InterruptedKind}
@@ -7,6 +7,8 @@ use Rattle.std.specs.IoError.{error_kind}
 use Rattle.imagesize_source.specs.declared.error.ImageError.{ImageError}
 use Rattle.imagesize_source.specs.declared.error.ImageError.TheVariants.{IoError}
 use Rattle.imagesize_source.specs.declared.error.Reason.TheVariants.{Fault as FaultReason}
+use Rattle.imagesize_source.specs.declared.halt.Halt.{Halt}
+use Rattle.imagesize_source.specs.declared.halt.Halt.TheVariants.{Failed}
 use Rattle.imagesize_io.specs.declared.told.Stop.{Stop}
 use Rattle.imagesize_io.specs.declared.told.Stop.TheVariants.{Interrupted, Fault}
 
@@ -26,3 +28,13 @@ fault_of e = IoError (FaultReason e)
 abbrev pub ending_of : Stop → ℕ → Option Error
 ending_of (Fault e) tries = Some e
 ending_of (Interrupted e) tries = if nat_lt tries 64 then None else Some e
+
+-- the error that is kept after a call: its own where it failed, else the one before
+abbrev pub fault_after : {X : Type 0} → Error → Result X Error → Error
+fault_after before (Ok x) = before
+fault_after before (Err e) = e
+
+-- a call that failed halts the reading, and no other does
+abbrev pub halted : {X : Type 0} → Result X Error → Result X Halt
+halted (Ok x) = Ok x
+halted (Err e) = Err Failed

@@ -11,8 +11,8 @@ ghost use Rattle.imagesize_io.specs.Telling.{ReadTells, SeekTells, counted};
 use crate::{Stop, Told};
 use std::io::{self, BufRead, BufReader, Read, Seek, SeekFrom};
 
-/// A buffered reader that keeps the place where it stands. A move to a place ahead in its buffer makes no call of
-/// the reader below, and any other move makes one.
+/// A buffered reader that keeps the place where it stands. A move to a place in its buffer makes no call of the
+/// reader below, and any other move makes one.
 ///
 /// It tells nothing of what it reads from. Its reads and seeks give what those of `BufReader` give. What the reader
 /// below is moved by from elsewhere is not seen.

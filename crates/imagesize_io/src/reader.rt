@@ -1,11 +1,11 @@
 //! A reader as a source.
-ghost use Rattle.std.specs.Prelude.{◌≡◌, ℕ, max, ◌+◌, ◌-◌, ◌^◌, ◌<◌, ◌≤◌, ◌≢◌, min, take, length, IfOk, IfErr, OnOk, OnSome, IfSome, true, false};
+ghost use Rattle.std.specs.Prelude.{◌≡◌, ℕ, max, ◌+◌, ◌-◌, ◌^◌, ◌<◌, ◌≤◌, ◌≢◌, min, take, length, IfOk, IfErr, OnOk, IfSome, true, false};
 ghost use Rattle.imagesize_source.specs.Reading.{is_fault, is_memory, seen, part_read};
 ghost use Rattle.imagesize_io.specs.ReaderState.{held_at, reader_state, start_state, Opens};
 ghost use Rattle.imagesize_source.specs.State.{Runs};
 ghost use Rattle.imagesize_io.specs.Telling.{counted, given, SeekTells};
 ghost use Rattle.imagesize_io.specs.Standing.{Standing, steady, stand, GivesSome, GivesAll, StopsBy, Keeps, Tries, since, error_at, named, given_or, GoesTo, ReadsFrom};
-ghost use Rattle.imagesize_io.specs.StopOf.{ending_of, fault_of};
+ghost use Rattle.imagesize_io.specs.StopOf.{ending_of, fault_after, fault_of, halted};
 
 mod text;
 
@@ -152,30 +152,43 @@ fn ending(stop: Stop, tries: u64) -> Option<io::Error>
     }
 }
 
-// One read, tried again where it is interrupted; or none, and the error of the read that failed.
+// What a call of the reader answered. The error of one that failed is kept, and halts the reading.
+#[inline(always)]
+fn kept<T>(answer: Result<T, io::Error>, fault: &mut io::Error) -> Result<T, Halt>
+    ensures fault { fault.new ≡ fault_after fault.old answer }
+    ensures halt { result ≡ halted answer }
+{
+    match answer {
+        Ok(value) => Ok(value),
+        Err(error) => {
+            *fault = error;
+            Err(Halt::Failed)
+        }
+    }
+}
+
+// One read, tried again where it is interrupted.
 #[inline(always)]
 fn read_retrying<R: Told>(
     reader: &mut R,
     retries: &mut u64,
     fault: &mut io::Error,
     room: &mut [u8],
-) -> Option<usize>
-    ensures bound { IfSome result (λ n. n ≤ length room.new) }
+) -> Result<usize, Halt>
+    ensures bound { IfOk result (λ n. n ≤ length room.new) }
     ensures steady { GivesSome (steady (R.telling reader.old) retries.old) (steady (R.telling reader.new) retries.new)
         room.new (given_or fault.new result) }
-    ensures counts { R.count reader.new ≡ counted (R.count reader.old) (given_or fault.new result) }
+    ensures counts { R.count reader.new ≡ counted (R.count reader.old) result }
     ensures tried { retries.old ≤ retries.new }
     ensures limit { retries.old ≤ 64 → retries.new ≤ 64 }
-    ensures tries { OnSome result (Tries (R.telling reader.old) retries.old (R.telling reader.new) retries.new) }
+    ensures tries { OnOk result (Tries (R.telling reader.old) retries.old (R.telling reader.new) retries.new) }
+    ensures failed { IfErr result (λ halt. halt ≡ Halt.Failed) }
 {
     loop {
         match reader.read_told(room) {
-            Ok(count) => return Some(count),
+            Ok(count) => return Ok(count),
             Err(stop) => match ending(stop, *retries) {
-                Some(error) => {
-                    *fault = error;
-                    return None;
-                }
+                Some(error) => return kept(Err(error), fault),
                 None => *retries += 1,
             },
         }
@@ -202,9 +215,7 @@ fn read_counted<R: Told>(
     ensures keeps { Keeps progress.old progress.new }
     ensures failed { IfErr result (λ halt. halt ≡ Halt.Failed) }
 {
-    let Some(count) = read_retrying(reader, &mut progress.retries, &mut progress.fault, room) else {
-        return Err(Halt::Failed);
-    };
+    let count = read_retrying(reader, &mut progress.retries, &mut progress.fault, room)?;
     // Most reads fill the room, whose length the compiler knows.
     if count == room.len() {
         progress.taken += room.len() as u64;
@@ -350,10 +361,7 @@ fn go_to<R: Told>(reader: &mut R, progress: &mut Progress, place: u64) -> Result
     if place > progress.told {
         return Ok(false);
     }
-    if let Err(error) = reader.seek_told(SeekFrom::Start(place)) {
-        progress.fault = error;
-        return Err(Halt::Failed);
-    }
+    kept(reader.seek_told(SeekFrom::Start(place)), &mut progress.fault)?;
     progress.place = place;
     Ok(true)
 }

@@ -67,11 +67,9 @@ WritesLine None name old new sized = Unit {0}
 WritesLine (Some files) name old new sized =
     IfSome (line_behind name (files name)) (Appends old new) × (sized ≡ is_sized (files name))
 
--- the same of the lines of names, of which was answered whether one was refused
-abbrev pub WritesLines : Option Files → List (List ℕ) → Option (List ℕ) → Option (List ℕ) → Bool → Type 0
-WritesLines None names old new refused = Unit {0}
-WritesLines (Some files) names old new refused =
-    IfSome (lines_of files names) (Appends old new) × (refused ≡ is_any_refused files names)
+-- the same of the lines of names, of which was answered whether one was refused: all of them, where each has one
+abbrev pub WritesLines : Files → List (List ℕ) → Option (List ℕ) → Option (List ℕ) → Bool → Type 0
+WritesLines files names old new refused = IfSome (lines_of files names) (Appends old new) × (refused ≡ is_any_refused files names)
 
 -- how many bytes a file may have whose spans are shown
 abbrev pub whole_length : ℕ
@@ -108,21 +106,18 @@ abbrev pub WritesSpans : Option Files → List ℕ → Option (List ℕ) → Opt
 WritesSpans None name old new sized = Unit {0}
 WritesSpans (Some files) name old new sized = SpansBehind name (files name) old new sized
 
--- the lines of each name are written and sent on, in their order; and whether one was refused
-abbrev pub WritesEach : Option Files → List (List ℕ) → Option (List ℕ) → Option (List ℕ) → Bool → Type 0
-WritesEach known [] old new refused = (new ≡ old) × (refused ≡ false)
-WritesEach known (name ∷ names) old new refused = (mid sent : Option (List ℕ)) × (sized others : Bool) ×
-    WritesSpans known name old mid sized × Keeps mid sent × WritesEach known names sent new others × (refused ≡ (not sized || others))
-
 -- the lines of a name: with the option those of its spans too
 abbrev pub WritesOne : Bool → Option Files → List ℕ → Option (List ℕ) → Option (List ℕ) → Bool → Type 0
 WritesOne false known = WritesLine known
 WritesOne true known = WritesSpans known
 
--- the same of the lines of names, of which was answered whether one was refused
-abbrev pub WritesAll : Bool → Option Files → List (List ℕ) → Option (List ℕ) → Option (List ℕ) → Bool → Type 0
-WritesAll false known = WritesLines known
-WritesAll true known = WritesEach known
+-- What is written of each name is sent on before the next, in their order; and whether one was refused. What is
+-- written of a name is a relation of the name, of what the writer held and holds, and of whether it was sized.
+abbrev pub WritesEach : (List ℕ → Option (List ℕ) → Option (List ℕ) → Bool → Type 0) → List (List ℕ) → Option (List ℕ) →
+    Option (List ℕ) → Bool → Type 0
+WritesEach writes [] old new refused = (new ≡ old) × (refused ≡ false)
+WritesEach writes (name ∷ names) old new refused = (mid sent : Option (List ℕ)) × (sized others : Bool) ×
+    writes name old mid sized × Keeps mid sent × WritesEach writes names sent new others × (refused ≡ (not sized || others))
 
 -- the option is known as the first argument alone
 abbrev pub wants_spans : List (List ℕ) → Bool
@@ -137,7 +132,7 @@ names_in (first ∷ names) = if bytes_eq first (codes "--spans") then names else
 -- what the program does with its arguments: the lines of the names, and the status behind them
 pub record RunsWith (known : Option Files) (arguments : List (List ℕ)) (old new : Option (List ℕ)) (status : ℕ) : Type 0 where
   pub refused : Bool
-  pub lines : WritesAll (wants_spans arguments) known (names_in arguments) old new refused
+  pub lines : WritesEach (WritesOne (wants_spans arguments) known) (names_in arguments) old new refused
   pub ends : status ≡ status_of (length (names_in arguments)) refused
 
 -- what the program ends with, by what the writing of the lines did

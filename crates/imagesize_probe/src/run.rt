@@ -4,7 +4,7 @@ ghost use Rattle.std.specs.Io.KnownBytes.{Appends};
 ghost use Rattle.imagesize_probe.specs.Line.{refused_line};
 ghost use Rattle.std.specs.String.{string_bytes};
 ghost use Rattle.imagesize_source.specs.declared.error.ImageError.{ImageError};
-ghost use Rattle.imagesize_probe.specs.Run.{Loads, LoadsNone, OpensTo, ReportsWhole, RunsWith, WritesAll, WritesLine, WritesOne, WritesSpans, exit_code, names_in, wants_spans};
+ghost use Rattle.imagesize_probe.specs.Run.{Loads, LoadsNone, OpensTo, ReportsWhole, RunsWith, WritesEach, WritesLine, WritesOne, WritesSpans, exit_code, names_in, wants_spans};
 
 use crate::report::{report, report_spans, status, write_refusal};
 use imagesize::{ImageResult, Told};
@@ -82,7 +82,7 @@ fn write_lines<O: Open, W: Write>(
     output: &mut W,
 ) -> io::Result<bool>
     ensures lines { IfOk result
-        (WritesAll spans (O.known opener.old) (map string_bytes names.now) (W.contents output.old) (W.contents output.new)) }
+        (WritesEach (WritesOne spans (O.known opener.old)) (map string_bytes names.now) (W.contents output.old) (W.contents output.new)) }
     ensures none { length names.now ≡ 0 → IsOk result }
 {
     let mut refused = false;

@@ -126,3 +126,23 @@ fn an_io_error_becomes_a_fault(rt: HostRuntime) {
     };
     assert!(rt; is_fault);
 }
+
+#[test]
+fn refusals_are_shown_by_their_names(rt: HostRuntime) -> Result<(), Fail> {
+    for (refusal, shown) in [
+        (ImageError::NotSupported, "NotSupported"),
+        (ImageError::CorruptedImage, "CorruptedImage"),
+        (
+            ImageError::IoError(Reason::EndOfInput),
+            "IoError(EndOfInput)",
+        ),
+        (
+            ImageError::IoError(Reason::NoDelimiter { max_size: 256 }),
+            "IoError(NoDelimiter { max_size: 256 })",
+        ),
+    ] {
+        let text = format!(in rt.alloc(); "{refusal:?}")?;
+        assert_eq!(rt; text.as_str(), shown);
+    }
+    Ok(())
+}

@@ -100,32 +100,32 @@ pub covered_known : (d : List ℕ) (spans : List Span) (bytes : List ℕ) (place
 covered_known d [] bytes place parts below is = absurd cc
 covered_known d (s ∷ spans) bytes place parts below is = by_test (reaches (length d) s place) refl
     (λ rest. covered_known d spans (drop (within (length d) s) bytes) place rest below) where
-  first : List ℕ
-  first = part d s.start s.len
+      first : List ℕ
+      first = part d s.start s.len
 
-  not_first : reaches (length d) s place ≡ false → has_place s place ≡ false
-  not_first misses = grind (arith, nat_tests)
+      not_first : reaches (length d) s place ≡ false → has_place s place ≡ false
+      not_first misses = grind (arith, nat_tests)
 
-  later : (test : Bool) → has_place s place ≡ test → test ≡ false → test || covered spans place ≡ true → covered spans place ≡ true
-  later true has misses is = absurd cc
-  later false has misses is = is
+      later : (test : Bool) → has_place s place ≡ test → test ≡ false → test || covered spans place ≡ true → covered spans place ≡ true
+      later true has misses is = absurd cc
+      later false has misses is = is
 
-  by_test : (test : Bool) → reaches (length d) s place ≡ test
-      → (bytes_of d spans ≡ drop (within (length d) s) bytes → covered spans place ≡ true
-      → is_some (known (length d) spans (drop (within (length d) s) bytes) place) ≡ true)
-      → is_some (cond test (byte_of bytes (place - s.start)) (known (length d) spans (drop (within (length d) s) bytes) place)) ≡ true
-  by_test true has on =
-      let at = offset (length d) s place has in
-      let long : length bytes ≡ length first + length (bytes_of d spans) = ap length (sym parts) ∙ length-append first (bytes_of d spans) in
-      let there : leb (suc (place - s.start)) (length bytes) ≡ true =
-      (let below : place - s.start < length bytes = omega (arith, at.1, long, part_length d s.start s.len) in grind (arith, nat_tests)) in
-      ap (λ (test : Bool). is_some (cond test (Some (get_or bytes (place - s.start) 0)) None)) there
-  by_test false has on =
-      let rest : bytes_of d spans ≡ drop (within (length d) s) bytes =
-      sym (drop-append_seam first (bytes_of d spans)) ∙ ap (λ k. drop k (first ++ bytes_of d spans)) (part_length d s.start s.len)
-      ∙ ap (drop (within (length d) s)) parts in
-      on rest
-      (later (has_place s place) refl (not_first has) is)
+      by_test : (test : Bool) → reaches (length d) s place ≡ test
+          → (bytes_of d spans ≡ drop (within (length d) s) bytes → covered spans place ≡ true
+          → is_some (known (length d) spans (drop (within (length d) s) bytes) place) ≡ true)
+          → is_some (cond test (byte_of bytes (place - s.start)) (known (length d) spans (drop (within (length d) s) bytes) place)) ≡ true
+      by_test true has on =
+          let at = offset (length d) s place has in
+          let long : length bytes ≡ length first + length (bytes_of d spans) = ap length (sym parts) ∙ length-append first (bytes_of d spans) in
+          let there : leb (suc (place - s.start)) (length bytes) ≡ true =
+          (let below : place - s.start < length bytes = omega (arith, at.1, long, part_length d s.start s.len) in grind (arith, nat_tests)) in
+          ap (λ (test : Bool). is_some (cond test (Some (get_or bytes (place - s.start) 0)) None)) there
+      by_test false has on =
+          let rest : bytes_of d spans ≡ drop (within (length d) s) bytes =
+          sym (drop-append_seam first (bytes_of d spans)) ∙ ap (λ k. drop k (first ++ bytes_of d spans)) (part_length d s.start s.len)
+          ∙ ap (drop (within (length d) s)) parts in
+          on rest
+          (later (has_place s place) refl (not_first has) is)
 
 some_of : (o : Option ℕ) → is_some o ≡ true → (b : ℕ) × (o ≡ Some b)
 some_of None is = absurd cc
@@ -329,8 +329,12 @@ module _ (n : ℕ) (spans : List Span) (bytes : List ℕ) (log : List Span) (mis
       let more : 0 < length (drop found (part d place wanted)) =
       omega (arith, length-drop found (part d place wanted), part_long place k wanted long, short) in
       let behind : found < length (text_front t (part d place k)) =
-      omega (arith, goes_behind t bs (drop found (part d place wanted)) still more, long_bs,
-      ap (λ xs. length (text_front t xs)) (whole_text place k wanted found long fits)) in
+      omega (
+        arith,
+        goes_behind t bs (drop found (part d place wanted)) still more,
+        long_bs,
+        ap (λ xs. length (text_front t xs)) (whole_text place k wanted found long fits),
+      ) in
       let m : ℕ = length (text_front t (part d place k)) in
       fails (text_read d t place k) b f w (span_at place found) (range_with_len (place + found + 1) (m - found - 1)) after
       (places-span place m ∙ range_split place m found behind

@@ -165,7 +165,6 @@ unfolding past
 past-held a [] = refl
 past-held a (x ∷ s) = past-held (step a x) s
 
-
 past_honest : {X : Type 0} {a m : State} {x : X} {r : Reads X} → Runs a m (Ok x) r → a.held.honest ≡ true → m.held ≡ a.held
 past_honest {X} {a} {m} {x} {r} h honest = ap (λ s. s.held) (h.state honest refl) ∙ past-held a r.marks
 

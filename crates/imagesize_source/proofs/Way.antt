@@ -6,7 +6,7 @@ use Rattle.imagesize_source.specs.Extension.{Plain}
 use Rattle.imagesize_source.specs.Layout.{Layout}
 use Rattle.imagesize_source.specs.Reading.{Reads}
 use Rattle.imagesize_source.specs.State.{total}
-use Rattle.imagesize_source.specs.Way.{Way, Fixed, Recorded, Texts, by_way, stated_by}
+use Rattle.imagesize_source.specs.Way.{Way, Fixed, Recorded, Texts, by_way, most_by}
 use Rattle.imagesize_source.proofs.Counts.{at_most}
 use Rattle.imagesize_source.proofs.Agreement.{local_layout}
 use Rattle.imagesize_source.proofs.Extension.{more_answer}
@@ -15,51 +15,47 @@ use Rattle.imagesize_source.proofs.Extension.{more_answer}
 abbrev pub AnswersLast : {X : Type 0} → (List ℕ → Reads X) → Type 0
 AnswersLast {X} reads = (d x : List ℕ) (v : X) → (reads d).answer ≡ Ok v → (reads (d ++ x)).answer ≡ Ok v
 
--- Of a format at fixed places, whose type is read from at most this many bytes: both together are at most 41.
-pub record FixedLaws {X : Type 0} (first : ℕ) (layout : Layout X) : Type 0 where
-  pub few : AtMost (41 - first) layout
+-- Of a format at fixed places, whose type is read from at most `first` bytes: both together are at most `outside`.
+pub record FixedLaws {X : Type 0} (first outside : ℕ) (layout : Layout X) : Type 0 where
+  pub few : AtMost (outside - first) layout
   pub plain : Plain layout
 
--- Of a format of records; `keeps` says whether bytes that follow leave its answer.
-pub record RecordedLaws {X : Type 0} (first : ℕ) (keeps : Bool) (each : ℕ) (reads : List ℕ → Reads X) (begun : List ℕ → ℕ) : Type 0 where
+-- Of a format of records, `outside` of which so much is read with the type, and at most `each` of a record; `keeps`
+-- says whether bytes that follow leave its answer.
+pub record RecordedLaws {X : Type 0} (first outside each : ℕ) (keeps : Bool) (reads : List ℕ → Reads X) (begun : List ℕ → ℕ) : Type 0 where
   pub local : Local reads
-  pub cost : (d : List ℕ) → first + total (reads d).marks ≤ 64 + each * begun d
-  pub within : (d : List ℕ) → total (reads d).marks ≤ length d + 20
+  pub cost : (d : List ℕ) → first + total (reads d).marks ≤ outside + each * begun d
+  pub within : (d : List ℕ) → first + total (reads d).marks ≤ length d + 28
   pub lasts : keeps ≡ true → AnswersLast reads
 
 -- Of a format of texts.
-pub record TextsLaws {X : Type 0} (keeps : Bool) (reads : List ℕ → Reads X) : Type 0 where
+pub record TextsLaws {X : Type 0} (first : ℕ) (keeps : Bool) (reads : List ℕ → Reads X) : Type 0 where
   pub local : Local reads
-  pub within : (d : List ℕ) → total (reads d).marks ≤ length d + 20
+  pub within : (d : List ℕ) → first + total (reads d).marks ≤ length d + 28
   pub lasts : keeps ≡ true → AnswersLast reads
 
-abbrev pub Laws : {X : Type 0} → ℕ → Bool → Way X → Type 0
-Laws first keeps (Fixed layout) = FixedLaws first layout
-Laws first keeps (Recorded each reads begun) = RecordedLaws first keeps each reads begun
-Laws first keeps (Texts reads) = TextsLaws keeps reads
+abbrev pub Laws : {X : Type 0} → ℕ → ℕ → ℕ → Bool → Way X → Type 0
+Laws first outside each keeps (Fixed layout) = FixedLaws first outside layout
+Laws first outside each keeps (Recorded _ reads begun) = RecordedLaws first outside each keeps reads begun
+Laws first outside each keeps (Texts reads) = TextsLaws first keeps reads
 
 -- an input that agrees on the marks has the same answer and the same marks
-pub local_way : {X : Type 0} (first : ℕ) (keeps : Bool) (way : Way X) → Laws first keeps way → Local (by_way way)
-local_way first keeps (Fixed layout) laws = local_layout layout
-local_way first keeps (Recorded each reads begun) laws = laws.local
-local_way first keeps (Texts reads) laws = laws.local
+pub local_way : {X : Type 0} (first outside each : ℕ) (keeps : Bool) (way : Way X) → Laws first outside each keeps way
+    → Local (by_way way)
+local_way first outside each keeps (Fixed layout) laws = local_layout layout
+local_way first outside each keeps (Recorded _ reads begun) laws = laws.local
+local_way first outside each keeps (Texts reads) laws = laws.local
 
--- with its type, an answer is read from at most the bytes that are stated
-pub cost_way : {X : Type 0} (first : ℕ) (keeps : Bool) (way : Way X) → first ≤ 37 → Laws first keeps way → (d : List ℕ)
-    → first + total (by_way way d).marks ≤ stated_by way d
-cost_way first keeps (Fixed layout) few laws d = omega (arith, at_most d (41 - first) layout laws.few)
-cost_way first keeps (Recorded each reads begun) few laws d = laws.cost d
-cost_way first keeps (Texts reads) few laws d = omega (arith, laws.within d)
-
--- and from at most 57 more than the input has
-pub within_way : {X : Type 0} (first : ℕ) (keeps : Bool) (way : Way X) → first ≤ 37 → Laws first keeps way → (d : List ℕ)
-    → first + total (by_way way d).marks ≤ length d + 57
-within_way first keeps (Fixed layout) few laws d = omega (arith, at_most d (41 - first) layout laws.few)
-within_way first keeps (Recorded each reads begun) few laws d = omega (arith, laws.within d)
-within_way first keeps (Texts reads) few laws d = omega (arith, laws.within d)
+-- with its type, an answer is read from at most these bytes
+pub cost_way : {X : Type 0} (first outside each : ℕ) (keeps : Bool) (way : Way X) → first ≤ outside
+    → Laws first outside each keeps way → (d : List ℕ) → first + total (by_way way d).marks ≤ most_by outside each way d
+cost_way first outside each keeps (Fixed layout) few laws d = omega (arith, at_most d (outside - first) layout laws.few)
+cost_way first outside each keeps (Recorded _ reads begun) few laws d = omega (arith, laws.cost d, laws.within d)
+cost_way first outside each keeps (Texts reads) few laws d = laws.within d
 
 -- an answer stays, whatever bytes follow
-pub lasts_way : {X : Type 0} (first : ℕ) (keeps : Bool) (way : Way X) → keeps ≡ true → Laws first keeps way → AnswersLast (by_way way)
-lasts_way first keeps (Fixed layout) stays laws = λ d x v is. more_answer d x layout v laws.plain is
-lasts_way first keeps (Recorded each reads begun) stays laws = laws.lasts stays
-lasts_way first keeps (Texts reads) stays laws = laws.lasts stays
+pub lasts_way : {X : Type 0} (first outside each : ℕ) (keeps : Bool) (way : Way X) → keeps ≡ true
+    → Laws first outside each keeps way → AnswersLast (by_way way)
+lasts_way first outside each keeps (Fixed layout) stays laws = λ d x v is. more_answer d x layout v laws.plain is
+lasts_way first outside each keeps (Recorded _ reads begun) stays laws = laws.lasts stays
+lasts_way first outside each keeps (Texts reads) stays laws = laws.lasts stays

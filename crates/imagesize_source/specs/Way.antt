@@ -1,5 +1,5 @@
 -- The ways in which the formats tell their answers.
-use Rattle.std.specs.Prelude.{ℕ, ◌+◌, ◌*◌, List, length}
+use Rattle.std.specs.Prelude.{ℕ, ◌+◌, ◌*◌, min, List, length}
 use Rattle.imagesize_source.specs.Layout.{Layout, over}
 use Rattle.imagesize_source.specs.Reading.{Reads}
 
@@ -21,3 +21,10 @@ abbrev pub stated_by : {X : Type 0} → Way X → List ℕ → ℕ
 stated_by (Fixed layout) d = 41
 stated_by (Recorded each reads begun) d = 64 + each * begun d
 stated_by (Texts reads) d = length d + 64
+
+-- The most that a type and its answer are read from, where this much stands outside of records, and this much in each:
+-- of an answer at fixed places what is outside is all, and records and texts are never more than 28 bytes above the input.
+abbrev pub most_by : {X : Type 0} → ℕ → ℕ → Way X → List ℕ → ℕ
+most_by outside each (Fixed layout) d = outside
+most_by outside each (Recorded _ reads begun) d = min (length d + 28) (outside + each * begun d)
+most_by outside each (Texts reads) d = length d + 28

@@ -18,7 +18,7 @@ pub enum Reason {
     BudgetSpent { budget: u64 },
     /// Memory was refused.
     Memory,
-    /// The first `max_size` bytes of a text hold no delimiter.
+    /// A text has no delimiter in the bytes that it may have: `max_size` of a line or a name, and one fewer of a word.
     NoDelimiter { max_size: usize },
     /// A text is no UTF-8.
     NotUtf8,
@@ -52,9 +52,9 @@ pub enum Reason {
     InvalidHdrIdentifier,
     /// An HDR line that begins with an axis has not four words.
     InvalidHdrDimensionsLine,
-    /// The second and the fourth word of an HDR's line of sizes are no numbers.
+    /// The second or the fourth word of an HDR's line of sizes is no number.
     HdrDimensionsNotFound,
-    /// The words of a PNM's size are no numbers.
+    /// The width or the height of a PNM is no number.
     PnmDimensionsNotFound,
 }
 
@@ -63,7 +63,7 @@ pub enum Reason {
 pub enum ImageError {
     /// The input is of no type that is known.
     NotSupported,
-    /// The input is of a known type, and its records end before one gives the size.
+    /// Read as a type, the input's records end before one gives the size.
     CorruptedImage,
     /// A reading failed, or the bytes are none that the layout allows.
     IoError(Reason),

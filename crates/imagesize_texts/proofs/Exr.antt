@@ -1,6 +1,7 @@
 -- EXR: how a walk along its attributes goes, how many bytes they are read from, and what it sees of an input.
-use Rattle.std.proofs.Common.{◌≡◌, ℕ, suc, ◌+◌, ◌-◌, ◌*◌, ◌^◌, ◌<◌, ◌≤◌, Bool, eqb, List, [], ◌∷◌, ◌++◌, length, take, Option, Some, None, Result, Ok, Err, true, refl, sym, ap, ◌∙◌, arith, slice_index_or}
+use Rattle.std.proofs.Common.{◌≡◌, ℕ, suc, ◌+◌, ◌-◌, ◌*◌, ◌^◌, ◌<◌, ◌≤◌, Bool, cond, eqb, List, [], ◌∷◌, ◌++◌, length, take, Option, Some, None, Result, Ok, Err, true, false, refl, sym, ap, ◌∙◌, arith, slice_index_or}
 use Rattle.std.proofs.Math.Seq.{drop-cons}
+use Rattle.std.proofs.lemmas.Bool.Decides.{nat_tests}
 use Rattle.std.specs.Prelude.{◌&&◌}
 use Rattle.std.specs.Int.{w32, cast_signed, from_le_bytes}
 use Rattle.imagesize_types.specs.Head.{four_at}
@@ -10,7 +11,7 @@ use Rattle.imagesize_source.specs.declared.error.ImageError.TheVariants.{IoError
 use Rattle.imagesize_source.specs.declared.error.Reason.TheVariants.{DataWindowNotFound}
 use Rattle.imagesize_source.specs.declared.util.Endian.TheVariants.{Little}
 use Rattle.imagesize_source.specs.Agreement.{Local}
-use Rattle.imagesize_source.specs.Chain.{Said, Decided, Next, Advances, chain_at}
+use Rattle.imagesize_source.specs.Chain.{Said, Decided, Next, Advances, chain_at, start}
 use Rattle.imagesize_source.specs.Counts.{AtMost}
 use Rattle.imagesize_source.specs.Extension.{Plain, Lasts}
 use Rattle.imagesize_source.specs.Input.{span_of}
@@ -20,8 +21,8 @@ use Rattle.imagesize_source.specs.Reading.{onward, number_at, number_read, end_o
 use Rattle.imagesize_source.specs.State.{State, Runs, total}
 use Rattle.imagesize_source.proofs.Advances.{Tells, advances}
 use Rattle.imagesize_source.proofs.Ahead.{Ahead, chain_ahead}
-use Rattle.imagesize_source.proofs.ChainLaws.{local_chain, lasts_chain, chain_cost}
-use Rattle.imagesize_source.proofs.Counts.{then_within, total-span_of}
+use Rattle.imagesize_source.proofs.ChainLaws.{local_chain, lasts_chain, chain_cost_from}
+use Rattle.imagesize_source.proofs.Counts.{at_most, at_most_more, then_within, total-span_of}
 use Rattle.imagesize_source.proofs.Agreement.{local_then, local_number}
 use Rattle.imagesize_source.proofs.Numbers.{little_4}
 use Rattle.imagesize_source.proofs.Runs.{total-append}
@@ -31,7 +32,7 @@ use Rattle.imagesize_source.proofs.Walks.{Walks, walks_start, walks_on, walks_st
 use Rattle.imagesize_source.proofs.Way.{RecordedLaws}
 use Rattle.imagesize_texts.specs.Exr.{exr, exr_attributes, exr_attribute, exr_named, exr_typed, exr_value, exr_window, name_room, window_size, is_data_window, is_box, signed_at, begun_of, attributes_begun}
 use Rattle.imagesize_texts.specs.Texts.{line}
-use Rattle.imagesize_texts.proofs.Texts.{line_at_most, line_onto, line_plain, line_tells, line_begins, line_beyond, lasts_then, number_lasts}
+use Rattle.imagesize_texts.proofs.Texts.{first_of, line_total, line_onto, line_plain, line_tells, line_begins, line_beyond, lasts_then, number_lasts}
 
 -- the four bytes of a number
 four_bytes : (bs : List ℕ) (place : ℕ) → place + 4 ≤ length bs → slice_index_or bs place 0 ∷ slice_index_or bs (place + 1) 0
@@ -134,47 +135,64 @@ attributes_within room d =
     omega arith
 
 -- the version and the attributes are read from at most 4 bytes more than the input has
-pub exr_within : (d : List ℕ) → total (exr d).marks ≤ length d + 20
+pub exr_within : (d : List ℕ) → total (exr d).marks ≤ length d + 4
 exr_within d = omega (
   arith,
   then_within (number_read d Little 4 4) (λ version. chain_at (exr_attributes (name_room version)) d) 4
       (length d) (total-span_of d 4 4) (λ version _. attributes_within (name_room version) d),
 )
 
--- an attribute is read from at most 532 bytes
-attribute_at_most : (room place : ℕ) → room ≤ 256 → AtMost 532 (exr_attribute room place)
-attribute_at_most room place few = line_at_most 0 place room (exr_named room place) 532 (omega arith)
-    (λ name. by_name (AtMost (532 - room)) room place name tt
-    (line_at_most 0 (place + (length name + 1)) room (exr_typed place name) (532 - room) (omega arith)
-    (λ type_name. (
+-- a value is read from 16 bytes or none
+value_at_most : (place taken : ℕ) (is_window : Bool) (size : ℕ) → AtMost (cond is_window 16 0) (exr_value place taken is_window size)
+value_at_most place taken true size = (omega arith, λ bs. by_window (AtMost 0) place taken (window_size bs) (λ size. tt) tt)
+value_at_most place taken false size = tt
+
+-- the name of a data window is short
+window_name : (name : List ℕ) → is_data_window name ≡ true → length name ≡ 10
+unfolding is_data_window
+window_name name is = grind (arith, nat_tests)
+
+-- so a name that is read from at most 256 bytes makes up for a window
+name_and_window : (name : List ℕ) (is_type : Bool) → length name + 1 ≤ 256
+    → cond (is_data_window name && is_type) 16 0 + (length name + 1) ≤ 256
+name_and_window name is_type few = on_test (λ n. n + (length name + 1) ≤ 256) (is_data_window name && is_type) 16 0
+    (λ is. let ten = window_name name (first_of (is_data_window name) is_type is) in omega arith) (λ _. omega arith)
+
+-- an attribute is read from at most 530 bytes
+attribute_cost : (d : List ℕ) (room place : ℕ) → room ≤ 256 → total (over d (exr_attribute room place)).marks ≤ 530
+attribute_cost d room place few = line_total 0 place room (exr_named room place) d 530 (omega arith)
+    (λ name long. by_name (λ t. length name + 1 + total (over d t).marks ≤ 530) room place name (omega arith)
+    (let rest = line_total 0 (place + (length name + 1)) room (exr_typed place name) d (530 - (length name + 1)) (omega arith)
+    (λ type_name short.
+    let is_window : Bool = is_data_window name && is_box type_name in
+    let window : ℕ = cond is_window 16 0 in
+    let fits = name_and_window name (is_box type_name) (omega arith) in
+    let value = at_most d (4 + window) (exr_typed place name type_name) (
       omega arith,
-      λ size. by_value (AtMost (532 - room - room - 4)) place (value_behind name type_name)
-          (is_data_window name && is_box type_name) size (
-            omega arith,
-            λ bs. by_window (AtMost (532 - room - room - 4 - 16)) place (value_behind name type_name) (window_size bs)
-                (λ size. tt) tt,
-          )
-          tt,
-    ))))
+      λ size. at_most_more window (4 + window - 4) (exr_value place (value_behind name type_name) is_window size) (omega arith)
+          (value_at_most place (value_behind name type_name) is_window size),
+    ) in
+    omega arith) in
+    omega arith))
 
 cost_by : (d : List ℕ) (r : Result ℕ ImageError)
-    → total (onward (span_of d 4 4) r (λ version. chain_at (exr_attributes (name_room version)) d)).marks ≤ 4 + 532 * begun_of d r
+    → total (onward (span_of d 4 4) r (λ version. chain_at (exr_attributes (name_room version)) d)).marks ≤ 4 + 530 * begun_of d r
 cost_by d (Ok version) =
     let all = total-append (span_of d 4 4) (chain_at (exr_attributes (name_room version)) d).marks in
     let first = total-span_of d 4 4 in
-    let each = chain_cost (exr_attributes (name_room version)) d (attribute_advances (name_room version) d) 532
-    (λ passed place. attribute_at_most (name_room version) place (room_few version)) in
+    let each = chain_cost_from (exr_attributes (name_room version)) d (attribute_advances (name_room version) d) 530
+    (λ t. attribute_cost d (name_room version) t.place (room_few version)) (start (exr_attributes (name_room version))) in
     omega arith
 cost_by d (Err e) = let first = total-span_of d 4 4 in omega arith
 
-pub exr_cost : (d : List ℕ) → total (exr d).marks ≤ 4 + 532 * attributes_begun d
+pub exr_cost : (d : List ℕ) → total (exr d).marks ≤ 4 + 530 * attributes_begun d
 exr_cost d = cost_by d (number_at d Little 4 4)
 
-pub exr_laws : RecordedLaws 12 true 540 exr attributes_begun
+pub exr_laws : RecordedLaws 12 16 530 true exr attributes_begun
 exr_laws = record {
   local = exr_local;
   cost = λ d. omega (arith, exr_cost d);
-  within = exr_within;
+  within = λ d. omega (arith, exr_within d);
   lasts = λ _. exr_lasts;
 }
 

@@ -59,7 +59,7 @@ pub hdr_lasts : (d x : List ℕ) (size : ImageSize) → (hdr d).answer ≡ Ok si
 hdr_lasts d x size is = ap (λ r. r.answer) (hdr_keeps d x size is) ∙ is
 
 -- the lines are read from at most the bytes of the input
-pub hdr_within : (d : List ℕ) → total (hdr d).marks ≤ length d + 20
+pub hdr_within : (d : List ℕ) → total (hdr d).marks ≤ length d
 hdr_within d =
     let all = spends_then (length d) 0 (λ first. first) (λ _. None) (over d hdr_identifier) (λ first. chain_at (hdr_lines first) d)
     (spends d (λ first. Some first) 0 hdr_identifier
@@ -70,8 +70,8 @@ hdr_within d =
     (λ text. by_line (Ahead (place + (length text + 1))) place text (λ size. tt) (λ e. tt) (omega arith)))) in
     omega arith
 
-pub hdr_laws : TextsLaws true hdr
-hdr_laws = record { local = hdr_local; within = hdr_within; lasts = λ _. hdr_lasts }
+pub hdr_laws : TextsLaws 12 true hdr
+hdr_laws = record { local = hdr_local; within = λ d. omega (arith, hdr_within d); lasts = λ _. hdr_lasts }
 
 -- how far a walk has come
 abbrev pub HdrWalks : ℕ → State → State → ℕ → Type 0

@@ -64,7 +64,7 @@ pub pnm_lasts : (d x : List ℕ) (size : ImageSize) → (pnm d).answer ≡ Ok si
 pnm_lasts d x size is = ap (λ r. r.answer) (pnm_keeps d x size is) ∙ is
 
 -- the words are read from at most the bytes behind the magic number
-pub pnm_within : (d : List ℕ) → total (pnm d).marks ≤ length d + 20
+pub pnm_within : (d : List ℕ) → total (pnm d).marks ≤ length d
 pnm_within d =
     let most = chain_ahead pnm_words d (pnm_advances d)
     (λ passed place. word_onto place (pnm_word place) (said_to (λ _. None)) place (omega arith)
@@ -77,8 +77,8 @@ pnm_within d =
     (λ e. tt))))) in
     omega arith
 
-pub pnm_laws : TextsLaws true pnm
-pnm_laws = record { local = pnm_local; within = pnm_within; lasts = λ _. pnm_lasts }
+pub pnm_laws : TextsLaws 12 true pnm
+pnm_laws = record { local = pnm_local; within = λ d. omega (arith, pnm_within d); lasts = λ _. pnm_lasts }
 
 -- how far a walk has come
 abbrev pub PnmWalks : State → State → ℕ → Type 0

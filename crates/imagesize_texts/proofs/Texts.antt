@@ -14,19 +14,18 @@ use Rattle.imagesize_source.specs.declared.text.Text.TheVariants.{Line, Word}
 use Rattle.imagesize_source.specs.declared.span.Span.{Span}
 use Rattle.imagesize_source.specs.declared.util.Endian.{Endian}
 use Rattle.imagesize_source.specs.Chain.{Said}
-use Rattle.imagesize_source.specs.Counts.{AtMost}
 use Rattle.imagesize_source.specs.Extension.{Plain, Never, Lasts}
 use Rattle.imagesize_source.specs.Input.{span_at, span_of}
 use Rattle.imagesize_source.specs.Layout.{Layout, over}
 use Rattle.imagesize_source.specs.Layout.Layout.{refuse, «done», field}
 use Rattle.imagesize_source.specs.Reading.{Reads, gives, and_then, onward, number_at, number_read, refuses, behind, text_part, text_read, is_stop, seen, is_fault, is_memory, spent, stopped, faulted, end_of_input}
-use Rattle.imagesize_source.specs.State.{State, Runs, EndedBy}
+use Rattle.imagesize_source.specs.State.{State, Runs, EndedBy, total}
 use Rattle.imagesize_source.specs.Text.{is_ended, skipped}
 use Rattle.imagesize_source.proofs.Advances.{Tells, Begins}
-use Rattle.imagesize_source.proofs.Counts.{text_length}
+use Rattle.imagesize_source.proofs.Counts.{text_length, total-span_at}
 use Rattle.imagesize_source.proofs.PastTheEnd.{saturated_by}
 use Rattle.imagesize_source.proofs.Extension.{more}
-use Rattle.imagesize_source.proofs.Runs.{answered, part_is, part_length}
+use Rattle.imagesize_source.proofs.Runs.{answered, part_is, part_length, total-append}
 use Rattle.imagesize_source.proofs.Spends.{Onto}
 use Rattle.imagesize_source.proofs.Tests.{on_test}
 use Rattle.imagesize_texts.specs.Contents.{WordRead, word_room, last_byte, before_last, last_passes, no_end, utf8, line_text, line_length, word_text, ended_word, word_of, word_at, is_word_end, unspaced}
@@ -136,7 +135,7 @@ pub word_runs : {a b : State} (d room : List ℕ) (place n : ℕ) (r : Result Wo
     → Runs a b (Ok (take n room)) (text_read d Word place (length room)) → r ≡ word_text (take n room) → Runs a b r (word_read d place)
 word_runs d room place n r long h is = judged_room d room place word_room n long Word word_text r h is (word_judged (take n room))
 
-first_of : (a b : Bool) → a && b ≡ true → a ≡ true
+pub first_of : (a b : Bool) → a && b ≡ true → a ≡ true
 first_of true b is = refl
 first_of false b is = absurd cc
 
@@ -287,8 +286,21 @@ found_by P (Err e) f goes_on out = out e
 
 -- lines
 module _ {X : Type 0} (delimiter place most : ℕ) (f : List ℕ → Layout X) where
-  pub line_at_most : (k : ℕ) → most ≤ k → ((text : List ℕ) → AtMost (k - most) (f text)) → AtMost k (line delimiter place most f)
-  line_at_most k few rest = (few, λ bs. found_by (AtMost (k - most)) (line_text delimiter most bs) f (λ text _. rest text) (λ e. tt))
+  -- where each text leads on to at most k bytes with its own, so does the line
+  pub line_total : (d : List ℕ) (k : ℕ) → most ≤ k
+      → ((text : List ℕ) → length text + 1 ≤ most → length text + 1 + total (over d (f text)).marks ≤ k)
+      → total (over d (line delimiter place most f)).marks ≤ k
+  line_total d k few rest =
+      let bs : List ℕ = text_part d (Line delimiter) place most in
+      let here = total-span_at place (length bs) in
+      let short = text_length d (Line delimiter) place most in
+      let part = part_length d place most in
+      let all = total-append (span_at place (length bs)) (over d (found (line_text delimiter most bs) f)).marks in
+      let next = found_by (λ t. length bs ≤ most → length bs + total (over d t).marks ≤ k) (line_text delimiter most bs) f
+      (λ text is long. let same = (line_ok delimiter most bs text is).0 in let more = rest text (omega arith) in omega arith)
+      (λ e long. omega arith) in
+      let sum = next (omega arith) in
+      omega arith
 
   pub line_onto : (to : X → Option ℕ) (q : ℕ) → q ≤ place → ((text : List ℕ) → Onto to (place + (length text + 1)) (f text))
       → Onto to q (line delimiter place most f)

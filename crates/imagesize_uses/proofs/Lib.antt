@@ -1,2 +1,3 @@
 pub mod Joins
+pub mod Rounds
 pub mod Spans

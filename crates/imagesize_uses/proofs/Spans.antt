@@ -4,12 +4,12 @@ use Rattle.std.specs.Cmp.Lexicographic.{pointwise, same_text, other_text}
 use Rattle.std.specs.Prelude.{nat_eq}
 use Rattle.std.proofs.lemmas.Bool.Decides.{nat_tests}
 use Rattle.std.proofs.lemmas.Grind.{flat_map-append}
-use Rattle.std.proofs.lemmas.List.{append_assoc, append_cancel_left, append-nil, ext_get_or, get_or-drop, get_or-take, length-drop, length-take, take-append-drop, take_more}
+use Rattle.std.proofs.lemmas.List.{append_assoc, append_cancel_left, append-nil, ext_get_or, get_or-drop, get_or-take, length-drop, length-take, take-append-drop, take-take, take_more}
 use Rattle.std.proofs.Math.Seq.{drop-append_seam, drop-cons, take-append_seam}
 use Rattle.imagesize_source.specs.Agreement.{Agrees, covered, has_place}
 use Rattle.imagesize_source.specs.Input.{part}
 use Rattle.imagesize_source.specs.declared.span.Span.{Span}
-use Rattle.imagesize_uses.specs.Cache.{bytes_of}
+use Rattle.imagesize_source.specs.Known.{bytes_of}
 
 -- the byte at a place of a part
 part-at : (d : List ℕ) (start k i : ℕ) → i < k → get_or (part d start k) i 0 ≡ slice_index d (start + i)
@@ -19,6 +19,14 @@ part-at d start k i below = get_or-take k (drop start d) i 0 below ∙ get_or-dr
 length-part : (d : List ℕ) (start k : ℕ) → length (part d start k) ≡ min k (length d - start)
 unfolding part
 length-part d start k = length-take k (drop start d) ∙ ap (min k) (length-drop start d)
+
+-- the front of a part is a part
+pub copied_front : (d found new : List ℕ) (place k n m : ℕ) → found ≡ part d place k → n ≡ min m (length found)
+    → take n new ≡ take n found → take n new ≡ part d place n
+unfolding part
+copied_front d found new place k n m is count copied =
+    let few : n ≤ k = omega (arith, count, ap length is, length-take k (drop place d)) in
+    copied ∙ ap (take n) is ∙ take-take n k (drop place d) few
 
 -- parts of inputs of one length are of one length
 as_long : (d e : List ℕ) (start k : ℕ) → length e ≡ length d → length (part e start k) ≡ length (part d start k)

@@ -1,4 +1,5 @@
 pub mod Cache
 pub mod Document
 pub mod Gate
+pub mod Remote
 pub mod Texture

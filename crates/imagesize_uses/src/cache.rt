@@ -4,7 +4,8 @@ ghost use Rattle.imagesize.specs.Meaning.{meaning};
 ghost use Rattle.imagesize.specs.Traced.{IsSame};
 ghost use Rattle.imagesize_source.specs.Agreement.{Agrees};
 ghost use Rattle.imagesize_source.specs.Input.{part};
-ghost use Rattle.imagesize_uses.specs.Cache.{Keeps, bytes_of};
+ghost use Rattle.imagesize_source.specs.Known.{bytes_of};
+ghost use Rattle.imagesize_uses.specs.Cache.{Keeps};
 
 use imagesize::{Span, Trace, blob_trace};
 use std::alloc::{AllocError, Allocator};
@@ -73,9 +74,9 @@ fn has_bytes(data: &[u8], spans: &[Span], bytes: &[u8]) -> bool
     rest.is_empty()
 }
 
-// The bytes of an input in a span.
+/// The bytes of an input in a span.
 #[tactic(auto, using(imagesize_source::proofs::Slices::slice_part))]
-fn bytes_of_span<'a>(data: &'a [u8], span: &Span) -> &'a [u8]
+pub(crate) fn bytes_of_span<'a>(data: &'a [u8], span: &Span) -> &'a [u8]
     ensures { result.now ≡ part «data».now span.now.start span.now.len }
 {
     let start = (span.start as usize).min(data.len());

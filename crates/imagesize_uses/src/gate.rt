@@ -1,5 +1,6 @@
 //! A gate for uploads: an image is admitted where it has few enough pixels.
-ghost use Rattle.std.specs.Prelude.{◌≡◌, ◌*◌, ◌+◌, ◌-◌, ◌^◌, ◌<◌, ◌≤◌, IfOk, Some, option_map};
+ghost use Rattle.std.specs.Prelude.{◌≡◌, ℕ, ◌*◌, ◌+◌, ◌-◌, ◌^◌, ◌<◌, ◌≤◌, IfOk, IsErr, Some, length, option_map, take};
+ghost use Rattle.imagesize_io.specs.Telling.{ReadTells, SeekTells, counted};
 ghost use Rattle.imagesize_uses.specs.Gate.{Admits, IfTooLarge, may_fail, verdict_of};
 
 use imagesize::{ImageError, ImageResult, ImageSize, Stop, Told, reader_probe};
@@ -68,7 +69,15 @@ impl<R: Told> Told for Limited<'_, R> {
     // It rises as what is left falls, so no call gives more than was left.
     ghost count = { λ r. Some (2 ^ 64 - r.left) };
 
-    fn read_told(&mut self, room: &mut [u8]) -> Result<usize, Stop> {
+    fn read_told(&mut self, room: &mut [u8]) -> Result<usize, Stop>
+        ensures bound { IfOk result (λ n. n ≤ length room.new) }
+        ensures told { ReadTells (may_fail (R.telling self.old.reader.now)) (may_fail (R.telling self.new.reader.now)) room.new result }
+        ensures counts { Some (2 ^ 64 - self.new.left) ≡ counted (Some (2 ^ 64 - self.old.left)) result }
+        // Before the end it fails only where the other reader does: a read is one of it, into no more room than is left.
+        ensures below { 0 < self.old.left → ReadTells (R.telling self.old.reader.now) (R.telling self.new.reader.now)
+            (take self.old.left room.new) result }
+        ensures ends { self.old.left ≡ 0 → IsErr result }
+    {
         if self.left == 0 {
             return Err(Stop::Fault(io::Error::other("no more bytes may be taken")));
         }
@@ -78,7 +87,11 @@ impl<R: Told> Told for Limited<'_, R> {
         Ok(given)
     }
 
-    fn seek_told(&mut self, to: SeekFrom) -> io::Result<u64> {
+    fn seek_told(&mut self, to: SeekFrom) -> io::Result<u64>
+        ensures told { SeekTells (may_fail (R.telling self.old.reader.now)) (may_fail (R.telling self.new.reader.now)) to result }
+        ensures counts { Some (2 ^ 64 - self.new.left) ≡ Some (2 ^ 64 - self.old.left) }
+        ensures below { SeekTells (R.telling self.old.reader.now) (R.telling self.new.reader.now) to result }
+    {
         self.reader.seek_told(to)
     }
 }

@@ -6,6 +6,7 @@ pub mod document;
 pub mod gallery;
 pub mod gate;
 pub mod joined;
+pub mod remote;
 #[cfg(test)]
 mod tests;
 pub mod texture;

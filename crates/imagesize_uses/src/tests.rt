@@ -5,9 +5,10 @@ use crate::document::{PageSize, size_on_page};
 use crate::gallery::size_by_front;
 use crate::gate::{Limited, Rejection, admit, admit_within};
 use crate::joined::joined_size;
+use crate::remote::{Held, Interrupted, probe_remote};
 use crate::texture::{Flaw, check_texture};
 use imagesize::{CompressionFamily, ImageSize, ImageType};
-use std::io::Cursor;
+use std::io::{Cursor, ErrorKind};
 use std::test::Fail;
 
 // A GIF of 100 by 100.
@@ -103,4 +104,21 @@ fn a_page_holds_the_pixels(rt: HostRuntime) {
 fn slices_are_read_as_one(rt: HostRuntime) {
     let size = joined_size(b"GIF89ad", b"\0d\0\0\0");
     assert!(rt; matches!(size, Ok(size) if size == square(100)));
+}
+
+#[test]
+fn a_remote_input_is_fetched_until_it_is_known(rt: HostRuntime) {
+    let mut remote = Held::new(LONG_JPEG, usize::MAX, u64::MAX);
+    let probed = probe_remote(rt.alloc(), &mut remote);
+    assert!(rt; matches!(probed, Ok(probed) if probed.kind == Some(ImageType::Jpeg)
+        && matches!(probed.answer, Ok(ImageSize { width: 7, height: 5 }))));
+    assert!(rt; remote.fetches() > 30);
+}
+
+#[test]
+fn a_fetch_that_fails_or_is_short_ends_it(rt: HostRuntime) {
+    let failed = probe_remote(rt.alloc(), &mut Held::new(LONG_JPEG, usize::MAX, 3));
+    assert!(rt; matches!(failed, Err(Interrupted::Failed(error)) if error.kind() == ErrorKind::TimedOut));
+    let short = probe_remote(rt.alloc(), &mut Held::new(GIF, 11, u64::MAX));
+    assert!(rt; matches!(short, Err(Interrupted::Short)));
 }

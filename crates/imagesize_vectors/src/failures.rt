@@ -1,10 +1,10 @@
 //! What is returned of readers whose calls fail, and of readers that are interrupted.
 
 use crate::long::{JPEG_SIZE, jpeg_behind};
-use crate::rows::fixed::{GIF, TGA};
+use crate::rows::fixed::GIF;
 use crate::rows::heif::GENERAL_HEIF;
-use crate::rows::records::{ICON, NESTED_JPEG};
-use crate::rows::textures::{EXTENDED_DDS, PVR};
+use crate::rows::records::ICON;
+use crate::rows::{Row, tables};
 use imagesize::{
     ImageError, ImageResult, ImageSize, ImageType, Reason, Told, reader_probe, reader_size,
     reader_type,
@@ -100,7 +100,12 @@ fn check_failures(
         );
         turns = turn + 1;
     }
-    assert!(rt; 4 <= turns && turns < TURNS, "{call:?}: {turns} calls");
+    // Each call asks for the place and for the length, and those of the type read behind it.
+    let least = match call {
+        Call::SizeAs(_) => 2,
+        _ => 4,
+    };
+    assert!(rt; least <= turns && turns < TURNS, "{call:?}: {turns} calls");
     Ok(())
 }
 
@@ -119,11 +124,20 @@ pub fn check_each_failure(
     Ok(())
 }
 
+// The same for each input that has a type.
+fn check_typed(rt: &(impl Abort + AllocGlobal), rows: &[Row<'_>]) -> Result<(), Fail> {
+    for row in rows {
+        if let Some(kind) = row.kind {
+            check_each_failure(rt, row.bytes, kind)?;
+        }
+    }
+    Ok(())
+}
+
 #[test]
 fn each_failure_in_turn_is_the_fault_that_is_answered(rt: HostRuntime) -> Result<(), Fail> {
-    for bytes in [GIF, TGA, PVR, EXTENDED_DDS, ICON, NESTED_JPEG] {
-        let kind = reader_type(Cursor::new(bytes))?;
-        check_each_failure(&rt, bytes, kind)?;
+    for rows in tables() {
+        check_typed(&rt, rows)?;
     }
     Ok(())
 }
@@ -151,7 +165,9 @@ fn the_type_beside_a_fault_is_that_of_the_bytes(rt: HostRuntime) {
             error: io::Error::from(ErrorKind::Other),
         };
         let probed = reader_probe(&mut reader);
-        assert!(rt; probed.kind.is_none() || probed.kind == Some(ImageType::Ico));
+        // The first four calls ask for the place and the length, go back, and read the twelve bytes of the type.
+        let kind = if turn < 4 { None } else { Some(ImageType::Ico) };
+        assert_eq!(rt; probed.kind, kind, "call {turn}");
         if probed.answer.is_ok() {
             assert!(rt; reader.left.is_some());
             break;

@@ -1,4 +1,5 @@
-//! Worked inputs with their answers, over slices and over readers of all kinds. The program prints the size of one file.
+//! Worked inputs with their answers, over slices and over readers of all kinds. The program prints the size of
+//! each file that is named.
 #![tactic(auto)]
 
 #[cfg(test)]
@@ -36,12 +37,17 @@ mod traces;
 mod types;
 
 use imagesize::{ImageSize, size};
-use std::io;
+use std::{env, io};
 
-// Prints the size of `tiny.gif`, or why it has none.
+// Prints the size of each file that is named, or why it has none.
 fn main(rt: HostRuntime) -> io::Result<()> {
-    match size(&rt, rt.alloc(), "tiny.gif") {
-        Ok(ImageSize { width, height }) => println!(rt; "{width}x{height}"),
-        Err(error) => println!(rt; "{error}"),
+    let mut names = env::args(&rt)?;
+    let _program = names.next();
+    for name in names {
+        match size(&rt, rt.alloc(), name.as_str()) {
+            Ok(ImageSize { width, height }) => println!(rt; "{width}x{height}")?,
+            Err(error) => println!(rt; "{error}")?,
+        }
     }
+    Ok(())
 }

@@ -49,16 +49,43 @@ fn a_call_goes_back_to_a_place_that_is_the_told_length(rt: HostRuntime) -> Resul
 }
 
 #[test]
-fn the_greatest_told_length_changes_no_answer(rt: HostRuntime) -> Result<(), Fail> {
-    let claiming = || Claiming {
-        reader: Cursor::new(GIF),
-        told: u64::MAX,
-    };
-    assert_eq!(rt; reader_type(claiming())?, ImageType::Gif);
-    assert_eq!(rt; reader_size(claiming())?, GIF_SIZE);
-    assert_eq!(rt; reader_probe(&mut claiming()).answer?, GIF_SIZE);
-    assert_eq!(rt; ImageType::Gif.reader_size(&mut claiming())?, GIF_SIZE);
+fn the_greatest_told_lengths_change_no_answer(rt: HostRuntime) -> Result<(), Fail> {
+    for told in [1 << 63, u64::MAX] {
+        let claiming = || Claiming {
+            reader: Cursor::new(GIF),
+            told,
+        };
+        assert_eq!(rt; reader_type(claiming())?, ImageType::Gif);
+        assert_eq!(rt; reader_size(claiming())?, GIF_SIZE);
+        assert_eq!(rt; reader_probe(&mut claiming()).answer?, GIF_SIZE);
+        assert_eq!(rt; ImageType::Gif.reader_size(&mut claiming())?, GIF_SIZE);
+    }
     Ok(())
+}
+
+#[test]
+fn a_read_that_gives_nothing_is_the_last(rt: HostRuntime) {
+    // The reads of a type and of a size: those that give bytes, and the one that gives none.
+    for (bytes, of_type, of_size) in [(b"".as_slice(), 1, 1), (b"GIF89ad\0d", 2, 3)] {
+        let claiming = || Claiming {
+            reader: Cursor::new(bytes),
+            told: 100,
+        };
+        let mut made = (0, 0);
+        let reader = Calls {
+            reader: claiming(),
+            made: &mut made,
+        };
+        assert!(rt; is_end(&reader_type(reader)));
+        assert_eq!(rt; made.0, of_type, "{bytes:?}");
+        let mut made = (0, 0);
+        let mut reader = Calls {
+            reader: claiming(),
+            made: &mut made,
+        };
+        assert!(rt; is_end(&ImageType::Gif.reader_size(&mut reader)));
+        assert_eq!(rt; made.0, of_size, "{bytes:?}");
+    }
 }
 
 #[test]

@@ -2,7 +2,7 @@
 
 use imagesize::{
     AtcCompression, Compression, CompressionFamily, DdsCompression, ImageSize, ImageType,
-    PkmCompression, PvrtcCompression,
+    PkmCompression, PvrtcCompression, Span,
 };
 use std::alloc::{AllocError, Global};
 use std::cmp::Ordering;
@@ -242,4 +242,15 @@ fn a_size_has_a_width_and_a_height(rt: HostRuntime) -> Result<(), Fail> {
         assert!(rt; hash_of(&other) != hash_of(&size));
     }
     Ok(())
+}
+
+#[test]
+fn a_span_has_a_start_and_a_length(rt: HostRuntime) {
+    let span = Span { start: 3, len: 4 };
+    assert_eq!(rt; hash_of(&span), hash_of(&Span { start: 3, len: 4 }));
+    for (start, len) in [(3, 5), (2, 4), (4, 3)] {
+        let other = Span { start, len };
+        assert!(rt; other != span);
+        assert!(rt; hash_of(&other) != hash_of(&span));
+    }
 }

@@ -257,7 +257,7 @@ pub ico_cost : (d : List ℕ) → total (ico d).marks ≤ 4 + 2 * entries_begun 
 ico_cost d = cost_by d (number_at d Little 4 2)
 
 -- the list may go on in bytes that follow
-pub ico_laws : RecordedLaws 12 false 20 ico entries_begun
+pub ico_laws : RecordedLaws 12 18 20 false ico entries_begun
 ico_laws = record {
   local = ico_local;
   cost = λ d. omega (arith, ico_cost d);

@@ -78,7 +78,7 @@ pub ilbm_past : {a b : State} (place : ℕ) → IlbmWalks a b place → 2 ^ 64 �
 ilbm_past place w far = walks_past ilbm_chunks ilbm_advances (λ passed. Unit {0}) w (omega arith) (omega arith)
     (λ passed d _ h. bytes_beyond d place 8 (λ head. ilbm_named place head) h (omega arith))
 
-pub ilbm_laws : RecordedLaws 12 true 20 ilbm (records ilbm_chunks)
+pub ilbm_laws : RecordedLaws 12 18 20 true ilbm (records ilbm_chunks)
 ilbm_laws = record {
   local = ilbm_local;
   cost = λ d. omega (arith, ilbm_cost d);

@@ -198,7 +198,7 @@ jpeg_within d =
     let few : allowed d 2 ≤ length d + 6 = grind (arith, nat_tests) in
     omega arith
 
-pub jpeg_laws : RecordedLaws 12 true 20 jpeg (records jpeg_segments)
+pub jpeg_laws : RecordedLaws 12 18 20 true jpeg (records jpeg_segments)
 jpeg_laws = record {
   local = jpeg_local;
   cost = λ d. omega (arith, jpeg_cost d);

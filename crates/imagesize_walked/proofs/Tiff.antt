@@ -18,7 +18,7 @@ use Rattle.imagesize_source.specs.declared.error.ImageError.TheVariants.{IoError
 use Rattle.imagesize_source.specs.declared.error.Reason.TheVariants.{InvalidIfdValueLength, NoDimensionsInIfd}
 use Rattle.imagesize_source.specs.declared.util.Endian.{Endian}
 use Rattle.imagesize_source.specs.Agreement.{Local}
-use Rattle.imagesize_source.specs.Chain.{Said, Decided, Next, Along, Advances, start, next_record, records, records_from, verdict, chain_at}
+use Rattle.imagesize_source.specs.Chain.{Said, Decided, Next, Chain, Along, Advances, start, next_record, records, records_from, verdict, chain_at, chain_from}
 use Rattle.imagesize_source.specs.Counts.{AtMost}
 use Rattle.imagesize_source.specs.Extension.{Never, Plain}
 use Rattle.imagesize_source.specs.Input.{span_of}
@@ -30,9 +30,9 @@ use Rattle.imagesize_source.specs.State.{State, Runs, Sound, total}
 use Rattle.imagesize_source.proofs.Advances.{Tells, Begins, advances}
 use Rattle.imagesize_source.proofs.Ahead.{Ahead, chain_ahead}
 use Rattle.imagesize_source.proofs.PastTheEnd.{bytes_beyond, saturated_by}
-use Rattle.imagesize_source.proofs.ChainLaws.{local_chain, lasts_chain, chain_cost, chain_induction}
-use Rattle.imagesize_source.proofs.Chains.{records_next, records_stop}
-use Rattle.imagesize_source.proofs.Counts.{at_most, at_most_bind, then_within, total-span_of, total_behind}
+use Rattle.imagesize_source.proofs.ChainLaws.{local_chain, lasts_chain, chain_induction}
+use Rattle.imagesize_source.proofs.Chains.{chain_next, chain_stop, records_next, records_stop}
+use Rattle.imagesize_source.proofs.Counts.{at_most, at_most_bind, at_most_more, then_within, total-span_of, total_behind}
 use Rattle.imagesize_source.proofs.Answered.{on_answer}
 use Rattle.imagesize_source.proofs.Agreement.{local_layout, local_number, local_then}
 use Rattle.imagesize_source.proofs.Extension.{bytes_more, more, number_ok}
@@ -373,7 +373,7 @@ header_at_most = (
 )
 
 -- header and directory are read from at most 16 bytes more than the input has, since the directory may stand in the header
-pub tiff_within : (d : List ℕ) → total (tiff d).marks ≤ length d + 20
+pub tiff_within : (d : List ℕ) → total (tiff d).marks ≤ length d + 16
 tiff_within d = omega (
   arith,
   then_within (over d tiff_header) (tiff_directory d) 16 (length d) (at_most d 16 tiff_header header_at_most)
@@ -388,41 +388,61 @@ ends_at header count d t entry place is at =
     sym (ap (λ r. r.answer) (end_said header count t.held t.place d at)) ∙ is in
     absurd cc
 
-records_few : (header : Header) (count : ℕ) (d : List ℕ) → records (tiff_entries header count) d ≤ count + 1
-records_few header count d =
-    let few = chain_induction (tiff_entries header count) d (λ t. length t.held ≤ count → records_from (tiff_entries header count) d t
-    + length t.held ≤ count + 1) (entries_advance header count d)
+-- where the entries are all read, nothing is
+record_cost : (header : Header) (count : ℕ) (entries : List Entry) (place : ℕ) → length entries ≤ count
+    → AtMost (20 * min 1 (count - length entries)) ((tiff_entries header count).said entries place)
+record_cost header count entries place fits =
+    let k : ℕ = 20 * min 1 (count - length entries) in
+    on_test (AtMost k) (eqb (length entries) count) (refuse (IoError NoDimensionsInIfd)) (record_behind header entries place) (λ _. tt)
+    (λ more.
+    let below : length entries < count = grind (arith, nat_tests) in
+    at_most_more 20 k (record_behind header entries place) (omega arith) (record_at_most header entries place))
+
+-- an entry is read from at most 20 bytes
+entries_cost : (header : Header) (count : ℕ) (d : List ℕ) → total (chain_at (tiff_entries header count) d).marks
+    ≤ 20 * min count (records (tiff_entries header count) d)
+entries_cost header count d =
+    let c : Chain Entry ImageSize = tiff_entries header count in
+    let adv = entries_advance header count d in
+    let all = chain_induction c d (λ t. length t.held ≤ count → total (chain_from c d t).marks
+    ≤ 20 * min (count - length t.held) (records_from c d t)) adv
     (λ t entry place is later fits.
+    let u : Along Entry = record { held = t.held ++ entry ∷ []; place = place } in
     let apart : length t.held ≢ count = λ at. ends_at header count d t entry place is at in
     let below : length t.held < count = omega arith in
     let one = length_push t.held entry in
     let rest = later (omega arith) in
-    let next = records_next (tiff_entries header count) d t entry place (entries_advance header count d) is in
+    let next = records_next c d t entry place adv is in
+    let marks : total (chain_from c d t).marks ≡ total (next_record c d t).marks + total (chain_from c d u).marks =
+    ap (λ w. total w.marks) (chain_next c d t entry place adv is) ∙ total-append (next_record c d t).marks (chain_from c d u).marks in
+    let few = at_most d (20 * min 1 (count - length t.held)) (c.said t.held t.place) (record_cost header count t.held t.place fits) in
     omega arith)
-    (λ t r is fits. let one = records_stop (tiff_entries header count) d t r is in omega arith)
-    (start (tiff_entries header count)) in
-    let all = few (omega arith) in omega arith
+    (λ t r is fits.
+    let one = records_stop c d t r is in
+    let marks : total (chain_from c d t).marks ≡ total (next_record c d t).marks = ap (λ w. total w.marks) (chain_stop c d t r is) in
+    let few = at_most d (20 * min 1 (count - length t.held)) (c.said t.held t.place) (record_cost header count t.held t.place fits) in
+    omega arith)
+    (start c) in
+    let most = all (omega arith) in omega arith
 
-directory_cost : (d : List ℕ) (header : Header) → total (tiff_directory d header).marks ≤ 28 + 20 * begun_of d header
+directory_cost : (d : List ℕ) (header : Header) → total (tiff_directory d header).marks ≤ 8 + 20 * begun_of d header
     (number_at d header.order header.directory (count_bytes header.version))
 directory_cost d header = cost_by (number_at d header.order header.directory (count_bytes header.version)) where
   cost_by : (r : Result ℕ ImageError) → total (onward (span_of d header.directory (count_bytes header.version)) r
-      (λ count. chain_at (tiff_entries header count) d)).marks ≤ 28 + 20 * begun_of d header r
+      (λ count. chain_at (tiff_entries header count) d)).marks ≤ 8 + 20 * begun_of d header r
   cost_by (Ok count) =
       let all = total-append (span_of d header.directory (count_bytes header.version)) (chain_at (tiff_entries header count) d).marks in
       let first = total-span_of d header.directory (count_bytes header.version) in
       let short = count_few header.version in
-      let few = records_few header count d in
-      let each = chain_cost (tiff_entries header count) d (entries_advance header count d) 20
-      (λ entries place. by_count (AtMost 20) header count entries place tt (record_at_most header entries place)) in
+      let each = entries_cost header count d in
       omega arith
   cost_by (Err e) = let first = total-span_of d header.directory (count_bytes header.version) in let short = count_few header.version in
       omega arith
 
--- an entry is read from at most 20 bytes
-pub tiff_cost : (d : List ℕ) → total (tiff d).marks ≤ 46 + 20 * entries_begun d
+-- outside of the entries, header and count are read from at most 24
+pub tiff_cost : (d : List ℕ) → total (tiff d).marks ≤ 24 + 20 * entries_begun d
 tiff_cost d = cost_by (over d tiff_header).answer where
-  cost_by : (r : Result Header ImageError) → total (onward (over d tiff_header).marks r (tiff_directory d)).marks ≤ 46
+  cost_by : (r : Result Header ImageError) → total (onward (over d tiff_header).marks r (tiff_directory d)).marks ≤ 24
       + 20 * begun_behind d r
   cost_by (Ok header) =
       let all = total-append (over d tiff_header).marks (tiff_directory d header).marks in
@@ -498,10 +518,10 @@ tiff_lasts d x size = by_header (over d tiff_header).answer refl where
       ∙ ap (λ r. (onward (over d tiff_header).marks r (tiff_directory (d ++ x))).answer) read ∙ directory_lasts d x header size is
   by_header (Err e) read is = absurd cc
 
-pub tiff_laws : RecordedLaws 12 true 20 tiff entries_begun
+pub tiff_laws : RecordedLaws 12 36 20 true tiff entries_begun
 tiff_laws = record {
   local = tiff_local;
   cost = λ d. omega (arith, tiff_cost d);
-  within = tiff_within;
+  within = λ d. omega (arith, tiff_within d);
   lasts = λ _. tiff_lasts;
 }

@@ -37,7 +37,7 @@ pub fn matches(head: &[u8; 12]) -> bool
 ///
 /// `CorruptedImage` where a box ends above 2^64-1, or the header is not there whole; `InvalidJxlBoxSize` of a box that is
 /// smaller than its head; `InvalidJxlSignature` of a codestream that does not begin with its signature; `EndOfInput` where
-/// the input ends before a codestream.
+/// the input ends before its first two bytes, or before a box's head or long size, and of a part too short for its index.
 pub fn size<S: Source>(source: &mut S) -> ImageResult<ImageSize>
     ensures { Runs (S.state source.old) (S.state source.new) result (jxl (S.state source.old).held.input) }
 {

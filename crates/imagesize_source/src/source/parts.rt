@@ -121,7 +121,13 @@ impl Source for PartsSource<'_> {
 
     fn read_at(&mut self, place: u64, room: &mut [u8]) -> Result<usize, Halt> {
         let wanted = there(self.told, place, room.len());
-        let found = gather(self.spans, self.bytes, self.told, place, &mut room[..wanted]);
+        let found = gather(
+            self.spans,
+            self.bytes,
+            self.told,
+            place,
+            &mut room[..wanted],
+        );
         if found < wanted {
             return Err(self.miss(place, found, wanted - found));
         }
@@ -131,7 +137,13 @@ impl Source for PartsSource<'_> {
 
     fn read_text(&mut self, place: u64, text: Text, room: &mut [u8]) -> Result<usize, Halt> {
         let wanted = there(self.told, place, room.len());
-        let found = gather(self.spans, self.bytes, self.told, place, &mut room[..wanted]);
+        let found = gather(
+            self.spans,
+            self.bytes,
+            self.told,
+            place,
+            &mut room[..wanted],
+        );
         if is_cut(text, &room[..found], wanted) {
             return Err(self.miss(place, found, wanted - found));
         }

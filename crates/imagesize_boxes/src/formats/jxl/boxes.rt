@@ -128,7 +128,7 @@ fn read_long_size<S: Source>(source: &mut S, place: u64) -> ImageResult<u64>
     read_u64(source, place.saturating_add(8), Endian::Big)
 }
 
-// The head, where the box ends within 64 bits and not before its head does.
+// The head, where the box ends at 2^64-1 at the latest and not before its head does.
 fn checked(place: u64, head: BoxHead) -> ImageResult<BoxHead>
     requires { head.length ≤ 16 }
     ensures is { IfOk result (λ found. IsHead place found) }

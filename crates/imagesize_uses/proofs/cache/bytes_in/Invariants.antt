@@ -1,5 +1,5 @@
 use Rattle.std.proofs.Common.{◌≡◌, take}
-use Rattle.imagesize_uses.specs.Cache.{bytes_of}
+use Rattle.imagesize_source.specs.Known.{bytes_of}
 use Rattle.imagesize_uses.proofs.cache.bytes_in.Given as goal
 
 -- the bytes in the spans so far

@@ -1,5 +1,5 @@
 use Rattle.std.proofs.Common.{◌≡◌, ◌++◌, take}
-use Rattle.imagesize_uses.specs.Cache.{bytes_of}
+use Rattle.imagesize_source.specs.Known.{bytes_of}
 use Rattle.imagesize_uses.proofs.cache.has_bytes.Given as goal
 
 -- the bytes in the spans so far, and those that are left, are the kept ones

@@ -1,0 +1,111 @@
+// The type of an image and its width and height in pixels, from a few bytes, with no pixel decoded.
+
+import { ImageError } from './errors.js';
+import { Remote } from './http.js';
+import { library } from './library.js';
+import { Parts, firstBlock, nextBlock } from './parts.js';
+
+export { ImageError };
+
+const MEBIBYTE = 2 ** 20;
+const MOST_SPANS = 65536;
+
+/** Type and size of the image in some bytes. */
+export function probe(data) {
+  const bytes = bytesOf(data);
+  const parts = new Parts();
+  let block = firstBlock(Infinity);
+  for (;;) {
+    parts.add(block.start, bytes.subarray(block.start, block.end));
+    const { wanted, image, error } = library().probeParts(parts, bytes.length);
+    if (error) throw error;
+    if (image) return image;
+    block = nextBlock(wanted, bytes.length, parts, Infinity);
+  }
+}
+
+/** The spans of the readings that the answer of `probe` rests on. */
+export function spans(data, { limit = MOST_SPANS } = {}) {
+  return library().spans(bytesOf(data), limit);
+}
+
+/** Type and size of the image in a `Blob` or a `File`, of which a few slices are read. */
+export async function probeBlob(blob, options) {
+  const read = async ({ start, end }) => new Uint8Array(await blob.slice(start, end).arrayBuffer());
+  return probeSource({ total: blob.size, read }, 64 * MEBIBYTE, options);
+}
+
+/** Type and size of the image in a file, of which a few blocks are read; in Node alone. */
+export async function probeFile(path, options) {
+  const { open, stat } = globalThis.process.getBuiltinModule('node:fs/promises');
+  if (!(await stat(path)).isFile()) throw new ImageError('NOT_A_FILE', `${path} is no regular file`);
+  const file = await open(path);
+  try {
+    const { size } = await file.stat();
+    return await probeSource({ total: size, read: (block) => readBlock(file, block) }, 64 * MEBIBYTE, options);
+  } finally {
+    await file.close();
+  }
+}
+
+/** Type and size of the image at an address, of which a few ranges are fetched. */
+export async function probeUrl(url, options) {
+  return probeSource(new Remote(url, options?.signal), MEBIBYTE, options);
+}
+
+// The bytes of a block, or those that are left of the file.
+async function readBlock(file, { start, end }) {
+  const buffer = new Uint8Array(end - start);
+  let length = 0;
+  for (let more = -1; more !== 0 && length < buffer.length; length += more) {
+    ({ bytesRead: more } = await file.read(buffer, length, buffer.length - length, start + length));
+  }
+  return buffer.subarray(0, length);
+}
+
+// Type and size of the image in a source: its `read` gives the bytes of a block, and its `total` is known behind the first.
+async function probeSource(source, most, { signal, maxBytes = most, trace = false } = {}) {
+  const parts = new Parts();
+  const read = () => ({ total: source.total, reads: parts.reads, bytesRead: parts.length });
+  try {
+    const { image, error } = await answerOf(source, parts, maxBytes, signal);
+    const traced = trace ? { trace: await traceOf(parts, source.total) } : {};
+    if (error) throw Object.assign(error, traced);
+    return { ...image, ...read(), ...traced };
+  } catch (error) {
+    throw error instanceof ImageError ? Object.assign(error, read()) : error;
+  }
+}
+
+async function answerOf(source, parts, maxBytes, signal) {
+  let block = firstBlock(maxBytes);
+  for (;;) {
+    signal?.throwIfAborted();
+    const bytes = await source.read(block);
+    const length = Math.min(block.end, source.total) - block.start;
+    if (bytes.length !== length) throw new ImageError('CUT_SHORT', `${bytes.length} of ${length} bytes came`);
+    parts.add(block.start, bytes);
+    const answer = library().probeParts(parts, source.total);
+    if (!answer.wanted) return answer;
+    block = nextBlock(answer.wanted, source.total, parts, maxBytes);
+  }
+}
+
+// The spans of an answer with their bytes; null where there are too many, or too little memory for an input of this length.
+async function traceOf(parts, total) {
+  try {
+    const found = await library().spansOfParts(parts, total, MOST_SPANS);
+    return found.map(({ start, len }) => ({ start, bytes: parts.slice(start, len) }));
+  } catch (error) {
+    if (error instanceof RangeError || error.code === 'TOO_MANY_SPANS') return null;
+    throw error;
+  }
+}
+
+// The bytes of a buffer, or of a view of one.
+function bytesOf(data) {
+  if (ArrayBuffer.isView(data)) return new Uint8Array(data.buffer, data.byteOffset, data.byteLength);
+  const kind = Object.prototype.toString.call(data);
+  if (kind === '[object ArrayBuffer]' || kind === '[object SharedArrayBuffer]') return new Uint8Array(data);
+  throw new TypeError('The bytes of an image are an ArrayBuffer, or a view of one as a Uint8Array');
+}

@@ -1,0 +1,221 @@
+// The proved library as WebAssembly: its calls, over bytes that are copied into its memory.
+
+import { ImageError } from './errors.js';
+
+/** What a call answers, by its number in include/imagesize.h. */
+export const STATUSES = [
+  'ANSWERED', 'NOT_SUPPORTED', 'CORRUPTED_IMAGE', 'FAULT', 'END_OF_INPUT', 'NOT_ENOUGH_DATA', 'BUDGET_SPENT', 'OUT_OF_MEMORY',
+  'NO_DELIMITER', 'NOT_UTF8', 'INVALID_HEIF_BOX_SIZE', 'INVALID_JXL_BOX_SIZE', 'INVALID_JXL_SIGNATURE', 'INVALID_TIFF_HEADER',
+  'BIG_TIFF_OFFSET_SIZE', 'INVALID_BIG_TIFF_HEADER', 'INVALID_IFD_OFFSET', 'IFD_TYPE_FOR_STANDARD_TIFF', 'INVALID_IFD_TYPE',
+  'INVALID_IFD_VALUE_LENGTH', 'NO_DIMENSIONS_IN_IFD', 'INVALID_VP8_TAG', 'DATA_WINDOW_NOT_FOUND', 'INVALID_HDR_IDENTIFIER',
+  'INVALID_HDR_DIMENSIONS_LINE', 'HDR_DIMENSIONS_NOT_FOUND', 'PNM_DIMENSIONS_NOT_FOUND', 'BUFFER_TOO_SMALL', 'UNKNOWN_TYPE',
+  'UNKNOWN_STATUS', 'BYTES_WANTED',
+];
+const ANSWERED = 0;
+const BYTES_WANTED = 30;
+
+const PAGE = 65536;
+const SPAN = 16;
+
+// Where the answers of a call stand behind the base of the free memory, and where what is lent begins.
+const AT = { type: 0, compression: 4, width: 8, height: 16, wanted: 24, count: 40, lent: 48 };
+const TEXT_ROOM = 256;
+
+const NO_NAMES = { kind: null, compression: null };
+
+// A module with nothing but a 64-bit memory.
+const MEMORY64 = new Uint8Array([0, 97, 115, 109, 1, 0, 0, 0, 5, 3, 1, 4, 0]);
+
+async function load() {
+  if (!WebAssembly.validate(MEMORY64)) {
+    const message = 'This engine has no 64-bit WebAssembly memory; Node 20 has it by --experimental-wasm-memory64';
+    throw new ImageError('NO_MEMORY64', message);
+  }
+  try {
+    return await Library.of(await WebAssembly.compile(await binary(new URL('./out/imagesize.wasm', import.meta.url))));
+  } catch (cause) {
+    throw new ImageError('NO_LIBRARY', `The library cannot be loaded (${cause.message}); bindings/js/build builds it`, { cause });
+  }
+}
+
+async function binary(url) {
+  if (url.protocol === 'file:') {
+    return globalThis.process.getBuiltinModule('node:fs/promises').readFile(url);
+  }
+  const response = await fetch(url);
+  if (!response.ok) throw new Error(`${url} answers ${response.status}`);
+  return response.arrayBuffer();
+}
+
+/** The library, or the reason why there is none, thrown. */
+export function library() {
+  if (loaded.failure) throw loaded.failure;
+  return loaded.library;
+}
+
+class Library {
+  #module;
+  #calls;
+  #memory;
+  #base;
+  #answers;
+  #bytes;
+  #view;
+  #names = [];
+  #texts = [];
+
+  static async of(module) {
+    return new Library(module, (await WebAssembly.instantiate(module)).exports);
+  }
+
+  constructor(module, exports) {
+    this.#module = module;
+    this.#calls = exports;
+    this.#memory = exports.memory;
+    this.#base = Math.ceil(Number(exports.__heap_base.value) / SPAN) * SPAN;
+    this.#answers = Object.fromEntries(Object.entries(AT).map(([name, at]) => [name, this.#pointer(at)]));
+    this.#lend(AT.lent + TEXT_ROOM);
+  }
+
+  /**
+   * What the known parts of an input of `total` bytes tell: `{ wanted }`, a span that is needed, `{ image }` or `{ error }`.
+   */
+  probeParts(parts, total) {
+    const bytes = AT.lent + SPAN * parts.spans.length;
+    this.#lend(bytes + parts.length);
+    this.#putSpans(AT.lent, parts.spans);
+    this.#putPieces(bytes, parts.pieces);
+    this.#putNumber(AT.type, 0);
+    const { type, compression, width, height, wanted } = this.#answers;
+    const status = this.#calls.imagesize_probe_parts(
+      this.#pointer(bytes), BigInt(parts.length), this.#pointer(AT.lent), BigInt(parts.spans.length), BigInt(total),
+      type, compression, width, height, wanted,
+    );
+    return status === BYTES_WANTED ? { wanted: this.#span(AT.wanted) } : this.#told(status);
+  }
+
+  /** The spans of the readings that type and size of these bytes rest on, where there are at most so many. */
+  spans(bytes, most) {
+    return this.#spansOf([{ start: 0, bytes }], bytes.length, most);
+  }
+
+  /**
+   * The same of an input of `total` bytes, whose answer its known parts tell: all other bytes may be zeros, which a memory
+   * that nobody wrote to has of itself.
+   */
+  async spansOfParts(parts, total, most) {
+    return (await Library.of(this.#module)).#spansOf(parts.pieces, total, most);
+  }
+
+  #spansOf(pieces, length, most) {
+    const room = AT.lent + Math.ceil(length / SPAN) * SPAN;
+    this.#lend(room);
+    for (const { start, bytes } of pieces) this.#bytes.set(bytes, this.#base + AT.lent + start);
+    const count = this.#tellSpans(length, room, 0);
+    if (count > most) throw new ImageError('TOO_MANY_SPANS', `The answer rests on ${count} spans, and ${most} are allowed`);
+    this.#lend(room + SPAN * count);
+    this.#tellSpans(length, room, count);
+    return Array.from({ length: count }, (_, index) => this.#span(room + SPAN * index));
+  }
+
+  #tellSpans(length, room, count) {
+    this.#calls.imagesize_spans(
+      this.#pointer(AT.lent), BigInt(length), this.#pointer(room), BigInt(count), this.#pointer(AT.count),
+    );
+    return this.#number(AT.count);
+  }
+
+  // Makes room for so many bytes behind the base, and renews the views of a memory that has grown.
+  #lend(size) {
+    const missing = this.#base + size - this.#memory.buffer.byteLength;
+    if (missing > 0) grow(this.#memory, Math.ceil(missing / PAGE));
+    if (this.#bytes?.buffer !== this.#memory.buffer) {
+      this.#bytes = new Uint8Array(this.#memory.buffer);
+      this.#view = new DataView(this.#memory.buffer);
+    }
+  }
+
+  #pointer(at) {
+    return BigInt(this.#base + at);
+  }
+
+  // Pieces one behind another.
+  #putPieces(at, pieces) {
+    let place = this.#base + at;
+    for (const { bytes } of pieces) {
+      this.#bytes.set(bytes, place);
+      place += bytes.length;
+    }
+  }
+
+  #putSpans(at, spans) {
+    let place = at;
+    for (const { start, len } of spans) {
+      this.#putNumber(place, start);
+      this.#putNumber(place + 8, len);
+      place += SPAN;
+    }
+  }
+
+  #putNumber(at, number) {
+    this.#view.setUint32(this.#base + at, number >>> 0, true);
+    this.#view.setUint32(this.#base + at + 4, Math.floor(number / 2 ** 32), true);
+  }
+
+  #span(at) {
+    return { start: this.#number(at), len: this.#number(at + 8) };
+  }
+
+  // A number of 64 bits, which is exact under 2^53.
+  #number(at) {
+    return this.#view.getUint32(this.#base + at, true) + this.#view.getUint32(this.#base + at + 4, true) * 2 ** 32;
+  }
+
+  #told(status) {
+    const { kind, compression } = this.#named();
+    if (status !== ANSWERED) {
+      return { error: new ImageError(STATUSES[status], this.#statusText(status), { kind, compression }) };
+    }
+    const width = this.#number(AT.width);
+    const height = this.#number(AT.height);
+    if (Math.max(width, height) <= Number.MAX_SAFE_INTEGER) return { image: { kind, compression, width, height } };
+    return { error: new ImageError('SIDE_TOO_LARGE', 'A side has 2^53 pixels or more', { kind, compression }) };
+  }
+
+  // The names of the type and the compression that were told.
+  #named() {
+    const type = this.#view.getUint32(this.#base + AT.type, true);
+    const compression = this.#view.getUint32(this.#base + AT.compression, true);
+    const known = this.#names[type]?.[compression];
+    if (known !== undefined || type === 0) return known ?? NO_NAMES;
+    const kind = this.#text(this.#calls.imagesize_type_name, type, compression);
+    const name = this.#text(this.#calls.imagesize_compression_name, type, compression);
+    const names = { kind, compression: name || null };
+    (this.#names[type] ??= [])[compression] = names;
+    return names;
+  }
+
+  #statusText(status) {
+    this.#texts[status] ??= this.#text(this.#calls.imagesize_status_text, status);
+    return this.#texts[status];
+  }
+
+  // The text of a call, all of which are shorter than the room.
+  #text(call, ...numbers) {
+    call(...numbers, this.#pointer(AT.lent), BigInt(TEXT_ROOM), this.#pointer(AT.count));
+    const start = this.#base + AT.lent;
+    return String.fromCharCode(...this.#bytes.subarray(start, start + this.#number(AT.count)));
+  }
+}
+
+// Engines from before the last rules of 64-bit memory count its pages by a number of 32 bits, and the others by a BigInt.
+function grow(memory, pages) {
+  try {
+    memory.grow(BigInt(pages));
+  } catch (error) {
+    if (!(error instanceof TypeError)) throw error;
+    memory.grow(Math.min(pages, 2 ** 32 - 1));
+  }
+}
+
+const loaded = await load().then((library) => ({ library }), (failure) => ({ failure }));

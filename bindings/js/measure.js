@@ -1,0 +1,99 @@
+// What the module costs: node --experimental-wasm-memory64 bindings/js/measure.js [FILE..]
+//
+// It prints microseconds a call of `probe` over the bytes of each file, here and in Python; the bytes and requests of `probeUrl`
+// beside the whole input; and the size of what a page loads.
+
+import { spawnSync } from 'node:child_process';
+import { readFileSync } from 'node:fs';
+import { basename } from 'node:path';
+import { fileURLToPath } from 'node:url';
+import { brotliCompressSync, gzipSync } from 'node:zlib';
+import { probe, probeUrl } from './imagesize.js';
+import { giveRange, jpegBehind, tiffBehind, withServer } from './tests/support.js';
+
+const CALLS = 2000;
+const ROUNDS = 20;
+
+const row = (name, ...numbers) => console.log(name.padEnd(34), ...numbers.map((number) => String(number).padStart(10)));
+
+// Microseconds a call, in the best of some rounds.
+function timed(call) {
+  let best = Infinity;
+  for (let round = 0; round < ROUNDS; round += 1) {
+    const begin = performance.now();
+    for (let index = 0; index < CALLS; index += 1) call();
+    best = Math.min(best, performance.now() - begin);
+  }
+  return ((best * 1000) / CALLS).toFixed(2);
+}
+
+const PYTHON = `
+import sys, time, imagesize_proved
+def call(data):
+    try: imagesize_proved.probe(data)
+    except imagesize_proved.ImageError: pass
+for name in sys.argv[1:]:
+    data, best = open(name, "rb").read(), 1e9
+    for _ in range(${ROUNDS}):
+        begin = time.perf_counter()
+        for _ in range(${CALLS}): call(data)
+        best = min(best, time.perf_counter() - begin)
+    print(f"{best * 1e6 / ${CALLS}:.2f}")`;
+
+// The same in Python, where its package is there.
+function timedInPython(files) {
+  const path = fileURLToPath(new URL('../python', import.meta.url));
+  const env = { ...process.env, PYTHONPATH: path };
+  const { status, stdout } = spawnSync('python3', ['-c', PYTHON, ...files], { env, encoding: 'utf8' });
+  return status === 0 ? stdout.split('\n') : files.map(() => '-');
+}
+
+function measureCalls(files) {
+  row('microseconds a call', 'bytes', 'Node', 'Python');
+  const inPython = timedInPython(files);
+  files.forEach((file, index) => {
+    const bytes = readFileSync(file);
+    const call = () => { try { probe(bytes); } catch { /* a refusal costs too */ } };
+    row(basename(file), bytes.length, timed(call), inPython[index]);
+  });
+}
+
+// An AVIF of 48x64 pixels with so many bytes of pixels.
+function avif(length) {
+  const boxes = Buffer.from('00000010667479706176696600000000000000396d657461000000000000002d69707270000000256970636f00000014'
+    + '697370650000000000000040000000300000000969726f7401', 'hex');
+  const data = Buffer.alloc(8 + length);
+  data.writeUInt32BE(data.length);
+  data.write('mdat', 4);
+  return Buffer.concat([boxes, data]);
+}
+
+async function measureRanges() {
+  row('\nranges', 'whole', 'fetched', 'requests');
+  const inputs = {
+    'JPEG, 200 kB before its frame': Buffer.concat([jpegBehind(4, 50000), Buffer.alloc(2_000_000)]),
+    'TIFF, its directory behind 2 MB': tiffBehind(2_000_000),
+    AVIF: avif(300_000),
+  };
+  for (const [name, bytes] of Object.entries(inputs)) {
+    await withServer((request, response) => giveRange(request, response, bytes), async (url) => {
+      const image = await probeUrl(url);
+      row(`${name}, ${image.width}x${image.height}`, bytes.length, image.bytesRead, image.reads);
+    });
+  }
+}
+
+function measureSizes() {
+  row('\nwhat a page loads', 'plain', 'gzip', 'brotli');
+  const files = ['imagesize.js', 'errors.js', 'http.js', 'library.js', 'parts.js', 'out/imagesize.wasm'];
+  const sizes = files.map((name) => {
+    const bytes = readFileSync(new URL(name, import.meta.url));
+    return [bytes.length, gzipSync(bytes, { level: 9 }).length, brotliCompressSync(bytes).length];
+  });
+  sizes.forEach((size, index) => row(files[index], ...size));
+  row('together', ...[0, 1, 2].map((column) => sizes.reduce((sum, size) => sum + size[column], 0)));
+}
+
+measureCalls(process.argv.slice(2));
+await measureRanges();
+measureSizes();

@@ -1,0 +1,214 @@
+// What callers may lend, what they may do wrong, and what is left behind.
+
+import assert from 'node:assert/strict';
+import { execFile, execFileSync } from 'node:child_process';
+import { copyFileSync, mkdtempSync, readFileSync, readdirSync, rmSync, truncateSync, writeFileSync } from 'node:fs';
+import { open } from 'node:fs/promises';
+import { tmpdir } from 'node:os';
+import { join } from 'node:path';
+import { after, test } from 'node:test';
+import { fileURLToPath } from 'node:url';
+import { promisify } from 'node:util';
+import { Worker } from 'node:worker_threads';
+import { ImageError, probe, probeBlob, probeFile, spans } from '../imagesize.js';
+import { jpegBehind, tiffBehind } from './support.js';
+
+const gif = new TextEncoder().encode('GIF89ad\0\x32\0\0\0');
+const isGif = (image) => assert.deepEqual(image, { kind: 'Gif', compression: null, width: 100, height: 50 });
+const module = new URL('../imagesize.js', import.meta.url).href;
+const folder = mkdtempSync(join(tmpdir(), 'imagesize-'));
+after(() => rmSync(folder, { recursive: true }));
+
+// The error that a call throws, which is an ImageError of this code.
+function refused(call, code) {
+  try {
+    call();
+  } catch (error) {
+    assert.ok(error instanceof ImageError, String(error));
+    assert.equal(error.code, code);
+    return error;
+  }
+  return assert.fail('nothing was thrown');
+}
+
+// Runs `use` while memory grows as `grow` says.
+function withGrow(grow, use) {
+  const { prototype } = WebAssembly.Memory;
+  const before = prototype.grow;
+  prototype.grow = function (pages) { return grow(this, before, pages); };
+  try {
+    return use();
+  } finally {
+    prototype.grow = before;
+  }
+}
+
+test('bytes in every form', () => {
+  const around = new Uint8Array([1, 2, 3, ...gif, 4, 5]);
+  const shared = new SharedArrayBuffer(gif.length);
+  new Uint8Array(shared).set(gif);
+  const views = [around.subarray(3, 15), new DataView(around.buffer, 3, 12), new Uint16Array(gif.buffer)];
+  for (const bytes of [gif, gif.buffer, Buffer.from(gif), shared, ...views]) {
+    isGif(probe(bytes));
+    assert.equal(spans(bytes).length, 3);
+  }
+});
+
+test('what is no bytes is a TypeError', () => {
+  for (const bytes of [undefined, null, 'GIF89a', 12, [71, 73, 70], {}, { length: 12, byteLength: 12 }, new Blob([gif])]) {
+    assert.throws(() => probe(bytes), TypeError);
+    assert.throws(() => spans(bytes), TypeError);
+  }
+  isGif(probe(gif));
+});
+
+test('a refusal has a code, a text and the type that was found', () => {
+  const short = refused(() => probe(gif.subarray(0, 10)), 'END_OF_INPUT');
+  assert.deepEqual([short.name, short.kind, short.message], ['ImageError', null, 'failed to fill whole buffer']);
+  const cut = Buffer.from('00000010667479706176696600000000000000396d657461', 'hex');
+  const { kind, compression } = refused(() => probe(cut), 'END_OF_INPUT');
+  assert.deepEqual([kind, compression], ['Heif', 'Av1']);
+  assert.equal(Object.prototype.propertyIsEnumerable.call(short, 'name'), false);
+});
+
+test('a side is exact, or refused', () => {
+  assert.equal(probe(Buffer.from(`P1 ${2 ** 53 - 1} 7\n0`)).width, Number.MAX_SAFE_INTEGER);
+  assert.equal(refused(() => probe(Buffer.from(`P1 7 ${2 ** 53}\n0`)), 'SIDE_TOO_LARGE').kind, 'Pnm');
+});
+
+test('large bytes are answered by a few blocks of them, and no memory grows', () => {
+  const tiff = tiffBehind(50_000_000);
+  withGrow(assert.fail, () => assert.deepEqual(probe(tiff), { kind: 'Tiff', compression: null, width: 5, height: 7 }));
+});
+
+test('memory grows, and is used again', () => {
+  const large = Buffer.alloc(20_000_000);
+  large.set(gif);
+  const counted = (use) => {
+    let count = 0;
+    withGrow((memory, grow, pages) => { const told = grow.call(memory, pages); count += 1; return told; }, use);
+    return count;
+  };
+  assert.ok(counted(() => assert.equal(spans(large).length, 3)) >= 1);
+  assert.equal(counted(() => assert.equal(spans(large).length, 3)), 0);
+});
+
+test('a call that throws leaves the module usable', () => {
+  const refuse = () => { throw new RangeError('no memory'); };
+  assert.throws(() => withGrow(refuse, () => spans(Buffer.alloc(60_000_000))), /no memory/);
+  isGif(probe(gif));
+  assert.equal(spans(gif).length, 3);
+});
+
+test('more spans than are allowed are refused', () => {
+  const many = jpegBehind(2000, 4);
+  assert.match(refused(() => spans(many, { limit: 100 }), 'TOO_MANY_SPANS').message, /rests on \d{4} spans/);
+  assert.ok(spans(many).length > 4000);
+});
+
+test('a walk over many megabytes ends soon', () => {
+  const begin = performance.now();
+  for (const jpeg of [jpegBehind(4_000_000, 4), jpegBehind(1000, 60000)]) assert.equal(probe(jpeg).width, 7);
+  assert.ok(performance.now() - begin < 30000);
+});
+
+test('a blob is read by aligned slices, each place once', async () => {
+  const bytes = jpegBehind(4, 50000);
+  const slices = [];
+  const slice = (start, end) => {
+    slices.push([start, end]);
+    return new Blob([bytes.subarray(start, end)]);
+  };
+  const blob = { size: bytes.length, slice };
+  const { width, reads, bytesRead, total } = await probeBlob(blob);
+  assert.deepEqual([width, reads, total], [7, 5, bytes.length]);
+  assert.equal(bytesRead, slices.reduce((sum, [start, end]) => sum + end - start, 0));
+  assert.ok(slices.every(([start, end]) => start % 4096 === 0 && end <= bytes.length));
+  assert.ok(slices.slice(1).every(([start], index) => start >= slices[index][1]));
+});
+
+test('a trace has the bytes of a few blocks of a long input, or is null', async () => {
+  const tiff = tiffBehind(50_000_000);
+  const { trace } = await probeBlob(new Blob([tiff]), { trace: true });
+  assert.deepEqual(trace.map(({ start, bytes }) => [start, bytes.length]), spans(tiff).map(({ start, len }) => [start, len]));
+  assert.deepEqual(Buffer.from(trace.at(-1).bytes), tiff.subarray(-8, -4));
+  const endless = { size: 2 ** 50, slice: (start, end) => new Blob([Buffer.concat([gif, Buffer.alloc(end - start - 12)])]) };
+  const image = await probeBlob(endless, { trace: true });
+  assert.deepEqual([image.width, image.trace], [100, null]);
+  assert.equal((await probeBlob(new Blob([jpegBehind(40000, 4)]), { trace: true })).trace, null);
+});
+
+test('a blob that is cut is refused', async () => {
+  const cut = { size: 5000, slice: () => new Blob([gif]) };
+  await assert.rejects(probeBlob(cut), { code: 'CUT_SHORT', message: '12 of 4096 bytes came', reads: 0 });
+});
+
+test('a signal ends a probe, and bad limits are refused', async () => {
+  await assert.rejects(probeBlob(new Blob([gif]), { signal: AbortSignal.abort() }), { name: 'AbortError' });
+  for (const maxBytes of [0, -1, 4096.5, NaN, 'many']) await assert.rejects(probeBlob(new Blob([gif]), { maxBytes }), RangeError);
+  await assert.rejects(probeBlob(new Blob([gif]), { maxBytes: 11 }), { code: 'LIMIT_REACHED' });
+});
+
+test('files, and what is none', async () => {
+  const path = join(folder, 'a.tif');
+  writeFileSync(path, tiffBehind(1_000_000));
+  const { kind, reads } = await probeFile(path);
+  assert.deepEqual([kind, reads], ['Tiff', 2]);
+  execFileSync('mkfifo', [join(folder, 'pipe')]);
+  await assert.rejects(probeFile(folder), { code: 'NOT_A_FILE' });
+  await assert.rejects(probeFile(join(folder, 'pipe')), { code: 'NOT_A_FILE' });
+  await assert.rejects(probeFile(join(folder, 'nothing')), { code: 'ENOENT' });
+});
+
+test('a file that is cut while it is read is refused, and closed', async () => {
+  const path = join(folder, 'cut.tif');
+  writeFileSync(path, tiffBehind(1_000_000));
+  const file = await open(path);
+  const prototype = Object.getPrototypeOf(file);
+  await file.close();
+  const before = prototype.read;
+  prototype.read = function (...wanted) { truncateSync(path, 4096); return before.apply(this, wanted); };
+  const opened = readdirSync('/proc/self/fd').length;
+  try {
+    await assert.rejects(probeFile(path), { code: 'CUT_SHORT', reads: 1, bytesRead: 4096 });
+  } finally {
+    prototype.read = before;
+  }
+  assert.ok(readdirSync('/proc/self/fd').length <= opened);
+});
+
+test('each worker has a library of its own', async () => {
+  const code = `const { parentPort, workerData } = require('node:worker_threads');
+    import(${JSON.stringify(module)}).then(({ probe }) => parentPort.postMessage(probe(workerData)));`;
+  const answers = await Promise.all(Array.from({ length: 4 }, () => new Promise((resolve, reject) => {
+    new Worker(code, { eval: true, workerData: gif }).on('message', resolve).on('error', reject);
+  })));
+  answers.forEach(isGif);
+});
+
+test('an engine without 64-bit memory says so at the first call', async () => {
+  const code = `WebAssembly.validate = () => false;
+    import(${JSON.stringify(module)}).then(({ probe }) => probe(new Uint8Array(12)))
+      .catch((error) => console.log(error.name, error.code, error.message));`;
+  const { stdout } = await promisify(execFile)(process.execPath, ['-e', code]);
+  assert.match(stdout, /^ImageError NO_MEMORY64 .*--experimental-wasm-memory64/);
+});
+
+test('a module without its library says how it is built', async () => {
+  for (const name of ['imagesize.js', 'errors.js', 'http.js', 'library.js', 'parts.js', 'package.json']) {
+    copyFileSync(new URL(`../${name}`, import.meta.url), join(folder, name));
+  }
+  const { probe: lost } = await import(join(folder, 'imagesize.js'));
+  assert.throws(() => lost(gif), { code: 'NO_LIBRARY', message: /bindings\/js\/build builds it/ });
+});
+
+test('the codes are those of the header, and the declarations have them', async () => {
+  const { STATUSES } = await import('../library.js');
+  const header = readFileSync(new URL('../../../include/imagesize.h', import.meta.url), 'utf8');
+  const [, listed] = /enum imagesize_status \{(.*?)\};/s.exec(header);
+  for (const [, name, number] of listed.matchAll(/IMAGESIZE_(\w+) = (\d+)/g)) assert.equal(STATUSES[number], name);
+  const declared = readFileSync(fileURLToPath(new URL('../imagesize.d.ts', import.meta.url)), 'utf8');
+  const ofReaders = ['FAULT', 'BUDGET_SPENT', 'OUT_OF_MEMORY'];
+  const unanswered = [...ofReaders, 'ANSWERED', 'BUFFER_TOO_SMALL', 'UNKNOWN_TYPE', 'UNKNOWN_STATUS', 'BYTES_WANTED'];
+  for (const name of STATUSES) assert.equal(declared.includes(`  | '${name}'`), !unanswered.includes(name), name);
+});

@@ -1,0 +1,191 @@
+// Servers that give no ranges, cut them, lie, change what they give, or stall.
+
+import assert from 'node:assert/strict';
+import { EventEmitter, once } from 'node:events';
+import { createServer } from 'node:http';
+import { test } from 'node:test';
+import { ImageError, probeUrl } from '../imagesize.js';
+import { giveRange, jpegBehind, tiffBehind, withServer } from './support.js';
+
+const jpeg = jpegBehind(4, 50000);
+
+// The error of an address that this server answers, which comes within ten seconds.
+async function refused(answer, options = {}) {
+  return withServer(answer, async (url, requests) => {
+    const error = await probeUrl(url, { signal: AbortSignal.timeout(10000), ...options }).then(assert.fail, (reason) => reason);
+    assert.ok(requests.length <= 30, `${requests.length} requests`);
+    return error;
+  });
+}
+
+// Says that it gives this range, and gives these bytes.
+const say = (response, range, bytes, headers = {}) => response.writeHead(206, { 'Content-Range': range, ...headers }).end(bytes);
+
+// Writes bytes for as long as somebody takes them.
+function writeForever(response) {
+  const piece = Buffer.alloc(65536);
+  const more = () => { while (response.write(piece)); };
+  response.on('drain', more);
+  more();
+}
+
+test('few ranges are fetched, each aligned and within the input', async () => {
+  await withServer((request, response) => giveRange(request, response, jpeg), async (url, requests) => {
+    const { bytesRead, ...image } = await probeUrl(url);
+    assert.deepEqual(image, { kind: 'Jpeg', compression: null, width: 7, height: 5, total: jpeg.length, reads: 5 });
+    assert.equal(requests.length, 5);
+    let fetched = 0;
+    for (const { headers } of requests) {
+      const [, start, last] = /^bytes=(\d+)-(\d+)$/.exec(headers.range).map(Number);
+      assert.ok(start % 4096 === 0 && last < jpeg.length);
+      fetched += last + 1 - start;
+    }
+    assert.equal(bytesRead, fetched);
+    assert.ok(fetched <= 5 * 4096);
+  });
+});
+
+test('a directory at the end of two megabytes is two requests', async () => {
+  const tiff = tiffBehind(2000000);
+  await withServer((request, response) => giveRange(request, response, tiff), async (url) => {
+    const { kind, width, height, reads, bytesRead } = await probeUrl(new URL(url));
+    assert.deepEqual([kind, width, height, reads], ['Tiff', 5, 7, 2]);
+    assert.ok(bytesRead <= 8192);
+  });
+});
+
+test('many probes at once keep their parts apart', async () => {
+  const inputs = [jpeg, tiffBehind(100000), jpegBehind(1, 60000)];
+  await withServer((request, response) => giveRange(request, response, inputs[request.url.slice(-1)]), async (url) => {
+    const kinds = await Promise.all(Array.from({ length: 30 }, async (_, index) => (await probeUrl(`${url}${index % 3}`)).kind));
+    assert.deepEqual(kinds, Array.from({ length: 30 }, (_, index) => ['Jpeg', 'Tiff', 'Jpeg'][index % 3]));
+  });
+});
+
+test('an empty input is one that ends', async () => {
+  const error = await refused((request, response) => giveRange(request, response, Buffer.alloc(0)));
+  assert.equal(error.code, 'END_OF_INPUT');
+  assert.equal(error.total, 0);
+});
+
+test('a server without ranges is refused, and its body is left', async () => {
+  const leaving = new EventEmitter();
+  await withServer((_, response) => {
+    response.on('close', () => leaving.emit('close'));
+    response.writeHead(200, { 'Content-Type': 'image/jpeg' });
+    writeForever(response);
+  }, async (url) => {
+    const closed = once(leaving, 'close', { signal: AbortSignal.timeout(10000) });
+    await assert.rejects(probeUrl(url), { code: 'NO_RANGES' });
+    await closed;
+  });
+});
+
+test('a server that answers another status is refused by it', async () => {
+  const error = await refused((_, response) => response.writeHead(404).end('nothing'));
+  assert.equal(error.code, 'HTTP_STATUS');
+  assert.equal(error.status, 404);
+  const late = await refused((request, response, index) => {
+    if (index < 3) giveRange(request, response, jpeg);
+    else response.writeHead(503).end();
+  });
+  assert.deepEqual([late.code, late.status, late.reads], ['HTTP_STATUS', 503, 2]);
+});
+
+test('a range that is cut short is refused', async () => {
+  const cuts = [
+    (response) => say(response, `bytes 0-99/${jpeg.length}`, jpeg.subarray(0, 100)),
+    (response) => say(response, `bytes 0-4095/${jpeg.length}`, jpeg.subarray(0, 100)),
+    (response) => {
+      response.writeHead(206, { 'Content-Range': `bytes 0-4095/${jpeg.length}`, 'Content-Length': 4096 });
+      response.write(jpeg.subarray(0, 100));
+      setTimeout(() => response.destroy(), 50);
+    },
+  ];
+  for (const cut of cuts) {
+    const error = await refused((_, response) => cut(response));
+    assert.equal(error.code, 'CUT_SHORT');
+    assert.match(error.message, /^100 of 4096 bytes/);
+  }
+});
+
+test('another range than the one that was asked for is refused', async () => {
+  for (const range of [`bytes 4096-8191/${jpeg.length}`, `bytes 0-8191/${jpeg.length}`, 'bytes 0-4095/50']) {
+    assert.equal((await refused((_, response) => say(response, range, jpeg.subarray(0, 4096)))).code, 'WRONG_RANGE', range);
+  }
+});
+
+test('a range of which nothing is told is refused', async () => {
+  for (const range of ['bytes 0-4095/*', 'bytes 0-4095/99999999999999999999', 'pages 0-4095/9999', '']) {
+    assert.equal((await refused((_, response) => say(response, range, jpeg.subarray(0, 4096)))).code, 'NO_CONTENT_RANGE', range);
+  }
+});
+
+test('a body that goes on for ever is left behind its range', async () => {
+  await withServer((_, response) => {
+    response.writeHead(206, { 'Content-Range': 'bytes 0-4095/4096' });
+    response.write(jpegBehind(0, 4));
+    writeForever(response);
+  }, async (url) => {
+    const { width, height, bytesRead } = await probeUrl(url, { signal: AbortSignal.timeout(10000) });
+    assert.deepEqual([width, height, bytesRead], [7, 5, 4096]);
+  });
+});
+
+test('an input that changes between two ranges is refused', async () => {
+  const versions = {
+    ETag: (index) => `"${Math.min(index, 2)}"`,
+    'Last-Modified': (index) => new Date(index * 1000).toUTCString(),
+  };
+  for (const [header, version] of Object.entries(versions)) {
+    const error = await refused((request, response, index) => giveRange(request, response, jpeg, { [header]: version(index) }));
+    assert.deepEqual([error.code, error.reads], ['CHANGED', 1]);
+  }
+  for (const length of [jpeg.length - 1, 5000, 0]) {
+    const shorter = jpeg.subarray(0, length);
+    const shrunk = await refused((request, response, index) => giveRange(request, response, index < 2 ? jpeg : shorter));
+    assert.equal(shrunk.code, 'CHANGED', `${length} bytes`);
+  }
+});
+
+test('a server that stalls is left when the caller says so', async () => {
+  const stalls = [
+    () => {},
+    (response) => response.writeHead(206, { 'Content-Range': `bytes 0-4095/${jpeg.length}` }).write(jpeg.subarray(0, 100)),
+  ];
+  for (const stall of stalls) {
+    const late = await refused((_, response) => stall(response), { signal: AbortSignal.timeout(200) });
+    assert.equal(late.name, 'TimeoutError');
+    const control = new AbortController();
+    setTimeout(() => control.abort(new Error('the page is closed')), 100);
+    const closed = await refused((_, response) => stall(response), { signal: control.signal });
+    assert.equal(closed.message, 'the page is closed');
+  }
+});
+
+test('no more is read than is allowed, however the input goes on', async () => {
+  // Segments without end, four bytes each, so that no block tells the size.
+  const endless = (request, response) => {
+    const [, start, last] = /^bytes=(\d+)-(\d+)$/.exec(request.headers.range).map(Number);
+    const bytes = Buffer.alloc(last + 3, Buffer.from([0xff, 0xe1, 0, 2])).subarray(start + 2);
+    if (start === 0) bytes.set([0xff, 0xd8]);
+    say(response, `bytes ${start}-${last}/1000000000000`, bytes);
+  };
+  const error = await refused(endless);
+  assert.equal(error.code, 'LIMIT_REACHED');
+  assert.ok(error.bytesRead <= 2 ** 20 && error.reads === 23, `${error.bytesRead} bytes in ${error.reads} reads`);
+  const early = await refused(endless, { maxBytes: 5000 });
+  assert.deepEqual([early.code, early.bytesRead], ['LIMIT_REACHED', 5000]);
+});
+
+test('no server, and no address', async () => {
+  const server = createServer();
+  await new Promise((resolve) => server.listen(0, '127.0.0.1', resolve));
+  const { port } = server.address();
+  await new Promise((resolve) => server.close(resolve));
+  const error = await probeUrl(`http://127.0.0.1:${port}/`).then(assert.fail, (reason) => reason);
+  assert.ok(error instanceof ImageError);
+  assert.equal(error.code, 'UNREACHABLE');
+  assert.ok(error.cause instanceof Error);
+  await assert.rejects(probeUrl('no address'), TypeError);
+});

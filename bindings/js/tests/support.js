@@ -1,0 +1,69 @@
+// What the tests share: the worked inputs, inputs with their size far behind their beginning, and a server of ranges.
+
+import { readFileSync } from 'node:fs';
+import { createServer } from 'node:http';
+import { ImageError } from '../imagesize.js';
+
+/** The bytes, the line and the spans of each worked input. */
+export const worked = readFileSync(new URL('../../../examples/worked.tsv', import.meta.url), 'utf8')
+  .split('\n')
+  .filter((row) => row && !row.startsWith('#'))
+  .map((row) => row.split('\t'))
+  .map(([hex, line, spans]) => ({ bytes: Buffer.from(hex === '-' ? '' : hex, 'hex'), line, spans }));
+
+const named = ({ kind, compression }) => (compression ? `${kind}(${compression})` : kind);
+
+/** The line about an image, or about its refusal. */
+export async function lineOf(call) {
+  try {
+    const image = await call();
+    return `${named(image)} ${image.width}x${image.height}`;
+  } catch (error) {
+    if (!(error instanceof ImageError)) throw error;
+    return error.kind ? `${named(error)}: ${error.message}` : error.message;
+  }
+}
+
+/** A JPEG of 7x5 pixels behind so many segments, each of so many bytes. */
+export function jpegBehind(segments, length) {
+  const segment = Buffer.alloc(length);
+  segment.set([0xff, 0xe1]);
+  segment.writeUInt16BE(length - 2, 2);
+  const frame = [0xff, 0xc0, 0, 17, 8, 0, 5, 0, 7];
+  return Buffer.concat([Buffer.from([0xff, 0xd8]), ...Array(segments).fill(segment), Buffer.from(frame), Buffer.alloc(2000)]);
+}
+
+/** A TIFF of 5x7 pixels, whose directory stands behind so many bytes. */
+export function tiffBehind(length) {
+  const directory = Buffer.from('020000010300010000000500000001010400010000000700000000000000', 'hex');
+  const head = Buffer.alloc(length);
+  head.write('II*\0');
+  head.writeUInt32LE(length, 4);
+  return Buffer.concat([head, directory]);
+}
+
+/** Gives a range of some bytes as it was asked for, with these headers. */
+export function giveRange(request, response, bytes, headers = {}) {
+  const [, first, last] = /^bytes=(\d+)-(\d+)$/.exec(request.headers.range).map(Number);
+  if (first >= bytes.length) return response.writeHead(416, { 'Content-Range': `bytes */${bytes.length}` }).end();
+  const end = Math.min(last + 1, bytes.length);
+  const range = `bytes ${first}-${end - 1}/${bytes.length}`;
+  response.writeHead(206, { 'Content-Range': range, 'Content-Length': end - first, ...headers });
+  return response.end(bytes.subarray(first, end));
+}
+
+/** Runs `use` with the address of a server on this machine, and with the requests that came so far. */
+export async function withServer(answer, use) {
+  const requests = [];
+  const server = createServer((request, response) => {
+    requests.push(request);
+    answer(request, response, requests.length);
+  });
+  await new Promise((resolve) => server.listen(0, '127.0.0.1', resolve));
+  try {
+    return await use(`http://127.0.0.1:${server.address().port}/image`, requests);
+  } finally {
+    server.closeAllConnections();
+    await new Promise((resolve) => server.close(resolve));
+  }
+}

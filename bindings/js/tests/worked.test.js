@@ -1,0 +1,55 @@
+// Every worked input, by each call, has the answer of the table.
+
+import assert from 'node:assert/strict';
+import { mkdtemp, rm, writeFile } from 'node:fs/promises';
+import { tmpdir } from 'node:os';
+import { join } from 'node:path';
+import { test } from 'node:test';
+import { probe, probeBlob, probeFile, probeUrl, spans } from '../imagesize.js';
+import { giveRange, lineOf, withServer, worked } from './support.js';
+
+test('from bytes', async () => {
+  for (const { bytes, line } of worked) assert.equal(await lineOf(() => probe(bytes)), line);
+});
+
+test('their spans', () => {
+  for (const { bytes, spans: wanted } of worked.filter((row) => row.spans !== '?')) {
+    assert.equal(spans(bytes).map(({ start, len }) => `${start}+${len}`).join(' ') || '-', wanted);
+  }
+});
+
+test('from blobs', async () => {
+  for (const { bytes, line } of worked) assert.equal(await lineOf(() => probeBlob(new Blob([bytes]))), line);
+});
+
+test('from files', async () => {
+  const folder = await mkdtemp(join(tmpdir(), 'imagesize-'));
+  try {
+    for (const { bytes, line } of worked) {
+      await writeFile(join(folder, 'image'), bytes);
+      assert.equal(await lineOf(() => probeFile(join(folder, 'image'))), line);
+    }
+  } finally {
+    await rm(folder, { recursive: true });
+  }
+});
+
+test('from a server', async () => {
+  let served;
+  await withServer((request, response) => giveRange(request, response, served, { ETag: '"1"' }), async (url) => {
+    for (const { bytes, line } of worked) {
+      served = bytes;
+      assert.equal(await lineOf(() => probeUrl(url)), line);
+    }
+  });
+});
+
+test('the trace of a blob has these spans and their bytes', async () => {
+  for (const { bytes, spans: wanted } of worked.filter((row) => row.spans !== '?')) {
+    const { trace } = await probeBlob(new Blob([bytes]), { trace: true }).catch((error) => error);
+    assert.equal(trace.map((piece) => `${piece.start}+${piece.bytes.length}`).join(' ') || '-', wanted);
+    for (const { start, bytes: piece } of trace) {
+      assert.deepEqual(Buffer.from(piece), bytes.subarray(start, start + piece.length));
+    }
+  }
+});

@@ -1,0 +1,200 @@
+//! The calls of the C library, as `include/imagesize.h` declares them, each behind a safe function.
+
+use crate::{ImageError, ImageResult, ImageSize, ImageType};
+
+pub(crate) const ANSWERED: u32 = 0;
+pub(crate) const NOT_SUPPORTED: u32 = 1;
+pub(crate) const CORRUPTED_IMAGE: u32 = 2;
+pub(crate) const END_OF_INPUT: u32 = 4;
+pub(crate) const NOT_ENOUGH_DATA: u32 = 5;
+pub(crate) const BUDGET_SPENT: u32 = 6;
+pub(crate) const BYTES_WANTED: u32 = 30;
+
+/// The longest text of the library has fewer bytes.
+const TEXT_ROOM: usize = 128;
+
+/// Some of an input's bytes: `len` of them, from place `start` on. Places count bytes from 0.
+#[repr(C)]
+#[derive(Clone, Copy, Debug, Default)]
+pub(crate) struct Span {
+    pub(crate) start: u64,
+    pub(crate) len: u64,
+}
+
+extern "C" {
+    fn imagesize_type(
+        bytes: *const u8,
+        length: usize,
+        kind: *mut u32,
+        compression: *mut u32,
+    ) -> u32;
+    fn imagesize_size(bytes: *const u8, length: usize, width: *mut u64, height: *mut u64) -> u32;
+    fn imagesize_probe_parts(
+        bytes: *const u8,
+        length: usize,
+        spans: *const Span,
+        count: usize,
+        total: u64,
+        kind: *mut u32,
+        compression: *mut u32,
+        width: *mut u64,
+        height: *mut u64,
+        wanted: *mut Span,
+    ) -> u32;
+    fn imagesize_container_format(
+        kind: u32,
+        compression: u32,
+        text: *mut u8,
+        room: usize,
+        written: *mut usize,
+    ) -> u32;
+    fn imagesize_status_text(status: u32, text: *mut u8, room: usize, written: *mut usize) -> u32;
+    fn imagesize_compression_family(kind: u32, compression: u32, family: *mut u32) -> u32;
+    fn imagesize_is_block_compressed(kind: u32, compression: u32, answer: *mut u32) -> u32;
+    fn imagesize_is_multi_compression_container(
+        kind: u32,
+        compression: u32,
+        answer: *mut u32,
+    ) -> u32;
+}
+
+/// What a call told: its status, and the numbers that it wrote. Those that it left as they were are 0.
+#[derive(Default)]
+pub(crate) struct Told {
+    status: u32,
+    kind: u32,
+    compression: u32,
+    width: u64,
+    height: u64,
+}
+
+impl Told {
+    /// The type, which is told beside a refusal of the size too.
+    pub(crate) fn image_type(&self) -> ImageResult<ImageType> {
+        ImageType::numbered(self.kind, self.compression)
+            .ok_or_else(|| ImageError::of_status(self.status))
+    }
+
+    /// The size.
+    pub(crate) fn size(&self) -> ImageResult<ImageSize> {
+        if self.status != ANSWERED {
+            return Err(ImageError::of_status(self.status));
+        }
+        let pixels = |told| usize::try_from(told).map_err(|_| ImageError::CorruptedImage);
+        Ok(ImageSize {
+            width: pixels(self.width)?,
+            height: pixels(self.height)?,
+        })
+    }
+}
+
+/// What the known parts of an input tell.
+pub(crate) enum Parts {
+    /// Type and size of the input, or why it has none.
+    Told(Told),
+    /// A part that is not known yet, within the input.
+    Wanted(Span),
+}
+
+/// The type that an image's first bytes tell.
+pub(crate) fn image_type(bytes: &[u8]) -> Told {
+    let mut told = Told::default();
+    // SAFETY: the pointers come from a slice of this length and from two numbers, which nothing else holds.
+    told.status = unsafe {
+        imagesize_type(
+            bytes.as_ptr(),
+            bytes.len(),
+            &mut told.kind,
+            &mut told.compression,
+        )
+    };
+    told
+}
+
+/// The size of the image in some bytes.
+pub(crate) fn image_size(bytes: &[u8]) -> Told {
+    let mut told = Told::default();
+    // SAFETY: the pointers come from a slice of this length and from two numbers, which nothing else holds.
+    told.status = unsafe {
+        imagesize_size(
+            bytes.as_ptr(),
+            bytes.len(),
+            &mut told.width,
+            &mut told.height,
+        )
+    };
+    told
+}
+
+/// Type and size of the image in an input of `total` bytes, of which those of the spans are known: `bytes` has them, one span's
+/// behind another's.
+pub(crate) fn probe_parts(bytes: &[u8], spans: &[Span], total: u64) -> Parts {
+    let mut told = Told::default();
+    let mut wanted = Span::default();
+    // SAFETY: the pointers come from two slices of these lengths, and from numbers and a span that nothing else holds.
+    told.status = unsafe {
+        imagesize_probe_parts(
+            bytes.as_ptr(),
+            bytes.len(),
+            spans.as_ptr(),
+            spans.len(),
+            total,
+            &mut told.kind,
+            &mut told.compression,
+            &mut told.width,
+            &mut told.height,
+            &mut wanted,
+        )
+    };
+    match told.status {
+        BYTES_WANTED => Parts::Wanted(wanted),
+        _ => Parts::Told(told),
+    }
+}
+
+/// The text of a status.
+pub(crate) fn status_text(status: u32) -> String {
+    // SAFETY: the pointers are those that `text` lends.
+    text(|text, room, written| unsafe { imagesize_status_text(status, text, room, written) })
+}
+
+/// The name of a type's container, which is empty where it has none.
+pub(crate) fn container_format((kind, compression): (u32, u32)) -> String {
+    // SAFETY: the pointers are those that `text` lends.
+    text(|text, room, written| unsafe {
+        imagesize_container_format(kind, compression, text, room, written)
+    })
+}
+
+/// The number of the family of a type's compression; 0 where it has none.
+pub(crate) fn compression_family((kind, compression): (u32, u32)) -> u32 {
+    let mut family = 0;
+    // SAFETY: the pointer comes from a number that nothing else holds.
+    unsafe { imagesize_compression_family(kind, compression, &mut family) };
+    family
+}
+
+/// Whether a type is a texture in one of the block compressions.
+pub(crate) fn is_block_compressed((kind, compression): (u32, u32)) -> bool {
+    let mut answer = 0;
+    // SAFETY: the pointer comes from a number that nothing else holds.
+    unsafe { imagesize_is_block_compressed(kind, compression, &mut answer) };
+    answer == 1
+}
+
+/// Whether a type's container can hold textures of several families.
+pub(crate) fn is_multi_compression_container((kind, compression): (u32, u32)) -> bool {
+    let mut answer = 0;
+    // SAFETY: the pointer comes from a number that nothing else holds.
+    unsafe { imagesize_is_multi_compression_container(kind, compression, &mut answer) };
+    answer == 1
+}
+
+/// The text that a call writes where it is lent room: a pointer to it, how long it is, and where the text's length is told.
+pub(crate) fn text(call: impl FnOnce(*mut u8, usize, *mut usize) -> u32) -> String {
+    let (mut room, mut written) = ([0; TEXT_ROOM], 0);
+    match call(room.as_mut_ptr(), room.len(), &mut written) {
+        ANSWERED => String::from_utf8_lossy(&room[..written]).into_owned(),
+        _ => String::new(),
+    }
+}

@@ -1,0 +1,111 @@
+//! The numbers of this package are those of the library, by its own names and by its header.
+
+use crate::{sys, CompressionFamily, ImageError, ImageType};
+use std::collections::HashMap;
+
+extern "C" {
+    fn imagesize_type_name(
+        kind: u32,
+        compression: u32,
+        text: *mut u8,
+        room: usize,
+        written: *mut usize,
+    ) -> u32;
+    fn imagesize_compression_name(
+        kind: u32,
+        compression: u32,
+        text: *mut u8,
+        room: usize,
+        written: *mut usize,
+    ) -> u32;
+}
+
+/// The name that the library gives a type, as "Gif" or "Dds(Bc7)"; empty where no type has the numbers.
+fn library_name(kind: u32, compression: u32) -> String {
+    // SAFETY: the pointers are those that `text` lends.
+    let [name, way] = [imagesize_type_name, imagesize_compression_name].map(|call| {
+        sys::text(|text, room, written| unsafe { call(kind, compression, text, room, written) })
+    });
+    if way.is_empty() {
+        name
+    } else {
+        format!("{name}({way})")
+    }
+}
+
+/// The constants of the header, by their names without `IMAGESIZE_`.
+fn header() -> HashMap<String, u32> {
+    let path = concat!(env!("CARGO_MANIFEST_DIR"), "/../../include/imagesize.h");
+    let text = std::fs::read_to_string(path).expect("the header of the repository");
+    text.lines()
+        .filter_map(|line| line.trim().strip_prefix("IMAGESIZE_")?.split_once(" = "))
+        .filter_map(|(name, value)| {
+            let digits = value.split(|c: char| !c.is_ascii_digit()).next()?;
+            Some((name.to_string(), digits.parse().ok()?))
+        })
+        .collect()
+}
+
+#[test]
+fn types_have_the_librarys_numbers() {
+    let mut named = 0;
+    for kind in 0..64 {
+        for compression in 0..64 {
+            let found = ImageType::numbered(kind, compression);
+            let name = found.map_or(String::new(), |found| format!("{found:?}"));
+            assert_eq!(name, library_name(kind, compression));
+            if let Some(found) = found {
+                assert_eq!(found.numbers(), (kind, compression));
+                named += 1;
+            }
+        }
+    }
+    // Nineteen types have one way to store pixels; the others have 4, 10, 9, 9, 4 and 10.
+    assert_eq!(named, 19 + 46);
+}
+
+#[test]
+fn statuses_are_those_of_the_header() {
+    let header = header();
+    for (name, status) in [
+        ("ANSWERED", sys::ANSWERED),
+        ("NOT_SUPPORTED", sys::NOT_SUPPORTED),
+        ("CORRUPTED_IMAGE", sys::CORRUPTED_IMAGE),
+        ("END_OF_INPUT", sys::END_OF_INPUT),
+        ("NOT_ENOUGH_DATA", sys::NOT_ENOUGH_DATA),
+        ("BUDGET_SPENT", sys::BUDGET_SPENT),
+        ("BYTES_WANTED", sys::BYTES_WANTED),
+    ] {
+        assert_eq!(header.get(name), Some(&status), "{name}");
+    }
+}
+
+#[test]
+fn each_error_prints_its_status_text() {
+    for status in 1..=30 {
+        let text = sys::status_text(status);
+        assert!(!text.is_empty(), "{status}");
+        assert_eq!(ImageError::of_status(status).to_string(), text);
+    }
+    assert_eq!(sys::status_text(31), "");
+}
+
+#[test]
+fn families_are_those_of_the_header() {
+    let header = header();
+    let families = (1..64).flat_map(|kind| (0..64).map(move |way| (kind, way)));
+    for found in families.filter_map(|(kind, way)| ImageType::numbered(kind, way)) {
+        let name = match found.compression_family() {
+            None => "NO_FAMILY",
+            Some(CompressionFamily::BlockCompression) => "FAMILY_BLOCK_COMPRESSION",
+            Some(CompressionFamily::Etc) => "FAMILY_ETC",
+            Some(CompressionFamily::Eac) => "FAMILY_EAC",
+            Some(CompressionFamily::Pvrtc) => "FAMILY_PVRTC",
+            Some(CompressionFamily::Astc) => "FAMILY_ASTC",
+            Some(CompressionFamily::Atc) => "FAMILY_ATC",
+            Some(CompressionFamily::Uncompressed) => "FAMILY_UNCOMPRESSED",
+        };
+        let number = sys::compression_family(found.numbers());
+        assert_eq!(header.get(name), Some(&number), "{found:?}");
+    }
+}

@@ -1,0 +1,187 @@
+//! Each worked input of the repository, through each call.
+
+use imagesize::{blob_size, image_type, reader_size, reader_type, size};
+use imagesize::{ImageError, ImageResult, ImageSize, ImageType};
+use std::fs::{self, File};
+use std::io::{self, BufRead, BufReader, Cursor, ErrorKind, Read, Seek, SeekFrom};
+use std::path::PathBuf;
+
+/// The bytes of each worked input, and the line that is printed of it.
+fn rows() -> Vec<(Vec<u8>, String)> {
+    let path = concat!(env!("CARGO_MANIFEST_DIR"), "/../../examples/worked.tsv");
+    let text = fs::read_to_string(path).expect("the worked inputs of the repository");
+    let rows = text.lines().filter(|line| !line.starts_with('#'));
+    rows.map(|row| {
+        let mut cells = row.split('\t');
+        let mut cell = || cells.next().expect("three cells in a row");
+        (bytes(cell()), cell().to_string())
+    })
+    .collect()
+}
+
+/// The bytes of a text in hex, which is `-` for none.
+fn bytes(hex: &str) -> Vec<u8> {
+    let digits = hex.strip_prefix('-').unwrap_or(hex);
+    let byte = |at| u8::from_str_radix(&digits[at..at + 2], 16).expect("two digits a byte");
+    (0..digits.len()).step_by(2).map(byte).collect()
+}
+
+/// The line that is printed of a type and a size.
+fn line(kind: ImageResult<ImageType>, size: ImageResult<ImageSize>) -> String {
+    match (kind, size) {
+        (Ok(kind), Ok(ImageSize { width, height })) => format!("{kind:?} {width}x{height}"),
+        (Ok(kind), Err(error)) => format!("{kind:?}: {error}"),
+        (Err(_), Ok(_)) => "a size of no type".to_string(),
+        (Err(kind), Err(size)) => {
+            assert_eq!(kind.to_string(), size.to_string());
+            size.to_string()
+        }
+    }
+}
+
+/// A reader that gives one byte a read.
+struct Trickle(Cursor<Vec<u8>>);
+
+impl Read for Trickle {
+    fn read(&mut self, room: &mut [u8]) -> io::Result<usize> {
+        let one = room.len().min(1);
+        self.0.read(&mut room[..one])
+    }
+}
+
+impl BufRead for Trickle {
+    fn fill_buf(&mut self) -> io::Result<&[u8]> {
+        let rest = self.0.fill_buf()?;
+        Ok(&rest[..rest.len().min(1)])
+    }
+
+    fn consume(&mut self, count: usize) {
+        self.0.consume(count);
+    }
+}
+
+impl Seek for Trickle {
+    fn seek(&mut self, to: SeekFrom) -> io::Result<u64> {
+        self.0.seek(to)
+    }
+}
+
+/// A file in a folder of its own for this run, which is removed with it.
+struct Scratch(PathBuf);
+
+impl Scratch {
+    fn new(name: &str, data: &[u8]) -> Scratch {
+        let path = std::env::temp_dir().join(format!("imagesize-{}-{name}", std::process::id()));
+        fs::write(&path, data).expect("a file that can be written");
+        Scratch(path)
+    }
+}
+
+impl Drop for Scratch {
+    fn drop(&mut self) {
+        let _ = fs::remove_file(&self.0);
+    }
+}
+
+#[test]
+fn bytes_have_the_worked_answers() {
+    for (data, wanted) in rows() {
+        assert_eq!(line(image_type(&data), blob_size(&data)), wanted);
+    }
+}
+
+#[test]
+fn readers_have_the_worked_answers() {
+    for (data, wanted) in rows() {
+        let cursor = || Cursor::new(&data);
+        assert_eq!(line(reader_type(cursor()), reader_size(cursor())), wanted);
+        let trickle = || Trickle(Cursor::new(data.clone()));
+        assert_eq!(line(reader_type(trickle()), reader_size(trickle())), wanted);
+    }
+}
+
+#[test]
+fn files_have_the_worked_answers() {
+    for (data, wanted) in rows() {
+        let file = Scratch::new("worked", &data);
+        let open = || BufReader::new(File::open(&file.0).expect("the file"));
+        assert_eq!(line(reader_type(open()), reader_size(open())), wanted);
+        assert_eq!(line(image_type(&data), size(&file.0)), wanted);
+    }
+}
+
+#[test]
+fn an_image_may_begin_where_the_reader_stands() {
+    for (data, wanted) in rows() {
+        let behind = [&[0xAB; 5000], &data[..]].concat();
+        let mut reader = Cursor::new(behind);
+        reader.set_position(5000);
+        let kind = reader_type(&mut reader);
+        reader.set_position(5000);
+        assert_eq!(line(kind, reader_size(&mut reader)), wanted);
+    }
+}
+
+#[test]
+fn a_type_reads_the_size_wherever_the_reader_stands() {
+    for (data, wanted) in rows() {
+        let mut reader = Cursor::new(&data);
+        let Ok(kind) = reader_type(&mut reader) else {
+            continue;
+        };
+        reader.set_position(7);
+        assert_eq!(line(Ok(kind), kind.reader_size(&mut reader)), wanted);
+        let other = match kind {
+            ImageType::Gif => ImageType::Qoi,
+            _ => ImageType::Gif,
+        };
+        let refused = other.reader_size(&mut reader);
+        assert!(matches!(refused, Err(ImageError::NotSupported)), "{wanted}");
+    }
+}
+
+#[test]
+fn refusals_have_the_kinds_of_the_crate() {
+    for (data, wanted) in rows() {
+        let Err(ImageError::IoError(error)) = blob_size(&data) else {
+            continue;
+        };
+        let ends = ["failed to fill whole buffer", "Not enough data"];
+        let kind = match ends.iter().any(|text| wanted.ends_with(text)) {
+            true => ErrorKind::UnexpectedEof,
+            false => ErrorKind::InvalidData,
+        };
+        assert_eq!(error.kind(), kind, "{wanted}");
+    }
+}
+
+/// Numbers without a pattern, the same in each run.
+struct Numbers(u64);
+
+impl Numbers {
+    fn below(&mut self, limit: usize) -> usize {
+        self.0 ^= self.0 << 13;
+        self.0 ^= self.0 >> 7;
+        self.0 ^= self.0 << 17;
+        (self.0 % limit as u64) as usize
+    }
+}
+
+#[test]
+fn changed_inputs_of_many_blocks_have_the_answers_of_their_bytes() {
+    let mut numbers = Numbers(0x9E37_79B9_7F4A_7C15);
+    for (worked, _) in rows().into_iter().filter(|row| !row.0.is_empty()) {
+        for _ in 0..50 {
+            let mut data = worked.clone();
+            for _ in 0..1 + numbers.below(3) {
+                // A length that grows leads to another block.
+                let place = numbers.below(data.len());
+                data[place] = numbers.below(256) as u8;
+            }
+            data.resize(worked.len() + numbers.below(80_000), 0);
+            let wanted = line(image_type(&data), blob_size(&data));
+            let cursor = || Cursor::new(&data);
+            assert_eq!(line(reader_type(cursor()), reader_size(cursor())), wanted);
+        }
+    }
+}

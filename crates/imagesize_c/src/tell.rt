@@ -1,0 +1,34 @@
+//! What the calls tell of a type and of a size.
+ghost use Rattle.std.specs.Prelude.{◌≡◌, false, Option, Some, None};
+ghost use Rattle.imagesize_c.specs.Status.{is_answered, status_of};
+ghost use Rattle.imagesize_c.specs.Told.{TellsSize, TellsType};
+
+use crate::numbers::{compression_number, type_number};
+use crate::status::{ANSWERED, refusal_status};
+use imagesize::{ImageResult, ImageSize, ImageType};
+
+/// Tells the numbers of a type and of its compression, where one was found.
+pub fn tell_type(kind: Option<ImageType>, number: &mut u32, compression: &mut u32)
+    ensures { TellsType kind number.old number.new compression.old compression.new }
+{
+    if let Some(image) = kind {
+        *number = type_number(image);
+        *compression = compression_number(image);
+    }
+}
+
+/// Tells a size, where there is one, and answers the status.
+pub fn tell_size(answer: ImageResult<ImageSize>, width: &mut u64, height: &mut u64) -> u32
+    ensures status { result ≡ status_of answer }
+    ensures told { TellsSize answer width.old width.new height.old height.new }
+    ensures left { is_answered result ≡ false → (width.new ≡ width.old) × (height.new ≡ height.old) }
+{
+    match answer {
+        Ok(size) => {
+            *width = size.width as u64;
+            *height = size.height as u64;
+            ANSWERED
+        }
+        Err(error) => refusal_status(&error),
+    }
+}

@@ -1,0 +1,176 @@
+//! An input that is fetched, as by range requests, until its type and size are known.
+ghost use Rattle.std.specs.Prelude.{◌≡◌, ℕ, ◌+◌, ◌^◌, ◌<◌, ◌≤◌, ◌++◌, List, Option, Some, length, take, IfOk};
+ghost use Rattle.imagesize.specs.Meaning.{meaning};
+ghost use Rattle.imagesize_source.specs.Input.{part};
+ghost use Rattle.imagesize_source.specs.State.{total};
+ghost use Rattle.imagesize_uses.specs.Remote.{Fetch, IsOf, Stops};
+ghost use Rattle.imagesize_uses.specs.declared.remote.Interrupted.TheVariants.{Memory};
+
+use crate::cache::bytes_of_span;
+use crate::joined::copy_front;
+use imagesize::{ImageResult, ImageSize, ImageType, PartsAnswer, Span, parts_probe};
+use std::alloc::{AllocError, Allocator};
+use std::io::{self, ErrorKind};
+
+/// An input whose bytes stand elsewhere, and are fetched by place.
+pub trait Remote {
+    /// Its bytes.
+    ghost input: { Self → List ℕ };
+
+    /// How many fetches there were, as far as it counts them.
+    ghost fetches: { Self → ℕ };
+
+    /// The last of them.
+    ghost last: { Self → Option Fetch };
+
+    /// How many bytes it has.
+    fn length(&self) -> u64
+        ensures length { result ≡ length (input self.now) }
+        ensures short { result < 2 ^ 63 };
+
+    /// Fetches the bytes from a place on into the room, and answers how many came.
+    fn fetch(&mut self, place: u64, room: &mut [u8]) -> io::Result<usize>
+        ensures bound { IfOk result (λ n. n ≤ length room.new) }
+        ensures bytes { IfOk result (λ n. take n room.new ≡ part (input self.old) place n) }
+        ensures same { input self.new ≡ input self.old }
+        ensures counts { fetches self.new ≤ fetches self.old + 1 }
+        ensures last { last self.new ≡ Some (record { wanted = length room.new; gave = result }) };
+}
+
+/// What an input is.
+#[derive(Debug, Drop)]
+pub struct Probed {
+    /// The type, where one was found.
+    pub kind: Option<ImageType>,
+    /// The size in pixels, or why there is none.
+    pub answer: ImageResult<ImageSize>,
+}
+
+/// Why nothing is known of an input.
+#[derive(Debug, Drop)]
+pub enum Interrupted {
+    /// A fetch failed.
+    Failed(io::Error),
+    /// A fetch gave fewer bytes than were asked for.
+    Short,
+    /// There was no memory for the parts.
+    Memory,
+}
+
+impl From<AllocError> for Interrupted {
+    ghost from_gives = { λ _ stop. stop ≡ Memory };
+
+    fn from(_error: AllocError) -> Interrupted {
+        Interrupted::Memory
+    }
+}
+
+/// Type and size of the image in an input of which what is needed is fetched, and nothing else.
+///
+/// Errors: the first fetch that fails or gives too few bytes, and `Interrupted::Memory` where memory for the parts was refused.
+pub fn probe_remote<A: Allocator + Copy, R: Remote>(alloc: A, remote: &mut R) -> Result<Probed, Interrupted>
+    ensures answer { IfOk result (IsOf (R.input remote.old)) }
+    ensures stops { Stops (R.last remote.new) result }
+
+    // There are no more fetches than the spans of the trace have places, repeats counted.
+    ensures few { R.fetches remote.new ≤ R.fetches remote.old + total (meaning (R.input remote.old) 0).marks }
+{
+    let whole = remote.length();
+    let mut bytes = Vec::new(alloc);
+    let mut spans = Vec::new(alloc);
+    'rounds: loop {
+        match parts_probe(&bytes, &spans, whole) {
+            PartsAnswer::Found { kind, answer } => return Ok(Probed { kind, answer }),
+            PartsAnswer::Wanted(span) => {
+                fetch_part(alloc, remote, &span, &mut bytes)?;
+                spans.extend_from_slice(&[span])?;
+            }
+        }
+    }
+}
+
+// Fetches the bytes of a span behind those that are there.
+fn fetch_part<A: Allocator, R: Remote>(alloc: A, remote: &mut R, span: &Span, bytes: &mut Vec<u8, A>) -> Result<(), Interrupted>
+    ensures same { R.input remote.new ≡ R.input remote.old }
+    ensures counts { R.fetches remote.new ≤ R.fetches remote.old + 1 }
+    ensures bytes { IfOk result (λ _. bytes.new.items ≡ bytes.old.items ++ part (R.input remote.old) span.now.start span.now.len) }
+    ensures stops { Stops (R.last remote.new) result }
+{
+    let mut room = Vec::new(alloc);
+    room.resize(span.len as usize, 0)?;
+    match remote.fetch(span.start, &mut room) {
+        Err(error) => Err(Interrupted::Failed(error)),
+        Ok(count) if count < room.len() => Err(Interrupted::Short),
+        Ok(_) => Ok(bytes.extend_from_slice(&room)?),
+    }
+}
+
+/// An input in memory as one that is fetched: each fetch gives at most so many bytes, and after so many each fails.
+#[derive(Drop)]
+pub struct Held<'a> {
+    bytes: &'a [u8],
+    most: usize,
+    left: u64,
+    fetches: u64,
+    wanted: usize,
+    gave: io::Result<usize>,
+}
+
+impl<'a> Held<'a> {
+    /// These bytes, with at most `most` of them a fetch, and with `left` fetches that do not fail.
+    pub fn new(bytes: &'a [u8], most: usize, left: u64) -> Held<'a>
+        ensures { result.bytes.now ≡ bytes.now }
+    {
+        Held {
+            bytes,
+            most,
+            left,
+            fetches: 0,
+            wanted: 0,
+            gave: Ok(0),
+        }
+    }
+
+    /// How many fetches there were.
+    pub fn fetches(&self) -> u64
+        ensures { result ≡ self.now.fetches }
+    {
+        self.fetches
+    }
+}
+
+impl Remote for Held<'_> {
+    ghost input = { λ h. h.bytes.now };
+
+    ghost fetches = { λ h. h.fetches };
+
+    ghost last = { λ h. Some (record { wanted = h.wanted; gave = h.gave }) };
+
+    fn length(&self) -> u64 {
+        self.bytes.len() as u64
+    }
+
+    fn fetch(&mut self, place: u64, room: &mut [u8]) -> io::Result<usize> {
+        self.fetches = self.fetches.saturating_add(1);
+        self.wanted = room.len();
+        self.gave = if self.left > 0 {
+            Ok(copy_part(self.bytes, place, self.most, room))
+        } else {
+            Err(io::Error::from(ErrorKind::TimedOut))
+        };
+        self.left = self.left.saturating_sub(1);
+        self.gave
+    }
+}
+
+// Copies what is there of the bytes from a place on, at most so many, and answers how many that is.
+fn copy_part(bytes: &[u8], place: u64, most: usize, room: &mut [u8]) -> usize
+    ensures bound { result ≤ length room.new }
+    ensures copied { take result room.new ≡ part bytes.now place result }
+{
+    let span = Span {
+        start: place,
+        len: most as u64,
+    };
+    copy_front(bytes_of_span(bytes, &span), room)
+}

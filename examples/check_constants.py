@@ -1,0 +1,191 @@
+"""Checks the constants of the header, and those of a binding, against the library's own names, texts and numbers.
+
+    python3 check_constants.py HEADER LIBRARY [MODULE]..
+
+HEADER is imagesize.h and LIBRARY the shared library. Each number of the header must have the text, the name or the family that
+its constant says, each must be there once, and the library must know no other. The lists
+`Status`, `Kind`, `Compression` and `Family` of a Python module or package, where it has them, must have the names of the header
+without their prefix, with its numbers. A binding in another language calls `compare` with its own names and numbers.
+"""
+
+import ctypes
+import importlib.util
+import pathlib
+import re
+import sys
+from enum import IntEnum
+
+# What the library says of each status. These texts are written down by hand, and are no output of the library.
+TEXTS = {
+    "ANSWERED": "No refusal",
+    "NOT_SUPPORTED": "Could not decode image",
+    "CORRUPTED_IMAGE": "Hit end of file before finding size",
+    "FAULT": "A call of the reader failed",
+    "END_OF_INPUT": "failed to fill whole buffer",
+    "NOT_ENOUGH_DATA": "Not enough data",
+    "BUDGET_SPENT": "Read budget is spent",
+    "OUT_OF_MEMORY": "Out of memory",
+    "NO_DELIMITER": "Delimiter not found within the bytes that a text may have",
+    "NOT_UTF8": "invalid utf-8",
+    "INVALID_HEIF_BOX_SIZE": "Invalid heif box size",
+    "INVALID_JXL_BOX_SIZE": "Invalid size for a JXL box",
+    "INVALID_JXL_SIGNATURE": "Invalid JXL signature",
+    "INVALID_TIFF_HEADER": "Invalid TIFF header",
+    "BIG_TIFF_OFFSET_SIZE": "Unrecognised BigTiff offset size",
+    "INVALID_BIG_TIFF_HEADER": "Invalid BigTiff header",
+    "INVALID_IFD_OFFSET": "Invalid IFD offset",
+    "IFD_TYPE_FOR_STANDARD_TIFF": "Invalid IFD type for standard TIFF",
+    "INVALID_IFD_TYPE": "Invalid IFD type",
+    "INVALID_IFD_VALUE_LENGTH": "Invalid IFD value length",
+    "NO_DIMENSIONS_IN_IFD": "No dimensions in IFD tags",
+    "INVALID_VP8_TAG": "Invalid VP8 Tag",
+    "DATA_WINDOW_NOT_FOUND": "Data window not found",
+    "INVALID_HDR_IDENTIFIER": "Invalid HDR format identifier",
+    "INVALID_HDR_DIMENSIONS_LINE": "Invalid HDR dimensions line",
+    "HDR_DIMENSIONS_NOT_FOUND": "HDR dimensions not found",
+    "PNM_DIMENSIONS_NOT_FOUND": "PNM dimensions not found",
+    "BUFFER_TOO_SMALL": "The buffer is too small",
+    "UNKNOWN_TYPE": "No type has these numbers",
+    "UNKNOWN_STATUS": "No status has this number",
+    "BYTES_WANTED": "More bytes are wanted",
+}
+
+# An image type and a compression of each family.
+FAMILIES = {
+    "NO_FAMILY": ("GIF", "NO_COMPRESSION"),
+    "BLOCK_COMPRESSION": ("DDS", "DDS_BC1"),
+    "ETC": ("ETC2", "PKM_ETC1"),
+    "EAC": ("EAC", "PKM_EAC_R"),
+    "PVRTC": ("PVRTC", "PVRTC_2BPP_RGB"),
+    "ASTC": ("ASTC", "NO_COMPRESSION"),
+    "ATC": ("ATC", "ATC_RGB"),
+    "UNCOMPRESSED": ("DDS", "DDS_RGBA32"),
+}
+
+
+def header_constants(path):
+    """The lists of the header: the names of each, without their prefix, with their numbers."""
+    text = re.sub(r"/\*.*?\*/", "", pathlib.Path(path).read_text(), flags=re.DOTALL)
+    lists = {}
+    for title, body in re.findall(r"enum imagesize_(\w+) \{(.*?)\};", text, re.DOTALL):
+        found = re.findall(r"IMAGESIZE_(?:FAMILY_)?(\w+) = (\d+)", body)
+        assert len(dict(found)) == body.count("="), f"{title}: a constant twice, or one that is not read"
+        lists[title.replace("_number", "")] = {name: int(number) for name, number in found}
+    assert sorted(lists) == ["compression", "family", "status", "type"], f"lists of the header: {sorted(lists)}"
+    return lists
+
+
+def plain(name):
+    """A name in small letters and digits alone, so that `END_OF_INPUT`, `EndOfInput` and `endOfInput` are one."""
+    return name.replace("_", "").lower()
+
+
+def compare(title, named, wanted):
+    """The names of a list have the numbers that are wanted, and no name is missing or too many."""
+    named, wanted = ({plain(name): number for name, number in names.items()} for names in (named, wanted))
+    wrong = sorted(name for name in named.keys() | wanted.keys() if named.get(name) != wanted.get(name))
+    assert not wrong, f"{title}: " + ", ".join(f"{name} is {named.get(name)} and not {wanted.get(name)}" for name in wrong)
+
+
+class Library:
+    """The calls of the library that name its numbers. Each answers None where the library knows no such number."""
+
+    def __init__(self, path):
+        self.library = ctypes.CDLL(str(pathlib.Path(path).resolve()))
+
+    def text(self, call, *numbers):
+        room, length = ctypes.create_string_buffer(128), ctypes.c_size_t()
+        numbers = map(ctypes.c_uint32, numbers)
+        status = getattr(self.library, call)(*numbers, room, ctypes.c_size_t(len(room)), ctypes.byref(length))
+        return room.raw[: length.value].decode("ascii") if status == 0 else None
+
+    def family(self, kind, compression):
+        found = ctypes.c_uint32()
+        status = self.library.imagesize_compression_family(kind, compression, ctypes.byref(found))
+        return found.value if status == 0 else None
+
+
+def check_statuses(library, statuses):
+    """Each status has its own text."""
+    assert sorted(statuses.values()) == list(range(len(statuses))), "a status twice, or one left out"
+    for name, number in statuses.items():
+        found = library.text("imagesize_status_text", number)
+        assert found == TEXTS.get(name), f"{name}: {found!r}, and not {TEXTS.get(name)!r}"
+    assert library.text("imagesize_status_text", len(statuses)) is None, "a status that the header does not name"
+
+
+def compression_constant(kind, name):
+    """The constant of a compression that the library calls so: it begins with the container, which may be in the name."""
+    if name in ("", "Unknown"):
+        return plain("NO_COMPRESSION" if name == "" else "UNKNOWN_COMPRESSION")
+    container = {"EAC": "PKM", "ETC2": "PKM", "PVRTC": "" if name.startswith("Pvrtc") else "PVR"}.get(kind, kind)
+    return plain(container + name)
+
+
+def check_compressions(library, kind, number, compressions):
+    """The compressions of a type have the numbers by which the library names them. Answers their constants."""
+    found = {code: library.text("imagesize_compression_name", number, code) for code in range(256)}
+    named = {compression_constant(kind, name): code for code, name in found.items() if name is not None}
+    for constant, code in named.items():
+        assert compressions.get(constant) == code, f"{kind}: {constant} is {compressions.get(constant)} and not {code}"
+    return named
+
+
+def check_types(library, types, compressions):
+    """Each type has its own name, and so has each of its compressions."""
+    assert sorted(types.values()) == list(range(1, len(types) + 1)), "a type twice, or one left out"
+    compressions, all_named = {plain(name): code for name, code in compressions.items()}, set()
+    for kind, number in types.items():
+        named = check_compressions(library, kind, number, compressions)
+        name = library.text("imagesize_type_name", number, min(named.values(), default=0))
+        assert name is not None and plain(name) == plain(kind), f"{kind}: {name!r}"
+        all_named |= named.keys()
+    assert all_named == compressions.keys(), f"compressions of no type: {compressions.keys() - all_named}"
+    assert not check_compressions(library, "MORE", len(types) + 1, compressions), "a type that the header does not name"
+
+
+def check_families(library, lists):
+    """Each family is that of a compression in it."""
+    found = {
+        family: library.family(lists["type"][kind], lists["compression"][compression])
+        for family, (kind, compression) in FAMILIES.items()
+    }
+    compare("families", lists["family"], found)
+
+
+def lists_of(path):
+    """The lists of a module or a package, by their names, each with its names and numbers."""
+    path = pathlib.Path(path)
+    spec = importlib.util.spec_from_file_location(path.stem, path / "__init__.py" if path.is_dir() else path)
+    module = importlib.util.module_from_spec(spec)
+    sys.modules[spec.name] = module
+    spec.loader.exec_module(module)
+    enums = [value for value in vars(module).values() if isinstance(value, type) and issubclass(value, IntEnum)]
+    return {enum.__name__: {name: int(member) for name, member in enum.__members__.items()} for enum in enums}
+
+
+def check_module(path, lists):
+    """Each list that a module has is the header's; a family that is none may be left out. Answers how many names they have."""
+    found, count = lists_of(path), 0
+    for name, title in [("Status", "status"), ("Kind", "type"), ("Compression", "compression"), ("Family", "family")]:
+        members, wanted = found.get(name), dict(lists[title])
+        if members is not None:
+            if "NO_FAMILY" not in members:
+                wanted.pop("NO_FAMILY", None)
+            compare(f"{path}: {name}", members, wanted)
+            count += len(members)
+    assert count, f"{path} has no list of the header's"
+    return count
+
+
+def main(header, shared, *modules):
+    lists, library = header_constants(header), Library(shared)
+    check_statuses(library, lists["status"])
+    check_types(library, lists["type"], lists["compression"])
+    check_families(library, lists)
+    counts = [sum(map(len, lists.values())), *(check_module(module, lists) for module in modules)]
+    print(f"constants of the header and of each binding: {', '.join(map(str, counts))}, each by the library's own name")
+
+
+if __name__ == "__main__":
+    main(*sys.argv[1:])

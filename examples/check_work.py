@@ -1,0 +1,131 @@
+"""Runs the program and that of `size` as a user does, and counts the work behind an answer: what no proof and no test sees.
+
+    python3 check_work.py FOLDER PROBE SIZES
+
+FOLDER has the library and gets what is built here, PROBE is the program `imagesize_probe`, and SIZES that of `imagesize_vectors`,
+which prints the size of each file that is named. System calls are counted by strace and instructions by valgrind, where they
+are there, within wide bounds: a body that does the work twice, or reads what it does not need, goes past them.
+"""
+
+import os
+import pathlib
+import re
+import resource
+import shutil
+import subprocess
+import sys
+import tempfile
+
+HERE = pathlib.Path(__file__).resolve().parent
+USAGE = "usage: imagesize_probe [--spans] FILE...\n"
+
+GIF = b"GIF89ad\0d\0\0\0"
+SEGMENTS = 1000
+# A JPEG of 7 by 5 pixels behind empty segments, with a megabyte behind its frame.
+LONG_JPEG = b"\xff\xd8" + b"\xff\xe0\0\x02" * SEGMENTS + b"\xff\xc0\0\x11\x08\0\x05\0\x07" + bytes(1 << 20)
+FILES = {"tiny.gif": GIF, "cut.gif": GIF[:10], "long.gif": GIF + bytes(1 << 20), "long.jpeg": LONG_JPEG}
+
+
+def run(*command, **settings):
+    """The output, the errors and the status of a command."""
+    told = subprocess.run(command, capture_output="stdout" not in settings, text=True, **settings)
+    return told.stdout, told.stderr, told.returncode
+
+
+def check_program(probe):
+    """What the program writes to either output, and its status."""
+    sized, refused = "tiny.gif: Gif 100x100\n", "cut.gif: error: failed to fill whole buffer\n"
+    folder = ".: error: Is a directory (os error 21)\n"
+    for arguments, want in [
+        ([], ("", USAGE, 2)),
+        (["--spans"], ("", USAGE, 2)),
+        (["tiny.gif"], (sized, "", 0)),
+        (["cut.gif"], (refused, "", 1)),
+        (["."], (folder, "", 1)),
+        (["--spans", "."], (folder, "", 1)),
+        (["--spans", "tiny.gif"], (sized + "  0+12\n  6+2\n  8+2\n", "", 0)),
+        (["tiny.gif"] * 64 + ["cut.gif", "tiny.gif"], (sized * 64 + refused + sized, "", 1)),
+    ]:
+        got = run(probe, *arguments)
+        assert got == want, f"{arguments[:3]}: {got}, and not {want}"
+    assert run(probe, b"\xff")[2] == 1, "an argument that is no UTF-8"
+    with open("/dev/full", "w") as full:
+        assert run(probe, "tiny.gif", stdout=full, stderr=subprocess.DEVNULL)[2] == 1, "a full disk"
+    print("the program: its outputs and its statuses")
+
+
+def check_files(sizes):
+    """Each file is closed behind its size, and the buffer is a small one."""
+    limits = [("open files", resource.RLIMIT_NOFILE, 16), ("memory", resource.RLIMIT_AS, 32 << 20)]
+    for name, limit, most in limits:
+        got = run(sizes, *["tiny.gif"] * 5000, preexec_fn=lambda: resource.setrlimit(limit, (most, most)))
+        assert got == ("100x100\n" * 5000, "", 0), f"{name} at most {most}: {got[0][-200:]!r} {got[1:]}"
+    print("5000 sizes of files: within 16 open files and 32 MiB")
+
+
+def traced(command, name):
+    """The system calls of a command from the first time on that it opens a file: each with its arguments and its answer."""
+    calls = "trace=open,openat,read,pread64,readv,lseek,write,writev"
+    with tempfile.NamedTemporaryFile("r") as log:
+        subprocess.run(["strace", "-f", "-o", log.name, "-e", calls, *command], stdout=subprocess.DEVNULL, check=False)
+        found = re.findall(r"(\w+)\((.*)\) += (-?\d+)", log.read())
+    begin = next((i for i, call in enumerate(found) if f'"{name}"' in call[1]), len(found))
+    return found[begin:]
+
+
+def counted(command, name):
+    """How often a command opens a file, reads, seeks and writes from then on, and how many bytes its reads give."""
+    calls = traced(command, name)
+    read = [int(answer) for call, _, answer in calls if "read" in call]
+    opens, seeks, writes = (sum(word in call for call, _, _ in calls) for word in ("open", "lseek", "write"))
+    return {"opens": opens, "reads": len(read), "bytes": sum(read), "seeks": seeks, "writes": writes}
+
+
+def check_calls(probe, sizes):
+    """A file is opened once, its front alone is read, in blocks, and lines go out in blocks."""
+    front = {"opens": 1, "reads": 4, "bytes": 16384, "seeks": 4, "writes": 2}
+    whole = {"opens": 1, "reads": 100, "bytes": len(LONG_JPEG) * 3 // 2, "seeks": 4, "writes": 20}
+    for command, most in [
+        ([sizes, "long.jpeg"], front),
+        ([probe, "long.jpeg"], front),
+        ([probe, "--spans", "long.jpeg"], whole),
+    ]:
+        got = counted(command, "long.jpeg")
+        assert got["opens"] == 1 and all(got[call] <= most[call] for call in most), f"{command}: {got}, and at most {most}"
+    print("system calls: a file is opened once, and its front is read in blocks")
+
+
+def collected(program, function, name):
+    """How many instructions a function takes, with those that it calls."""
+    command = ["valgrind", "--tool=callgrind", "--callgrind-out-file=/dev/null", f"--toggle-collect={function}", program, name]
+    return int(re.search(r"Collected : (\d+)", run(*command)[1]).group(1))
+
+
+def check_instructions(folder):
+    """The bytes behind the size are not looked at, and each segment once."""
+    program = f"{folder}/image_counted"
+    sources = [f"-I{HERE.parent}/include", f"{HERE}/image.c", f"{folder}/libimagesize.a"]
+    subprocess.run([os.environ.get("CC", "cc"), "-O1", "-o", program, *sources], check=True)
+    for name, most in [("tiny.gif", 300), ("long.gif", 300), ("long.jpeg", 70 * SEGMENTS)]:
+        count = collected(program, "imagesize_probe", name)
+        assert 0 < count <= most, f"{name}: {count} instructions"
+    print("instructions: type and size are found once, and from few bytes")
+
+
+def main(folder, probe, sizes):
+    folder, probe, sizes = (str(pathlib.Path(path).resolve()) for path in (folder, probe, sizes))
+    with tempfile.TemporaryDirectory() as place:
+        os.chdir(place)
+        for name, data in FILES.items():
+            pathlib.Path(name).write_bytes(data)
+        check_program(probe)
+        check_files(sizes)
+        for tool, check in [("strace", lambda: check_calls(probe, sizes)), ("valgrind", lambda: check_instructions(folder))]:
+            if shutil.which(tool):
+                check()
+            else:
+                print(f"not counted: there is no {tool}")
+
+
+if __name__ == "__main__":
+    main(*sys.argv[1:])
