@@ -16,4 +16,4 @@ pub returns-clause-within : goal.returns-clause-within
 returns-clause-within c = omega (arith, cost_within c.args.«data».now 0)
 
 pub returns-clause-lasts : goal.returns-clause-lasts
-returns-clause-lasts c = size_lasts c.args.«data».now 0 c.blob_probe.result.1 c.blob_probe.ensures.value
+returns-clause-lasts c = size_lasts c.args.«data».now 0 c.probe_slice.result c.probe_slice.ensures.value
