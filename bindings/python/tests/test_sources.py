@@ -1,5 +1,6 @@
 """Files and fetches that fail, and how much is read of those that do not."""
 
+import array
 import asyncio
 import io
 import os
@@ -82,6 +83,18 @@ class Reading(unittest.TestCase):
         self.assertEqual(image.probe(), (7, 5))
         self.assertLess(len(image.fetched), 30)
 
+    def test_no_byte_twice(self) -> None:
+        """What is wanted goes from a block that is not known into one that is."""
+        wants = iter([(30, [0, 0, 0, 0, 8192, 4]), (30, [0, 0, 0, 0, 8190, 4]), (0, [10, 0, 640, 480, 0, 0])])
+
+        def told(*_: Any) -> Any:
+            return next(wants)
+
+        image = Sliced(bytes(20000))
+        with mock.patch("imagesize_proved._parts.probe_front", told), mock.patch("imagesize_proved._parts.probe_parts", told):
+            self.assertEqual(image.probe(), (640, 480))
+        self.assertEqual(image.fetched, [(0, 4096), (8192, 4096), (4096, 4096)])
+
     def test_directory_at_the_end(self) -> None:
         entries = b"\x03\0" + b"".join(struct.pack("<HHII", tag, 4, 1, size) for tag, size in ((256, 5), (257, 7), (258, 8)))
         image = Sliced(b"II*\0" + struct.pack("<I", 1 << 21) + bytes((1 << 21) - 8) + entries)
@@ -102,6 +115,14 @@ class Reading(unittest.TestCase):
             with self.assertRaises(ImageError) as raised:
                 imagesize.spans(form, limit=23)
             self.assertIs(raised.exception.status, Status.BUFFER_TOO_SMALL)
+
+    def test_spans_of_parts(self) -> None:
+        for data in (jpeg(3), jpeg(40), jpeg(200, 4000)):
+            self.assertEqual(imagesize.spans(io.BytesIO(data)), imagesize.spans(data))
+
+    def test_array_of_numbers(self) -> None:
+        data = jpeg(3)
+        self.assertEqual(imagesize.probe(array.array("I", data + bytes(-len(data) % 4))).size, (7, 5))
 
     def test_spans_of_a_large_file(self) -> None:
         with tempfile.NamedTemporaryFile() as file:
@@ -143,9 +164,10 @@ class Failing(unittest.TestCase):
             return GIF
 
         wrong: Any
-        for wrong, error in ((-1, ValueError), (1 << 63, ValueError), (1 << 64, ValueError), ("12", TypeError), (None, TypeError)):
-            self.assertRaises(error, imagesize.probe_with, Sliced(GIF).fetch, wrong)
-            with self.assertRaises(error):
+        for wrong, error in ((-1, "from 0 to"), (1 << 63, "from 0 to"), (1 << 64, "from 0 to"), ("12", "str"), (None, "None")):
+            with self.assertRaisesRegex((TypeError, ValueError), error):
+                imagesize.probe_with(Sliced(GIF).fetch, wrong)
+            with self.assertRaisesRegex((TypeError, ValueError), error):
                 asyncio.run(imagesize.probe_async(read, wrong))
         self.assertEqual(asyncio.run(imagesize.probe_async(read, 12)).size, (640, 480))
         image = Sliced(b"")
@@ -166,6 +188,8 @@ class Failing(unittest.TestCase):
             file.flush()
             with mock.patch("os.lseek", return_value=len(data)):
                 self.assertRaises(EOFError, imagesize.probe, file.name)
+            with mock.patch("os.lseek", return_value=10):
+                self.assertRaises(ImageError, imagesize.probe, file.name)
         self.assertEqual(imagesize.probe(Halting(data, len(data))).size, (7, 5))
         self.assertRaises(EOFError, imagesize.probe, Halting(data[:70000], len(data)))
 

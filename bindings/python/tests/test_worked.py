@@ -8,6 +8,7 @@ import pathlib
 import re
 import tempfile
 import unittest
+from concurrent.futures import ThreadPoolExecutor
 from typing import Any, Callable, Iterator, List, Tuple
 
 import imagesize_proved as imagesize
@@ -88,6 +89,17 @@ class Worked(unittest.TestCase):
                         self.assertEqual(str(imagesize.image_type(form)), found[1])
                     else:
                         self.assertRaisesRegex(imagesize.ImageError, wanted, imagesize.image_type, form)
+
+    def test_threads(self) -> None:
+        worked = [(data, wanted) for data, wanted, _ in rows()]
+
+        def wrong(thread: int) -> int:
+            turned = worked[thread * 10 :] + worked[: thread * 10]
+            calls: List[Any] = [imagesize.probe, by_fetch]
+            return sum(line(call, data) != wanted for _ in range(20) for data, wanted in turned for call in calls)
+
+        with ThreadPoolExecutor(8) as threads:
+            self.assertEqual(sum(threads.map(wrong, range(8))), 0)
 
     def test_spans(self) -> None:
         for data, _, wanted in rows():

@@ -70,6 +70,7 @@ class Arguments(unittest.TestCase):
     def test_false_lengths(self) -> None:
         for data in (Longer(GIF), Shorter(GIF)):
             self.assertEqual(imagesize.probe(data).size, (640, 480))
+            self.assertEqual(imagesize.probe_with(lambda start, length: data, 12).size, (640, 480))
             self.assertEqual(imagesize.spans(data), imagesize.spans(GIF))
         self.assertRaises(ImageError, imagesize.probe, Longer(GIF[:10]))
 
