@@ -34,7 +34,8 @@ async function load() {
   try {
     return await Library.of(await WebAssembly.compile(await binary(new URL('./out/imagesize.wasm', import.meta.url))));
   } catch (cause) {
-    throw new ImageError('NO_LIBRARY', `The library cannot be loaded (${cause.message}); bindings/js/build builds it`, { cause });
+    const message = `The library cannot be loaded (${cause.message}); bindings/js/build builds it`;
+    throw new ImageError('NO_LIBRARY', message, { cause });
   }
 }
 

@@ -145,7 +145,9 @@ test('a blob that is cut is refused', async () => {
 
 test('a signal ends a probe, and bad limits are refused', async () => {
   await assert.rejects(probeBlob(new Blob([gif]), { signal: AbortSignal.abort() }), { name: 'AbortError' });
-  for (const maxBytes of [0, -1, 4096.5, NaN, 'many']) await assert.rejects(probeBlob(new Blob([gif]), { maxBytes }), RangeError);
+  for (const maxBytes of [0, -1, 4096.5, NaN, 'many']) {
+    await assert.rejects(probeBlob(new Blob([gif]), { maxBytes }), RangeError);
+  }
   await assert.rejects(probeBlob(new Blob([gif]), { maxBytes: 11 }), { code: 'LIMIT_REACHED' });
 });
 
