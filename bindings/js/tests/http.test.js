@@ -97,6 +97,7 @@ test('a server that answers another status is refused by it', async () => {
 test('a range that is cut short is refused', async () => {
   const cuts = [
     (response) => say(response, `bytes 0-99/${jpeg.length}`, jpeg.subarray(0, 100)),
+    (response) => say(response, `bytes 0-99/${jpeg.length}`, jpeg.subarray(0, 4096)),
     (response) => say(response, `bytes 0-4095/${jpeg.length}`, jpeg.subarray(0, 100)),
     (response) => {
       response.writeHead(206, { 'Content-Range': `bytes 0-4095/${jpeg.length}`, 'Content-Length': 4096 });

@@ -54,7 +54,7 @@ async function withPage(use) {
       for (const domain of ['Page', 'Runtime', 'Network', 'DOM', 'Log']) await tab.send(`${domain}.enable`);
       await tab.send('Page.addScriptToEvaluateOnNewDocument', { source: COUNTER });
       await tab.send('Page.navigate', { url: address.trim() });
-      await tab.until(`document.readyState === 'complete' && document.querySelector('template') !== null`);
+      await tab.until(`document.getElementById('status')?.textContent === 'Ready'`);
       return await use(tab, folder, new URL(address.trim()));
     });
   } finally {
