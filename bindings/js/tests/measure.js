@@ -1,4 +1,4 @@
-// What the module costs: node --experimental-wasm-memory64 bindings/js/measure.js [FILE..]
+// What the module costs: node --experimental-wasm-memory64 bindings/js/tests/measure.js [FILE..]
 //
 // It prints microseconds a call of `probe` over the bytes of each file, here and in Python; the bytes and requests of
 // `probeUrl` beside the whole input; and the size of what a page loads.
@@ -8,8 +8,8 @@ import { readFileSync } from 'node:fs';
 import { basename } from 'node:path';
 import { fileURLToPath } from 'node:url';
 import { brotliCompressSync, gzipSync } from 'node:zlib';
-import { probe, probeUrl } from './imagesize.js';
-import { giveRange, jpegBehind, tiffBehind, withServer } from './tests/support.js';
+import { probe, probeUrl } from '../imagesize.js';
+import { giveRange, jpegBehind, tiffBehind, withServer } from './support.js';
 
 const CALLS = 2000;
 const ROUNDS = 20;
@@ -42,7 +42,7 @@ for name in sys.argv[1:]:
 
 // The same in Python, where its package is there.
 function timedInPython(files) {
-  const path = fileURLToPath(new URL('../python', import.meta.url));
+  const path = fileURLToPath(new URL('../../python', import.meta.url));
   const env = { ...process.env, PYTHONPATH: path };
   const { status, stdout } = spawnSync('python3', ['-c', PYTHON, ...files], { env, encoding: 'utf8' });
   return status === 0 ? stdout.split('\n') : files.map(() => '-');
@@ -87,7 +87,7 @@ function measureSizes() {
   row('\nwhat a page loads', 'plain', 'gzip', 'brotli');
   const files = ['imagesize.js', 'errors.js', 'http.js', 'library.js', 'parts.js', 'out/imagesize.wasm'];
   const sizes = files.map((name) => {
-    const bytes = readFileSync(new URL(name, import.meta.url));
+    const bytes = readFileSync(new URL(`../${name}`, import.meta.url));
     return [bytes.length, gzipSync(bytes, { level: 9 }).length, brotliCompressSync(bytes).length];
   });
   sizes.forEach((size, index) => row(files[index], ...size));
