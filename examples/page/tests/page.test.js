@@ -96,6 +96,7 @@ async function press(tab, key) {
 }
 
 async function screenshot(tab, name, width, scheme) {
+  await tab.send('Emulation.setScrollbarsHidden', { hidden: true });
   await tab.send('Emulation.setDeviceMetricsOverride', { width, height: 900, deviceScaleFactor: 1, mobile: false });
   await tab.send('Emulation.setEmulatedMedia', { features: [{ name: 'prefers-color-scheme', value: scheme }] });
   const { data } = await tab.send('Page.captureScreenshot', { captureBeyondViewport: true });
