@@ -9,6 +9,7 @@ from __future__ import annotations
 import ctypes
 import os
 import pathlib
+from array import array
 from typing import List, Optional, Tuple, Union
 
 Told = Tuple[int, List[int]]
@@ -62,7 +63,9 @@ class _Room:
         self.front = (ctypes.c_uint64 * 2)()
         self.length = ctypes.c_size_t.from_buffer(self.front, 8)  # a span from place 0 on is as long as its bytes
         self.total = ctypes.c_uint64()
-        self.arguments = (self.length, self.front, ctypes.c_size_t(1), self.total, *self.told)
+        self.spans, self.count = ctypes.c_void_p(), ctypes.c_size_t()
+        self.of_front = (self.length, self.front, ctypes.c_size_t(1), self.total, *self.told)
+        self.of_parts = (self.length, self.spans, self.count, self.total, *self.told)
 
 
 _ROOMS: List[_Room] = []
@@ -104,16 +107,17 @@ def probe_front(front: bytes, total: int) -> Told:
     room.numbers[0] = 0
     room.length.value = len(front)
     room.total.value = total
-    told = _probe_front(front, *room.arguments), room.read()
+    told = _probe_front(front, *room.of_front), room.read()
     _ROOMS.append(room)
     return told
 
 
-def probe_parts(known: bytes, spans: List[int], total: int) -> Told:
+def probe_parts(known: bytes, spans: "array[int]", total: int) -> Told:
     """Type and size of the image in an input of `total` bytes, of which some parts are known: start and length of each."""
     room = _room(len(known), total)
-    parts, count = (ctypes.c_uint64 * len(spans))(*spans), ctypes.c_size_t(len(spans) // 2)
-    told = _probe_parts(known, room.length, parts, count, room.total, *room.told), room.read()
+    room.spans.value, numbers = spans.buffer_info()
+    room.count.value = numbers // 2
+    told = _probe_parts(known, *room.of_parts), room.read()
     _ROOMS.append(room)
     return told
 

@@ -3,14 +3,13 @@
 from __future__ import annotations
 
 import mmap
+from array import array
 from typing import TYPE_CHECKING, Optional, Union
 
 from ._library import Told, probe_front, probe_parts
 from ._types import ImageError, Status
 
 if TYPE_CHECKING:
-    from array import array
-
     BytesLike = Union[bytes, bytearray, memoryview, mmap.mmap, "array[int]"]
 
 BLOCK = 4096
@@ -35,15 +34,15 @@ class Parts:
     Wanted are `length` bytes from place `start` on. Where `length` is 0 no more are wanted, and `told` stands.
     """
 
-    __slots__ = ("total", "budget", "known", "spans", "rounds", "start", "length", "told")
+    __slots__ = ("total", "budget", "known", "spans", "rounds", "start", "last", "length", "told")
 
     def __init__(self, front: BytesLike, total: int, budget: int, told: Optional[Told] = None) -> None:
         self.total = total
         self.budget = budget
-        self.start = 0
+        self.start = self.last = 0
         self.length = first_block(total)
         self.known = self._taken(front)
-        self.spans = [0, self.length]
+        self.spans = array("Q", (0, self.length))
         self.rounds = 1
         self.told = told or probe_front(self.known, total)
         self._go_on()
@@ -54,7 +53,9 @@ class Parts:
         if self.start == self.spans[-2] + self.spans[-1]:
             self.spans[-1] += self.length
         else:
-            self.spans += self.start, self.length
+            self.spans.extend((self.start, self.length))
+        if self.start > self.last:
+            self.last = self.start
         self.rounds += 1
         self.told = probe_parts(self.known, self.spans, self.total)
         self._go_on()
@@ -77,15 +78,20 @@ class Parts:
         return data
 
     def _go_on(self) -> None:
-        status, told = self.told
+        status, (_, _, _, _, start, length) = self.told
         if status != WANTED:
             self.length = 0
             return
         # Whole blocks, none of them twice. The more rounds there were, the more blocks, so that a long walk takes few rounds.
-        start, length = told[4:]
         self.start = start - start % BLOCK
-        end = max(start + length, self.start + (BLOCK << max(0, self.rounds // 2 - 3)))
-        known_behind = [known for known in self.spans[::2] if known > start]
-        self.length = min(end + -end % BLOCK, self.total, *known_behind) - self.start
+        end = start + length
+        end += -end % BLOCK
+        if self.rounds >= 8:
+            end = max(end, self.start + (BLOCK << self.rounds // 2 - 3))
+        if end > self.total:
+            end = self.total
+        if start < self.last:
+            end = min(end, *(known for known in self.spans[::2] if known > start))
+        self.length = end - self.start
         if len(self.known) + self.length > self.budget:
             raise ImageError(Status.BUDGET_SPENT)

@@ -48,9 +48,9 @@ class Server(http.server.BaseHTTPRequestHandler):
     def give(self, fault: str, part: bytes) -> None:
         try:
             if fault == "stalls":
-                time.sleep(1)
+                time.sleep(2)
             if fault == "drips":
-                for place in range(40):
+                for place in range(100):
                     self.wfile.write(part[place : place + 1])
                     time.sleep(0.02)
             self.wfile.write(part[: len(part) // 2] if fault == "cut" else part)
@@ -77,7 +77,7 @@ class Remote(unittest.TestCase):
 
     def line(self, place: str) -> Tuple[bool, str]:
         url = f"http://127.0.0.1:{self.server.server_port}/{place}"
-        with mock.patch("remote.SECONDS", 0.3):
+        with mock.patch("remote.SECONDS", 1 if place.startswith(("stalls", "drips")) else 20):
             sized, said = remote.line(url)
         self.assertTrue(said.startswith(url + ": "))
         return sized, said[len(url) + 2 :]
@@ -101,7 +101,7 @@ class Remote(unittest.TestCase):
             "modified": "changed between two ranges",
             "grows": "changed between two ranges",
             "stalls": "timed out",
-            "drips": "more than 0.3 seconds",
+            "drips": "more than 1 seconds",
         }.items():
             with self.subTest(fault):
                 sized, said = self.line(f"{fault}/jpeg")
