@@ -67,7 +67,7 @@ export class Remote {
   }
 }
 
-// Which bytes an answer says that it has, and of how many. It has none where the input ends before the start that was asked for.
+// Which bytes an answer says that it has, and of how many. It has none where the input ends before the start that was asked.
 function rangeOf({ status, headers }, start) {
   const range = headers.get('Content-Range') ?? '';
   const ended = /^bytes \*\/(\d+)$/.exec(range);

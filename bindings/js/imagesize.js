@@ -66,7 +66,7 @@ async function readBlock(file, { start, end }) {
 // Type and size of the image in a source: its `read` gives the bytes of a block, and its `total` is known behind the first.
 async function probeSource(source, most, { signal, maxBytes = most, trace = false } = {}) {
   const parts = new Parts();
-  const read = () => ({ total: source.total, reads: parts.reads, bytesRead: parts.length });
+  const read = () => ({ total: source.total, reads: parts.pieces.length, bytesRead: parts.length });
   try {
     const { image, error } = await answerOf(source, parts, maxBytes, signal);
     const traced = trace ? { trace: await traceOf(parts, source.total) } : {};

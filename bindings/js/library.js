@@ -34,7 +34,8 @@ async function load() {
   try {
     return await Library.of(await WebAssembly.compile(await binary(new URL('./out/imagesize.wasm', import.meta.url))));
   } catch (cause) {
-    throw new ImageError('NO_LIBRARY', `The library cannot be loaded (${cause.message}); bindings/js/build builds it`, { cause });
+    const message = `The library cannot be loaded (${cause.message}); bindings/js/build builds it`;
+    throw new ImageError('NO_LIBRARY', message, { cause });
   }
 }
 
@@ -81,14 +82,15 @@ class Library {
    * What the known parts of an input of `total` bytes tell: `{ wanted }`, a span that is needed, `{ image }` or `{ error }`.
    */
   probeParts(parts, total) {
-    const bytes = AT.lent + SPAN * parts.spans.length;
-    this.#lend(bytes + parts.length);
-    this.#putSpans(AT.lent, parts.spans);
-    this.#putPieces(bytes, parts.pieces);
+    const { pieces, length } = parts;
+    const bytes = AT.lent + SPAN * pieces.length;
+    this.#lend(bytes + length);
+    this.#putSpans(AT.lent, pieces);
+    this.#putPieces(bytes, pieces);
     this.#putNumber(AT.type, 0);
     const { type, compression, width, height, wanted } = this.#answers;
     const status = this.#calls.imagesize_probe_parts(
-      this.#pointer(bytes), BigInt(parts.length), this.#pointer(AT.lent), BigInt(parts.spans.length), BigInt(total),
+      this.#pointer(bytes), BigInt(length), this.#pointer(AT.lent), BigInt(pieces.length), BigInt(total),
       type, compression, width, height, wanted,
     );
     return status === BYTES_WANTED ? { wanted: this.#span(AT.wanted) } : this.#told(status);
@@ -100,8 +102,8 @@ class Library {
   }
 
   /**
-   * The same of an input of `total` bytes, whose answer its known parts tell: all other bytes may be zeros, which a memory
-   * that nobody wrote to has of itself.
+   * The same of an input of `total` bytes, whose answer its known parts tell: they rest on none of the others. It stands in a
+   * memory of its own, of which the engine holds only the pages that are written.
    */
   async spansOfParts(parts, total, most) {
     return (await Library.of(this.#module)).#spansOf(parts.pieces, total, most);
@@ -139,7 +141,7 @@ class Library {
     return BigInt(this.#base + at);
   }
 
-  // Pieces one behind another.
+  // The bytes of pieces, one piece behind another.
   #putPieces(at, pieces) {
     let place = this.#base + at;
     for (const { bytes } of pieces) {
@@ -148,11 +150,12 @@ class Library {
     }
   }
 
-  #putSpans(at, spans) {
+  // The spans of pieces.
+  #putSpans(at, pieces) {
     let place = at;
-    for (const { start, len } of spans) {
+    for (const { start, bytes } of pieces) {
       this.#putNumber(place, start);
-      this.#putNumber(place + 8, len);
+      this.#putNumber(place + 8, bytes.length);
       place += SPAN;
     }
   }

@@ -1,7 +1,7 @@
 // What the module costs: node --experimental-wasm-memory64 bindings/js/measure.js [FILE..]
 //
-// It prints microseconds a call of `probe` over the bytes of each file, here and in Python; the bytes and requests of `probeUrl`
-// beside the whole input; and the size of what a page loads.
+// It prints microseconds a call of `probe` over the bytes of each file, here and in Python; the bytes and requests of
+// `probeUrl` beside the whole input; and the size of what a page loads.
 
 import { spawnSync } from 'node:child_process';
 import { readFileSync } from 'node:fs';

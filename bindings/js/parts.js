@@ -10,20 +10,13 @@ const SINGLE_BLOCKS = 16;
 
 /** The parts of an input that are known. */
 export class Parts {
-  /** Their places, and their bytes, one piece behind another; pieces that are neighbours may share a span. */
-  spans = [];
+  /** A piece of the input for each read, and how many bytes they have together. */
   pieces = [];
-  /** How many bytes they have together, and in how many reads they came. */
   length = 0;
-  reads = 0;
 
   add(start, bytes) {
-    const last = this.spans.at(-1);
-    if (last !== undefined && last.start + last.len === start) last.len += bytes.length;
-    else this.spans.push({ start, len: bytes.length });
     this.pieces.push({ start, bytes });
     this.length += bytes.length;
-    this.reads += 1;
   }
 
   /** The bytes of a span that is known. */
@@ -53,7 +46,7 @@ export function firstBlock(most) {
 export function nextBlock(wanted, total, parts, most) {
   const start = Math.floor(wanted.start / BLOCK) * BLOCK;
   const last = Math.ceil((wanted.start + wanted.len) / BLOCK) * BLOCK;
-  const ahead = start + BLOCK * 2 ** Math.max(0, parts.reads + 1 - SINGLE_BLOCKS);
+  const ahead = start + BLOCK * 2 ** Math.max(0, parts.pieces.length + 1 - SINGLE_BLOCKS);
   const end = Math.min(Math.max(last, ahead), total, start + most - parts.length);
   if (end <= wanted.start) throw new ImageError('LIMIT_REACHED', `There is no answer within ${most} bytes`);
   return { start, end };

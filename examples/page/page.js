@@ -154,3 +154,5 @@ addEventListener('drop', (event) => {
   list(ofFiles(event.dataTransfer.files), FILES_AT_ONCE);
   list(ofAddresses(event.dataTransfer.getData('text/uri-list')), ADDRESSES_AT_ONCE);
 });
+
+status.textContent = 'Ready';

@@ -81,6 +81,18 @@ test('large bytes are answered by a few blocks of them, and no memory grows', ()
   withGrow(assert.fail, () => assert.deepEqual(probe(tiff), { kind: 'Tiff', compression: null, width: 5, height: 7 }));
 });
 
+// It stands before the tests of memory, since it has one of its own.
+test('a trace has the bytes of a few blocks of a long input, or is null', async () => {
+  const tiff = tiffBehind(50_000_000);
+  const { trace } = await probeBlob(new Blob([tiff]), { trace: true });
+  assert.deepEqual(trace.map(({ start, bytes }) => [start, bytes.length]).slice(-2), [[50_000_014, 8], [50_000_022, 4]]);
+  assert.deepEqual(Buffer.from(trace.at(-1).bytes), tiff.subarray(-8, -4));
+  const endless = { size: 2 ** 50, slice: (start, end) => new Blob([Buffer.concat([gif, Buffer.alloc(end - start - 12)])]) };
+  const image = await probeBlob(endless, { trace: true });
+  assert.deepEqual([image.width, image.trace], [100, null]);
+  assert.equal((await probeBlob(new Blob([jpegBehind(40000, 4)]), { trace: true })).trace, null);
+});
+
 test('memory grows, and is used again', () => {
   const large = Buffer.alloc(20_000_000);
   large.set(gif);
@@ -127,15 +139,15 @@ test('a blob is read by aligned slices, each place once', async () => {
   assert.ok(slices.slice(1).every(([start], index) => start >= slices[index][1]));
 });
 
-test('a trace has the bytes of a few blocks of a long input, or is null', async () => {
-  const tiff = tiffBehind(50_000_000);
-  const { trace } = await probeBlob(new Blob([tiff]), { trace: true });
-  assert.deepEqual(trace.map(({ start, bytes }) => [start, bytes.length]), spans(tiff).map(({ start, len }) => [start, len]));
-  assert.deepEqual(Buffer.from(trace.at(-1).bytes), tiff.subarray(-8, -4));
-  const endless = { size: 2 ** 50, slice: (start, end) => new Blob([Buffer.concat([gif, Buffer.alloc(end - start - 12)])]) };
-  const image = await probeBlob(endless, { trace: true });
-  assert.deepEqual([image.width, image.trace], [100, null]);
-  assert.equal((await probeBlob(new Blob([jpegBehind(40000, 4)]), { trace: true })).trace, null);
+test('places above 2^32 are those of the input', async () => {
+  const far = 5_000_000_000;
+  const head = Buffer.from('49492b000800000000f2052a01000000', 'hex');
+  const directory = Buffer.from('020000000000000000010300010000000000000005000000000000000101040001000000000000000700000000000000', 'hex');
+  const bytes = Buffer.alloc(8192);
+  directory.copy(bytes, far % 4096);
+  const slice = (start, end) => new Blob([start === 0 ? Buffer.concat([head, Buffer.alloc(end - 16)]) : bytes.subarray(0, end - start)]);
+  const { kind, width, height, reads } = await probeBlob({ size: 2 * far, slice });
+  assert.deepEqual([kind, width, height, reads], ['Tiff', 5, 7, 2]);
 });
 
 test('a blob that is cut is refused', async () => {
@@ -145,7 +157,9 @@ test('a blob that is cut is refused', async () => {
 
 test('a signal ends a probe, and bad limits are refused', async () => {
   await assert.rejects(probeBlob(new Blob([gif]), { signal: AbortSignal.abort() }), { name: 'AbortError' });
-  for (const maxBytes of [0, -1, 4096.5, NaN, 'many']) await assert.rejects(probeBlob(new Blob([gif]), { maxBytes }), RangeError);
+  for (const maxBytes of [0, -1, 4096.5, NaN, 'many']) {
+    await assert.rejects(probeBlob(new Blob([gif]), { maxBytes }), RangeError);
+  }
   await assert.rejects(probeBlob(new Blob([gif]), { maxBytes: 11 }), { code: 'LIMIT_REACHED' });
 });
 

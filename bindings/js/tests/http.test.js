@@ -19,7 +19,7 @@ async function refused(answer, options = {}) {
 }
 
 // Says that it gives this range, and gives these bytes.
-const say = (response, range, bytes, headers = {}) => response.writeHead(206, { 'Content-Range': range, ...headers }).end(bytes);
+const say = (response, range, bytes) => response.writeHead(206, { 'Content-Range': range }).end(bytes);
 
 // Writes bytes for as long as somebody takes them.
 function writeForever(response) {
@@ -57,8 +57,10 @@ test('a directory at the end of two megabytes is two requests', async () => {
 test('many probes at once keep their parts apart', async () => {
   const inputs = [jpeg, tiffBehind(100000), jpegBehind(1, 60000)];
   await withServer((request, response) => giveRange(request, response, inputs[request.url.slice(-1)]), async (url) => {
-    const kinds = await Promise.all(Array.from({ length: 30 }, async (_, index) => (await probeUrl(`${url}${index % 3}`)).kind));
-    assert.deepEqual(kinds, Array.from({ length: 30 }, (_, index) => ['Jpeg', 'Tiff', 'Jpeg'][index % 3]));
+    const images = await Promise.all(Array.from({ length: 30 }, (_, index) => probeUrl(`${url}${index % 3}`)));
+    images.forEach(({ kind, total }, index) => {
+      assert.deepEqual([kind, total], [['Jpeg', 'Tiff', 'Jpeg'][index % 3], inputs[index % 3].length]);
+    });
   });
 });
 
@@ -95,6 +97,7 @@ test('a server that answers another status is refused by it', async () => {
 test('a range that is cut short is refused', async () => {
   const cuts = [
     (response) => say(response, `bytes 0-99/${jpeg.length}`, jpeg.subarray(0, 100)),
+    (response) => say(response, `bytes 0-99/${jpeg.length}`, jpeg.subarray(0, 4096)),
     (response) => say(response, `bytes 0-4095/${jpeg.length}`, jpeg.subarray(0, 100)),
     (response) => {
       response.writeHead(206, { 'Content-Range': `bytes 0-4095/${jpeg.length}`, 'Content-Length': 4096 });
@@ -117,7 +120,8 @@ test('another range than the one that was asked for is refused', async () => {
 
 test('a range of which nothing is told is refused', async () => {
   for (const range of ['bytes 0-4095/*', 'bytes 0-4095/99999999999999999999', 'pages 0-4095/9999', '']) {
-    assert.equal((await refused((_, response) => say(response, range, jpeg.subarray(0, 4096)))).code, 'NO_CONTENT_RANGE', range);
+    const error = await refused((_, response) => say(response, range, jpeg.subarray(0, 4096)));
+    assert.equal(error.code, 'NO_CONTENT_RANGE', range);
   }
 });
 

@@ -30,7 +30,7 @@ export function jpegBehind(segments, length) {
   segment.set([0xff, 0xe1]);
   segment.writeUInt16BE(length - 2, 2);
   const frame = [0xff, 0xc0, 0, 17, 8, 0, 5, 0, 7];
-  return Buffer.concat([Buffer.from([0xff, 0xd8]), ...Array(segments).fill(segment), Buffer.from(frame), Buffer.alloc(2000)]);
+  return Buffer.concat([Buffer.from([0xff, 0xd8]), ...Array(segments).fill(segment), Buffer.from(frame), Buffer.alloc(100)]);
 }
 
 /** A TIFF of 5x7 pixels, whose directory stands behind so many bytes. */

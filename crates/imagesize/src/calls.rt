@@ -1,6 +1,5 @@
 //! The calls: type and size of a slice's bytes, or of a reader's.
 ghost use Rattle.std.specs.Prelude.{◌≡◌, ℕ, ◌+◌, ◌<◌, ◌≤◌, List, length, ◌++◌, IsTrue, IfOk, IfErr, IfSome, IsSome, Some, true, false, Option, Ok, Err, option_map};
-ghost use Rattle.std.specs.Result.{result_ok};
 ghost use Rattle.imagesize_io.specs.Answers.{Answers, Counts};
 ghost use Rattle.imagesize_source.specs.Reading.{end_of_input, is_fault, is_memory, spent, stopped};
 ghost use Rattle.imagesize_source.specs.State.{Runs};
@@ -93,34 +92,18 @@ pub fn blob_size(data: &[u8]) -> ImageResult<ImageSize>
     // A slice fails at no reading, has no budget and wants no memory.
     ensures unstopped { stopped result ≡ false }
 {
-    blob_probe(data).1
+    probe_slice(data)
 }
 
-/// Type and size of the image that a slice's bytes hold, found at once. The type is told wherever one was found, also beside a
-/// size that is refused.
-///
-/// The errors are those of `blob_size`.
-///
-/// ```
-/// use imagesize::{ImageType, blob_probe};
-///
-/// let (kind, size) = blob_probe(b"GIF89a\x80\x02\xe0\x01\0\0");
-/// assert_eq!(kind, Some(ImageType::Gif));
-/// assert_eq!(size?.height, 480);
-/// ```
-#[inline(always)]
-pub fn blob_probe(data: &[u8]) -> (Option<ImageType>, ImageResult<ImageSize>)
-    ensures kind { result.0 ≡ result_ok (kind_of «data».now 0).answer }
-    ensures value { result.1 ≡ (meaning «data».now 0).answer }
-
-    // A slice fails at no reading, has no budget and wants no memory.
-    ensures unstopped { stopped result.1 ≡ false }
+// The size that a slice's bytes mean.
+fn probe_slice(data: &[u8]) -> ImageResult<ImageSize>
+    ensures value { result ≡ (meaning «data».now 0).answer }
+    ensures unstopped { stopped result ≡ false }
 {
-    probe(&mut SliceSource { bytes: data }, 0)
+    probe(&mut SliceSource { bytes: data }, 0).1
 }
 
 // The type at a place of a source, and the size by it.
-#[inline(always)]
 pub(crate) fn probe<S: Source>(
     source: &mut S,
     place: u64,

@@ -7,7 +7,7 @@ ghost use Rattle.imagesize_c.specs.Told.{TellsSize, TellsType};
 
 use crate::status::{ANSWERED, refusal_status};
 use crate::tell::{tell_size, tell_type};
-use imagesize::{blob_probe, blob_size, image_type};
+use imagesize::{blob_size, image_type};
 
 /// The type of the image whose first bytes these are, and its compression. Beside a refusal both stay as they are.
 #[unsafe(no_mangle)]
@@ -50,7 +50,6 @@ pub extern "C" fn imagesize_probe(
     ensures kind { TellsType (result_ok (kind_of bytes.now 0).answer) number.old number.new compression.old compression.new }
     ensures size { TellsSize (meaning bytes.now 0).answer width.old width.new height.old height.new }
 {
-    let (kind, answer) = blob_probe(bytes);
-    tell_type(kind, number, compression);
-    tell_size(answer, width, height)
+    imagesize_type(bytes, number, compression);
+    imagesize_size(bytes, width, height)
 }

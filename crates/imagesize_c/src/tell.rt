@@ -8,6 +8,7 @@ use crate::status::{ANSWERED, refusal_status};
 use imagesize::{ImageResult, ImageSize, ImageType};
 
 /// Tells the numbers of a type and of its compression, where one was found.
+#[inline(always)]
 pub fn tell_type(kind: Option<ImageType>, number: &mut u32, compression: &mut u32)
     ensures { TellsType kind number.old number.new compression.old compression.new }
 {
@@ -18,6 +19,7 @@ pub fn tell_type(kind: Option<ImageType>, number: &mut u32, compression: &mut u3
 }
 
 /// Tells a size, where there is one, and answers the status.
+#[inline(always)]
 pub fn tell_size(answer: ImageResult<ImageSize>, width: &mut u64, height: &mut u64) -> u32
     ensures status { result ≡ status_of answer }
     ensures told { TellsSize answer width.old width.new height.old height.new }

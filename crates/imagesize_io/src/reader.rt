@@ -361,7 +361,10 @@ fn go_to<R: Told>(reader: &mut R, progress: &mut Progress, place: u64) -> Result
     if place > progress.told {
         return Ok(false);
     }
-    kept(reader.seek_told(SeekFrom::Start(place)), &mut progress.fault)?;
+    kept(
+        reader.seek_told(SeekFrom::Start(place)),
+        &mut progress.fault,
+    )?;
     progress.place = place;
     Ok(true)
 }

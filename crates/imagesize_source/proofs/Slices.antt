@@ -59,7 +59,7 @@ pub slice_reads : (d room old : List ℕ) (place n : ℕ) → length d < 2 ^ 63 
 slice_reads d room old place n short count copied kept = slice_runs d (take n room) short
     (ap Ok (sym (front_is d room old place n count copied kept)))
 
--- the part in which a text is looked for, by the slices that the code takes
+-- what is there of the bytes from a place on, by the slices that the code takes
 pub slice_part : (d : List ℕ) (place first k n : ℕ) → first ≡ min place (length d)
     → n ≡ min (length (take (length d - first) (drop first d))) k → take n (take (length d - first) (drop first d)) ≡ part d place k
 unfolding part
@@ -77,34 +77,22 @@ slice_part d place first k n first_is n_is =
     ]
 
 -- the text in it
-pub slice_text : (d : List ℕ) (t : Text) (place first k n m : ℕ) → first ≡ min place (length d)
-    → n ≡ min (length (take (length d - first) (drop first d))) k
-    → m ≡ length (text_front t (take n (take (length d - first) (drop first d))))
-    → take m (take n (take (length d - first) (drop first d))) ≡ text_part d t place k
+pub slice_text : (d found : List ℕ) (t : Text) (place k m : ℕ) → found ≡ part d place k → m ≡ length (text_front t found)
+    → take m found ≡ text_part d t place k
 unfolding text_part
-slice_text d t place first k n m first_is n_is m_is =
-    let same = slice_part d place first k n first_is n_is in
-    ap (λ j. take j (take n (take (length d - first) (drop first d)))) m_is ∙ front_take t
-    (take n (take (length d - first) (drop first d))) ∙ ap (text_front t) same
+slice_text d found t place k m found_is m_is =
+    ap (λ j. take j found) m_is ∙ front_take t found ∙ ap (text_front t) found_is
 
 -- how long it is
-pub slice_text_fits : (d : List ℕ) (t : Text) (place first k n m : ℕ) → first ≡ min place (length d)
-    → n ≡ min (length (take (length d - first) (drop first d))) k
-    → m ≡ length (text_front t (take n (take (length d - first) (drop first d))))
-    → length (take m (take n (take (length d - first) (drop first d)))) ≤ k
-slice_text_fits d t place first k n m first_is n_is m_is = omega (
-  arith,
-  ap length (slice_text d t place first k n m first_is n_is m_is),
-  text_length d t place k,
-  part_length d place k,
-)
+pub slice_text_fits : (d found : List ℕ) (t : Text) (place k m : ℕ) → found ≡ part d place k → m ≡ length (text_front t found)
+    → length (take m found) ≤ k
+slice_text_fits d found t place k m found_is m_is =
+    omega (arith, ap length (slice_text d found t place k m found_is m_is), text_length d t place k, part_length d place k)
 
-pub slice_text_there : (d : List ℕ) (t : Text) (place first k n m : ℕ) → first ≡ min place (length d)
-    → n ≡ min (length (take (length d - first) (drop first d))) k
-    → m ≡ length (text_front t (take n (take (length d - first) (drop first d))))
-    → 0 < length (take m (take n (take (length d - first) (drop first d)))) → place < length d
-slice_text_there d t place first k n m first_is n_is m_is some =
-    omega (arith, some, ap length (slice_text d t place first k n m first_is n_is m_is), text_length d t place k, part_length d place k)
+pub slice_text_there : (d found : List ℕ) (t : Text) (place k m : ℕ) → found ≡ part d place k → m ≡ length (text_front t found)
+    → 0 < length (take m found) → place < length d
+slice_text_there d found t place k m found_is m_is some =
+    omega (arith, some, ap length (slice_text d found t place k m found_is m_is), text_length d t place k, part_length d place k)
 
 -- what was copied of a text is the text
 pub copied_is : (d old copied found : List ℕ) (t : Text) (place : ℕ) → found ≡ text_part d t place (length old)

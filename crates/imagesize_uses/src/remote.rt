@@ -68,7 +68,10 @@ impl From<AllocError> for Interrupted {
 /// Type and size of the image in an input of which what is needed is fetched, and nothing else.
 ///
 /// Errors: the first fetch that fails or gives too few bytes, and `Interrupted::Memory` where memory for the parts was refused.
-pub fn probe_remote<A: Allocator + Copy, R: Remote>(alloc: A, remote: &mut R) -> Result<Probed, Interrupted>
+pub fn probe_remote<A: Allocator + Copy, R: Remote>(
+    alloc: A,
+    remote: &mut R,
+) -> Result<Probed, Interrupted>
     ensures answer { IfOk result (IsOf (R.input remote.old)) }
     ensures stops { Stops (R.last remote.new) result }
 
@@ -90,7 +93,12 @@ pub fn probe_remote<A: Allocator + Copy, R: Remote>(alloc: A, remote: &mut R) ->
 }
 
 // Fetches the bytes of a span behind those that are there.
-fn fetch_part<A: Allocator, R: Remote>(alloc: A, remote: &mut R, span: &Span, bytes: &mut Vec<u8, A>) -> Result<(), Interrupted>
+fn fetch_part<A: Allocator, R: Remote>(
+    alloc: A,
+    remote: &mut R,
+    span: &Span,
+    bytes: &mut Vec<u8, A>,
+) -> Result<(), Interrupted>
     ensures same { R.input remote.new ≡ R.input remote.old }
     ensures counts { R.fetches remote.new ≤ R.fetches remote.old + 1 }
     ensures bytes { IfOk result (λ _. bytes.new.items ≡ bytes.old.items ++ part (R.input remote.old) span.now.start span.now.len) }

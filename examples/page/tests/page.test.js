@@ -18,7 +18,12 @@ const serve = fileURLToPath(new URL('../serve', import.meta.url));
 const COUNTER = `
   globalThis.bytesAsked = 0;
   const { slice } = Blob.prototype;
-  Blob.prototype.slice = function (start, end, type) { const part = slice.call(this, start, end, type); bytesAsked += part.size; part.isPart = true; return part; };
+  Blob.prototype.slice = function (...range) {
+    const part = slice.apply(this, range);
+    bytesAsked += part.size;
+    part.isPart = true;
+    return part;
+  };
   for (const name of ['arrayBuffer', 'text', 'stream', 'bytes']) {
     const read = Blob.prototype[name];
     Blob.prototype[name] = function () { if (!this.isPart) bytesAsked += this.size; return read.call(this); };
@@ -49,7 +54,7 @@ async function withPage(use) {
       for (const domain of ['Page', 'Runtime', 'Network', 'DOM', 'Log']) await tab.send(`${domain}.enable`);
       await tab.send('Page.addScriptToEvaluateOnNewDocument', { source: COUNTER });
       await tab.send('Page.navigate', { url: address.trim() });
-      await tab.until(`document.readyState === 'complete' && document.querySelector('template') !== null`);
+      await tab.until(`document.getElementById('status')?.textContent === 'Ready'`);
       return await use(tab, folder, new URL(address.trim()));
     });
   } finally {
@@ -66,18 +71,23 @@ function writeInputs(folder, inputs) {
   });
 }
 
+// Whether the list has so many images, the last of which have been read.
+const listed = (count) => `document.querySelectorAll('#images li').length === ${count}
+  && / read,/.test(document.getElementById('status').textContent)`;
+
 async function choose(tab, paths) {
   const { root } = await tab.send('DOM.getDocument');
   const { nodeId } = await tab.send('DOM.querySelector', { nodeId: root.nodeId, selector: '#files' });
   const before = await tab.value(`document.querySelectorAll('#images li').length`);
   await tab.send('DOM.setFileInputFiles', { nodeId, files: paths });
-  await tab.until(`document.querySelectorAll('#images li').length === ${before + paths.length} && /read,/.test(document.getElementById('status').textContent)`);
+  await tab.until(listed(before + paths.length));
 }
 
 async function lookUp(tab, addresses) {
-  await tab.value(`document.getElementById('images').replaceChildren(); document.getElementById('status').textContent = ''`);
-  await tab.value(`document.getElementById('addresses').value = ${JSON.stringify(addresses.join('\n'))}; document.querySelector('form button').click()`);
-  await tab.until(`/read,/.test(document.getElementById('status').textContent)`);
+  await tab.value(`document.getElementById('images').replaceChildren();
+    document.getElementById('addresses').value = ${JSON.stringify(addresses.join('\n'))};
+    document.querySelector('form button').click()`);
+  await tab.until(listed(addresses.length));
   return tab.value(LINES);
 }
 
@@ -141,13 +151,18 @@ test('the page', async (t) => {
     await t.test('takes files that are dropped', async () => {
       const before = (await tab.value(LINES)).length;
       const data = { items: [], files: [join(folder, 'image 0'), join(folder, 'image 1')], dragOperationsMask: 1 };
-      for (const type of ['dragEnter', 'dragOver', 'drop']) await tab.send('Input.dispatchDragEvent', { type, x: 200, y: 200, data });
-      await tab.until(`document.querySelectorAll('#images li').length === ${before + 2} && /^2 images read,/.test(document.getElementById('status').textContent)`);
+      for (const type of ['dragEnter', 'dragOver', 'drop']) {
+        await tab.send('Input.dispatchDragEvent', { type, x: 200, y: 200, data });
+      }
+      await tab.until(listed(before + 2));
     });
 
     await t.test('uploads nothing', async () => {
       const requests = tab.events('Network.requestWillBeSent').map(({ request }) => request);
-      assert.ok(requests.length > 0 && requests.every(({ method, url }) => method === 'GET' && url.startsWith(origin) || url.startsWith('data:')));
+      assert.ok(requests.length > 0);
+      for (const { method, url } of requests.filter(({ url }) => !url.startsWith('data:'))) {
+        assert.deepEqual([method, new URL(url).origin], ['GET', origin]);
+      }
     });
 
     await t.test('tells each span to the keys and to a screen reader', async () => {
@@ -163,15 +178,20 @@ test('the page', async (t) => {
       assert.equal(await detail(), first);
       assert.equal(await tab.value(`document.querySelectorAll('#images li:first-child .mark[tabindex="0"]').length`), 1);
       const { nodes } = await tab.send('Accessibility.getFullAXTree');
-      const named = (role) => nodes.filter((node) => node.role?.value === role && !node.ignored).map(({ name }) => name?.value ?? '');
+      const named = (role) => nodes.filter((node) => node.role?.value === role && !node.ignored)
+        .map(({ name }) => name?.value ?? '');
       assert.ok(named('button').includes(first) && named('button').every((name) => name !== ''));
       assert.ok(named('group').some((name) => /^The answer rests on \d+ spans, \d+ bytes in all; arrow keys/.test(name)));
       assert.ok(named('textbox').includes('Addresses, one a line') && named('status').length === 1);
     });
 
     await t.test('tells each span under the pointer', async () => {
-      const place = await tab.value(`(() => { const mark = document.querySelector('#images li .mark:last-child'); mark.scrollIntoView({ block: 'center' });
-        const { x, y, width, height } = mark.getBoundingClientRect(); return { x: x + width / 2, y: y + height / 2, label: mark.ariaLabel }; })()`);
+      const place = await tab.value(`(() => {
+        const mark = document.querySelector('#images li .mark:last-child');
+        mark.scrollIntoView({ block: 'center' });
+        const { x, y, width, height } = mark.getBoundingClientRect();
+        return { x: x + width / 2, y: y + height / 2, label: mark.ariaLabel };
+      })()`);
       await tab.send('Input.dispatchMouseEvent', { type: 'mouseMoved', x: place.x, y: place.y });
       await tab.until(`document.querySelector('#images li .detail').textContent === ${JSON.stringify(place.label)}`);
     });
@@ -212,8 +232,8 @@ test('the page', async (t) => {
 
     await t.test('throws nothing and breaks no rule of its own', () => {
       const thrown = tab.events('Runtime.exceptionThrown').map(({ exceptionDetails }) => exceptionDetails.text);
-      const refused = tab.events('Log.entryAdded').map(({ entry }) => entry.text).filter((text) => text.includes('Content Security Policy'));
-      assert.deepEqual([...thrown, ...refused], []);
+      const logged = tab.events('Log.entryAdded').map(({ entry }) => entry.text);
+      assert.deepEqual([...thrown, ...logged.filter((text) => text.includes('Content Security Policy'))], []);
     });
   });
 });

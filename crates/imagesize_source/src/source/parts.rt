@@ -1,15 +1,16 @@
 //! The known parts of an input as a source. A reading is answered from them, or fails and says which byte it misses.
-ghost use Rattle.std.specs.Prelude.{◌≡◌, ℕ, ◌+◌, ◌-◌, ◌<◌, ◌≤◌, ◌++◌, ◌&&◌, [], ◌∷◌, min, take, drop, length, not, nat_lt, is_some, true, false, None, Some};
+ghost use Rattle.std.specs.Prelude.{◌≡◌, ℕ, ◌+◌, ◌-◌, ◌<◌, ◌≤◌, ◌++◌, ◌&&◌, [], ◌∷◌, if◌then◌else◌, min, take, drop, length, slice_index, not, nat_le, nat_lt, is_some, true, false, None, Some};
 ghost use Rattle.std.specs.Option.{ForSome};
 ghost use Rattle.imagesize_source.specs.Agreement.{has_place};
 ghost use Rattle.imagesize_source.specs.Input.{part, span_at};
-ghost use Rattle.imagesize_source.specs.Known.{AllKnown, Lacks, filled, known, parts_state};
+ghost use Rattle.imagesize_source.specs.Known.{AllKnown, Lacks, filled, known, parts_state, within};
 ghost use Rattle.imagesize_source.specs.Text.{is_ended};
 ghost use Rattle.imagesize_source.specs.declared.error.ImageError.TheVariants as error;
 ghost use Rattle.imagesize_source.specs.declared.error.Reason.TheVariants as reason;
 
 use super::Source;
 use super::lent::log::SpanLog;
+use super::slice::part_of;
 use crate::text::{is_closed, text_length};
 use crate::{Halt, ImageError, Reason, Span, Text};
 use std::io::{self, ErrorKind};
@@ -180,39 +181,76 @@ fn gather(spans: &[Span], bytes: &[u8], told: u64, place: u64, room: &mut [u8]) 
     ensures known { (i : ℕ) → i < result → is_some (known told spans.now bytes.now (place + i)) ≡ true }
     ensures missing { result < length room.old → is_some (known told spans.now bytes.now (place + result)) ≡ false }
 {
-    for index in 0..room.len() {
-        match byte_at(spans, bytes, told, place + index as u64) {
-            Some(byte) => room[index] = byte,
-            None => return index,
+    let mut count = 0;
+    while count < room.len() {
+        let run = known_from(spans, bytes, told, place + count as u64);
+        if run.is_empty() {
+            return count;
         }
+        count += put(run, room, count);
     }
-    room.len()
+    count
 }
 
-// The byte at a place, where a part has it: that of the first part that does.
-fn byte_at(spans: &[Span], bytes: &[u8], told: u64, place: u64) -> Option<u8>
-    ensures { result ≡ known told spans.now bytes.now place }
+// Copies the first of these bytes into a room from an index on, as far as it goes, and answers how many that is.
+fn put(run: &[u8], room: &mut [u8], index: usize) -> usize
+    requires { index ≤ length room.old }
+    ensures count { result ≡ min (length run.now) (length room.old - index) }
+    ensures copied { room.new ≡ take index room.old ++ take result run.now ++ drop (index + result) room.old }
+{
+    let count = run.len().min(room.len() - index);
+    room[index..index + count].copy_from_slice(&run[..count]);
+    count
+}
+
+// The known bytes from a place on: of the first part that has it, up to its end or to where a part before it begins.
+fn known_from<'a>(spans: &[Span], bytes: &'a [u8], told: u64, place: u64) -> &'a [u8]
+    ensures known { (i : ℕ) → i < length result.now → known told spans.now bytes.now (place + i) ≡ Some (slice_index result.now i) }
+    ensures none { length result.now ≡ 0 → is_some (known told spans.now bytes.now place) ≡ false }
 {
     let mut rest = bytes;
+    let mut most = u64::MAX;
     for span in spans {
-        let len = span.len.min(told.saturating_sub(span.start));
-        if span.start <= place {
-            if place - span.start < len {
-                return byte_of(rest, (place - span.start) as usize);
-            }
+        let len = length_within(span, told);
+        if has_place(span.start, len, place) {
+            let offset = place - span.start;
+            return part_of(rest, offset, most.min(len - offset));
         }
-        rest = &rest[(len as usize).min(rest.len())..];
+        most = before(span.start, place, most);
+        rest = behind(rest, len);
     }
-    None
+    &rest[..0]
 }
 
-// The byte at an index, where there is one.
-fn byte_of(bytes: &[u8], index: usize) -> Option<u8>
-    ensures { result ≡ Rattle.imagesize_source.specs.Known.byte_of bytes.now index }
+// How many bytes of a span an input of this length has.
+fn length_within(span: &Span, told: u64) -> u64
+    ensures { result ≡ within told span.now }
 {
-    if index < bytes.len() {
-        Some(bytes[index])
+    span.len.min(told.saturating_sub(span.start))
+}
+
+// Whether so many places from a start on have this one.
+fn has_place(start: u64, len: u64, place: u64) -> bool
+    ensures { result ≡ (nat_le start place && nat_lt (place - start) len) }
+{
+    start <= place && place - start < len
+}
+
+// How many of so many places from one on lie before a start that is behind it.
+fn before(start: u64, place: u64, most: u64) -> u64
+    ensures { result ≡ (if nat_lt place start then min most (start - place) else most) }
+{
+    if place < start {
+        most.min(start - place)
     } else {
-        None
+        most
     }
+}
+
+// The bytes behind so many.
+#[tactic(auto, using(crate::proofs::Known::slice_behind))]
+fn behind(bytes: &[u8], count: u64) -> &[u8]
+    ensures { result.now ≡ drop count bytes.now }
+{
+    &bytes[(count as usize).min(bytes.len())..]
 }

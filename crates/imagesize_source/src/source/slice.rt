@@ -72,14 +72,23 @@ pub fn copy_part(bytes: &[u8], place: u64, room: &mut [u8]) -> usize
     rest.len()
 }
 
+/// What is there of the bytes from a place on, at most so many.
+#[inline]
+#[tactic(auto, using(crate::proofs::Slices::slice_part))]
+pub(crate) fn part_of(bytes: &[u8], place: u64, most: u64) -> &[u8]
+    ensures { result.now ≡ part bytes.now place most }
+{
+    let start = (place as usize).min(bytes.len());
+    let rest = &bytes[start..];
+    &rest[..rest.len().min(most as usize)]
+}
+
 /// The text from a place on, of at most so many bytes.
 pub(crate) fn text_at(bytes: &[u8], place: u64, text: Text, most: usize) -> &[u8]
     ensures text { result.now ≡ text_part bytes.now text place most }
     ensures fits { length result.now ≤ most }
     ensures there { 0 < length result.now → place < length bytes.now }
 {
-    let first = (place as usize).min(bytes.len());
-    let rest = &bytes[first..];
-    let part = &rest[..rest.len().min(most)];
+    let part = part_of(bytes, place, most as u64);
     &part[..text_length(text, part)]
 }

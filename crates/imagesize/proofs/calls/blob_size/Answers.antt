@@ -8,7 +8,7 @@ use Rattle.imagesize.specs.Meaning.{meaning}
 use Rattle.imagesize.proofs.calls.blob_size.Goals as goal
 
 pub returns-clause-short : goal.returns-clause-short
-returns-clause-short c = λ few. c.blob_probe.ensures.value ∙ no_meaning c.args.«data».now 0 few
+returns-clause-short c = λ few. c.probe_slice.ensures.value ∙ no_meaning c.args.«data».now 0 few
 
 pub returns-clause-local : goal.returns-clause-local
 returns-clause-local c = λ place. same_by_local (λ d. meaning d place) (local_meaning place) c.args.«data».now
@@ -23,4 +23,4 @@ pub returns-clause-within : goal.returns-clause-within
 returns-clause-within c = λ place. omega (arith, cost_within c.args.«data».now place)
 
 pub returns-clause-lasts : goal.returns-clause-lasts
-returns-clause-lasts c = size_lasts c.args.«data».now 0 c.blob_probe.result.1 c.blob_probe.ensures.value
+returns-clause-lasts c = size_lasts c.args.«data».now 0 c.probe_slice.result c.probe_slice.ensures.value

@@ -1,23 +1,27 @@
-use Rattle.std.proofs.Common.{rules, arith, refl, sym, ◌∙◌, length}
-use Rattle.std.proofs.lemmas.List.{length-set}
+use Rattle.std.proofs.Common.{arith, refl, sym, ◌∙◌, length, ◌+◌, ◌≤◌, ◌≡◌}
 use Rattle.imagesize_source.specs.Known.{filled}
-use Rattle.imagesize_source.proofs.Known.{gathered_more, known_more, part_none}
+use Rattle.imagesize_source.proofs.Known.{gathered_run, known_run, part_none}
 use Rattle.imagesize_source.proofs.source.parts.gather.Goals as goal
 
-pub loop-index-init : goal.loop-index-init
-loop-index-init c = (
+pub loop-count-init : goal.loop-count-init
+loop-count-init c = (
   refl,
   sym (part_none (filled c.args.told c.args.spans.now c.args.bytes.now) c.args.place),
   λ i below. absurd (omega (arith, below)),
+  omega arith,
 )
 
-pub loop-index-preserved : goal.loop-index-preserved
-loop-index-preserved c =
-    let so_far = c.loop-index.invariant in
-    let is = sym c.byte_at.ensures ∙ c.in-Some.is in (
-      length-set c.loop-index.room c.loop-index.index c.in-Some.byte ∙ so_far.0,
-      gathered_more c.args.told c.args.spans.now c.args.bytes.now c.loop-index.room c.args.place c.loop-index.index c.in-Some.byte so_far.1
-          (omega (arith, so_far.0, c.loop-index-test.true))
-          (omega (arith, c.loop-index-test.true, c.requires)) is,
-      known_more c.args.told c.args.spans.now c.args.bytes.now c.args.place c.loop-index.index c.in-Some.byte so_far.2 is,
+pub loop-count-preserved : goal.loop-count-preserved
+loop-count-preserved c =
+    let so_far = c.loop-count.invariant in
+    let long : length c.put-count.new.room ≡ length c.loop-count.room = c.put-count.auto.room in
+    let few : c.put-count.result ≤ length c.known_from-run.result.now = omega (arith, c.put-count.ensures.count) in
+    let fits : c.args.place + c.loop-count.count + c.put-count.result ≤ c.args.told =
+    omega (arith, c.put-count.ensures.count, c.loop-count-test.true, c.requires, so_far.0) in (
+      long ∙ so_far.0,
+      gathered_run c.args.told c.args.spans.now c.args.bytes.now c.known_from-run.result.now c.loop-count.room c.put-count.new.room c.args.place
+          c.loop-count.count c.put-count.result so_far.1 so_far.3 few fits c.put-count.ensures.copied c.known_from-run.ensures.known,
+      known_run c.args.told c.args.spans.now c.args.bytes.now c.known_from-run.result.now c.args.place c.loop-count.count c.put-count.result so_far.2
+          few c.known_from-run.ensures.known,
+      omega (arith, long, c.put-count.ensures.count, so_far.3),
     )

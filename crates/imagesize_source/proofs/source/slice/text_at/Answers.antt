@@ -2,13 +2,13 @@ use Rattle.imagesize_source.proofs.Slices.{slice_text, slice_text_fits, slice_te
 use Rattle.imagesize_source.proofs.source.slice.text_at.Goals as goal
 
 pub returns-clause-text : goal.returns-clause-text
-returns-clause-text c = slice_text c.args.bytes.now c.args.text c.args.place c.min-first.result c.args.most c.min.result
-    c.text_length.result c.min-first.ensures c.min.ensures c.text_length.ensures.length
+returns-clause-text c = slice_text c.args.bytes.now c.part_of-part.result.now c.args.text c.args.place c.args.most c.text_length.result
+    c.part_of-part.ensures c.text_length.ensures.length
 
 pub returns-clause-fits : goal.returns-clause-fits
-returns-clause-fits c = slice_text_fits c.args.bytes.now c.args.text c.args.place c.min-first.result c.args.most c.min.result
-    c.text_length.result c.min-first.ensures c.min.ensures c.text_length.ensures.length
+returns-clause-fits c = slice_text_fits c.args.bytes.now c.part_of-part.result.now c.args.text c.args.place c.args.most c.text_length.result
+    c.part_of-part.ensures c.text_length.ensures.length
 
 pub returns-clause-there : goal.returns-clause-there
-returns-clause-there c = slice_text_there c.args.bytes.now c.args.text c.args.place c.min-first.result c.args.most c.min.result
-    c.text_length.result c.min-first.ensures c.min.ensures c.text_length.ensures.length
+returns-clause-there c = slice_text_there c.args.bytes.now c.part_of-part.result.now c.args.text c.args.place c.args.most c.text_length.result
+    c.part_of-part.ensures c.text_length.ensures.length

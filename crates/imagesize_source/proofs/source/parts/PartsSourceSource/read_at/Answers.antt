@@ -1,6 +1,5 @@
-use Rattle.std.proofs.Common.{◌≡◌, ◌≤◌, ◌-◌, ◌+◌, ◌++◌, min, take, drop, Some, arith, refl, sym, ap, ◌∙◌, length}
+use Rattle.std.proofs.Common.{◌≡◌, ◌≤◌, ◌-◌, ◌+◌, ◌++◌, min, drop, arith, refl, sym, ap, ◌∙◌, length}
 use Rattle.std.proofs.lemmas.List.{length-take}
-use Rattle.imagesize_source.specs.Input.{span_at}
 use Rattle.imagesize_source.proofs.Known.{parts_read, parts_missing, room_front, room_long, state_is}
 use Rattle.imagesize_source.proofs.source.parts.PartsSourceSource.read_at.Goals as goal
 
