@@ -1,6 +1,6 @@
 -- What known parts tell of each input that has them.
-use Rattle.std.proofs.Common.{◌≡◌, ℕ, ◌+◌, ◌^◌, ◌<◌, ◌≤◌, Bool, true, false, ◌||◌, cond, eqb, List, [], ◌∷◌, ◌++◌, length, take, drop, get_or, Option, None, Some, Result, Ok, Err, inl, inr, refl, sym, ap, ◌∙◌, subst, arith, append_assoc}
-use Rattle.std.proofs.lemmas.List.{append-nil, take_all}
+use Rattle.std.proofs.Common.{◌≡◌, ℕ, ◌+◌, ◌^◌, ◌<◌, ◌≤◌, Bool, true, false, ◌||◌, cond, eqb, List, [], ◌∷◌, ◌++◌, Option, None, Some, Result, Ok, Err, inl, inr, refl, sym, ap, ◌∙◌, subst, arith, append_assoc}
+use Rattle.std.proofs.lemmas.List.{append-nil}
 use Rattle.std.specs.List.{list_any}
 use Rattle.std.specs.Option.{ForSome}
 use Rattle.std.specs.Result.{result_ok}
@@ -17,7 +17,6 @@ use Rattle.imagesize_io.proofs.Openings.{stop_cases, some_spent}
 use Rattle.imagesize_source.specs.declared.error.ImageError.{ImageError}
 use Rattle.imagesize_source.specs.declared.span.Span.{Span}
 use Rattle.imagesize_source.specs.Agreement.{Agrees, Parting, covered}
-use Rattle.imagesize_source.specs.Input.{part}
 use Rattle.imagesize_source.specs.Known.{AllKnown, HasParts, Lacks, filled, parts_state}
 use Rattle.imagesize_source.specs.Reading.{Reads, faulted, is_stop, spent, stopped}
 use Rattle.imagesize_source.specs.State.{State, Runs, past, places_in}
@@ -167,16 +166,6 @@ wants d n spans bytes log w found r call has short faults =
       wanted_mark d n spans bytes log w.start has call.seen one.0 one.1,
       unknown_free d n spans bytes w.start has (let some = lacks.0 in let fits = lacks.1 in omega arith) lacks.2,
     )
-
--- one part that holds the input is the input
-pub whole_is : (d bytes : List ℕ) (n : ℕ) (spans : List Span) (other : Span) → length spans ≡ 1 → (get_or spans 0 other).start ≡ 0
-    → n ≤ (get_or spans 0 other).len → HasParts d n spans bytes → bytes ≡ d
-unfolding part
-whole_is d bytes n [] other one first all has = absurd (omega (arith, one))
-whole_is d bytes n (s ∷ []) other one first all has =
-    sym has.bytes ∙ append-nil (part d s.start s.len) ∙ ap (λ k. take s.len (drop k d)) first
-    ∙ take_all s.len d (omega (arith, all, has.as_long))
-whole_is d bytes n (s ∷ t ∷ spans) other one first all has = absurd (omega (arith, one))
 
 -- ---- by the code's test
 

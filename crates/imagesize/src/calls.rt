@@ -1,6 +1,5 @@
 //! The calls: type and size of a slice's bytes, or of a reader's.
 ghost use Rattle.std.specs.Prelude.{◌≡◌, ℕ, ◌+◌, ◌<◌, ◌≤◌, List, length, ◌++◌, IsTrue, IfOk, IfErr, IfSome, IsSome, Some, true, false, Option, Ok, Err, option_map};
-ghost use Rattle.std.specs.Result.{result_ok};
 ghost use Rattle.imagesize_io.specs.Answers.{Answers, Counts};
 ghost use Rattle.imagesize_source.specs.Reading.{end_of_input, is_fault, is_memory, spent, stopped};
 ghost use Rattle.imagesize_source.specs.State.{Runs};
@@ -93,17 +92,15 @@ pub fn blob_size(data: &[u8]) -> ImageResult<ImageSize>
     // A slice fails at no reading, has no budget and wants no memory.
     ensures unstopped { stopped result ≡ false }
 {
-    probe_slice(data).1
+    probe_slice(data)
 }
 
-// The type and the size that a slice's bytes mean.
-#[inline]
-pub(crate) fn probe_slice(data: &[u8]) -> (Option<ImageType>, ImageResult<ImageSize>)
-    ensures kind { result.0 ≡ result_ok (kind_of «data».now 0).answer }
-    ensures value { result.1 ≡ (meaning «data».now 0).answer }
-    ensures unstopped { stopped result.1 ≡ false }
+// The size that a slice's bytes mean.
+fn probe_slice(data: &[u8]) -> ImageResult<ImageSize>
+    ensures value { result ≡ (meaning «data».now 0).answer }
+    ensures unstopped { stopped result ≡ false }
 {
-    probe(&mut SliceSource { bytes: data }, 0)
+    probe(&mut SliceSource { bytes: data }, 0).1
 }
 
 // The type at a place of a source, and the size by it.

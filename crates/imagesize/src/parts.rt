@@ -1,11 +1,11 @@
 //! Type and size by parts of an input, of which the caller has no more so far.
-ghost use Rattle.std.specs.Prelude.{◌≡◌, ℕ, ◌^◌, ◌<◌, List, None, true, if◌then◌else◌};
+ghost use Rattle.std.specs.Prelude.{◌≡◌, ℕ, ◌^◌, ◌<◌, List, None, if◌then◌else◌};
 ghost use Rattle.imagesize.specs.Meaning.{meaning};
 ghost use Rattle.imagesize.specs.Parted.{Cover, Fits, Says, Tells};
 ghost use Rattle.imagesize_source.specs.Known.{HasParts};
 ghost use Rattle.imagesize_source.specs.Reading.{faulted};
 
-use crate::calls::{probe, probe_slice};
+use crate::calls::probe;
 use crate::types::ImageType;
 use crate::{ImageError, ImageResult, Reason, Span};
 use imagesize_source::source::parts::PartsSource;
@@ -58,26 +58,12 @@ pub fn parts_probe(bytes: &[u8], spans: &[Span], total: u64) -> PartsAnswer
         → Cover spans.now (meaning d 0).marks → Tells result }
     ensures fits { Fits total result }
 {
-    if is_whole(bytes, spans, total) {
-        let (kind, answer) = probe_slice(bytes);
-        return PartsAnswer::Found { kind, answer };
-    }
     let mut source = PartsSource::new(spans, bytes, total);
     let (kind, answer) = probe(&mut source, 0);
     match wanted(&answer, source.missed) {
         Some(span) => PartsAnswer::Wanted(span),
         None => PartsAnswer::Found { kind, answer },
     }
-}
-
-// Whether these are all bytes of the input, in one part.
-fn is_whole(bytes: &[u8], spans: &[Span], total: u64) -> bool
-    ensures { result ≡ true → (d : List ℕ) → HasParts d total spans.now bytes.now → bytes.now ≡ d }
-{
-    if spans.len() != 1 || bytes.len() as u64 != total {
-        return false;
-    }
-    spans[0].start == 0 && spans[0].len >= total
 }
 
 // What is missed, where the answer is a failure.

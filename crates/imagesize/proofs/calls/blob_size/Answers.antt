@@ -23,4 +23,4 @@ pub returns-clause-within : goal.returns-clause-within
 returns-clause-within c = λ place. omega (arith, cost_within c.args.«data».now place)
 
 pub returns-clause-lasts : goal.returns-clause-lasts
-returns-clause-lasts c = size_lasts c.args.«data».now 0 c.probe_slice.result.1 c.probe_slice.ensures.value
+returns-clause-lasts c = size_lasts c.args.«data».now 0 c.probe_slice.result c.probe_slice.ensures.value

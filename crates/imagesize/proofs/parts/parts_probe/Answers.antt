@@ -1,15 +1,6 @@
-use Rattle.std.proofs.Common.{sym, ap, ◌∙◌}
-use Rattle.std.specs.Result.{result_ok}
-use Rattle.imagesize.specs.Meaning.{kind_of, meaning}
+use Rattle.std.proofs.Common.{sym, ◌∙◌}
 use Rattle.imagesize.proofs.Wanted.{called, fits_by, never_wants, says_answers, says_wants}
 use Rattle.imagesize.proofs.parts.parts_probe.Goals as goal
-
-pub returns-then-is_whole-clause-says : goal.returns-then-is_whole-clause-says
-returns-then-is_whole-clause-says c = λ d has short.
-    let same = c.is_whole.ensures c.if-is_whole.true d has in (
-      c.probe_slice-kind.ensures.kind ∙ ap (λ x. result_ok (kind_of x 0).answer) same,
-      c.probe_slice-kind.ensures.value ∙ ap (λ x. (meaning x 0).answer) same,
-    )
 
 pub returns-in-Some-clause-says : goal.returns-in-Some-clause-says
 returns-in-Some-clause-says c = λ d has short.
