@@ -110,15 +110,19 @@ fn slices_are_read_as_one(rt: HostRuntime) {
 fn a_remote_input_is_fetched_until_it_is_known(rt: HostRuntime) {
     let mut remote = Held::new(LONG_JPEG, usize::MAX, u64::MAX);
     let probed = probe_remote(rt.alloc(), &mut remote);
-    assert!(rt; matches!(probed, Ok(probed) if probed.kind == Some(ImageType::Jpeg)
-        && matches!(probed.answer, Ok(ImageSize { width: 7, height: 5 }))));
+    assert!(rt;
+        matches!(probed, Ok(probed) if probed.kind == Some(ImageType::Jpeg)
+        && matches!(probed.answer, Ok(ImageSize { width: 7, height: 5 })))
+    );
     assert!(rt; remote.fetches() > 30);
 }
 
 #[test]
 fn a_fetch_that_fails_or_is_short_ends_it(rt: HostRuntime) {
     let failed = probe_remote(rt.alloc(), &mut Held::new(LONG_JPEG, usize::MAX, 3));
-    assert!(rt; matches!(failed, Err(Interrupted::Failed(error)) if error.kind() == ErrorKind::TimedOut));
+    assert!(rt;
+        matches!(failed, Err(Interrupted::Failed(error)) if error.kind() == ErrorKind::TimedOut)
+    );
     let short = probe_remote(rt.alloc(), &mut Held::new(GIF, 11, u64::MAX));
     assert!(rt; matches!(short, Err(Interrupted::Short)));
 }
