@@ -1,13 +1,11 @@
 -- What a lent room holds of an answer.
-use Rattle.std.proofs.Common.{◌≡◌, ℕ, ◌-◌, ◌^◌, ◌<◌, ◌≤◌, min, Bool, true, false, List, [], ◌++◌, length, take, Result, Ok, Err, refl, sym, ap, ◌∙◌, arith}
-use Rattle.std.proofs.lemmas.List.{take_all}
+use Rattle.std.proofs.Common.{◌≡◌, ℕ, ◌-◌, ◌^◌, ◌<◌, ◌≤◌, min, List, [], ◌++◌, length, take, Result, refl, sym, ap, ◌∙◌, arith}
 use Rattle.imagesize.specs.Meaning.{meaning}
 use Rattle.imagesize_types.specs.declared.size.ImageSize.{ImageSize}
 use Rattle.imagesize.proofs.Counts.{cost_within}
 use Rattle.imagesize.proofs.Endings.{never_stopped}
 use Rattle.imagesize_source.proofs.Lendings.{past-lent}
 use Rattle.imagesize_source.specs.Lent.{lent_state}
-use Rattle.imagesize_source.specs.Reading.{Reads}
 use Rattle.imagesize_source.specs.State.{State, Runs, total}
 use Rattle.imagesize_source.specs.declared.error.ImageError.{ImageError}
 use Rattle.imagesize_source.specs.declared.span.Span.{Span}

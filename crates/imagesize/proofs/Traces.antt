@@ -1,5 +1,5 @@
 -- What a recording slice shows of an answer.
-use Rattle.std.proofs.Common.{◌≡◌, ℕ, ◌+◌, ◌≤◌, Bool, true, false, List, [], ◌++◌, length, Result, Ok, Err, IfErr, IfOk, IsTrue, refl, sym, ap, ◌∙◌, arith}
+use Rattle.std.proofs.Common.{◌≡◌, ℕ, ◌+◌, ◌≤◌, false, List, [], ◌++◌, length, Result, Ok, Err, IfErr, IfOk, IsTrue, refl, sym, ap, ◌∙◌, arith}
 use Rattle.imagesize.specs.Counts.{lasts_as, stated}
 use Rattle.imagesize.specs.Meaning.{kind_of, meaning, size_of}
 use Rattle.imagesize.specs.Probed.{FindsKind}

@@ -1,13 +1,12 @@
 -- What known parts tell of each input that has them.
-use Rattle.std.proofs.Common.{◌≡◌, ◌⊎◌, ℕ, zero, suc, ◌+◌, ◌^◌, ◌<◌, ◌≤◌, Bool, true, false, ◌||◌, cond, eqb, List, [], ◌∷◌, ◌++◌, length, Option, None, Some, is_some, IfSome, IsSomeAnd, Result, Ok, Err, inl, inr, refl, sym, ap, ◌∙◌, subst, arith, append_assoc, slice_index}
+use Rattle.std.proofs.Common.{◌≡◌, ℕ, ◌+◌, ◌^◌, ◌<◌, ◌≤◌, Bool, true, false, ◌||◌, cond, eqb, List, [], ◌∷◌, ◌++◌, Option, None, Some, Result, Ok, Err, inl, inr, refl, sym, ap, ◌∙◌, subst, arith, append_assoc}
 use Rattle.std.proofs.lemmas.List.{append-nil}
-use Rattle.std.specs.Prelude.{option_map}
 use Rattle.std.specs.List.{list_any}
 use Rattle.std.specs.Option.{ForSome}
 use Rattle.std.specs.Result.{result_ok}
 use Rattle.std.proofs.lemmas.Bool.Decides.{nat_tests}
 use Rattle.imagesize.specs.Meaning.{kind_of, meaning, size_of}
-use Rattle.imagesize.specs.Parted.{Cover, Says, Tells}
+use Rattle.imagesize.specs.Parted.{Cover, Says}
 use Rattle.imagesize.specs.Probed.{FindsKind}
 use Rattle.imagesize.specs.declared.parts.PartsAnswer.TheVariants.{Found, Wanted}
 use Rattle.imagesize.specs.declared.types.ImageType.{ImageType}
@@ -17,10 +16,10 @@ use Rattle.imagesize_types.specs.declared.size.ImageSize.{ImageSize}
 use Rattle.imagesize_io.proofs.Openings.{stop_cases, some_spent}
 use Rattle.imagesize_source.specs.declared.error.ImageError.{ImageError}
 use Rattle.imagesize_source.specs.declared.span.Span.{Span}
-use Rattle.imagesize_source.specs.Agreement.{Agrees, Alike, Parting, covered}
-use Rattle.imagesize_source.specs.Known.{AllKnown, HasParts, Lacks, filled, known, parts_state}
-use Rattle.imagesize_source.specs.Reading.{Reads, faulted, is_fault, is_memory, is_stop, spent, stopped}
-use Rattle.imagesize_source.specs.State.{State, Misses, Runs, past, places_in}
+use Rattle.imagesize_source.specs.Agreement.{Agrees, Parting, covered}
+use Rattle.imagesize_source.specs.Known.{AllKnown, HasParts, Lacks, filled, parts_state}
+use Rattle.imagesize_source.specs.Reading.{Reads, faulted, is_stop, spent, stopped}
+use Rattle.imagesize_source.specs.State.{State, Runs, past, places_in}
 use Rattle.imagesize_source.proofs.Agreement.{agrees_first, covered-places, covered_at, same_by_local}
 use Rattle.imagesize_source.proofs.Known.{known_agrees, known_same, length-filled, unknown_free}
 

@@ -14,20 +14,41 @@ use imagesize_types::size::ImageSize;
 /// What the known parts of an input tell.
 #[derive(Debug, Drop)]
 pub enum PartsAnswer {
-    /// The type, where one was found, and the size in pixels, or why there is none.
+    /// The parts are enough.
     Found {
+        /// The type, where one was found.
         kind: Option<ImageType>,
+        /// The size in pixels, or why there is none.
         answer: ImageResult<ImageSize>,
     },
-    /// A part that is not known yet: its first byte is one that the answer rests on, and the whole of it is enough for the
+    /// Bytes that are not known yet: the first of them is one that the answer rests on, and all of them are enough for the
     /// reading that wants it.
     Wanted(Span),
 }
 
-/// Type and size of the image in an input of which these parts are known, or a part that it needs.
+/// Type and size of the image in an input of `total` bytes of which these parts are known, or a part that it needs.
 ///
-/// `bytes` are those of the spans, one behind another; what of a span lies behind the end of the input has none. Where fewer
-/// bytes are given than the spans have, the last places are not known.
+/// `bytes` are those of the spans, one span behind another; a span counts bytes from 0. What of a span lies behind the end of
+/// the input has no bytes. Spans may overlap, repeat, be empty and stand in any order. Where fewer bytes are given than the
+/// spans have, the last places are not known; what is left over is not looked at. No arguments are refused.
+///
+/// The errors in the answer are those of `image_type` and `blob_size` over the whole input. A caller that adds what is wanted
+/// always gets on:
+///
+/// ```
+/// use imagesize::{PartsAnswer, Span, parts_probe};
+///
+/// let file = b"GIF89a\x80\x02\xe0\x01\0\0 and what else there is";
+/// let mut known = 0;
+/// loop {
+///     // here the parts are always a front of the file
+///     let spans = [Span { start: 0, len: known as u64 }];
+///     match parts_probe(&file[..known], &spans, file.len() as u64) {
+///         PartsAnswer::Found { answer, .. } => break assert_eq!(answer?.width, 640),
+///         PartsAnswer::Wanted(span) => known = (span.start + span.len) as usize,
+///     }
+/// }
+/// ```
 pub fn parts_probe(bytes: &[u8], spans: &[Span], total: u64) -> PartsAnswer
     // Of each input of that length that has these parts:
     ensures says { (d : List ℕ) → HasParts d total spans.now bytes.now → total < 2 ^ 63 → Says d spans.now result }

@@ -1,44 +1,55 @@
 -- How many places of its marks an input still lacks, of which some parts were fetched.
-use Rattle.std.proofs.Common.{◌≡◌, ℕ, zero, suc, ◌+◌, ◌^◌, ◌<◌, ◌≤◌, Bool, true, false, ◌||◌, eqb, List, [], ◌∷◌, ◌++◌, length, refl, sym, ap, ◌∙◌, subst, arith}
-use Rattle.std.specs.List.{list_any, range_with_len}
+use Rattle.std.proofs.Common.{◌≡◌, ℕ, zero, suc, ◌+◌, ◌^◌, ◌<◌, ◌≤◌, Bool, true, false, ◌&&◌, ◌||◌, not, cond, eqb, List, [], ◌∷◌, ◌++◌, length, refl, sym, ap, ◌∙◌, subst, arith}
+use Rattle.std.specs.Prelude.{count_by}
+use Rattle.std.specs.List.{range_with_len}
 use Rattle.std.proofs.lemmas.Bool.Decides.{nat_tests}
 use Rattle.std.proofs.lemmas.Grind.{flat_map-append}
 use Rattle.std.proofs.lemmas.List.{append-nil}
+use Rattle.std.proofs.lemmas.List.Sums.{sum_by-cons}
 use Rattle.imagesize.specs.Meaning.{meaning}
 use Rattle.imagesize.specs.Parted.{Says}
 use Rattle.imagesize.specs.declared.parts.PartsAnswer.TheVariants.{Wanted}
 use Rattle.imagesize_source.specs.Agreement.{covered, has_place}
+use Rattle.imagesize_source.specs.Counts.{places}
 use Rattle.imagesize_source.specs.Input.{part}
 use Rattle.imagesize_source.specs.Known.{HasParts, bytes_of}
-use Rattle.imagesize_source.specs.State.{places_in, total}
 use Rattle.imagesize_source.specs.declared.span.Span.{Span}
-use Rattle.imagesize_source.proofs.Agreement.{covered-places}
 
--- ---- places that no part has
+-- ---- counts of places
 
-unfoldable pub one_if_free : Bool → ℕ
-one_if_free true = 0
-one_if_free false = 1
+count-cons : (p : ℕ → Bool) (x : ℕ) (xs : List ℕ) → count_by p (x ∷ xs) ≡ cond (p x) 1 0 + count_by p xs
+count-cons p x xs = sum_by-cons (λ y. cond (p y) 1 0) x xs
 
--- how many of some places no span has
-unfoldable pub free_of : List Span → List ℕ → ℕ
-free_of spans [] = 0
-free_of spans (p ∷ ps) = one_if_free (covered spans p) + free_of spans ps
+one_fewer : (b c : Bool) → (b ≡ true → c ≡ true) → cond b 1 0 ≤ cond c 1 0
+one_fewer true true h = omega arith
+one_fewer true false h = absurd (let no : false ≡ true = h refl in cc)
+one_fewer false c h = omega arith
 
-at_most_one : (b : Bool) → one_if_free b ≤ 1
-unfolding one_if_free
-at_most_one true = omega arith
-at_most_one false = omega arith
+-- what fewer places have is counted no more often
+count_fewer : (p q : ℕ → Bool) (xs : List ℕ) → ((x : ℕ) → p x ≡ true → q x ≡ true) → count_by p xs ≤ count_by q xs
+count_fewer p q [] h = omega arith
+count_fewer p q (x ∷ xs) h =
+    omega (arith, count-cons p x xs, count-cons q x xs, count_fewer p q xs h, one_fewer (p x) (q x) (h x))
 
-free_range : (spans : List Span) (a n : ℕ) (ps : List ℕ) → free_of spans (range_with_len a n ++ ps) ≤ n + free_of spans ps
-unfolding free_of
-free_range spans a zero ps = omega arith
-free_range spans a (suc n) ps = omega (arith, at_most_one (covered spans a), free_range spans (a + 1) n ps)
-
-free_total : (spans marks : List Span) → free_of spans (places_in marks) ≤ total marks
-unfolding free_of
-free_total spans [] = omega arith
-free_total spans (s ∷ marks) = omega (arith, free_range spans s.start s.len (places_in marks), free_total spans marks)
+-- and less often, where a place is among them that has it no more
+count_less : (p q : ℕ → Bool) (a n at : ℕ) → a ≤ at → at < a + n → ((x : ℕ) → p x ≡ true → q x ≡ true) → p at ≡ false → q at ≡ true
+    → count_by p (range_with_len a n) < count_by q (range_with_len a n)
+count_less p q a zero at low high h gone has = absurd (omega (arith, low, high))
+count_less p q a (suc n) at low high h gone has =
+    by_first (eqb a at) refl (λ later. count_less p q (a + 1) n at later (omega (arith, high)) h gone has) where
+      by_first : (b : Bool) → eqb a at ≡ b
+          → (a + 1 ≤ at → count_by p (range_with_len (a + 1) n) < count_by q (range_with_len (a + 1) n))
+          → count_by p (range_with_len a (suc n)) < count_by q (range_with_len a (suc n))
+      by_first true is behind =
+          let same : a ≡ at = grind (arith, nat_tests) in
+          let none : ◌≡◌ {A = ℕ} (cond (p a) 1 0) 0 = ap (λ (b : Bool). cond b 1 0) (ap p same ∙ gone) in
+          let one : ◌≡◌ {A = ℕ} (cond (q a) 1 0) 1 = ap (λ (b : Bool). cond b 1 0) (ap q same ∙ has) in
+          let rest = count_fewer p q (range_with_len (a + 1) n) h in
+          omega (arith, count-cons p a (range_with_len (a + 1) n), count-cons q a (range_with_len (a + 1) n), none, one, rest)
+      by_first false is behind =
+          let later : a + 1 ≤ at = grind (arith, nat_tests) in
+          let rest = behind later in
+          omega (arith, count-cons p a (range_with_len (a + 1) n), count-cons q a (range_with_len (a + 1) n), one_fewer (p a) (q a) (h a), rest)
 
 -- one span more
 covered_behind : (spans : List Span) (w : Span) (place : ℕ) → covered (spans ++ w ∷ []) place ≡ covered spans place || has_place w place
@@ -48,54 +59,22 @@ covered_behind (s ∷ spans) w place =
     let Goal : Bool → Type 0 = λ b. b || covered (spans ++ w ∷ []) place ≡ (b || covered spans place) || has_place w place in
     elim (has_place s place) as Goal [ true ↦ refl | false ↦ covered_behind spans w place ]
 
-no_freer : (spans : List Span) (w : Span) (q : ℕ) → one_if_free (covered (spans ++ w ∷ []) q) ≤ one_if_free (covered spans q)
-unfolding one_if_free
-no_freer spans w q = subst (λ b. one_if_free b ≤ one_if_free (covered spans q)) (sym (covered_behind spans w q))
-    (by_both (covered spans q) (has_place w q))
-  where
-    by_both : (a b : Bool) → one_if_free (a || b) ≤ one_if_free a
-    by_both true b = omega arith
-    by_both false true = omega arith
-    by_both false false = omega arith
-
-no_more : (spans : List Span) (w : Span) (ps : List ℕ) → free_of (spans ++ w ∷ []) ps ≤ free_of spans ps
-unfolding free_of
-no_more spans w [] = omega arith
-no_more spans w (q ∷ ps) = omega (arith, no_freer spans w q, no_more spans w ps)
-
-or_true : (b : Bool) → b || true ≡ true
-or_true true = refl
-or_true false = refl
-
--- a span with a place that was lacking leaves fewer
-fewer : (spans : List Span) (w : Span) (p : ℕ) (ps : List ℕ) → covered spans p ≡ false → has_place w p ≡ true
-    → list_any (λ q. eqb q p) ps ≡ true → free_of (spans ++ w ∷ []) ps < free_of spans ps
-unfolding free_of one_if_free
-fewer spans w p [] free has here = absurd cc
-fewer spans w p (q ∷ ps) free has here = by_first (eqb q p) refl (fewer spans w p ps free has) here where
-  by_first : (b : Bool) → eqb q p ≡ b → (list_any (λ x. eqb x p) ps ≡ true → free_of (spans ++ w ∷ []) ps < free_of spans ps)
-      → b || list_any (λ x. eqb x p) ps ≡ true
-      → one_if_free (covered (spans ++ w ∷ []) q) + free_of (spans ++ w ∷ []) ps < one_if_free (covered spans q) + free_of spans ps
-  by_first true is later any =
-      let same : q ≡ p = grind (arith, nat_tests) in
-      let before : one_if_free (covered spans q) ≡ 1 = ap one_if_free (ap (covered spans) same ∙ free) in
-      let after : one_if_free (covered (spans ++ w ∷ []) q) ≡ 0 =
-      ap one_if_free (covered_behind spans w q ∙ ap (λ b. covered spans q || b) (ap (has_place w) same ∙ has) ∙ or_true (covered spans q)) in
-      omega (arith, before, after, no_more spans w ps)
-  by_first false is later any = omega (arith, no_freer spans w q, later any)
-
 -- ---- what was fetched so far
+
+-- a place of the marks that no part has
+abbrev pub lacks : List Span → List Span → ℕ → Bool
+lacks marks spans place = covered marks place && not (covered spans place)
 
 -- how many places of its marks the parts of an input lack
 unfoldable pub lacking : List ℕ → List Span → ℕ
-lacking d spans = free_of spans (places_in (meaning d 0).marks)
+lacking d spans = count_by (lacks (meaning d 0).marks spans) (range_with_len 0 (length d))
 
 -- The parts are those of an input of fewer than 2^63 bytes, and there were so many fetches before and behind them.
 pub record Fetching (d : List ℕ) (whole : ℕ) (spans : List Span) (bytes : List ℕ) (before now : ℕ) : Type 0 where
   pub as_long : whole ≡ length d
   pub short : whole < 2 ^ 63
   pub content : bytes_of d spans ≡ bytes
-  pub few : now + lacking d spans ≤ before + total (meaning d 0).marks
+  pub few : now + lacking d spans ≤ before + places (length d) (meaning d 0).marks
 
 pub begun : (d : List ℕ) (whole now : ℕ) (spans : List Span) (bytes : List ℕ) → whole ≡ length d → whole < 2 ^ 63 → spans ≡ []
     → bytes ≡ [] → Fetching d whole spans bytes now now
@@ -104,8 +83,16 @@ begun d whole now spans bytes long short none also = record {
   as_long = long;
   short = short;
   content = ap (bytes_of d) none ∙ sym also;
-  few = omega (arith, free_total spans (meaning d 0).marks);
+  few = omega (
+    arith,
+    count_fewer (lacks (meaning d 0).marks spans) (covered (meaning d 0).marks) (range_with_len 0 (length d))
+        (λ place. both_first (covered (meaning d 0).marks place) (not (covered spans place))),
+  );
 }
+  where
+    both_first : (b c : Bool) → b && c ≡ true → b ≡ true
+    both_first true c is = refl
+    both_first false c is = is
 
 -- what is wanted of the parts, as the call has them
 pub asked : (d : List ℕ) (whole : ℕ) (spans others : List Span) (bytes content : List ℕ) (before now : ℕ) (w : Span)
@@ -115,29 +102,51 @@ asked d whole spans others bytes content before now w f same also says =
     let has : HasParts d whole others content = record { as_long = sym f.as_long; bytes = ap (bytes_of d) same ∙ f.content ∙ sym also } in
     subst (λ s. Says d s (Wanted w)) same (says has f.short)
 
-pub smaller : (d : List ℕ) (spans more : List Span) (w : Span) → Says d spans (Wanted w) → 0 < w.len → more ≡ spans ++ w ∷ []
-    → lacking d more < lacking d spans
-unfolding lacking
-smaller d spans more w says some is =
-    let has : has_place w w.start ≡ true = grind (arith, nat_tests) in
-    subst (λ s. free_of s (places_in (meaning d 0).marks) < free_of spans (places_in (meaning d 0).marks)) (sym is)
-    (fewer spans w w.start (places_in (meaning d 0).marks) says.1 has (sym (covered-places (meaning d 0).marks w.start) ∙ says.0))
+-- a fetch of what is wanted leaves fewer places that are lacking
+module _ (d : List ℕ) (whole : ℕ) (spans : List Span) (bytes : List ℕ) (before now : ℕ) (w : Span) (f : Fetching d whole spans bytes before now)
+    (says : Says d spans (Wanted w)) (fits : (0 < w.len) × (w.start + w.len ≤ whole)) where
+  pub smaller : (more : List Span) → more ≡ spans ++ w ∷ [] → lacking d more < lacking d spans
+  unfolding lacking
+  smaller more is =
+      let has : has_place w w.start ≡ true = (let some = fits.0 in grind (arith, nat_tests)) in
+      subst (λ s. count_by (lacks marks s) (range_with_len 0 (length d)) < count_by (lacks marks spans) (range_with_len 0 (length d))) (sym is)
+      (count_less (lacks marks (spans ++ w ∷ [])) (lacks marks spans) 0 (length d) w.start (omega arith)
+      (omega (arith, fits.0, fits.1, f.as_long)) no_more (none has) (ap (λ b. covered marks w.start && not b) says.1 ∙ and_true says.0)) where
+        marks : List Span
+        marks = (meaning d 0).marks
 
-pub fetched : (d : List ℕ) (whole : ℕ) (spans more : List Span) (bytes got : List ℕ) (before now later : ℕ) (w : Span)
-    → Fetching d whole spans bytes before now → Says d spans (Wanted w) → 0 < w.len → more ≡ spans ++ w ∷ []
-    → got ≡ bytes ++ part d w.start w.len → later ≤ now + 1 → Fetching d whole more got before later
-fetched d whole spans more bytes got before now later w f says some is adds counts = record {
-  as_long = f.as_long;
-  short = f.short;
-  content = ap (bytes_of d) is ∙ flat_map-append (λ s. part d s.start s.len) spans (w ∷ [])
-      ∙ ap (λ bs. bytes_of d spans ++ bs) (append-nil (part d w.start w.len))
-      ∙ ap (λ bs. bs ++ part d w.start w.len) f.content ∙ sym adds;
-  few = omega (arith, f.few, counts, smaller d spans more w says some is);
-}
+        with_more : (a b c : Bool) → a && not (b || c) ≡ true → a && not b ≡ true
+        with_more true true c is = is
+        with_more true false c is = refl
+        with_more false b c is = is
 
--- there was a place to fetch
-pub few_by : (d : List ℕ) (whole : ℕ) (spans : List Span) (bytes : List ℕ) (before now later : ℕ) (w : Span)
-    → Fetching d whole spans bytes before now → Says d spans (Wanted w) → 0 < w.len → later ≤ now + 1
-    → later ≤ before + total (meaning d 0).marks
-few_by d whole spans bytes before now later w f says some counts =
-    omega (arith, f.few, counts, smaller d spans (spans ++ w ∷ []) w says some refl)
+        no_more : (place : ℕ) → lacks marks (spans ++ w ∷ []) place ≡ true → lacks marks spans place ≡ true
+        no_more place is = with_more (covered marks place) (covered spans place) (has_place w place)
+            (ap (λ b. covered marks place && not b) (sym (covered_behind spans w place)) ∙ is)
+
+        covers : (a b : Bool) → a && not (b || true) ≡ false
+        covers true true = refl
+        covers true false = refl
+        covers false b = refl
+
+        none : has_place w w.start ≡ true → lacks marks (spans ++ w ∷ []) w.start ≡ false
+        none has = ap (λ b. covered marks w.start && not b) (covered_behind spans w w.start ∙ ap (λ b. covered spans w.start || b) has)
+            ∙ covers (covered marks w.start) (covered spans w.start)
+
+        and_true : {b : Bool} → b ≡ true → b && true ≡ true
+        and_true is = ap (λ b. b && true) is
+
+  pub fetched : (more : List Span) (got : List ℕ) (later : ℕ) → more ≡ spans ++ w ∷ [] → got ≡ bytes ++ part d w.start w.len
+      → later ≤ now + 1 → Fetching d whole more got before later
+  fetched more got later is adds counts = record {
+    as_long = f.as_long;
+    short = f.short;
+    content = ap (bytes_of d) is ∙ flat_map-append (λ s. part d s.start s.len) spans (w ∷ [])
+        ∙ ap (λ bs. bytes_of d spans ++ bs) (append-nil (part d w.start w.len))
+        ∙ ap (λ bs. bs ++ part d w.start w.len) f.content ∙ sym adds;
+    few = omega (arith, f.few, counts, smaller more is);
+  }
+
+  -- there was a place to fetch
+  pub few_by : (later : ℕ) → later ≤ now + 1 → later ≤ before + places (length d) (meaning d 0).marks
+  few_by later counts = omega (arith, f.few, counts, smaller (spans ++ w ∷ []) refl)

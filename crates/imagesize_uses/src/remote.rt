@@ -1,8 +1,8 @@
 //! An input that is fetched, as by range requests, until its type and size are known.
 ghost use Rattle.std.specs.Prelude.{◌≡◌, ℕ, ◌+◌, ◌^◌, ◌<◌, ◌≤◌, ◌++◌, List, Option, Some, length, take, IfOk};
 ghost use Rattle.imagesize.specs.Meaning.{meaning};
+ghost use Rattle.imagesize_source.specs.Counts.{places};
 ghost use Rattle.imagesize_source.specs.Input.{part};
-ghost use Rattle.imagesize_source.specs.State.{total};
 ghost use Rattle.imagesize_uses.specs.Remote.{Fetch, IsOf, Stops};
 ghost use Rattle.imagesize_uses.specs.declared.remote.Interrupted.TheVariants.{Memory};
 
@@ -17,7 +17,7 @@ pub trait Remote {
     /// Its bytes.
     ghost input: { Self → List ℕ };
 
-    /// How many fetches there were, as far as it counts them.
+    /// How many fetches there were: each that gave bytes, and those that failed as far as it counts them.
     ghost fetches: { Self → ℕ };
 
     /// The last of them.
@@ -34,6 +34,7 @@ pub trait Remote {
         ensures bytes { IfOk result (λ n. take n room.new ≡ part (input self.old) place n) }
         ensures same { input self.new ≡ input self.old }
         ensures counts { fetches self.new ≤ fetches self.old + 1 }
+        ensures each { IfOk result (λ _. fetches self.new ≡ fetches self.old + 1) }
         ensures last { last self.new ≡ Some (record { wanted = length room.new; gave = result }) };
 }
 
@@ -75,8 +76,8 @@ pub fn probe_remote<A: Allocator + Copy, R: Remote>(
     ensures answer { IfOk result (IsOf (R.input remote.old)) }
     ensures stops { Stops (R.last remote.new) result }
 
-    // There are no more fetches than the spans of the trace have places, repeats counted.
-    ensures few { R.fetches remote.new ≤ R.fetches remote.old + total (meaning (R.input remote.old) 0).marks }
+    // There are no more fetches than the spans of the trace have places, each counted once.
+    ensures few { R.fetches remote.new ≤ R.fetches remote.old + places (length (R.input remote.old)) (meaning (R.input remote.old) 0).marks }
 {
     let whole = remote.length();
     let mut bytes = Vec::new(alloc);
@@ -113,7 +114,7 @@ fn fetch_part<A: Allocator, R: Remote>(
     }
 }
 
-/// An input in memory as one that is fetched: each fetch gives at most so many bytes, and after so many each fails.
+/// An input in memory as one that is fetched: each fetch gives at most so many bytes, and after so many fetches each fails.
 #[derive(Drop)]
 pub struct Held<'a> {
     bytes: &'a [u8],
@@ -159,14 +160,14 @@ impl Remote for Held<'_> {
     }
 
     fn fetch(&mut self, place: u64, room: &mut [u8]) -> io::Result<usize> {
-        self.fetches = self.fetches.saturating_add(1);
         self.wanted = room.len();
-        self.gave = if self.left > 0 {
+        self.gave = if self.left > 0 && self.fetches < u64::MAX {
             Ok(copy_part(self.bytes, place, self.most, room))
         } else {
             Err(io::Error::from(ErrorKind::TimedOut))
         };
         self.left = self.left.saturating_sub(1);
+        self.fetches = self.fetches.saturating_add(1);
         self.gave
     }
 }

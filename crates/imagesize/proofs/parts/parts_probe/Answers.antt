@@ -1,6 +1,5 @@
 use Rattle.std.proofs.Common.{sym, ◌∙◌}
 use Rattle.imagesize.proofs.Wanted.{called, fits_by, never_wants, says_answers, says_wants}
-use Rattle.imagesize_source.specs.Reading.{faulted}
 use Rattle.imagesize.proofs.parts.parts_probe.Goals as goal
 
 pub returns-in-Some-clause-says : goal.returns-in-Some-clause-says
