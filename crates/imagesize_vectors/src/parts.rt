@@ -155,12 +155,17 @@ fn check_parts(rt: &(impl Abort + AllocGlobal), row: &Row<'_>) -> Result<(), Fai
     Ok(())
 }
 
+fn check_all_parts(rt: &(impl Abort + AllocGlobal), rows: &[Row<'_>]) -> Result<(), Fail> {
+    for row in rows {
+        check_parts(rt, row)?;
+    }
+    Ok(())
+}
+
 #[test]
 fn parts_that_are_wanted_tell_the_worked_answers(rt: HostRuntime) -> Result<(), Fail> {
     for rows in tables() {
-        for row in rows {
-            check_parts(&rt, row)?;
-        }
+        check_all_parts(&rt, rows)?;
     }
     Ok(())
 }
@@ -190,12 +195,17 @@ fn check_wanted(rt: &(impl Abort + AllocGlobal), row: &Row<'_>) -> Result<(), Fa
     Ok(())
 }
 
+fn check_all_wanted(rt: &(impl Abort + AllocGlobal), rows: &[Row<'_>]) -> Result<(), Fail> {
+    for row in rows {
+        check_wanted(rt, row)?;
+    }
+    Ok(())
+}
+
 #[test]
 fn what_is_wanted_lies_in_the_trace(rt: HostRuntime) -> Result<(), Fail> {
     for rows in tables() {
-        for row in rows {
-            check_wanted(&rt, row)?;
-        }
+        check_all_wanted(&rt, rows)?;
     }
     Ok(())
 }
