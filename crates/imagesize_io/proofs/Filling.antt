@@ -121,6 +121,21 @@ filling_ends {first} {now} next {filled = filled} {room = room} more n h left lo
     let nothing : GivesSome now next more (Ok 0) = subst (λ k. GivesSome now next more (Ok k)) none gave in
     ends first now next room more filled h.fits h.reached left long nothing
 
+within_none : (first now : Option Standing) (room more : List ℕ) (filled before taken : ℕ) → filled ≤ length room
+    → length more ≡ length room - filled → Filled first now filled room → taken ≡ before + filled
+    → IfSome first (λ s. taken ≤ before + min (length (put_mid filled (length room - filled) room more)) (length s.bytes - s.place))
+within_none None now room more filled before taken fits long reached took = tt
+within_none (Some s) now room more filled before taken fits long reached took =
+    rw (length-put room more filled fits long) (omega (arith, took, fits, reached.2))
+
+-- and it took no more than there was
+pub ends_within : {first now : Option Standing} {count before : Option ℕ} {old new : Progress} {filled : ℕ} {room : List ℕ}
+    (more : List ℕ) (n taken : ℕ) → Filling first now count before old new filled room → length more ≡ length room - filled
+    → taken ≡ new.taken + n → n ≡ 0
+    → IfSome first (λ s. taken ≤ old.taken + min (length (put_mid filled (length room - filled) room more)) (length s.bytes - s.place))
+ends_within {first} {now} {old = old} {filled = filled} {room = room} more n taken h long took none =
+    within_none first now room more filled old.taken taken h.fits long h.reached (omega (arith, took, none, h.taken))
+
 -- a read, and all that follows it
 pub gave_rest : (first now last : Option Standing) (room more : List ℕ) (n k : ℕ) → GivesSome first now room (Ok n) → n ≤ length room
     → GivesAll now last more (Ok k) → k ≤ length more → length more ≡ length room - n

@@ -1,5 +1,5 @@
 -- What a reader claims, as far as the numbers kept beside it agree with what it tells.
-use Rattle.std.specs.Prelude.{◌≡◌, ℕ, ◌+◌, ◌-◌, ◌^◌, ◌<◌, ◌≤◌, min, Bool, true, false, ◌||◌, ◌&&◌, List, length, take, nat_le, nat_lt, ◌==◌, if◌then◌else◌, Option, None, Some, Result, Ok, Err, IfSome, IfOk, IfErr, IsSomeAnd, option_map, ⊤}
+use Rattle.std.specs.Prelude.{◌≡◌, ℕ, ◌+◌, ◌-◌, ◌^◌, ◌<◌, ◌≤◌, min, Bool, true, false, ◌||◌, ◌&&◌, List, length, take, nat_le, nat_lt, ◌==◌, if◌then◌else◌, Option, None, Some, Result, Ok, Err, IfSome, IfOk, IfErr, OnOk, IsSomeAnd, option_map, ⊤}
 use Rattle.imagesize_source.specs.declared.error.ImageError.{ImageError}
 use Rattle.imagesize_source.specs.declared.halt.Halt.{Halt}
 use Rattle.imagesize_io.specs.declared.progress.Progress.{Progress}
@@ -8,7 +8,7 @@ use Rattle.imagesize_source.specs.Halts.{error_by, with_error}
 use Rattle.imagesize_io.specs.StopOf.{fault_of}
 use Rattle.imagesize_source.specs.Input.{part}
 use Rattle.imagesize_source.specs.Reading.{is_fault, is_memory, is_stop, spent}
-use Rattle.imagesize_io.specs.Telling.{Telling}
+use Rattle.imagesize_io.specs.Telling.{Telling, given}
 
 -- the bytes behind a reader, where it stands, and whether a call may fail
 pub record Standing : Type 0 where
@@ -104,6 +104,30 @@ pub record Keeps (old new : Progress) : Type 0 where
   pub taken : old.taken ≤ new.taken
   pub retries : old.retries ≤ new.retries
   pub limit : old.retries ≤ 64 → new.retries ≤ 64
+
+-- what one read from where a reader stands did
+pub record ReadsOnce (old new : Progress) (telling telling' : Option Telling) (count count' : Option ℕ) (room : List ℕ)
+    (r : Result ℕ ImageError) : Type 0 where
+  pub bound : IfOk r (λ n. n ≤ length room)
+  pub stand : GivesSome (stand telling old) (stand telling' new) room r
+  pub taken : new.taken ≡ old.taken + given r
+  pub place : IfOk r (λ n. new.place ≡ min (old.place + n) (2 ^ 64 - 1))
+  pub since : since count' new.taken ≡ since count old.taken
+  pub tries : OnOk r (Tries telling old.retries telling' new.retries)
+  pub keeps : Keeps old new
+  pub stops : IfErr r (StopsBy new)
+
+-- what reads from where a reader stands did, one after another until the room is full or the bytes end
+pub record Fills (old new : Progress) (before after : Option Standing) (count count' : Option ℕ) (room : List ℕ)
+    (r : Result ℕ ImageError) : Type 0 where
+  pub bound : IfOk r (λ n. n ≤ length room)
+  pub stand : GivesAll before after room r
+  pub taken : IfOk r (λ n. new.taken ≡ old.taken + n)
+  pub place : IfOk r (λ n. new.place ≡ min (old.place + n) (2 ^ 64 - 1))
+  pub within : IfSome before (λ s. new.taken ≤ old.taken + min (length room) (length s.bytes - s.place))
+  pub since : since count' new.taken ≡ since count old.taken
+  pub keeps : Keeps old new
+  pub stops : IfErr r (StopsBy new)
 
 -- what a reading from a place on did, over every reader
 pub record ReadsFrom (old new : Progress) (before after : Option Standing) (count count' : Option ℕ) (place : ℕ) (room : List ℕ)

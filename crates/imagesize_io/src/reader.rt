@@ -4,7 +4,7 @@ ghost use Rattle.imagesize_source.specs.Reading.{is_fault, is_memory, seen, part
 ghost use Rattle.imagesize_io.specs.ReaderState.{held_at, reader_state, start_state, Opens};
 ghost use Rattle.imagesize_source.specs.State.{Runs};
 ghost use Rattle.imagesize_io.specs.Telling.{counted, given, SeekTells};
-ghost use Rattle.imagesize_io.specs.Standing.{Standing, steady, stand, GivesSome, GivesAll, StopsBy, Keeps, Tries, since, error_at, named, given_or, GoesTo, ReadsFrom};
+ghost use Rattle.imagesize_io.specs.Standing.{Standing, steady, stand, GivesSome, GivesAll, StopsBy, Keeps, Tries, Fills, ReadsOnce, since, error_at, named, given_or, GoesTo, ReadsFrom};
 ghost use Rattle.imagesize_io.specs.StopOf.{ending_of, fault_after, fault_of, halted};
 
 mod text;
@@ -205,15 +205,8 @@ fn read_counted<R: Told>(
 ) -> Result<usize, Halt>
     requires fits { progress.old.taken + length room.old ≤ progress.old.budget }
     requires stands { progress.old.place ≡ place }
-    ensures bound { IfOk result (λ n. n ≤ length room.new) }
-    ensures stand { GivesSome (stand (R.telling reader.old) progress.old) (stand (R.telling reader.new) progress.new)
-        room.new (named progress.new result) }
-    ensures taken { progress.new.taken ≡ progress.old.taken + given result }
-    ensures place { IfOk result (λ n. progress.new.place ≡ min (progress.old.place + n) (2 ^ 64 - 1)) }
-    ensures since { since (R.count reader.new) progress.new.taken ≡ since (R.count reader.old) progress.old.taken }
-    ensures tries { OnOk result (Tries (R.telling reader.old) progress.old.retries (R.telling reader.new) progress.new.retries) }
-    ensures keeps { Keeps progress.old progress.new }
-    ensures failed { IfErr result (λ halt. halt ≡ Halt.Failed) }
+    ensures { ReadsOnce progress.old progress.new (R.telling reader.old) (R.telling reader.new)
+        (R.count reader.old) (R.count reader.new) room.new (named progress.new result) }
 {
     let count = read_retrying(reader, &mut progress.retries, &mut progress.fault, room)?;
     // Most reads fill the room, whose length the compiler knows.
@@ -234,15 +227,8 @@ fn read_some<R: Told>(
     progress: &mut Progress,
     room: &mut [u8],
 ) -> Result<usize, Halt>
-    ensures bound { IfOk result (λ n. n ≤ length room.new) }
-    ensures stand { GivesSome (stand (R.telling reader.old) progress.old) (stand (R.telling reader.new) progress.new)
-        room.new (named progress.new result) }
-    ensures taken { progress.new.taken ≡ progress.old.taken + given result }
-    ensures place { IfOk result (λ n. progress.new.place ≡ min (progress.old.place + n) (2 ^ 64 - 1)) }
-    ensures since { since (R.count reader.new) progress.new.taken ≡ since (R.count reader.old) progress.old.taken }
-    ensures tries { OnOk result (Tries (R.telling reader.old) progress.old.retries (R.telling reader.new) progress.new.retries) }
-    ensures keeps { Keeps progress.old progress.new }
-    ensures stops { IfErr (named progress.new result) (StopsBy progress.new) }
+    ensures { ReadsOnce progress.old progress.new (R.telling reader.old) (R.telling reader.new)
+        (R.count reader.old) (R.count reader.new) room.new (named progress.new result) }
 {
     let place = progress.place;
     let left = progress.budget - progress.taken;
@@ -264,16 +250,8 @@ fn fill<R: Told>(
     room: &mut [u8],
 ) -> Result<usize, Halt>
     requires { progress.old.place ≡ place }
-    ensures bound { IfOk result (λ n. n ≤ length room.new) }
-    ensures stand { GivesAll (stand (R.telling reader.old) progress.old)
-        (stand (R.telling reader.new) progress.new) room.new (named progress.new result) }
-    ensures taken { IfOk result (λ n. progress.new.taken ≡ progress.old.taken + n) }
-    ensures place { IfOk result (λ n. progress.new.place ≡ min (place + n) (2 ^ 64 - 1)) }
-    ensures within { IfSome (stand (R.telling reader.old) progress.old)
-        (λ s. progress.new.taken ≤ progress.old.taken + min (length room.new) (length s.bytes - s.place)) }
-    ensures since { since (R.count reader.new) progress.new.taken ≡ since (R.count reader.old) progress.old.taken }
-    ensures keeps { Keeps progress.old progress.new }
-    ensures stops { IfErr (named progress.new result) (StopsBy progress.new) }
+    ensures { Fills progress.old progress.new (stand (R.telling reader.old) progress.old) (stand (R.telling reader.new) progress.new)
+        (R.count reader.old) (R.count reader.new) room.new (named progress.new result) }
 {
     if room.len() as u64 > progress.budget - progress.taken {
         return fill_behind(reader, progress, room);
@@ -294,16 +272,8 @@ fn fill_behind<R: Told>(
     room: &mut [u8],
 ) -> Result<usize, Halt>
     requires { progress.old.place < 2 ^ 64 }
-    ensures bound { IfOk result (λ n. n ≤ length room.new) }
-    ensures stand { GivesAll (stand (R.telling reader.old) progress.old)
-        (stand (R.telling reader.new) progress.new) room.new (named progress.new result) }
-    ensures taken { IfOk result (λ n. progress.new.taken ≡ progress.old.taken + n) }
-    ensures place { IfOk result (λ n. progress.new.place ≡ min (progress.old.place + n) (2 ^ 64 - 1)) }
-    ensures within { IfSome (stand (R.telling reader.old) progress.old)
-        (λ s. progress.new.taken ≤ progress.old.taken + min (length room.new) (length s.bytes - s.place)) }
-    ensures since { since (R.count reader.new) progress.new.taken ≡ since (R.count reader.old) progress.old.taken }
-    ensures keeps { Keeps progress.old progress.new }
-    ensures stops { IfErr (named progress.new result) (StopsBy progress.new) }
+    ensures { Fills progress.old progress.new (stand (R.telling reader.old) progress.old) (stand (R.telling reader.new) progress.new)
+        (R.count reader.old) (R.count reader.new) room.new (named progress.new result) }
 {
     let count = fill_rest(reader, progress, room)?;
     Ok(count)
@@ -318,16 +288,8 @@ fn fill_rest<R: Told>(
     room: &mut [u8],
 ) -> Result<usize, Halt>
     requires { progress.old.place < 2 ^ 64 }
-    ensures bound { IfOk result (λ n. n ≤ length room.new) }
-    ensures stand { GivesAll (stand (R.telling reader.old) progress.old)
-        (stand (R.telling reader.new) progress.new) room.new (named progress.new result) }
-    ensures taken { IfOk result (λ n. progress.new.taken ≡ progress.old.taken + n) }
-    ensures place { IfOk result (λ n. progress.new.place ≡ min (progress.old.place + n) (2 ^ 64 - 1)) }
-    ensures within { IfSome (stand (R.telling reader.old) progress.old)
-        (λ s. progress.new.taken ≤ progress.old.taken + min (length room.new) (length s.bytes - s.place)) }
-    ensures since { since (R.count reader.new) progress.new.taken ≡ since (R.count reader.old) progress.old.taken }
-    ensures keeps { Keeps progress.old progress.new }
-    ensures stops { IfErr (named progress.new result) (StopsBy progress.new) }
+    ensures { Fills progress.old progress.new (stand (R.telling reader.old) progress.old) (stand (R.telling reader.new) progress.new)
+        (R.count reader.old) (R.count reader.new) room.new (named progress.new result) }
 {
     let mut filled = 0;
     while filled < room.len() {

@@ -26,7 +26,7 @@ returns g c =
       bound = filled.bound;
       stand = from_there _ _ (g.R.Told.telling c.fill.new.reader) c.fill.new.progress _ _ _ _ _ goes.stand c.if-not-branch.false
           filled.stand;
-      stands = λ near. filled.place;
+      stands = λ near. omega (arith, filled.place, goes.asked, c.if-not-branch.false);
       taken = omega (arith, goes.taken, filled.taken);
       within = within_reached (stand (g.R.Told.telling c.args.reader.now) c.args.progress.now) _ _ _ _ _ _ _ _ goes.stand
           c.if-not-branch.false goes.taken filled.within;
