@@ -1,11 +1,13 @@
 -- A reader as a source: what it tells, the numbers beside it, and a window of its first bytes.
-use Rattle.std.specs.Prelude.{◌≡◌, ℕ, ◌+◌, ◌^◌, ◌-◌, min, ◌==◌, true, false, List, [], ◌++◌, length, take, drop, nat_le, if◌then◌else◌, Option, None, Some, Result, Ok, Err}
+use Rattle.std.specs.Prelude.{◌≡◌, ℕ, ◌+◌, ◌^◌, ◌-◌, min, ◌==◌, true, false, List, [], ◌++◌, length, take, drop, nat_le, if◌then◌else◌, Option, None, Some, Result, Ok, Err, IfOk, max, ◌<◌, ◌≤◌}
 use Rattle.imagesize_source.specs.declared.error.ImageError.{ImageError}
 use Rattle.imagesize_io.specs.declared.reader.Opened.{Opened}
 use Rattle.imagesize_io.specs.declared.progress.Progress.{Progress}
+use Rattle.imagesize_io.specs.declared.reader.Ledger.{Ledger}
+use Rattle.imagesize_source.specs.Reading.{part_read, seen}
 use Rattle.imagesize_io.specs.Telling.{Telling, at_place}
-use Rattle.imagesize_io.specs.Standing.{Standing, steady, stand_of, stand, since}
-use Rattle.imagesize_source.specs.State.{State, Frame, Held}
+use Rattle.imagesize_io.specs.Standing.{Standing, Keeps, steady, stand_of, stand, since}
+use Rattle.imagesize_source.specs.State.{State, Frame, Held, Runs}
 
 -- no claim
 abbrev pub unclaimed : Held
@@ -65,3 +67,14 @@ abbrev pub start_state : Option Telling → Option ℕ → ℕ → ℕ → State
 start_state telling count home told = state_at
     (record { told = told; budget = min (told + 64) (2 ^ 64 - 1); counts = true; records = false; home = home; since = since count 0; parts = None })
     (stand_of told told (steady telling 0)) [] 0
+
+-- What a reading from a place on did, over every reader: it saw what the window has of it, and what follows from the reader.
+pub record ReadsAt (old new : Ledger) (telling telling' : Option Telling) (count count' : Option ℕ) (place : ℕ) (room : List ℕ)
+    (r : Result ℕ ImageError) : Type 0 where
+  pub bound : IfOk r (λ n. n ≤ length room)
+  pub pays : IfOk r (λ n. 0 < n → max old.progress.told 32 < place → (old.progress.taken < new.progress.taken)
+      × (new.progress.taken ≤ old.progress.budget))
+  pub keeps : Keeps old.progress new.progress
+  pub runs : (home : ℕ) → Runs (reader_state telling count home old.progress old.window.items)
+      (reader_state telling' count' home new.progress new.window.items) (seen (λ n. take n room) r)
+      (part_read (held_at (stand telling old.progress) old.window.items).input place (length room))
