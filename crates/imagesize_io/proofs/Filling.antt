@@ -7,7 +7,8 @@ use borrow.Rule.Slice.PartMut.{put_mid}
 use Rattle.imagesize_io.specs.declared.progress.Progress.{Progress}
 use Rattle.imagesize_source.specs.Input.{part}
 use Rattle.imagesize_io.proofs.Standings.{keeps_both}
-use Rattle.imagesize_io.specs.Standing.{Standing, onto, GivesSome, GivesAll, Keeps, since}
+use Rattle.imagesize_io.specs.Standing.{Standing, onto, stand, GivesSome, GivesAll, ReadsOnce, Fills, Keeps, since}
+use Rattle.imagesize_io.specs.Telling.{Telling}
 
 -- so many bytes of the room are the next of the bytes that the reader stood at first
 abbrev pub Filled : Option Standing → Option Standing → ℕ → List ℕ → Type 0
@@ -113,7 +114,7 @@ ends (Some s) now next room more filled fits reached left long gave =
     )
 
 -- a read that gave nothing where there was room: the bytes end there
-pub filling_ends : {first now : Option Standing} (next : Option Standing) {count before : Option ℕ} {old new : Progress} {filled : ℕ}
+filling_ends : {first now : Option Standing} (next : Option Standing) {count before : Option ℕ} {old new : Progress} {filled : ℕ}
     {room : List ℕ} (more : List ℕ) (n : ℕ) → Filling first now count before old new filled room → filled < length room
     → length more ≡ length room - filled → GivesSome now next more (Ok n) → n ≡ 0
     → GivesAll first next (put_mid filled (length room - filled) room more) (Ok filled)
@@ -129,12 +130,28 @@ within_none (Some s) now room more filled before taken fits long reached took =
     rw (length-put room more filled fits long) (omega (arith, took, fits, reached.2))
 
 -- and it took no more than there was
-pub ends_within : {first now : Option Standing} {count before : Option ℕ} {old new : Progress} {filled : ℕ} {room : List ℕ}
+ends_within : {first now : Option Standing} {count before : Option ℕ} {old new : Progress} {filled : ℕ} {room : List ℕ}
     (more : List ℕ) (n taken : ℕ) → Filling first now count before old new filled room → length more ≡ length room - filled
     → taken ≡ new.taken + n → n ≡ 0
     → IfSome first (λ s. taken ≤ old.taken + min (length (put_mid filled (length room - filled) room more)) (length s.bytes - s.place))
 ends_within {first} {now} {old = old} {filled = filled} {room = room} more n taken h long took none =
     within_none first now room more filled old.taken taken h.fits long h.reached (omega (arith, took, none, h.taken))
+
+-- a read that gave nothing where there was room ends the filling
+pub filling_done : {first : Option Standing} {t t' : Option Telling} {count before after : Option ℕ} {old new newer : Progress}
+    {filled : ℕ} {room more : List ℕ} {n : ℕ} → Filling first (stand t new) count before old new filled room
+    → ReadsOnce new newer t t' before after more (Ok n) → n ≡ 0 → filled < length room → length more ≡ length room - filled
+    → Fills old newer first (stand t' newer) count after (put_mid filled (length room - filled) room more) (Ok filled)
+filling_done {filled = filled} {room = room} {more = more} {n = n} h read none left long = record {
+  bound = rw (length-put room more filled h.fits long) h.fits;
+  stand = filling_ends _ more n h left long read.stand none;
+  taken = omega (arith, read.taken, none, h.taken);
+  place = omega (arith, h.place, read.place, none);
+  within = ends_within more n _ h long read.taken none;
+  since = read.since ∙ h.counts;
+  keeps = keeps_both h.keeps read.keeps;
+  stops = tt;
+}
 
 -- a read, and all that follows it
 pub gave_rest : (first now last : Option Standing) (room more : List ℕ) (n k : ℕ) → GivesSome first now room (Ok n) → n ≤ length room

@@ -1,5 +1,5 @@
-use Rattle.std.proofs.Common.{rules}
-use Rattle.imagesize_io.proofs.Filling.{filled_none, filling_more, filling_ends, ends_within}
+use Rattle.std.proofs.Common.{arith, rules}
+use Rattle.imagesize_io.proofs.Filling.{filled_none, filling_more, filling_done}
 use Rattle.imagesize_io.proofs.reader.fill_rest.Goals as goal
 
 pub loop-filled-init : goal.loop-filled-init
@@ -12,14 +12,4 @@ loop-filled-preserved g c =
 
 pub returns-then-count-eq0 : goal.returns-then-count-eq0
 returns-then-count-eq0 g c =
-    let read = c.in_ok-count.ensures in
-    record {
-      bound = search rules;
-      stand = filling_ends _ _ _ c.loop-filled.invariant c.loop-filled-test.true (search rules) read.stand c.if-count-eq0.true;
-      taken = search rules;
-      place = search rules;
-      within = ends_within _ _ _ c.loop-filled.invariant (search rules) read.taken c.if-count-eq0.true;
-      since = search rules;
-      keeps = search rules;
-      stops = search rules;
-    }
+    filling_done c.loop-filled.invariant c.in_ok-count.ensures c.if-count-eq0.true (omega (arith, c.loop-filled-test.true)) (search rules)

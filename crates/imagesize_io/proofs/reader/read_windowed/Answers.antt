@@ -4,18 +4,18 @@ use Rattle.imagesize_io.specs.Standing.{named}
 use Rattle.imagesize_io.proofs.Windows.{none_in, straight, straight_stopped, told_by, same_frame, ended_by}
 use Rattle.imagesize_io.proofs.reader.read_windowed.Goals as goal
 
-pub returns-in_err-count : goal.returns-in_err-count
-returns-in_err-count g c =
-    let read = c.in_err-count.ensures in
-    let old = c.args.ledger.now.progress in
+pub returns-in_err-count-2-clause-reads : goal.returns-in_err-count-2-clause-reads
+returns-in_err-count-2-clause-reads g c =
+    let read = c.in_err-count-2.ensures in
+    let old = c.args.progress.now in
     let new = c.read_from.new.progress in
     let here : c.args.place + 0 ≡ c.args.place = omega arith in
-    let is : ◌≡◌ {A = Result ℕ Halt} c.from_residual.result (Err c.in_err-count.field-0.0) = search rules in
+    let is : ◌≡◌ {A = Result ℕ Halt} c.from_residual-in_err-count-2.result (Err c.in_err-count-2.field-0.0) = search rules in
     record {
       bound = search rules;
       pays = search rules;
       keeps = search rules;
-      runs = λ home. straight_stopped {now = new.place} _ (named new c.from_residual.result) (record {
+      runs = λ home. straight_stopped {now = new.place} _ (named new c.from_residual-in_err-count-2.result) (record {
         told = told_by (g.R.Told.count c.args.reader.now) home (g.R.Told.telling c.args.reader.now) old;
         told_after = told_by (g.R.Told.count c.read_from.new.reader) home (g.R.Told.telling c.read_from.new.reader) new;
         frame = same_frame (g.R.Told.count c.args.reader.now) (g.R.Told.count c.read_from.new.reader) home old new read.keeps read.since;
@@ -31,10 +31,10 @@ returns-in_err-count g c =
       }) (ap (named new) is);
     }
 
-pub returns : goal.returns
-returns g c =
-    let read = c.in_ok-count.ensures in
-    let old = c.args.ledger.now.progress in
+pub returns-clause-reads : goal.returns-clause-reads
+returns-clause-reads g c =
+    let read = c.in_ok-count-2.ensures in
+    let old = c.args.progress.now in
     let new = c.read_from.new.progress in
     let here : c.args.place + 0 ≡ c.args.place = omega arith in
     record {
@@ -48,7 +48,7 @@ returns g c =
         frame = same_frame (g.R.Told.count c.args.reader.now) (g.R.Told.count c.read_from.new.reader) home old new read.keeps read.since;
         small = omega (arith, c.len.ensures.value, c.len.ensures.fits);
         count = omega (arith, c.len.ensures.value);
-        front = none_in c.args.ledger.now.window.items c.read_from.new.room c.args.place _ (omega (arith, c.len.ensures.value));
+        front = none_in c.args.window.now.items c.read_from.new.room c.args.place _ (omega (arith, c.len.ensures.value));
         kept = refl;
         short = search rules;
         gives = rw here read.stand;

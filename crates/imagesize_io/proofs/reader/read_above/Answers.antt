@@ -1,15 +1,15 @@
 use Rattle.std.proofs.Common.{arith, refl}
 use Rattle.imagesize_io.proofs.Windows.{behind_end, told_by}
-use Rattle.imagesize_io.proofs.reader.read_on.Goals as goal
+use Rattle.imagesize_io.proofs.reader.read_above.Goals as goal
 
-pub returns-then-place-ledger-2-clause-reads : goal.returns-then-place-ledger-2-clause-reads
-returns-then-place-ledger-2-clause-reads g c =
-    let old = c.args.ledger.now.progress in
+pub returns-then-place-present-clause-reads : goal.returns-then-place-present-clause-reads
+returns-then-place-present-clause-reads g c =
+    let old = c.args.progress.now in
     record {
       bound = omega arith;
       pays = λ some far. omega (arith, some);
       keeps = record { told = refl; budget = refl; taken = omega arith; retries = omega arith; limit = λ few. few };
       runs = λ home.
           let told = told_by (g.R.Told.count c.args.reader.now) home (g.R.Told.telling c.args.reader.now) old in
-          behind_end _ _ _ _ _ told c.if-place-ledger.true;
+          behind_end _ _ _ _ _ told c.requires;
     }
