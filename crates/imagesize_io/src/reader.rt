@@ -430,11 +430,29 @@ fn read_on<R: Told>(
         (R.count reader.old) (R.count reader.new) window.old.items window.new.items place room.new (named progress.new result) }
 {
     if progress.told < place {
-        // Not the answer of the call itself, whose room would be made before it is known that the call is made.
-        let count = read_above(reader, progress, window, present, place, room)?;
-        return Ok(count);
+        return read_beyond(reader, progress, window, present, place, room);
     }
     read_windowed(reader, progress, window, present, place, room)
+}
+
+// The same as `read_above`. Inlined, so that the room of its answer is made there alone.
+#[inline(always)]
+fn read_beyond<R: Told>(
+    reader: &mut R,
+    progress: &mut Progress,
+    window: &mut Window,
+    present: &mut u64,
+    place: u64,
+    room: &mut [u8],
+) -> Result<usize, Halt>
+    requires { progress.old.told < place }
+    ensures ends { place ≢ present.old → (result ≡ Ok 0) × (reader.new ≡ reader.old) × (present.new ≡ present.old) }
+    ensures goes_on { place ≡ present.old → IfOk result (λ n. present.new ≡ min (place + n) (2 ^ 64 - 1)) }
+    ensures reads { ReadsAt progress.old progress.new (R.telling reader.old) (R.telling reader.new)
+        (R.count reader.old) (R.count reader.new) window.old.items window.new.items place room.new (named progress.new result) }
+{
+    let count = read_above(reader, progress, window, present, place, room)?;
+    Ok(count)
 }
 
 // A reading above the told length goes on only where the last reading ended. Elsewhere it sees the end of the
