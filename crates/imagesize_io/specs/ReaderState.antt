@@ -3,6 +3,7 @@ use Rattle.std.specs.Prelude.{◌≡◌, ℕ, ◌+◌, ◌^◌, ◌-◌, min, �
 use Rattle.imagesize_source.specs.declared.error.ImageError.{ImageError}
 use Rattle.imagesize_io.specs.declared.reader.Opened.{Opened}
 use Rattle.imagesize_io.specs.declared.progress.Progress.{Progress}
+use Rattle.imagesize_io.specs.declared.reader.Ledger.{Ledger}
 use Rattle.imagesize_source.specs.Reading.{part_read, seen}
 use Rattle.imagesize_io.specs.Telling.{Telling, at_place}
 use Rattle.imagesize_io.specs.Standing.{Standing, Keeps, steady, stand_of, stand, since}
@@ -68,10 +69,12 @@ start_state telling count home told = state_at
     (stand_of told told (steady telling 0)) [] 0
 
 -- What a reading from a place on did, over every reader: it saw what the window has of it, and what follows from the reader.
-pub record ReadsAt (old new : Progress) (telling telling' : Option Telling) (count count' : Option ℕ) (window window' : List ℕ)
-    (place : ℕ) (room : List ℕ) (r : Result ℕ ImageError) : Type 0 where
+pub record ReadsAt (old new : Ledger) (telling telling' : Option Telling) (count count' : Option ℕ) (place : ℕ) (room : List ℕ)
+    (r : Result ℕ ImageError) : Type 0 where
   pub bound : IfOk r (λ n. n ≤ length room)
-  pub pays : IfOk r (λ n. 0 < n → max old.told 32 < place → (old.taken < new.taken) × (new.taken ≤ old.budget))
-  pub keeps : Keeps old new
-  pub runs : (home : ℕ) → Runs (reader_state telling count home old window) (reader_state telling' count' home new window')
-      (seen (λ n. take n room) r) (part_read (held_at (stand telling old) window).input place (length room))
+  pub pays : IfOk r (λ n. 0 < n → max old.progress.told 32 < place → (old.progress.taken < new.progress.taken)
+      × (new.progress.taken ≤ old.progress.budget))
+  pub keeps : Keeps old.progress new.progress
+  pub runs : (home : ℕ) → Runs (reader_state telling count home old.progress old.window.items)
+      (reader_state telling' count' home new.progress new.window.items) (seen (λ n. take n room) r)
+      (part_read (held_at (stand telling old.progress) old.window.items).input place (length room))

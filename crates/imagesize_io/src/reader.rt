@@ -20,6 +20,12 @@ use std::io::{self, ErrorKind, SeekFrom};
 #[derive(Drop)]
 pub struct ReaderSource<'a, R: Told> {
     reader: &'a mut R,
+    ledger: Ledger,
+}
+
+/// What a source keeps beside its reader.
+#[derive(Drop)]
+pub struct Ledger {
     progress: Progress,
     window: Window,
     // The end of the last reading.
@@ -32,9 +38,9 @@ impl<'a, R: Told> ReaderSource<'a, R> {
     pub fn new(reader: &'a mut R, told: u64) -> Self
         ensures same_reference { result.reader.ghost_name ≡ reader.entry.ghost_name }
         ensures state { reader_state (R.telling result.reader.now) (R.count result.reader.now) result.reader.ghost_name
-            result.progress result.window.items
+            result.ledger.progress result.ledger.window.items
             ≡ start_state (R.telling reader.old) (R.count reader.old) reader.entry.ghost_name told }
-        ensures present { result.present ≡ told }
+        ensures present { result.ledger.present ≡ told }
     {
         let progress = Progress {
             told,
@@ -44,45 +50,38 @@ impl<'a, R: Told> ReaderSource<'a, R> {
             retries: 0,
             fault: io::Error::from(ErrorKind::Other),
         };
-        ReaderSource {
-            reader,
+        let ledger = Ledger {
             progress,
             window: Window::new(),
             present: told,
-        }
+        };
+        ReaderSource { reader, ledger }
     }
 }
 
 impl<R: Told> Source for ReaderSource<'_, R> {
-    ghost state = { λ s. reader_state (R.telling s.reader.now) (R.count s.reader.now) s.reader.ghost_name s.progress s.window.items };
+    ghost state = { λ s. reader_state (R.telling s.reader.now) (R.count s.reader.now) s.reader.ghost_name s.ledger.progress s.ledger.window.items };
 
-    ghost failure = { λ s. fault_of s.progress.fault };
+    ghost failure = { λ s. fault_of s.ledger.progress.fault };
 
     #[inline]
     fn told(&self) -> u64 {
-        self.progress.told
+        self.ledger.progress.told
     }
 
     #[inline]
     fn taken(&self) -> u64 {
-        self.progress.taken
+        self.ledger.progress.taken
     }
 
     #[inline(always)]
     fn refusal(&self, halt: Halt) -> ImageError {
-        refused(halt, &self.progress)
+        refused(halt, &self.ledger.progress)
     }
 
     #[inline(always)]
     fn read_at(&mut self, place: u64, room: &mut [u8]) -> Result<usize, Halt> {
-        read_on(
-            self.reader,
-            &mut self.progress,
-            &mut self.window,
-            &mut self.present,
-            place,
-            room,
-        )
+        read_on(self.reader, &mut self.ledger, place, room)
     }
 
     fn read_text(&mut self, place: u64, text: Text, room: &mut [u8]) -> Result<usize, Halt> {
@@ -353,25 +352,23 @@ fn read_from<R: Told>(
 #[inline(always)]
 fn read_windowed<R: Told>(
     reader: &mut R,
-    progress: &mut Progress,
-    window: &mut Window,
-    present: &mut u64,
+    ledger: &mut Ledger,
     place: u64,
     room: &mut [u8],
 ) -> Result<usize, Halt>
-    requires { place ≤ progress.old.told }
-    ensures present { IfOk result (λ n. present.new ≡ min (place + n) (2 ^ 64 - 1)) }
-    ensures reads { ReadsAt progress.old progress.new (R.telling reader.old) (R.telling reader.new)
-        (R.count reader.old) (R.count reader.new) window.old.items window.new.items place room.new (named progress.new result) }
+    requires { place ≤ ledger.old.progress.told }
+    ensures present { IfOk result (λ n. ledger.new.present ≡ min (place + n) (2 ^ 64 - 1)) }
+    ensures reads { ReadsAt ledger.old ledger.new (R.telling reader.old) (R.telling reader.new) (R.count reader.old) (R.count reader.new)
+        place room.new (named ledger.new.progress result) }
 {
-    if place < window.len() as u64 || room.is_empty() {
-        let count = read_within(reader, progress, window, place, room)?;
-        *present = place.saturating_add(count as u64);
+    if place < ledger.window.len() as u64 || room.is_empty() {
+        let count = read_within(reader, ledger, place, room)?;
+        ledger.present = place.saturating_add(count as u64);
         return Ok(count);
     }
-    let count = read_from(reader, progress, place, room)?;
-    *present = progress.place;
-    keep(window, place, &room[..count]);
+    let count = read_from(reader, &mut ledger.progress, place, room)?;
+    ledger.present = ledger.progress.place;
+    keep(&mut ledger.window, place, &room[..count]);
     Ok(count)
 }
 
@@ -379,21 +376,20 @@ fn read_windowed<R: Told>(
 #[inline(always)]
 fn read_within<R: Told>(
     reader: &mut R,
-    progress: &mut Progress,
-    window: &mut Window,
+    ledger: &mut Ledger,
     place: u64,
     room: &mut [u8],
 ) -> Result<usize, Halt>
-    ensures { ReadsAt progress.old progress.new (R.telling reader.old) (R.telling reader.new)
-        (R.count reader.old) (R.count reader.new) window.old.items window.new.items place room.new (named progress.new result) }
+    ensures { ReadsAt ledger.old ledger.new (R.telling reader.old) (R.telling reader.new) (R.count reader.old) (R.count reader.new)
+        place room.new (named ledger.new.progress result) }
 {
-    let copied = copy_kept(window, place, room);
+    let copied = copy_kept(&ledger.window, place, room);
     if copied == room.len() {
         return Ok(copied);
     }
     let next = place + copied as u64;
-    let count = read_across(reader, progress, next, &mut room[copied..])?;
-    keep(window, next, &room[copied..copied + count]);
+    let count = read_across(reader, &mut ledger.progress, next, &mut room[copied..])?;
+    keep(&mut ledger.window, next, &room[copied..copied + count]);
     Ok(copied + count)
 }
 
@@ -416,42 +412,38 @@ fn read_across<R: Told>(
 #[inline(always)]
 fn read_on<R: Told>(
     reader: &mut R,
-    progress: &mut Progress,
-    window: &mut Window,
-    present: &mut u64,
+    ledger: &mut Ledger,
     place: u64,
     room: &mut [u8],
 ) -> Result<usize, Halt>
-    ensures ends { progress.old.told < place → place ≢ present.old → (result ≡ Ok 0) × (reader.new ≡ reader.old)
-        × (present.new ≡ present.old) }
-    ensures present { place ≤ progress.old.told → IfOk result (λ n. present.new ≡ min (place + n) (2 ^ 64 - 1)) }
-    ensures goes_on { place ≡ present.old → IfOk result (λ n. present.new ≡ min (place + n) (2 ^ 64 - 1)) }
-    ensures reads { ReadsAt progress.old progress.new (R.telling reader.old) (R.telling reader.new)
-        (R.count reader.old) (R.count reader.new) window.old.items window.new.items place room.new (named progress.new result) }
+    ensures ends { ledger.old.progress.told < place → place ≢ ledger.old.present → (result ≡ Ok 0) × (reader.new ≡ reader.old)
+        × (ledger.new.present ≡ ledger.old.present) }
+    ensures present { place ≤ ledger.old.progress.told → IfOk result (λ n. ledger.new.present ≡ min (place + n) (2 ^ 64 - 1)) }
+    ensures goes_on { place ≡ ledger.old.present → IfOk result (λ n. ledger.new.present ≡ min (place + n) (2 ^ 64 - 1)) }
+    ensures reads { ReadsAt ledger.old ledger.new (R.telling reader.old) (R.telling reader.new) (R.count reader.old) (R.count reader.new)
+        place room.new (named ledger.new.progress result) }
 {
-    if progress.told < place {
-        return read_beyond(reader, progress, window, present, place, room);
+    if ledger.progress.told < place {
+        return read_beyond(reader, ledger, place, room);
     }
-    read_windowed(reader, progress, window, present, place, room)
+    read_windowed(reader, ledger, place, room)
 }
 
 // The same as `read_above`. Inlined, so that the room of its answer is made there alone.
 #[inline(always)]
 fn read_beyond<R: Told>(
     reader: &mut R,
-    progress: &mut Progress,
-    window: &mut Window,
-    present: &mut u64,
+    ledger: &mut Ledger,
     place: u64,
     room: &mut [u8],
 ) -> Result<usize, Halt>
-    requires { progress.old.told < place }
-    ensures ends { place ≢ present.old → (result ≡ Ok 0) × (reader.new ≡ reader.old) × (present.new ≡ present.old) }
-    ensures goes_on { place ≡ present.old → IfOk result (λ n. present.new ≡ min (place + n) (2 ^ 64 - 1)) }
-    ensures reads { ReadsAt progress.old progress.new (R.telling reader.old) (R.telling reader.new)
-        (R.count reader.old) (R.count reader.new) window.old.items window.new.items place room.new (named progress.new result) }
+    requires { ledger.old.progress.told < place }
+    ensures ends { place ≢ ledger.old.present → (result ≡ Ok 0) × (reader.new ≡ reader.old) × (ledger.new.present ≡ ledger.old.present) }
+    ensures goes_on { place ≡ ledger.old.present → IfOk result (λ n. ledger.new.present ≡ min (place + n) (2 ^ 64 - 1)) }
+    ensures reads { ReadsAt ledger.old ledger.new (R.telling reader.old) (R.telling reader.new) (R.count reader.old) (R.count reader.new)
+        place room.new (named ledger.new.progress result) }
 {
-    let count = read_above(reader, progress, window, present, place, room)?;
+    let count = read_above(reader, ledger, place, room)?;
     Ok(count)
 }
 
@@ -461,23 +453,21 @@ fn read_beyond<R: Told>(
 #[inline(never)]
 fn read_above<R: Told>(
     reader: &mut R,
-    progress: &mut Progress,
-    window: &mut Window,
-    present: &mut u64,
+    ledger: &mut Ledger,
     place: u64,
     room: &mut [u8],
 ) -> Result<usize, Halt>
-    requires { progress.old.told < place }
-    ensures ends { place ≢ present.old → (result ≡ Ok 0) × (reader.new ≡ reader.old)
-        × (present.new ≡ present.old) }
-    ensures goes_on { place ≡ present.old → IfOk result (λ n. present.new ≡ min (place + n) (2 ^ 64 - 1)) }
-    ensures reads { ReadsAt progress.old progress.new (R.telling reader.old) (R.telling reader.new)
-        (R.count reader.old) (R.count reader.new) window.old.items window.new.items place room.new (named progress.new result) }
+    requires { ledger.old.progress.told < place }
+    ensures ends { place ≢ ledger.old.present → (result ≡ Ok 0) × (reader.new ≡ reader.old)
+        × (ledger.new.present ≡ ledger.old.present) }
+    ensures goes_on { place ≡ ledger.old.present → IfOk result (λ n. ledger.new.present ≡ min (place + n) (2 ^ 64 - 1)) }
+    ensures reads { ReadsAt ledger.old ledger.new (R.telling reader.old) (R.telling reader.new) (R.count reader.old) (R.count reader.new)
+        place room.new (named ledger.new.progress result) }
 {
-    if place != *present {
+    if place != ledger.present {
         return Ok(0);
     }
-    let count = read_within(reader, progress, window, place, room)?;
-    *present = place.saturating_add(count as u64);
+    let count = read_within(reader, ledger, place, room)?;
+    ledger.present = place.saturating_add(count as u64);
     Ok(count)
 }

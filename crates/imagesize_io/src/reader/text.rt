@@ -20,16 +20,16 @@ pub(super) fn read_text<R: Told>(
     room: &mut [u8],
 ) -> Result<usize, Halt>
     ensures bound { IfOk result (λ n. n ≤ length room.new) }
-    ensures pays { IfOk result (λ n. 0 < n → max source.old.progress.told 32 < place
-        → source.old.progress.taken < source.new.progress.taken) }
+    ensures pays { IfOk result (λ n. 0 < n → max source.old.ledger.progress.told 32 < place
+        → source.old.ledger.progress.taken < source.new.ledger.progress.taken) }
     ensures runs { Runs
         (reader_state (R.telling source.old.reader.now) (R.count source.old.reader.now) source.old.reader.ghost_name
-        source.old.progress source.old.window.items)
+        source.old.ledger.progress source.old.ledger.window.items)
         (reader_state (R.telling source.new.reader.now) (R.count source.new.reader.now) source.new.reader.ghost_name
-        source.new.progress source.new.window.items)
-        (seen (λ n. take n room.new) (with_error (fault_of source.new.progress.fault) source.new.progress.budget result))
+        source.new.ledger.progress source.new.ledger.window.items)
+        (seen (λ n. take n room.new) (with_error (fault_of source.new.ledger.progress.fault) source.new.ledger.progress.budget result))
         (text_read (reader_state (R.telling source.old.reader.now) (R.count source.old.reader.now) source.old.reader.ghost_name
-        source.old.progress source.old.window.items).held.input text place (length room.new)) }
+        source.old.ledger.progress source.old.ledger.window.items).held.input text place (length room.new)) }
 {
     let mut begun = false;
     let mut count = 0;

@@ -2,9 +2,9 @@ use Rattle.std.proofs.Common.{arith, refl}
 use Rattle.imagesize_io.proofs.Windows.{behind_end, told_by}
 use Rattle.imagesize_io.proofs.reader.read_above.Goals as goal
 
-pub returns-then-place-present-clause-reads : goal.returns-then-place-present-clause-reads
-returns-then-place-present-clause-reads g c =
-    let old = c.args.progress.now in
+pub returns-then-place-ledger-clause-reads : goal.returns-then-place-ledger-clause-reads
+returns-then-place-ledger-clause-reads g c =
+    let old = c.args.ledger.now.progress in
     record {
       bound = omega arith;
       pays = λ some far. omega (arith, some);

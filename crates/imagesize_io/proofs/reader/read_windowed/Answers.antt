@@ -7,7 +7,7 @@ use Rattle.imagesize_io.proofs.reader.read_windowed.Goals as goal
 pub returns-in_err-count-2-clause-reads : goal.returns-in_err-count-2-clause-reads
 returns-in_err-count-2-clause-reads g c =
     let read = c.in_err-count-2.ensures in
-    let old = c.args.progress.now in
+    let old = c.args.ledger.now.progress in
     let new = c.read_from.new.progress in
     let here : c.args.place + 0 ≡ c.args.place = omega arith in
     let is : ◌≡◌ {A = Result ℕ Halt} c.from_residual-in_err-count-2.result (Err c.in_err-count-2.field-0.0) = search rules in
@@ -34,7 +34,7 @@ returns-in_err-count-2-clause-reads g c =
 pub returns-clause-reads : goal.returns-clause-reads
 returns-clause-reads g c =
     let read = c.in_ok-count-2.ensures in
-    let old = c.args.progress.now in
+    let old = c.args.ledger.now.progress in
     let new = c.read_from.new.progress in
     let here : c.args.place + 0 ≡ c.args.place = omega arith in
     record {
@@ -48,7 +48,7 @@ returns-clause-reads g c =
         frame = same_frame (g.R.Told.count c.args.reader.now) (g.R.Told.count c.read_from.new.reader) home old new read.keeps read.since;
         small = omega (arith, c.len.ensures.value, c.len.ensures.fits);
         count = omega (arith, c.len.ensures.value);
-        front = none_in c.args.window.now.items c.read_from.new.room c.args.place _ (omega (arith, c.len.ensures.value));
+        front = none_in c.args.ledger.now.window.items c.read_from.new.room c.args.place _ (omega (arith, c.len.ensures.value));
         kept = refl;
         short = search rules;
         gives = rw here read.stand;

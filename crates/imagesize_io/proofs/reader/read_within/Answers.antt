@@ -9,7 +9,7 @@ use Rattle.imagesize_io.proofs.reader.read_within.Goals as goal
 pub returns-then-copied-room : goal.returns-then-copied-room
 returns-then-copied-room g c =
     let copy = c.copy_kept-copied in
-    let old = c.args.progress.now in
+    let old = c.args.ledger.now.progress in
     record {
       bound = search rules;
       pays = search rules;
@@ -23,7 +23,7 @@ pub returns-in_err-count : goal.returns-in_err-count
 returns-in_err-count g c =
     let copy = c.copy_kept-copied in
     let read = c.in_err-count.ensures in
-    let old = c.args.progress.now in
+    let old = c.args.ledger.now.progress in
     let new = c.read_across.new.progress in
     let is : ◌≡◌ {A = Result ℕ Halt} c.from_residual.result (Err c.in_err-count.field-0.0) = search rules in
     record {
@@ -51,7 +51,7 @@ pub returns : goal.returns
 returns g c =
     let copy = c.copy_kept-copied in
     let read = c.in_ok-count.ensures in
-    let old = c.args.progress.now in
+    let old = c.args.ledger.now.progress in
     let new = c.read_across.new.progress in
     record {
       bound = search rules;
@@ -72,7 +72,7 @@ returns g c =
         enough = read.bound;
         long = search rules;
         took = read.taken;
-        window = c.keep.ensures ∙ ap (kept_window c.args.window.now.items (c.args.place + copy.result))
+        window = c.keep.ensures ∙ ap (kept_window c.args.ledger.now.window.items (c.args.place + copy.result))
             (put_there copy.new.room c.read_across.new.room copy.result c.in_ok-count.count
             (omega (arith, copy.ensures.count, copy.auto.room)) read.bound);
         within = read.within;

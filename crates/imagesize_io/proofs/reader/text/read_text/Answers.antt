@@ -7,8 +7,8 @@ pub loop-count-init : goal.loop-count-init
 loop-count-init g c =
     let source = c.args.source.now in
     taking_none _ c.args.text c.args.place (length c.args.room.now)
-    (reader_sound (g.R.Told.telling source.reader.now) (g.R.Told.count source.reader.now) source.reader.ghost_name source.progress
-    source.window.items)
+    (reader_sound (g.R.Told.telling source.reader.now) (g.R.Told.count source.reader.now) source.reader.ghost_name source.ledger.progress
+    source.ledger.window.items)
 
 pub loop-count-preserved : goal.loop-count-preserved
 loop-count-preserved g c =
@@ -28,15 +28,15 @@ returns-in_err-read_at-clause-runs g c =
     (c.loop-count.count + 1 - c.loop-count.count) c.read_at.new.room
     c.saturating_add-next.ensures c.loop-count-test.true (omega arith) (one_long c.loop-count.count c.loop-count.room c.read_at.new.room
     c.loop-count-test.true c.read_at.auto.room) c.in_err-read_at.ensures.runs
-    (reader_sound (g.R.Told.telling source.reader.now) (g.R.Told.count source.reader.now) source.reader.ghost_name source.progress
-    source.window.items) refl)
+    (reader_sound (g.R.Told.telling source.reader.now) (g.R.Told.count source.reader.now) source.reader.ghost_name source.ledger.progress
+    source.ledger.window.items) refl)
 
 pub returns-after-loop-count-clause-runs : goal.returns-after-loop-count-clause-runs
 returns-after-loop-count-clause-runs g c =
     let source = c.args.source.now in
     taking_full c.loop-count.invariant c.loop-count-test.false
-    (reader_sound (g.R.Told.telling source.reader.now) (g.R.Told.count source.reader.now) source.reader.ghost_name source.progress
-    source.window.items)
+    (reader_sound (g.R.Told.telling source.reader.now) (g.R.Told.count source.reader.now) source.reader.ghost_name source.ledger.progress
+    source.ledger.window.items)
 
 pub returns-then-branch-eq0-clause-runs : goal.returns-then-branch-eq0-clause-runs
 returns-then-branch-eq0-clause-runs g c =
@@ -46,8 +46,8 @@ returns-then-branch-eq0-clause-runs g c =
     (c.loop-count.count + 1 - c.loop-count.count) c.read_at.new.room
     c.saturating_add-next.ensures c.loop-count-test.true (omega arith) (one_long c.loop-count.count c.loop-count.room c.read_at.new.room
     c.loop-count-test.true c.read_at.auto.room) read.runs
-    (reader_sound (g.R.Told.telling source.reader.now) (g.R.Told.count source.reader.now) source.reader.ghost_name source.progress
-    source.window.items) c.if-branch-eq0.true
+    (reader_sound (g.R.Told.telling source.reader.now) (g.R.Told.count source.reader.now) source.reader.ghost_name source.ledger.progress
+    source.ledger.window.items) c.if-branch-eq0.true
 
 pub returns-then-is_end-clause-runs : goal.returns-then-is_end-clause-runs
 returns-then-is_end-clause-runs g c =
@@ -58,4 +58,4 @@ returns-then-is_end-clause-runs g c =
     c.saturating_add-next.ensures c.loop-count-test.true (omega arith) (one_long c.loop-count.count c.loop-count.room c.read_at.new.room
     c.loop-count-test.true c.read_at.auto.room) read.runs (omega (arith, c.if-branch-eq0.false)) read.bound
     c.is_end.result (refl, refl) (reader_sound (g.R.Told.telling source.reader.now) (g.R.Told.count source.reader.now)
-    source.reader.ghost_name source.progress source.window.items) c.is_end.ensures c.if-is_end.true
+    source.reader.ghost_name source.ledger.progress source.ledger.window.items) c.is_end.ensures c.if-is_end.true

@@ -6,9 +6,9 @@ use Rattle.imagesize_io.proofs.reader.text.read_text.Given as goal
 abbrev pub invariant-loop-count : goal.invariant-loop-count
 invariant-loop-count g l = Taking
     (reader_state (g.R.Told.telling l.initial.source.reader.now) (g.R.Told.count l.initial.source.reader.now)
-    l.initial.source.reader.ghost_name l.initial.source.progress l.initial.source.window.items)
+    l.initial.source.reader.ghost_name l.initial.source.ledger.progress l.initial.source.ledger.window.items)
     (reader_state (g.R.Told.telling l.source.reader.now) (g.R.Told.count l.source.reader.now) l.source.reader.ghost_name
-    l.source.progress l.source.window.items)
+    l.source.ledger.progress l.source.ledger.window.items)
     l.text l.place l.count l.begun (length l.room) (take l.count l.room)
 
 abbrev pub decreases-loop-count : goal.decreases-loop-count
