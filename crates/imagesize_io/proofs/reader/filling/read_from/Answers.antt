@@ -1,7 +1,7 @@
 use Rattle.std.proofs.Common.{◌∙◌, arith}
 use Rattle.imagesize_io.specs.Standing.{stand}
 use Rattle.imagesize_io.proofs.Standings.{from_there, keeps_both, not_reached, within_none, within_reached}
-use Rattle.imagesize_io.proofs.reader.read_from.Goals as goal
+use Rattle.imagesize_io.proofs.reader.filling.read_from.Goals as goal
 
 pub returns-then-not-branch : goal.returns-then-not-branch
 returns-then-not-branch g c =

@@ -1,6 +1,6 @@
 use Rattle.std.proofs.Common.{arith, refl}
 use Rattle.imagesize_io.proofs.Windows.{behind_end, told_by}
-use Rattle.imagesize_io.proofs.reader.read_above.Goals as goal
+use Rattle.imagesize_io.proofs.reader.windowed.read_above.Goals as goal
 
 pub returns-then-place-ledger-clause-reads : goal.returns-then-place-ledger-clause-reads
 returns-then-place-ledger-clause-reads g c =

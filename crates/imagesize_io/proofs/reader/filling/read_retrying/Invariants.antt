@@ -1,6 +1,6 @@
 use Rattle.std.proofs.Common.{◌-◌}
 use Rattle.imagesize_io.proofs.Standings.{Retried}
-use Rattle.imagesize_io.proofs.reader.read_retrying.Given as goal
+use Rattle.imagesize_io.proofs.reader.filling.read_retrying.Given as goal
 
 abbrev pub invariant-loop-count : goal.invariant-loop-count
 invariant-loop-count g l = Retried

@@ -1,6 +1,6 @@
 use Rattle.std.proofs.Common.{rules}
 use Rattle.imagesize_io.proofs.Filling.{gave_rest, within_rest}
-use Rattle.imagesize_io.proofs.reader.fill.Goals as goal
+use Rattle.imagesize_io.proofs.reader.filling.fill.Goals as goal
 
 pub returns : goal.returns
 returns g c =

@@ -4,7 +4,7 @@ use Rattle.imagesize_io.specs.Standing.{named}
 use Rattle.imagesize_io.specs.ReaderState.{kept_window}
 use Rattle.imagesize_io.proofs.Filling.{put_there}
 use Rattle.imagesize_io.proofs.Windows.{in_window, behind_window, behind_stopped, told_by, same_frame, ended_by}
-use Rattle.imagesize_io.proofs.reader.read_within.Goals as goal
+use Rattle.imagesize_io.proofs.reader.windowed.read_within.Goals as goal
 
 pub returns-then-copied-room : goal.returns-then-copied-room
 returns-then-copied-room g c =

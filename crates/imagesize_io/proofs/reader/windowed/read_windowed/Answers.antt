@@ -2,7 +2,7 @@ use Rattle.std.proofs.Common.{◌≡◌, ℕ, Result, Err, ◌+◌, refl, ap, ar
 use Rattle.imagesize_source.specs.declared.halt.Halt.{Halt}
 use Rattle.imagesize_io.specs.Standing.{named}
 use Rattle.imagesize_io.proofs.Windows.{none_in, straight, straight_stopped, told_by, same_frame, ended_by}
-use Rattle.imagesize_io.proofs.reader.read_windowed.Goals as goal
+use Rattle.imagesize_io.proofs.reader.windowed.read_windowed.Goals as goal
 
 pub returns-in_err-count-2-clause-reads : goal.returns-in_err-count-2-clause-reads
 returns-in_err-count-2-clause-reads g c =

@@ -1,6 +1,6 @@
 use Rattle.std.proofs.Common.{arith, rules}
 use Rattle.imagesize_io.proofs.Filling.{filled_none, filling_more, filling_done}
-use Rattle.imagesize_io.proofs.reader.fill_rest.Goals as goal
+use Rattle.imagesize_io.proofs.reader.filling.fill_rest.Goals as goal
 
 pub loop-filled-init : goal.loop-filled-init
 loop-filled-init g c = filled_none _ _ _ _ c.requires

@@ -1,0 +1,223 @@
+//! A room that is filled from a place on: by one read after another, within the budget.
+ghost use Rattle.std.specs.Prelude.{◌≡◌, max, ◌+◌, ◌^◌, ◌<◌, ◌≤◌, length, IfOk, IfErr, OnOk, true, false};
+ghost use Rattle.imagesize_io.specs.Telling.{counted};
+ghost use Rattle.imagesize_io.specs.Standing.{steady, stand, GivesSome, StopsBy, Keeps, Tries, Fills, ReadsOnce, since, named, given_or, GoesTo, ReadsFrom};
+ghost use Rattle.imagesize_io.specs.StopOf.{ending_of, fault_after, halted};
+
+use crate::progress::Progress;
+use crate::{Stop, Told};
+use imagesize_source::Halt;
+use std::io::{self, SeekFrom};
+
+// How many interruptions of reads are tried again in one call.
+const MAX_RETRIES: u64 = 64;
+
+// What a stop ends the call with after so many tries; nothing where the read may be tried again.
+#[cold]
+#[inline(never)]
+fn ending(stop: Stop, tries: u64) -> Option<io::Error>
+    ensures { result ≡ ending_of stop tries }
+{
+    match stop {
+        Stop::Fault(error) => Some(error),
+        Stop::Interrupted(_) if tries < MAX_RETRIES => None,
+        Stop::Interrupted(error) => Some(error),
+    }
+}
+
+// What a call of the reader answered. The error of one that failed is kept, and halts the reading.
+#[inline(always)]
+fn kept<T>(answer: Result<T, io::Error>, fault: &mut io::Error) -> Result<T, Halt>
+    ensures fault { fault.new ≡ fault_after fault.old answer }
+    ensures halt { result ≡ halted answer }
+{
+    match answer {
+        Ok(value) => Ok(value),
+        Err(error) => {
+            *fault = error;
+            Err(Halt::Failed)
+        }
+    }
+}
+
+// One read, tried again where it is interrupted.
+#[inline(always)]
+fn read_retrying<R: Told>(
+    reader: &mut R,
+    retries: &mut u64,
+    fault: &mut io::Error,
+    room: &mut [u8],
+) -> Result<usize, Halt>
+    ensures bound { IfOk result (λ n. n ≤ length room.new) }
+    ensures steady { GivesSome (steady (R.telling reader.old) retries.old) (steady (R.telling reader.new) retries.new)
+        room.new (given_or fault.new result) }
+    ensures counts { R.count reader.new ≡ counted (R.count reader.old) result }
+    ensures tried { retries.old ≤ retries.new }
+    ensures limit { retries.old ≤ 64 → retries.new ≤ 64 }
+    ensures tries { OnOk result (Tries (R.telling reader.old) retries.old (R.telling reader.new) retries.new) }
+    ensures failed { IfErr result (λ halt. halt ≡ Halt.Failed) }
+{
+    loop {
+        match reader.read_told(room) {
+            Ok(count) => return Ok(count),
+            Err(stop) => match ending(stop, *retries) {
+                Some(error) => return kept(Err(error), fault),
+                None => *retries += 1,
+            },
+        }
+    }
+}
+
+// One read from the place where the reader stands, which is counted and moves the place on.
+#[inline(always)]
+fn read_counted<R: Told>(
+    reader: &mut R,
+    progress: &mut Progress,
+    place: u64,
+    room: &mut [u8],
+) -> Result<usize, Halt>
+    requires fits { progress.old.taken + length room.old ≤ progress.old.budget }
+    requires stands { progress.old.place ≡ place }
+    ensures { ReadsOnce progress.old progress.new (R.telling reader.old) (R.telling reader.new)
+        (R.count reader.old) (R.count reader.new) room.new (named progress.new result) }
+{
+    let count = read_retrying(reader, &mut progress.retries, &mut progress.fault, room)?;
+    // Most reads fill the room, whose length the compiler knows.
+    if count == room.len() {
+        progress.taken += room.len() as u64;
+        progress.place = place.saturating_add(room.len() as u64);
+        return Ok(room.len());
+    }
+    progress.taken += count as u64;
+    progress.place = place.saturating_add(count as u64);
+    Ok(count)
+}
+
+// One read of at most what the budget leaves.
+#[inline(always)]
+fn read_some<R: Told>(
+    reader: &mut R,
+    progress: &mut Progress,
+    room: &mut [u8],
+) -> Result<usize, Halt>
+    ensures { ReadsOnce progress.old progress.new (R.telling reader.old) (R.telling reader.new)
+        (R.count reader.old) (R.count reader.new) room.new (named progress.new result) }
+{
+    let place = progress.place;
+    let left = progress.budget - progress.taken;
+    if room.len() as u64 <= left {
+        return read_counted(reader, progress, place, room);
+    }
+    if left == 0 {
+        return Err(Halt::Spent);
+    }
+    read_counted(reader, progress, place, &mut room[..left as usize])
+}
+
+// Reads from the place where the reader stands until the room is full or the bytes end.
+#[inline(always)]
+fn fill<R: Told>(
+    reader: &mut R,
+    progress: &mut Progress,
+    place: u64,
+    room: &mut [u8],
+) -> Result<usize, Halt>
+    requires { progress.old.place ≡ place }
+    ensures { Fills progress.old progress.new (stand (R.telling reader.old) progress.old) (stand (R.telling reader.new) progress.new)
+        (R.count reader.old) (R.count reader.new) room.new (named progress.new result) }
+{
+    if room.len() as u64 > progress.budget - progress.taken {
+        return fill_behind(reader, progress, room);
+    }
+    let count = read_counted(reader, progress, place, room)?;
+    if count == room.len() || count == 0 {
+        return Ok(count);
+    }
+    let rest = fill_behind(reader, progress, &mut room[count..])?;
+    Ok(count + rest)
+}
+
+// The same as `fill_rest`. Inlined, so that the room of its answer is made there alone.
+#[inline(always)]
+fn fill_behind<R: Told>(
+    reader: &mut R,
+    progress: &mut Progress,
+    room: &mut [u8],
+) -> Result<usize, Halt>
+    requires { progress.old.place < 2 ^ 64 }
+    ensures { Fills progress.old progress.new (stand (R.telling reader.old) progress.old) (stand (R.telling reader.new) progress.new)
+        (R.count reader.old) (R.count reader.new) room.new (named progress.new result) }
+{
+    let count = fill_rest(reader, progress, room)?;
+    Ok(count)
+}
+
+// Reads on until the room is full or the bytes end, one read after another.
+#[cold]
+#[inline(never)]
+fn fill_rest<R: Told>(
+    reader: &mut R,
+    progress: &mut Progress,
+    room: &mut [u8],
+) -> Result<usize, Halt>
+    requires { progress.old.place < 2 ^ 64 }
+    ensures { Fills progress.old progress.new (stand (R.telling reader.old) progress.old) (stand (R.telling reader.new) progress.new)
+        (R.count reader.old) (R.count reader.new) room.new (named progress.new result) }
+{
+    let mut filled = 0;
+    while filled < room.len() {
+        let count = read_some(reader, progress, &mut room[filled..])?;
+        if count == 0 {
+            break;
+        }
+        filled += count;
+    }
+    Ok(filled)
+}
+
+// Goes to a place, and answers whether the reader stands there: it does not go above the told length. What the
+// seek answers is not asked.
+#[inline(always)]
+fn go_to<R: Told>(reader: &mut R, progress: &mut Progress, place: u64) -> Result<bool, Halt>
+    ensures stand { GoesTo (stand (R.telling reader.old) progress.old)
+        (stand (R.telling reader.new) progress.new) place progress.new.place (named progress.new result) }
+    ensures asked { IfOk result (λ there. there ≡ true → progress.new.place ≡ place) }
+    ensures short { IfOk result (λ there. there ≡ true → place ≤ max progress.old.told progress.old.place) }
+    ensures far { IfOk result (λ there. there ≡ false → progress.old.told < place) }
+    ensures stays { progress.old.place ≡ place → (result ≡ Ok true) × (reader.new ≡ reader.old) }
+    ensures since { since (R.count reader.new) progress.new.taken ≡ since (R.count reader.old) progress.old.taken }
+    ensures taken { progress.new.taken ≡ progress.old.taken }
+    ensures keeps { Keeps progress.old progress.new }
+    ensures stops { IfErr (named progress.new result) (StopsBy progress.new) }
+{
+    if progress.place == place {
+        return Ok(true);
+    }
+    if place > progress.told {
+        return Ok(false);
+    }
+    kept(
+        reader.seek_told(SeekFrom::Start(place)),
+        &mut progress.fault,
+    )?;
+    progress.place = place;
+    Ok(true)
+}
+
+// Reads from a place on until the room is full or the bytes end.
+#[inline(always)]
+pub(super) fn read_from<R: Told>(
+    reader: &mut R,
+    progress: &mut Progress,
+    place: u64,
+    room: &mut [u8],
+) -> Result<usize, Halt>
+    ensures { ReadsFrom progress.old progress.new (stand (R.telling reader.old) progress.old) (stand (R.telling reader.new) progress.new)
+        (R.count reader.old) (R.count reader.new) place room.new (named progress.new result) }
+{
+    if !go_to(reader, progress, place)? {
+        return Ok(0);
+    }
+    let count = fill(reader, progress, place, room)?;
+    Ok(count)
+}

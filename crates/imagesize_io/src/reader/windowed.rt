@@ -1,0 +1,135 @@
+//! A reading through the window: what it has is not read again, and what follows it is kept.
+ghost use Rattle.std.specs.Prelude.{◌≡◌, ◌+◌, ◌-◌, ◌^◌, ◌<◌, ◌≤◌, ◌≢◌, min, IfOk};
+ghost use Rattle.imagesize_io.specs.ReaderState.{ReadsAt};
+ghost use Rattle.imagesize_io.specs.Standing.{stand, named, ReadsFrom};
+
+use super::Ledger;
+use super::filling::read_from;
+use crate::Told;
+use crate::progress::Progress;
+use crate::window::{copy_kept, keep};
+use imagesize_source::Halt;
+
+// Reads from a place on: from the reader alone where it lies behind the window. What follows the window is kept.
+#[inline(always)]
+fn read_windowed<R: Told>(
+    reader: &mut R,
+    ledger: &mut Ledger,
+    place: u64,
+    room: &mut [u8],
+) -> Result<usize, Halt>
+    requires { place ≤ ledger.old.progress.told }
+    ensures present { IfOk result (λ n. ledger.new.present ≡ min (place + n) (2 ^ 64 - 1)) }
+    ensures reads { ReadsAt ledger.old ledger.new (R.telling reader.old) (R.telling reader.new) (R.count reader.old) (R.count reader.new)
+        place room.new (named ledger.new.progress result) }
+{
+    if place < ledger.window.len() as u64 || room.is_empty() {
+        let count = read_within(reader, ledger, place, room)?;
+        ledger.present = place.saturating_add(count as u64);
+        return Ok(count);
+    }
+    let count = read_from(reader, &mut ledger.progress, place, room)?;
+    ledger.present = ledger.progress.place;
+    keep(&mut ledger.window, place, &room[..count]);
+    Ok(count)
+}
+
+// Reads from a place on: what the window has of it, and what follows from the reader.
+#[inline(always)]
+fn read_within<R: Told>(
+    reader: &mut R,
+    ledger: &mut Ledger,
+    place: u64,
+    room: &mut [u8],
+) -> Result<usize, Halt>
+    ensures { ReadsAt ledger.old ledger.new (R.telling reader.old) (R.telling reader.new) (R.count reader.old) (R.count reader.new)
+        place room.new (named ledger.new.progress result) }
+{
+    let copied = copy_kept(&ledger.window, place, room);
+    if copied == room.len() {
+        return Ok(copied);
+    }
+    let next = place + copied as u64;
+    let count = read_across(reader, &mut ledger.progress, next, &mut room[copied..])?;
+    keep(&mut ledger.window, next, &room[copied..copied + count]);
+    Ok(copied + count)
+}
+
+// A reading that began in the window goes on behind it.
+#[cold]
+#[inline(never)]
+fn read_across<R: Told>(
+    reader: &mut R,
+    progress: &mut Progress,
+    place: u64,
+    room: &mut [u8],
+) -> Result<usize, Halt>
+    ensures { ReadsFrom progress.old progress.new (stand (R.telling reader.old) progress.old) (stand (R.telling reader.new) progress.new)
+        (R.count reader.old) (R.count reader.new) place room.new (named progress.new result) }
+{
+    read_from(reader, progress, place, room)
+}
+
+// Reads from a place on.
+#[inline(always)]
+pub(super) fn read_on<R: Told>(
+    reader: &mut R,
+    ledger: &mut Ledger,
+    place: u64,
+    room: &mut [u8],
+) -> Result<usize, Halt>
+    ensures ends { ledger.old.progress.told < place → place ≢ ledger.old.present → (result ≡ Ok 0) × (reader.new ≡ reader.old)
+        × (ledger.new.present ≡ ledger.old.present) }
+    ensures present { place ≤ ledger.old.progress.told → IfOk result (λ n. ledger.new.present ≡ min (place + n) (2 ^ 64 - 1)) }
+    ensures goes_on { place ≡ ledger.old.present → IfOk result (λ n. ledger.new.present ≡ min (place + n) (2 ^ 64 - 1)) }
+    ensures reads { ReadsAt ledger.old ledger.new (R.telling reader.old) (R.telling reader.new) (R.count reader.old) (R.count reader.new)
+        place room.new (named ledger.new.progress result) }
+{
+    if ledger.progress.told < place {
+        return read_beyond(reader, ledger, place, room);
+    }
+    read_windowed(reader, ledger, place, room)
+}
+
+// The same as `read_above`. Inlined, so that the room of its answer is made there alone.
+#[inline(always)]
+fn read_beyond<R: Told>(
+    reader: &mut R,
+    ledger: &mut Ledger,
+    place: u64,
+    room: &mut [u8],
+) -> Result<usize, Halt>
+    requires { ledger.old.progress.told < place }
+    ensures ends { place ≢ ledger.old.present → (result ≡ Ok 0) × (reader.new ≡ reader.old) × (ledger.new.present ≡ ledger.old.present) }
+    ensures goes_on { place ≡ ledger.old.present → IfOk result (λ n. ledger.new.present ≡ min (place + n) (2 ^ 64 - 1)) }
+    ensures reads { ReadsAt ledger.old ledger.new (R.telling reader.old) (R.telling reader.new) (R.count reader.old) (R.count reader.new)
+        place room.new (named ledger.new.progress result) }
+{
+    let count = read_above(reader, ledger, place, room)?;
+    Ok(count)
+}
+
+// A reading above the told length goes on only where the last reading ended. Elsewhere it sees the end of the
+// input, also where the window has bytes. A call of its own, since few readings are.
+#[cold]
+#[inline(never)]
+fn read_above<R: Told>(
+    reader: &mut R,
+    ledger: &mut Ledger,
+    place: u64,
+    room: &mut [u8],
+) -> Result<usize, Halt>
+    requires { ledger.old.progress.told < place }
+    ensures ends { place ≢ ledger.old.present → (result ≡ Ok 0) × (reader.new ≡ reader.old)
+        × (ledger.new.present ≡ ledger.old.present) }
+    ensures goes_on { place ≡ ledger.old.present → IfOk result (λ n. ledger.new.present ≡ min (place + n) (2 ^ 64 - 1)) }
+    ensures reads { ReadsAt ledger.old ledger.new (R.telling reader.old) (R.telling reader.new) (R.count reader.old) (R.count reader.new)
+        place room.new (named ledger.new.progress result) }
+{
+    if place != ledger.present {
+        return Ok(0);
+    }
+    let count = read_within(reader, ledger, place, room)?;
+    ledger.present = place.saturating_add(count as u64);
+    Ok(count)
+}
