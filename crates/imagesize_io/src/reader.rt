@@ -312,6 +312,7 @@ fn fill_behind<R: Told>(
 // Reads on until the room is full or the bytes end, one read after another.
 #[cold]
 #[inline(never)]
+#[tactic(auto, using(crate::proofs::Filling::filling_ends))]
 fn fill_rest<R: Told>(
     reader: &mut R,
     progress: &mut Progress,

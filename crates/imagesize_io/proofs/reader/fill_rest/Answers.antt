@@ -1,5 +1,5 @@
 use Rattle.std.proofs.Common.{rules}
-use Rattle.imagesize_io.proofs.Filling.{filled_none, filling_more, filling_ends}
+use Rattle.imagesize_io.proofs.Filling.{filled_none, filling_more}
 use Rattle.imagesize_io.proofs.reader.fill_rest.Goals as goal
 
 pub loop-filled-init : goal.loop-filled-init
@@ -9,8 +9,3 @@ pub loop-filled-preserved : goal.loop-filled-preserved
 loop-filled-preserved g c =
     let read = c.in_ok-count.ensures in
     filling_more _ _ c.loop-filled.invariant read.bound (search rules) read.stand read.taken read.place read.since read.keeps
-
-pub returns-then-count-eq0-clause-stand : goal.returns-then-count-eq0-clause-stand
-returns-then-count-eq0-clause-stand g c =
-    let read = c.in_ok-count.ensures in
-    filling_ends _ _ _ c.loop-filled.invariant c.loop-filled-test.true (search rules) read.stand c.if-count-eq0.true
