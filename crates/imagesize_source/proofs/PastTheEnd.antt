@@ -50,15 +50,15 @@ pub part_saturated : {a b : State} {r : Result (List ℕ) ImageError} (place k :
     → Runs a b r (part_read a.held.input (min place (2 ^ 64 - 1)) k) → Runs a b r (part_read a.held.input place k)
 part_saturated place k h = saturated_by (λ p d. part_read d p k) (gives []) place (λ d p far. part_beyond d p k far) h
 
-pub whole_saturated : {a b : State} {r : Result (Option (List ℕ)) ImageError} (place k : ℕ)
-    → Runs a b r (over a.held.input (if_there (min place (2 ^ 64 - 1)) k done)) → Runs a b r (over a.held.input (if_there place k done))
-whole_saturated place k h = saturated_by (λ p d. over d (if_there p k done)) (gives (whole k [])) place
-    (λ d p far. whole_beyond d p k far) h
+pub whole_saturated : {a b : State} {r : Result (Option (List ℕ)) ImageError} (place at k : ℕ)
+    → Runs a b r (over a.held.input (if_there at k done)) → at ≡ min place (2 ^ 64 - 1) → Runs a b r (over a.held.input (if_there place k done))
+whole_saturated place at k h is = saturated_by (λ p d. over d (if_there p k done)) (gives (whole k [])) place
+    (λ d p far. whole_beyond d p k far) (rw is at h)
 
-pub bytes_saturated : {a b : State} {r : Result (List ℕ) ImageError} (place k : ℕ) → 0 < k
-    → Runs a b r (bytes_read a.held.input (min place (2 ^ 64 - 1)) k) → Runs a b r (bytes_read a.held.input place k)
-bytes_saturated place k some h = saturated_by (λ p d. bytes_read d p k) (refuses end_of_input) place
-    (λ d p far. bytes_read_beyond d p k far some) h
+pub bytes_saturated : {a b : State} {r : Result (List ℕ) ImageError} (place at k : ℕ) → 0 < k
+    → Runs a b r (bytes_read a.held.input at k) → at ≡ min place (2 ^ 64 - 1) → Runs a b r (bytes_read a.held.input place k)
+bytes_saturated place at k some h is = saturated_by (λ p d. bytes_read d p k) (refuses end_of_input) place
+    (λ d p far. bytes_read_beyond d p k far some) (rw is at h)
 
 pub number_saturated : {a b : State} {r : Result ℕ ImageError} (order : Endian) (place k : ℕ) → 0 < k
     → Runs a b r (number_read a.held.input order (min place (2 ^ 64 - 1)) k) → Runs a b r (number_read a.held.input order place k)

@@ -26,14 +26,14 @@ recording_runs {X} {reads} d spans after x short is recorded =
     given_runs x (λ honest. (refl, short)) (λ honest. (refl, short)) refl refl is
     (ap (recording_state d) recorded ∙ sym (past-recording d spans reads.marks))
 
--- a reading of bytes
-pub recording_reads : (d room old : List ℕ) (spans after : List Span) (place n : ℕ) → length d < 2 ^ 63
+-- a reading of bytes, whose span was recorded at a place that is the one asked for
+pub recording_reads : (d room old : List ℕ) (spans after : List Span) (place from n : ℕ) → length d < 2 ^ 63
     → n ≡ min (length old) (length d - place) → room ≡ part d place (length old) ++ drop n old → length room ≡ length old
-    → after ≡ spans ++ span_at place n → Runs (recording_state d spans) (recording_state d after) (Ok (take n room))
+    → after ≡ spans ++ span_at from n → from ≡ place → Runs (recording_state d spans) (recording_state d after) (Ok (take n room))
     (part_read d place (length room))
-recording_reads d room old spans after place n short count copied kept recorded =
+recording_reads d room old spans after place from n short count copied kept recorded there =
     recording_runs d spans after (take n room) short (ap Ok (sym (front_is d room old place n count copied kept)))
-    (recorded ∙ ap (λ s. spans ++ s) (span_is d place (length old) (length room) n count kept))
+    (recorded ∙ ap (λ p. spans ++ span_at p n) there ∙ ap (λ s. spans ++ s) (span_is d place (length old) (length room) n count kept))
 
 -- a reading of a text
 pub recording_reads_text : (d old copied found : List ℕ) (t : Text) (spans after : List Span) (place : ℕ) → length d < 2 ^ 63

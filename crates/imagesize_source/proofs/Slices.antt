@@ -52,12 +52,12 @@ slice_runs : {reads : Reads (List ℕ)} (d got : List ℕ) → length d < 2 ^ 63
 slice_runs {reads} d got short is = given_runs got (λ honest. (refl, short)) (λ honest. (refl, short)) refl refl is
     (sym (past-slice d reads.marks))
 
--- a reading of a slice
-pub slice_reads : (d room old : List ℕ) (place n : ℕ) → length d < 2 ^ 63 → n ≡ min (length old) (length d - place)
-    → room ≡ part d place (length old) ++ drop n old → length room ≡ length old → Runs (slice_state d) (slice_state d) (Ok (take n room))
-    (part_read d place (length room))
-slice_reads d room old place n short count copied kept = slice_runs d (take n room) short
-    (ap Ok (sym (front_is d room old place n count copied kept)))
+-- a reading of a slice, from a place that is the one asked for
+pub slice_reads : (d room old : List ℕ) (place from n : ℕ) → length d < 2 ^ 63 → n ≡ min (length old) (length d - from)
+    → room ≡ part d from (length old) ++ drop n old → length room ≡ length old → from ≡ place → Runs (slice_state d) (slice_state d)
+    (Ok (take n room)) (part_read d place (length room))
+slice_reads d room old place from n short count copied kept there = slice_runs d (take n room) short
+    (ap Ok (ap (λ p. part d p (length room)) (sym there) ∙ sym (front_is d room old from n count copied kept)))
 
 -- what is there of the bytes from a place on, by the slices that the code takes
 pub slice_part : (d : List ℕ) (place first k n : ℕ) → first ≡ min place (length d)
@@ -77,22 +77,22 @@ slice_part d place first k n first_is n_is =
     ]
 
 -- the text in it
-pub slice_text : (d found : List ℕ) (t : Text) (place k m : ℕ) → found ≡ part d place k → m ≡ length (text_front t found)
-    → take m found ≡ text_part d t place k
+pub slice_text : (d found : List ℕ) (t : Text) (place from k m : ℕ) → found ≡ part d from k → m ≡ length (text_front t found)
+    → from ≡ place → take m found ≡ text_part d t place k
 unfolding text_part
-slice_text d found t place k m found_is m_is =
-    ap (λ j. take j found) m_is ∙ front_take t found ∙ ap (text_front t) found_is
+slice_text d found t place from k m found_is m_is there = ap (λ j. take j found) m_is ∙ front_take t found
+    ∙ ap (text_front t) (found_is ∙ ap (λ p. part d p k) there)
 
 -- how long it is
-pub slice_text_fits : (d found : List ℕ) (t : Text) (place k m : ℕ) → found ≡ part d place k → m ≡ length (text_front t found)
-    → length (take m found) ≤ k
-slice_text_fits d found t place k m found_is m_is =
-    omega (arith, ap length (slice_text d found t place k m found_is m_is), text_length d t place k, part_length d place k)
+pub slice_text_fits : (d found : List ℕ) (t : Text) (place from k m : ℕ) → found ≡ part d from k → m ≡ length (text_front t found)
+    → from ≡ place → length (take m found) ≤ k
+slice_text_fits d found t place from k m found_is m_is there =
+    omega (arith, ap length (slice_text d found t place from k m found_is m_is there), text_length d t place k, part_length d place k)
 
-pub slice_text_there : (d found : List ℕ) (t : Text) (place k m : ℕ) → found ≡ part d place k → m ≡ length (text_front t found)
-    → 0 < length (take m found) → place < length d
-slice_text_there d found t place k m found_is m_is some =
-    omega (arith, some, ap length (slice_text d found t place k m found_is m_is), text_length d t place k, part_length d place k)
+pub slice_text_there : (d found : List ℕ) (t : Text) (place from k m : ℕ) → found ≡ part d from k → m ≡ length (text_front t found)
+    → from ≡ place → 0 < length (take m found) → place < length d
+slice_text_there d found t place from k m found_is m_is there some =
+    omega (arith, some, ap length (slice_text d found t place from k m found_is m_is there), text_length d t place k, part_length d place k)
 
 -- what was copied of a text is the text
 pub copied_is : (d old copied found : List ℕ) (t : Text) (place : ℕ) → found ≡ text_part d t place (length old)

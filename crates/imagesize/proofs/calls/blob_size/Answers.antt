@@ -1,4 +1,4 @@
-use Rattle.std.proofs.Common.{◌∙◌, arith}
+use Rattle.std.proofs.Common.{◌∙◌, arith, rules}
 use Rattle.imagesize.proofs.Counts.{cost_most, cost_stated, cost_within}
 use Rattle.imagesize.proofs.Extension.{size_lasts}
 use Rattle.imagesize.proofs.Locality.{local_meaning}
@@ -8,7 +8,7 @@ use Rattle.imagesize.specs.Meaning.{meaning}
 use Rattle.imagesize.proofs.calls.blob_size.Goals as goal
 
 pub returns-clause-short : goal.returns-clause-short
-returns-clause-short c = λ few. c.probe_slice.ensures.value ∙ no_meaning c.args.«data».now 0 few
+returns-clause-short c = λ few. (search rules) ∙ no_meaning c.args.«data».now 0 few
 
 pub returns-clause-local : goal.returns-clause-local
 returns-clause-local c = λ place. same_by_local (λ d. meaning d place) (local_meaning place) c.args.«data».now
@@ -23,4 +23,4 @@ pub returns-clause-within : goal.returns-clause-within
 returns-clause-within c = λ place. omega (arith, cost_within c.args.«data».now place)
 
 pub returns-clause-lasts : goal.returns-clause-lasts
-returns-clause-lasts c = size_lasts c.args.«data».now 0 c.probe_slice.result c.probe_slice.ensures.value
+returns-clause-lasts c = size_lasts c.args.«data».now 0 _ (search rules)

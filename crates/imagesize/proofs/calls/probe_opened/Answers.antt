@@ -1,4 +1,4 @@
-use Rattle.std.proofs.Common.{ap}
+use Rattle.std.proofs.Common.{ap, arith}
 use Rattle.imagesize.proofs.Endings.{budget_taken, no_memory}
 use Rattle.imagesize.proofs.Meanings.{probes_opened}
 use Rattle.imagesize.proofs.calls.probe_opened.Goals as goal
@@ -6,11 +6,11 @@ use Rattle.imagesize.proofs.calls.probe_opened.Goals as goal
 pub returns-clause-probes : goal.returns-clause-probes
 returns-clause-probes g c = λ telling opens.
     probes_opened telling _ _ _ c.args.opened _ _ _ c.new-source.ensures.state opens c.probe-kind.ensures.runs c.probe-kind.ensures.kind
-    c.taken-taken.ensures
+    (omega arith)
 
 pub returns-clause-spent : goal.returns-clause-spent
 returns-clause-spent g c = budget_taken c.args.opened.told _ _ _ (ap (λ s. s.frame.budget) c.new-source.ensures.state)
-    c.probe-kind.ensures.runs c.taken-taken.ensures
+    c.probe-kind.ensures.runs (omega arith)
 
 pub returns-clause-memory : goal.returns-clause-memory
 returns-clause-memory g c = no_memory _ _ (ap (λ s. s.frame.records) c.new-source.ensures.state) c.probe-kind.ensures.runs

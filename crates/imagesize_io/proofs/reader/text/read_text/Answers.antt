@@ -15,7 +15,7 @@ loop-count-preserved g c =
     let read = c.in_ok-read_at.ensures in
     text_goes_on c.loop-count.room c.loop-count.invariant c.saturating_add-next.result c.in_ok-read_at.field-0
     (c.loop-count.count + 1 - c.loop-count.count) c.read_at.new.room
-    c.saturating_add-next.ensures c.loop-count-test.true (omega arith) (one_long c.loop-count.count c.loop-count.room c.read_at.new.room
+    (omega (arith, c.saturating_add-next.ensures)) c.loop-count-test.true (omega arith) (one_long c.loop-count.count c.loop-count.room c.read_at.new.room
     c.loop-count-test.true c.read_at.auto.room) read.runs (omega (arith, c.if-branch-eq0.false)) read.bound
     c.is_ascii_whitespace.result c.is_end.result (refl, refl) c.ranges.place.fits (read.pays (omega (arith, c.if-branch-eq0.false)))
     c.is_ascii_whitespace.ensures.value c.is_end.ensures c.if-is_end.false
@@ -26,7 +26,7 @@ returns-in_err-read_at-clause-runs g c =
     let is : ◌≡◌ {A = Result ℕ Halt} c.from_residual.result (Err c.in_err-read_at.field-0.0) = search rules in
     rw is (text_stopped c.loop-count.room c.loop-count.invariant c.saturating_add-next.result
     (c.loop-count.count + 1 - c.loop-count.count) c.read_at.new.room
-    c.saturating_add-next.ensures c.loop-count-test.true (omega arith) (one_long c.loop-count.count c.loop-count.room c.read_at.new.room
+    (omega (arith, c.saturating_add-next.ensures)) c.loop-count-test.true (omega arith) (one_long c.loop-count.count c.loop-count.room c.read_at.new.room
     c.loop-count-test.true c.read_at.auto.room) c.in_err-read_at.ensures.runs
     (reader_sound (g.R.Told.telling source.reader.now) (g.R.Told.count source.reader.now) source.reader.ghost_name source.ledger.progress
     source.ledger.window.items) refl)
@@ -44,7 +44,7 @@ returns-then-branch-eq0-clause-runs g c =
     let read = c.in_ok-read_at.ensures in
     input_ends c.loop-count.room c.loop-count.invariant c.saturating_add-next.result c.in_ok-read_at.field-0
     (c.loop-count.count + 1 - c.loop-count.count) c.read_at.new.room
-    c.saturating_add-next.ensures c.loop-count-test.true (omega arith) (one_long c.loop-count.count c.loop-count.room c.read_at.new.room
+    (omega (arith, c.saturating_add-next.ensures)) c.loop-count-test.true (omega arith) (one_long c.loop-count.count c.loop-count.room c.read_at.new.room
     c.loop-count-test.true c.read_at.auto.room) read.runs
     (reader_sound (g.R.Told.telling source.reader.now) (g.R.Told.count source.reader.now) source.reader.ghost_name source.ledger.progress
     source.ledger.window.items) c.if-branch-eq0.true
@@ -55,7 +55,7 @@ returns-then-is_end-clause-runs g c =
     let read = c.in_ok-read_at.ensures in
     text_ends c.loop-count.room c.loop-count.invariant c.saturating_add-next.result c.in_ok-read_at.field-0
     (c.loop-count.count + 1 - c.loop-count.count) c.read_at.new.room
-    c.saturating_add-next.ensures c.loop-count-test.true (omega arith) (one_long c.loop-count.count c.loop-count.room c.read_at.new.room
+    (omega (arith, c.saturating_add-next.ensures)) c.loop-count-test.true (omega arith) (one_long c.loop-count.count c.loop-count.room c.read_at.new.room
     c.loop-count-test.true c.read_at.auto.room) read.runs (omega (arith, c.if-branch-eq0.false)) read.bound
     c.is_end.result (refl, refl) (reader_sound (g.R.Told.telling source.reader.now) (g.R.Told.count source.reader.now)
     source.reader.ghost_name source.ledger.progress source.ledger.window.items) c.is_end.ensures c.if-is_end.true
