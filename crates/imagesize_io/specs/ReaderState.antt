@@ -3,6 +3,7 @@ use Rattle.std.specs.Prelude.{◌≡◌, ℕ, ◌+◌, ◌^◌, ◌-◌, min, �
 use Rattle.imagesize_source.specs.declared.error.ImageError.{ImageError}
 use Rattle.imagesize_io.specs.declared.reader.Opened.{Opened}
 use Rattle.imagesize_io.specs.declared.progress.Progress.{Progress}
+use Rattle.imagesize_source.specs.Limits.{allowance, most_held}
 use Rattle.imagesize_io.specs.declared.reader.Ledger.{Ledger}
 use Rattle.imagesize_source.specs.Reading.{part_read, seen}
 use Rattle.imagesize_io.specs.Telling.{Telling, at_place}
@@ -50,9 +51,9 @@ state_at frame standing window taken = record {
 abbrev pub reader_state : Option Telling → Option ℕ → ℕ → Progress → List ℕ → State
 reader_state telling count home p window = state_at (reader_frame count home p) (stand telling p) window p.taken
 
--- the window after bytes came from a place on: it takes in those that follow it, up to 32 in all
+-- the window after bytes came from a place on: it takes in those that follow it, up to its length
 abbrev pub kept_window : List ℕ → ℕ → List ℕ → List ℕ
-kept_window window place bytes = if place == length window then window ++ take (32 - length window) bytes else window
+kept_window window place bytes = if place == length window then window ++ take (most_held - length window) bytes else window
 
 -- what a reader told as a call began: its place and its length, and it stands at the end
 abbrev pub Opens : Option Telling → Option Telling → Result Opened ImageError → Type 0
@@ -62,17 +63,17 @@ Opens (Some t) new (Ok opened) =
 Opens (Some t) new (Err e) = t.can_fail ≡ true
 
 -- A reader as a source, before the first reading, where its length is told: it stands at the end, and the
--- budget is the told length and 64 bytes more.
+-- budget is the told length and the allowance.
 abbrev pub start_state : Option Telling → Option ℕ → ℕ → ℕ → State
 start_state telling count home told = state_at
-    (record { told = told; budget = min (told + 64) (2 ^ 64 - 1); counts = true; records = false; home = home; since = since count 0; parts = None })
+    (record { told = told; budget = min (told + allowance) (2 ^ 64 - 1); counts = true; records = false; home = home; since = since count 0; parts = None })
     (stand_of told told (steady telling 0)) [] 0
 
 -- What a reading from a place on did, over every reader: it saw what the window has of it, and what follows from the reader.
 pub record ReadsAt (old new : Ledger) (telling telling' : Option Telling) (count count' : Option ℕ) (place : ℕ) (room : List ℕ)
     (r : Result ℕ ImageError) : Type 0 where
   pub bound : IfOk r (λ n. n ≤ length room)
-  pub pays : IfOk r (λ n. 0 < n → max old.progress.told 32 < place → (old.progress.taken < new.progress.taken)
+  pub pays : IfOk r (λ n. 0 < n → max old.progress.told most_held < place → (old.progress.taken < new.progress.taken)
       × (new.progress.taken ≤ old.progress.budget))
   pub keeps : Keeps old.progress new.progress
   pub runs : (home : ℕ) → Runs (reader_state telling count home old.progress old.window.items)

@@ -2,6 +2,7 @@
 use Rattle.std.specs.Prelude.{◌≡◌, ℕ, ◌+◌, ◌-◌, ◌^◌, ◌<◌, ◌≤◌, min, Bool, true, false, ◌||◌, ◌&&◌, List, length, take, nat_le, nat_lt, ◌==◌, if◌then◌else◌, Option, None, Some, Result, Ok, Err, IfSome, IfOk, IfErr, OnOk, IsSomeAnd, option_map, ⊤}
 use Rattle.imagesize_source.specs.declared.error.ImageError.{ImageError}
 use Rattle.imagesize_source.specs.declared.halt.Halt.{Halt}
+use Rattle.imagesize_source.specs.Limits.{most_retries}
 use Rattle.imagesize_io.specs.declared.progress.Progress.{Progress}
 use Rattle.std.specs.declared.io.Error.{Error}
 use Rattle.imagesize_source.specs.Halts.{error_by, with_error}
@@ -20,11 +21,11 @@ pub record Standing : Type 0 where
 abbrev pub onto : Standing → ℕ → Standing
 onto s n = record s { place = s.place + n }
 
--- Interruptions hidden, of which so many were tried again: a reader that cannot fail has at most 64 in all.
+-- Interruptions hidden, of which so many were tried again: a reader that cannot fail has at most as many as are tried again.
 abbrev pub steady : Option Telling → ℕ → Option Standing
 steady None retries = None
 steady (Some t) retries =
-    if t.can_fail || nat_le (t.interruptions + retries) 64
+    if t.can_fail || nat_le (t.interruptions + retries) most_retries
     then Some (record { bytes = t.bytes; place = t.place; can_fail = t.can_fail }) else None
 
 -- the told length and the place kept beside a reader agree with where it stands
@@ -97,13 +98,13 @@ pub record StopsBy (p : Progress) (e : ImageError) : Type 0 where
   pub memory : is_memory e ≡ false
   pub budget : IfSome (spent e) (λ n. (n ≡ p.budget) × (n ≡ p.taken))
 
--- What a call leaves of the numbers beside the reader. Tries are never forgotten, and never more than 64.
+-- What a call leaves of the numbers beside the reader. Tries are never forgotten, and never more than the most.
 pub record Keeps (old new : Progress) : Type 0 where
   pub told : new.told ≡ old.told
   pub budget : new.budget ≡ old.budget
   pub taken : old.taken ≤ new.taken
   pub retries : old.retries ≤ new.retries
-  pub limit : old.retries ≤ 64 → new.retries ≤ 64
+  pub limit : old.retries ≤ most_retries → new.retries ≤ most_retries
 
 -- what one read from where a reader stands did
 pub record ReadsOnce (old new : Progress) (telling telling' : Option Telling) (count count' : Option ℕ) (room : List ℕ)

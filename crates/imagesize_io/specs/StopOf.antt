@@ -9,6 +9,7 @@ use Rattle.imagesize_source.specs.declared.error.ImageError.TheVariants.{IoError
 use Rattle.imagesize_source.specs.declared.error.Reason.TheVariants.{Fault as FaultReason}
 use Rattle.imagesize_source.specs.declared.halt.Halt.{Halt}
 use Rattle.imagesize_source.specs.declared.halt.Halt.TheVariants.{Failed}
+use Rattle.imagesize_source.specs.Limits.{most_retries}
 use Rattle.imagesize_io.specs.declared.told.Stop.{Stop}
 use Rattle.imagesize_io.specs.declared.told.Stop.TheVariants.{Interrupted, Fault}
 
@@ -24,10 +25,10 @@ stop_of e = stop_at (error_kind e) e
 abbrev pub fault_of : Error → ImageError
 fault_of e = IoError (FaultReason e)
 
--- What ends a call after so many tries: a fault, and an interruption after 64. One before may be tried again.
+-- What ends a call after so many tries: a fault, and an interruption after the last try. One before may be tried again.
 abbrev pub ending_of : Stop → ℕ → Option Error
 ending_of (Fault e) tries = Some e
-ending_of (Interrupted e) tries = if nat_lt tries 64 then None else Some e
+ending_of (Interrupted e) tries = if nat_lt tries most_retries then None else Some e
 
 -- the error that is kept after a call: its own where it failed, else the one before
 abbrev pub fault_after : {X : Type 0} → Error → Result X Error → Error

@@ -5,6 +5,7 @@ use Rattle.std.specs.declared.io.traits.SeekFrom.TheVariants.{Start, End, Curren
 use Rattle.imagesize_io.specs.declared.told.Stop.{Stop}
 use Rattle.imagesize_io.specs.declared.told.Stop.TheVariants.{Interrupted, Fault}
 use Rattle.imagesize_source.specs.Input.{part}
+use Rattle.imagesize_source.specs.Limits.{most_retries}
 
 -- The bytes behind a reader, where it stands, whether a call may fail, and how many reads may still be
 -- interrupted. Where calls may fail, any number of reads may be interrupted.
@@ -74,8 +75,8 @@ given (Err _) = 0
 abbrev pub counted : {E : Type 0} → Option ℕ → Result ℕ E → Option ℕ
 counted count r = option_map (λ c. c + given r) count
 
--- An honest reader: its bytes are fewer than 2^63, and where none of its calls fails, at most 64 of its reads
--- are interrupted.
+-- An honest reader: its bytes are fewer than 2^63, and where none of its calls fails, at most as many of its
+-- reads are interrupted as a call tries again.
 pub record IsHonest (t : Telling) : Type 0 where
   pub short : length t.bytes < 2 ^ 63
-  pub patient : t.can_fail ≡ false → t.interruptions ≤ 64
+  pub patient : t.can_fail ≡ false → t.interruptions ≤ most_retries

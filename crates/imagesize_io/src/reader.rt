@@ -17,7 +17,7 @@ use imagesize_source::source::Source;
 use imagesize_source::{Halt, ImageError, ImageResult, Reason, Text};
 use std::io::{self, ErrorKind, SeekFrom};
 
-/// A reader that is read by place. It takes bytes within a budget, and keeps the first 32 of the input.
+/// A reader that is read by place. It takes bytes within a budget, and keeps the first of the input.
 #[derive(Drop)]
 pub struct ReaderSource<'a, R: Told> {
     reader: &'a mut R,
@@ -90,8 +90,8 @@ impl<R: Told> Source for ReaderSource<'_, R> {
     }
 }
 
-// How many bytes more than the told length a call may take.
-const ALLOWANCE: u64 = 64;
+/// How many bytes more than the told length a call may take.
+pub const ALLOWANCE: u64 = 64;
 
 /// What a reader told as a call began.
 #[derive(Clone, Copy, Debug)]

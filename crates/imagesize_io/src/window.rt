@@ -1,5 +1,6 @@
 //! The first bytes of an input, kept as they were taken.
 ghost use Rattle.std.specs.Prelude.{◌≡◌, ◌-◌, ◌≤◌, ◌++◌, min, drop, length};
+ghost use Rattle.imagesize_source.specs.Limits.{most_held};
 ghost use Rattle.imagesize_source.specs.Input.{part};
 ghost use Rattle.imagesize_io.specs.ReaderState.{kept_window};
 
@@ -34,7 +35,7 @@ pub(crate) fn keep(window: &mut Window, place: u64, bytes: &[u8])
 pub(crate) fn copy_kept(window: &Window, place: u64, room: &mut [u8]) -> usize
     ensures count { result ≡ min (length room.old) (length window.now.items - place) }
     ensures copied { room.new ≡ part window.now.items place (length room.old) ++ drop result room.old }
-    ensures small { length window.now.items ≤ 32 }
+    ensures small { length window.now.items ≤ most_held }
 {
     if place >= window.len() as u64 {
         return 0;

@@ -7,6 +7,7 @@ pub mod Input
 pub mod Known
 pub mod Layout
 pub mod Lent
+pub mod Limits
 pub mod Numbers
 pub mod Paying
 pub mod Reading

@@ -1,6 +1,7 @@
 -- What stands behind a source of bytes, and what readings do to it.
 use Rattle.std.specs.Prelude.{◌≡◌, ℕ, ◌+◌, ◌-◌, ◌^◌, ◌<◌, ◌≤◌, min, max, Bool, true, false, List, [], ◌∷◌, ◌++◌, length, nat_le, if◌then◌else◌, Option, None, Some, Result, IfErr, IfSome, IsSomeAnd, option_map, flat_map}
 use Rattle.std.specs.List.{range_with_len}
+use Rattle.imagesize_source.specs.Limits.{most_held}
 use Rattle.imagesize_source.specs.declared.error.ImageError.{ImageError}
 use Rattle.imagesize_source.specs.declared.span.Span.{Span}
 use Rattle.imagesize_source.specs.Reading.{Reads, stopped, faulted, is_memory, spent}
@@ -37,9 +38,9 @@ pub record State : Type 0 where
 abbrev pub fresh : ℕ → ℕ → ℕ → ℕ
 fresh front place n = (place + n) - max place front
 
--- how many of its first bytes a source holds after such a reading: those that join on, 32 at the most
+-- how many of its first bytes a source holds after such a reading: those that join on, as many as the window has
 abbrev pub front_after : ℕ → ℕ → ℕ → ℕ
-front_after front place n = if nat_le place front then max front (min 32 (place + n)) else front
+front_after front place n = if nat_le place front then max front (min most_held (place + n)) else front
 
 -- the state after the reading of a span
 abbrev pub step : State → Span → State

@@ -1,5 +1,6 @@
 -- The ways in which the formats tell their answers.
 use Rattle.std.specs.Prelude.{ℕ, ◌+◌, ◌*◌, min, List, length}
+use Rattle.imagesize_source.specs.Limits.{allowance, stated_beside, stated_fixed}
 use Rattle.imagesize_source.specs.Layout.{Layout, over}
 use Rattle.imagesize_source.specs.Reading.{Reads}
 
@@ -18,9 +19,9 @@ by_way (Texts reads) d = reads d
 
 -- how many bytes a type and its answer are at most read from, in all
 abbrev pub stated_by : {X : Type 0} → Way X → List ℕ → ℕ
-stated_by (Fixed layout) d = 41
-stated_by (Recorded each reads begun) d = 64 + each * begun d
-stated_by (Texts reads) d = length d + 64
+stated_by (Fixed layout) d = stated_fixed
+stated_by (Recorded each reads begun) d = stated_beside + each * begun d
+stated_by (Texts reads) d = length d + allowance
 
 -- The most that a type and its answer are read from, where this much stands outside of records, and this much in each:
 -- of an answer at fixed places what is outside is all, and records and texts are never more than 28 bytes above the input.

@@ -1,5 +1,6 @@
 //! A room that is filled from a place on: by one read after another, within the budget.
 ghost use Rattle.std.specs.Prelude.{◌≡◌, max, ◌+◌, ◌^◌, ◌<◌, ◌≤◌, length, IfOk, IfErr, OnOk, true, false};
+ghost use Rattle.imagesize_source.specs.Limits.{most_retries};
 ghost use Rattle.imagesize_io.specs.Telling.{counted};
 ghost use Rattle.imagesize_io.specs.Standing.{steady, stand, GivesSome, StopsBy, Keeps, Tries, Fills, ReadsOnce, since, named, given_or, GoesTo, ReadsFrom};
 ghost use Rattle.imagesize_io.specs.StopOf.{ending_of, fault_after, halted};
@@ -53,7 +54,7 @@ fn read_retrying<R: Told>(
         room.new (given_or fault.new result) }
     ensures counts { R.count reader.new ≡ counted (R.count reader.old) result }
     ensures tried { retries.old ≤ retries.new }
-    ensures limit { retries.old ≤ 64 → retries.new ≤ 64 }
+    ensures limit { retries.old ≤ most_retries → retries.new ≤ most_retries }
     ensures tries { OnOk result (Tries (R.telling reader.old) retries.old (R.telling reader.new) retries.new) }
     ensures failed { IfErr result (λ halt. halt ≡ Halt.Failed) }
 {

@@ -1,5 +1,6 @@
 //! The text of a reader: it is read byte by byte, since what is read is taken.
 ghost use Rattle.std.specs.Prelude.{◌≡◌, ◌<◌, ◌≤◌, max, take, length, IfOk};
+ghost use Rattle.imagesize_source.specs.Limits.{most_held};
 ghost use Rattle.imagesize_source.specs.Halts.{with_error};
 ghost use Rattle.imagesize_source.specs.Reading.{seen, text_read};
 ghost use Rattle.imagesize_io.specs.ReaderState.{reader_state};
@@ -20,7 +21,7 @@ pub(super) fn read_text<R: Told>(
     room: &mut [u8],
 ) -> Result<usize, Halt>
     ensures bound { IfOk result (λ n. n ≤ length room.new) }
-    ensures pays { IfOk result (λ n. 0 < n → max source.old.ledger.progress.told 32 < place
+    ensures pays { IfOk result (λ n. 0 < n → max source.old.ledger.progress.told most_held < place
         → source.old.ledger.progress.taken < source.new.ledger.progress.taken) }
     ensures runs { Runs
         (reader_state (R.telling source.old.reader.now) (R.count source.old.reader.now) source.old.reader.ghost_name
