@@ -1,11 +1,12 @@
 """Checks the constants of the header, and those of a binding, against the library's own names, texts and numbers.
 
-    python3 check_constants.py HEADER LIBRARY [MODULE]..
+    python3 check_constants.py HEADER LIBRARY [MODULE or DECLARATION.d.ts]..
 
 HEADER is imagesize.h and LIBRARY the shared library. Each number of the header must have the text, the name or the family that
 its constant says, each must be there once, and the library must know no other. The lists
 `Status`, `Kind`, `Compression` and `Family` of a Python module or package, where it has them, must have the names of the header
-without their prefix, with its numbers. A binding in another language calls `compare` with its own names and numbers.
+without their prefix, with its numbers. Of a TypeScript declaration the types `Kind` and `Compression` must have the library's own
+names. The tests of the Rust package compare its types with the library themselves.
 """
 
 import ctypes
@@ -178,12 +179,37 @@ def check_module(path, lists):
     return count
 
 
-def main(header, shared, *modules):
+def names_of(library, types):
+    """The library's own names of all types, and those of their compressions."""
+    numbers = [(number, code) for number in types.values() for code in range(256)]
+    kinds, compressions = (
+        {library.text(call, *pair) for pair in numbers} - {None, ""} for call in ("imagesize_type_name", "imagesize_compression_name")
+    )
+    return {"Kind": kinds, "Compression": compressions}
+
+
+def check_declaration(path, library, lists):
+    """The types of a TypeScript declaration have the library's own names. Answers how many they have."""
+    text, count = pathlib.Path(path).read_text(), 0
+    for title, wanted in names_of(library, lists["type"]).items():
+        (body,) = re.findall(rf"^export type {title} =(.*?);$", text, re.DOTALL | re.MULTILINE)
+        found = re.findall(r"'(\w+)'", body)
+        assert sorted(found) == sorted(wanted), f"{path}: {title}: {sorted(set(found) ^ wanted) or 'a name twice'}"
+        count += len(found)
+    return count
+
+
+def check_binding(path, library, lists):
+    """A binding's names are the library's. Answers how many they are."""
+    return check_declaration(path, library, lists) if path.endswith(".d.ts") else check_module(path, lists)
+
+
+def main(header, shared, *bindings):
     lists, library = header_constants(header), Library(shared)
     check_statuses(library, lists["status"])
     check_types(library, lists["type"], lists["compression"])
     check_families(library, lists)
-    counts = [sum(map(len, lists.values())), *(check_module(module, lists) for module in modules)]
+    counts = [sum(map(len, lists.values())), *(check_binding(path, library, lists) for path in bindings)]
     print(f"constants of the header and of each binding: {', '.join(map(str, counts))}, each by the library's own name")
 
 

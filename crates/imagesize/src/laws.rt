@@ -1,7 +1,8 @@
 //! Laws of the comparisons and the hashes of the public types. A law is what the contract of a
 //! function says, and the function itself does nothing.
+ghost use Rattle.std.specs.Prelude.{◌≡◌, true};
 ghost use Rattle.imagesize_types.specs.Comparisons.{IsLawfulHash, IsLawfulOrder, RankedBy};
-ghost use Rattle.imagesize.specs.Ranks.{IsListed, IsListedByCompression, family_rank};
+ghost use Rattle.imagesize.specs.Ranks.{IsListed, family_rank, is_ascending, types};
 
 use crate::types::{CompressionFamily, ImageType};
 use imagesize_source::Span;
@@ -11,7 +12,11 @@ fn image_type_laws()
     ensures hash { IsLawfulHash ⟦<ImageType as PartialEq>⟧.eq ⟦<ImageType as Hash>⟧.hash_input }
     ensures order { IsLawfulOrder ⟦<ImageType as Ord>⟧.cmp ⟦<ImageType as PartialOrd>⟧.partial_cmp }
     ensures listed { IsListed ⟦<ImageType as Ord>⟧.cmp }
-    ensures compressions { IsListedByCompression ⟦<ImageType as Ord>⟧.cmp }
+{}
+
+// The list of types is in their order, so none stands in it twice.
+fn types_laws()
+    ensures { is_ascending types ≡ true }
 {}
 
 fn compression_family_laws()

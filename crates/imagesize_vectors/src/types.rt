@@ -11,138 +11,39 @@ use std::hash::{DefaultHasher, Hash, Hasher};
 use std::process::Abort;
 use std::test::Fail;
 
-static ATC: [AtcCompression; 4] = [
-    AtcCompression::Rgb,
-    AtcCompression::RgbaExplicit,
-    AtcCompression::RgbaInterpolated,
-    AtcCompression::Unknown,
-];
-
-static DDS: [DdsCompression; 10] = [
-    DdsCompression::Bc1,
-    DdsCompression::Bc2,
-    DdsCompression::Bc3,
-    DdsCompression::Bc4,
-    DdsCompression::Bc5,
-    DdsCompression::Bc6h,
-    DdsCompression::Bc7,
-    DdsCompression::Rgba32,
-    DdsCompression::Rgb24,
-    DdsCompression::Unknown,
-];
-
-static HEIF: [Compression; 4] = [
-    Compression::Av1,
-    Compression::Hevc,
-    Compression::Jpeg,
-    Compression::Unknown,
-];
-
-static PKM: [PkmCompression; 9] = [
-    PkmCompression::Etc1,
-    PkmCompression::Etc2,
-    PkmCompression::Etc2A1,
-    PkmCompression::Etc2A8,
-    PkmCompression::EacR,
-    PkmCompression::EacRg,
-    PkmCompression::EacRSigned,
-    PkmCompression::EacRgSigned,
-    PkmCompression::Unknown,
-];
-
-static PVRTC: [PvrtcCompression; 10] = [
-    PvrtcCompression::Pvrtc2BppRgb,
-    PvrtcCompression::Pvrtc2BppRgba,
-    PvrtcCompression::Pvrtc4BppRgb,
-    PvrtcCompression::Pvrtc4BppRgba,
-    PvrtcCompression::Etc2Rgb,
-    PvrtcCompression::Etc2Rgba,
-    PvrtcCompression::Etc2RgbA1,
-    PvrtcCompression::EacR11,
-    PvrtcCompression::EacRg11,
-    PvrtcCompression::Unknown,
-];
-
-static FAMILIES: [CompressionFamily; 7] = [
-    CompressionFamily::BlockCompression,
-    CompressionFamily::Etc,
-    CompressionFamily::Eac,
-    CompressionFamily::Pvrtc,
-    CompressionFamily::Astc,
-    CompressionFamily::Atc,
-    CompressionFamily::Uncompressed,
-];
-
-fn atc() -> &'static [AtcCompression] {
-    &ATC
+fn atc(image: &ImageType) -> Option<AtcCompression> {
+    match image {
+        ImageType::Atc(compression) => Some(*compression),
+        _ => None,
+    }
 }
 
-fn dds() -> &'static [DdsCompression] {
-    &DDS
+fn dds(image: &ImageType) -> Option<DdsCompression> {
+    match image {
+        ImageType::Dds(compression) => Some(*compression),
+        _ => None,
+    }
 }
 
-fn heif() -> &'static [Compression] {
-    &HEIF
+fn heif(image: &ImageType) -> Option<Compression> {
+    match image {
+        ImageType::Heif(compression) => Some(*compression),
+        _ => None,
+    }
 }
 
-fn pkm() -> &'static [PkmCompression] {
-    &PKM
+fn pkm(image: &ImageType) -> Option<PkmCompression> {
+    match image {
+        ImageType::Etc2(compression) => Some(*compression),
+        _ => None,
+    }
 }
 
-fn pvrtc() -> &'static [PvrtcCompression] {
-    &PVRTC
-}
-
-fn families() -> &'static [CompressionFamily] {
-    &FAMILIES
-}
-
-// All types in their order, those of one type in the order of their compressions.
-fn types(alloc: Global) -> Result<Vec<ImageType>, AllocError> {
-    let mut all = Vec::new(alloc);
-    all.extend_from_slice(&[ImageType::Aseprite, ImageType::Astc])?;
-    for kind in atc() {
-        all.push(ImageType::Atc(*kind))?;
+fn pvrtc(image: &ImageType) -> Option<PvrtcCompression> {
+    match image {
+        ImageType::Pvrtc(compression) => Some(*compression),
+        _ => None,
     }
-    all.push(ImageType::Bmp)?;
-    for kind in dds() {
-        all.push(ImageType::Dds(*kind))?;
-    }
-    for kind in pkm() {
-        all.push(ImageType::Eac(*kind))?;
-    }
-    for kind in pkm() {
-        all.push(ImageType::Etc2(*kind))?;
-    }
-    all.extend_from_slice(&[
-        ImageType::Exr,
-        ImageType::Farbfeld,
-        ImageType::Gif,
-        ImageType::Hdr,
-    ])?;
-    for kind in heif() {
-        all.push(ImageType::Heif(*kind))?;
-    }
-    all.extend_from_slice(&[
-        ImageType::Ico,
-        ImageType::Ilbm,
-        ImageType::Jpeg,
-        ImageType::Jxl,
-        ImageType::Ktx2,
-        ImageType::Pnm,
-    ])?;
-    for kind in pvrtc() {
-        all.push(ImageType::Pvrtc(*kind))?;
-    }
-    all.extend_from_slice(&[
-        ImageType::Psd,
-        ImageType::Qoi,
-        ImageType::Tga,
-        ImageType::Tiff,
-        ImageType::Vtf,
-        ImageType::Webp,
-    ])?;
-    Ok(all)
 }
 
 fn hash_of<T: Hash>(value: &T) -> u64 {
@@ -185,19 +86,42 @@ fn check_list<T: Ord + Hash + Debug + Clone + Drop>(
 
 #[test]
 fn types_are_ordered_as_they_are_listed(rt: HostRuntime) -> Result<(), Fail> {
-    let all = types(rt.alloc())?;
-    assert_eq!(rt; all.len(), 65);
-    check_list(&rt, all.as_slice())
+    assert_eq!(rt; ImageType::all().len(), 65);
+    check_list(&rt, ImageType::all())
+}
+
+// What was collected is in its order, and there is so much of it.
+fn check_collected<T: Ord + Hash + Debug + Clone + Drop>(
+    rt: &impl Abort,
+    all: Result<Vec<T>, AllocError>,
+    count: usize,
+) -> Result<(), Fail> {
+    let all = all?;
+    assert_eq!(rt; all.len(), count);
+    check_list(rt, all.as_slice())
 }
 
 #[test]
 fn kinds_are_ordered_as_they_are_listed(rt: HostRuntime) -> Result<(), Fail> {
-    check_list(&rt, atc())?;
-    check_list(&rt, dds())?;
-    check_list(&rt, heif())?;
-    check_list(&rt, pkm())?;
-    check_list(&rt, pvrtc())?;
-    check_list(&rt, families())
+    let types = ImageType::all();
+    check_collected(&rt, types.iter().filter_map(atc).collect(rt.alloc()), 4)?;
+    check_collected(&rt, types.iter().filter_map(dds).collect(rt.alloc()), 10)?;
+    check_collected(&rt, types.iter().filter_map(heif).collect(rt.alloc()), 4)?;
+    check_collected(&rt, types.iter().filter_map(pkm).collect(rt.alloc()), 9)?;
+    check_collected(&rt, types.iter().filter_map(pvrtc).collect(rt.alloc()), 10)
+}
+
+// The families of all types, each once.
+#[test]
+fn families_are_ordered(rt: HostRuntime) -> Result<(), Fail> {
+    let mut families: Vec<CompressionFamily> = ImageType::all()
+        .iter()
+        .filter_map(|image| image.compression_family())
+        .collect(rt.alloc())?;
+    families.sort()?;
+    families.dedup();
+    assert_eq!(rt; families.len(), 7);
+    check_list(&rt, families.as_slice())
 }
 
 // Sizes from the smallest to the greatest: by the exact area, the width, and the height.
