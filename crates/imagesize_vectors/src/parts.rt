@@ -73,7 +73,7 @@ fn fetch(
     for rounds in 0..10_000 {
         let bytes = bytes_in(alloc, input, &parts)?;
         match parts_probe(&bytes, &parts, whole) {
-            PartsAnswer::Found { kind, answer } => {
+            PartsAnswer::Found((kind, answer)) => {
                 return Ok(Fetched {
                     rounds,
                     bytes: bytes.len(),
@@ -318,21 +318,18 @@ fn joined(alloc: Global, first: &[u8], second: &[u8]) -> Result<Vec<u8>, AllocEr
 }
 
 // Whether a GIF of 12 bytes is told.
-fn is_gif(answer: &PartsAnswer) -> bool {
+fn is_gif(answer: &Probed) -> bool {
     matches!(
         answer,
-        PartsAnswer::Found {
-            kind: Some(ImageType::Gif),
-            answer: Ok(_)
-        }
+        PartsAnswer::Found((Some(ImageType::Gif), Ok(_)))
     )
 }
 
 // Whether a byte is wanted, and which.
-fn wanted_of(answer: &PartsAnswer) -> Option<u64> {
+fn wanted_of(answer: &Probed) -> Option<u64> {
     match answer {
         PartsAnswer::Wanted(wanted) => Some(wanted.start),
-        PartsAnswer::Found { .. } => None,
+        PartsAnswer::Found(_) => None,
     }
 }
 
