@@ -135,9 +135,27 @@ static void spans_lie_within(struct worker *worker, size_t length)
     }
 }
 
+/* What is asked of the parts of an input: both, the type alone, or the size by the type that the answer has already. */
+enum asked { BOTH, TYPE, SIZE };
+
+/* A call over so many parts that a worker holds. */
+static uint32_t ask(const struct worker *worker, enum asked asked, const uint8_t *bytes, size_t length, size_t count,
+                    uint64_t total, struct answer *a, imagesize_span *wanted)
+{
+    const imagesize_span *parts = worker->spans_end - count;
+    switch (asked) {
+    case TYPE:
+        return imagesize_parts_type(bytes, length, parts, count, total, &a->type, &a->compression, wanted);
+    case SIZE:
+        return imagesize_parts_size(a->type, a->compression, bytes, length, parts, count, total, &a->width, &a->height, wanted);
+    default:
+        return imagesize_probe_parts(bytes, length, parts, count, total, &a->type, &a->compression, &a->width, &a->height, wanted);
+    }
+}
+
 /* One call with the parts of an input that these spans are. Their bytes, and the spans, end at a page that cannot be read. */
-static struct answer probe_parts(struct worker *worker, size_t length, const imagesize_span *parts, size_t count,
-                                 imagesize_span *wanted)
+static struct answer ask_parts(struct worker *worker, enum asked asked, struct answer a, size_t length, const imagesize_span *parts,
+                               size_t count, imagesize_span *wanted)
 {
     uint8_t known[SPANS * LONGEST];
     size_t bytes = 0;
@@ -147,31 +165,44 @@ static struct answer probe_parts(struct worker *worker, size_t length, const ima
     }
     memcpy(worker->bytes_end - bytes, known, bytes);
     memcpy(worker->spans_end - count, parts, count * sizeof *parts);
-    struct answer a = nothing_told;
-    a.status = imagesize_probe_parts(worker->bytes_end - bytes, bytes, worker->spans_end - count, count, length, &a.type,
-                                     &a.compression, &a.width, &a.height, wanted);
+    a.status = ask(worker, asked, worker->bytes_end - bytes, bytes, count, length, &a, wanted);
     return a;
 }
 
-/* From no part on, with each part that is wanted added, the answer is that of the whole. */
-static void parts_lead_to(struct worker *worker, size_t length, const struct answer *whole)
+/* From no part on, with each part that is wanted added, the answer is the right one. */
+static void parts_lead_to(struct worker *worker, enum asked asked, struct answer before, size_t length, const struct answer *right)
 {
     imagesize_span parts[SPANS], wanted = {0, 0};
     for (size_t count = 0; count < SPANS; count++) {
-        struct answer a = probe_parts(worker, length, parts, count, &wanted);
+        struct answer a = ask_parts(worker, asked, before, length, parts, count, &wanted);
         if (a.status != IMAGESIZE_BYTES_WANTED) {
-            expect(is_same(&a, whole), "the parts answer as the whole");
+            expect(is_same(&a, right), "the parts answer as the whole");
             return;
         }
-        expect(a.type == 0 && a.compression == 0 && a.width == 7 && a.height == 9, "beside a wanted part nothing else is told");
+        before.status = a.status;
+        expect(is_same(&a, &before), "beside a wanted part nothing else is told");
         expect(wanted.len > 0 && wanted.start < length && wanted.len <= length - wanted.start, "a wanted part of the input");
         parts[count] = wanted;
     }
-    expect(0, "a probe of parts ends");
+    expect(0, "a call over parts ends");
 }
 
-/* Parts that no input may have: the call returns, and a part that it wants lies within the input. */
-static void parts_of_any_kind(struct worker *worker, size_t length)
+/* The type alone is told as beside the size, and the size by it as beside the type. */
+static void parts_lead_to_each(struct worker *worker, size_t length, const struct answer *whole)
+{
+    parts_lead_to(worker, BOTH, nothing_told, length, whole);
+    struct answer type = *whole, size = nothing_told;
+    type.width = nothing_told.width;
+    type.height = nothing_told.height;
+    type.status = imagesize_type(worker->input_end - length, length, &size.type, &size.compression);
+    parts_lead_to(worker, TYPE, nothing_told, length, &type);
+    if (type.status == IMAGESIZE_ANSWERED) {
+        parts_lead_to(worker, SIZE, size, length, whole);
+    }
+}
+
+/* Parts that no input may have: each call returns, and a part that it wants lies within the input. */
+static void parts_of_any_kind(struct worker *worker, enum asked asked, size_t length)
 {
     imagesize_span parts[4], wanted = {0, 0};
     size_t count = random_number(worker) % 5;
@@ -182,9 +213,9 @@ static void parts_of_any_kind(struct worker *worker, size_t length)
     memcpy(worker->spans_end - count, parts, count * sizeof *parts);
     uint64_t total = random_number(worker) >> (random_number(worker) % 64);
     struct answer a = nothing_told;
-    a.status = imagesize_probe_parts(worker->input_end - length, length, worker->spans_end - count, count, total, &a.type,
-                                     &a.compression, &a.width, &a.height, &wanted);
-    expect(a.status == IMAGESIZE_BYTES_WANTED || is_of_bytes(a.status), "a probe of parts answers, refuses bytes or wants some");
+    a.type = asked == SIZE ? IMAGESIZE_TIFF : 0;
+    a.status = ask(worker, asked, worker->input_end - length, length, count, total, &a, &wanted);
+    expect(a.status == IMAGESIZE_BYTES_WANTED || is_of_bytes(a.status), "a call over parts answers, refuses bytes or wants some");
     if (a.status == IMAGESIZE_BYTES_WANTED) {
         expect(wanted.len > 0 && wanted.start < total && wanted.len <= total - wanted.start, "and wants a part of the input");
     }
@@ -207,8 +238,8 @@ static void *work(void *its)
         struct answer whole = probe(worker->input_end - length, length);
         calls_agree(worker->input_end - length, length, &whole);
         spans_lie_within(worker, length);
-        parts_lead_to(worker, length, &whole);
-        parts_of_any_kind(worker, length);
+        parts_lead_to_each(worker, length, &whole);
+        parts_of_any_kind(worker, (enum asked)(i % 3), length);
         text_of(worker, whole.status);
     }
     return NULL;
@@ -243,6 +274,9 @@ static void wrong_calls(void)
     expect(imagesize_container_format(IMAGESIZE_DDS, IMAGESIZE_PKM_ETC1, text, sizeof text, &written) == IMAGESIZE_UNKNOWN_TYPE,
            "a DDS has none of a PKM");
     expect(imagesize_compression_family(26, 0, &answer) == IMAGESIZE_UNKNOWN_TYPE && answer == 8, "no family of no type");
+    imagesize_span all = {0, 1};
+    expect(imagesize_parts_size(26, 0, &nothing, 1, &all, 1, 1, &width, &height, &all) == IMAGESIZE_UNKNOWN_TYPE && width == 7
+               && height == 9 && all.len == 1, "no size of no type");
     expect(written == 11 && memcmp(text, "abcd", 4) == 0, "and nothing is told");
     expect(imagesize_type_name(IMAGESIZE_FARBFELD, 0, text, sizeof text, &written) == IMAGESIZE_BUFFER_TOO_SMALL && written == 8,
            "a name that is too long tells its length");

@@ -63,7 +63,7 @@ enum imagesize_status {
     IMAGESIZE_BUFFER_TOO_SMALL = 27, /* the answer has more items than the buffer has room for */
     IMAGESIZE_UNKNOWN_TYPE = 28, /* no type has these numbers */
     IMAGESIZE_UNKNOWN_STATUS = 29, /* no status has this number */
-    IMAGESIZE_BYTES_WANTED = 30 /* imagesize_probe_parts needs another part of the input; no other call answers it */
+    IMAGESIZE_BYTES_WANTED = 30 /* a call over parts needs another part of the input; no other call answers it */
 };
 
 /* The types of images. */
@@ -215,6 +215,28 @@ uint32_t imagesize_probe(const uint8_t *bytes, size_t length, uint32_t *type, ui
  */
 uint32_t imagesize_probe_parts(const uint8_t *bytes, size_t length, const imagesize_span *spans, size_t count, uint64_t total,
                                uint32_t *type, uint32_t *compression, uint64_t *width, uint64_t *height, imagesize_span *wanted);
+
+/*
+ * The type alone, and its compression, from the parts of an input; or a part that it needs. The parts are lent as to
+ * imagesize_probe_parts, and `wanted` is written as there; it is one that the type rests on.
+ *
+ * Else status, type and compression are those of imagesize_type over the whole input.
+ */
+uint32_t imagesize_parts_type(const uint8_t *bytes, size_t length, const imagesize_span *spans, size_t count, uint64_t total,
+                              uint32_t *type, uint32_t *compression, imagesize_span *wanted);
+
+/*
+ * The size of the image in an input of which these parts are known, read as the type that has these two numbers; or a part that
+ * it needs. The input may be of another type, whose bytes are read as those of this one. The compression changes no size.
+ *
+ * The parts are lent as to imagesize_probe_parts, and `wanted` is written as there; it is one that this size rests on. Else
+ * the status says whether the whole input has a size of this type, or why it has none.
+ *
+ * Refusals: IMAGESIZE_UNKNOWN_TYPE where no type has these numbers, IMAGESIZE_END_OF_INPUT where the input ends before the size,
+ * and the refusals of the type's layout.
+ */
+uint32_t imagesize_parts_size(uint32_t type, uint32_t compression, const uint8_t *bytes, size_t length, const imagesize_span *spans,
+                              size_t count, uint64_t total, uint64_t *width, uint64_t *height, imagesize_span *wanted);
 
 /*
  * The bytes that type and size rest on, a span for each reading, in their order, repeats kept. Every other input of this length

@@ -5,9 +5,8 @@ use crate::compression::{
     PvrtcCompression,
 };
 use crate::input::Input;
-use crate::{sys, ImageError, ImageResult, ImageSize};
+use crate::{sys, ImageResult, ImageSize};
 use std::io::{BufRead, Seek};
-use std::mem::discriminant;
 
 /// A type of image, with its compression where a type has several.
 ///
@@ -70,13 +69,14 @@ pub enum ImageType {
 const CONTAINERS: [&str; 6] = ["ASTC", "DDS", "HEIF", "KTX2", "PKM", "PowerVR"];
 
 impl ImageType {
-    /// The size in pixels of an image of this type that a reader holds from its beginning on, wherever the reader stands.
+    /// The size in pixels of the image that a reader holds from its beginning on, wherever the reader stands, read as this type.
     ///
-    /// The compression of the type does not matter. The reader's place after the call is not stated.
+    /// The bytes may be of another type, and are read as those of this one. The compression of the type does not matter. The
+    /// reader's place after the call is not stated.
     ///
     /// # Errors
     ///
-    /// Those of [`reader_size`](crate::reader_size), and [`ImageError::NotSupported`] where the bytes are of another type.
+    /// Those of [`reader_size`](crate::reader_size) but for the type's.
     ///
     /// ```
     /// use imagesize::ImageType;
@@ -87,13 +87,7 @@ impl ImageType {
     /// # Ok::<(), imagesize::ImageError>(())
     /// ```
     pub fn reader_size<R: BufRead + Seek>(&self, reader: &mut R) -> ImageResult<ImageSize> {
-        let told = Input::whole(reader)?.probe()?;
-        match told.image_type() {
-            Ok(found) if discriminant(&found) != discriminant(self) => {
-                Err(ImageError::NotSupported)
-            }
-            _ => told.size(),
-        }
+        Input::whole(reader)?.size_as(self)
     }
 
     /// What the image's compression has in common with that of other types. It is `None` for types that are no textures, and

@@ -1,7 +1,7 @@
 //! An input that is fetched in blocks, each where the library wants one.
 
 use crate::sys::{self, Parts, Span, Told};
-use crate::{ImageError, ImageResult};
+use crate::{ImageError, ImageResult, ImageSize, ImageType};
 use std::fs::File;
 use std::io::{Read, Seek, SeekFrom};
 
@@ -72,13 +72,30 @@ impl<R: Read + Seek> Input<R> {
     }
 
     /// Type and size of the image in the input.
+    pub(crate) fn probe(self) -> ImageResult<Told> {
+        self.ask(sys::probe_parts)
+    }
+
+    /// The type of the image in the input.
+    pub(crate) fn image_type(self) -> ImageResult<ImageType> {
+        self.ask(sys::parts_type)?.image_type()
+    }
+
+    /// The size of the input, read as this type.
+    pub(crate) fn size_as(self, kind: &ImageType) -> ImageResult<ImageSize> {
+        let numbers = kind.numbers();
+        self.ask(|bytes, spans, total| sys::parts_size(numbers, bytes, spans, total))?
+            .size()
+    }
+
+    /// What a call tells of the input, by the bytes that it wants.
     ///
     /// Each round fetches a byte that was not known, since the library wants no others, so there is an end.
-    pub(crate) fn probe(mut self) -> ImageResult<Told> {
+    fn ask(mut self, call: impl Fn(&[u8], &[Span], u64) -> Parts) -> ImageResult<Told> {
         let mut wanted = FIRST;
         loop {
             self.fetch(wanted)?;
-            match sys::probe_parts(&self.bytes, &self.spans, self.total) {
+            match call(&self.bytes, &self.spans, self.total) {
                 Parts::Told(told) => return Ok(told),
                 Parts::Wanted(span) => wanted = span,
             }

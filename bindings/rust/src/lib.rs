@@ -132,5 +132,5 @@ pub fn reader_size<R: BufRead + Seek>(reader: R) -> ImageResult<ImageSize> {
 /// # Ok::<(), imagesize::ImageError>(())
 /// ```
 pub fn reader_type<R: BufRead + Seek>(reader: R) -> ImageResult<ImageType> {
-    Input::from_here(reader)?.probe()?.image_type()
+    Input::from_here(reader)?.image_type()
 }

@@ -41,6 +41,28 @@ extern "C" {
         height: *mut u64,
         wanted: *mut Span,
     ) -> u32;
+    fn imagesize_parts_type(
+        bytes: *const u8,
+        length: usize,
+        spans: *const Span,
+        count: usize,
+        total: u64,
+        kind: *mut u32,
+        compression: *mut u32,
+        wanted: *mut Span,
+    ) -> u32;
+    fn imagesize_parts_size(
+        kind: u32,
+        compression: u32,
+        bytes: *const u8,
+        length: usize,
+        spans: *const Span,
+        count: usize,
+        total: u64,
+        width: *mut u64,
+        height: *mut u64,
+        wanted: *mut Span,
+    ) -> u32;
     fn imagesize_container_format(
         kind: u32,
         compression: u32,
@@ -90,10 +112,19 @@ impl Told {
 
 /// What the known parts of an input tell.
 pub(crate) enum Parts {
-    /// Type and size of the input, or why it has none.
+    /// What was asked for, or why the input has none.
     Told(Told),
     /// A part that is not known yet, within the input.
     Wanted(Span),
+}
+
+impl Parts {
+    fn of(told: Told, wanted: Span) -> Parts {
+        match told.status {
+            BYTES_WANTED => Parts::Wanted(wanted),
+            _ => Parts::Told(told),
+        }
+    }
 }
 
 /// The type that an image's first bytes tell.
@@ -146,10 +177,54 @@ pub(crate) fn probe_parts(bytes: &[u8], spans: &[Span], total: u64) -> Parts {
             &mut wanted,
         )
     };
-    match told.status {
-        BYTES_WANTED => Parts::Wanted(wanted),
-        _ => Parts::Told(told),
-    }
+    Parts::of(told, wanted)
+}
+
+/// The type alone, of such an input.
+pub(crate) fn parts_type(bytes: &[u8], spans: &[Span], total: u64) -> Parts {
+    let mut told = Told::default();
+    let mut wanted = Span::default();
+    // SAFETY: the pointers come from two slices of these lengths, and from numbers and a span that nothing else holds.
+    told.status = unsafe {
+        imagesize_parts_type(
+            bytes.as_ptr(),
+            bytes.len(),
+            spans.as_ptr(),
+            spans.len(),
+            total,
+            &mut told.kind,
+            &mut told.compression,
+            &mut wanted,
+        )
+    };
+    Parts::of(told, wanted)
+}
+
+/// The size of such an input, read as the type that has these numbers.
+pub(crate) fn parts_size(
+    (kind, compression): (u32, u32),
+    bytes: &[u8],
+    spans: &[Span],
+    total: u64,
+) -> Parts {
+    let mut told = Told::default();
+    let mut wanted = Span::default();
+    // SAFETY: the pointers come from two slices of these lengths, and from numbers and a span that nothing else holds.
+    told.status = unsafe {
+        imagesize_parts_size(
+            kind,
+            compression,
+            bytes.as_ptr(),
+            bytes.len(),
+            spans.as_ptr(),
+            spans.len(),
+            total,
+            &mut told.width,
+            &mut told.height,
+            &mut wanted,
+        )
+    };
+    Parts::of(told, wanted)
 }
 
 /// The text of a status.

@@ -1,6 +1,6 @@
 //! Readers that fail, lie, shrink and never end, and what is read of honest ones.
 
-use imagesize::{reader_size, reader_type, ImageError, ImageResult, ImageSize};
+use imagesize::{reader_size, reader_type, ImageError, ImageResult, ImageSize, ImageType};
 use std::error::Error;
 use std::fmt;
 use std::io::{self, BufRead, Cursor, ErrorKind, Read, Seek, SeekFrom};
@@ -218,6 +218,13 @@ fn little_of_a_large_input_is_read() {
         );
         assert!(reader.readings.iter().all(|reading| reading.1 <= 4096));
     }
+}
+
+#[test]
+fn a_type_alone_is_read_from_one_block() {
+    let mut reader = Counting::new(jpeg(4, 54_000));
+    assert_eq!(reader_type(&mut reader).ok(), Some(ImageType::Jpeg));
+    assert_eq!(reader.readings, [(0, 4096)]);
 }
 
 #[test]

@@ -1,7 +1,7 @@
 //! Each worked input of the repository, through each call.
 
 use imagesize::{blob_size, image_type, reader_size, reader_type, size};
-use imagesize::{ImageError, ImageResult, ImageSize, ImageType};
+use imagesize::{AtcCompression, ImageError, ImageResult, ImageSize, ImageType};
 use std::fs::{self, File};
 use std::io::{self, BufRead, BufReader, Cursor, ErrorKind, Read, Seek, SeekFrom};
 use std::path::PathBuf;
@@ -131,12 +131,56 @@ fn a_type_reads_the_size_wherever_the_reader_stands() {
         };
         reader.set_position(7);
         assert_eq!(line(Ok(kind), kind.reader_size(&mut reader)), wanted);
-        let other = match kind {
-            ImageType::Gif => ImageType::Qoi,
-            _ => ImageType::Gif,
+    }
+}
+
+#[test]
+fn bytes_of_another_type_are_read_as_this_one() {
+    let texture = ImageType::Atc(AtcCompression::Rgb);
+    let rows: [(&[u8], ImageType, &str); 6] = [
+        (b"GIF89ad\0d\0\0\0", texture, "100x6578489"),
+        (b"GIF89ad\0d\0\0\0", ImageType::Gif, "100x100"),
+        (
+            b"P6\n640 480\n255\n",
+            ImageType::Hdr,
+            "Invalid HDR format identifier",
+        ),
+        (
+            b"\0\0\x01\0\x01\0\x10",
+            ImageType::Ico,
+            "Hit end of file before finding size",
+        ),
+        (
+            b"\0\0\x01\0\x01",
+            ImageType::Ico,
+            "failed to fill whole buffer",
+        ),
+        (b"", ImageType::Gif, "failed to fill whole buffer"),
+    ];
+    for (bytes, kind, wanted) in rows {
+        let found = match kind.reader_size(&mut Cursor::new(bytes)) {
+            Ok(ImageSize { width, height }) => format!("{width}x{height}"),
+            Err(error) => error.to_string(),
         };
-        let refused = other.reader_size(&mut reader);
-        assert!(matches!(refused, Err(ImageError::NotSupported)), "{wanted}");
+        assert_eq!(found, wanted, "{bytes:?} as {kind:?}");
+    }
+}
+
+#[test]
+fn no_type_refuses_the_bytes_of_another() {
+    let kinds = || {
+        rows()
+            .into_iter()
+            .filter_map(|(data, _)| image_type(&data).ok())
+    };
+    for (data, wanted) in rows() {
+        for kind in kinds() {
+            let answer = kind.reader_size(&mut Cursor::new(&data));
+            assert!(
+                !matches!(answer, Err(ImageError::NotSupported)),
+                "{wanted} as {kind:?}"
+            );
+        }
     }
 }
 

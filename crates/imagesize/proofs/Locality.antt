@@ -15,7 +15,8 @@ use Rattle.imagesize_source.specs.Layout.{over}
 pub local_kind : (place : ℕ) → Local (λ d. kind_of d place)
 local_kind place = local_length (λ n d. over d (kind n place)) (λ n. local_layout (kind n place))
 
-local_size : (type : ImageType) → Local (size_of type)
+-- and a size does
+pub local_size : (type : ImageType) → Local (size_of type)
 local_size type = local_way (kind_cost type) (outside type) (in_record type) (lasts type) (way_of type) (laws_of type)
 
 -- an input that agrees with another on its marks has the same type, the same size and the same marks

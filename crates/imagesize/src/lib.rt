@@ -21,7 +21,7 @@ pub use imagesize_types::compression::{
 };
 pub use imagesize_types::size::ImageSize;
 pub use names::TypeName;
-pub use parts::{PartsAnswer, parts_probe};
+pub use parts::{PartsAnswer, parts_probe, parts_type};
 pub use spans::blob_spans;
 pub use trace::{Trace, blob_trace};
 pub use types::{CompressionFamily, ImageType};

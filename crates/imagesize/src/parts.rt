@@ -1,26 +1,22 @@
-//! Type and size by parts of an input, of which the caller has no more so far.
+//! Types and sizes by parts of an input, of which the caller has no more so far.
 ghost use Rattle.std.specs.Prelude.{◌≡◌, ℕ, ◌^◌, ◌<◌, List, None, if◌then◌else◌};
-ghost use Rattle.imagesize.specs.Meaning.{meaning};
-ghost use Rattle.imagesize.specs.Parted.{Cover, Fits, Says, Tells};
+ghost use Rattle.imagesize.specs.Meaning.{kind_of, meaning, size_of};
+ghost use Rattle.imagesize.specs.Parted.{Cover, Fits, IsProbed, Says, SaysOf, Tells, told};
 ghost use Rattle.imagesize_source.specs.Known.{HasParts};
 ghost use Rattle.imagesize_source.specs.Reading.{faulted};
 
 use crate::calls::probe;
+use crate::formats::{detect, size};
 use crate::types::ImageType;
 use crate::{ImageError, ImageResult, Reason, Span};
 use imagesize_source::source::parts::PartsSource;
 use imagesize_types::size::ImageSize;
 
-/// What the known parts of an input tell.
+/// What the known parts of an input tell of what was asked for.
 #[derive(Debug, Drop)]
-pub enum PartsAnswer {
-    /// The parts are enough.
-    Found {
-        /// The type, where one was found.
-        kind: Option<ImageType>,
-        /// The size in pixels, or why there is none.
-        answer: ImageResult<ImageSize>,
-    },
+pub enum PartsAnswer<T> {
+    /// The parts are enough for this.
+    Found(T),
     /// Bytes that are not known yet: the first of them is one that the answer rests on, and all of them are enough for the
     /// reading that wants it.
     Wanted(Span),
@@ -32,8 +28,8 @@ pub enum PartsAnswer {
 /// the input has no bytes. Spans may overlap, repeat, be empty and stand in any order. Where fewer bytes are given than the
 /// spans have, the last places are not known; what is left over is not looked at. No arguments are refused.
 ///
-/// The errors in the answer are those of `image_type` and `blob_size` over the whole input. A caller that adds what is wanted
-/// always gets on:
+/// What is found is the type, where there is one, and the size, or why there is none. The errors are those of `image_type` and
+/// `blob_size` over the whole input. A caller that adds what is wanted always gets on:
 ///
 /// ```
 /// use imagesize::{PartsAnswer, Span, parts_probe};
@@ -44,14 +40,19 @@ pub enum PartsAnswer {
 ///     // here the parts are always a front of the file
 ///     let spans = [Span { start: 0, len: known as u64 }];
 ///     match parts_probe(&file[..known], &spans, file.len() as u64) {
-///         PartsAnswer::Found { answer, .. } => break assert_eq!(answer?.width, 640),
+///         PartsAnswer::Found((_, answer)) => break assert_eq!(answer?.width, 640),
 ///         PartsAnswer::Wanted(span) => known = (span.start + span.len) as usize,
 ///     }
 /// }
 /// ```
-pub fn parts_probe(bytes: &[u8], spans: &[Span], total: u64) -> PartsAnswer
+pub fn parts_probe(
+    bytes: &[u8],
+    spans: &[Span],
+    total: u64,
+) -> PartsAnswer<(Option<ImageType>, ImageResult<ImageSize>)>
     // Of each input of that length that has these parts:
-    ensures says { (d : List ℕ) → HasParts d total spans.now bytes.now → total < 2 ^ 63 → Says d spans.now result }
+    ensures says { (d : List ℕ) → HasParts d total spans.now bytes.now → total < 2 ^ 63
+        → Says (IsProbed d) (meaning d 0).marks spans.now result }
 
     // Where the parts have every byte that the answer rests on, it is given.
     ensures complete { (d : List ℕ) → HasParts d total spans.now bytes.now → total < 2 ^ 63
@@ -59,15 +60,90 @@ pub fn parts_probe(bytes: &[u8], spans: &[Span], total: u64) -> PartsAnswer
     ensures fits { Fits total result }
 {
     let mut source = PartsSource::new(spans, bytes, total);
-    let (kind, answer) = probe(&mut source, 0);
-    match wanted(&answer, source.missed) {
+    let found = probe(&mut source, 0);
+    let wanted = wanted(&found.1, source.missed);
+    told(found, wanted)
+}
+
+/// The type of the image in an input of which these parts are known, or a part that it needs.
+///
+/// The parts are handed over as to `parts_probe`. The errors are those of `image_type` over the whole input.
+///
+/// ```
+/// use imagesize::{ImageType, PartsAnswer, Span, parts_type};
+///
+/// let front = [Span { start: 0, len: 12 }];
+/// match parts_type(b"GIF89a\x80\x02\xe0\x01\0\0", &front, 5_000_000) {
+///     PartsAnswer::Found(answer) => assert_eq!(answer.ok(), Some(ImageType::Gif)),
+///     PartsAnswer::Wanted(span) => println!("{} bytes from {} on", span.len, span.start),
+/// }
+/// ```
+pub fn parts_type(bytes: &[u8], spans: &[Span], total: u64) -> PartsAnswer<ImageResult<ImageType>>
+    // Of each input of that length that has these parts:
+    ensures says { (d : List ℕ) → HasParts d total spans.now bytes.now → total < 2 ^ 63 → SaysOf (kind_of d 0) spans.now result }
+
+    // Where the parts have every byte that the type rests on, it is given.
+    ensures complete { (d : List ℕ) → HasParts d total spans.now bytes.now → total < 2 ^ 63
+        → Cover spans.now (kind_of d 0).marks → Tells result }
+    ensures fits { Fits total result }
+{
+    let mut source = PartsSource::new(spans, bytes, total);
+    let found = detect(&mut source, 0);
+    let wanted = wanted(&found, source.missed);
+    told(found, wanted)
+}
+
+impl ImageType {
+    /// The size in pixels of the image in an input of which these parts are known, read as this type, or a part that it needs.
+    ///
+    /// The parts are handed over as to `parts_probe`. The input may be of another type: the errors are those of `blob_size` but
+    /// for the type's.
+    ///
+    /// ```
+    /// use imagesize::{ImageType, PartsAnswer, Span};
+    ///
+    /// // the sides of a GIF stand behind its first six bytes
+    /// let sides = [Span { start: 6, len: 4 }];
+    /// match ImageType::Gif.parts_size(b"\x80\x02\xe0\x01", &sides, 5_000_000) {
+    ///     PartsAnswer::Found(answer) => assert_eq!(answer?.width, 640),
+    ///     PartsAnswer::Wanted(span) => println!("{} bytes from {} on", span.len, span.start),
+    /// }
+    /// ```
+    pub fn parts_size(
+        &self,
+        bytes: &[u8],
+        spans: &[Span],
+        total: u64,
+    ) -> PartsAnswer<ImageResult<ImageSize>>
+        // Of each input of that length that has these parts:
+        ensures says { (d : List ℕ) → HasParts d total spans.now bytes.now → total < 2 ^ 63
+            → SaysOf (size_of self.now d) spans.now result }
+
+        // Where the parts have every byte that the size rests on, it is given.
+        ensures complete { (d : List ℕ) → HasParts d total spans.now bytes.now → total < 2 ^ 63
+            → Cover spans.now (size_of self.now d).marks → Tells result }
+        ensures fits { Fits total result }
+    {
+        let mut source = PartsSource::new(spans, bytes, total);
+        let found = size(&mut source, *self);
+        let wanted = wanted(&found, source.missed);
+        told(found, wanted)
+    }
+}
+
+// What was found, where nothing is wanted.
+#[inline(always)]
+fn told<T: Drop>(found: T, wanted: Option<Span>) -> PartsAnswer<T>
+    ensures { result ≡ told found wanted }
+{
+    match wanted {
         Some(span) => PartsAnswer::Wanted(span),
-        None => PartsAnswer::Found { kind, answer },
+        None => PartsAnswer::Found(found),
     }
 }
 
 // What is missed, where the answer is a failure.
-fn wanted(answer: &ImageResult<ImageSize>, missed: Option<Span>) -> Option<Span>
+fn wanted<X>(answer: &ImageResult<X>, missed: Option<Span>) -> Option<Span>
     ensures { result ≡ (if faulted answer.now then missed else None) }
 {
     match answer {

@@ -5,8 +5,7 @@ ghost use Rattle.imagesize.specs.Meaning.{kind_of, meaning};
 ghost use Rattle.imagesize_c.specs.Status.{is_stop_status, status_of};
 ghost use Rattle.imagesize_c.specs.Told.{TellsSize, TellsType};
 
-use crate::status::{ANSWERED, refusal_status};
-use crate::tell::{tell_size, tell_type};
+use crate::tell::{tell_found, tell_size};
 use imagesize::{blob_size, image_type};
 
 /// The type of the image whose first bytes these are, and its compression. Beside a refusal both stay as they are.
@@ -16,13 +15,7 @@ pub extern "C" fn imagesize_type(bytes: &[u8], number: &mut u32, compression: &m
     ensures unstopped { is_stop_status result ≡ false }
     ensures told { TellsType (result_ok (kind_of bytes.now 0).answer) number.old number.new compression.old compression.new }
 {
-    match image_type(bytes) {
-        Ok(image) => {
-            tell_type(Some(image), number, compression);
-            ANSWERED
-        }
-        Err(error) => refusal_status(&error),
-    }
+    tell_found(image_type(bytes), number, compression)
 }
 
 /// The size in pixels of the image in some bytes. Beside a refusal width and height stay as they are.

@@ -6,6 +6,7 @@ pub mod calls;
 mod laws;
 mod numbers;
 pub mod parts;
+pub mod parts_alone;
 pub mod queries;
 pub mod spans;
 mod status;

@@ -2,14 +2,12 @@
 ghost use Rattle.std.specs.Prelude.{◌≡◌, ℕ, ◌^◌, ◌<◌, List, true, false};
 ghost use Rattle.std.specs.Result.{result_ok};
 ghost use Rattle.imagesize.specs.Meaning.{kind_of, meaning};
-ghost use Rattle.imagesize.specs.Parted.{Cover, Fits, Says};
-ghost use Rattle.imagesize.specs.declared.parts.PartsAnswer.TheVariants.{Wanted};
+ghost use Rattle.imagesize.specs.Parted.{Cover, IsWithin, Wants};
 ghost use Rattle.imagesize_c.specs.Status.{is_answered, is_wanted, status_of};
 ghost use Rattle.imagesize_c.specs.Told.{TellsSize, TellsType};
 ghost use Rattle.imagesize_source.specs.Known.{HasParts};
 
-use crate::status::BYTES_WANTED;
-use crate::tell::{tell_size, tell_type};
+use crate::tell::{tell_size, tell_type, tell_wanted};
 use imagesize::{PartsAnswer, Span, parts_probe};
 
 /// Type and size of the image in an input of which these parts are known, or a part that it needs.
@@ -33,12 +31,12 @@ pub extern "C" fn imagesize_probe_parts(
     ensures size { (d : List ℕ) → HasParts d total spans.now bytes.now → total < 2 ^ 63 → is_wanted result ≡ false
         → TellsSize (meaning d 0).answer width.old width.new height.old height.new }
     ensures wants { (d : List ℕ) → HasParts d total spans.now bytes.now → total < 2 ^ 63 → is_wanted result ≡ true
-        → Says d spans.now (Wanted wanted.new) }
+        → Wants (meaning d 0).marks spans.now wanted.new }
 
     // Where the parts have every byte that the answer rests on, it is given.
     ensures complete { (d : List ℕ) → HasParts d total spans.now bytes.now → total < 2 ^ 63
         → Cover spans.now (meaning d 0).marks → is_wanted result ≡ false }
-    ensures fits { is_wanted result ≡ true → Fits total (Wanted wanted.new) }
+    ensures fits { is_wanted result ≡ true → IsWithin total wanted.new }
 
     // What is not told stays as it was.
     ensures unknown { is_wanted result ≡ true → (number.new ≡ number.old) × (compression.new ≡ compression.old) }
@@ -46,13 +44,10 @@ pub extern "C" fn imagesize_probe_parts(
     ensures enough { is_wanted result ≡ false → wanted.new ≡ wanted.old }
 {
     match parts_probe(bytes, spans, total) {
-        PartsAnswer::Found { kind, answer } => {
+        PartsAnswer::Found((kind, answer)) => {
             tell_type(kind, number, compression);
             tell_size(answer, width, height)
         }
-        PartsAnswer::Wanted(span) => {
-            *wanted = span;
-            BYTES_WANTED
-        }
+        PartsAnswer::Wanted(span) => tell_wanted(span, wanted),
     }
 }

@@ -1,11 +1,12 @@
-//! What the calls tell of a type and of a size.
+//! What the calls tell of a type, of a size and of a part that is wanted.
 ghost use Rattle.std.specs.Prelude.{◌≡◌, false, Option, Some, None};
+ghost use Rattle.std.specs.Result.{result_ok};
 ghost use Rattle.imagesize_c.specs.Status.{is_answered, status_of};
 ghost use Rattle.imagesize_c.specs.Told.{TellsSize, TellsType};
 
 use crate::numbers::{compression_number, type_number};
-use crate::status::{ANSWERED, refusal_status};
-use imagesize::{ImageResult, ImageSize, ImageType};
+use crate::status::{ANSWERED, BYTES_WANTED, refusal_status};
+use imagesize::{ImageResult, ImageSize, ImageType, Span};
 
 /// Tells the numbers of a type and of its compression, where one was found.
 #[inline(always)]
@@ -15,6 +16,22 @@ pub fn tell_type(kind: Option<ImageType>, number: &mut u32, compression: &mut u3
     if let Some(image) = kind {
         *number = type_number(image);
         *compression = compression_number(image);
+    }
+}
+
+/// Tells the numbers of a type and of its compression, where there is one, and answers the status.
+#[inline(always)]
+pub fn tell_found(answer: ImageResult<ImageType>, number: &mut u32, compression: &mut u32) -> u32
+    ensures status { result ≡ status_of answer }
+    ensures told { TellsType (result_ok answer) number.old number.new compression.old compression.new }
+    ensures left { is_answered result ≡ false → (number.new ≡ number.old) × (compression.new ≡ compression.old) }
+{
+    match answer {
+        Ok(image) => {
+            tell_type(Some(image), number, compression);
+            ANSWERED
+        }
+        Err(error) => refusal_status(&error),
     }
 }
 
@@ -33,4 +50,14 @@ pub fn tell_size(answer: ImageResult<ImageSize>, width: &mut u64, height: &mut u
         }
         Err(error) => refusal_status(&error),
     }
+}
+
+/// Tells the part that is wanted, and answers that status.
+#[inline(always)]
+pub fn tell_wanted(span: Span, wanted: &mut Span) -> u32
+    ensures status { result ≡ 30 }
+    ensures told { wanted.new ≡ span }
+{
+    *wanted = span;
+    BYTES_WANTED
 }

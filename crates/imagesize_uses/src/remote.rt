@@ -84,7 +84,7 @@ pub fn probe_remote<A: Allocator + Copy, R: Remote>(
     let mut spans = Vec::new(alloc);
     'rounds: loop {
         match parts_probe(&bytes, &spans, whole) {
-            PartsAnswer::Found { kind, answer } => return Ok(Probed { kind, answer }),
+            PartsAnswer::Found((kind, answer)) => return Ok(Probed { kind, answer }),
             PartsAnswer::Wanted(span) => {
                 fetch_part(alloc, remote, &span, &mut bytes)?;
                 spans.extend_from_slice(&[span])?;

@@ -4,8 +4,10 @@ use crate::calls::is_answer;
 use crate::long::jpeg_behind;
 use crate::rows::fixed::GIF;
 use crate::rows::heif::TURNED;
-use crate::rows::{Row, tables};
-use imagesize::{ImageResult, ImageSize, ImageType, PartsAnswer, Span, image_type, parts_probe};
+use crate::rows::{Kind, ReadAs, Row, kinds, read_as, tables};
+use imagesize::{
+    ImageResult, ImageSize, ImageType, PartsAnswer, Span, image_type, parts_probe, parts_type,
+};
 use std::alloc::{AllocError, Global};
 use std::process::Abort;
 use std::test::Fail;
@@ -36,13 +38,53 @@ fn part_for(how: How, wanted: &Span, whole: u64) -> Span {
     Span { start, len }
 }
 
-// What an input is by its parts, and what was fetched until then.
+// Type and size, as both are asked for.
+type Both = (Option<ImageType>, ImageResult<ImageSize>);
+
+// What is asked of the parts of an input.
+trait Asked {
+    type Answer: Drop;
+
+    fn ask(&self, bytes: &[u8], parts: &[Span], whole: u64) -> PartsAnswer<Self::Answer>;
+}
+
+#[derive(Clone, Copy)]
+struct TypeAndSize;
+
+impl Asked for TypeAndSize {
+    type Answer = Both;
+
+    fn ask(&self, bytes: &[u8], parts: &[Span], whole: u64) -> PartsAnswer<Both> {
+        parts_probe(bytes, parts, whole)
+    }
+}
+
+#[derive(Clone, Copy)]
+struct TypeAlone;
+
+impl Asked for TypeAlone {
+    type Answer = ImageResult<ImageType>;
+
+    fn ask(&self, bytes: &[u8], parts: &[Span], whole: u64) -> PartsAnswer<ImageResult<ImageType>> {
+        parts_type(bytes, parts, whole)
+    }
+}
+
+// The size is asked for by a type.
+impl Asked for ImageType {
+    type Answer = ImageResult<ImageSize>;
+
+    fn ask(&self, bytes: &[u8], parts: &[Span], whole: u64) -> PartsAnswer<ImageResult<ImageSize>> {
+        self.parts_size(bytes, parts, whole)
+    }
+}
+
+// What was asked for, and what was fetched until it was found.
 #[derive(Drop)]
-struct Fetched {
+struct Fetched<T> {
     rounds: usize,
     bytes: usize,
-    kind: Option<ImageType>,
-    answer: ImageResult<ImageSize>,
+    found: T,
 }
 
 // The bytes of an input in these parts, one behind another.
@@ -61,24 +103,24 @@ fn has(parts: &[Span], place: u64) -> bool {
 }
 
 // Fetches what is wanted from no part on, until there is an answer.
-fn fetch(
+fn fetch<A: Asked>(
     rt: &(impl Abort + AllocGlobal),
+    asked: &A,
     input: &[u8],
     how: How,
     shows: &str,
-) -> Result<Fetched, Fail> {
+) -> Result<Fetched<A::Answer>, Fail> {
     let alloc = rt.alloc();
     let whole = input.len() as u64;
     let mut parts: Vec<Span> = Vec::new(alloc);
     for rounds in 0..10_000 {
         let bytes = bytes_in(alloc, input, &parts)?;
-        match parts_probe(&bytes, &parts, whole) {
-            PartsAnswer::Found { kind, answer } => {
+        match asked.ask(&bytes, &parts, whole) {
+            PartsAnswer::Found(found) => {
                 return Ok(Fetched {
                     rounds,
                     bytes: bytes.len(),
-                    kind,
-                    answer,
+                    found,
                 });
             }
             PartsAnswer::Wanted(wanted) => {
@@ -140,12 +182,10 @@ fn check_parts(rt: &(impl Abort + AllocGlobal), row: &Row<'_>) -> Result<(), Fai
         (How::Shuffled, exactly.min(row.spans.len())),
     ];
     for (how, most) in ways {
-        let fetched = fetch(rt, row.bytes, how, shows)?;
-        assert!(rt; fetched.kind == row.kind, "{shows}");
-        assert!(rt;
-            is_answer(rt.alloc(), row.answer, &fetched.answer)?,
-            "{shows}"
-        );
+        let fetched = fetch(rt, &TypeAndSize, row.bytes, how, shows)?;
+        let (kind, answer) = &fetched.found;
+        assert!(rt; *kind == row.kind, "{shows}");
+        assert!(rt; is_answer(rt.alloc(), row.answer, answer)?, "{shows}");
         assert!(rt;
             fetched.rounds <= most,
             "{shows}: {} rounds, not {most}",
@@ -166,6 +206,72 @@ fn check_all_parts(rt: &(impl Abort + AllocGlobal), rows: &[Row<'_>]) -> Result<
 fn parts_that_are_wanted_tell_the_worked_answers(rt: HostRuntime) -> Result<(), Fail> {
     for rows in tables() {
         check_all_parts(&rt, rows)?;
+    }
+    Ok(())
+}
+
+// The type alone is told from no more than what type and size are, and the size by the type too.
+fn check_alone(rt: &(impl Abort + AllocGlobal), row: &Row<'_>) -> Result<(), Fail> {
+    let alloc = rt.alloc();
+    let shows = row.shows;
+    let most = seen_of(row) as usize;
+    let fetched = fetch(rt, &TypeAlone, row.bytes, How::OneByte, shows)?;
+    assert!(rt; fetched.bytes <= most, "{shows}");
+    match (fetched.found, row.kind) {
+        (Ok(found), Some(kind)) => {
+            assert!(rt; found == kind, "{shows}");
+            let fetched = fetch(rt, &kind, row.bytes, How::OneByte, shows)?;
+            assert!(rt; fetched.bytes <= most, "{shows}");
+            assert!(rt; is_answer(alloc, row.answer, &fetched.found)?, "{shows}");
+        }
+        (Err(error), None) => {
+            let text = error.to_string(alloc)?;
+            assert!(rt; row.answer == Err(text.as_str()), "{shows}");
+        }
+        _ => assert!(rt; false, "{shows}"),
+    }
+    Ok(())
+}
+
+fn check_all_alone(rt: &(impl Abort + AllocGlobal), rows: &[Row<'_>]) -> Result<(), Fail> {
+    for row in rows {
+        check_alone(rt, row)?;
+    }
+    Ok(())
+}
+
+#[test]
+fn parts_tell_the_type_alone_and_the_size_by_it(rt: HostRuntime) -> Result<(), Fail> {
+    for rows in tables() {
+        check_all_alone(&rt, rows)?;
+    }
+    Ok(())
+}
+
+#[test]
+fn parts_tell_the_compression(rt: HostRuntime) -> Result<(), Fail> {
+    for Kind { shows, bytes, kind } in kinds() {
+        let fetched = fetch(&rt, &TypeAlone, bytes, How::Exactly, shows)?;
+        assert_eq!(rt; fetched.found.ok(), Some(*kind), "{shows}");
+    }
+    Ok(())
+}
+
+#[test]
+fn parts_are_read_as_another_type(rt: HostRuntime) -> Result<(), Fail> {
+    for row in read_as() {
+        let ReadAs {
+            shows,
+            bytes,
+            kind,
+            ..
+        } = row;
+        let fetched = fetch(&rt, kind, bytes, How::OneByte, shows)?;
+        assert!(rt;
+            is_answer(rt.alloc(), row.answer, &fetched.found)?,
+            "{shows}"
+        );
+        assert!(rt; fetched.bytes as u64 <= row.taken, "{shows}");
     }
     Ok(())
 }
@@ -266,14 +372,11 @@ fn check_large(
     how: How,
     most: (usize, usize),
 ) -> Result<(), Fail> {
-    let fetched = fetch(rt, input, how, "a large input")?;
+    let fetched = fetch(rt, &TypeAndSize, input, how, "a large input")?;
     let kind = image_type(input).ok();
-    assert!(rt; fetched.kind == kind);
-    assert!(rt;
-        is_answer(rt.alloc(), Ok(size), &fetched.answer)?,
-        "{:?}",
-        kind
-    );
+    let (found, answer) = &fetched.found;
+    assert!(rt; *found == kind);
+    assert!(rt; is_answer(rt.alloc(), Ok(size), answer)?, "{:?}", kind);
     assert!(rt;
         fetched.rounds <= most.0 && fetched.bytes <= most.1,
         "{:?}: {} rounds, {} bytes",
@@ -318,21 +421,15 @@ fn joined(alloc: Global, first: &[u8], second: &[u8]) -> Result<Vec<u8>, AllocEr
 }
 
 // Whether a GIF of 12 bytes is told.
-fn is_gif(answer: &PartsAnswer) -> bool {
-    matches!(
-        answer,
-        PartsAnswer::Found {
-            kind: Some(ImageType::Gif),
-            answer: Ok(_)
-        }
-    )
+fn is_gif(answer: &PartsAnswer<Both>) -> bool {
+    matches!(answer, PartsAnswer::Found((Some(ImageType::Gif), Ok(_))))
 }
 
 // Whether a byte is wanted, and which.
-fn wanted_of(answer: &PartsAnswer) -> Option<u64> {
+fn wanted_of(answer: &PartsAnswer<Both>) -> Option<u64> {
     match answer {
         PartsAnswer::Wanted(wanted) => Some(wanted.start),
-        PartsAnswer::Found { .. } => None,
+        PartsAnswer::Found(_) => None,
     }
 }
 
