@@ -1,214 +1,12 @@
-//! Types and sizes from parts of inputs, fetched as they are wanted.
+//! Few bytes of large inputs are fetched, and parts of any shape tell what they have. That the worked inputs have their
+//! answers by parts is checked with the rest of them.
 
-use crate::calls::is_answer;
-use crate::long::jpeg_behind;
-use crate::rows::fixed::GIF;
-use crate::rows::heif::TURNED;
-use crate::rows::{Row, tables};
-use imagesize::{ImageResult, ImageSize, ImageType, PartsAnswer, Span, image_type, parts_probe};
+use crate::checks::parts::{How, fetch};
+use crate::inputs::{GIF, TURNED, jpeg_behind};
+use imagesize::{ImageSize, ImageType, PartsAnswer, Span, image_type, parts_probe};
 use std::alloc::{AllocError, Global};
 use std::process::Abort;
 use std::test::Fail;
-
-// How a caller fetches what is wanted.
-#[derive(Clone, Copy, PartialEq, Eq)]
-enum How {
-    // the wanted span
-    Exactly,
-    // its first byte
-    OneByte,
-    // the blocks that it touches, of one byte more than this, which is one less than a power of two
-    Blocks(u64),
-    // more on both sides of it, so that parts overlap, with each part before the others at every second time
-    Shuffled,
-}
-
-// The part that is fetched.
-fn part_for(how: How, wanted: &Span, whole: u64) -> Span {
-    let end = wanted.start.saturating_add(wanted.len);
-    let (start, end) = match how {
-        How::Exactly => (wanted.start, end),
-        How::OneByte => (wanted.start, wanted.start.saturating_add(1)),
-        How::Blocks(last) => (wanted.start & !last, end.saturating_add(last) & !last),
-        How::Shuffled => (wanted.start.saturating_sub(3), end.saturating_add(5)),
-    };
-    let len = end.min(whole).saturating_sub(start);
-    Span { start, len }
-}
-
-// What an input is by its parts, and what was fetched until then.
-#[derive(Drop)]
-struct Fetched {
-    rounds: usize,
-    bytes: usize,
-    kind: Option<ImageType>,
-    answer: ImageResult<ImageSize>,
-}
-
-// The bytes of an input in these parts, one behind another.
-fn bytes_in(alloc: Global, input: &[u8], parts: &[Span]) -> Result<Vec<u8>, AllocError> {
-    let mut bytes = Vec::new(alloc);
-    for part in parts {
-        let start = (part.start as usize).min(input.len());
-        let rest = &input[start..];
-        bytes.extend_from_slice(&rest[..rest.len().min(part.len as usize)])?;
-    }
-    Ok(bytes)
-}
-
-fn has(parts: &[Span], place: u64) -> bool {
-    parts.iter().any(|part| part.start <= place && place - part.start < part.len)
-}
-
-// Fetches what is wanted from no part on, until there is an answer.
-fn fetch(
-    rt: &(impl Abort + AllocGlobal),
-    input: &[u8],
-    how: How,
-    shows: &str,
-) -> Result<Fetched, Fail> {
-    let alloc = rt.alloc();
-    let whole = input.len() as u64;
-    let mut parts: Vec<Span> = Vec::new(alloc);
-    for rounds in 0..10_000 {
-        let bytes = bytes_in(alloc, input, &parts)?;
-        match parts_probe(&bytes, &parts, whole) {
-            PartsAnswer::Found { kind, answer } => {
-                return Ok(Fetched {
-                    rounds,
-                    bytes: bytes.len(),
-                    kind,
-                    answer,
-                });
-            }
-            PartsAnswer::Wanted(wanted) => {
-                assert!(rt;
-                    wanted.len > 0 && wanted.len <= whole.saturating_sub(wanted.start),
-                    "{shows}"
-                );
-                assert!(rt; !has(&parts, wanted.start), "{shows}");
-                let first = how == How::Shuffled && rounds % 2 == 0;
-                let index = if first { 0 } else { parts.len() };
-                parts.insert(index, part_for(how, &wanted, whole))?;
-            }
-        }
-    }
-    panic!(rt; "{shows}: no end")
-}
-
-// How many rounds there are at most where exactly what is wanted is fetched, and where its first byte alone is.
-fn most_rounds(kind: Option<ImageType>) -> (usize, usize) {
-    match kind {
-        Some(ImageType::Gif | ImageType::Qoi | ImageType::Aseprite) => (1, 12),
-        Some(
-            ImageType::Astc
-            | ImageType::Farbfeld
-            | ImageType::Etc2(_)
-            | ImageType::Eac(_)
-            | ImageType::Atc(_),
-        ) => (3, 16),
-        Some(ImageType::Jpeg) => (5, 20),
-        Some(ImageType::Tiff) => (7, 64),
-        Some(ImageType::Ico | ImageType::Ilbm) => (5, 32),
-        Some(ImageType::Heif(_)) => (10, 77),
-        Some(ImageType::Jxl) => (7, 40),
-        Some(ImageType::Exr) => (5, 87),
-        Some(ImageType::Pnm | ImageType::Hdr) => (2, 26),
-        _ => (5, 34),
-    }
-}
-
-// How many bytes the readings of an input see.
-fn seen_of(row: &Row<'_>) -> u64 {
-    let mut seen = 0u64;
-    for &(_, len) in row.spans {
-        seen = len.saturating_add(seen);
-    }
-    seen
-}
-
-// An input has its answer, however its parts are fetched.
-fn check_parts(rt: &(impl Abort + AllocGlobal), row: &Row<'_>) -> Result<(), Fail> {
-    let shows = row.shows;
-    let (exactly, one_by_one) = most_rounds(row.kind);
-    let ways = [
-        (How::Exactly, exactly.min(row.spans.len())),
-        (How::OneByte, one_by_one.min(seen_of(row) as usize)),
-        (How::Blocks(15), row.bytes.len().div_ceil(16)),
-        (How::Blocks(511), row.bytes.len().div_ceil(512)),
-        (How::Blocks(4095), row.bytes.len().div_ceil(4096)),
-        (How::Shuffled, exactly.min(row.spans.len())),
-    ];
-    for (how, most) in ways {
-        let fetched = fetch(rt, row.bytes, how, shows)?;
-        assert!(rt; fetched.kind == row.kind, "{shows}");
-        assert!(rt;
-            is_answer(rt.alloc(), row.answer, &fetched.answer)?,
-            "{shows}"
-        );
-        assert!(rt;
-            fetched.rounds <= most,
-            "{shows}: {} rounds, not {most}",
-            fetched.rounds
-        );
-    }
-    Ok(())
-}
-
-fn check_all_parts(rt: &(impl Abort + AllocGlobal), rows: &[Row<'_>]) -> Result<(), Fail> {
-    for row in rows {
-        check_parts(rt, row)?;
-    }
-    Ok(())
-}
-
-#[test]
-fn parts_that_are_wanted_tell_the_worked_answers(rt: HostRuntime) -> Result<(), Fail> {
-    for rows in tables() {
-        check_all_parts(&rt, rows)?;
-    }
-    Ok(())
-}
-
-// What is wanted of an input whose format has no text lies whole in a span of its trace; of a text it begins in one.
-fn check_wanted(rt: &(impl Abort + AllocGlobal), row: &Row<'_>) -> Result<(), Fail> {
-    let alloc = rt.alloc();
-    let is_text = matches!(
-        row.kind,
-        Some(ImageType::Exr | ImageType::Pnm | ImageType::Hdr)
-    );
-    let mut parts: Vec<Span> = Vec::new(alloc);
-    for _ in 0..1_000 {
-        let bytes = bytes_in(alloc, row.bytes, &parts)?;
-        let PartsAnswer::Wanted(wanted) = parts_probe(&bytes, &parts, row.bytes.len() as u64) else {
-            return Ok(());
-        };
-        let whole = if is_text { 1 } else { wanted.len };
-        assert!(rt;
-            row.spans.iter().any(|&(start, len)| start <= wanted.start
-                && wanted.start.saturating_add(whole) <= start.saturating_add(len)),
-            "{}",
-            row.shows
-        );
-        parts.push(wanted)?;
-    }
-    Ok(())
-}
-
-fn check_all_wanted(rt: &(impl Abort + AllocGlobal), rows: &[Row<'_>]) -> Result<(), Fail> {
-    for row in rows {
-        check_wanted(rt, row)?;
-    }
-    Ok(())
-}
-
-#[test]
-fn what_is_wanted_lies_in_the_trace(rt: HostRuntime) -> Result<(), Fail> {
-    for rows in tables() {
-        check_all_wanted(&rt, rows)?;
-    }
-    Ok(())
-}
 
 // A JPEG with 216,000 bytes before its frame, and 2,000,000 behind it.
 fn long_jpeg(alloc: Global) -> Result<Vec<u8>, AllocError> {
@@ -266,11 +64,12 @@ fn check_large(
     how: How,
     most: (usize, usize),
 ) -> Result<(), Fail> {
-    let fetched = fetch(rt, input, how, "a large input")?;
     let kind = image_type(input).ok();
+    let fetched = fetch(rt.alloc(), input, how).ok().expect(rt, "an answer");
+    let (width, height) = size;
     assert!(rt; fetched.kind == kind);
     assert!(rt;
-        is_answer(rt.alloc(), Ok(size), &fetched.answer)?,
+        matches!(fetched.answer, Ok(found) if found == ImageSize { width, height }),
         "{:?}",
         kind
     );
