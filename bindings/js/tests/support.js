@@ -5,9 +5,9 @@ import { createServer } from 'node:http';
 import { ImageError } from '../imagesize.js';
 
 /** The bytes, the line and the spans of each worked input. */
-export const worked = readFileSync(new URL('../../../examples/worked.tsv', import.meta.url), 'utf8')
+export const worked = readFileSync(new URL('../../../examples/out/worked.tsv', import.meta.url), 'utf8')
   .split('\n')
-  .filter((row) => row && !row.startsWith('#'))
+  .filter((row) => row)
   .map((row) => row.split('\t'))
   .map(([hex, line, spans]) => ({ bytes: Buffer.from(hex === '-' ? '' : hex, 'hex'), line, spans }));
 

@@ -1,38 +1,11 @@
 //! Readers that do what few files do.
-ghost use Rattle.std.specs.Prelude.{◌≡◌, ◌≢◌, ℕ, pos, zero, ◌+◌, ◌-◌, ◌%◌, ◌^◌, ◌<◌, ◌≤◌, min, length, slice_get, Option, None, Some, Ok, Err, IfOk, IfErr, IsErr, true, not};
+ghost use Rattle.std.specs.Prelude.{◌≡◌, ◌≢◌, ℕ, pos, zero, ◌+◌, ◌-◌, ◌%◌, ◌^◌, ◌<◌, ◌≤◌, min, length, slice_get, Option, None, Some, Ok, Err, IfOk, IfErr, IsErr, true, false, not};
 ghost use Rattle.std.specs.Io.Cursor.{cursor_inner, cursor_position};
 ghost use Rattle.imagesize_io.specs.Telling.{ReadTells, SeekTells, counted};
 ghost use Rattle.imagesize_readers.specs.Readers.{may_fail, interrupted_more, halting_telling, StandsAt, StandsAtEnd, failure_at, left_after};
 
 use imagesize_io::{Stop, Told};
 use std::io::{self, Cursor, ErrorKind, SeekFrom};
-
-/// Gives what another reader gives, one byte a read.
-#[derive(Drop)]
-pub struct OneByte<R: Told> {
-    /// The other reader.
-    pub reader: R,
-}
-
-impl<R: Told> Told for OneByte<R> {
-    ghost telling = { λ r. R.telling r.reader };
-
-    ghost count = { λ r. R.count r.reader };
-
-    fn read_told(&mut self, room: &mut [u8]) -> Result<usize, Stop>
-        ensures bound { IfOk result (λ n. n ≤ length room.new) }
-        ensures told { ReadTells (R.telling self.old.reader) (R.telling self.new.reader) room.new result }
-        ensures counts { R.count self.new.reader ≡ counted (R.count self.old.reader) result }
-        ensures one { IfOk result (λ n. n ≤ 1) }
-    {
-        let most = room.len().min(1);
-        self.reader.read_told(&mut room[..most])
-    }
-
-    fn seek_told(&mut self, to: SeekFrom) -> io::Result<u64> {
-        self.reader.seek_told(to)
-    }
-}
 
 /// Gives what another reader gives, in pieces of lengths that are listed, over and over.
 #[derive(Drop)]
@@ -43,6 +16,20 @@ pub struct Cutting<'a, R: Told> {
     pub lengths: &'a [usize],
     /// Which of them is next; behind the last one a read gives one byte.
     pub next: usize,
+}
+
+impl<R: Told> Cutting<'static, R> {
+    /// Gives what another reader gives, one byte a read.
+    pub fn one_byte(reader: R) -> Self
+        ensures reader { result.reader ≡ reader }
+        ensures lengths { length result.lengths.now ≡ 0 }
+    {
+        Cutting {
+            reader,
+            lengths: &[],
+            next: 0,
+        }
+    }
 }
 
 impl<R: Told> Told for Cutting<'_, R> {
@@ -56,6 +43,7 @@ impl<R: Told> Told for Cutting<'_, R> {
         ensures counts { R.count self.new.reader ≡ counted (R.count self.old.reader) result }
         ensures cuts { (most : ℕ) → slice_get self.old.lengths.now self.old.next ≡ Some most → 0 < most
             → IfOk result (λ n. n ≤ most) }
+        ensures one { slice_get self.old.lengths.now self.old.next ≡ None → IfOk result (λ n. n ≤ 1) }
     {
         let most = match self.lengths.get(self.next) {
             Some(length) => {
@@ -291,13 +279,15 @@ impl<R: Told> Told for Failing<R> {
     }
 }
 
-/// Gives what another reader gives, and tells a length of its own, to which it goes as its end.
+/// Gives what another reader gives, and tells a length of its own.
 #[derive(Drop)]
 pub struct Claiming<R: Told> {
     /// The other reader.
     pub reader: R,
     /// The length that it tells.
     pub told: u64,
+    /// Whether it goes to that length as its end, and not to the other's end.
+    pub goes_there: bool,
 }
 
 impl<R: Told> Told for Claiming<R> {
@@ -318,56 +308,21 @@ impl<R: Told> Told for Claiming<R> {
         ensures told { SeekTells None None to result }
         ensures counts { R.count self.new.reader ≡ R.count self.old.reader }
         ensures claims { to ≡ SeekFrom.End (pos zero) → IfOk result (λ place. place ≡ self.old.told) }
-        ensures stands { to ≡ SeekFrom.End (pos zero) → IfOk result (λ place.
+        ensures stands { self.old.goes_there ≡ true → to ≡ SeekFrom.End (pos zero) → IfOk result (λ place.
             StandsAt (R.telling self.old.reader) (R.telling self.new.reader) self.old.told) }
-        ensures ends { to ≡ SeekFrom.End (pos zero) → IfErr result (λ e.
-            SeekTells (R.telling self.old.reader) (R.telling self.new.reader) (SeekFrom.Start self.old.told) (Err e)) }
-        ensures goes { to ≢ SeekFrom.End (pos zero) → SeekTells (R.telling self.old.reader) (R.telling self.new.reader) to result }
-    {
-        match to {
-            SeekFrom::End(0) => {
-                self.reader.seek_told(SeekFrom::Start(self.told))?;
-                Ok(self.told)
-            }
-            other => self.reader.seek_told(other),
-        }
-    }
-}
-
-/// Gives what another reader gives, and tells a length of its own when it has gone to the other's end.
-#[derive(Drop)]
-pub struct Elsewhere<R: Told> {
-    /// The other reader.
-    pub reader: R,
-    /// The length that it tells.
-    pub told: u64,
-}
-
-impl<R: Told> Told for Elsewhere<R> {
-    ghost telling = { λ _. None };
-
-    ghost count = { λ r. R.count r.reader };
-
-    fn read_told(&mut self, room: &mut [u8]) -> Result<usize, Stop>
-        ensures bound { IfOk result (λ n. n ≤ length room.new) }
-        ensures told { ReadTells None None room.new result }
-        ensures counts { R.count self.new.reader ≡ counted (R.count self.old.reader) result }
-        ensures gives { ReadTells (R.telling self.old.reader) (R.telling self.new.reader) room.new result }
-    {
-        self.reader.read_told(room)
-    }
-
-    fn seek_told(&mut self, to: SeekFrom) -> io::Result<u64>
-        ensures told { SeekTells None None to result }
-        ensures counts { R.count self.new.reader ≡ R.count self.old.reader }
-        ensures claims { to ≡ SeekFrom.End (pos zero) → IfOk result (λ place. place ≡ self.old.told) }
-        ensures stands { to ≡ SeekFrom.End (pos zero) → IfOk result (λ place.
+        ensures stands_elsewhere { self.old.goes_there ≡ false → to ≡ SeekFrom.End (pos zero) → IfOk result (λ place.
             StandsAtEnd (R.telling self.old.reader) (R.telling self.new.reader)) }
-        ensures ends { to ≡ SeekFrom.End (pos zero) → IfErr result (λ e.
+        ensures ends { self.old.goes_there ≡ true → to ≡ SeekFrom.End (pos zero) → IfErr result (λ e.
+            SeekTells (R.telling self.old.reader) (R.telling self.new.reader) (SeekFrom.Start self.old.told) (Err e)) }
+        ensures ends_elsewhere { self.old.goes_there ≡ false → to ≡ SeekFrom.End (pos zero) → IfErr result (λ e.
             SeekTells (R.telling self.old.reader) (R.telling self.new.reader) to (Err e)) }
         ensures goes { to ≢ SeekFrom.End (pos zero) → SeekTells (R.telling self.old.reader) (R.telling self.new.reader) to result }
     {
-        let place = self.reader.seek_told(to)?;
+        let end = match to {
+            SeekFrom::End(0) if self.goes_there => SeekFrom::Start(self.told),
+            _ => to,
+        };
+        let place = self.reader.seek_told(end)?;
         match to {
             SeekFrom::End(0) => Ok(self.told),
             _ => Ok(place),

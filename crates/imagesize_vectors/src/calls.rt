@@ -1,214 +1,106 @@
-//! What each call returns of the worked inputs.
+//! What is returned of inputs that are read as a type, and of readers that stand behind other bytes.
 
-use crate::rows::{ReadAs, Row, Wanted, kinds, read_as, tables};
-use imagesize::{
-    ImageError, ImageResult, ImageSize, ImageType, Probed, Told, blob_size, image_type,
-    reader_probe, reader_size, reader_type,
-};
-use imagesize_readers::readers::{Counting, Cutting, OneByte};
+use crate::checks::parts::{How, fetch};
+use crate::inputs::{DDS, GIF, LOSSY_WEBP, PNM_WITH_A_COMMENT};
+use imagesize::{AtcCompression, ImageResult, ImageSize, ImageType, reader_size, reader_type};
+use imagesize_readers::readers::{Counting, Cutting};
 use std::alloc::{AllocError, Global};
 use std::fmt::Display;
 use std::io::Cursor;
 use std::process::Abort;
 use std::test::Fail;
 
-/// Whether a size is the wanted one, or a refusal has the wanted text.
-pub fn is_answer(
+// A width and a height in pixels, or the text of a refusal.
+type Wanted<'a> = Result<(usize, usize), &'a str>;
+
+// An input that is read as a type, of which it need not be.
+#[derive(Clone, Copy)]
+struct ReadAs {
+    // What it shows.
+    shows: &'static str,
+    // Its bytes.
+    bytes: &'static [u8],
+    // The type that it is read as.
+    kind: ImageType,
+    // Its size, or its refusal.
+    answer: Wanted<'static>,
+    // How many bytes a reader gives of it for its size.
+    taken: u64,
+}
+
+static READ_AS: [ReadAs; 8] = [
+    ReadAs {
+        shows: "a WebP as a WebP",
+        bytes: LOSSY_WEBP,
+        kind: ImageType::Webp,
+        answer: Ok((16, 8)),
+        taken: 8,
+    },
+    ReadAs {
+        shows: "no bytes as a GIF",
+        bytes: b"",
+        kind: ImageType::Gif,
+        answer: Err("failed to fill whole buffer"),
+        taken: 0,
+    },
+    ReadAs {
+        shows: "a DDS as an ATC texture in one",
+        bytes: DDS,
+        kind: ImageType::Atc(AtcCompression::Rgb),
+        answer: Ok((7, 5)),
+        taken: 12,
+    },
+    ReadAs {
+        shows: "a GIF as an ATC texture",
+        bytes: GIF,
+        kind: ImageType::Atc(AtcCompression::Unknown),
+        answer: Ok((100, 6578489)),
+        taken: 12,
+    },
+    ReadAs {
+        shows: "an icon of which no entry is whole",
+        bytes: b"\0\0\x01\0\x01\0\x10",
+        kind: ImageType::Ico,
+        answer: Err("Hit end of file before finding size"),
+        taken: 3,
+    },
+    ReadAs {
+        shows: "an icon that is cut within its count",
+        bytes: b"\0\0\x01\0\x01",
+        kind: ImageType::Ico,
+        answer: Err("failed to fill whole buffer"),
+        taken: 1,
+    },
+    ReadAs {
+        shows: "a first line that is longer than the identifier of an HDR",
+        bytes: b"#?RGBE1234567\n",
+        kind: ImageType::Hdr,
+        answer: Err("Delimiter not found within 11 bytes"),
+        taken: 11,
+    },
+    ReadAs {
+        shows: "a first line that is no identifier of an HDR",
+        bytes: PNM_WITH_A_COMMENT,
+        kind: ImageType::Hdr,
+        answer: Err("Invalid HDR format identifier"),
+        taken: 3,
+    },
+];
+
+fn read_as() -> &'static [ReadAs] {
+    &READ_AS
+}
+
+// Whether a size is the wanted one, or a refusal has the wanted text.
+fn is_answer(
     alloc: Global,
     wanted: Wanted<'_>,
     answer: &ImageResult<ImageSize>,
 ) -> Result<bool, AllocError> {
     match answer {
         Ok(size) => Ok(wanted == Ok((size.width, size.height))),
-        Err(error) => is_refusal(alloc, wanted, error),
+        Err(error) => Ok(wanted == Err(error.to_string(alloc)?.as_str())),
     }
-}
-
-fn is_refusal(alloc: Global, wanted: Wanted<'_>, error: &ImageError) -> Result<bool, AllocError> {
-    let text = error.to_string(alloc)?;
-    Ok(wanted == Err(text.as_str()))
-}
-
-// Whether a type is the wanted one, or its refusal has the wanted text.
-fn is_type(
-    alloc: Global,
-    row: &Row<'_>,
-    found: &ImageResult<ImageType>,
-) -> Result<bool, AllocError> {
-    match found {
-        Ok(kind) => Ok(row.kind == Some(*kind)),
-        Err(error) => Ok(row.kind.is_none() && is_refusal(alloc, row.answer, error)?),
-    }
-}
-
-fn is_probed(alloc: Global, row: &Row<'_>, probed: &Probed) -> Result<bool, AllocError> {
-    Ok(
-        row.kind == probed.kind
-            && row.taken == probed.taken
-            && is_answer(alloc, row.answer, &probed.answer)?,
-    )
-}
-
-// The calls on the slices of these inputs have their answers.
-fn check_slices(rt: &(impl Abort + AllocGlobal), rows: &[Row<'_>]) -> Result<(), Fail> {
-    let alloc = rt.alloc();
-    for row in rows {
-        let shows = row.shows;
-        assert!(rt; is_type(alloc, row, &image_type(row.bytes))?, "{shows}");
-        assert!(rt;
-            is_answer(alloc, row.answer, &blob_size(row.bytes))?,
-            "{shows}"
-        );
-    }
-    Ok(())
-}
-
-#[test]
-fn slices_have_the_worked_answers(rt: HostRuntime) -> Result<(), Fail> {
-    for rows in tables() {
-        check_slices(&rt, rows)?;
-    }
-    Ok(())
-}
-
-// The calls on readers of an input have its answers; each call is given one of them.
-fn check_readers<R: Told>(
-    rt: &(impl Abort + AllocGlobal),
-    row: &Row<'_>,
-    of_type: R,
-    of_size: R,
-    mut of_both: R,
-) -> Result<(), Fail> {
-    let alloc = rt.alloc();
-    let shows = row.shows;
-    assert!(rt; is_type(alloc, row, &reader_type(of_type))?, "{shows}");
-    assert!(rt;
-        is_answer(alloc, row.answer, &reader_size(of_size))?,
-        "{shows}"
-    );
-    assert!(rt;
-        is_probed(alloc, row, &reader_probe(&mut of_both))?,
-        "{shows}"
-    );
-    Ok(())
-}
-
-fn check_cursors(rt: &(impl Abort + AllocGlobal), rows: &[Row<'_>]) -> Result<(), Fail> {
-    for row in rows {
-        let cursor = || Cursor::new(row.bytes);
-        check_readers(rt, row, cursor(), cursor(), cursor())?;
-    }
-    Ok(())
-}
-
-#[test]
-fn readers_have_the_worked_answers(rt: HostRuntime) -> Result<(), Fail> {
-    for rows in tables() {
-        check_cursors(&rt, rows)?;
-    }
-    Ok(())
-}
-
-fn check_one_byte(rt: &(impl Abort + AllocGlobal), rows: &[Row<'_>]) -> Result<(), Fail> {
-    for row in rows {
-        let reader = || OneByte {
-            reader: Cursor::new(row.bytes),
-        };
-        check_readers(rt, row, reader(), reader(), reader())?;
-    }
-    Ok(())
-}
-
-#[test]
-fn one_byte_a_read_changes_no_answer(rt: HostRuntime) -> Result<(), Fail> {
-    for rows in tables() {
-        check_one_byte(&rt, rows)?;
-    }
-    Ok(())
-}
-
-fn check_pieces(
-    rt: &(impl Abort + AllocGlobal),
-    rows: &[Row<'_>],
-    lengths: &[usize],
-) -> Result<(), Fail> {
-    for row in rows {
-        let reader = || Cutting {
-            reader: Cursor::new(row.bytes),
-            lengths,
-            next: 0,
-        };
-        check_readers(rt, row, reader(), reader(), reader())?;
-    }
-    Ok(())
-}
-
-#[test]
-fn pieces_of_any_length_change_no_answer(rt: HostRuntime) -> Result<(), Fail> {
-    for rows in tables() {
-        check_pieces(&rt, rows, &[3, 1, 4, 1, 5, 9, 2, 6])?;
-        check_pieces(&rt, rows, &[11, 7, 1])?;
-        check_pieces(&rt, rows, &[13, 2])?;
-    }
-    Ok(())
-}
-
-#[test]
-fn the_first_bytes_tell_the_kind(rt: HostRuntime) -> Result<(), Fail> {
-    for row in kinds() {
-        let shows = row.shows;
-        assert_eq!(rt; image_type(row.bytes)?, row.kind, "{shows}");
-        assert_eq!(rt; reader_type(Cursor::new(row.bytes))?, row.kind, "{shows}");
-        let reader = OneByte {
-            reader: Cursor::new(row.bytes),
-        };
-        assert_eq!(rt; reader_type(reader)?, row.kind, "{shows}");
-    }
-    Ok(())
-}
-
-// An input with other bytes behind it.
-fn followed(alloc: Global, bytes: &[u8], behind: &[u8]) -> Result<Vec<u8>, AllocError> {
-    let mut all = Vec::new(alloc);
-    all.extend_from_slice(bytes)?;
-    all.extend_from_slice(behind)?;
-    Ok(all)
-}
-
-// Whether bytes that follow may change a size of this type.
-fn may_change(kind: Option<ImageType>) -> bool {
-    matches!(
-        kind,
-        Some(ImageType::Heif(_) | ImageType::Ico | ImageType::Tga)
-    )
-}
-
-fn check_followed(
-    rt: &(impl Abort + AllocGlobal),
-    rows: &[Row<'_>],
-    behind: &[u8],
-) -> Result<(), Fail> {
-    let alloc = rt.alloc();
-    for row in rows {
-        if row.answer.is_ok() && !may_change(row.kind) {
-            let bytes = followed(alloc, row.bytes, behind)?;
-            assert!(rt;
-                is_answer(alloc, row.answer, &blob_size(bytes.as_slice()))?,
-                "{}",
-                row.shows
-            );
-        }
-    }
-    Ok(())
-}
-
-#[test]
-fn bytes_that_follow_change_no_size(rt: HostRuntime) -> Result<(), Fail> {
-    for rows in tables() {
-        check_followed(&rt, rows, &[0xFF])?;
-        check_followed(&rt, rows, &[0; 1000])?;
-    }
-    Ok(())
 }
 
 #[test]
@@ -242,7 +134,7 @@ fn check_size_as(
             is_answer(alloc, wanted, &kind.reader_size(&mut cursor))?,
             "{bytes:?}"
         );
-        let mut reader = OneByte { reader: cursor };
+        let mut reader = Cutting::one_byte(cursor);
         assert!(rt;
             is_answer(alloc, wanted, &kind.reader_size(&mut reader))?,
             "{bytes:?}"
@@ -251,20 +143,28 @@ fn check_size_as(
     Ok(())
 }
 
-fn check_own_sizes(rt: &(impl Abort + AllocGlobal), rows: &[Row<'_>]) -> Result<(), Fail> {
-    for row in rows {
-        if let Some(kind) = row.kind {
-            check_size_as(rt, row.bytes, kind, row.answer)?;
-        }
+// A type reads a size from the parts of an input, a byte at a time, by no more bytes than a reader gives for it.
+fn check_parts_as(rt: &(impl Abort + AllocGlobal), row: &ReadAs) -> Result<(), Fail> {
+    let alloc = rt.alloc();
+    let fetched = fetch(alloc, &row.kind, row.bytes, How::OneByte)
+        .ok()
+        .expect(rt, "an answer");
+    let shows = row.shows;
+    assert!(rt; is_answer(alloc, row.answer, &fetched.found)?, "{shows}");
+    assert!(rt; fetched.bytes as u64 <= row.taken, "{shows}");
+    Ok(())
+}
+
+#[test]
+fn parts_are_read_as_another_type(rt: HostRuntime) -> Result<(), Fail> {
+    for row in read_as() {
+        check_parts_as(&rt, row)?;
     }
     Ok(())
 }
 
 #[test]
 fn a_type_reads_its_size_wherever_the_reader_stands(rt: HostRuntime) -> Result<(), Fail> {
-    for rows in tables() {
-        check_own_sizes(&rt, rows)?;
-    }
     for row in read_as() {
         check_size_as(&rt, row.bytes, row.kind, row.answer)?;
     }

@@ -1,18 +1,11 @@
 //! How many bytes are taken, and which calls are made of a reader.
-ghost use Rattle.std.specs.Prelude.{None};
 
-use crate::calls::is_answer;
-use crate::rows::fixed::{GIF, TGA};
-use crate::rows::records::NESTED_JPEG;
-use crate::rows::textures::ETC2;
-use crate::rows::{Row, tables};
+use crate::inputs::{ETC2, GIF, NESTED_JPEG, TGA};
 use imagesize::{
-    ImageError, ImageType, PkmCompression, Reason, Stop, Told, reader_probe, reader_size,
-    reader_type,
+    ImageError, ImageType, PkmCompression, Reason, reader_probe, reader_size, reader_type,
 };
-use imagesize_readers::readers::{Calls, Counting, OneByte};
-use std::io::{self, Cursor, ErrorKind, SeekFrom};
-use std::process::Abort;
+use imagesize_readers::readers::{Calls, Counting, Cutting};
+use std::io::{Cursor, ErrorKind};
 use std::test::Fail;
 
 // An input that stands behind four other bytes, and from whose first byte on a reader is asked.
@@ -107,46 +100,12 @@ fn a_counting_reader_counts_what_is_taken(rt: HostRuntime) {
     }
 }
 
-// A counting reader counts what is taken of each input, and for its type no more.
-fn check_counts(rt: &(impl Abort + AllocGlobal), rows: &[Row<'_>]) -> Result<(), Fail> {
-    for row in rows {
-        let shows = row.shows;
-        let mut count = 0;
-        let reader = Counting {
-            reader: Cursor::new(row.bytes),
-            count: &mut count,
-        };
-        let answer = reader_size(reader);
-        assert!(rt; is_answer(rt.alloc(), row.answer, &answer)?, "{shows}");
-        assert_eq!(rt; count, row.taken, "{shows}");
-        let mut count = 0;
-        let reader = Counting {
-            reader: Cursor::new(row.bytes),
-            count: &mut count,
-        };
-        let found = reader_type(reader);
-        assert_eq!(rt; found.ok(), row.kind, "{shows}");
-        assert!(rt; count <= row.taken, "{shows}");
-    }
-    Ok(())
-}
-
-#[test]
-fn a_size_takes_what_is_stated_and_its_type_no_more(rt: HostRuntime) -> Result<(), Fail> {
-    for rows in tables() {
-        check_counts(&rt, rows)?;
-    }
-    Ok(())
-}
-
 #[test]
 fn one_byte_a_read_changes_no_count(rt: HostRuntime) {
     for row in taken_rows() {
         let mut count = 0;
         let mut reader = Counting {
-            reader: OneByte {
-                reader: cursor_at(row.bytes, row.place),
-            },
+            reader: Cutting::one_byte(cursor_at(row.bytes, row.place)),
             count: &mut count,
         };
         assert_eq!(rt;
@@ -257,54 +216,6 @@ fn no_call_is_made_twice(rt: HostRuntime) -> Result<(), Fail> {
         let mut made = (0, 0);
         assert!(rt; row.kind.reader_size(&mut counted(row, &mut made)).is_ok());
         assert_eq!(rt; made, row.of_size, "the size alone of {:?}", row.bytes);
-    }
-    Ok(())
-}
-
-// Does what another reader does, and keeps the greatest place that it was sent to.
-#[derive(Drop)]
-struct Sent<'a, R: Told> {
-    reader: R,
-    greatest: &'a mut u64,
-}
-
-impl<R: Told> Told for Sent<'_, R> {
-    ghost telling = { λ _. None };
-
-    ghost count = { λ _. None };
-
-    fn read_told(&mut self, room: &mut [u8]) -> Result<usize, Stop> {
-        self.reader.read_told(room)
-    }
-
-    fn seek_told(&mut self, to: SeekFrom) -> io::Result<u64> {
-        if let SeekFrom::Start(place) = to {
-            *self.greatest = place.max(*self.greatest);
-        }
-        self.reader.seek_told(to)
-    }
-}
-
-// A size is read from each input without a seek behind its end.
-fn check_places(rt: &(impl Abort + AllocGlobal), rows: &[Row<'_>]) -> Result<(), Fail> {
-    for row in rows {
-        let shows = row.shows;
-        let mut greatest = 0;
-        let reader = Sent {
-            reader: Cursor::new(row.bytes),
-            greatest: &mut greatest,
-        };
-        let answer = reader_size(reader);
-        assert!(rt; is_answer(rt.alloc(), row.answer, &answer)?, "{shows}");
-        assert!(rt; greatest <= row.bytes.len() as u64, "{shows}: {greatest}");
-    }
-    Ok(())
-}
-
-#[test]
-fn no_reader_is_sent_behind_its_end(rt: HostRuntime) -> Result<(), Fail> {
-    for rows in tables() {
-        check_places(&rt, rows)?;
     }
     Ok(())
 }

@@ -1,53 +1,81 @@
-//! Worked inputs with their answers, over slices and over readers of all kinds. The program prints the size of
-//! each file that is named.
+//! Worked inputs with their answers, over slices and over readers of all kinds. The program prints the size of each file
+//! that is named, and of a table of worked inputs each row that has not its answer everywhere.
 #![tactic(auto)]
 
 #[cfg(test)]
 mod calls;
+mod checks;
 #[cfg(test)]
 mod counts;
 #[cfg(test)]
 mod failures;
 #[cfg(test)]
 mod files;
-#[cfg(test)]
-mod heif;
-#[cfg(test)]
-mod jxl;
-#[cfg(test)]
-mod long;
-#[cfg(test)]
-mod memory;
+mod inputs;
 #[cfg(test)]
 mod parts;
 #[cfg(test)]
 mod queries;
 #[cfg(test)]
-mod rows;
-#[cfg(test)]
 mod strange;
-#[cfg(test)]
-mod texts;
-#[cfg(test)]
-mod tiff;
+mod table;
 pub mod told;
-#[cfg(test)]
-mod traces;
 #[cfg(test)]
 mod types;
 
+use crate::checks::check;
+use crate::inputs::is_named;
+use crate::table::{Wrong, row_of};
 use imagesize::{ImageSize, size};
-use std::{env, io};
+use std::alloc::Global;
+use std::rt::Files;
+use std::{env, fs, io};
 
-// Prints the size of each file that is named, or why it has none.
+// Prints what is found of each file that is named.
 fn main(rt: HostRuntime) -> io::Result<()> {
     let mut names = env::args(&rt)?;
     let _program = names.next();
     for name in names {
-        match size(&rt, rt.alloc(), name.as_str()) {
-            Ok(ImageSize { width, height }) => println!(rt; "{width}x{height}")?,
-            Err(error) => println!(rt; "{error}")?,
+        if name.as_str().ends_with(".tsv") {
+            print_table(&rt, name.as_str())?;
+        } else {
+            print_size(&rt, name.as_str())?;
         }
     }
     Ok(())
+}
+
+// Prints the size of a file, or why it has none.
+fn print_size(rt: &(impl Files + Print + AllocGlobal), name: &str) -> io::Result<()> {
+    match size(rt, rt.alloc(), name) {
+        Ok(ImageSize { width, height }) => println!(rt; "{width}x{height}"),
+        Err(error) => println!(rt; "{error}"),
+    }
+}
+
+// Prints each row of a table that fails, and how many rows there are; the tests name some of them.
+fn print_table(rt: &(impl Files + Print + AllocGlobal), name: &str) -> io::Result<()> {
+    let text = fs::read_to_string(rt, name)?;
+    let mut at = 0u64;
+    let mut rows = 0u64;
+    let mut named = 0u64;
+    for line in text.as_str().lines() {
+        at = at.saturating_add(1);
+        if line.starts_with('#') {
+            continue;
+        }
+        rows = rows.saturating_add(1);
+        match check_line(rt.alloc(), line) {
+            Ok(is_named) => named = named.saturating_add(is_named as u64),
+            Err(wrong) => println!(rt; "{name}, line {at}: {wrong}")?,
+        }
+    }
+    println!(rt; "{rows} worked inputs, of which tests name {named}")
+}
+
+// Checks the worked input of a line, and returns whether a test names it.
+fn check_line(alloc: Global, line: &str) -> Result<bool, Wrong> {
+    let row = row_of(alloc, line)?;
+    check(alloc, &row)?;
+    Ok(is_named(&row.bytes))
 }

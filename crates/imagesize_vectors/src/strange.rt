@@ -1,10 +1,10 @@
 //! What is returned of readers that lie about their length, stand behind it, or never end.
 
-use crate::rows::fixed::GIF;
+use crate::inputs::GIF;
 use imagesize::{
     ImageError, ImageResult, ImageSize, ImageType, Reason, reader_probe, reader_size, reader_type,
 };
-use imagesize_readers::readers::{Calls, Claiming, Counting, Elsewhere, Endless};
+use imagesize_readers::readers::{Calls, Claiming, Counting, Endless};
 use std::io::Cursor;
 use std::test::Fail;
 
@@ -22,6 +22,7 @@ fn bytes_behind_the_told_length_are_the_end(rt: HostRuntime) -> Result<(), Fail>
     let claiming = || Claiming {
         reader: Cursor::new(GIF),
         told: 0,
+        goes_there: true,
     };
     let probed = reader_probe(&mut claiming());
     assert!(rt; is_end(&probed.answer));
@@ -35,9 +36,10 @@ fn bytes_behind_the_told_length_are_the_end(rt: HostRuntime) -> Result<(), Fail>
 
 #[test]
 fn a_call_goes_back_to_a_place_that_is_the_told_length(rt: HostRuntime) -> Result<(), Fail> {
-    let elsewhere = || Elsewhere {
+    let elsewhere = || Claiming {
         reader: Cursor::new(GIF),
         told: 0,
+        goes_there: false,
     };
     let probed = reader_probe(&mut elsewhere());
     assert!(rt; is_end(&probed.answer));
@@ -54,6 +56,7 @@ fn the_greatest_told_lengths_change_no_answer(rt: HostRuntime) -> Result<(), Fai
         let claiming = || Claiming {
             reader: Cursor::new(GIF),
             told,
+            goes_there: true,
         };
         assert_eq!(rt; reader_type(claiming())?, ImageType::Gif);
         assert_eq!(rt; reader_size(claiming())?, GIF_SIZE);
@@ -70,6 +73,7 @@ fn a_read_that_gives_nothing_is_the_last(rt: HostRuntime) {
         let claiming = || Claiming {
             reader: Cursor::new(bytes),
             told: 100,
+            goes_there: true,
         };
         let mut made = (0, 0);
         let reader = Calls {
@@ -123,7 +127,7 @@ struct Stream {
     kind: ImageType,
 }
 
-static STREAMS: [Stream; 2] = [
+static STREAMS: [Stream; 5] = [
     Stream {
         head: b"\xFF\xD8",
         part: b"\xFF\xE0\0\x02",
@@ -133,6 +137,22 @@ static STREAMS: [Stream; 2] = [
         head: b"FORM\0\0\0\0ILBM",
         part: b"ANNO\0\0\0\0",
         kind: ImageType::Ilbm,
+    },
+    Stream {
+        head: b"P1",
+        part: b" ",
+        kind: ImageType::Pnm,
+    },
+    Stream {
+        head: b"#?RGBE\n",
+        part: b"\n",
+        kind: ImageType::Hdr,
+    },
+    // A BigTIFF that claims as many entries as it can, and entries of tag 0 and of field type 1.
+    Stream {
+        head: b"II+\0\x08\0\0\0\x10\0\0\0\0\0\0\0\xFF\xFF\xFF\xFF\xFF\xFF\xFF\xFF",
+        part: b"\0\0\x01\0\0\0\0\0\0\0\0\0\0\0\0\0\0\0\0\0",
+        kind: ImageType::Tiff,
     },
 ];
 
@@ -149,6 +169,7 @@ fn endless(stream: &Stream) -> Claiming<Endless<'static>> {
             place: 0,
         },
         told: 100,
+        goes_there: true,
     }
 }
 

@@ -7,11 +7,9 @@ ghost use Rattle.imagesize_source.specs.Reading.{stopped, faulted};
 ghost use Rattle.imagesize_source.specs.State.{total};
 
 #[cfg(test)]
-use crate::rows::fixed::GIF;
-#[cfg(test)]
-use crate::rows::records::NESTED_JPEG;
+use crate::inputs::{GIF, NESTED_JPEG};
 use imagesize::{ImageResult, ImageSize, ImageType, Probed, reader_probe, reader_size};
-use imagesize_readers::readers::{Counting, Cutting, Failing, Halting, Interrupted, OneByte};
+use imagesize_readers::readers::{Counting, Cutting, Failing, Halting, Interrupted};
 #[cfg(test)]
 use std::io::ErrorKind;
 use std::io::{self, Cursor};
@@ -40,14 +38,12 @@ pub fn size_in_pieces(bytes: &[u8], left: u64, error: io::Error) -> ImageResult<
     ensures { result ≡ (meaning bytes.now 0).answer }
 {
     let _length = bytes.len();
-    reader_size(OneByte {
-        reader: Halting {
-            cursor: Cursor::new(bytes),
-            left,
-            error,
-            halts: true,
-        },
-    })
+    reader_size(Cutting::one_byte(Halting {
+        cursor: Cursor::new(bytes),
+        left,
+        error,
+        halts: true,
+    }))
 }
 
 /// The size in pixels through a reader whose reads give pieces of these lengths, in bytes: that of `blob_size`, or its

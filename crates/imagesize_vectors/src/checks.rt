@@ -1,0 +1,217 @@
+//! Whether a worked input has its answer everywhere.
+
+pub mod failures;
+pub mod parts;
+pub mod readers;
+
+use crate::table::{Row, Wrong, holds};
+use imagesize::{
+    ImageError, ImageResult, ImageSize, ImageType, Span, Trace, blob_size, blob_trace, image_type,
+};
+use imagesize_readers::allocators::Refusing;
+use std::alloc::{AllocError, Allocator, Global};
+use std::fmt::Display;
+
+// An input that is longer is read by each call once, by one byte a read and by blocks, and no more.
+const LONG: usize = 5_000;
+
+/// Checks a worked input: its slice, readers of all kinds, parts, spans, and memory and calls that fail.
+pub fn check(alloc: Global, row: &Row<'_>) -> Result<(), Wrong> {
+    check_slice(alloc, row)?;
+    readers::check_whole(alloc, row)?;
+    if row.bytes.len() > LONG {
+        return Ok(());
+    }
+    readers::check_pieces(alloc, row)?;
+    readers::check_counts(alloc, row)?;
+    readers::check_places(alloc, row)?;
+    check_followed(alloc, row)?;
+    parts::check_parts(alloc, row)?;
+    if let Some(spans) = &row.spans {
+        check_trace(alloc, row, spans)?;
+        check_free_bytes(alloc, row, spans)?;
+        check_growths(alloc, row, spans)?;
+        parts::check_wanted(alloc, row, spans)?;
+    }
+    match image_type(&row.bytes) {
+        Ok(kind) => check_typed(alloc, row, kind),
+        Err(_) => Ok(()),
+    }
+}
+
+// What is checked of an input that has a type.
+fn check_typed(alloc: Global, row: &Row<'_>, kind: ImageType) -> Result<(), Wrong> {
+    readers::check_size_as(alloc, row, kind)?;
+    failures::check_failures(alloc, &row.bytes, kind)?;
+    failures::check_interruptions(alloc, &row.bytes, kind)
+}
+
+/// Whether a type is that of a row.
+pub fn is_kind(alloc: Global, row: &Row<'_>, kind: Option<ImageType>) -> Result<bool, AllocError> {
+    match kind {
+        Some(kind) => Ok(format!(in alloc; "{kind:?}")?.as_str() == row.kind),
+        None => Ok(row.kind == "-"),
+    }
+}
+
+/// Whether a size is that of a row, or a refusal has its text.
+pub fn is_answer(
+    alloc: Global,
+    row: &Row<'_>,
+    answer: &ImageResult<ImageSize>,
+) -> Result<bool, AllocError> {
+    match answer {
+        Ok(ImageSize { width, height }) => {
+            Ok(format!(in alloc; "{width}x{height}")?.as_str() == row.answer)
+        }
+        Err(error) => is_refusal(alloc, row, error),
+    }
+}
+
+fn is_refusal(alloc: Global, row: &Row<'_>, error: &ImageError) -> Result<bool, AllocError> {
+    Ok(error.to_string(alloc)?.as_str() == row.answer)
+}
+
+/// Whether a type is that of a row, or its refusal has the text of one of no type.
+pub fn is_type(
+    alloc: Global,
+    row: &Row<'_>,
+    found: &ImageResult<ImageType>,
+) -> Result<bool, AllocError> {
+    match found {
+        Ok(kind) => is_kind(alloc, row, Some(*kind)),
+        Err(error) => Ok(row.kind == "-" && is_refusal(alloc, row, error)?),
+    }
+}
+
+// The calls on a slice have the answer.
+fn check_slice(alloc: Global, row: &Row<'_>) -> Result<(), Wrong> {
+    let found = image_type(&row.bytes);
+    holds(is_type(alloc, row, &found)?, "the type of the slice")?;
+    let answer = blob_size(&row.bytes);
+    holds(is_answer(alloc, row, &answer)?, "the size of the slice")
+}
+
+// Whether bytes that follow may change a size of this type.
+fn may_change(kind: Option<ImageType>) -> bool {
+    matches!(
+        kind,
+        Some(ImageType::Heif(_) | ImageType::Ico | ImageType::Tga)
+    )
+}
+
+// Bytes that follow change no size, but of the types of which they may.
+fn check_followed(alloc: Global, row: &Row<'_>) -> Result<(), Wrong> {
+    if blob_size(&row.bytes).is_err() || may_change(image_type(&row.bytes).ok()) {
+        return Ok(());
+    }
+    check_behind(alloc, row, &[0xFF])?;
+    check_behind(alloc, row, &[0; 1000])?;
+    let mut bytes = Vec::new(alloc);
+    bytes.extend_from_slice(&row.bytes)?;
+    for behind in 0..=255u8 {
+        bytes.push(behind)?;
+        let answer = blob_size(&bytes);
+        holds(is_answer(alloc, row, &answer)?, "the size as bytes follow")?;
+    }
+    Ok(())
+}
+
+// The size is the same with these bytes behind.
+fn check_behind(alloc: Global, row: &Row<'_>, behind: &[u8]) -> Result<(), Wrong> {
+    let mut bytes = Vec::new(alloc);
+    bytes.extend_from_slice(&row.bytes)?;
+    bytes.extend_from_slice(behind)?;
+    let answer = blob_size(&bytes);
+    holds(
+        is_answer(alloc, row, &answer)?,
+        "the size with bytes behind",
+    )
+}
+
+// Whether a trace is that of a row.
+fn is_traced<A: Allocator>(
+    alloc: Global,
+    row: &Row<'_>,
+    spans: &[Span],
+    trace: &Trace<A>,
+) -> Result<bool, AllocError> {
+    Ok(
+        trace.spans.as_slice() == spans
+            && is_kind(alloc, row, trace.kind)?
+            && is_answer(alloc, row, &trace.answer)?,
+    )
+}
+
+fn check_trace(alloc: Global, row: &Row<'_>, spans: &[Span]) -> Result<(), Wrong> {
+    let trace = blob_trace(alloc, &row.bytes)?;
+    holds(is_traced(alloc, row, spans, &trace)?, "the trace")
+}
+
+/// Whether a place lies in one of the spans.
+pub fn has(spans: &[Span], place: u64) -> bool {
+    spans.iter().any(|span| span.start <= place && place - span.start < span.len)
+}
+
+// The bytes of a row, of which one is changed.
+fn changed(alloc: Global, row: &Row<'_>, place: usize) -> Result<Vec<u8>, AllocError> {
+    let mut bytes = Vec::new(alloc);
+    bytes.extend_from_slice(&row.bytes)?;
+    if let Some(byte) = bytes.get_mut(place) {
+        *byte = 255 - *byte;
+    }
+    Ok(bytes)
+}
+
+// Each byte of an input that lies in no span, changed alone, changes nothing.
+fn check_free_bytes(alloc: Global, row: &Row<'_>, spans: &[Span]) -> Result<(), Wrong> {
+    for place in 0..row.bytes.len() {
+        if !has(spans, place as u64) {
+            let bytes = changed(alloc, row, place)?;
+            let trace = blob_trace(alloc, &bytes)?;
+            holds(
+                is_traced(alloc, row, spans, &trace)?,
+                "a byte in no span changes the answer",
+            )?;
+        }
+    }
+    Ok(())
+}
+
+// How many times the memory of so many spans grows: for four at first, and then for twice as many.
+fn growths(spans: usize) -> u64 {
+    let mut room = 4usize;
+    let mut growths = if spans == 0 { 0 } else { 1u64 };
+    for _ in 0..64 {
+        if room >= spans {
+            break;
+        }
+        room = room.saturating_mul(2);
+        growths = growths.saturating_add(1);
+    }
+    growths
+}
+
+// Each growth of the spans is refused in turn: nothing is left then, and the next call has the trace.
+fn check_growths(alloc: Global, row: &Row<'_>, spans: &[Span]) -> Result<(), Wrong> {
+    let growths = growths(spans.len());
+    for turn in 0..growths {
+        let memory = Refusing::new(alloc, turn);
+        let refused = blob_trace(&memory, &row.bytes).is_err();
+        let left = memory.out();
+        holds(
+            refused && memory.has_refused() && left == 0,
+            "memory that is refused",
+        )?;
+        let trace = blob_trace(&memory, &row.bytes)?;
+        let same = is_traced(alloc, row, spans, &trace)?;
+        holds(same && memory.out() == 1, "the trace behind a refusal")?;
+    }
+    let memory = Refusing::new(alloc, growths);
+    let trace = blob_trace(&memory, &row.bytes)?;
+    let same = is_traced(alloc, row, spans, &trace)?;
+    holds(
+        same && !memory.has_refused(),
+        "memory that grows more often",
+    )
+}

@@ -1,0 +1,147 @@
+//! Readers of a worked input.
+ghost use Rattle.std.specs.Prelude.{None};
+
+use super::{is_answer, is_kind, is_type};
+use crate::table::{Row, Wrong, holds};
+use imagesize::{ImageType, Stop, Told, reader_probe, reader_size, reader_type};
+use imagesize_readers::readers::{Counting, Cutting};
+use std::alloc::{AllocError, Global};
+use std::io::{self, BufReader, Cursor, SeekFrom};
+
+// Whether the calls on readers have the answer; each call is given one of them.
+fn are_answered<R: Told>(
+    alloc: Global,
+    row: &Row<'_>,
+    of_type: R,
+    of_size: R,
+    mut of_both: R,
+) -> Result<bool, AllocError> {
+    let found = reader_type(of_type);
+    let answer = reader_size(of_size);
+    let probed = reader_probe(&mut of_both);
+    Ok(
+        is_type(alloc, row, &found)?
+            && is_answer(alloc, row, &answer)?
+            && is_kind(alloc, row, probed.kind)?
+            && is_answer(alloc, row, &probed.answer)?
+            && row.taken.is_none_or(|taken| taken == probed.taken),
+    )
+}
+
+/// A cursor, one byte a read, and a buffered reader have the answer.
+pub fn check_whole(alloc: Global, row: &Row<'_>) -> Result<(), Wrong> {
+    let cursor = || Cursor::new(row.bytes.as_slice());
+    let whole = are_answered(alloc, row, cursor(), cursor(), cursor())?;
+    holds(whole, "a reader")?;
+    let one_byte = || Cutting::one_byte(cursor());
+    let by_bytes = are_answered(alloc, row, one_byte(), one_byte(), one_byte())?;
+    holds(by_bytes, "one byte a read")?;
+    let reader = BufReader::new(alloc, cursor()).map_err(|_| Wrong::new("memory is out"))?;
+    let buffered = reader_size(reader);
+    holds(is_answer(alloc, row, &buffered)?, "a buffered reader")
+}
+
+// Whether reads that give pieces of these lengths have the answer.
+fn are_answered_by(alloc: Global, row: &Row<'_>, lengths: &[usize]) -> Result<bool, AllocError> {
+    let bytes = row.bytes.as_slice();
+    let reader = || Cutting {
+        reader: Cursor::new(bytes),
+        lengths,
+        next: 0,
+    };
+    are_answered(alloc, row, reader(), reader(), reader())
+}
+
+/// Pieces of any lengths have the answer.
+pub fn check_pieces(alloc: Global, row: &Row<'_>) -> Result<(), Wrong> {
+    holds(are_answered_by(alloc, row, &[2])?, "pieces of 2 bytes")?;
+    holds(are_answered_by(alloc, row, &[3])?, "pieces of 3 bytes")?;
+    holds(are_answered_by(alloc, row, &[7])?, "pieces of 7 bytes")?;
+    holds(
+        are_answered_by(alloc, row, &[11, 7, 1])?,
+        "pieces of 11, 7 and 1 bytes",
+    )?;
+    holds(
+        are_answered_by(alloc, row, &[13, 2])?,
+        "pieces of 13 and 2 bytes",
+    )?;
+    let many = are_answered_by(alloc, row, &[3, 1, 4, 1, 5, 9, 2, 6])?;
+    holds(many, "pieces of many lengths")
+}
+
+/// A counting reader counts what is taken, and for the type no more.
+pub fn check_counts(alloc: Global, row: &Row<'_>) -> Result<(), Wrong> {
+    let mut whole = 0;
+    let answer = reader_size(Counting {
+        reader: Cursor::new(row.bytes.as_slice()),
+        count: &mut whole,
+    });
+    holds(is_answer(alloc, row, &answer)?, "a counting reader")?;
+    holds(
+        row.taken.is_none_or(|taken| taken == whole),
+        "the count of a reader",
+    )?;
+    let mut of_type = 0;
+    let found = reader_type(Counting {
+        reader: Cursor::new(row.bytes.as_slice()),
+        count: &mut of_type,
+    });
+    holds(is_type(alloc, row, &found)?, "a counting reader's type")?;
+    holds(of_type <= whole, "the count of a reader for its type")
+}
+
+// Does what another reader does, and keeps the greatest place that it was sent to.
+#[derive(Drop)]
+struct Sent<'a, R: Told> {
+    reader: R,
+    greatest: &'a mut u64,
+}
+
+impl<R: Told> Told for Sent<'_, R> {
+    ghost telling = { λ _. None };
+
+    ghost count = { λ _. None };
+
+    fn read_told(&mut self, room: &mut [u8]) -> Result<usize, Stop> {
+        self.reader.read_told(room)
+    }
+
+    fn seek_told(&mut self, to: SeekFrom) -> io::Result<u64> {
+        if let SeekFrom::Start(place) = to {
+            *self.greatest = place.max(*self.greatest);
+        }
+        self.reader.seek_told(to)
+    }
+}
+
+/// A size is read without a seek behind the end.
+pub fn check_places(alloc: Global, row: &Row<'_>) -> Result<(), Wrong> {
+    let mut greatest = 0;
+    let answer = reader_size(Sent {
+        reader: Cursor::new(row.bytes.as_slice()),
+        greatest: &mut greatest,
+    });
+    holds(
+        is_answer(alloc, row, &answer)?,
+        "a reader whose seeks are kept",
+    )?;
+    holds(greatest <= row.bytes.len() as u64, "a seek behind the end")
+}
+
+/// The type reads the size, wherever the reader stands.
+pub fn check_size_as(alloc: Global, row: &Row<'_>, kind: ImageType) -> Result<(), Wrong> {
+    for place in [0, 4, 1000] {
+        let mut cursor = Cursor::new(row.bytes.as_slice());
+        cursor.set_position(place);
+        let answer = kind.reader_size(&mut cursor);
+        holds(is_answer(alloc, row, &answer)?, "the size by the type")?;
+        cursor.set_position(place);
+        let mut reader = Cutting::one_byte(cursor);
+        let answer = kind.reader_size(&mut reader);
+        holds(
+            is_answer(alloc, row, &answer)?,
+            "the size by the type, one byte a read",
+        )?;
+    }
+    Ok(())
+}

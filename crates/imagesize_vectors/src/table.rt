@@ -1,0 +1,144 @@
+//! The table of worked inputs: a row a line, its cells parted by tabs.
+
+use imagesize::Span;
+use std::alloc::{AllocError, AllocFailed, Global};
+use std::fmt;
+
+/// A worked input, and what is answered of it.
+#[derive(Drop)]
+pub struct Row<'a> {
+    /// What it shows.
+    pub shows: &'a str,
+    /// Its bytes.
+    pub bytes: Vec<u8>,
+    /// Its type, or `-` for none.
+    pub kind: &'a str,
+    /// Its size, as `100x100`, or its refusal.
+    pub answer: &'a str,
+    /// The spans of its readings in their order, where they are compared.
+    pub spans: Option<Vec<Span>>,
+    /// How many bytes a reader gives of it for its type and its size, where they are compared.
+    pub taken: Option<u64>,
+}
+
+/// What is wrong with a row.
+#[derive(Clone, Copy, Debug, Drop)]
+pub struct Wrong {
+    /// What it is.
+    pub what: &'static str,
+    /// How many there are, where these are too many.
+    pub count: Option<u64>,
+}
+
+impl Wrong {
+    /// This, in a row as a whole.
+    pub fn new(what: &'static str) -> Wrong {
+        Wrong { what, count: None }
+    }
+}
+
+impl From<AllocError> for Wrong {
+    fn from(_error: AllocError) -> Wrong {
+        Wrong::new("memory is out")
+    }
+}
+
+impl<T: Drop> From<AllocFailed<T>> for Wrong {
+    fn from(_error: AllocFailed<T>) -> Wrong {
+        Wrong::new("memory is out")
+    }
+}
+
+impl fmt::Display for Wrong {
+    fn fmt<W: fmt::Write>(&self, f: &mut fmt::Formatter<W>) -> fmt::Result {
+        let what = self.what;
+        match self.count {
+            Some(count) => write!(f, "{what}: {count}"),
+            None => write!(f, "{what}"),
+        }
+    }
+}
+
+/// Nothing where this is so, and else what is wrong.
+pub fn holds(is_so: bool, what: &'static str) -> Result<(), Wrong> {
+    if is_so { Ok(()) } else { Err(Wrong::new(what)) }
+}
+
+/// The row of a line.
+pub fn row_of<'a>(alloc: Global, line: &'a str) -> Result<Row<'a>, Wrong> {
+    let (shows, rest) = first_cell(line)?;
+    let (bytes, rest) = first_cell(rest)?;
+    let (kind, rest) = first_cell(rest)?;
+    let (answer, rest) = first_cell(rest)?;
+    let (spans, taken) = first_cell(rest)?;
+    Ok(Row {
+        shows,
+        bytes: bytes_of(alloc, bytes)?,
+        kind,
+        answer,
+        spans: spans_of(alloc, spans)?,
+        taken: if taken == "?" {
+            None
+        } else {
+            Some(number_of(taken)?)
+        },
+    })
+}
+
+// The first cell of some, and the others.
+fn first_cell(cells: &str) -> Result<(&str, &str), Wrong> {
+    cells
+        .split_once('\t')
+        .ok_or(Wrong::new("a row of six cells is wanted"))
+}
+
+fn number_of(text: &str) -> Result<u64, Wrong> {
+    text.parse::<u64>()
+        .ok()
+        .ok_or(Wrong::new("a number is wanted"))
+}
+
+// The bytes that a text writes: groups in hex, each with how many times it stands, or `-` for no byte.
+fn bytes_of(alloc: Global, text: &str) -> Result<Vec<u8>, Wrong> {
+    let mut bytes = Vec::new(alloc);
+    if text == "-" {
+        return Ok(bytes);
+    }
+    for group in text.split(' ') {
+        let (digits, times) = match group.split_once('*') {
+            Some((digits, times)) => (digits, number_of(times)?),
+            None => (group, 1),
+        };
+        let part = hex::decode(alloc, digits)
+            .ok()
+            .ok_or(Wrong::new("bytes in hex are wanted"))?;
+        extend_times(&mut bytes, &part, times)?;
+    }
+    Ok(bytes)
+}
+
+// Puts a part behind the bytes, so many times.
+fn extend_times(bytes: &mut Vec<u8>, part: &[u8], times: u64) -> Result<(), AllocError> {
+    for _ in 0..times {
+        bytes.extend_from_slice(part)?;
+    }
+    Ok(())
+}
+
+// The spans that a text writes, as `0+12 6+2`: `-` for none, and `?` where they are not compared.
+fn spans_of(alloc: Global, text: &str) -> Result<Option<Vec<Span>>, Wrong> {
+    let mut spans = Vec::new(alloc);
+    match text {
+        "?" => return Ok(None),
+        "-" => return Ok(Some(spans)),
+        _ => {}
+    }
+    for span in text.split(' ') {
+        let (start, len) = span.split_once('+').ok_or(Wrong::new("a span is wanted"))?;
+        spans.push(Span {
+            start: number_of(start)?,
+            len: number_of(len)?,
+        })?;
+    }
+    Ok(Some(spans))
+}
