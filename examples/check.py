@@ -2,8 +2,7 @@
 
     python3 check.py FOLDER
 
-FOLDER has the program `image` and the shared library, as `run` builds them. Each row of worked.tsv is an input in hex (`-` for no
-byte), the line that is printed of it, and its spans (`-` for none, `?` where they are not compared).
+FOLDER has the program `image`, the shared library, and the worked inputs that expand.py writes, as `run` builds them.
 """
 
 import pathlib
@@ -14,12 +13,11 @@ import tempfile
 HERE = pathlib.Path(__file__).resolve().parent
 
 
-def rows():
+def rows(out):
     """The bytes, the line and the spans of each worked input."""
-    for row in (HERE / "worked.tsv").read_text().splitlines():
-        if not row.startswith("#"):
-            data, line, spans = row.split("\t")
-            yield bytes.fromhex("" if data == "-" else data), line, spans
+    for row in pathlib.Path(out, "worked.tsv").read_text().splitlines():
+        data, line, spans = row.split("\t")
+        yield bytes.fromhex("" if data == "-" else data), line, spans
 
 
 def printed(command, names, spans):
@@ -40,7 +38,7 @@ def check_examples(out):
     with tempfile.TemporaryDirectory() as folder:
         for with_spans in (True, False):
             names, want = [], ""
-            for index, (data, line, spans) in enumerate(rows()):
+            for index, (data, line, spans) in enumerate(rows(out)):
                 if (spans != "?") == with_spans:
                     name = pathlib.Path(folder) / f"{index}.bin"
                     name.write_bytes(data)
@@ -57,7 +55,7 @@ def check_blocks(out):
     """The example that reads blocks alone prints the worked answers too."""
     with tempfile.TemporaryDirectory() as folder:
         names, want = [], ""
-        for index, (data, line, _) in enumerate(rows()):
+        for index, (data, line, _) in enumerate(rows(out)):
             name = pathlib.Path(folder) / f"{index}.bin"
             name.write_bytes(data)
             names.append(str(name))

@@ -18,10 +18,9 @@ from . import EXAMPLES
 
 def rows() -> Iterator[Tuple[bytes, str, str]]:
     """The bytes, the line and the spans of each worked input."""
-    for row in (EXAMPLES / "worked.tsv").read_text().splitlines():
-        if not row.startswith("#"):
-            data, line, spans = row.split("\t")
-            yield bytes.fromhex(data.replace("-", "")), line, spans
+    for row in (EXAMPLES / "out" / "worked.tsv").read_text().splitlines():
+        data, line, spans = row.split("\t")
+        yield bytes.fromhex(data.replace("-", "")), line, spans
 
 
 def line(call: Callable[..., imagesize.Probed], *arguments: Any) -> str:

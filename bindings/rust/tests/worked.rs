@@ -8,15 +8,15 @@ use std::path::PathBuf;
 
 /// The bytes of each worked input, and the line that is printed of it.
 fn rows() -> Vec<(Vec<u8>, String)> {
-    let path = concat!(env!("CARGO_MANIFEST_DIR"), "/../../examples/worked.tsv");
-    let text = fs::read_to_string(path).expect("the worked inputs of the repository");
-    let rows = text.lines().filter(|line| !line.starts_with('#'));
-    rows.map(|row| {
-        let mut cells = row.split('\t');
-        let mut cell = || cells.next().expect("three cells in a row");
-        (bytes(cell()), cell().to_string())
-    })
-    .collect()
+    let path = concat!(env!("CARGO_MANIFEST_DIR"), "/../../examples/out/worked.tsv");
+    let text = fs::read_to_string(path).expect("the worked inputs, which examples/run writes");
+    text.lines()
+        .map(|row| {
+            let mut cells = row.split('\t');
+            let mut cell = || cells.next().expect("three cells in a row");
+            (bytes(cell()), cell().to_string())
+        })
+        .collect()
 }
 
 /// The bytes of a text in hex, which is `-` for none.
