@@ -4,12 +4,16 @@ import { readFileSync } from 'node:fs';
 import { createServer } from 'node:http';
 import { ImageError } from '../imagesize.js';
 
+// This module alone refuses a side that no number of JavaScript holds.
+const lineHere = (line) => line.replace(/ (\d+)x(\d+)$/, (size, width, height) =>
+  Math.max(width, height) >= 2 ** 53 ? ': A side has 2^53 pixels or more' : size);
+
 /** The bytes, the line and the spans of each worked input. */
 export const worked = readFileSync(new URL('../../../examples/out/worked.tsv', import.meta.url), 'utf8')
   .split('\n')
   .filter((row) => row)
   .map((row) => row.split('\t'))
-  .map(([hex, line, spans]) => ({ bytes: Buffer.from(hex === '-' ? '' : hex, 'hex'), line, spans }));
+  .map(([hex, line, spans]) => ({ bytes: Buffer.from(hex === '-' ? '' : hex, 'hex'), line: lineHere(line), spans }));
 
 const named = ({ kind, compression }) => (compression ? `${kind}(${compression})` : kind);
 
