@@ -109,10 +109,21 @@ fn bytes_of(alloc: Global, text: &str) -> Result<Vec<u8>, Wrong> {
             Some((digits, times)) => (digits, number_of(times)?),
             None => (group, 1),
         };
-        let part = hex::decode(alloc, digits)
-            .ok()
-            .ok_or(Wrong::new("bytes in hex are wanted"))?;
+        let part = decoded(alloc, digits)?;
         extend_times(&mut bytes, &part, times)?;
+    }
+    Ok(bytes)
+}
+
+// The bytes of a group, of two digits each.
+fn decoded(alloc: Global, digits: &str) -> Result<Vec<u8>, Wrong> {
+    let mut bytes = Vec::new(alloc);
+    for pair in digits.as_bytes().chunks(2) {
+        holds(pair.len() == 2, "two digits a byte are wanted")?;
+        let byte = str::from_utf8(pair)
+            .ok()
+            .and_then(|pair| u8::from_str_radix(pair, 16).ok());
+        bytes.push(byte.ok_or(Wrong::new("bytes in hex are wanted"))?)?;
     }
     Ok(bytes)
 }
