@@ -119,7 +119,7 @@ pub(crate) fn probe<S: Source>(
     }
 }
 
-/// The type of the image in a reader's bytes, told by the twelve bytes where it stands.
+/// The type of the image in a reader's bytes, by the twelve bytes at its position.
 ///
 /// Errors: `NotSupported` where no type has these bytes, `EndOfInput` where fewer than 12 are left, and
 /// `Fault` where a call of the reader fails.
@@ -146,7 +146,7 @@ pub fn reader_type<R: Told>(mut reader: R) -> ImageResult<ImageType>
 /// The size in pixels of the image in a reader's bytes, of the type that the twelve bytes tell where it stands.
 ///
 /// Errors: those of `reader_type`, `EndOfInput` where the bytes end before the size, the refusals of the type's
-/// layout, and `BudgetSpent` where more bytes would be taken than the length that the reader told, and 64.
+/// layout, and `BudgetSpent` where more bytes would be taken than the length of the input, as its seeks say, and 64.
 ///
 /// ```
 /// use imagesize::reader_size;
@@ -168,7 +168,7 @@ pub fn reader_size<R: Told>(mut reader: R) -> ImageResult<ImageSize>
 
 /// Type and size of the image in a reader's bytes, and how many bytes were taken to find them.
 ///
-/// The errors are those of `reader_size`. The reader stands at an unstated place then, and may be used again.
+/// The errors are those of `reader_size`. The reader's position is unspecified then, and it may be used again.
 ///
 /// ```
 /// use imagesize::reader_probe;
@@ -200,9 +200,9 @@ pub fn reader_probe<R: Told>(reader: &mut R) -> Probed
 impl ImageType {
     /// The size in pixels of the image in a reader's bytes, read as this type.
     ///
-    /// The places of the size are those of the whole bytes, wherever the reader stands and whether or not the
-    /// bytes are of this type. The errors are those of `reader_size` but for the type's. The reader stands at an
-    /// unstated place then, and may be used again.
+    /// The offsets of the size count from the first byte, whatever the reader's position, and whether or not the
+    /// bytes are of this type. The errors are those of `reader_size` but for the type's. The reader's position is
+    /// unspecified then, and it may be used again.
     ///
     /// ```
     /// use imagesize::ImageType;

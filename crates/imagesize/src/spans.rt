@@ -1,4 +1,4 @@
-//! The bytes that an answer rests on, in room that the caller lends.
+//! The bytes that an answer rests on, in a buffer that the caller lends.
 ghost use Rattle.std.specs.Prelude.{◌≡◌, ◌<◌, ◌≤◌, ◌++◌, length, take, drop};
 ghost use Rattle.imagesize.specs.Meaning.{meaning};
 
@@ -6,16 +6,16 @@ use crate::Span;
 use crate::calls::probe;
 use imagesize_source::source::lent::LentSource;
 
-/// How many spans `blob_trace` has of a slice's bytes; where the room has so many, they stand at its front then, in their
-/// order. It takes no memory.
+/// The number of spans that `blob_trace` has of these bytes. Where the buffer is long enough, it begins with them, in their
+/// order. No memory is allocated.
 ///
-/// Nothing behind them changes, and nothing at all where the room has fewer.
+/// Nothing behind them changes. A buffer that is too short stays as it was.
 ///
 /// ```
 /// use imagesize::{Span, blob_spans};
 ///
-/// let mut room = [Span { start: 0, len: 0 }; 8];
-/// assert_eq!(blob_spans(b"GIF89a\x80\x02\xe0\x01\0\0", &mut room), 3);
+/// let mut buffer = [Span { start: 0, len: 0 }; 8];
+/// assert_eq!(blob_spans(b"GIF89a\x80\x02\xe0\x01\0\0", &mut buffer), 3);
 /// ```
 pub fn blob_spans(data: &[u8], room: &mut [Span]) -> usize
     ensures count { result ≡ length (meaning «data».now 0).marks }

@@ -40,7 +40,7 @@ pub trait Told: Drop {
     /// How many bytes the reader has given; or nothing.
     ghost count: { Self → Option ℕ };
 
-    /// Reads into the room, and answers how many bytes it gave.
+    /// Reads into the buffer, and returns how many bytes it gave.
     fn read_told(&mut self, room: &mut [u8]) -> Result<usize, Stop>
         ensures bound { IfOk result (λ n. n ≤ length room.new) }
         ensures told { ReadTells (telling self.old) (telling self.new) room.new result }

@@ -14,7 +14,7 @@ pub enum Reason {
     EndOfInput,
     /// A HEIF property list holds no image size (`ispe`).
     NotEnoughData,
-    /// The call has taken the input's told length and 64 bytes more, which is all that it may take.
+    /// The call has taken the length of the input and 64 bytes more, which is all that it may take.
     BudgetSpent { budget: u64 },
     /// Memory was refused.
     Memory,

@@ -108,7 +108,7 @@ pub fn read_u32<S: Source>(source: &mut S, place: u64, endian: Endian) -> Result
     })
 }
 
-/// The place so far behind another. One above 2^64 - 1 is behind the end of every input.
+/// The place at a distance behind another. One above 2^64 - 1 is behind the end of every input.
 #[inline(always)]
 pub fn place_behind(place: u64, distance: u64) -> Result<u64, Halt>
     ensures next { IfOk result (λ next. (next ≡ place + distance) × (next < 2 ^ 64)) }
@@ -121,7 +121,7 @@ pub fn place_behind(place: u64, distance: u64) -> Result<u64, Halt>
     Ok(next)
 }
 
-/// The number of the two bytes that stand so far behind a place. A place above 2^64 - 1 is behind the end of
+/// The number of the two bytes at a distance behind a place. A place above 2^64 - 1 is behind the end of
 /// every input.
 #[inline(always)]
 #[tactic(auto, using(crate::proofs::PastTheEnd::number_refused))]

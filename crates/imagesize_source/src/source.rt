@@ -21,7 +21,7 @@ pub trait Source {
     /// The error of the last call that failed.
     ghost failure: { Self → ImageError };
 
-    /// The length of the input, as it was told.
+    /// The length of the input, as it was given.
     fn told(&self) -> u64
         ensures told { result ≡ (state self.now).frame.told }
         ensures sound { Sound (state self.now) };
@@ -34,7 +34,7 @@ pub trait Source {
     fn refusal(&self, halt: Halt) -> ImageError
         ensures { result ≡ error_by (failure self.now) (state self.now).frame.budget halt };
 
-    /// Reads what is there from a place on into the room, and answers how many bytes that is, or a halt.
+    /// Reads what is there from an offset on into the buffer, and returns how many bytes that is, or a halt.
     fn read_at(&mut self, place: u64, room: &mut [u8]) -> Result<usize, Halt>
         ensures bound { IfOk result (λ n. n ≤ length room.new) }
 
@@ -44,7 +44,7 @@ pub trait Source {
             (seen (λ n. take n room.new) (with_error (failure self.new) (state self.new).frame.budget result))
             (part_read (state self.old).held.input place (length room.new)) };
 
-    /// Reads the text from a place on into the room, as far as there is room, and answers how many bytes that
+    /// Reads the text from an offset on into the buffer, as far as that goes, and returns how many bytes that
     /// is, or a halt: the white space before a word, the text, and the byte that ends it. It takes nothing behind them.
     fn read_text(&mut self, place: u64, text: Text, room: &mut [u8]) -> Result<usize, Halt>
         ensures bound { IfOk result (λ n. n ≤ length room.new) }

@@ -4,7 +4,7 @@ ghost use Rattle.std.specs.List.{position};
 ghost use Rattle.std.specs.Char.{is_ascii_whitespace};
 ghost use Rattle.imagesize_source.specs.Text.{ends, is_ended, through, text_front};
 
-/// A text, by what ends it. Where nothing ends it, it goes on to the end of the input or of the room.
+/// A text, by what ends it. Where nothing ends it, it goes on to the end of the input or of the buffer.
 #[derive(Clone, Copy, Debug, PartialEq, Eq)]
 pub enum Text {
     /// The bytes up to a delimiter, with the delimiter.

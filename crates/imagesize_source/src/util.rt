@@ -19,7 +19,7 @@ pub enum Endian {
     Big,
 }
 
-/// Reads what is there from a place on into the room, and answers how many bytes that is.
+/// Reads what is there from a place on into the buffer, and returns how many bytes that is.
 #[inline(always)]
 pub fn read_part<S: Source>(source: &mut S, place: u64, room: &mut [u8]) -> ImageResult<usize>
     ensures bound { IfOk result (λ n. n ≤ length room.new) }
@@ -30,7 +30,7 @@ pub fn read_part<S: Source>(source: &mut S, place: u64, room: &mut [u8]) -> Imag
     answered(source.read_at(place, room), source)
 }
 
-/// Reads the text from a place on into the room, as `Source::read_text`.
+/// Reads the text from a place on into the buffer, as `Source::read_text`.
 #[inline(always)]
 pub fn read_text<S: Source>(
     source: &mut S,
@@ -71,7 +71,7 @@ pub fn read_if_there<S: Source, const N: usize>(
     Ok(Some(room))
 }
 
-/// The `N` bytes so far behind a place. A place above 2^64 - 1 is behind the end of every input.
+/// The `N` bytes at a distance behind a place. A place above 2^64 - 1 is behind the end of every input.
 #[inline(always)]
 pub fn read_bytes_behind<S: Source, const N: usize>(
     source: &mut S,
@@ -84,7 +84,7 @@ pub fn read_bytes_behind<S: Source, const N: usize>(
     read_bytes::<S, N>(source, place.saturating_add(distance))
 }
 
-/// The `N` bytes so far behind a place, or none where the input ends before the last of them. A place above
+/// The `N` bytes at a distance behind a place, or none where the input ends before the last of them. A place above
 /// 2^64 - 1 is behind the end of every input.
 #[inline(always)]
 pub fn read_if_there_behind<S: Source, const N: usize>(
@@ -116,7 +116,7 @@ pub fn read_u16<S: Source>(source: &mut S, place: u64, endian: Endian) -> ImageR
     answered(halt::read_u16(source, place, endian), source)
 }
 
-/// The place so far behind another. One above 2^64 - 1 is behind the end of every input.
+/// The place at a distance behind another. One above 2^64 - 1 is behind the end of every input.
 #[inline(always)]
 pub fn place_behind(place: u64, distance: u64) -> ImageResult<u64>
     ensures next { IfOk result (λ next. (next ≡ place + distance) × (next < 2 ^ 64)) }

@@ -24,7 +24,7 @@ pub struct Word<'a> {
     pub taken: usize,
 }
 
-/// The text from a place on up to a delimiter, which stands among as many bytes as there is room for.
+/// The text from a place on up to a delimiter, which stands among as many bytes as the buffer has.
 ///
 /// # Errors
 ///
@@ -98,7 +98,7 @@ pub fn read_word<'a, S: Source>(
     word_text(&room[..count])
 }
 
-/// How many bytes the line so far behind a place takes, as `pass_line_capped`. A place above 2^64 - 1 is behind
+/// How many bytes the line at a distance behind a place takes, as `pass_line_capped`. A place above 2^64 - 1 is behind
 /// the end of every input.
 pub fn pass_line_behind<S: Source>(
     source: &mut S,
@@ -114,7 +114,7 @@ pub fn pass_line_behind<S: Source>(
     pass_line_capped(source, place.saturating_add(distance), delimiter, room)
 }
 
-/// The word so far behind a place. A place above 2^64 - 1 is behind the end of every input.
+/// The word at a distance behind a place. A place above 2^64 - 1 is behind the end of every input.
 pub fn read_word_behind<'a, S: Source>(
     source: &mut S,
     place: u64,
@@ -127,7 +127,7 @@ pub fn read_word_behind<'a, S: Source>(
     read_word(source, place.saturating_add(distance), room)
 }
 
-/// The number of the four bytes so far behind a place. A place above 2^64 - 1 is behind the end of every input.
+/// The number of the four bytes at a distance behind a place. A place above 2^64 - 1 is behind the end of every input.
 pub fn read_u32_behind<S: Source>(
     source: &mut S,
     place: u64,

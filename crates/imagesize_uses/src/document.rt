@@ -17,7 +17,7 @@ pub struct PageSize {
     pub height: u128,
 }
 
-/// The least whole points that hold an image of a known type, printed with so many pixels to the inch.
+/// The least whole points that hold an image of a known type, printed at a number of pixels to the inch.
 ///
 /// Errors: those of `ImageType::reader_size`, but that no reading fails.
 pub fn size_on_page(kind: ImageType, data: &[u8], pixels_per_inch: u32) -> ImageResult<PageSize>

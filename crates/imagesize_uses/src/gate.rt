@@ -25,7 +25,7 @@ pub struct Admission {
     pub taken: u64,
 }
 
-/// Admits the image in a reader's bytes where it has a size of at most so many pixels.
+/// Admits the image in a reader's bytes where its size has no more pixels than a limit.
 ///
 /// The reader stands at an unstated place then, and may be used again.
 pub fn admit<R: Told>(reader: &mut R, most_pixels: u64) -> Admission
@@ -54,7 +54,7 @@ fn judge(answer: ImageResult<ImageSize>, most_pixels: u64) -> Result<ImageSize, 
     }
 }
 
-/// Gives what another reader gives, until so many bytes were given: each read behind them is a fault.
+/// Gives what another reader gives, up to a number of bytes: each read behind them is a fault.
 #[derive(Drop)]
 pub struct Limited<'a, R: Told> {
     /// The other reader.
@@ -96,7 +96,7 @@ impl<R: Told> Told for Limited<'_, R> {
     }
 }
 
-/// Admits as `admit` does an upload that is said to be so many bytes long, and takes no more than these and 64,
+/// Admits as `admit` does an upload that is said to have this length, and takes no more than these and 64,
 /// whatever the reader does. Where it gives more and the size was not found in these, the refusal is a fault.
 pub fn admit_within<R: Told>(reader: &mut R, length: u64, most_pixels: u64) -> Admission
     ensures admits { Admits (may_fail (R.telling reader.old)) most_pixels result }

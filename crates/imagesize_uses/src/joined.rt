@@ -78,7 +78,7 @@ fn rest_of<'a>(first: &'a [u8], second: &'a [u8], place: usize) -> &'a [u8]
     }
 }
 
-/// Copies the first bytes into the room, and answers how many that is.
+/// Copies the first bytes into the buffer, and returns how many that is.
 pub(crate) fn copy_front(bytes: &[u8], room: &mut [u8]) -> usize
     ensures count { result ≡ min (length room.old) (length bytes.now) }
     ensures copied { take result room.new ≡ take result bytes.now }

@@ -28,7 +28,7 @@ pub trait Remote {
         ensures length { result ≡ length (input self.now) }
         ensures short { result < 2 ^ 63 };
 
-    /// Fetches the bytes from a place on into the room, and answers how many came.
+    /// Fetches the bytes from an offset on into the buffer, and returns how many came.
     fn fetch(&mut self, place: u64, room: &mut [u8]) -> io::Result<usize>
         ensures bound { IfOk result (λ n. n ≤ length room.new) }
         ensures bytes { IfOk result (λ n. take n room.new ≡ part (input self.old) place n) }
@@ -114,7 +114,7 @@ fn fetch_part<A: Allocator, R: Remote>(
     }
 }
 
-/// An input in memory as one that is fetched: each fetch gives at most so many bytes, and after so many fetches each fails.
+/// An input in memory as one that is fetched: a fetch gives no more bytes than a limit, and after a number of fetches each fails.
 #[derive(Drop)]
 pub struct Held<'a> {
     bytes: &'a [u8],

@@ -40,7 +40,7 @@ pub struct Texture {
 }
 
 /// The texture that a file's bytes hold, where it is compressed as is wanted and each of its sides is a power of two
-/// of at most so many pixels.
+/// of no more pixels than a limit.
 ///
 /// Errors: the first flaw of the type, of its compression, of the size and of the sides.
 pub fn check_texture(
@@ -71,14 +71,14 @@ pub fn check_texture(
     })
 }
 
-// Whether each side is a power of two of at most so many pixels.
+// Whether each side is a power of two of no more pixels than a limit.
 fn has_sides(size: ImageSize, most_side: usize) -> bool
     ensures { IsTrue result ↔ HasSides most_side size }
 {
     is_side(size.width, most_side) && is_side(size.height, most_side)
 }
 
-// Whether a side is a power of two of at most so many pixels.
+// Whether a side is a power of two of no more pixels than a limit.
 fn is_side(side: usize, most_side: usize) -> bool
     ensures { IsTrue result ↔ (IsTrue (is_power_of_two side) × (side ≤ most_side)) }
 {

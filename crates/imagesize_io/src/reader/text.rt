@@ -13,7 +13,7 @@ use imagesize_source::source::Source;
 use imagesize_source::text::is_end;
 use imagesize_source::{Halt, Text};
 
-/// Reads the text from a place on into the room, as far as there is room, and takes nothing behind it.
+/// Reads the text from a place on into the buffer, as far as that goes, and takes nothing behind it.
 pub(super) fn read_text<R: Told>(
     source: &mut ReaderSource<'_, R>,
     place: u64,

@@ -19,7 +19,7 @@ use crate::{Halt, ImageError, Reason, Span, Text};
 pub struct LentSource<'a, 'b> {
     /// The bytes that are read.
     pub bytes: &'a [u8],
-    /// The room for the spans: the first of them stand at its front.
+    /// The buffer for the spans, which begins with the first of them.
     pub room: &'b mut [Span],
     /// How many spans there are.
     pub count: usize,

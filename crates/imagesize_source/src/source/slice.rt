@@ -51,7 +51,7 @@ impl Source for SliceSource<'_> {
     }
 }
 
-/// Copies what is there of the bytes from a place on into the room, and answers how many that is.
+/// Copies what is there of the bytes from an offset on into the buffer, and returns how many that is.
 #[inline(always)]
 #[tactic(auto, unfolding(crate::specs::Input::part))]
 pub fn copy_part(bytes: &[u8], place: u64, room: &mut [u8]) -> usize
@@ -72,7 +72,7 @@ pub fn copy_part(bytes: &[u8], place: u64, room: &mut [u8]) -> usize
     rest.len()
 }
 
-/// What is there of the bytes from a place on, at most so many.
+/// What is there of the bytes from an offset on, up to a number of them.
 #[inline]
 #[tactic(auto, using(crate::proofs::Slices::slice_part))]
 pub(crate) fn part_of(bytes: &[u8], place: u64, most: u64) -> &[u8]
@@ -83,7 +83,7 @@ pub(crate) fn part_of(bytes: &[u8], place: u64, most: u64) -> &[u8]
     &rest[..rest.len().min(most as usize)]
 }
 
-/// The text from a place on, of at most so many bytes.
+/// The text from an offset on, up to a number of bytes.
 pub(crate) fn text_at(bytes: &[u8], place: u64, text: Text, most: usize) -> &[u8]
     ensures text { result.now ≡ text_part bytes.now text place most }
     ensures fits { length result.now ≤ most }
