@@ -3,6 +3,7 @@ use Rattle.std.specs.Prelude.{ℕ, Bool, true, false, List, Result, Ok, Err}
 use Rattle.imagesize.specs.Meaning.{kind_of, meaning, way_of}
 use Rattle.imagesize.specs.declared.types.ImageType.{ImageType}
 use Rattle.imagesize.specs.declared.types.ImageType.TheVariants.{Atc, Dds, Exr, Heif, Ico, Ilbm, Jpeg, Jxl, Pvrtc, Tga, Tiff}
+use Rattle.imagesize_source.specs.Limits.{stated_fixed}
 use Rattle.imagesize_source.specs.State.{total}
 use Rattle.imagesize_source.specs.Way.{most_by, stated_by}
 use Rattle.imagesize_source.specs.declared.error.ImageError.{ImageError}
@@ -15,7 +16,7 @@ cost d place = total (meaning d place).marks
 -- a size behind records, and 64 more than the input has of a text.
 abbrev pub stated_as : Result ImageType ImageError → List ℕ → ℕ
 stated_as (Ok type) d = stated_by (way_of type) d
-stated_as (Err _) d = 41
+stated_as (Err _) d = stated_fixed
 
 abbrev pub stated : List ℕ → ℕ → ℕ
 stated d place = stated_as (kind_of d place).answer d

@@ -7,6 +7,7 @@ use Rattle.imagesize.specs.Short.{EndsAs}
 use Rattle.imagesize_types.specs.declared.size.ImageSize.{ImageSize}
 use Rattle.imagesize.specs.declared.types.ImageType.{ImageType}
 use Rattle.imagesize.specs.declared.calls.Probed.{Probed}
+use Rattle.imagesize_source.specs.Limits.{allowance}
 use Rattle.imagesize_source.specs.declared.error.ImageError.{ImageError}
 use Rattle.imagesize_io.specs.Answers.{AnswersAs, TakesAs, over_reader}
 use Rattle.imagesize_source.specs.Reading.{stopped}
@@ -19,7 +20,7 @@ pub record FindsKind (a : State) (place : ℕ) (found : Option ImageType) (r : R
   pub whole : a.held.honest ≡ true → stopped r ≡ false → found ≡ result_ok (kind_of a.held.input place).answer
 
 -- Over an honest reader the answer is that of the layouts or a failure, the type named beside it is right, and the
--- bytes taken are those of their readings, at most as many as are stated, and 64 more than the input has. What is too short
+-- bytes taken are those of their readings, at most as many as are stated, and the allowance more than the input has. What is too short
 -- for a type ends there.
 pub record ProbesOf (t : Telling) (probed : Probed) : Type 0 where
   pub answer : AnswersAs t (over_reader t meaning) probed.answer
@@ -27,13 +28,13 @@ pub record ProbesOf (t : Telling) (probed : Probed) : Type 0 where
   pub right : IfSome probed.kind (λ type. (over_reader t kind_of).answer ≡ Ok type)
   pub whole : stopped probed.answer ≡ false → probed.kind ≡ result_ok (over_reader t kind_of).answer
   pub stated : probed.taken ≤ stated t.bytes t.place
-  pub within : probed.taken ≤ length t.bytes + 64
+  pub within : probed.taken ≤ length t.bytes + allowance
   pub short : EndsAs t probed.answer
 
 abbrev pub Probes : Option Telling → Probed → Type 0
 Probes None probed = Unit {0}
 Probes (Some t) probed = IsHonest t → ProbesOf t probed
 
--- a budget of at least 64 was spent, and a named count rose by all of it
+-- a budget of at least the allowance was spent, and a named count rose by all of it
 abbrev pub SpentAll : Option ℕ → Option ℕ → ℕ → Type 0
-SpentAll before after budget = (64 ≤ budget) × (after ≡ option_map (λ count. count + budget) before)
+SpentAll before after budget = (allowance ≤ budget) × (after ≡ option_map (λ count. count + budget) before)

@@ -1,6 +1,7 @@
 //! The calls: type and size of a slice's bytes, or of a reader's.
 ghost use Rattle.std.specs.Prelude.{◌≡◌, ℕ, ◌+◌, ◌<◌, ◌≤◌, List, length, ◌++◌, IsTrue, IfOk, IfErr, IfSome, IsSome, Some, true, false, Option, Ok, Err, option_map};
 ghost use Rattle.imagesize_io.specs.Answers.{Answers, Counts};
+ghost use Rattle.imagesize_source.specs.Limits.{allowance};
 ghost use Rattle.imagesize_source.specs.Reading.{end_of_input, is_fault, is_memory, spent, stopped};
 ghost use Rattle.imagesize_source.specs.State.{Runs};
 ghost use Rattle.imagesize_io.specs.ReaderState.{Opens};
@@ -83,7 +84,7 @@ pub fn blob_size(data: &[u8]) -> ImageResult<ImageSize>
     ensures most { (place : ℕ) → cost «data».now place ≤ most «data».now place }
 
     // Every size, and every refusal, is read from at most 64 bytes more than there are.
-    ensures within { (place : ℕ) → cost «data».now place ≤ length «data».now + 64 }
+    ensures within { (place : ℕ) → cost «data».now place ≤ length «data».now + allowance }
 
     // Bytes that follow change no size, but those of HEIF, of icons and of TGA.
     ensures lasts { IsTrue (lasts_as (kind_of «data».now 0).answer) → IfOk result (λ size.
@@ -137,7 +138,7 @@ pub fn reader_type<R: Told>(mut reader: R) -> ImageResult<ImageType>
     ensures memory { IfErr result (λ e. is_memory e ≡ false) }
 
     // The budget that is spent is the length that was told, and 64.
-    ensures spent { IfErr result (λ e. IfSome (spent e) (λ budget. 64 ≤ budget)) }
+    ensures spent { IfErr result (λ e. IfSome (spent e) (λ budget. allowance ≤ budget)) }
 {
     let opened = open_at_place(&mut reader)?;
     type_opened(&mut reader, opened)
@@ -161,7 +162,7 @@ pub fn reader_size<R: Told>(mut reader: R) -> ImageResult<ImageSize>
     ensures memory { IfErr result (λ e. is_memory e ≡ false) }
 
     // The budget that is spent is the length that was told, and 64.
-    ensures spent { IfErr result (λ e. IfSome (spent e) (λ budget. 64 ≤ budget)) }
+    ensures spent { IfErr result (λ e. IfSome (spent e) (λ budget. allowance ≤ budget)) }
 {
     reader_probe(&mut reader).answer
 }
@@ -184,7 +185,7 @@ pub fn reader_probe<R: Told>(reader: &mut R) -> Probed
     // Over every reader, also one that tells nothing or lies:
     ensures typed { IfOk result.answer (λ _. IsSome result.kind) }
     ensures counts { R.count reader.new ≡ option_map (λ c. c + result.taken) (R.count reader.old) }
-    ensures spent { IfErr result.answer (λ e. IfSome (spent e) (λ budget. (budget ≡ result.taken) × (64 ≤ budget))) }
+    ensures spent { IfErr result.answer (λ e. IfSome (spent e) (λ budget. (budget ≡ result.taken) × (allowance ≤ budget))) }
     ensures memory { IfErr result.answer (λ e. is_memory e ≡ false) }
 {
     match open_at_place(reader) {
@@ -231,7 +232,7 @@ fn type_opened<R: Told>(reader: &mut R, opened: Opened) -> ImageResult<ImageType
         → Answers telling kind_of result }
     ensures short { (telling : Option Telling) → Opens telling (R.telling reader.old) (Ok opened) → Ends telling result }
     ensures memory { IfErr result (λ e. is_memory e ≡ false) }
-    ensures spent { IfErr result (λ e. IfSome (spent e) (λ budget. 64 ≤ budget)) }
+    ensures spent { IfErr result (λ e. IfSome (spent e) (λ budget. allowance ≤ budget)) }
 {
     detect(&mut ReaderSource::new(reader, opened.told), opened.place)
 }
@@ -256,7 +257,7 @@ fn probe_opened<R: Told>(reader: &mut R, opened: Opened) -> Probed
     ensures probes { (telling : Option Telling) → Opens telling (R.telling reader.old) (Ok opened) → Probes telling result }
     ensures typed { IfOk result.answer (λ _. IsSome result.kind) }
     ensures counts { R.count reader.new ≡ option_map (λ c. c + result.taken) (R.count reader.old) }
-    ensures spent { IfErr result.answer (λ e. IfSome (spent e) (λ budget. (budget ≡ result.taken) × (64 ≤ budget))) }
+    ensures spent { IfErr result.answer (λ e. IfSome (spent e) (λ budget. (budget ≡ result.taken) × (allowance ≤ budget))) }
     ensures memory { IfErr result.answer (λ e. is_memory e ≡ false) }
 {
     let mut source = ReaderSource::new(reader, opened.told);

@@ -3,6 +3,7 @@ ghost use Rattle.std.specs.Prelude.{◌≡◌, ℕ, ◌+◌, ◌≤◌, ◌++◌
 ghost use Rattle.imagesize.specs.Counts.{lasts_as, stated};
 ghost use Rattle.imagesize.specs.Meaning.{kind_of, meaning};
 ghost use Rattle.imagesize.specs.Traced.{IsSame, Traces, lacks_memory};
+ghost use Rattle.imagesize_source.specs.Limits.{allowance};
 ghost use Rattle.imagesize_source.specs.Agreement.{Agrees};
 ghost use Rattle.imagesize_source.specs.State.{total};
 
@@ -45,7 +46,7 @@ pub fn blob_trace<A: Allocator>(alloc: A, data: &[u8]) -> Result<Trace<A>, Alloc
 
     // The spans are together at most as long as is stated, and as there are bytes and 64 more.
     ensures stated { IfOk result (λ t. total t.spans.items ≤ stated «data».now 0) }
-    ensures within { IfOk result (λ t. total t.spans.items ≤ length «data».now + 64) }
+    ensures within { IfOk result (λ t. total t.spans.items ≤ length «data».now + allowance) }
 
     // Bytes that follow change no size, but those of HEIF, of icons and of TGA.
     ensures lasts { IsTrue (lasts_as (kind_of «data».now 0).answer) → IfOk result (λ t. IfOk t.answer (λ size.

@@ -2,6 +2,7 @@
 use Rattle.std.specs.Prelude.{◌≡◌, ℕ, ◌+◌, ◌≤◌, nat_le, false, true, length, if◌then◌else◌, Option, None, Some, Result, Ok, Err, IfOk, option_map}
 use Rattle.imagesize.specs.Meaning.{meaning}
 use Rattle.imagesize_io.specs.Answers.{over_reader}
+use Rattle.imagesize_source.specs.Limits.{allowance}
 use Rattle.imagesize_source.specs.Reading.{is_fault}
 use Rattle.imagesize_io.specs.Telling.{Telling, IsHonest}
 use Rattle.imagesize_source.specs.declared.error.ImageError.{ImageError}
@@ -30,13 +31,13 @@ IfNoSize (Err (NoSize e)) P = P e
 
 -- Over an honest reader, an image that is admitted or is too large has the size that is answered, and what is refused
 -- has no size for this reason, or a call failed. Where none fails, the verdict is that on the image. The bytes taken
--- are at most 64 more than there are.
+-- are at most the allowance more than there are.
 pub record AdmitsOf (t : Telling) (most : ℕ) (admission : Admission) : Type 0 where
   pub image : IfOk admission.verdict (λ size. (over_reader t meaning).answer ≡ Ok size)
   pub too_large : IfTooLarge admission.verdict (λ size. (over_reader t meaning).answer ≡ Ok size)
   pub refused : IfNoSize admission.verdict (λ e. is_fault e ≡ false → (over_reader t meaning).answer ≡ Err e)
   pub whole : t.can_fail ≡ false → admission.verdict ≡ verdict_of most (over_reader t meaning).answer
-  pub within : admission.taken ≤ length t.bytes + 64
+  pub within : admission.taken ≤ length t.bytes + allowance
 
 abbrev pub Admits : Option Telling → ℕ → Admission → Type 0
 Admits None most admission = Unit {0}

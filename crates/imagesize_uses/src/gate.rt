@@ -1,9 +1,11 @@
 //! A gate for uploads: an image is admitted where it has few enough pixels.
 ghost use Rattle.std.specs.Prelude.{◌≡◌, ℕ, ◌*◌, ◌+◌, ◌-◌, ◌^◌, ◌<◌, ◌≤◌, IfOk, IsErr, Some, length, option_map, take};
+ghost use Rattle.imagesize_source.specs.Limits.{allowance};
 ghost use Rattle.imagesize_io.specs.Telling.{ReadTells, SeekTells, counted};
 ghost use Rattle.imagesize_uses.specs.Gate.{Admits, IfTooLarge, may_fail, verdict_of};
 
 use imagesize::{ImageError, ImageResult, ImageSize, Stop, Told, reader_probe};
+use imagesize_io::reader::ALLOWANCE;
 use imagesize_types::size::area;
 use std::io::{self, SeekFrom};
 
@@ -104,11 +106,11 @@ pub fn admit_within<R: Told>(reader: &mut R, length: u64, most_pixels: u64) -> A
     // Over every reader, also one that lies:
     ensures few { IfOk result.verdict (λ size. size.width * size.height ≤ most_pixels) }
     ensures many { IfTooLarge result.verdict (λ size. most_pixels < size.width * size.height) }
-    ensures limit { result.taken ≤ length + 64 }
+    ensures limit { result.taken ≤ length + allowance }
 {
     let mut limited = Limited {
         reader,
-        left: length.saturating_add(64),
+        left: length.saturating_add(ALLOWANCE),
     };
     admit(&mut limited, most_pixels)
 }
