@@ -118,15 +118,6 @@ spans_written known bytes name a b (Err e) _ _ = tt
 spans_written None bytes name a b (Ok sized) _ _ = tt
 spans_written (Some files) bytes name a b (Ok sized) loads wrote = behind_read (files name) bytes name a b sized loads wrote
 
--- one is refused where one was, or where this one is
-pub refused_now : (refused sized after : Bool) → sized ≡ false → after ≡ true → after ≡ (refused || not sized)
-refused_now true sized after _ is = is
-refused_now false sized after so is = search (rules, so, is)
-
-pub refused_before : (refused sized after : Bool) → sized ≡ true → after ≡ refused → after ≡ (refused || not sized)
-refused_before true sized after _ is = is
-refused_before false sized after so is = search (rules, so, is)
-
 -- without the option the lines are exactly those of the names, where it is told what is behind them
 plain_lines : (files : Files) (spans : Bool) (names : List (List ℕ)) (old new : Option (List ℕ)) (refused : Bool) → spans ≡ false →
     WritesEach (WritesOne spans (Some files)) names old new refused → WritesLines files names old new refused

@@ -87,9 +87,8 @@ fn write_lines<O: Open, W: Write>(
 {
     let mut refused = false;
     for name in names {
-        if !write_named(alloc, spans, name.as_str(), opener, output)? {
-            refused = true;
-        }
+        let sized = write_named(alloc, spans, name.as_str(), opener, output)?;
+        refused |= !sized;
         output.flush()?;
     }
     Ok(refused)
