@@ -431,6 +431,31 @@ known_run n spans bytes run place index count so_far few is i below = elim (case
       )
 ]
 
+-- ---- what stands in the front alone, whose bytes are those from place 0 on
+
+module _ (n : ℕ) (spans : List Span) (bytes front : List ℕ)
+    (is : (i : ℕ) → i < length front → known n spans bytes i ≡ Some (get_or front i 0)) where
+  front_long : length front ≤ n
+  front_long = by_length (length front) refl where
+    by_length : (k : ℕ) → length front ≡ k → length front ≤ n
+    by_length zero none = omega (arith, none)
+    by_length (suc k) more = omega (arith, more, known_below n spans bytes k (ap is_some (is k (omega (arith, more)))))
+
+  -- all of what is asked for is there
+  pub front_fits : (place count : ℕ) → place + count ≤ length front → count ≡ min count (n - place)
+  front_fits place count fits = omega (arith, fits, front_long)
+
+  pub front_seen : (place count : ℕ) → place + count ≤ length front → (i : ℕ) → i < count → is_some (known n spans bytes (place + i)) ≡ true
+  front_seen place count fits i below = ap is_some (is (place + i) (omega (arith, fits, below)))
+
+  -- and is a part of the filled input
+  pub front_part : (found : List ℕ) (place count : ℕ) → place + count ≤ length front → found ≡ part front place count → length found ≡ count
+      → take count found ≡ part (filled n spans bytes) place count
+  front_part found place count fits at long =
+      run_part n spans bytes found place count (omega (arith, long)) (omega (arith, fits, front_long))
+      (λ i below. is (place + i) (omega (arith, fits, below, long))
+      ∙ ap Some (sym (part-at front place count i (omega (arith, below, long))) ∙ ap (λ bs. get_or bs i 0) (sym at)))
+
 -- ---- one part after another
 
 -- what is known from one part on

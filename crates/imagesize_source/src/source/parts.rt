@@ -1,9 +1,12 @@
 //! The known parts of an input as a source. A reading is answered from them, or fails and says which byte it misses.
-ghost use Rattle.std.specs.Prelude.{◌≡◌, ℕ, ◌+◌, ◌-◌, ◌<◌, ◌≤◌, ◌++◌, ◌&&◌, [], ◌∷◌, if◌then◌else◌, min, take, drop, length, slice_index, not, nat_le, nat_lt, is_some, true, false, None, Some};
+ghost use Rattle.std.specs.Prelude.{◌≡◌, ℕ, ◌+◌, ◌-◌, ◌<◌, ◌≤◌, ◌++◌, ◌&&◌, [], ◌∷◌, if◌then◌else◌, min, take, drop, length, slice_index, not, nat_le, nat_lt, is_some, true, false, None, Some, IfOk, IfSome};
 ghost use Rattle.std.specs.Option.{ForSome};
 ghost use Rattle.imagesize_source.specs.Agreement.{has_place};
 ghost use Rattle.imagesize_source.specs.Input.{part, span_at};
+ghost use Rattle.imagesize_source.specs.Halts.{with_error};
 ghost use Rattle.imagesize_source.specs.Known.{AllKnown, Lacks, filled, known, parts_state, within};
+ghost use Rattle.imagesize_source.specs.Reading.{part_read, seen};
+ghost use Rattle.imagesize_source.specs.State.{Runs};
 ghost use Rattle.imagesize_source.specs.Text.{is_ended};
 ghost use Rattle.imagesize_source.specs.declared.error.ImageError.TheVariants as error;
 ghost use Rattle.imagesize_source.specs.declared.error.Reason.TheVariants as reason;
@@ -24,12 +27,15 @@ pub struct PartsSource<'a> {
     pub bytes: &'a [u8],
     /// How many bytes the input has.
     pub told: u64,
+    /// The known bytes from place 0 on, up to the end of the first part that has it.
+    pub front: &'a [u8],
     /// What the last reading that failed misses: from the first byte that is not known to the end of what it asks for.
     pub missed: Option<Span>,
     /// What the readings saw.
     pub log: SpanLog,
     /// What a reading that fails ends the call with.
     pub fault: io::Error,
+    ghost front_known: { (i : ℕ) → i < length front.now → known told spans.now bytes.now i ≡ Some (slice_index front.now i) },
     ghost seen: { AllKnown told spans.now bytes.now log.spans },
     ghost lacks: { ForSome missed (Lacks told spans.now bytes.now) },
 }
@@ -47,6 +53,7 @@ impl<'a> PartsSource<'a> {
             spans,
             bytes,
             told,
+            front: known_from(spans, bytes, told, 0),
             missed: None,
             log: SpanLog::new(),
             fault: io::Error::from(ErrorKind::Other),
@@ -54,6 +61,7 @@ impl<'a> PartsSource<'a> {
     }
 
     // Records the places of a reading.
+    #[inline(always)]
     #[tactic(auto, unfolding(crate::specs::Input::span_at))]
     fn saw(&mut self, start: u64, count: usize)
         requires { (i : ℕ) → i < count → is_some (known self.old.told self.old.spans.now self.old.bytes.now (start + i)) ≡ true }
@@ -70,6 +78,7 @@ impl<'a> PartsSource<'a> {
     }
 
     // Records a span.
+    #[inline(always)]
     fn push(&mut self, span: Span)
         requires { (place : ℕ) → has_place span place ≡ true → is_some (known self.old.told self.old.spans.now self.old.bytes.now place) ≡ true }
         ensures spans { self.new.spans.now ≡ self.old.spans.now }
@@ -101,6 +110,32 @@ impl<'a> PartsSource<'a> {
         });
         Halt::Failed
     }
+
+    // A reading that the front has not whole.
+    #[cold]
+    #[inline(never)]
+    fn gather_at(&mut self, place: u64, room: &mut [u8]) -> Result<usize, Halt>
+        ensures bound { IfOk result (λ n. n ≤ length room.new) }
+        ensures there { IfOk result (λ n. n ≤ self.old.told - place) }
+        ensures runs { Runs (parts_state self.old.told self.old.spans.now self.old.bytes.now self.old.log.spans self.old.missed)
+            (parts_state self.new.told self.new.spans.now self.new.bytes.now self.new.log.spans self.new.missed)
+            (seen (λ n. take n room.new) (with_error (error.IoError (reason.Fault self.new.fault)) 0 result))
+            (part_read (filled self.old.told self.old.spans.now self.old.bytes.now) place (length room.new)) }
+    {
+        let wanted = there(self.told, place, room.len());
+        let found = gather(
+            self.spans,
+            self.bytes,
+            self.told,
+            place,
+            &mut room[..wanted],
+        );
+        if found < wanted {
+            return Err(self.miss(place, found, wanted - found));
+        }
+        self.saw(place, found);
+        Ok(found)
+    }
 }
 
 impl Source for PartsSource<'_> {
@@ -120,20 +155,14 @@ impl Source for PartsSource<'_> {
         halt.error(Reason::Fault(self.fault), 0)
     }
 
+    #[inline(always)]
     fn read_at(&mut self, place: u64, room: &mut [u8]) -> Result<usize, Halt> {
-        let wanted = there(self.told, place, room.len());
-        let found = gather(
-            self.spans,
-            self.bytes,
-            self.told,
-            place,
-            &mut room[..wanted],
-        );
-        if found < wanted {
-            return Err(self.miss(place, found, wanted - found));
-        }
-        self.saw(place, found);
-        Ok(found)
+        let Some(found) = whole_part(self.front, place, room.len()) else {
+            return self.gather_at(place, room);
+        };
+        room.copy_from_slice(found);
+        self.saw(place, found.len());
+        Ok(found.len())
     }
 
     fn read_text(&mut self, place: u64, text: Text, room: &mut [u8]) -> Result<usize, Halt> {
@@ -152,6 +181,24 @@ impl Source for PartsSource<'_> {
         self.saw(place, count);
         Ok(count)
     }
+}
+
+// So many bytes from a place on, where all of them are there.
+#[inline(always)]
+#[tactic(auto, unfolding(crate::specs::Input::part))]
+fn whole_part(bytes: &[u8], place: u64, count: usize) -> Option<&[u8]>
+    ensures { IfSome result (λ found. (found.now ≡ part bytes.now place count) × (length found.now ≡ count)
+        × (place + count ≤ length bytes.now)) }
+{
+    let start = place as usize;
+    if start > bytes.len() {
+        return None;
+    }
+    let rest = &bytes[start..];
+    if count > rest.len() {
+        return None;
+    }
+    Some(&rest[..count])
 }
 
 // How many of a room's bytes an input of this length has from a place on.
