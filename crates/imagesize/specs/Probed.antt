@@ -20,8 +20,8 @@ pub record FindsKind (a : State) (place : ℕ) (found : Option ImageType) (r : R
   pub whole : a.held.honest ≡ true → stopped r ≡ false → found ≡ result_ok (kind_of a.held.input place).answer
 
 -- Over an honest reader the answer is that of the layouts or a failure, the type named beside it is right, and the
--- bytes taken are those of their readings, at most as many as are stated, and the allowance more than the input has. What is too short
--- for a type ends there.
+-- bytes taken are those of their readings, at most as many as are stated, and the allowance more than the input has. What is
+-- too short for a type ends there.
 pub record ProbesOf (t : Telling) (probed : Probed) : Type 0 where
   pub answer : AnswersAs t (over_reader t meaning) probed.answer
   pub takes : TakesAs t (over_reader t meaning) probed.answer probed.taken

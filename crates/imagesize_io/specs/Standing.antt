@@ -98,7 +98,7 @@ pub record StopsBy (p : Progress) (e : ImageError) : Type 0 where
   pub memory : is_memory e ≡ false
   pub budget : IfSome (spent e) (λ n. (n ≡ p.budget) × (n ≡ p.taken))
 
--- What a call leaves of the numbers beside the reader. Tries are never forgotten, and never more than the most.
+-- What a call leaves of the numbers beside the reader. Tries are never forgotten, and never more than `most_retries`.
 pub record Keeps (old new : Progress) : Type 0 where
   pub told : new.told ≡ old.told
   pub budget : new.budget ≡ old.budget

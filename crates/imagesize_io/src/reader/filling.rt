@@ -79,8 +79,9 @@ fn read_counted<R: Told>(
 ) -> Result<usize, Halt>
     requires fits { progress.old.taken + length room.old ≤ progress.old.budget }
     requires stands { progress.old.place ≡ place }
-    ensures { ReadsOnce progress.old progress.new (R.telling reader.old) (R.telling reader.new)
+    ensures reads { ReadsOnce progress.old progress.new (R.telling reader.old) (R.telling reader.new)
         (R.count reader.old) (R.count reader.new) room.new (named progress.new result) }
+    ensures failed { IfErr result (λ halt. halt ≡ Halt.Failed) }
 {
     let count = read_retrying(reader, &mut progress.retries, &mut progress.fault, room)?;
     // Most reads fill the room, whose length the compiler knows.

@@ -4,7 +4,7 @@ use Rattle.imagesize_io.proofs.reader.filling.fill.Goals as goal
 
 pub returns : goal.returns
 returns g c =
-    let read = c.in_ok-count.ensures in
+    let read = c.in_ok-count.ensures.reads in
     let rest = c.in_ok-rest.ensures in
     record {
       bound = search rules;
