@@ -2,6 +2,7 @@
 use Rattle.std.proofs.Common.{ℕ, ◌+◌, ◌≤◌, List, length, Result, Ok, Err, arith}
 use Rattle.imagesize.proofs.Detection.{kind_cost, kind_at_most}
 use Rattle.imagesize.proofs.Ways.{laws_of}
+use Rattle.imagesize.specs.Parted.{has_texts}
 use Rattle.imagesize.specs.Counts.{cost, in_record, lasts, most, most_as, outside, stated, stated_as}
 use Rattle.imagesize.specs.Meaning.{kind_of, meaning, size_of, way_of}
 use Rattle.imagesize.specs.declared.types.ImageType.{ImageType}
@@ -33,7 +34,8 @@ kind_outside _ = omega arith
 
 -- with its type, a size is read from at most the bytes of its format
 size_most : (type : ImageType) (d : List ℕ) → kind_cost type + total (size_of type d).marks ≤ most_as (Ok type) d
-size_most type d = cost_way (kind_cost type) (outside type) (in_record type) (lasts type) (way_of type) (kind_outside type)
+size_most type d = cost_way (kind_cost type) (outside type) (in_record type) (lasts type) (has_texts type) (way_of type)
+    (kind_outside type)
     (laws_of type) d
 
 onward_most : (spans : List Span) (r : Result ImageType ImageError) (d : List ℕ) → total spans ≤ bound_of kind_cost 37 r
