@@ -53,23 +53,25 @@ fn print_size(rt: &(impl Files + Print + AllocGlobal), name: &str) -> io::Result
     }
 }
 
-// Prints each row of a table that fails, and each type of which it has no row; the tests name some of the rows.
+// Prints each row of a table that fails, each type of which it has none, and how many rows there are; the tests name some.
 fn print_table(rt: &(impl Files + Print + AllocGlobal), name: &str) -> io::Result<()> {
     let text = fs::read_to_string(rt, name)?;
     let mut at = 0u64;
+    let mut rows = 0u64;
     let mut named = 0u64;
     for line in text.as_str().lines() {
         at = at.saturating_add(1);
         if line.starts_with('#') {
             continue;
         }
+        rows = rows.saturating_add(1);
         match check_line(rt.alloc(), line) {
             Ok(is_named) => named = named.saturating_add(is_named as u64),
             Err(wrong) => println!(rt; "{name}, line {at}: {wrong}")?,
         }
     }
     print_lacking(rt, text.as_str())?;
-    println!(rt; "tests name {named} of the worked inputs")
+    println!(rt; "{rows} worked inputs, of which tests name {named}")
 }
 
 // Prints each type of which a table has no row.
