@@ -1,16 +1,19 @@
 //! Readings that answer a halt in place of an error, which is larger.
-ghost use Rattle.std.specs.Prelude.{◌≡◌, ◌+◌, ◌^◌, ◌<◌, ◌≤◌, IfOk, IfErr};
+ghost use Rattle.std.specs.Prelude.{◌≡◌, ◌+◌, ◌^◌, ◌<◌, ◌≤◌, IfOk, IfErr, IfSome};
 ghost use Rattle.imagesize_source.specs.Halts.{RunsOrHalts, error_by, with_error};
+ghost use Rattle.imagesize_source.specs.Layout.{over, if_there};
+ghost use Rattle.imagesize_source.specs.Layout.Layout.{«done»};
 ghost use Rattle.imagesize_source.specs.Paying.{Paid};
 ghost use Rattle.imagesize_source.specs.Reading.{bytes_read, number_read};
 ghost use Rattle.imagesize_source.specs.declared.error.ImageError.TheVariants as error;
+ghost use Rattle.imagesize_source.specs.declared.util.Endian.TheVariants as endian;
 
 use crate::source::Source;
 use crate::util::Endian;
 use crate::{ImageError, ImageResult, Reason};
 
-/// Why a reading was halted. The error that it ends the call with is kept by the source, and asked of it at last (`answered`), so
-/// that what each reading on the way answers is small.
+/// Why a reading was halted, or which bytes no layout allows. What is large of an error (that of a call that failed, the budget) is
+/// kept by the source, and asked of it at last (`answered`), so that what each reading on the way answers is small.
 #[derive(Clone, Copy, Debug)]
 pub enum Halt {
     /// A call of the reader failed, or memory was refused.
@@ -21,8 +24,27 @@ pub enum Halt {
     Ended,
     /// The records end before one gives the size.
     Corrupted,
-    /// A WebP's first chunk is none of those that give a size.
+    // What no layout allows: the `Reason` of the same name.
+    NotEnoughData,
+    NoDelimiter { max_size: u32 },
+    NotUtf8,
+    InvalidHeifBoxSize { size: u8 },
+    InvalidJxlBoxSize { tag: [u8; 4], size: u8 },
+    InvalidJxlSignature,
+    InvalidTiffHeader,
+    BigTiffOffsetSize,
+    InvalidBigTiffHeader,
+    InvalidIfdOffset,
+    IfdTypeForStandardTiff,
+    InvalidIfdType,
+    InvalidIfdValueLength,
+    NoDimensionsInIfd,
     InvalidVp8Tag,
+    DataWindowNotFound,
+    InvalidHdrIdentifier,
+    InvalidHdrDimensionsLine,
+    HdrDimensionsNotFound,
+    PnmDimensionsNotFound,
 }
 
 impl Halt {
@@ -31,13 +53,37 @@ impl Halt {
     pub fn error(self, failure: Reason, budget: u64) -> ImageError
         ensures { result ≡ error_by (error.IoError failure) budget self }
     {
-        match self {
-            Halt::Failed => ImageError::IoError(failure),
-            Halt::Spent => ImageError::IoError(Reason::BudgetSpent { budget }),
-            Halt::Ended => ImageError::IoError(Reason::EndOfInput),
-            Halt::Corrupted => ImageError::CorruptedImage,
-            Halt::InvalidVp8Tag => ImageError::IoError(Reason::InvalidVp8Tag),
-        }
+        ImageError::IoError(match self {
+            Halt::Corrupted => return ImageError::CorruptedImage,
+            Halt::Failed => failure,
+            Halt::Spent => Reason::BudgetSpent { budget },
+            Halt::Ended => Reason::EndOfInput,
+            Halt::NotEnoughData => Reason::NotEnoughData,
+            Halt::NoDelimiter { max_size } => Reason::NoDelimiter {
+                max_size: max_size as usize,
+            },
+            Halt::NotUtf8 => Reason::NotUtf8,
+            Halt::InvalidHeifBoxSize { size } => Reason::InvalidHeifBoxSize { size: size as u32 },
+            Halt::InvalidJxlBoxSize { tag, size } => Reason::InvalidJxlBoxSize {
+                tag,
+                size: size as u64,
+            },
+            Halt::InvalidJxlSignature => Reason::InvalidJxlSignature,
+            Halt::InvalidTiffHeader => Reason::InvalidTiffHeader,
+            Halt::BigTiffOffsetSize => Reason::BigTiffOffsetSize,
+            Halt::InvalidBigTiffHeader => Reason::InvalidBigTiffHeader,
+            Halt::InvalidIfdOffset => Reason::InvalidIfdOffset,
+            Halt::IfdTypeForStandardTiff => Reason::IfdTypeForStandardTiff,
+            Halt::InvalidIfdType => Reason::InvalidIfdType,
+            Halt::InvalidIfdValueLength => Reason::InvalidIfdValueLength,
+            Halt::NoDimensionsInIfd => Reason::NoDimensionsInIfd,
+            Halt::InvalidVp8Tag => Reason::InvalidVp8Tag,
+            Halt::DataWindowNotFound => Reason::DataWindowNotFound,
+            Halt::InvalidHdrIdentifier => Reason::InvalidHdrIdentifier,
+            Halt::InvalidHdrDimensionsLine => Reason::InvalidHdrDimensionsLine,
+            Halt::HdrDimensionsNotFound => Reason::HdrDimensionsNotFound,
+            Halt::PnmDimensionsNotFound => Reason::PnmDimensionsNotFound,
+        })
     }
 }
 
@@ -60,52 +106,111 @@ pub fn read_bytes<S: Source, const N: usize>(source: &mut S, place: u64) -> Resu
         (bytes_read (S.state source.old).held.input place N) }
 {
     let mut room = [0u8; N];
-    if source.read_at(place, &mut room)? < N {
+    let count = source.read_at(place, &mut room)?;
+    if count < N {
         return Err(Halt::Ended);
     }
     Ok(room)
 }
 
+/// The `N` bytes at a distance behind a place. A place above 2^64 - 1 is behind the end of every input.
+#[inline(always)]
+pub fn read_bytes_behind<S: Source, const N: usize>(
+    source: &mut S,
+    place: u64,
+    distance: u64,
+) -> Result<[u8; N], Halt>
+    requires { 0 < N }
+    ensures { RunsOrHalts (S.state source.old) (S.state source.new) (S.failure source.new) result
+        (bytes_read (S.state source.old).held.input (place + distance) N) }
+{
+    read_bytes::<S, N>(source, place.saturating_add(distance))
+}
+
+/// The `N` bytes from a place on, or none where the input ends before the last of them.
+#[inline(always)]
+pub fn read_if_there<S: Source, const N: usize>(
+    source: &mut S,
+    place: u64,
+) -> Result<Option<[u8; N]>, Halt>
+    ensures pays { IfOk result (λ found. IfSome found (λ bytes. 0 < N → Paid (S.state source.old) (S.state source.new) place)) }
+    ensures runs { RunsOrHalts (S.state source.old) (S.state source.new) (S.failure source.new) result
+        (over (S.state source.old).held.input (if_there place N done)) }
+{
+    let mut room = [0u8; N];
+    if source.read_at(place, &mut room)? < N {
+        return Ok(None);
+    }
+    Ok(Some(room))
+}
+
+/// The `N` bytes at a distance behind a place, or none where the input ends before the last of them. A place above
+/// 2^64 - 1 is behind the end of every input.
+#[inline(always)]
+pub fn read_if_there_behind<S: Source, const N: usize>(
+    source: &mut S,
+    place: u64,
+    distance: u64,
+) -> Result<Option<[u8; N]>, Halt>
+    ensures { RunsOrHalts (S.state source.old) (S.state source.new) (S.failure source.new) result
+        (over (S.state source.old).held.input (if_there (place + distance) N done)) }
+{
+    read_if_there::<S, N>(source, place.saturating_add(distance))
+}
+
+/// The byte at a place, as a number.
+#[inline(always)]
+#[tactic(auto, using(crate::proofs::Runs::number_there, crate::proofs::Runs::number_missing, crate::proofs::Numbers::little_1))]
+pub fn read_u8<S: Source>(source: &mut S, place: u64) -> Result<u8, Halt>
+    ensures { RunsOrHalts (S.state source.old) (S.state source.new) (S.failure source.new) result
+        (number_read (S.state source.old).held.input endian.Little place 1) }
+{
+    let [byte] = read_bytes::<S, 1>(source, place)?;
+    Ok(byte)
+}
+
 /// The number of the two bytes from a place on.
 #[inline(always)]
-#[tactic(auto, using(crate::proofs::Runs::number_there, crate::proofs::Runs::number_missing, crate::proofs::Numbers::little_2, crate::proofs::Numbers::big_2))]
+#[tactic(auto, using(crate::proofs::Runs::number_there, crate::proofs::Runs::number_missing))]
 pub fn read_u16<S: Source>(source: &mut S, place: u64, endian: Endian) -> Result<u16, Halt>
     ensures { RunsOrHalts (S.state source.old) (S.state source.new) (S.failure source.new) result
         (number_read (S.state source.old).held.input endian place 2) }
 {
     let bytes = read_bytes::<S, 2>(source, place)?;
-    Ok(match endian {
-        Endian::Little => u16::from_le_bytes(bytes),
-        Endian::Big => u16::from_be_bytes(bytes),
-    })
+    Ok(endian.u16(bytes))
 }
 
 /// The number of the three bytes from a place on.
 #[inline(always)]
-#[tactic(auto, using(crate::proofs::Runs::number_there, crate::proofs::Runs::number_missing, crate::proofs::Numbers::little_3, crate::proofs::Numbers::big_3))]
+#[tactic(auto, using(crate::proofs::Runs::number_there, crate::proofs::Runs::number_missing))]
 pub fn read_u24<S: Source>(source: &mut S, place: u64, endian: Endian) -> Result<u32, Halt>
     ensures { RunsOrHalts (S.state source.old) (S.state source.new) (S.failure source.new) result
         (number_read (S.state source.old).held.input endian place 3) }
 {
-    let [a, b, c] = read_bytes::<S, 3>(source, place)?;
-    Ok(match endian {
-        Endian::Little => u32::from_le_bytes([a, b, c, 0]),
-        Endian::Big => u32::from_be_bytes([0, a, b, c]),
-    })
+    let bytes = read_bytes::<S, 3>(source, place)?;
+    Ok(endian.u24(bytes))
 }
 
 /// The number of the four bytes from a place on.
 #[inline(always)]
-#[tactic(auto, using(crate::proofs::Runs::number_there, crate::proofs::Runs::number_missing, crate::proofs::Numbers::little_4, crate::proofs::Numbers::big_4))]
+#[tactic(auto, using(crate::proofs::Runs::number_there, crate::proofs::Runs::number_missing))]
 pub fn read_u32<S: Source>(source: &mut S, place: u64, endian: Endian) -> Result<u32, Halt>
     ensures { RunsOrHalts (S.state source.old) (S.state source.new) (S.failure source.new) result
         (number_read (S.state source.old).held.input endian place 4) }
 {
     let bytes = read_bytes::<S, 4>(source, place)?;
-    Ok(match endian {
-        Endian::Little => u32::from_le_bytes(bytes),
-        Endian::Big => u32::from_be_bytes(bytes),
-    })
+    Ok(endian.u32(bytes))
+}
+
+/// The number of the eight bytes from a place on.
+#[inline(always)]
+#[tactic(auto, using(crate::proofs::Runs::number_there, crate::proofs::Runs::number_missing))]
+pub fn read_u64<S: Source>(source: &mut S, place: u64, endian: Endian) -> Result<u64, Halt>
+    ensures { RunsOrHalts (S.state source.old) (S.state source.new) (S.failure source.new) result
+        (number_read (S.state source.old).held.input endian place 8) }
+{
+    let bytes = read_bytes::<S, 8>(source, place)?;
+    Ok(endian.u64(bytes))
 }
 
 /// The place at a distance behind another. One above 2^64 - 1 is behind the end of every input.

@@ -1,5 +1,6 @@
 //! Bytes and numbers of both byte orders.
 ghost use Rattle.std.specs.Prelude.{◌≡◌, ◌+◌, ◌^◌, ◌<◌, ◌≤◌, length, take, IfOk, IfErr, IfSome};
+ghost use Rattle.imagesize_source.specs.Numbers.{number};
 ghost use Rattle.imagesize_source.specs.Paying.{Paid};
 ghost use Rattle.imagesize_source.specs.Reading.{bytes_read, end_of_input, number_read, part_read, seen, text_read};
 ghost use Rattle.imagesize_source.specs.Layout.{Layout, over, if_there};
@@ -17,6 +18,57 @@ pub enum Endian {
     Little,
     /// The highest byte first.
     Big,
+}
+
+impl Endian {
+    /// The number of two bytes.
+    #[inline(always)]
+    #[tactic(auto, using(crate::proofs::Numbers::little_2, crate::proofs::Numbers::big_2))]
+    pub fn u16(self, bytes: [u8; 2]) -> u16
+        ensures { result ≡ number self bytes }
+    {
+        match self {
+            Endian::Little => u16::from_le_bytes(bytes),
+            Endian::Big => u16::from_be_bytes(bytes),
+        }
+    }
+
+    /// The number of three bytes.
+    #[inline(always)]
+    #[tactic(auto, using(crate::proofs::Numbers::little_3, crate::proofs::Numbers::big_3))]
+    pub fn u24(self, bytes: [u8; 3]) -> u32
+        ensures { result ≡ number self bytes }
+    {
+        let [a, b, c] = bytes;
+        match self {
+            Endian::Little => u32::from_le_bytes([a, b, c, 0]),
+            Endian::Big => u32::from_be_bytes([0, a, b, c]),
+        }
+    }
+
+    /// The number of four bytes.
+    #[inline(always)]
+    #[tactic(auto, using(crate::proofs::Numbers::little_4, crate::proofs::Numbers::big_4))]
+    pub fn u32(self, bytes: [u8; 4]) -> u32
+        ensures { result ≡ number self bytes }
+    {
+        match self {
+            Endian::Little => u32::from_le_bytes(bytes),
+            Endian::Big => u32::from_be_bytes(bytes),
+        }
+    }
+
+    /// The number of eight bytes.
+    #[inline(always)]
+    #[tactic(auto, using(crate::proofs::Numbers::little_8, crate::proofs::Numbers::big_8))]
+    pub fn u64(self, bytes: [u8; 8]) -> u64
+        ensures { result ≡ number self bytes }
+    {
+        match self {
+            Endian::Little => u64::from_le_bytes(bytes),
+            Endian::Big => u64::from_be_bytes(bytes),
+        }
+    }
 }
 
 /// Reads what is there from a place on into the buffer, and returns how many bytes that is.
@@ -64,11 +116,7 @@ pub fn read_if_there<S: Source, const N: usize>(
     ensures pays { IfOk result (λ found. IfSome found (λ bytes. 0 < N → Paid (S.state source.old) (S.state source.new) place)) }
     ensures runs { Runs (S.state source.old) (S.state source.new) result (over (S.state source.old).held.input (if_there place N done)) }
 {
-    let mut room = [0u8; N];
-    if read_part(source, place, &mut room)? < N {
-        return Ok(None);
-    }
-    Ok(Some(room))
+    answered(halt::read_if_there::<S, N>(source, place), source)
 }
 
 /// The `N` bytes at a distance behind a place. A place above 2^64 - 1 is behind the end of every input.
@@ -81,7 +129,10 @@ pub fn read_bytes_behind<S: Source, const N: usize>(
     requires { 0 < N }
     ensures { Runs (S.state source.old) (S.state source.new) result (bytes_read (S.state source.old).held.input (place + distance) N) }
 {
-    read_bytes::<S, N>(source, place.saturating_add(distance))
+    answered(
+        halt::read_bytes_behind::<S, N>(source, place, distance),
+        source,
+    )
 }
 
 /// The `N` bytes at a distance behind a place, or none where the input ends before the last of them. A place above
@@ -95,17 +146,18 @@ pub fn read_if_there_behind<S: Source, const N: usize>(
     ensures { Runs (S.state source.old) (S.state source.new) result
         (over (S.state source.old).held.input (if_there (place + distance) N done)) }
 {
-    read_if_there::<S, N>(source, place.saturating_add(distance))
+    answered(
+        halt::read_if_there_behind::<S, N>(source, place, distance),
+        source,
+    )
 }
 
 /// The byte at a place, as a number.
 #[inline(always)]
-#[tactic(auto, using(crate::proofs::Runs::number_there, crate::proofs::Runs::number_missing, crate::proofs::Numbers::little_1))]
 pub fn read_u8<S: Source>(source: &mut S, place: u64) -> ImageResult<u8>
     ensures { Runs (S.state source.old) (S.state source.new) result (number_read (S.state source.old).held.input Endian.Little place 1) }
 {
-    let [byte] = read_bytes::<S, 1>(source, place)?;
-    Ok(byte)
+    answered(halt::read_u8(source, place), source)
 }
 
 /// The number of the two bytes from a place on.
@@ -138,13 +190,8 @@ pub fn read_u32<S: Source>(source: &mut S, place: u64, endian: Endian) -> ImageR
 
 /// The number of the eight bytes from a place on.
 #[inline(always)]
-#[tactic(auto, using(crate::proofs::Runs::number_there, crate::proofs::Runs::number_missing, crate::proofs::Numbers::little_8, crate::proofs::Numbers::big_8))]
 pub fn read_u64<S: Source>(source: &mut S, place: u64, endian: Endian) -> ImageResult<u64>
     ensures { Runs (S.state source.old) (S.state source.new) result (number_read (S.state source.old).held.input endian place 8) }
 {
-    let bytes = read_bytes::<S, 8>(source, place)?;
-    Ok(match endian {
-        Endian::Little => u64::from_le_bytes(bytes),
-        Endian::Big => u64::from_be_bytes(bytes),
-    })
+    answered(halt::read_u64(source, place, endian), source)
 }
