@@ -60,7 +60,7 @@ fn tga_or_none<S: Source>(source: &mut S, head: &[u8; 12]) -> ImageResult<ImageT
     ensures { Runs (S.state source.old) (S.state source.new) result
         (over (S.state source.old).held.input (bind (is_tga (length (S.state source.old).held.input) head.now) tga_or_none)) }
 {
-    if tga::matches(source, head)? {
+    if answered(tga::matches(source, head), source)? {
         return Ok(ImageType::Tga);
     }
     Err(ImageError::NotSupported)
@@ -139,11 +139,14 @@ fn read_kind<S: Source>(
 {
     Ok(match found {
         ImageType::Heif(_) => ImageType::Heif(heif::detect_compression(source, place, head)?),
-        ImageType::Atc(_) => ImageType::Atc(atc::detect_compression(source)?),
-        ImageType::Pvrtc(_) => ImageType::Pvrtc(pvrtc::detect_compression(source)?),
-        ImageType::Eac(_) => ImageType::Eac(pkm::detect_compression(source)?),
-        ImageType::Etc2(_) => ImageType::Etc2(pkm::detect_compression(source)?),
-        ImageType::Dds(_) => ImageType::Dds(dds::detect_compression(source)?),
+        ImageType::Atc(_) => ImageType::Atc(answered(atc::detect_compression(source), source)?),
+        ImageType::Pvrtc(_) => ImageType::Pvrtc(answered(
+            pvrtc::detect_compression(source),
+            source,
+        )?),
+        ImageType::Eac(_) => ImageType::Eac(answered(pkm::detect_compression(source), source)?),
+        ImageType::Etc2(_) => ImageType::Etc2(answered(pkm::detect_compression(source), source)?),
+        ImageType::Dds(_) => ImageType::Dds(answered(dds::detect_compression(source), source)?),
         _ => found,
     })
 }
@@ -166,7 +169,7 @@ pub(crate) fn size<S: Source>(source: &mut S, kind: ImageType) -> ImageResult<Im
         ImageType::Gif => answered(gif::size(source), source),
         ImageType::Hdr => hdr::size(source),
         ImageType::Heif(_) => heif::size(source),
-        ImageType::Ico => ico::size(source),
+        ImageType::Ico => answered(ico::size(source), source),
         ImageType::Ilbm => answered(ilbm::size(source), source),
         ImageType::Jpeg => answered(jpeg::size(source), source),
         ImageType::Jxl => jxl::size(source),
@@ -176,7 +179,7 @@ pub(crate) fn size<S: Source>(source: &mut S, kind: ImageType) -> ImageResult<Im
         ImageType::Psd => answered(psd::size(source), source),
         ImageType::Qoi => answered(qoi::size(source), source),
         ImageType::Tga => answered(tga::size(source), source),
-        ImageType::Tiff => tiff::size(source),
+        ImageType::Tiff => answered(tiff::size(source), source),
         ImageType::Vtf => answered(vtf::size(source), source),
         ImageType::Webp => answered(webp::size(source), source),
     }

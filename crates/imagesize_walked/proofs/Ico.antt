@@ -12,10 +12,12 @@ use Rattle.imagesize_types.specs.Order.{area_of}
 use Rattle.imagesize_types.specs.declared.size.ImageSize.{ImageSize}
 use Rattle.imagesize_source.specs.declared.error.ImageError.{ImageError}
 use Rattle.imagesize_source.specs.declared.error.ImageError.TheVariants.{CorruptedImage}
+use Rattle.imagesize_source.specs.declared.halt.Halt.TheVariants.{Corrupted}
 use Rattle.imagesize_source.specs.declared.util.Endian.TheVariants.{Little}
 use Rattle.imagesize_source.specs.Agreement.{Local}
 use Rattle.imagesize_source.specs.Chain.{Said, Decided, Next, Along, Advances, start, next_record, records, records_from, verdict, chain_at}
 use Rattle.imagesize_source.specs.Counts.{AtMost}
+use Rattle.imagesize_source.specs.Halts.{RunsOrHalts}
 use Rattle.imagesize_source.specs.Input.{span_of}
 use Rattle.imagesize_source.specs.Layout.{Layout, over, if_there, refuse, done, whole}
 use Rattle.imagesize_source.specs.Reading.{onward, number_at, number_read}
@@ -178,15 +180,15 @@ answers : (best : Option ImageSize) (sizes : List ImageSize) (d : List ℕ) → 
 answers best sizes d h = ap (λ o. over d (icon_answer o)) h.is
 
 -- the input ends before an entry
-pub icon_cut : {a b end : State} (count i : ℕ) (best : Option ImageSize) → i < count → IconWalks count a b i best
-    → Runs b end (Ok None) (over b.held.input (if_there (6 + 16 * i) 2 done)) → Runs a end (ok_or best CorruptedImage)
+pub icon_cut : {a b end : State} (failure : ImageError) (count i : ℕ) (best : Option ImageSize) → i < count → IconWalks count a b i best
+    → Runs b end (Ok None) (over b.held.input (if_there (6 + 16 * i) 2 done)) → RunsOrHalts a end failure (ok_or best Corrupted)
     (chain_at (icon_entries count) a.held.input)
-icon_cut count i None below w run =
+icon_cut failure count i None below w run =
     walks_out (icon_entries count) (icon_advances count) (Found i None) w CorruptedImage
     (λ sizes h. more_said count i sizes (6 + 16 * i) below h.many
     (runs_bind (Err CorruptedImage) (if_there (6 + 16 * i) 2 done) (icon_entry sizes (6 + 16 * i)) run
     (λ d. answers None sizes d h.largest) refl (record { budget = tt; memory = λ e. absurd cc })))
-icon_cut count i (Some size) below w run =
+icon_cut failure count i (Some size) below w run =
     walks_stop (icon_entries count) (icon_advances count) (Found i (Some size)) w size
     (λ sizes h. more_said count i sizes (6 + 16 * i) below h.many
     (runs_bind (Ok (Decided size)) (if_there (6 + 16 * i) 2 done) (icon_entry sizes (6 + 16 * i)) run
@@ -200,14 +202,14 @@ end_said count sizes place best d many h =
     sizes d h
 
 -- all entries were read
-pub icon_done : {a b : State} (count i : ℕ) (best : Option ImageSize) → i ≡ count → Sound b → IconWalks count a b i best
-    → Runs a b (ok_or best CorruptedImage) (chain_at (icon_entries count) a.held.input)
-icon_done count i None at sound w =
+pub icon_done : {a b : State} (failure : ImageError) (count i : ℕ) (best : Option ImageSize) → i ≡ count → Sound b → IconWalks count a b i best
+    → RunsOrHalts a b failure (ok_or best Corrupted) (chain_at (icon_entries count) a.held.input)
+icon_done failure count i None at sound w =
     walks_now (icon_entries count) (icon_advances count) (Found i None) w (Err CorruptedImage) sound refl
     (record { budget = tt; memory = λ e. absurd cc })
     (λ sizes d h. let says = end_said count sizes (6 + 16 * i) None d (h.many ∙ at) h.largest in
     (ap (λ r. verdict r.answer) says, ap (λ r. r.marks) says))
-icon_done count i (Some size) at sound w =
+icon_done failure count i (Some size) at sound w =
     walks_now (icon_entries count) (icon_advances count) (Found i (Some size)) w (Ok size) sound refl tt
     (λ sizes d h. let says = end_said count sizes (6 + 16 * i) (Some size) d (h.many ∙ at) h.largest in
     (ap (λ r. verdict r.answer) says, ap (λ r. r.marks) says))

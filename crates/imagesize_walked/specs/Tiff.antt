@@ -1,5 +1,5 @@
 -- TIFF, by "TIFF Revision 6.0" (section 2), and BigTIFF, by "The BigTIFF File Format".
-use Rattle.std.specs.Prelude.{ℕ, ◌+◌, ◌==◌, min, Bool, List, codes, [], ◌∷◌, ◌++◌, ◌||◌, length, take, drop, filter, if◌then◌else◌, Option, None, Some, option_and_then, Result, Ok, Err}
+use Rattle.std.specs.Prelude.{◌≡◌, ℕ, ◌+◌, ◌==◌, min, Bool, List, codes, [], ◌∷◌, ◌++◌, ◌||◌, length, take, drop, filter, if◌then◌else◌, Option, None, Some, option_and_then, Result, Ok, Err}
 use Rattle.std.specs.List.{last_or}
 use Rattle.imagesize_types.specs.Head.{begins}
 use Rattle.imagesize_types.specs.Table.{look_up}
@@ -13,9 +13,11 @@ use Rattle.imagesize_walked.specs.declared.formats.tiff.Version.TheVariants.{Tif
 use Rattle.imagesize_source.specs.declared.error.ImageError.{ImageError}
 use Rattle.imagesize_source.specs.declared.error.ImageError.TheVariants.{IoError}
 use Rattle.imagesize_source.specs.declared.error.Reason.TheVariants.{InvalidTiffHeader, BigTiffOffsetSize, InvalidBigTiffHeader, InvalidIfdOffset, IfdTypeForStandardTiff, InvalidIfdType, InvalidIfdValueLength, NoDimensionsInIfd}
+use Rattle.imagesize_source.specs.declared.halt.Halt.{Halt}
 use Rattle.imagesize_source.specs.declared.util.Endian.{Endian}
 use Rattle.imagesize_source.specs.declared.util.Endian.TheVariants.{Little, Big}
 use Rattle.imagesize_source.specs.Chain.{Said, Decided, Next, Chain, chain_at, records}
+use Rattle.imagesize_source.specs.Halts.{error_by}
 use Rattle.imagesize_source.specs.Layout.{Layout, over, bind, bytes, if_there}
 use Rattle.imagesize_source.specs.Layout.Layout.{field, refuse, «done»}
 use Rattle.imagesize_source.specs.Numbers.{number}
@@ -25,6 +27,11 @@ use Rattle.imagesize_source.specs.Reading.{Reads, and_then, number_at, number_re
 unfoldable pub is_tiff : List ℕ → Bool
 is_tiff head = (begins (codes "II" ++ 42 ∷ 0 ∷ []) head || begins (codes "II" ++ 43 ∷ 0 ∷ []) head) ||
     (begins (codes "MM" ++ 0 ∷ 42 ∷ []) head || begins (codes "MM" ++ 0 ∷ 43 ∷ []) head)
+
+-- an answer, where a halt stands for its error whichever call failed and whatever the budget is
+abbrev pub StandsFor : {X : Type 0} → Result X Halt → Result X ImageError → Type 0
+StandsFor (Ok x) answer = Ok x ≡ answer
+StandsFor (Err why) answer = (failure : ImageError) (budget : ℕ) → Err (error_by failure budget why) ≡ answer
 
 -- what goes on where something is accepted
 abbrev pub accepted : {X Y : Type 0} → Result X ImageError → (X → Layout Y) → Layout Y

@@ -6,13 +6,10 @@ ghost use Rattle.imagesize_source.specs.Numbers.{number};
 ghost use Rattle.imagesize_source.specs.declared.util.Endian.TheVariants as endian;
 ghost use Rattle.imagesize_source.specs.Halts.{RunsOrHalts};
 ghost use Rattle.imagesize_source.specs.Layout.{over};
-ghost use Rattle.imagesize_source.specs.State.{Runs};
 
 use crate::container::{dds, pkm, pvrtc};
-use imagesize_source::ImageResult;
-use imagesize_source::halt::{Halt, read_bytes};
+use imagesize_source::halt::{Halt, read_bytes, read_if_there};
 use imagesize_source::source::Source;
-use imagesize_source::util::read_if_there;
 use imagesize_types::compression::AtcCompression;
 use imagesize_types::size::ImageSize;
 
@@ -38,8 +35,8 @@ fn is_atc(header: &[u8]) -> bool
 
 /// How the pixels are stored, by the data type where it is there.
 #[tactic(auto, using(imagesize_source::proofs::Runs::steps), unfolding(crate::specs::Atc::atc_compression))]
-pub fn detect_compression<S: Source>(source: &mut S) -> ImageResult<AtcCompression>
-    ensures { Runs (S.state source.old) (S.state source.new) result
+pub fn detect_compression<S: Source>(source: &mut S) -> Result<AtcCompression, Halt>
+    ensures { RunsOrHalts (S.state source.old) (S.state source.new) (S.failure source.new) result
         (over (S.state source.old).held.input atc_compression) }
 {
     let Some(header) = read_if_there::<S, 8>(source, 0)? else {

@@ -4,12 +4,10 @@ ghost use Rattle.imagesize_fixed.specs.Pkm.{is_eac, is_pkm, pkm, pkm_compression
 ghost use Rattle.imagesize_types.specs.Table.{look_up};
 ghost use Rattle.imagesize_source.specs.Halts.{RunsOrHalts};
 ghost use Rattle.imagesize_source.specs.Layout.{over};
-ghost use Rattle.imagesize_source.specs.State.{Runs};
 
-use imagesize_source::ImageResult;
-use imagesize_source::halt::{Halt, read_u16};
+use imagesize_source::halt::{Halt, read_if_there, read_u16};
 use imagesize_source::source::Source;
-use imagesize_source::util::{Endian, read_if_there};
+use imagesize_source::util::Endian;
 use imagesize_types::compression::PkmCompression;
 use imagesize_types::size::ImageSize;
 
@@ -41,8 +39,8 @@ pub fn is_pkm(header: &[u8]) -> bool
 
 /// How the pixels are stored, by the data type where it is there.
 #[tactic(auto, using(imagesize_source::proofs::Runs::steps, imagesize_source::proofs::Numbers::big_2), unfolding(crate::specs::Pkm::pkm_compression))]
-pub fn detect_compression<S: Source>(source: &mut S) -> ImageResult<PkmCompression>
-    ensures { Runs (S.state source.old) (S.state source.new) result
+pub fn detect_compression<S: Source>(source: &mut S) -> Result<PkmCompression, Halt>
+    ensures { RunsOrHalts (S.state source.old) (S.state source.new) (S.failure source.new) result
         (over (S.state source.old).held.input pkm_compression) }
 {
     match read_if_there::<S, 2>(source, 6)? {

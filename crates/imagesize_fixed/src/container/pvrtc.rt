@@ -5,12 +5,10 @@ ghost use Rattle.imagesize_types.specs.Table.{look_up};
 ghost use Rattle.imagesize_source.specs.Halts.{RunsOrHalts};
 ghost use Rattle.imagesize_source.specs.Layout.{if_there, over};
 ghost use Rattle.imagesize_source.specs.Layout.Layout.{«done»};
-ghost use Rattle.imagesize_source.specs.State.{Runs};
 
-use imagesize_source::ImageResult;
-use imagesize_source::halt::{Halt, read_bytes, read_u32};
+use imagesize_source::halt::{Halt, read_bytes, read_if_there, read_u32};
 use imagesize_source::source::Source;
-use imagesize_source::util::{Endian, read_if_there};
+use imagesize_source::util::Endian;
 use imagesize_types::compression::PvrtcCompression;
 use imagesize_types::size::ImageSize;
 
@@ -33,8 +31,8 @@ fn is_version_3(header: &[u8]) -> bool
 
 /// How the pixels are stored, which the newer header tells.
 #[tactic(auto, using(imagesize_source::proofs::Runs::steps, imagesize_source::proofs::Runs::missed_before), unfolding(crate::specs::Pvrtc::pvrtc_compression))]
-pub fn detect_compression<S: Source>(source: &mut S) -> ImageResult<PvrtcCompression>
-    ensures { Runs (S.state source.old) (S.state source.new) result
+pub fn detect_compression<S: Source>(source: &mut S) -> Result<PvrtcCompression, Halt>
+    ensures { RunsOrHalts (S.state source.old) (S.state source.new) (S.failure source.new) result
         (over (S.state source.old).held.input pvrtc_compression) }
 {
     let Some(tag) = read_if_there::<S, 4>(source, 0)? else {
@@ -48,8 +46,8 @@ pub fn detect_compression<S: Source>(source: &mut S) -> ImageResult<PvrtcCompres
 
 // How the pixels are stored, by the format where it is there.
 #[tactic(auto, using(imagesize_source::proofs::Runs::steps, imagesize_source::proofs::Numbers::little_8))]
-fn format<S: Source>(source: &mut S) -> ImageResult<PvrtcCompression>
-    ensures { Runs (S.state source.old) (S.state source.new) result
+fn format<S: Source>(source: &mut S) -> Result<PvrtcCompression, Halt>
+    ensures { RunsOrHalts (S.state source.old) (S.state source.new) (S.failure source.new) result
         (over (S.state source.old).held.input (if_there 8 8 (λ bs. done (pvrtc_format_of bs)))) }
 {
     match read_if_there::<S, 8>(source, 8)? {

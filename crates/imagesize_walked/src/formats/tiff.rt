@@ -1,17 +1,17 @@
 //! TIFF, by "TIFF Revision 6.0" (section 2), and BigTIFF, by "The BigTIFF File Format".
 ghost use Rattle.std.specs.Prelude.{◌≡◌, ◌+◌, ◌*◌, ◌-◌, ◌^◌, ◌≤◌, ◌==◌, if◌then◌else◌, min, take};
-ghost use Rattle.imagesize_walked.specs.Tiff.{byte_order, count_bytes, directory_at, entry_bytes, head_bytes, is_tiff, field_type_in, field_type_of, size_of_sides, stated_place, tag_in, tiff, tiff_entries, tiff_entry, tiff_head, tiff_header, tiff_value, value_of, version_of, whole_value};
+ghost use Rattle.imagesize_walked.specs.Tiff.{StandsFor, byte_order, count_bytes, directory_at, entry_bytes, head_bytes, is_tiff, field_type_in, field_type_of, size_of_sides, stated_place, tag_in, tiff, tiff_entries, tiff_entry, tiff_head, tiff_header, tiff_value, value_of, version_of, whole_value};
 ghost use Rattle.imagesize_source.specs.Chain.{chain_at};
+ghost use Rattle.imagesize_source.specs.Halts.{RunsOrHalts};
 ghost use Rattle.imagesize_source.specs.Layout.{over};
-ghost use Rattle.imagesize_source.specs.Numbers.{number};
 ghost use Rattle.imagesize_source.specs.Reading.{number_read};
-ghost use Rattle.imagesize_source.specs.State.{Runs, Sound};
+ghost use Rattle.imagesize_source.specs.State.{Sound};
 
-use imagesize_source::source::Source;
-use imagesize_source::util::{
-    Endian, read_bytes, read_if_there_behind, read_u16, read_u32, read_u64,
+use imagesize_source::halt::{
+    Halt, read_bytes, read_if_there_behind, read_u16, read_u32, read_u64,
 };
-use imagesize_source::{ImageError, ImageResult, Reason};
+use imagesize_source::source::Source;
+use imagesize_source::util::Endian;
 use imagesize_types::size::ImageSize;
 
 /// Whether the order of the bytes stands first, and the version behind it.
@@ -28,8 +28,8 @@ pub fn matches(head: &[u8; 12]) -> bool
 
 /// The width and the height, by the first entry of the first directory behind which both are known.
 #[tactic(auto, using(imagesize_source::proofs::Runs::steps))]
-pub fn size<S: Source>(source: &mut S) -> ImageResult<ImageSize>
-    ensures { Runs (S.state source.old) (S.state source.new) result (tiff (S.state source.old).held.input) }
+pub fn size<S: Source>(source: &mut S) -> Result<ImageSize, Halt>
+    ensures { RunsOrHalts (S.state source.old) (S.state source.new) (S.failure source.new) result (tiff (S.state source.old).held.input) }
 {
     let header = read_header(source)?;
     let count = read_count(source, &header)?;
@@ -53,8 +53,8 @@ struct Header {
 
 // The header.
 #[tactic(auto, using(imagesize_source::proofs::Runs::steps, imagesize_source::proofs::Layouts::binding), unfolding(crate::specs::Tiff::tiff_header))]
-fn read_header<S: Source>(source: &mut S) -> ImageResult<Header>
-    ensures { Runs (S.state source.old) (S.state source.new) result
+fn read_header<S: Source>(source: &mut S) -> Result<Header, Halt>
+    ensures { RunsOrHalts (S.state source.old) (S.state source.new) (S.failure source.new) result
         (over (S.state source.old).held.input tiff_header) }
 {
     let mark = read_bytes::<S, 2>(source, 0)?;
@@ -67,35 +67,35 @@ fn read_header<S: Source>(source: &mut S) -> ImageResult<Header>
 
 // The order of all numbers, by the first two bytes.
 #[inline(always)]
-fn byte_order(mark: [u8; 2]) -> ImageResult<Endian>
-    ensures { result ≡ byte_order mark }
+fn byte_order(mark: [u8; 2]) -> Result<Endian, Halt>
+    ensures { StandsFor result (byte_order mark) }
 {
     match mark {
         [b'I', b'I'] => Ok(Endian::Little),
         [b'M', b'M'] => Ok(Endian::Big),
-        _ => Err(ImageError::IoError(Reason::InvalidTiffHeader)),
+        _ => Err(Halt::InvalidTiffHeader),
     }
 }
 
 // The format, by the number behind the order.
 #[inline(always)]
-fn version_of(number: u16) -> ImageResult<Version>
-    ensures { result ≡ version_of number }
+fn version_of(number: u16) -> Result<Version, Halt>
+    ensures { StandsFor result (version_of number) }
 {
     match number {
         42 => Ok(Version::Tiff),
         43 => Ok(Version::BigTiff),
-        _ => Err(ImageError::IoError(Reason::InvalidTiffHeader)),
+        _ => Err(Halt::InvalidTiffHeader),
     }
 }
 
 // The header whose directory stands at a place, which is never 0.
 #[inline(always)]
-fn directory_at(order: Endian, version: Version, place: u64) -> ImageResult<Header>
-    ensures { result ≡ directory_at order version place }
+fn directory_at(order: Endian, version: Version, place: u64) -> Result<Header, Halt>
+    ensures { StandsFor result (directory_at order version place) }
 {
     if place == 0 {
-        return Err(ImageError::IoError(Reason::InvalidIfdOffset));
+        return Err(Halt::InvalidIfdOffset);
     }
     Ok(Header {
         order,
@@ -106,8 +106,8 @@ fn directory_at(order: Endian, version: Version, place: u64) -> ImageResult<Head
 
 // The place of the first directory, as it is stated.
 #[tactic(auto, using(imagesize_source::proofs::Runs::steps), unfolding(crate::specs::Tiff::stated_place))]
-fn read_place<S: Source>(source: &mut S, order: Endian, version: Version) -> ImageResult<u64>
-    ensures { Runs (S.state source.old) (S.state source.new) result
+fn read_place<S: Source>(source: &mut S, order: Endian, version: Version) -> Result<u64, Halt>
+    ensures { RunsOrHalts (S.state source.old) (S.state source.new) (S.failure source.new) result
         (over (S.state source.old).held.input (stated_place order version)) }
 {
     match version {
@@ -121,15 +121,15 @@ fn read_place<S: Source>(source: &mut S, order: Endian, version: Version) -> Ima
 
 // The same of BigTIFF, behind the size of a place and two bytes that are zero.
 #[tactic(auto, using(imagesize_source::proofs::Runs::steps), unfolding(crate::specs::Tiff::stated_place))]
-fn read_big_place<S: Source>(source: &mut S, order: Endian) -> ImageResult<u64>
-    ensures { Runs (S.state source.old) (S.state source.new) result
+fn read_big_place<S: Source>(source: &mut S, order: Endian) -> Result<u64, Halt>
+    ensures { RunsOrHalts (S.state source.old) (S.state source.new) (S.failure source.new) result
         (over (S.state source.old).held.input (stated_place order Version.BigTiff)) }
 {
     if read_u16(source, 4, order)? != 8 {
-        return Err(ImageError::IoError(Reason::BigTiffOffsetSize));
+        return Err(Halt::BigTiffOffsetSize);
     }
     if read_u16(source, 6, order)? != 0 {
-        return Err(ImageError::IoError(Reason::InvalidBigTiffHeader));
+        return Err(Halt::InvalidBigTiffHeader);
     }
     let place = read_u64(source, 8, order)?;
     Ok(place)
@@ -137,8 +137,8 @@ fn read_big_place<S: Source>(source: &mut S, order: Endian) -> ImageResult<u64>
 
 // How many entries the directory says that it has.
 #[tactic(auto, using(imagesize_source::proofs::Runs::steps))]
-fn read_count<S: Source>(source: &mut S, header: &Header) -> ImageResult<u64>
-    ensures { Runs (S.state source.old) (S.state source.new) result
+fn read_count<S: Source>(source: &mut S, header: &Header) -> Result<u64, Halt>
+    ensures { RunsOrHalts (S.state source.old) (S.state source.new) (S.failure source.new) result
         (number_read (S.state source.old).held.input header.now.order header.now.directory (count_bytes header.now.version)) }
 {
     match header.version {
@@ -151,9 +151,9 @@ fn read_count<S: Source>(source: &mut S, header: &Header) -> ImageResult<u64>
 }
 
 // The size by the first so many entries of the directory.
-fn find_size<S: Source>(source: &mut S, header: &Header, count: u64) -> ImageResult<ImageSize>
+fn find_size<S: Source>(source: &mut S, header: &Header, count: u64) -> Result<ImageSize, Halt>
     requires { Sound (S.state source.old) }
-    ensures { Runs (S.state source.old) (S.state source.new) result
+    ensures { RunsOrHalts (S.state source.old) (S.state source.new) (S.failure source.new) result
         (chain_at (tiff_entries header.now count) (S.state source.old).held.input) }
 {
     let mut width: Option<u32> = None;
@@ -166,7 +166,7 @@ fn find_size<S: Source>(source: &mut S, header: &Header, count: u64) -> ImageRes
             return Ok(size);
         }
     }
-    Err(ImageError::IoError(Reason::NoDimensionsInIfd))
+    Err(Halt::NoDimensionsInIfd)
 }
 
 // Where an entry stands. A place above 2^64 - 1 is behind the end of every input.
@@ -230,8 +230,8 @@ fn size_of_sides(width: Option<u32>, height: Option<u32>) -> Option<ImageSize>
 // The entry at a place. Its field type is judged before its value is read.
 #[inline(always)]
 #[tactic(auto, using(imagesize_source::proofs::Runs::steps, imagesize_source::proofs::Layouts::binding), unfolding(crate::specs::Tiff::tiff_entry))]
-fn read_entry<S: Source>(source: &mut S, header: &Header, place: u64) -> ImageResult<Entry>
-    ensures { Runs (S.state source.old) (S.state source.new) result
+fn read_entry<S: Source>(source: &mut S, header: &Header, place: u64) -> Result<Entry, Halt>
+    ensures { RunsOrHalts (S.state source.old) (S.state source.new) (S.failure source.new) result
         (over (S.state source.old).held.input (tiff_entry header.now place)) }
 {
     let head = read_head(source, header.version, place)?;
@@ -246,8 +246,8 @@ fn read_entry<S: Source>(source: &mut S, header: &Header, place: u64) -> ImageRe
 // The first four bytes of an entry's head, which is read whole.
 #[inline(always)]
 #[tactic(auto, using(imagesize_source::proofs::Runs::steps), unfolding(crate::specs::Tiff::tiff_head))]
-fn read_head<S: Source>(source: &mut S, version: Version, place: u64) -> ImageResult<[u8; 4]>
-    ensures { Runs (S.state source.old) (S.state source.new) result
+fn read_head<S: Source>(source: &mut S, version: Version, place: u64) -> Result<[u8; 4], Halt>
+    ensures { RunsOrHalts (S.state source.old) (S.state source.new) (S.failure source.new) result
         (over (S.state source.old).held.input (tiff_head version place)) }
 {
     match version {
@@ -265,8 +265,8 @@ fn read_head<S: Source>(source: &mut S, version: Version, place: u64) -> ImageRe
 // The first four bytes of the value of the entry at a place, which is read whole.
 #[inline(always)]
 #[tactic(auto, using(imagesize_source::proofs::Runs::steps), unfolding(crate::specs::Tiff::tiff_value))]
-fn read_value<S: Source>(source: &mut S, version: Version, place: u64) -> ImageResult<[u8; 4]>
-    ensures { Runs (S.state source.old) (S.state source.new) result
+fn read_value<S: Source>(source: &mut S, version: Version, place: u64) -> Result<[u8; 4], Halt>
+    ensures { RunsOrHalts (S.state source.old) (S.state source.new) (S.failure source.new) result
         (over (S.state source.old).held.input (tiff_value version (place + head_bytes version))) }
 {
     match version {
@@ -283,13 +283,13 @@ fn read_value<S: Source>(source: &mut S, version: Version, place: u64) -> ImageR
 
 // The first four bytes of a value that the end of the input does not cut.
 #[inline(always)]
-fn whole_value<const N: usize>(found: Option<[u8; N]>) -> ImageResult<[u8; 4]>
+fn whole_value<const N: usize>(found: Option<[u8; N]>) -> Result<[u8; 4], Halt>
     requires { 4 ≤ N }
-    ensures { result ≡ whole_value found.entry }
+    ensures { StandsFor result (whole_value found.entry) }
 {
     match found {
         Some(value) => Ok(first_four(value)),
-        None => Err(ImageError::IoError(Reason::InvalidIfdValueLength)),
+        None => Err(Halt::InvalidIfdValueLength),
     }
 }
 
@@ -306,7 +306,7 @@ fn tag_in(order: Endian, head: [u8; 4]) -> u16
     ensures { result ≡ tag_in order head }
 {
     let [first, second, _, _] = head;
-    number_of_two(order, [first, second])
+    order.u16([first, second])
 }
 
 #[inline(always)]
@@ -314,7 +314,7 @@ fn field_type_in(order: Endian, head: [u8; 4]) -> u16
     ensures { result ≡ field_type_in order head }
 {
     let [_, _, first, second] = head;
-    number_of_two(order, [first, second])
+    order.u16([first, second])
 }
 
 // What an entry's value is, by its field type.
@@ -330,16 +330,16 @@ enum FieldType {
 
 // What the value of a field type is. Three field types are those of BigTIFF alone.
 #[inline(always)]
-fn field_type_of(version: Version, field_type: u16) -> ImageResult<FieldType>
-    ensures { result ≡ field_type_of version field_type }
+fn field_type_of(version: Version, field_type: u16) -> Result<FieldType, Halt>
+    ensures { StandsFor result (field_type_of version field_type) }
 {
     match (field_type, version) {
         (3 | 8, _) => Ok(FieldType::Short),
         (4 | 9 | 11 | 13, _) => Ok(FieldType::Long),
         (1 | 2 | 5 | 6 | 7 | 10 | 12, _) => Ok(FieldType::Other),
         (16..=18, Version::BigTiff) => Ok(FieldType::Other),
-        (16..=18, Version::Tiff) => Err(ImageError::IoError(Reason::IfdTypeForStandardTiff)),
-        _ => Err(ImageError::IoError(Reason::InvalidIfdType)),
+        (16..=18, Version::Tiff) => Err(Halt::IfdTypeForStandardTiff),
+        _ => Err(Halt::InvalidIfdType),
     }
 }
 
@@ -350,30 +350,8 @@ fn value_of(order: Endian, field_type: FieldType, value: [u8; 4]) -> Option<u32>
 {
     let [first, second, _, _] = value;
     match field_type {
-        FieldType::Short => Some(number_of_two(order, [first, second]) as u32),
-        FieldType::Long => Some(number_of_four(order, value)),
+        FieldType::Short => Some(order.u16([first, second]) as u32),
+        FieldType::Long => Some(order.u32(value)),
         FieldType::Other => None,
-    }
-}
-
-#[inline(always)]
-#[tactic(auto, using(imagesize_source::proofs::Numbers::little_2, imagesize_source::proofs::Numbers::big_2))]
-fn number_of_two(order: Endian, bytes: [u8; 2]) -> u16
-    ensures { result ≡ number order bytes }
-{
-    match order {
-        Endian::Little => u16::from_le_bytes(bytes),
-        Endian::Big => u16::from_be_bytes(bytes),
-    }
-}
-
-#[inline(always)]
-#[tactic(auto, using(imagesize_source::proofs::Numbers::little_4, imagesize_source::proofs::Numbers::big_4))]
-fn number_of_four(order: Endian, bytes: [u8; 4]) -> u32
-    ensures { result ≡ number order bytes }
-{
-    match order {
-        Endian::Little => u32::from_le_bytes(bytes),
-        Endian::Big => u32::from_be_bytes(bytes),
     }
 }
