@@ -138,7 +138,7 @@ fn read_kind<S: Source>(
         (over (S.state source.old).held.input (with_compression place head.now found)) }
 {
     Ok(match found {
-        ImageType::Heif(_) => ImageType::Heif(heif::detect_compression(source, place, head)?),
+        ImageType::Heif(_) => ImageType::Heif(answered(heif::detect_compression(source, place, head), source)?),
         ImageType::Atc(_) => ImageType::Atc(answered(atc::detect_compression(source), source)?),
         ImageType::Pvrtc(_) => ImageType::Pvrtc(answered(
             pvrtc::detect_compression(source),
@@ -164,17 +164,17 @@ pub(crate) fn size<S: Source>(source: &mut S, kind: ImageType) -> ImageResult<Im
         ImageType::Bmp => answered(bmp::size(source), source),
         ImageType::Dds(_) => answered(dds::size(source), source),
         ImageType::Eac(_) | ImageType::Etc2(_) => answered(pkm::size(source), source),
-        ImageType::Exr => exr::size(source),
+        ImageType::Exr => answered(exr::size(source), source),
         ImageType::Farbfeld => answered(farbfeld::size(source), source),
         ImageType::Gif => answered(gif::size(source), source),
-        ImageType::Hdr => hdr::size(source),
-        ImageType::Heif(_) => heif::size(source),
+        ImageType::Hdr => answered(hdr::size(source), source),
+        ImageType::Heif(_) => answered(heif::size(source), source),
         ImageType::Ico => answered(ico::size(source), source),
         ImageType::Ilbm => answered(ilbm::size(source), source),
         ImageType::Jpeg => answered(jpeg::size(source), source),
-        ImageType::Jxl => jxl::size(source),
+        ImageType::Jxl => answered(jxl::size(source), source),
         ImageType::Ktx2 => answered(ktx2::size(source), source),
-        ImageType::Pnm => pnm::size(source),
+        ImageType::Pnm => answered(pnm::size(source), source),
         ImageType::Pvrtc(_) => answered(pvrtc::size(source), source),
         ImageType::Psd => answered(psd::size(source), source),
         ImageType::Qoi => answered(qoi::size(source), source),

@@ -9,12 +9,14 @@ use Rattle.std.specs.Str.{is_utf8}
 use Rattle.imagesize_source.specs.declared.error.ImageError.{ImageError}
 use Rattle.imagesize_source.specs.declared.error.ImageError.TheVariants.{IoError}
 use Rattle.imagesize_source.specs.declared.error.Reason.TheVariants.{NoDelimiter, NotUtf8}
+use Rattle.imagesize_source.specs.declared.halt.Halt.{Halt}
 use Rattle.imagesize_source.specs.declared.text.Text.{Text}
 use Rattle.imagesize_source.specs.declared.text.Text.TheVariants.{Line, Word}
 use Rattle.imagesize_source.specs.declared.span.Span.{Span}
 use Rattle.imagesize_source.specs.declared.util.Endian.{Endian}
 use Rattle.imagesize_source.specs.Chain.{Said}
 use Rattle.imagesize_source.specs.Extension.{Plain, Never, Lasts}
+use Rattle.imagesize_source.specs.Halts.{with_error}
 use Rattle.imagesize_source.specs.Input.{span_at, span_of}
 use Rattle.imagesize_source.specs.Layout.{Layout, over}
 use Rattle.imagesize_source.specs.Layout.Layout.{refuse, «done», field}
@@ -208,44 +210,50 @@ below_room last count is = let few : ltb count word_room ≡ true = second_of (i
     grind (arith, nat_tests)
 
 -- so what was read of it was paid for
-pub line_pays : {A P : Type 0} (v : A → List ℕ) (delimiter most : ℕ) (room : List ℕ) (n : ℕ) (r : Result A ImageError)
-    → seen v r ≡ line_text delimiter most (take n room) → (0 < n → P) → IfOk r (λ _. P)
-line_pays v delimiter most room n (Ok x) is pays =
-    pays (omega (arith, (line_ok delimiter most (take n room) (v x) (sym is)).0, length-take n room))
-line_pays v delimiter most room n (Err e) is pays = tt
-
-pub word_pays : {A P : Type 0} (v : A → WordRead) (room : List ℕ) (n : ℕ) (r : Result A ImageError) → seen v r ≡ word_text (take n room)
+pub line_pays : {A P : Type 0} (v : A → List ℕ) (delimiter most : ℕ) (room : List ℕ) (n : ℕ) (r : Result A Halt)
+    → ((failure : ImageError) (budget : ℕ) → seen v (with_error failure budget r) ≡ line_text delimiter most (take n room))
     → (0 < n → P) → IfOk r (λ _. P)
-word_pays v room n (Ok x) is pays = pays (omega (arith, (word_ok (take n room) (v x) (sym is)).1, length-take n room))
-word_pays v room n (Err e) is pays = tt
+line_pays v delimiter most room n (Ok x) is pays =
+    pays (omega (arith, (line_ok delimiter most (take n room) (v x) (sym (is end_of_input 0))).0, length-take n room))
+line_pays v delimiter most room n (Err why) is pays = tt
+
+pub word_pays : {A P : Type 0} (v : A → WordRead) (room : List ℕ) (n : ℕ) (r : Result A Halt)
+    → ((failure : ImageError) (budget : ℕ) → seen v (with_error failure budget r) ≡ word_text (take n room))
+    → (0 < n → P) → IfOk r (λ _. P)
+word_pays v room n (Ok x) is pays = pays (omega (arith, (word_ok (take n room) (v x) (sym (is end_of_input 0))).1, length-take n room))
+word_pays v room n (Err why) is pays = tt
 
 -- a line is no longer than there is room for, and a word takes some bytes, and fewer
-pub length_bound : (delimiter most : ℕ) (room : List ℕ) (n : ℕ) (r : Result ℕ ImageError) → length room ≡ most
-    → r ≡ line_length delimiter most (take n room) → IfOk r (λ count. count ≤ most)
+pub length_bound : (delimiter most : ℕ) (room : List ℕ) (n : ℕ) (r : Result ℕ Halt) → length room ≡ most
+    → ((failure : ImageError) (budget : ℕ) → with_error failure budget r ≡ line_length delimiter most (take n room))
+    → IfOk r (λ count. count ≤ most)
 length_bound delimiter most room n (Ok count) long is = omega (
   arith,
-  (length_ok delimiter most (take n room) count (sym is)).0,
+  (length_ok delimiter most (take n room) count (sym (is end_of_input 0))).0,
   length-take n room,
 )
-length_bound delimiter most room n (Err e) long is = tt
+length_bound delimiter most room n (Err why) long is = tt
 
-pub line_bound : {A : Type 0} (v : A → List ℕ) (delimiter most : ℕ) (room : List ℕ) (n : ℕ) (r : Result A ImageError)
-    → length room ≡ most → seen v r ≡ line_text delimiter most (take n room) → IfOk r (λ text. length (v text) < most)
+pub line_bound : {A : Type 0} (v : A → List ℕ) (delimiter most : ℕ) (room : List ℕ) (n : ℕ) (r : Result A Halt)
+    → length room ≡ most
+    → ((failure : ImageError) (budget : ℕ) → seen v (with_error failure budget r) ≡ line_text delimiter most (take n room))
+    → IfOk r (λ text. length (v text) < most)
 line_bound v delimiter most room n (Ok x) long is = omega (
   arith,
-  (line_ok delimiter most (take n room) (v x) (sym is)).0,
+  (line_ok delimiter most (take n room) (v x) (sym (is end_of_input 0))).0,
   length-take n room,
 )
-line_bound v delimiter most room n (Err e) long is = tt
+line_bound v delimiter most room n (Err why) long is = tt
 
-pub word_bound : {A : Type 0} (v : A → WordRead) (room : List ℕ) (n : ℕ) (r : Result A ImageError) → seen v r ≡ word_text (take n room)
+pub word_bound : {A : Type 0} (v : A → WordRead) (room : List ℕ) (n : ℕ) (r : Result A Halt)
+    → ((failure : ImageError) (budget : ℕ) → seen v (with_error failure budget r) ≡ word_text (take n room))
     → IfOk r (λ w. (0 < (v w).taken) × ((v w).taken < word_room))
 word_bound v room n (Ok x) is =
-    let ok = word_ok (take n room) (v x) (sym is) in
+    let ok = word_ok (take n room) (v x) (sym (is end_of_input 0)) in
     let ends = passes_last (λ b. is_word_end b (length (take n room))) (unspaced (take n room)) ok.2 in
     let few = below_room (last_byte (unspaced (take n room))) (length (take n room)) ends in
     (omega (arith, ok.0, ok.1), omega (arith, ok.0, few))
-word_bound v room n (Err e) is = tt
+word_bound v room n (Err why) is = tt
 
 any_at : (p : ℕ → Bool) (bs : List ℕ) (i : ℕ) → i < length bs → p (slice_index bs i) ≡ true → list_any p bs ≡ true
 any_at p [] i h is = absurd (omega arith)

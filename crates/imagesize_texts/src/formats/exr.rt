@@ -1,6 +1,7 @@
 //! OpenEXR, by "OpenEXR File Layout": its attributes up to the first data window that is not reversed.
 ghost use Rattle.std.specs.Prelude.{◌≡◌, ◌+◌, ◌<◌, ◌≤◌, length, IfOk};
 ghost use Rattle.imagesize_source.specs.Chain.{chain_at};
+ghost use Rattle.imagesize_source.specs.Halts.{RunsOrHalts, with_error};
 ghost use Rattle.imagesize_source.specs.Layout.{over};
 ghost use Rattle.imagesize_source.specs.Paying.{Nears, Paid};
 ghost use Rattle.imagesize_source.specs.Reading.{seen};
@@ -9,9 +10,9 @@ ghost use Rattle.imagesize_texts.specs.Exr.{attribute_said, box_size, exr, exr_a
 ghost use Rattle.imagesize_texts.specs.Texts.{line_read};
 
 use crate::util::{read_null_terminated_string, read_u32_behind};
+use imagesize_source::halt::{Halt, place_behind, read_bytes_behind, read_u32};
 use imagesize_source::source::Source;
-use imagesize_source::util::{Endian, place_behind, read_bytes_behind, read_u32};
-use imagesize_source::{ImageError, ImageResult, Reason};
+use imagesize_source::util::Endian;
 use imagesize_types::size::ImageSize;
 
 /// Whether the magic number stands first.
@@ -25,8 +26,9 @@ pub fn matches(head: &[u8; 12]) -> bool
 
 /// The sides of the first data window that is not reversed.
 #[tactic(auto, using(imagesize_source::proofs::Runs::steps))]
-pub fn size<S: Source>(source: &mut S) -> ImageResult<ImageSize>
-    ensures { Runs (S.state source.old) (S.state source.new) result (exr (S.state source.old).held.input) }
+pub fn size<S: Source>(source: &mut S) -> Result<ImageSize, Halt>
+    ensures { RunsOrHalts (S.state source.old) (S.state source.new) (S.failure source.new) result
+        (exr (S.state source.old).held.input) }
 {
     let version = read_u32(source, 4, Endian::Little)?;
     find_window(source, name_room(version))
@@ -44,10 +46,10 @@ fn name_room(version: u32) -> usize
 }
 
 // The size by the attributes, whose names may have so many bytes.
-fn find_window<S: Source>(source: &mut S, names: usize) -> ImageResult<ImageSize>
+fn find_window<S: Source>(source: &mut S, names: usize) -> Result<ImageSize, Halt>
     requires some { 0 < names }
     requires few { names ≤ 256 }
-    ensures { Runs (S.state source.old) (S.state source.new) result
+    ensures { RunsOrHalts (S.state source.old) (S.state source.new) (S.failure source.new) result
         (chain_at (exr_attributes names) (S.state source.old).held.input) }
 {
     let mut place: u64 = 8;
@@ -69,16 +71,17 @@ enum Attribute {
 
 // The attribute at a place.
 #[tactic(auto, using(imagesize_source::proofs::Runs::steps, imagesize_source::proofs::Runs::missed_before))]
-fn read_attribute<S: Source>(source: &mut S, place: u64, names: usize) -> ImageResult<Attribute>
+fn read_attribute<S: Source>(source: &mut S, place: u64, names: usize) -> Result<Attribute, Halt>
     requires { names ≤ 256 }
     ensures nears { IfOk result (λ found. Nears (S.state source.old) (S.state source.new) place (attribute_said place found)) }
-    ensures runs { Runs (S.state source.old) (S.state source.new) (seen (λ found. attribute_said place found) result)
+    ensures runs { Runs (S.state source.old) (S.state source.new)
+        (seen (λ found. attribute_said place found) (with_error (S.failure source.new) (S.state source.new).frame.budget result))
         (over (S.state source.old).held.input (exr_attribute names place)) }
 {
     let mut room = [0u8; 256];
     let name = read_name(source, place, names, &mut room)?;
     if name.is_empty() {
-        return Err(ImageError::IoError(Reason::DataWindowNotFound));
+        return Err(Halt::DataWindowNotFound);
     }
     let is_window = is_data_window(name);
     let typed = name.len() as u64 + 1;
@@ -105,11 +108,12 @@ fn read_name<'a, S: Source>(
     place: u64,
     names: usize,
     room: &'a mut [u8; 256],
-) -> ImageResult<&'a str>
+) -> Result<&'a str, Halt>
     requires { names ≤ 256 }
     ensures bound { IfOk result (λ text. length text.now < names) }
     ensures pays { IfOk result (λ text. Paid (S.state source.old) (S.state source.new) place) }
-    ensures runs { Runs (S.state source.old) (S.state source.new) (seen (λ text. text.now) result)
+    ensures runs { Runs (S.state source.old) (S.state source.new)
+        (seen (λ text. text.now) (with_error (S.failure source.new) (S.state source.new).frame.budget result))
         (line_read (S.state source.old).held.input 0 place names) }
 {
     read_null_terminated_string(source, place, &mut room[..names])
@@ -122,10 +126,11 @@ fn read_name_behind<'a, S: Source>(
     distance: u64,
     names: usize,
     room: &'a mut [u8; 256],
-) -> ImageResult<&'a str>
+) -> Result<&'a str, Halt>
     requires { names ≤ 256 }
     ensures bound { IfOk result (λ text. length text.now < names) }
-    ensures runs { Runs (S.state source.old) (S.state source.new) (seen (λ text. text.now) result)
+    ensures runs { Runs (S.state source.old) (S.state source.new)
+        (seen (λ text. text.now) (with_error (S.failure source.new) (S.state source.new).frame.budget result))
         (line_read (S.state source.old).held.input 0 (place + distance) names) }
 {
     read_name(source, place.saturating_add(distance), names, room)

@@ -1,16 +1,17 @@
 //! The portable bitmaps, by the manual pages pbm(5), pgm(5) and ppm(5) of Netpbm.
-ghost use Rattle.std.specs.Prelude.{◌≡◌, IfOk};
+ghost use Rattle.std.specs.Prelude.{◌≡◌, ℕ, IfOk};
+ghost use Rattle.imagesize_source.specs.Halts.{RunsOrHalts, with_error};
 ghost use Rattle.imagesize_source.specs.Layout.{over};
 ghost use Rattle.imagesize_source.specs.Paying.{Nears};
 ghost use Rattle.imagesize_source.specs.Reading.{seen};
 ghost use Rattle.imagesize_source.specs.State.{Runs};
 ghost use Rattle.imagesize_texts.specs.Pnm.{is_blank, is_comment, is_pnm, part_said, pnm, pnm_size, pnm_word};
 ghost use Rattle.imagesize_texts.specs.Texts.{word};
+ghost use Rattle.imagesize_source.specs.declared.error.ImageError.{ImageError};
 
 use crate::util::{WORD_ROOM, number, pass_line_behind, read_word, read_word_behind};
+use imagesize_source::halt::{Halt, place_behind};
 use imagesize_source::source::Source;
-use imagesize_source::util::place_behind;
-use imagesize_source::{ImageError, ImageResult, Reason};
 use imagesize_types::size::ImageSize;
 
 /// Whether a magic number from `P1` to `P6` stands first.
@@ -23,8 +24,9 @@ pub fn matches(head: &[u8; 12]) -> bool
 }
 
 /// The width and the height, which are the first two words that are neither in a comment nor blank.
-pub fn size<S: Source>(source: &mut S) -> ImageResult<ImageSize>
-    ensures { Runs (S.state source.old) (S.state source.new) result (pnm (S.state source.old).held.input) }
+pub fn size<S: Source>(source: &mut S) -> Result<ImageSize, Halt>
+    ensures { RunsOrHalts (S.state source.old) (S.state source.new) (S.failure source.new) result
+        (pnm (S.state source.old).held.input) }
 {
     let mut place: u64 = 2;
     loop {
@@ -45,9 +47,10 @@ enum Part {
 
 // The word at a place: with the height, where it is the width, and where it begins a comment with the rest of that.
 #[tactic(auto, using(imagesize_source::proofs::Runs::steps, imagesize_source::proofs::Runs::missed_before))]
-fn read_part<S: Source>(source: &mut S, place: u64) -> ImageResult<Part>
+fn read_part<S: Source>(source: &mut S, place: u64) -> Result<Part, Halt>
     ensures nears { IfOk result (λ part. Nears (S.state source.old) (S.state source.new) place (part_said place part)) }
-    ensures runs { Runs (S.state source.old) (S.state source.new) (seen (λ part. part_said place part) result)
+    ensures runs { Runs (S.state source.old) (S.state source.new)
+        (seen (λ part. part_said place part) (with_error (S.failure source.new) (S.state source.new).frame.budget result))
         (over (S.state source.old).held.input (word place (pnm_word place))) }
 {
     let mut room = [0u8; WORD_ROOM];
@@ -90,11 +93,11 @@ fn is_blank(text: &str) -> bool
 }
 
 // The size of these sides.
-fn pnm_size(width: Option<usize>, height: Option<usize>) -> ImageResult<ImageSize>
-    ensures { result ≡ pnm_size width height }
+fn pnm_size(width: Option<usize>, height: Option<usize>) -> Result<ImageSize, Halt>
+    ensures { (failure : ImageError) (budget : ℕ) → with_error failure budget result ≡ pnm_size width height }
 {
     match (width, height) {
         (Some(width), Some(height)) => Ok(ImageSize { width, height }),
-        _ => Err(ImageError::IoError(Reason::PnmDimensionsNotFound)),
+        _ => Err(Halt::PnmDimensionsNotFound),
     }
 }

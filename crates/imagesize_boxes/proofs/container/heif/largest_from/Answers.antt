@@ -16,7 +16,8 @@ pub returns-in_default : goal.returns-in_default
 returns-in_default g c =
     let h = list_end c.args.all c.args.from c.loop-property.place c.loop-property.gathered c.loop-property.invariant.walks
     (rw c.in_default.is at c.in_ok-property.ensures.runs) in
-    rw c.answer.ensures h
+    rw (c.answer.ensures (g.S.Source.failure c.read_property.new.source)
+    (g.S.Source.state c.read_property.new.source).frame.budget) h
 
 pub loop-property-preserved : goal.loop-property-preserved
 loop-property-preserved g c =
@@ -37,4 +38,8 @@ returns-in-None g c =
     let behind : c.args.from < next = omega (arith, c.loop-property.invariant.ahead, nears.0) in
     let h = list_past c.args.all c.args.from next (gathered_with c.loop-property.gathered c.in-Some.property) behind on
     (omega (arith, c.property_bytes.ensures, c.in-None.ensures)) in
-    rw (c.answer-in-None.ensures, c.gather-gathered.ensures) h
+    rw (
+      c.answer-in-None.ensures (g.S.Source.failure c.read_property.new.source)
+          (g.S.Source.state c.read_property.new.source).frame.budget,
+      c.gather-gathered.ensures,
+    ) h
