@@ -2,10 +2,11 @@
 use Rattle.std.proofs.Common.{ℕ, ◌+◌, ◌≤◌, List, length, Result, Ok, Err, arith}
 use Rattle.imagesize.proofs.Detection.{kind_cost, kind_at_most}
 use Rattle.imagesize.proofs.Ways.{laws_of}
-use Rattle.imagesize.specs.Counts.{cost, in_record, lasts, most, most_as, outside, stated, stated_as}
-use Rattle.imagesize.specs.Meaning.{kind_of, meaning, size_of, way_of}
+use Rattle.imagesize.specs.Counts.{cost, most, most_as, stated, stated_as}
+use Rattle.imagesize.specs.Meaning.{kind_of, meaning, size_of}
+use Rattle.imagesize.specs.Types.{in_record, lasts, outside, way_of}
 use Rattle.imagesize.specs.declared.types.ImageType.{ImageType}
-use Rattle.imagesize.specs.declared.types.ImageType.TheVariants.{Atc, Dds, Eac, Etc2, Exr, Hdr, Heif, Ico, Ilbm, Jpeg, Jxl, Pnm, Pvrtc, Tga, Tiff}
+use Rattle.imagesize.specs.declared.types.ImageType.TheVariants.{Aseprite}
 use Rattle.imagesize_source.proofs.Costs.{bound_of}
 use Rattle.imagesize_source.proofs.Runs.{total-append}
 use Rattle.imagesize_source.proofs.Way.{cost_way}
@@ -16,19 +17,7 @@ use Rattle.imagesize_source.specs.declared.span.Span.{Span}
 
 -- a type is read from no more than it is with what stands outside of the records
 kind_outside : (type : ImageType) → kind_cost type ≤ outside type
-kind_outside (Atc _) = omega arith
-kind_outside (Dds _) = omega arith
-kind_outside (Eac _) = omega arith
-kind_outside (Etc2 _) = omega arith
-kind_outside Exr = omega arith
-kind_outside (Heif _) = omega arith
-kind_outside Ico = omega arith
-kind_outside Ilbm = omega arith
-kind_outside Jpeg = omega arith
-kind_outside Jxl = omega arith
-kind_outside (Pvrtc _) = omega arith
-kind_outside Tga = omega arith
-kind_outside Tiff = omega arith
+kind_outside Aseprite = omega arith
 kind_outside _ = omega arith
 
 -- with its type, a size is read from at most the bytes of its format
@@ -47,18 +36,7 @@ cost_most d place = onward_most (kind_of d place).marks (kind_of d place).answer
 
 -- these are at most 41 more than the input has
 most_within : (r : Result ImageType ImageError) (d : List ℕ) → most_as r d ≤ length d + 41
-most_within (Ok (Atc _)) d = omega arith
-most_within (Ok (Dds _)) d = omega arith
-most_within (Ok Exr) d = omega arith
-most_within (Ok Hdr) d = omega arith
-most_within (Ok (Heif _)) d = omega arith
-most_within (Ok Ico) d = omega arith
-most_within (Ok Ilbm) d = omega arith
-most_within (Ok Jpeg) d = omega arith
-most_within (Ok Jxl) d = omega arith
-most_within (Ok Pnm) d = omega arith
-most_within (Ok (Pvrtc _)) d = omega arith
-most_within (Ok Tiff) d = omega arith
+most_within (Ok Aseprite) d = omega arith
 most_within (Ok _) d = omega arith
 most_within (Err e) d = omega arith
 
@@ -70,18 +48,7 @@ size_within type d = omega (arith, size_most type d, most_within (Ok type) d)
 
 -- and at most the bytes that are stated
 most_stated : (r : Result ImageType ImageError) (d : List ℕ) → most_as r d ≤ stated_as r d
-most_stated (Ok (Atc _)) d = omega arith
-most_stated (Ok (Dds _)) d = omega arith
-most_stated (Ok Exr) d = omega arith
-most_stated (Ok Hdr) d = omega arith
-most_stated (Ok (Heif _)) d = omega arith
-most_stated (Ok Ico) d = omega arith
-most_stated (Ok Ilbm) d = omega arith
-most_stated (Ok Jpeg) d = omega arith
-most_stated (Ok Jxl) d = omega arith
-most_stated (Ok Pnm) d = omega arith
-most_stated (Ok (Pvrtc _)) d = omega arith
-most_stated (Ok Tiff) d = omega arith
+most_stated (Ok Aseprite) d = omega arith
 most_stated (Ok _) d = omega arith
 most_stated (Err e) d = omega arith
 

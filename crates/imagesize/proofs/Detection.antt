@@ -12,9 +12,9 @@ use Rattle.imagesize_fixed.specs.Dds.{dds_compression}
 use Rattle.imagesize_fixed.specs.Pkm.{pkm_compression}
 use Rattle.imagesize_fixed.specs.Pvrtc.{pvrtc_compression}
 use Rattle.imagesize_fixed.specs.Tga.{is_tga}
-use Rattle.imagesize.specs.Counts.{lasts}
-use Rattle.imagesize.specs.Kind.{kind, kind_by, with_compression, tga_or_none, rows, first_row}
-use Rattle.imagesize.specs.Meaning.{kind_of, way_of}
+use Rattle.imagesize.specs.Kind.{kind, kind_by, with_compression, tga_or_none, first_row}
+use Rattle.imagesize.specs.Meaning.{kind_of}
+use Rattle.imagesize.specs.Types.{lasts, rows, way_of}
 use Rattle.imagesize.specs.declared.types.ImageType.{ImageType}
 use Rattle.imagesize.specs.declared.types.ImageType.TheVariants.{Atc, Dds, Eac, Etc2, Heif, Pvrtc, Tga}
 use Rattle.imagesize_source.proofs.Always.{Always, always, always_bind}
@@ -43,12 +43,6 @@ kind_cost _ = 12
 
 -- no type is read from more than 37
 pub kind_few : (type : ImageType) → kind_cost type ≤ 37
-kind_few (Heif _) = omega arith
-kind_few (Atc _) = omega arith
-kind_few (Pvrtc _) = omega arith
-kind_few (Eac _) = omega arith
-kind_few (Etc2 _) = omega arith
-kind_few (Dds _) = omega arith
 kind_few Tga = omega arith
 kind_few _ = omega arith
 

@@ -2,8 +2,9 @@
 use Rattle.std.proofs.Common.{◌≡◌, ℕ, true, List, ◌++◌, Result, Ok, Err, IfOk, IsTrue, refl, sym, ap, ◌∙◌}
 use Rattle.imagesize.proofs.Detection.{kind_cost, kind_more}
 use Rattle.imagesize.proofs.Ways.{laws_of}
-use Rattle.imagesize.specs.Counts.{in_record, lasts, lasts_as, outside}
-use Rattle.imagesize.specs.Meaning.{kind_of, size_of, meaning, way_of}
+use Rattle.imagesize.specs.Counts.{lasts_as}
+use Rattle.imagesize.specs.Meaning.{kind_of, size_of, meaning}
+use Rattle.imagesize.specs.Types.{in_record, lasts, outside, way_of}
 use Rattle.imagesize_types.specs.declared.size.ImageSize.{ImageSize}
 use Rattle.imagesize.specs.declared.types.ImageType.{ImageType}
 use Rattle.imagesize_source.proofs.Way.{lasts_way}

@@ -2,9 +2,9 @@
 use Rattle.std.proofs.Common.{ℕ}
 use Rattle.imagesize.proofs.Detection.{kind_cost}
 use Rattle.imagesize.proofs.Ways.{laws_of}
-use Rattle.imagesize.specs.Counts.{in_record, lasts, outside}
 use Rattle.imagesize.specs.Kind.{kind}
-use Rattle.imagesize.specs.Meaning.{kind_of, size_of, meaning, way_of}
+use Rattle.imagesize.specs.Meaning.{kind_of, size_of, meaning}
+use Rattle.imagesize.specs.Types.{in_record, lasts, outside, way_of}
 use Rattle.imagesize.specs.declared.types.ImageType.{ImageType}
 use Rattle.imagesize_source.proofs.Agreement.{local_layout, local_then, local_length}
 use Rattle.imagesize_source.proofs.Way.{local_way}

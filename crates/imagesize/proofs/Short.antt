@@ -1,7 +1,8 @@
 -- What is too short for a type ends there.
 use Rattle.std.proofs.Common.{◌≡◌, ℕ, ◌+◌, ◌<◌, List, length, Option, None, Some, Result, Err, sym, ap, ◌∙◌, arith}
 use Rattle.std.proofs.lemmas.Bool.Decides.{nat_tests}
-use Rattle.imagesize.specs.Kind.{first_row, kind_by, rows}
+use Rattle.imagesize.specs.Kind.{first_row, kind_by}
+use Rattle.imagesize.specs.Types.{rows}
 use Rattle.imagesize.specs.Meaning.{kind_of, meaning, size_of}
 use Rattle.imagesize.specs.Short.{Ends}
 use Rattle.imagesize_io.specs.Answers.{Answers}

@@ -24,9 +24,8 @@ use Rattle.imagesize_walked.proofs.Ilbm.{ilbm_laws}
 use Rattle.imagesize_walked.proofs.Jpeg.{jpeg_laws}
 use Rattle.imagesize_walked.proofs.Tiff.{tiff_laws}
 use Rattle.imagesize.proofs.Detection.{kind_cost}
-use Rattle.imagesize.specs.Counts.{in_record, lasts, outside}
-use Rattle.imagesize.specs.Meaning.{way_of}
 use Rattle.imagesize.specs.declared.types.ImageType.{ImageType}
+use Rattle.imagesize.specs.Types.{in_record, lasts, outside, way_of}
 use Rattle.imagesize.specs.declared.types.ImageType.TheVariants.{Aseprite, Astc, Atc, Bmp, Dds, Eac, Etc2, Exr, Farbfeld, Gif, Hdr, Heif, Ico, Ilbm, Jpeg, Jxl, Ktx2, Pnm, Pvrtc, Psd, Qoi, Tga, Tiff, Vtf, Webp}
 use Rattle.imagesize_source.proofs.Way.{Laws}
 

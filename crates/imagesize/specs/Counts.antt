@@ -1,8 +1,8 @@
 -- How many bytes a type and its size are read from, and what bytes that follow leave.
-use Rattle.std.specs.Prelude.{ℕ, Bool, true, false, List, Result, Ok, Err}
-use Rattle.imagesize.specs.Meaning.{kind_of, meaning, way_of}
+use Rattle.std.specs.Prelude.{ℕ, Bool, false, List, Result, Ok, Err}
+use Rattle.imagesize.specs.Meaning.{kind_of, meaning}
+use Rattle.imagesize.specs.Types.{in_record, lasts, outside, way_of}
 use Rattle.imagesize.specs.declared.types.ImageType.{ImageType}
-use Rattle.imagesize.specs.declared.types.ImageType.TheVariants.{Atc, Dds, Exr, Heif, Ico, Ilbm, Jpeg, Jxl, Pvrtc, Tga, Tiff}
 use Rattle.imagesize_source.specs.Limits.{stated_fixed}
 use Rattle.imagesize_source.specs.State.{total}
 use Rattle.imagesize_source.specs.Way.{most_by, stated_by}
@@ -21,25 +21,6 @@ stated_as (Err _) d = stated_fixed
 abbrev pub stated : List ℕ → ℕ → ℕ
 stated d place = stated_as (kind_of d place).answer d
 
--- What a size behind records is read from outside of them, and one at fixed places in all, with the type in both.
-abbrev pub outside : ImageType → ℕ
-outside (Atc _) = 40
-outside (Dds _) = 28
-outside Exr = 16
-outside (Heif _) = 32
-outside Ico = 18
-outside Ilbm = 18
-outside Jpeg = 18
-outside Jxl = 45
-outside (Pvrtc _) = 36
-outside Tiff = 36
-outside _ = 41
-
--- what it is read from in each record
-abbrev pub in_record : ImageType → ℕ
-in_record Exr = 530
-in_record _ = 20
-
 -- the most that is read by the format: 37 bytes where none is found
 abbrev pub most_as : Result ImageType ImageError → List ℕ → ℕ
 most_as (Ok type) d = most_by (outside type) (in_record type) (way_of type) d
@@ -48,13 +29,7 @@ most_as (Err _) d = 37
 abbrev pub most : List ℕ → ℕ → ℕ
 most d place = most_as (kind_of d place).answer d
 
--- Bytes that follow change no size, but of the types whose list or footer they may belong to.
-abbrev pub lasts : ImageType → Bool
-lasts (Heif _) = false
-lasts Ico = false
-lasts Tga = false
-lasts _ = true
-
+-- bytes that follow change no size of what was found
 abbrev pub lasts_as : Result ImageType ImageError → Bool
 lasts_as (Ok type) = lasts type
 lasts_as (Err _) = false

@@ -1,3 +1,4 @@
+pub mod Compressions
 pub mod Counts
 pub mod Kind
 pub mod Meaning
@@ -8,3 +9,4 @@ pub mod Queries
 pub mod Ranks
 pub mod Short
 pub mod Traced
+pub mod Types

@@ -1,6 +1,7 @@
 //! The formats of images, the table that tells them apart, and the size by each.
 ghost use Rattle.std.specs.Prelude.{◌≡◌, length};
-ghost use Rattle.imagesize.specs.Kind.{first_row, kind, kind_by, rows, tga_or_none, with_compression};
+ghost use Rattle.imagesize.specs.Kind.{first_row, kind, kind_by, tga_or_none, with_compression};
+ghost use Rattle.imagesize.specs.Types.{rows};
 ghost use Rattle.imagesize.specs.Meaning.{size_of};
 ghost use Rattle.imagesize_fixed.specs.Tga.{is_tga};
 ghost use Rattle.imagesize_source.specs.Layout.{bind, over};
@@ -102,32 +103,8 @@ fn first_row(head: &[u8; 12]) -> Option<ImageType>
 
 // The same type, with its compression read where it has several.
 #[inline(always)]
-#[tactic(auto, using(imagesize_source::proofs::Runs::steps), unfolding(crate::specs::Kind::with_compression))]
-fn with_compression<S: Source>(
-    source: &mut S,
-    place: u64,
-    head: &[u8; 12],
-    found: ImageType,
-) -> ImageResult<ImageType>
-    requires { Sound (S.state source.old) }
-    ensures { Runs (S.state source.old) (S.state source.new) result
-        (over (S.state source.old).held.input (with_compression place head.now found)) }
-{
-    match found {
-        ImageType::Heif(_)
-        | ImageType::Atc(_)
-        | ImageType::Pvrtc(_)
-        | ImageType::Eac(_)
-        | ImageType::Etc2(_)
-        | ImageType::Dds(_) => read_kind(source, place, head, found),
-        _ => Ok(found),
-    }
-}
-
-// The type with its compression read, of which it has several.
-#[inline(always)]
 #[tactic(auto, using(imagesize_source::proofs::Runs::steps, imagesize_source::proofs::Layouts::binding), unfolding(crate::specs::Kind::with_compression))]
-fn read_kind<S: Source>(
+fn with_compression<S: Source>(
     source: &mut S,
     place: u64,
     head: &[u8; 12],

@@ -2,7 +2,8 @@
 //! function says, and the function itself does nothing.
 ghost use Rattle.std.specs.Prelude.{◌≡◌, true};
 ghost use Rattle.imagesize_types.specs.Comparisons.{IsLawfulHash, IsLawfulOrder, RankedBy};
-ghost use Rattle.imagesize.specs.Ranks.{IsListed, family_rank, is_ascending, types};
+ghost use Rattle.imagesize.specs.Ranks.{IsListed, family_rank, is_ascending};
+ghost use Rattle.imagesize.specs.Types.{types};
 
 use crate::types::{CompressionFamily, ImageType};
 use imagesize_source::Span;

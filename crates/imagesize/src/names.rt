@@ -1,7 +1,8 @@
-//! The names of types of images, and how a type is printed.
+//! How a type is printed, and the names of its compressions.
 ghost use Rattle.std.specs.Prelude.{◌≡◌, Some};
 ghost use Rattle.std.specs.Option.{option_copied};
-ghost use Rattle.imagesize.specs.Names.{atc_name_of, dds_name_of, heif_name_of, pkm_name_of, pvrtc_name_of, type_name_of, compression_name_of};
+ghost use Rattle.imagesize.specs.Names.{compression_name_of};
+ghost use Rattle.imagesize.specs.Compressions.{atc_name_of, dds_name_of, heif_name_of, pkm_name_of, pvrtc_name_of};
 
 use crate::types::ImageType;
 use imagesize_types::compression::{
@@ -28,45 +29,6 @@ impl fmt::Display for TypeName {
 }
 
 impl ImageType {
-    /// The name of the type, as in this list.
-    ///
-    /// ```
-    /// use imagesize::ImageType;
-    ///
-    /// assert_eq!(ImageType::Gif.name(), "Gif");
-    /// ```
-    pub fn name(&self) -> &'static str
-        ensures { result.now ≡ type_name_of self.now }
-    {
-        match self {
-            ImageType::Aseprite => "Aseprite",
-            ImageType::Astc => "Astc",
-            ImageType::Atc(_) => "Atc",
-            ImageType::Bmp => "Bmp",
-            ImageType::Dds(_) => "Dds",
-            ImageType::Eac(_) => "Eac",
-            ImageType::Etc2(_) => "Etc2",
-            ImageType::Exr => "Exr",
-            ImageType::Farbfeld => "Farbfeld",
-            ImageType::Gif => "Gif",
-            ImageType::Hdr => "Hdr",
-            ImageType::Heif(_) => "Heif",
-            ImageType::Ico => "Ico",
-            ImageType::Ilbm => "Ilbm",
-            ImageType::Jpeg => "Jpeg",
-            ImageType::Jxl => "Jxl",
-            ImageType::Ktx2 => "Ktx2",
-            ImageType::Pnm => "Pnm",
-            ImageType::Pvrtc(_) => "Pvrtc",
-            ImageType::Psd => "Psd",
-            ImageType::Qoi => "Qoi",
-            ImageType::Tga => "Tga",
-            ImageType::Tiff => "Tiff",
-            ImageType::Vtf => "Vtf",
-            ImageType::Webp => "Webp",
-        }
-    }
-
     /// The name of the type's compression, where it has several.
     ///
     /// ```

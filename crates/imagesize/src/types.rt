@@ -1,6 +1,6 @@
-//! The types of images.
+//! The types of images: their list, and the names and places in it.
 ghost use Rattle.std.specs.Prelude.{◌≡◌};
-ghost use Rattle.imagesize.specs.Ranks.{types};
+ghost use Rattle.imagesize.specs.Types.{type_name_of, type_rank, types};
 
 use imagesize_types::compression::{
     AtcCompression, Compression, DdsCompression, PkmCompression, PvrtcCompression,
@@ -144,6 +144,66 @@ impl ImageType {
         ensures { result.now ≡ types }
     {
         &TYPES
+    }
+
+    /// The name of the type, as in this list.
+    ///
+    /// ```
+    /// use imagesize::ImageType;
+    ///
+    /// assert_eq!(ImageType::Gif.name(), "Gif");
+    /// ```
+    pub fn name(&self) -> &'static str
+        ensures { result.now ≡ type_name_of self.now }
+    {
+        self.row().1
+    }
+
+    /// The place of the type in its list, counted from 0, whatever its compression.
+    ///
+    /// ```
+    /// use imagesize::ImageType;
+    ///
+    /// assert_eq!(ImageType::Aseprite.place(), 0);
+    /// ```
+    pub fn place(&self) -> u32
+        ensures { result ≡ type_rank self.now }
+    {
+        self.row().0
+    }
+
+    // The place of the type, and its name.
+    fn row(&self) -> (u32, &'static str)
+        ensures place { result.0 ≡ type_rank self.now }
+        ensures name { (result.1).now ≡ type_name_of self.now }
+    {
+        match self {
+            ImageType::Aseprite => (0, "Aseprite"),
+            ImageType::Astc => (1, "Astc"),
+            ImageType::Atc(_) => (2, "Atc"),
+            ImageType::Bmp => (3, "Bmp"),
+            ImageType::Dds(_) => (4, "Dds"),
+            ImageType::Eac(_) => (5, "Eac"),
+            ImageType::Etc2(_) => (6, "Etc2"),
+            ImageType::Exr => (7, "Exr"),
+            ImageType::Farbfeld => (8, "Farbfeld"),
+            ImageType::Gif => (9, "Gif"),
+            ImageType::Hdr => (10, "Hdr"),
+            ImageType::Heif(_) => (11, "Heif"),
+            ImageType::Ico => (12, "Ico"),
+            ImageType::Ilbm => (13, "Ilbm"),
+            ImageType::Jpeg => (14, "Jpeg"),
+            ImageType::Jxl => (15, "Jxl"),
+            ImageType::Ktx2 => (16, "Ktx2"),
+            ImageType::Pnm => (17, "Pnm"),
+            ImageType::Pvrtc(_) => (18, "Pvrtc"),
+            ImageType::Psd => (19, "Psd"),
+            ImageType::Qoi => (20, "Qoi"),
+            ImageType::Tga => (21, "Tga"),
+            ImageType::Tiff => (22, "Tiff"),
+            ImageType::Vtf => (23, "Vtf"),
+            ImageType::Webp => (24, "Webp"),
+        }
     }
 }
 

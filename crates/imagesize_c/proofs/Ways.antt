@@ -1,7 +1,7 @@
 -- Each type's numbers lead back to it.
 use Rattle.std.proofs.Common.{◌≡◌, Some, refl}
 use Rattle.imagesize.specs.declared.types.ImageType.{ImageType}
-use Rattle.imagesize.specs.declared.types.ImageType.TheVariants.{Aseprite, Astc, Atc, Bmp, Dds, Eac, Etc2, Exr, Farbfeld, Gif, Hdr, Heif, Ico, Ilbm, Jpeg, Jxl, Ktx2, Pnm, Pvrtc, Psd, Qoi, Tga, Tiff, Vtf, Webp}
+use Rattle.imagesize.specs.declared.types.ImageType.TheVariants.{Atc, Dds, Eac, Etc2, Heif, Pvrtc}
 use Rattle.imagesize_c.specs.Numbers.{compression_number, type_number, type_numbered}
 use Rattle.imagesize_types.specs.declared.compression.AtcCompression.TheVariants as atc
 use Rattle.imagesize_types.specs.declared.compression.Compression.TheVariants as heif
@@ -11,13 +11,10 @@ use Rattle.imagesize_types.specs.declared.compression.PvrtcCompression.TheVarian
 
 pub type_back : (image : ImageType) → type_numbered (type_number image) (compression_number image) ≡ Some image
 unfolding type_numbered
-type_back Aseprite = refl
-type_back Astc = refl
 type_back (Atc atc.Rgb) = refl
 type_back (Atc atc.RgbaExplicit) = refl
 type_back (Atc atc.RgbaInterpolated) = refl
 type_back (Atc atc.Unknown) = refl
-type_back Bmp = refl
 type_back (Dds dds.Bc1) = refl
 type_back (Dds dds.Bc2) = refl
 type_back (Dds dds.Bc3) = refl
@@ -46,20 +43,10 @@ type_back (Etc2 pkm.EacRg) = refl
 type_back (Etc2 pkm.EacRSigned) = refl
 type_back (Etc2 pkm.EacRgSigned) = refl
 type_back (Etc2 pkm.Unknown) = refl
-type_back Exr = refl
-type_back Farbfeld = refl
-type_back Gif = refl
-type_back Hdr = refl
 type_back (Heif heif.Av1) = refl
 type_back (Heif heif.Hevc) = refl
 type_back (Heif heif.Jpeg) = refl
 type_back (Heif heif.Unknown) = refl
-type_back Ico = refl
-type_back Ilbm = refl
-type_back Jpeg = refl
-type_back Jxl = refl
-type_back Ktx2 = refl
-type_back Pnm = refl
 type_back (Pvrtc pvrtc.Pvrtc2BppRgb) = refl
 type_back (Pvrtc pvrtc.Pvrtc2BppRgba) = refl
 type_back (Pvrtc pvrtc.Pvrtc4BppRgb) = refl
@@ -70,9 +57,4 @@ type_back (Pvrtc pvrtc.Etc2RgbA1) = refl
 type_back (Pvrtc pvrtc.EacR11) = refl
 type_back (Pvrtc pvrtc.EacRg11) = refl
 type_back (Pvrtc pvrtc.Unknown) = refl
-type_back Psd = refl
-type_back Qoi = refl
-type_back Tga = refl
-type_back Tiff = refl
-type_back Vtf = refl
-type_back Webp = refl
+type_back _ = refl

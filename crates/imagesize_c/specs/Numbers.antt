@@ -1,7 +1,8 @@
 -- The numbers of types, of compressions and of families: a base, and the place in the list.
 use Rattle.std.specs.Prelude.{ℕ, Bool, ◌+◌, ◌==◌, ◌&&◌, if◌then◌else◌, Option, None, Some}
 use Rattle.std.specs.List.{find}
-use Rattle.imagesize.specs.Ranks.{family_rank, type_rank, types}
+use Rattle.imagesize.specs.Ranks.{family_rank}
+use Rattle.imagesize.specs.Types.{type_rank, types}
 use Rattle.imagesize.specs.declared.types.CompressionFamily.{CompressionFamily}
 use Rattle.imagesize.specs.declared.types.ImageType.{ImageType}
 use Rattle.imagesize.specs.declared.types.ImageType.TheVariants.{Atc, Dds, Eac, Etc2, Heif, Pvrtc}

@@ -11,33 +11,7 @@ use imagesize::{
 pub fn type_number(image: ImageType) -> u32
     ensures { result ≡ type_number image }
 {
-    match image {
-        ImageType::Aseprite => 1,
-        ImageType::Astc => 2,
-        ImageType::Atc(_) => 3,
-        ImageType::Bmp => 4,
-        ImageType::Dds(_) => 5,
-        ImageType::Eac(_) => 6,
-        ImageType::Etc2(_) => 7,
-        ImageType::Exr => 8,
-        ImageType::Farbfeld => 9,
-        ImageType::Gif => 10,
-        ImageType::Hdr => 11,
-        ImageType::Heif(_) => 12,
-        ImageType::Ico => 13,
-        ImageType::Ilbm => 14,
-        ImageType::Jpeg => 15,
-        ImageType::Jxl => 16,
-        ImageType::Ktx2 => 17,
-        ImageType::Pnm => 18,
-        ImageType::Pvrtc(_) => 19,
-        ImageType::Psd => 20,
-        ImageType::Qoi => 21,
-        ImageType::Tga => 22,
-        ImageType::Tiff => 23,
-        ImageType::Vtf => 24,
-        ImageType::Webp => 25,
-    }
+    1 + image.place()
 }
 
 /// The number of a type's compression, which is 0 where it has none.

@@ -1,6 +1,6 @@
 //! Texts, each in a buffer that the caller lends.
 ghost use Rattle.std.specs.Prelude.{◌≡◌};
-ghost use Rattle.imagesize.specs.Names.{type_name_of};
+ghost use Rattle.imagesize.specs.Types.{type_name_of};
 ghost use Rattle.imagesize_c.specs.Lends.{Lends, LendsIf};
 ghost use Rattle.imagesize_c.specs.Told.{compression_text, container_text, status_text, text_of};
 

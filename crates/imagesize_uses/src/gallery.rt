@@ -1,7 +1,8 @@
 //! An index of a gallery: sizes from the fronts of files.
 ghost use Rattle.std.specs.Prelude.{◌≡◌, ℕ, ◌++◌, List, IfSome, Ok, false, None, if◌then◌else◌};
 ghost use Rattle.std.specs.Result.{result_ok};
-ghost use Rattle.imagesize.specs.Counts.{lasts, lasts_as};
+ghost use Rattle.imagesize.specs.Counts.{lasts_as};
+ghost use Rattle.imagesize.specs.Types.{lasts};
 ghost use Rattle.imagesize.specs.Meaning.{kind_of, meaning};
 
 use imagesize::{ImageSize, ImageType, blob_size, image_type};

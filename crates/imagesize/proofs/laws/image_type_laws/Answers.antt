@@ -6,7 +6,8 @@ use Rattle.imagesize.specs.contracts.types.ImageTypePartialEq.TheImpl.{eq-value}
 use Rattle.imagesize.specs.contracts.types.ImageType.{enum}
 use Rattle.imagesize.specs.contracts.types.ImageTypeEq.TheImpl.Laws as equal
 use Rattle.imagesize.proofs.Listing.{listed}
-use Rattle.imagesize.specs.Ranks.{type_rank, compression_rank}
+use Rattle.imagesize.specs.Ranks.{compression_rank}
+use Rattle.imagesize.specs.Types.{type_rank}
 use Rattle.imagesize_types.specs.Comparisons.{RankedBy}
 use Rattle.imagesize_types.specs.Ranks.{atc_rank, dds_rank, heif_rank, pkm_rank, pvrtc_rank}
 use Rattle.imagesize_types.specs.contracts.compression.AtcCompressionOrd.TheImpl.{cmp-value as atc_cmp}

@@ -1,0 +1,152 @@
+-- The table of the types: all that is said of each one, but for its compressions.
+use Rattle.std.specs.Prelude.{ℕ, Bool, true, false, List, [], ◌∷◌, ◌++◌, map, codes}
+use Rattle.imagesize_fixed.specs.Aseprite.{is_aseprite, aseprite}
+use Rattle.imagesize_fixed.specs.Astc.{is_astc, astc}
+use Rattle.imagesize_fixed.specs.Atc.{is_atc, atc}
+use Rattle.imagesize_fixed.specs.Bmp.{is_bmp, bmp}
+use Rattle.imagesize_fixed.specs.Dds.{is_dds, dds}
+use Rattle.imagesize_texts.specs.Exr.{is_exr, attributes_begun, exr}
+use Rattle.imagesize_fixed.specs.Farbfeld.{is_farbfeld, farbfeld}
+use Rattle.imagesize_fixed.specs.Gif.{is_gif, gif}
+use Rattle.imagesize_texts.specs.Hdr.{is_hdr, hdr}
+use Rattle.imagesize_boxes.specs.Heif.{is_heif, heif, heif_boxes}
+use Rattle.imagesize_walked.specs.Ico.{is_ico, entries_begun, ico}
+use Rattle.imagesize_walked.specs.Ilbm.{is_ilbm, ilbm, ilbm_chunks}
+use Rattle.imagesize_walked.specs.Jpeg.{is_jpeg, jpeg, jpeg_segments}
+use Rattle.imagesize_boxes.specs.Jxl.{is_jxl, jxl, jxl_boxes}
+use Rattle.imagesize_fixed.specs.Ktx2.{is_ktx2, ktx2}
+use Rattle.imagesize_fixed.specs.Pkm.{is_eac, is_pkm, pkm}
+use Rattle.imagesize_texts.specs.Pnm.{is_pnm, pnm}
+use Rattle.imagesize_fixed.specs.Psd.{is_psd, psd}
+use Rattle.imagesize_fixed.specs.Pvrtc.{is_pvrtc, pvrtc}
+use Rattle.imagesize_fixed.specs.Qoi.{is_qoi, qoi}
+use Rattle.imagesize_fixed.specs.Tga.{tga}
+use Rattle.imagesize_walked.specs.Tiff.{is_tiff, entries_begun as tiff_begun, tiff}
+use Rattle.imagesize_fixed.specs.Vtf.{is_vtf, vtf}
+use Rattle.imagesize_fixed.specs.Webp.{is_webp, webp}
+use Rattle.imagesize.specs.Compressions.{atc_ways, dds_ways, heif_ways, pkm_ways, pvrtc_ways}
+use Rattle.imagesize.specs.declared.types.ImageType.{ImageType}
+use Rattle.imagesize.specs.declared.types.ImageType.TheVariants.{Aseprite, Astc, Atc, Bmp, Dds, Eac, Etc2, Exr, Farbfeld, Gif, Hdr, Heif, Ico, Ilbm, Jpeg, Jxl, Ktx2, Pnm, Pvrtc, Psd, Qoi, Tga, Tiff, Vtf, Webp}
+use Rattle.imagesize_source.specs.Chain.{records}
+use Rattle.imagesize_source.specs.Way.{Way, Fixed, Recorded, Texts}
+use Rattle.imagesize_types.specs.declared.compression.AtcCompression.TheVariants.{Unknown as atc_unknown}
+use Rattle.imagesize_types.specs.declared.compression.Compression.TheVariants.{Unknown as heif_unknown}
+use Rattle.imagesize_types.specs.declared.compression.DdsCompression.TheVariants.{Unknown as dds_unknown}
+use Rattle.imagesize_types.specs.declared.compression.PkmCompression.TheVariants.{Unknown as pkm_unknown}
+use Rattle.imagesize_types.specs.declared.compression.PvrtcCompression.TheVariants.{Unknown as pvrtc_unknown}
+use Rattle.imagesize_types.specs.declared.size.ImageSize.{ImageSize}
+
+-- What is said of a type: its place in the list, counted from 0; its name; and how its size is told.
+-- Of a size behind records `outside` is read outside of them and `in_record` in each, and `outside` is all of one at fixed
+-- places, with the type in both. Where it `lasts`, bytes that follow leave it as it is.
+pub record TypeRow : Type 0 where
+  pub rank : ℕ
+  pub name : List ℕ
+  pub way : Way ImageSize
+  pub outside : ℕ
+  pub in_record : ℕ
+  pub lasts : Bool
+
+-- a row, written in this order
+abbrev pub row : ℕ → List ℕ → Way ImageSize → ℕ → ℕ → Bool → TypeRow
+row rank name way outside in_record lasts = record {
+  rank = rank;
+  name = name;
+  way = way;
+  outside = outside;
+  in_record = in_record;
+  lasts = lasts;
+}
+
+-- The table. The sizes that bytes that follow may change are those whose list or footer these may belong to.
+abbrev pub row_of : ImageType → TypeRow
+row_of Aseprite = row 0 (codes "Aseprite") (Fixed aseprite) 41 20 true
+row_of Astc = row 1 (codes "Astc") (Fixed astc) 41 20 true
+row_of (Atc _) = row 2 (codes "Atc") (Fixed atc) 40 20 true
+row_of Bmp = row 3 (codes "Bmp") (Fixed bmp) 41 20 true
+row_of (Dds _) = row 4 (codes "Dds") (Fixed dds) 28 20 true
+row_of (Eac _) = row 5 (codes "Eac") (Fixed pkm) 41 20 true
+row_of (Etc2 _) = row 6 (codes "Etc2") (Fixed pkm) 41 20 true
+row_of Exr = row 7 (codes "Exr") (Recorded 540 exr attributes_begun) 16 530 true
+row_of Farbfeld = row 8 (codes "Farbfeld") (Fixed farbfeld) 41 20 true
+row_of Gif = row 9 (codes "Gif") (Fixed gif) 41 20 true
+row_of Hdr = row 10 (codes "Hdr") (Texts hdr) 41 20 true
+row_of (Heif _) = row 11 (codes "Heif") (Recorded 20 heif heif_boxes) 32 20 false
+row_of Ico = row 12 (codes "Ico") (Recorded 20 ico entries_begun) 18 20 false
+row_of Ilbm = row 13 (codes "Ilbm") (Recorded 20 ilbm (records ilbm_chunks)) 18 20 true
+row_of Jpeg = row 14 (codes "Jpeg") (Recorded 20 jpeg (records jpeg_segments)) 18 20 true
+row_of Jxl = row 15 (codes "Jxl") (Recorded 20 jxl jxl_boxes) 45 20 true
+row_of Ktx2 = row 16 (codes "Ktx2") (Fixed ktx2) 41 20 true
+row_of Pnm = row 17 (codes "Pnm") (Texts pnm) 41 20 true
+row_of (Pvrtc _) = row 18 (codes "Pvrtc") (Fixed pvrtc) 36 20 true
+row_of Psd = row 19 (codes "Psd") (Fixed psd) 41 20 true
+row_of Qoi = row 20 (codes "Qoi") (Fixed qoi) 41 20 true
+row_of Tga = row 21 (codes "Tga") (Fixed tga) 41 20 false
+row_of Tiff = row 22 (codes "Tiff") (Recorded 20 tiff tiff_begun) 36 20 true
+row_of Vtf = row 23 (codes "Vtf") (Fixed vtf) 41 20 true
+row_of Webp = row 24 (codes "Webp") (Fixed webp) 41 20 true
+
+-- the types in their order, each with each way to store it that it has
+abbrev pub types : List ImageType
+types =
+    Aseprite ∷ Astc ∷ (map Atc atc_ways ++ (Bmp ∷ (map Dds dds_ways ++ (map Eac pkm_ways ++ (map Etc2 pkm_ways
+    ++ (Exr ∷ Farbfeld ∷ Gif ∷ Hdr ∷ (map Heif heif_ways ++ (Ico ∷ Ilbm ∷ Jpeg ∷ Jxl ∷ Ktx2 ∷ Pnm ∷ (map Pvrtc pvrtc_ways
+    ++ (Psd ∷ Qoi ∷ Tga ∷ Tiff ∷ Vtf ∷ Webp ∷ []))))))))))
+
+-- A test of the first twelve bytes, and the type where it holds, its compression still unknown.
+pub record Row : Type 0 where
+  pub holds : List ℕ → Bool
+  pub found : ImageType
+
+-- the types that their first bytes tell, in the order in which they are tried
+abbrev pub rows : List Row
+rows =
+    record { holds = is_jpeg; found = Jpeg }
+    ∷ record { holds = is_gif; found = Gif }
+    ∷ record { holds = is_tiff; found = Tiff }
+    ∷ record { holds = is_webp; found = Webp }
+    ∷ record { holds = is_heif; found = Heif heif_unknown }
+    ∷ record { holds = is_jxl; found = Jxl }
+    ∷ record { holds = is_bmp; found = Bmp }
+    ∷ record { holds = is_psd; found = Psd }
+    ∷ record { holds = is_ico; found = Ico }
+    ∷ record { holds = is_aseprite; found = Aseprite }
+    ∷ record { holds = is_astc; found = Astc }
+    ∷ record { holds = is_atc; found = Atc atc_unknown }
+    ∷ record { holds = is_pvrtc; found = Pvrtc pvrtc_unknown }
+    ∷ record { holds = is_eac; found = Eac pkm_unknown }
+    ∷ record { holds = is_pkm; found = Etc2 pkm_unknown }
+    ∷ record { holds = is_exr; found = Exr }
+    ∷ record { holds = is_hdr; found = Hdr }
+    ∷ record { holds = is_dds; found = Dds dds_unknown }
+    ∷ record { holds = is_ktx2; found = Ktx2 }
+    ∷ record { holds = is_qoi; found = Qoi }
+    ∷ record { holds = is_farbfeld; found = Farbfeld }
+    ∷ record { holds = is_pnm; found = Pnm }
+    ∷ record { holds = is_vtf; found = Vtf }
+    ∷ record { holds = is_ilbm; found = Ilbm }
+    ∷ []
+
+-- the place of a type in its list
+abbrev pub type_rank : ImageType → ℕ
+type_rank type = (row_of type).rank
+
+-- the name of a type
+abbrev pub type_name_of : ImageType → List ℕ
+type_name_of type = (row_of type).name
+
+-- how the size of each type is told
+abbrev pub way_of : ImageType → Way ImageSize
+way_of type = (row_of type).way
+
+-- what a size behind records is read from outside of them, and one at fixed places in all, with the type in both
+abbrev pub outside : ImageType → ℕ
+outside type = (row_of type).outside
+
+-- what it is read from in each record
+abbrev pub in_record : ImageType → ℕ
+in_record type = (row_of type).in_record
+
+-- bytes that follow change no size of this type
+abbrev pub lasts : ImageType → Bool
+lasts type = (row_of type).lasts
