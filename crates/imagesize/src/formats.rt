@@ -4,18 +4,19 @@ ghost use Rattle.imagesize.specs.Kind.{first_row, kind, kind_by, tga_or_none, wi
 ghost use Rattle.imagesize.specs.Types.{rows};
 ghost use Rattle.imagesize.specs.Meaning.{size_of};
 ghost use Rattle.imagesize_fixed.specs.Tga.{is_tga};
+ghost use Rattle.imagesize_source.specs.Halts.{RunsOrHalts};
 ghost use Rattle.imagesize_source.specs.Layout.{bind, over};
 ghost use Rattle.imagesize_source.specs.State.{Runs, Sound};
 
 use crate::types::ImageType;
-use crate::{ImageError, ImageResult, Reason};
+use crate::ImageResult;
 use imagesize_boxes::container::heif;
 use imagesize_boxes::formats::jxl;
 use imagesize_fixed::container::{atc, dds, pkm, pvrtc};
 use imagesize_fixed::formats::{
     aseprite, astc, bmp, farbfeld, gif, ktx2, psd, qoi, tga, vtf, webp,
 };
-use imagesize_source::halt::answered;
+use imagesize_source::halt::{Halt, answered, read_bytes};
 use imagesize_source::source::Source;
 use imagesize_texts::formats::{exr, hdr, pnm};
 use imagesize_types::compression::{
@@ -30,20 +31,34 @@ pub(crate) fn detect<S: Source>(source: &mut S, place: u64) -> ImageResult<Image
     ensures { Runs (S.state source.old) (S.state source.new) result
         (over (S.state source.old).held.input (kind (length (S.state source.old).held.input) place)) }
 {
-    let mut head = [0u8; 12];
-    match source.read_at(place, &mut head) {
-        Ok(count) if count >= head.len() => by_head(source, place, &head),
-        Ok(_) => Err(ImageError::IoError(Reason::EndOfInput)),
-        Err(halt) => Err(source.refusal(halt)),
-    }
+    answered(read_kind(source, place), source)
+}
+
+/// The size of the image, read as this type whatever its first bytes are.
+#[inline(always)]
+pub(crate) fn size<S: Source>(source: &mut S, kind: ImageType) -> ImageResult<ImageSize>
+    ensures { Runs (S.state source.old) (S.state source.new) result
+        (size_of kind (S.state source.old).held.input) }
+{
+    answered(read_size(source, kind), source)
+}
+
+// The type by the twelve bytes at a place, or why there is none.
+#[inline(always)]
+fn read_kind<S: Source>(source: &mut S, place: u64) -> Result<ImageType, Halt>
+    ensures { RunsOrHalts (S.state source.old) (S.state source.new) (S.failure source.new) result
+        (over (S.state source.old).held.input (kind (length (S.state source.old).held.input) place)) }
+{
+    let head = read_bytes::<S, 12>(source, place)?;
+    by_head(source, place, &head)
 }
 
 // The type by the twelve bytes at a place.
 #[inline(always)]
 #[tactic(auto, using(imagesize_source::proofs::Runs::steps, imagesize_source::proofs::Layouts::binding))]
-fn by_head<S: Source>(source: &mut S, place: u64, head: &[u8; 12]) -> ImageResult<ImageType>
+fn by_head<S: Source>(source: &mut S, place: u64, head: &[u8; 12]) -> Result<ImageType, Halt>
     requires { Sound (S.state source.old) }
-    ensures { Runs (S.state source.old) (S.state source.new) result
+    ensures { RunsOrHalts (S.state source.old) (S.state source.new) (S.failure source.new) result
         (over (S.state source.old).held.input
         (kind_by (length (S.state source.old).held.input) place head.now (first_row rows head.now))) }
 {
@@ -56,15 +71,15 @@ fn by_head<S: Source>(source: &mut S, place: u64, head: &[u8; 12]) -> ImageResul
 // TGA has no signature at its beginning, so it comes behind the rows.
 #[inline(always)]
 #[tactic(auto, using(imagesize_source::proofs::Runs::steps, imagesize_source::proofs::Layouts::binding))]
-fn tga_or_none<S: Source>(source: &mut S, head: &[u8; 12]) -> ImageResult<ImageType>
+fn tga_or_none<S: Source>(source: &mut S, head: &[u8; 12]) -> Result<ImageType, Halt>
     requires { Sound (S.state source.old) }
-    ensures { Runs (S.state source.old) (S.state source.new) result
+    ensures { RunsOrHalts (S.state source.old) (S.state source.new) (S.failure source.new) result
         (over (S.state source.old).held.input (bind (is_tga (length (S.state source.old).held.input) head.now) tga_or_none)) }
 {
-    if answered(tga::matches(source, head), source)? {
+    if tga::matches(source, head)? {
         return Ok(ImageType::Tga);
     }
-    Err(ImageError::NotSupported)
+    Err(Halt::NotSupported)
 }
 
 // The type of the first row that holds, its compression still unknown.
@@ -109,55 +124,52 @@ fn with_compression<S: Source>(
     place: u64,
     head: &[u8; 12],
     found: ImageType,
-) -> ImageResult<ImageType>
+) -> Result<ImageType, Halt>
     requires { Sound (S.state source.old) }
-    ensures { Runs (S.state source.old) (S.state source.new) result
+    ensures { RunsOrHalts (S.state source.old) (S.state source.new) (S.failure source.new) result
         (over (S.state source.old).held.input (with_compression place head.now found)) }
 {
     Ok(match found {
-        ImageType::Heif(_) => ImageType::Heif(answered(heif::detect_compression(source, place, head), source)?),
-        ImageType::Atc(_) => ImageType::Atc(answered(atc::detect_compression(source), source)?),
-        ImageType::Pvrtc(_) => ImageType::Pvrtc(answered(
-            pvrtc::detect_compression(source),
-            source,
-        )?),
-        ImageType::Eac(_) => ImageType::Eac(answered(pkm::detect_compression(source), source)?),
-        ImageType::Etc2(_) => ImageType::Etc2(answered(pkm::detect_compression(source), source)?),
-        ImageType::Dds(_) => ImageType::Dds(answered(dds::detect_compression(source), source)?),
+        ImageType::Heif(_) => ImageType::Heif(heif::detect_compression(source, place, head)?),
+        ImageType::Atc(_) => ImageType::Atc(atc::detect_compression(source)?),
+        ImageType::Pvrtc(_) => ImageType::Pvrtc(pvrtc::detect_compression(source)?),
+        ImageType::Eac(_) => ImageType::Eac(pkm::detect_compression(source)?),
+        ImageType::Etc2(_) => ImageType::Etc2(pkm::detect_compression(source)?),
+        ImageType::Dds(_) => ImageType::Dds(dds::detect_compression(source)?),
         _ => found,
     })
 }
 
-/// The size of the image, read as this type whatever its first bytes are.
+// The size, by the format of a type.
 #[tactic(auto, using(imagesize_source::proofs::Runs::steps))]
-pub(crate) fn size<S: Source>(source: &mut S, kind: ImageType) -> ImageResult<ImageSize>
-    ensures { Runs (S.state source.old) (S.state source.new) result
+fn read_size<S: Source>(source: &mut S, kind: ImageType) -> Result<ImageSize, Halt>
+    ensures { RunsOrHalts (S.state source.old) (S.state source.new) (S.failure source.new) result
         (size_of kind (S.state source.old).held.input) }
 {
     match kind {
-        ImageType::Aseprite => answered(aseprite::size(source), source),
-        ImageType::Astc => answered(astc::size(source), source),
-        ImageType::Atc(_) => answered(atc::size(source), source),
-        ImageType::Bmp => answered(bmp::size(source), source),
-        ImageType::Dds(_) => answered(dds::size(source), source),
-        ImageType::Eac(_) | ImageType::Etc2(_) => answered(pkm::size(source), source),
-        ImageType::Exr => answered(exr::size(source), source),
-        ImageType::Farbfeld => answered(farbfeld::size(source), source),
-        ImageType::Gif => answered(gif::size(source), source),
-        ImageType::Hdr => answered(hdr::size(source), source),
-        ImageType::Heif(_) => answered(heif::size(source), source),
-        ImageType::Ico => answered(ico::size(source), source),
-        ImageType::Ilbm => answered(ilbm::size(source), source),
-        ImageType::Jpeg => answered(jpeg::size(source), source),
-        ImageType::Jxl => answered(jxl::size(source), source),
-        ImageType::Ktx2 => answered(ktx2::size(source), source),
-        ImageType::Pnm => answered(pnm::size(source), source),
-        ImageType::Pvrtc(_) => answered(pvrtc::size(source), source),
-        ImageType::Psd => answered(psd::size(source), source),
-        ImageType::Qoi => answered(qoi::size(source), source),
-        ImageType::Tga => answered(tga::size(source), source),
-        ImageType::Tiff => answered(tiff::size(source), source),
-        ImageType::Vtf => answered(vtf::size(source), source),
-        ImageType::Webp => answered(webp::size(source), source),
+        ImageType::Aseprite => aseprite::size(source),
+        ImageType::Astc => astc::size(source),
+        ImageType::Atc(_) => atc::size(source),
+        ImageType::Bmp => bmp::size(source),
+        ImageType::Dds(_) => dds::size(source),
+        ImageType::Eac(_) | ImageType::Etc2(_) => pkm::size(source),
+        ImageType::Exr => exr::size(source),
+        ImageType::Farbfeld => farbfeld::size(source),
+        ImageType::Gif => gif::size(source),
+        ImageType::Hdr => hdr::size(source),
+        ImageType::Heif(_) => heif::size(source),
+        ImageType::Ico => ico::size(source),
+        ImageType::Ilbm => ilbm::size(source),
+        ImageType::Jpeg => jpeg::size(source),
+        ImageType::Jxl => jxl::size(source),
+        ImageType::Ktx2 => ktx2::size(source),
+        ImageType::Pnm => pnm::size(source),
+        ImageType::Pvrtc(_) => pvrtc::size(source),
+        ImageType::Psd => psd::size(source),
+        ImageType::Qoi => qoi::size(source),
+        ImageType::Tga => tga::size(source),
+        ImageType::Tiff => tiff::size(source),
+        ImageType::Vtf => vtf::size(source),
+        ImageType::Webp => webp::size(source),
     }
 }

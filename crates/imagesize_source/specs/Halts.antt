@@ -1,7 +1,7 @@
 -- What halts a reading, and the error that this ends a call with.
 use Rattle.std.specs.Prelude.{ℕ, Result, Ok, Err}
 use Rattle.imagesize_source.specs.declared.error.ImageError.{ImageError}
-use Rattle.imagesize_source.specs.declared.error.ImageError.TheVariants.{CorruptedImage, IoError}
+use Rattle.imagesize_source.specs.declared.error.ImageError.TheVariants.{CorruptedImage, IoError, NotSupported}
 use Rattle.imagesize_source.specs.declared.error.Reason.TheVariants as reason
 use Rattle.imagesize_source.specs.declared.halt.Halt.{Halt}
 use Rattle.imagesize_source.specs.declared.halt.Halt.TheVariants as halt
@@ -14,6 +14,7 @@ error_by failure budget halt.Failed = failure
 error_by failure budget halt.Spent = IoError (reason.BudgetSpent budget)
 error_by failure budget halt.Ended = end_of_input
 error_by failure budget halt.Corrupted = CorruptedImage
+error_by failure budget halt.NotSupported = NotSupported
 error_by failure budget halt.NotEnoughData = IoError reason.NotEnoughData
 error_by failure budget (halt.NoDelimiter max_size) = IoError (reason.NoDelimiter max_size)
 error_by failure budget halt.NotUtf8 = IoError reason.NotUtf8

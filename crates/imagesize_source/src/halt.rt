@@ -24,6 +24,8 @@ pub enum Halt {
     Ended,
     /// The records end before one gives the size.
     Corrupted,
+    /// The first bytes are of no type that is known.
+    NotSupported,
     // What no layout allows: the `Reason` of the same name.
     NotEnoughData,
     NoDelimiter { max_size: u32 },
@@ -54,6 +56,7 @@ impl Halt {
         ensures { result ≡ error_by (error.IoError failure) budget self }
     {
         ImageError::IoError(match self {
+            Halt::NotSupported => return ImageError::NotSupported,
             Halt::Corrupted => return ImageError::CorruptedImage,
             Halt::Failed => failure,
             Halt::Spent => Reason::BudgetSpent { budget },
