@@ -52,9 +52,10 @@ fn find_window<S: Source>(source: &mut S, names: usize) -> Result<ImageSize, Hal
     ensures { RunsOrHalts (S.state source.old) (S.state source.new) (S.failure source.new) result
         (chain_at (exr_attributes names) (S.state source.old).held.input) }
 {
+    let mut room = [0u8; 256];
     let mut place: u64 = 8;
     loop {
-        match read_attribute(source, place, names)? {
+        match read_attribute(source, place, names, &mut room)? {
             Attribute::Window(size) => return Ok(size),
             Attribute::Other { taken } => place = place_behind(place, taken)?,
         }
@@ -69,23 +70,27 @@ enum Attribute {
     Other { taken: u64 },
 }
 
-// The attribute at a place.
+// The attribute at a place, whose names are read into the room.
 #[tactic(auto, using(imagesize_source::proofs::Runs::steps, imagesize_source::proofs::Runs::missed_before))]
-fn read_attribute<S: Source>(source: &mut S, place: u64, names: usize) -> Result<Attribute, Halt>
+fn read_attribute<S: Source>(
+    source: &mut S,
+    place: u64,
+    names: usize,
+    room: &mut [u8; 256],
+) -> Result<Attribute, Halt>
     requires { names ≤ 256 }
     ensures nears { IfOk result (λ found. Nears (S.state source.old) (S.state source.new) place (attribute_said place found)) }
     ensures runs { Runs (S.state source.old) (S.state source.new)
         (seen (λ found. attribute_said place found) (with_error (S.failure source.new) (S.state source.new).frame.budget result))
         (over (S.state source.old).held.input (exr_attribute names place)) }
 {
-    let mut room = [0u8; 256];
-    let name = read_name(source, place, names, &mut room)?;
+    let name = read_name(source, place, names, room)?;
     if name.is_empty() {
         return Err(Halt::DataWindowNotFound);
     }
     let is_window = is_data_window(name);
     let typed = name.len() as u64 + 1;
-    let type_name = read_name_behind(source, place, typed, names, &mut room)?;
+    let type_name = read_name_behind(source, place, typed, names, room)?;
     let is_window = is_window && is_box(type_name);
     let sized = typed + (type_name.len() as u64 + 1);
     let size = read_u32_behind(source, place, sized, Endian::Little)?;

@@ -16,6 +16,9 @@ use imagesize_source::halt::{Halt, place_behind};
 use imagesize_source::source::Source;
 use imagesize_types::size::ImageSize;
 
+// A line behind the first takes no more bytes of an input than this.
+const LINE_ROOM: usize = 256;
+
 /// Whether the first line is the identifier.
 #[inline(always)]
 #[tactic(auto, unfolding(crate::specs::Hdr::is_hdr))]
@@ -70,9 +73,10 @@ fn find_resolution<S: Source>(source: &mut S, first: u64) -> Result<ImageSize, H
     ensures { RunsOrHalts (S.state source.old) (S.state source.new) (S.failure source.new) result
         (chain_at (hdr_lines first) (S.state source.old).held.input) }
 {
+    let mut room = [0u8; LINE_ROOM];
     let mut place = first;
     loop {
-        match read_part(source, place)? {
+        match read_part(source, place, &mut room)? {
             Part::Size(size) => return Ok(size),
             Part::Passed { taken } => place = place_behind(place, taken)?,
         }
@@ -87,16 +91,19 @@ enum Part {
     Passed { taken: u64 },
 }
 
-// The line at a place.
+// The line at a place, read into the room.
 #[tactic(auto, using(imagesize_source::proofs::Runs::steps))]
-fn read_part<S: Source>(source: &mut S, place: u64) -> Result<Part, Halt>
+fn read_part<S: Source>(
+    source: &mut S,
+    place: u64,
+    room: &mut [u8; LINE_ROOM],
+) -> Result<Part, Halt>
     ensures nears { IfOk result (λ part. Nears (S.state source.old) (S.state source.new) place (part_said place part)) }
     ensures runs { Runs (S.state source.old) (S.state source.new)
         (seen (λ part. part_said place part) (with_error (S.failure source.new) (S.state source.new).frame.budget result))
         (over (S.state source.old).held.input (line 0x0A place 256 (hdr_line place))) }
 {
-    let mut room = [0u8; 256];
-    let line = read_line_capped(source, place, b'\n', &mut room)?;
+    let line = read_line_capped(source, place, b'\n', room)?;
     if is_resolution(line) {
         let Some((height, width)) = lengths(line) else {
             return Err(Halt::InvalidHdrDimensionsLine);

@@ -28,9 +28,10 @@ pub fn size<S: Source>(source: &mut S) -> Result<ImageSize, Halt>
     ensures { RunsOrHalts (S.state source.old) (S.state source.new) (S.failure source.new) result
         (pnm (S.state source.old).held.input) }
 {
+    let mut room = [0u8; WORD_ROOM];
     let mut place: u64 = 2;
     loop {
-        match read_part(source, place)? {
+        match read_part(source, place, &mut room)? {
             Part::Size(size) => return Ok(size),
             Part::Passed { taken } => place = place_behind(place, taken)?,
         }
@@ -45,22 +46,26 @@ enum Part {
     Passed { taken: u64 },
 }
 
-// The word at a place: with the height, where it is the width, and where it begins a comment with the rest of that.
+// The word at a place, read into the room: with the height, where it is the width, and where it begins a comment with
+// the rest of that.
 #[tactic(auto, using(imagesize_source::proofs::Runs::steps, imagesize_source::proofs::Runs::missed_before))]
-fn read_part<S: Source>(source: &mut S, place: u64) -> Result<Part, Halt>
+fn read_part<S: Source>(
+    source: &mut S,
+    place: u64,
+    room: &mut [u8; WORD_ROOM],
+) -> Result<Part, Halt>
     ensures nears { IfOk result (λ part. Nears (S.state source.old) (S.state source.new) place (part_said place part)) }
     ensures runs { Runs (S.state source.old) (S.state source.new)
         (seen (λ part. part_said place part) (with_error (S.failure source.new) (S.state source.new).frame.budget result))
         (over (S.state source.old).held.input (word place (pnm_word place))) }
 {
-    let mut room = [0u8; WORD_ROOM];
-    let word = read_word(source, place, &mut room)?;
+    let word = read_word(source, place, room)?;
     let taken = word.taken as u64;
     if is_comment(word.text) {
         if word.ended_by == b'\n' {
             return Ok(Part::Passed { taken });
         }
-        let rest = pass_line_behind(source, place, taken, b'\n', &mut room)?;
+        let rest = pass_line_behind(source, place, taken, b'\n', room)?;
         return Ok(Part::Passed {
             taken: taken + rest as u64,
         });
@@ -69,7 +74,7 @@ fn read_part<S: Source>(source: &mut S, place: u64) -> Result<Part, Halt>
         return Ok(Part::Passed { taken });
     }
     let width = number(word.text);
-    let next = read_word_behind(source, place, taken, &mut room)?;
+    let next = read_word_behind(source, place, taken, room)?;
     let size = pnm_size(width, number(next.text.trim()))?;
     Ok(Part::Size(size))
 }
