@@ -268,14 +268,14 @@ static void wrong_calls(void)
     expect(imagesize_status_text(31, text, sizeof text, &written) == IMAGESIZE_UNKNOWN_STATUS, "31 is no status");
     expect(imagesize_status_text(UINT32_MAX, text, sizeof text, &written) == IMAGESIZE_UNKNOWN_STATUS, "nor is the greatest number");
     expect(imagesize_type_name(0, 0, text, sizeof text, &written) == IMAGESIZE_UNKNOWN_TYPE, "0 is no type");
-    expect(imagesize_type_name(26, 0, text, sizeof text, &written) == IMAGESIZE_UNKNOWN_TYPE, "nor is 26");
+    expect(imagesize_type_name(UINT32_MAX, 0, text, sizeof text, &written) == IMAGESIZE_UNKNOWN_TYPE, "nor is the greatest number");
     expect(imagesize_type_name(IMAGESIZE_GIF, IMAGESIZE_DDS_BC7, text, sizeof text, &written) == IMAGESIZE_UNKNOWN_TYPE,
            "a GIF has no compression");
     expect(imagesize_container_format(IMAGESIZE_DDS, IMAGESIZE_PKM_ETC1, text, sizeof text, &written) == IMAGESIZE_UNKNOWN_TYPE,
            "a DDS has none of a PKM");
-    expect(imagesize_compression_family(26, 0, &answer) == IMAGESIZE_UNKNOWN_TYPE && answer == 8, "no family of no type");
+    expect(imagesize_compression_family(UINT32_MAX, 0, &answer) == IMAGESIZE_UNKNOWN_TYPE && answer == 8, "no family of no type");
     imagesize_span all = {0, 1};
-    expect(imagesize_parts_size(26, 0, &nothing, 1, &all, 1, 1, &width, &height, &all) == IMAGESIZE_UNKNOWN_TYPE && width == 7
+    expect(imagesize_parts_size(UINT32_MAX, 0, &nothing, 1, &all, 1, 1, &width, &height, &all) == IMAGESIZE_UNKNOWN_TYPE && width == 7
                && height == 9 && all.len == 1, "no size of no type");
     expect(written == 11 && memcmp(text, "abcd", 4) == 0, "and nothing is told");
     expect(imagesize_type_name(IMAGESIZE_FARBFELD, 0, text, sizeof text, &written) == IMAGESIZE_BUFFER_TOO_SMALL && written == 8,

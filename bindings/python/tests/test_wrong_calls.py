@@ -45,7 +45,7 @@ class Values(unittest.TestCase):
             self.assertEqual(pool.submit(imagesize.probe, GIF).result().size, (640, 480))
 
     def test_numbers_are_whole(self) -> None:
-        for numbers in ((2**32 + 10, 0), (10, 2**32), (-1, 0), (0, 0), (26, 0), (10, 11), (10, 34), ("Gif", 0)):
+        for numbers in ((2**32 + 10, 0), (10, 2**32), (-1, 0), (0, 0), (max(Kind) + 1, 0), (10, 11), (10, 34), ("Gif", 0)):
             self.assertRaises(ValueError, ImageType, *numbers)
         for status in (2**32, -1, 31):
             self.assertRaises(ValueError, ImageError, status)

@@ -8,61 +8,119 @@ use crate::input::Input;
 use crate::{sys, ImageResult, ImageSize};
 use std::io::{BufRead, Seek};
 
-/// A type of image, with its compression where a type has several.
-///
-/// The order of two types is that of the list below, then that of their compressions.
-#[derive(Clone, Copy, Debug, PartialEq, Eq, PartialOrd, Ord, Hash)]
-pub enum ImageType {
-    /// Animated sprites of the editor Aseprite.
-    Aseprite,
-    /// Adaptive scalable texture compression.
-    Astc,
-    /// A texture in ATC, in a PKM file.
-    Atc(AtcCompression),
-    /// Windows bitmap.
-    Bmp,
-    /// DirectDraw surface.
-    Dds(DdsCompression),
-    /// A texture in EAC, in a PKM file.
-    Eac(PkmCompression),
-    /// A texture in ETC1 or ETC2, in a PKM file.
-    Etc2(PkmCompression),
-    /// OpenEXR.
-    Exr,
-    /// Farbfeld.
-    Farbfeld,
-    /// Graphics interchange format.
-    Gif,
-    /// Radiance RGBE.
-    Hdr,
-    /// The containers of HEIC and AVIF.
-    Heif(Compression),
-    /// Windows icon.
-    Ico,
-    /// Interleaved bitmap, in an IFF file.
-    Ilbm,
-    /// JPEG.
-    Jpeg,
-    /// JPEG XL.
-    Jxl,
-    /// Khronos texture, version 2.
-    Ktx2,
-    /// The portable bitmaps: PBM, PGM and PPM.
-    Pnm,
-    /// PowerVR texture.
-    Pvrtc(PvrtcCompression),
-    /// Photoshop document.
-    Psd,
-    /// Quite OK image.
-    Qoi,
-    /// Truevision TGA.
-    Tga,
-    /// Tagged image file, BigTIFF among them.
-    Tiff,
-    /// Valve texture.
-    Vtf,
-    /// WebP.
-    Webp,
+/// One of two words: the second, where there is the first.
+macro_rules! second {
+    ($first:tt, $second:tt) => {
+        $second
+    };
+}
+
+/// The numbers of a type, and of its compression where it has several.
+macro_rules! numbers {
+    ($number:literal) => {
+        ($number, 0)
+    };
+    ($number:literal, $compression:expr) => {
+        ($number, $compression.number())
+    };
+}
+
+/// The type whose compression has this number, which is 0 where it has none.
+macro_rules! of_compression {
+    ($type:path, $number:expr) => {
+        ($number == 0).then_some($type)
+    };
+    ($type:path, $number:expr, $compression:ident) => {
+        $compression::numbered($number).map($type)
+    };
+}
+
+/// Defines the types, of which each has the number that `include/imagesize.h` gives it.
+macro_rules! types {
+    (
+        $(#[$about:meta])*
+        pub enum $name:ident { $($(#[$type_about:meta])* $type:ident $(($compression:ident))? = $number:literal,)* }
+    ) => {
+        $(#[$about])*
+        #[derive(Clone, Copy, Debug, PartialEq, Eq, PartialOrd, Ord, Hash)]
+        pub enum $name { $($(#[$type_about])* $type $(($compression))?,)* }
+
+        impl $name {
+            /// The numbers of the type and of its compression.
+            pub(crate) fn numbers(&self) -> (u32, u32) {
+                match self {
+                    $($name::$type $((second!($compression, compression)))? =>
+                        numbers!($number $(, second!($compression, compression))?),)*
+                }
+            }
+
+            /// The type that has these numbers.
+            pub(crate) fn numbered(kind: u32, compression: u32) -> Option<$name> {
+                match kind {
+                    $($number => of_compression!($name::$type, compression $(, $compression)?),)*
+                    _ => None,
+                }
+            }
+        }
+    };
+}
+
+types! {
+    /// A type of image, with its compression where a type has several.
+    ///
+    /// The order of two types is that of the list below, then that of their compressions.
+    pub enum ImageType {
+        /// Animated sprites of the editor Aseprite.
+        Aseprite = 1,
+        /// Adaptive scalable texture compression.
+        Astc = 2,
+        /// A texture in ATC, in a PKM file.
+        Atc(AtcCompression) = 3,
+        /// Windows bitmap.
+        Bmp = 4,
+        /// DirectDraw surface.
+        Dds(DdsCompression) = 5,
+        /// A texture in EAC, in a PKM file.
+        Eac(PkmCompression) = 6,
+        /// A texture in ETC1 or ETC2, in a PKM file.
+        Etc2(PkmCompression) = 7,
+        /// OpenEXR.
+        Exr = 8,
+        /// Farbfeld.
+        Farbfeld = 9,
+        /// Graphics interchange format.
+        Gif = 10,
+        /// Radiance RGBE.
+        Hdr = 11,
+        /// The containers of HEIC and AVIF.
+        Heif(Compression) = 12,
+        /// Windows icon.
+        Ico = 13,
+        /// Interleaved bitmap, in an IFF file.
+        Ilbm = 14,
+        /// JPEG.
+        Jpeg = 15,
+        /// JPEG XL.
+        Jxl = 16,
+        /// Khronos texture, version 2.
+        Ktx2 = 17,
+        /// The portable bitmaps: PBM, PGM and PPM.
+        Pnm = 18,
+        /// PowerVR texture.
+        Pvrtc(PvrtcCompression) = 19,
+        /// Photoshop document.
+        Psd = 20,
+        /// Quite OK image.
+        Qoi = 21,
+        /// Truevision TGA.
+        Tga = 22,
+        /// Tagged image file, BigTIFF among them.
+        Tiff = 23,
+        /// Valve texture.
+        Vtf = 24,
+        /// WebP.
+        Webp = 25,
+    }
 }
 
 /// The names of all containers that the library knows.
@@ -144,68 +202,5 @@ impl ImageType {
     /// ```
     pub fn is_multi_compression_container(&self) -> bool {
         sys::is_multi_compression_container(self.numbers())
-    }
-
-    /// The numbers of the type and of its compression in `include/imagesize.h`.
-    pub(crate) fn numbers(&self) -> (u32, u32) {
-        match self {
-            ImageType::Aseprite => (1, 0),
-            ImageType::Astc => (2, 0),
-            ImageType::Atc(compression) => (3, compression.number()),
-            ImageType::Bmp => (4, 0),
-            ImageType::Dds(compression) => (5, compression.number()),
-            ImageType::Eac(compression) => (6, compression.number()),
-            ImageType::Etc2(compression) => (7, compression.number()),
-            ImageType::Exr => (8, 0),
-            ImageType::Farbfeld => (9, 0),
-            ImageType::Gif => (10, 0),
-            ImageType::Hdr => (11, 0),
-            ImageType::Heif(compression) => (12, compression.number()),
-            ImageType::Ico => (13, 0),
-            ImageType::Ilbm => (14, 0),
-            ImageType::Jpeg => (15, 0),
-            ImageType::Jxl => (16, 0),
-            ImageType::Ktx2 => (17, 0),
-            ImageType::Pnm => (18, 0),
-            ImageType::Pvrtc(compression) => (19, compression.number()),
-            ImageType::Psd => (20, 0),
-            ImageType::Qoi => (21, 0),
-            ImageType::Tga => (22, 0),
-            ImageType::Tiff => (23, 0),
-            ImageType::Vtf => (24, 0),
-            ImageType::Webp => (25, 0),
-        }
-    }
-
-    /// The type that has these numbers.
-    pub(crate) fn numbered(kind: u32, compression: u32) -> Option<ImageType> {
-        Some(match (kind, compression) {
-            (1, 0) => ImageType::Aseprite,
-            (2, 0) => ImageType::Astc,
-            (3, _) => ImageType::Atc(AtcCompression::numbered(compression)?),
-            (4, 0) => ImageType::Bmp,
-            (5, _) => ImageType::Dds(DdsCompression::numbered(compression)?),
-            (6, _) => ImageType::Eac(PkmCompression::numbered(compression)?),
-            (7, _) => ImageType::Etc2(PkmCompression::numbered(compression)?),
-            (8, 0) => ImageType::Exr,
-            (9, 0) => ImageType::Farbfeld,
-            (10, 0) => ImageType::Gif,
-            (11, 0) => ImageType::Hdr,
-            (12, _) => ImageType::Heif(Compression::numbered(compression)?),
-            (13, 0) => ImageType::Ico,
-            (14, 0) => ImageType::Ilbm,
-            (15, 0) => ImageType::Jpeg,
-            (16, 0) => ImageType::Jxl,
-            (17, 0) => ImageType::Ktx2,
-            (18, 0) => ImageType::Pnm,
-            (19, _) => ImageType::Pvrtc(PvrtcCompression::numbered(compression)?),
-            (20, 0) => ImageType::Psd,
-            (21, 0) => ImageType::Qoi,
-            (22, 0) => ImageType::Tga,
-            (23, 0) => ImageType::Tiff,
-            (24, 0) => ImageType::Vtf,
-            (25, 0) => ImageType::Webp,
-            _ => return None,
-        })
     }
 }

@@ -15,7 +15,7 @@ use Rattle.imagesize_source.specs.State.{total}
 use Rattle.imagesize_source.specs.declared.error.ImageError.{ImageError}
 use Rattle.imagesize_source.specs.declared.span.Span.{Span}
 
--- a type is read from no more than it is with what stands outside of the records
+-- a type is read from no more than it is with what stands outside of the records; one type is named, so that each is tried
 kind_outside : (type : ImageType) → kind_cost type ≤ outside type
 kind_outside Aseprite = omega arith
 kind_outside _ = omega arith

@@ -26,7 +26,7 @@ mod types;
 use crate::checks::check;
 use crate::inputs::is_named;
 use crate::table::{Wrong, row_of};
-use imagesize::{ImageSize, size};
+use imagesize::{ImageSize, ImageType, size};
 use std::alloc::Global;
 use std::rt::Files;
 use std::{env, fs, io};
@@ -53,24 +53,42 @@ fn print_size(rt: &(impl Files + Print + AllocGlobal), name: &str) -> io::Result
     }
 }
 
-// Prints each row of a table that fails, and how many rows there are; the tests name some of them.
+// Prints each row of a table that fails, and each type of which it has no row; the tests name some of the rows.
 fn print_table(rt: &(impl Files + Print + AllocGlobal), name: &str) -> io::Result<()> {
     let text = fs::read_to_string(rt, name)?;
     let mut at = 0u64;
-    let mut rows = 0u64;
     let mut named = 0u64;
     for line in text.as_str().lines() {
         at = at.saturating_add(1);
         if line.starts_with('#') {
             continue;
         }
-        rows = rows.saturating_add(1);
         match check_line(rt.alloc(), line) {
             Ok(is_named) => named = named.saturating_add(is_named as u64),
             Err(wrong) => println!(rt; "{name}, line {at}: {wrong}")?,
         }
     }
-    println!(rt; "{rows} worked inputs, of which tests name {named}")
+    print_lacking(rt, text.as_str())?;
+    println!(rt; "tests name {named} of the worked inputs")
+}
+
+// Prints each type of which a table has no row.
+fn print_lacking(rt: &impl Print, table: &str) -> io::Result<()> {
+    for image in ImageType::all() {
+        let name = image.name();
+        if !table.lines().any(|line| is_of_type(line, name)) {
+            println!(rt; "no worked input of {name}")?;
+        }
+    }
+    Ok(())
+}
+
+// Whether the row of a line is of the type of this name, whatever its compression.
+fn is_of_type(line: &str, name: &str) -> bool {
+    match line.split('\t').nth(2) {
+        Some(kind) => kind.split('(').next() == Some(name),
+        None => false,
+    }
 }
 
 // Checks the worked input of a line, and returns whether a test names it.

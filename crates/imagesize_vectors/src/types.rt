@@ -86,8 +86,21 @@ fn check_list<T: Ord + Hash + Debug + Clone + Drop>(
 
 #[test]
 fn types_are_ordered_as_they_are_listed(rt: HostRuntime) -> Result<(), Fail> {
-    assert_eq!(rt; ImageType::all().len(), 65);
     check_list(&rt, ImageType::all())
+}
+
+// No place is left out of the list.
+#[test]
+fn places_are_counted_from_0(rt: HostRuntime) -> Result<(), Fail> {
+    let mut places: Vec<u32> = ImageType::all()
+        .iter()
+        .map(|image| image.place())
+        .collect(rt.alloc())?;
+    places.dedup();
+    for (place, found) in places.iter().enumerate() {
+        assert_eq!(rt; *found as usize, place);
+    }
+    Ok(())
 }
 
 // What was collected is in its order, and there is so much of it.
