@@ -13,7 +13,7 @@ use Rattle.imagesize.proofs.Locality.{local_kind, local_meaning}
 use Rattle.imagesize_source.proofs.Agreement.{agrees_first, same_by_local}
 use Rattle.imagesize_source.proofs.Recordings.{past-recording}
 use Rattle.imagesize_source.specs.Agreement.{Agrees}
-use Rattle.imagesize_source.specs.Reading.{Reads, is_memory, stopped}
+use Rattle.imagesize_source.specs.Reading.{Reads, is_memory, is_stopped}
 use Rattle.imagesize_source.specs.State.{State, Runs, recording_state, total}
 use Rattle.imagesize_source.specs.declared.error.ImageError.{ImageError}
 use Rattle.imagesize_source.specs.declared.span.Span.{Span}
@@ -28,7 +28,7 @@ memory_there (Err e) memory = memory
 
 -- over a slice no failure and no spent budget ends a call
 goes_on : (d after : List ℕ) (spans : List Span) (r : Result ImageSize ImageError) (reads : Reads ImageSize)
-    → Runs (recording_state d []) (recording_state after spans) r reads → lacks_memory r ≡ false → stopped r ≡ false
+    → Runs (recording_state d []) (recording_state after spans) r reads → lacks_memory r ≡ false → is_stopped r ≡ false
 goes_on d after spans r reads h memory = stops_for_memory r reads refl refl refl (memory_there r memory) h
 
 -- where memory was found, the spans are those of the readings

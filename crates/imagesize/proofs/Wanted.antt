@@ -17,10 +17,10 @@ use Rattle.imagesize_types.specs.declared.size.ImageSize.{ImageSize}
 use Rattle.imagesize_io.proofs.Openings.{stop_cases, some_spent}
 use Rattle.imagesize_source.specs.declared.error.ImageError.{ImageError}
 use Rattle.imagesize_source.specs.declared.span.Span.{Span}
-use Rattle.imagesize_source.specs.Agreement.{Agrees, Local, Parting, covered}
+use Rattle.imagesize_source.specs.Agreement.{Agrees, IsLocal, Parting, is_covered}
 use Rattle.imagesize_source.specs.Known.{AllKnown, HasParts, Lacks, filled, parts_state}
-use Rattle.imagesize_source.specs.Reading.{Reads, faulted, is_stop, spent, stopped}
-use Rattle.imagesize_source.specs.State.{State, Runs, past, places_in}
+use Rattle.imagesize_source.specs.Reading.{Reads, is_faulted, is_stop, spent, is_stopped}
+use Rattle.imagesize_source.specs.State.{State, Runs, state_after, places_in}
 use Rattle.imagesize_source.proofs.Agreement.{agrees_first, covered-places, covered_at, same_by_local}
 use Rattle.imagesize_source.proofs.Known.{known_agrees, known_same, length-filled, unknown_free}
 
@@ -64,7 +64,7 @@ later_cut (x ∷ xs) (y ∷ ys) rest others p q same none more =
 -- ---- a source of parts is stopped by what it misses alone
 
 only_fault : {X : Type 0} {a b : State} (r : Result X ImageError) (reads : Reads X) → a.frame.counts ≡ false → a.frame.records ≡ false
-    → Runs a b r reads → faulted r ≡ false → stopped r ≡ false
+    → Runs a b r reads → is_faulted r ≡ false → is_stopped r ≡ false
 only_fault (Ok x) reads uncounted none h no_fault = refl
 only_fault {b = b} (Err e) reads uncounted none h no_fault = unless (is_stop e) (λ stops. elim (stop_cases e stops) [
   | inl faults ↦ let no : true ≡ false = sym faults ∙ no_fault in (cc)
@@ -89,8 +89,8 @@ pub record Called {X : Type 0} (f : List ℕ → Reads X) (n : ℕ) (spans : Lis
 
 -- the spans of readings are recorded behind those before
 past-parts : (n : ℕ) (spans : List Span) (bytes : List ℕ) (log : List Span) (missed : Option Span) (more : List Span)
-    → past (parts_state n spans bytes log missed) more ≡ parts_state n spans bytes (log ++ more) missed
-unfolding past
+    → state_after (parts_state n spans bytes log missed) more ≡ parts_state n spans bytes (log ++ more) missed
+unfolding state_after
 past-parts n spans bytes log missed [] = ap (λ s. parts_state n spans bytes s missed) (sym (append-nil log))
 past-parts n spans bytes log missed (s ∷ more) = past-parts n spans bytes (log ++ s ∷ []) missed more
     ∙ ap (λ t. parts_state n spans bytes t missed) (append_assoc log (s ∷ []) more)
@@ -106,10 +106,10 @@ some_is e = cc
 
 -- ---- an input that has the parts, and local readings of it
 
-module _ {X : Type 0} (f : List ℕ → Reads X) (is_local : Local f) (d : List ℕ) (n : ℕ) (spans : List Span) (bytes : List ℕ)
+module _ {X : Type 0} (f : List ℕ → Reads X) (is_local : IsLocal f) (d : List ℕ) (n : ℕ) (spans : List Span) (bytes : List ℕ)
     (has : HasParts d n spans bytes) (short : n < 2 ^ 63) where
   -- where nothing is missed, it agrees with what was read
-  agreed : (log : List Span) (missed : Option Span) (r : Result X ImageError) → Called f n spans bytes log missed r → faulted r ≡ false
+  agreed : (log : List Span) (missed : Option Span) (r : Result X ImageError) → Called f n spans bytes log missed r → is_faulted r ≡ false
       → Agrees (filled n spans bytes) d (f (filled n spans bytes)).marks
   agreed log missed r call no_fault =
       let honest = is_short n short in
@@ -121,7 +121,7 @@ module _ {X : Type 0} (f : List ℕ → Reads X) (is_local : Local f) (d : List 
       (subst (λ l. AllKnown n spans bytes l) marked call.seen)
 
   -- and the answer is its own
-  right : (log : List Span) (missed : Option Span) (r : Result X ImageError) → Called f n spans bytes log missed r → faulted r ≡ false
+  right : (log : List Span) (missed : Option Span) (r : Result X ImageError) → Called f n spans bytes log missed r → is_faulted r ≡ false
       → r ≡ (f d).answer
   right log missed r call no_fault =
       let honest = is_short n short in
@@ -131,12 +131,12 @@ module _ {X : Type 0} (f : List ℕ → Reads X) (is_local : Local f) (d : List 
 
   -- what is missed is one of its marks
   wanted_mark : (log : List Span) (p : ℕ) → AllKnown n spans bytes log → (rest : List ℕ)
-      → places_in (f (filled n spans bytes)).marks ≡ places_in log ++ p ∷ rest → covered (f d).marks p ≡ true
+      → places_in (f (filled n spans bytes)).marks ≡ places_in log ++ p ∷ rest → is_covered (f d).marks p ≡ true
   wanted_mark log p seen rest places =
       elim (is_local (filled n spans bytes) d (has.as_long ∙ sym (length-filled n spans bytes))) [
         | inl same ↦ covered_at (f d).marks p (places_in log) rest (ap (λ w. places_in w.marks) same ∙ places)
         | inr parts ↦ (
-            let unseen : covered log parts.place ≡ false = not_seen parts (covered log parts.place) refl in
+            let unseen : is_covered log parts.place ≡ false = not_seen parts (is_covered log parts.place) refl in
             let among : list_any (λ x. eqb x p) (parts.seen ++ parts.place ∷ parts.others) ≡ true =
             later_cut (places_in log) parts.seen rest parts.rest p parts.place (sym places ∙ parts.here)
             (sym (covered-places log parts.place) ∙ unseen) parts.others in
@@ -145,12 +145,12 @@ module _ {X : Type 0} (f : List ℕ → Reads X) (is_local : Local f) (d : List 
       ]
     where
       not_seen : (parts : Parting (filled n spans bytes) d (f (filled n spans bytes)).marks (f d).marks) (is : Bool)
-          → covered log parts.place ≡ is → is ≡ false
+          → is_covered log parts.place ≡ is → is ≡ false
       not_seen parts true here = absurd (parts.differs (known_same d n spans bytes parts.place has (seen parts.place here)))
       not_seen parts false here = refl
 
   -- where a span is missed, it is wanted
-  wants : (log : List Span) (w : Span) (r : Result X ImageError) → Called f n spans bytes log (Some w) r → faulted r ≡ true
+  wants : (log : List Span) (w : Span) (r : Result X ImageError) → Called f n spans bytes log (Some w) r → is_faulted r ≡ true
       → Wants (f d).marks spans w
   wants log w r call faults =
       let is = (call.runs.misses (is_short n short) faults).told in
@@ -162,33 +162,33 @@ module _ {X : Type 0} (f : List ℕ → Reads X) (is_local : Local f) (d : List 
 
   -- a failure misses something
   says_wanted : {T : Type 0} (IsSo : T → Type 0) (found : T) (log : List Span) (missed : Option Span) (r : Result X ImageError)
-      → Called f n spans bytes log missed r → faulted r ≡ true → Says IsSo (f d).marks spans (told found missed)
+      → Called f n spans bytes log missed r → is_faulted r ≡ true → Says IsSo (f d).marks spans (told found missed)
   says_wanted IsSo found log None r call faults = absurd (call.runs.misses (is_short n short) faults).told
   says_wanted IsSo found log (Some w) r call faults = wants log w r call faults
 
   -- by the code's test
   pub says : {T : Type 0} (IsSo : T → Type 0) (found : T) (log : List Span) (missed : Option Span) (r : Result X ImageError)
-      → Called f n spans bytes log missed r → (faulted r ≡ false → IsSo found)
-      → Says IsSo (f d).marks spans (told found (cond (faulted r) missed None))
-  says IsSo found log missed r call is_so = by_test (faulted r) refl where
-    by_test : (test : Bool) → faulted r ≡ test → Says IsSo (f d).marks spans (told found (cond test missed None))
+      → Called f n spans bytes log missed r → (is_faulted r ≡ false → IsSo found)
+      → Says IsSo (f d).marks spans (told found (cond (is_faulted r) missed None))
+  says IsSo found log missed r call is_so = by_test (is_faulted r) refl where
+    by_test : (test : Bool) → is_faulted r ≡ test → Says IsSo (f d).marks spans (told found (cond test missed None))
     by_test true faults = says_wanted IsSo found log missed r call faults
     by_test false no_fault = is_so no_fault
 
   pub says_of : (log : List Span) (missed : Option Span) (r : Result X ImageError) → Called f n spans bytes log missed r
-      → SaysOf (f d) spans (told r (cond (faulted r) missed None))
+      → SaysOf (f d) spans (told r (cond (is_faulted r) missed None))
   says_of log missed r call = says (λ answer. answer ≡ (f d).answer) r log missed r call (right log missed r call)
 
 -- and the type beside a size
 pub says_probed : (d : List ℕ) (n : ℕ) (spans : List Span) (bytes : List ℕ) (log : List Span) (missed : Option Span)
     (found : Option ImageType × Result ImageSize ImageError) → Called (λ x. meaning x 0) n spans bytes log missed found.1
     → FindsKind (parts_state n spans bytes [] None) 0 found.0 found.1 → HasParts d n spans bytes → n < 2 ^ 63
-    → Says (IsProbed d) (meaning d 0).marks spans (told found (cond (faulted found.1) missed None))
+    → Says (IsProbed d) (meaning d 0).marks spans (told found (cond (is_faulted found.1) missed None))
 unfolding meaning
 says_probed d n spans bytes log missed found call kind has short =
     says (λ x. meaning x 0) (local_meaning 0) d n spans bytes has short (IsProbed d) found log missed found.1 call is_so
   where
-    is_so : faulted found.1 ≡ false → IsProbed d found
+    is_so : is_faulted found.1 ≡ false → IsProbed d found
     is_so no_fault =
         let on = only_fault found.1 (meaning (filled n spans bytes) 0) refl refl call.runs no_fault in
         let agrees = agreed (λ x. meaning x 0) (local_meaning 0) d n spans bytes has short log missed found.1 call no_fault in

@@ -5,7 +5,7 @@ use Rattle.imagesize.specs.Meaning.{kind_of, meaning}
 use Rattle.imagesize.specs.declared.parts.PartsAnswer.{PartsAnswer}
 use Rattle.imagesize.specs.declared.parts.PartsAnswer.TheVariants.{Found, Wanted}
 use Rattle.imagesize.specs.declared.types.ImageType.{ImageType}
-use Rattle.imagesize_source.specs.Agreement.{covered}
+use Rattle.imagesize_source.specs.Agreement.{is_covered}
 use Rattle.imagesize_source.specs.Reading.{Reads}
 use Rattle.imagesize_source.specs.declared.error.ImageError.{ImageError}
 use Rattle.imagesize_source.specs.declared.span.Span.{Span}
@@ -13,7 +13,7 @@ use Rattle.imagesize_types.specs.declared.size.ImageSize.{ImageSize}
 
 -- the first byte of a wanted span lies in one of the marks, and in no part
 abbrev pub Wants : List Span → List Span → Span → Type 0
-Wants marks spans w = (covered marks w.start ≡ true) × (covered spans w.start ≡ false)
+Wants marks spans w = (is_covered marks w.start ≡ true) × (is_covered spans w.start ≡ false)
 
 -- Of readings with these marks: what is found is so, and what is wanted is wanted by them.
 abbrev pub Says : {T : Type 0} → (T → Type 0) → List Span → List Span → PartsAnswer T → Type 0
@@ -43,7 +43,7 @@ Tells (Wanted w) = ⊥
 
 -- the spans have each place of the marks
 abbrev pub Cover : List Span → List Span → Type 0
-Cover spans marks = (place : ℕ) → covered marks place ≡ true → covered spans place ≡ true
+Cover spans marks = (place : ℕ) → is_covered marks place ≡ true → is_covered spans place ≡ true
 
 -- what is found, where nothing is wanted
 abbrev pub told : {T : Type 0} → T → Option Span → PartsAnswer T

@@ -1,13 +1,13 @@
 //! The calls: type and size of a slice's bytes, or of a reader's.
 ghost use Rattle.std.specs.Prelude.{◌≡◌, ℕ, ◌+◌, ◌<◌, ◌≤◌, List, length, ◌++◌, IsTrue, IfOk, IfErr, IfSome, IsSome, Some, true, false, Option, Ok, Err, option_map};
-ghost use Rattle.imagesize_io.specs.Answers.{Answers, Counts};
+ghost use Rattle.imagesize_io.specs.Answers.{Answers, CountsWithin};
 ghost use Rattle.imagesize_source.specs.Limits.{allowance};
-ghost use Rattle.imagesize_source.specs.Reading.{end_of_input, is_fault, is_memory, spent, stopped};
+ghost use Rattle.imagesize_source.specs.Reading.{end_of_input, is_fault, is_memory, spent, is_stopped};
 ghost use Rattle.imagesize_source.specs.State.{Runs};
 ghost use Rattle.imagesize_io.specs.ReaderState.{Opens};
 ghost use Rattle.imagesize_io.specs.Telling.{Telling};
 ghost use Rattle.imagesize_source.specs.Agreement.{Agrees};
-ghost use Rattle.imagesize.specs.Counts.{cost, lasts_as, most, stated};
+ghost use Rattle.imagesize.specs.Counts.{cost, lasts_as, most_bytes, stated};
 ghost use Rattle.imagesize.specs.Meaning.{kind_of, meaning, size_of};
 ghost use Rattle.imagesize.specs.Probed.{FindsKind, Probes, SpentAll};
 ghost use Rattle.imagesize.specs.Short.{Ends};
@@ -51,7 +51,7 @@ pub fn image_type(header: &[u8]) -> ImageResult<ImageType>
         → kind_of e place ≡ kind_of header.now place }
 
     // A slice fails at no reading, has no budget and wants no memory.
-    ensures unstopped { stopped result ≡ false }
+    ensures unstopped { is_stopped result ≡ false }
 {
     detect(&mut SliceSource { bytes: header }, 0)
 }
@@ -81,7 +81,7 @@ pub fn blob_size(data: &[u8]) -> ImageResult<ImageSize>
 
     // Each format has its own count: what stands outside of its records, and so much for each that is begun, and of
     // all formats but those at fixed places at most 28 bytes more than there are.
-    ensures most { (place : ℕ) → cost «data».now place ≤ most «data».now place }
+    ensures most { (place : ℕ) → cost «data».now place ≤ most_bytes «data».now place }
 
     // Every size, and every refusal, is read from at most 64 bytes more than there are.
     ensures within { (place : ℕ) → cost «data».now place ≤ length «data».now + allowance }
@@ -91,7 +91,7 @@ pub fn blob_size(data: &[u8]) -> ImageResult<ImageSize>
         (x : List ℕ) → (meaning («data».now ++ x) 0).answer ≡ Ok size) }
 
     // A slice fails at no reading, has no budget and wants no memory.
-    ensures unstopped { stopped result ≡ false }
+    ensures unstopped { is_stopped result ≡ false }
 {
     probe_slice(data)
 }
@@ -99,7 +99,7 @@ pub fn blob_size(data: &[u8]) -> ImageResult<ImageSize>
 // The size that a slice's bytes mean.
 fn probe_slice(data: &[u8]) -> ImageResult<ImageSize>
     ensures value { result ≡ (meaning «data».now 0).answer }
-    ensures unstopped { stopped result ≡ false }
+    ensures unstopped { is_stopped result ≡ false }
 {
     probe(&mut SliceSource { bytes: data }, 0).1
 }
@@ -214,7 +214,7 @@ impl ImageType {
     /// ```
     pub fn reader_size<R: Told>(&self, reader: &mut R) -> ImageResult<ImageSize>
         ensures answers { Answers (R.telling reader.old) (λ d place. size_of self.now d) result }
-        ensures counts { Counts (R.telling reader.old) (R.count reader.old) (R.count reader.new) (λ d place. size_of self.now d) }
+        ensures counts { CountsWithin (R.telling reader.old) (R.count reader.old) (R.count reader.new) (λ d place. size_of self.now d) }
 
         // Over every reader, also one that tells nothing or lies:
         ensures spent { IfErr result (λ e. IfSome (spent e) (λ budget. SpentAll (R.count reader.old) (R.count reader.new) budget)) }
@@ -242,7 +242,7 @@ fn size_opened<R: Told>(kind: ImageType, reader: &mut R, opened: Opened) -> Imag
     ensures answers { (telling : Option Telling) → Opens telling (R.telling reader.old) (Ok opened)
         → Answers telling (λ d place. size_of kind d) result }
     ensures counts { (telling : Option Telling) → Opens telling (R.telling reader.old) (Ok opened)
-        → Counts telling (R.count reader.old) (R.count reader.new) (λ d place. size_of kind d) }
+        → CountsWithin telling (R.count reader.old) (R.count reader.new) (λ d place. size_of kind d) }
     ensures spent { IfErr result (λ e. IfSome (spent e) (λ budget. SpentAll (R.count reader.old) (R.count reader.new) budget)) }
     ensures memory { IfErr result (λ e. is_memory e ≡ false) }
 {

@@ -5,8 +5,8 @@ ghost use Rattle.imagesize.specs.Types.{rows};
 ghost use Rattle.imagesize.specs.Meaning.{size_of};
 ghost use Rattle.imagesize_fixed.specs.Tga.{is_tga};
 ghost use Rattle.imagesize_source.specs.Halts.{RunsOrHalts};
-ghost use Rattle.imagesize_source.specs.Layout.{bind, over};
-ghost use Rattle.imagesize_source.specs.State.{Runs, Sound};
+ghost use Rattle.imagesize_source.specs.Layout.{bind, layout_reads};
+ghost use Rattle.imagesize_source.specs.State.{Runs, IsSound};
 
 use crate::types::ImageType;
 use crate::ImageResult;
@@ -29,7 +29,7 @@ use imagesize_walked::formats::{ico, ilbm, jpeg, tiff};
 #[inline(always)]
 pub(crate) fn detect<S: Source>(source: &mut S, place: u64) -> ImageResult<ImageType>
     ensures { Runs (S.state source.old) (S.state source.new) result
-        (over (S.state source.old).held.input (kind (length (S.state source.old).held.input) place)) }
+        (layout_reads (S.state source.old).held.input (kind (length (S.state source.old).held.input) place)) }
 {
     answered(read_kind(source, place), source)
 }
@@ -47,7 +47,7 @@ pub(crate) fn size<S: Source>(source: &mut S, kind: ImageType) -> ImageResult<Im
 #[inline(always)]
 fn read_kind<S: Source>(source: &mut S, place: u64) -> Result<ImageType, Halt>
     ensures { RunsOrHalts (S.state source.old) (S.state source.new) (S.failure source.new) result
-        (over (S.state source.old).held.input (kind (length (S.state source.old).held.input) place)) }
+        (layout_reads (S.state source.old).held.input (kind (length (S.state source.old).held.input) place)) }
 {
     let head = read_bytes::<S, 12>(source, place)?;
     by_head(source, place, &head)
@@ -57,9 +57,9 @@ fn read_kind<S: Source>(source: &mut S, place: u64) -> Result<ImageType, Halt>
 #[inline(always)]
 #[tactic(auto, using(imagesize_source::proofs::Runs::steps, imagesize_source::proofs::Layouts::binding))]
 fn by_head<S: Source>(source: &mut S, place: u64, head: &[u8; 12]) -> Result<ImageType, Halt>
-    requires { Sound (S.state source.old) }
+    requires { IsSound (S.state source.old) }
     ensures { RunsOrHalts (S.state source.old) (S.state source.new) (S.failure source.new) result
-        (over (S.state source.old).held.input
+        (layout_reads (S.state source.old).held.input
         (kind_by (length (S.state source.old).held.input) place head.now (first_row rows head.now))) }
 {
     match first_row(head) {
@@ -72,9 +72,9 @@ fn by_head<S: Source>(source: &mut S, place: u64, head: &[u8; 12]) -> Result<Ima
 #[inline(always)]
 #[tactic(auto, using(imagesize_source::proofs::Runs::steps, imagesize_source::proofs::Layouts::binding))]
 fn tga_or_none<S: Source>(source: &mut S, head: &[u8; 12]) -> Result<ImageType, Halt>
-    requires { Sound (S.state source.old) }
+    requires { IsSound (S.state source.old) }
     ensures { RunsOrHalts (S.state source.old) (S.state source.new) (S.failure source.new) result
-        (over (S.state source.old).held.input (bind (is_tga (length (S.state source.old).held.input) head.now) tga_or_none)) }
+        (layout_reads (S.state source.old).held.input (bind (is_tga (length (S.state source.old).held.input) head.now) tga_or_none)) }
 {
     if tga::matches(source, head)? {
         return Ok(ImageType::Tga);
@@ -125,9 +125,9 @@ fn with_compression<S: Source>(
     head: &[u8; 12],
     found: ImageType,
 ) -> Result<ImageType, Halt>
-    requires { Sound (S.state source.old) }
+    requires { IsSound (S.state source.old) }
     ensures { RunsOrHalts (S.state source.old) (S.state source.new) (S.failure source.new) result
-        (over (S.state source.old).held.input (with_compression place head.now found)) }
+        (layout_reads (S.state source.old).held.input (with_compression place head.now found)) }
 {
     Ok(match found {
         ImageType::Heif(_) => ImageType::Heif(heif::detect_compression(source, place, head)?),

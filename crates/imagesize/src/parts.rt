@@ -3,7 +3,7 @@ ghost use Rattle.std.specs.Prelude.{◌≡◌, ℕ, ◌^◌, ◌<◌, List, None
 ghost use Rattle.imagesize.specs.Meaning.{kind_of, meaning, size_of};
 ghost use Rattle.imagesize.specs.Parted.{Cover, Fits, IsProbed, Says, SaysOf, Tells, told};
 ghost use Rattle.imagesize_source.specs.Known.{HasParts};
-ghost use Rattle.imagesize_source.specs.Reading.{faulted};
+ghost use Rattle.imagesize_source.specs.Reading.{is_faulted};
 
 use crate::calls::probe;
 use crate::formats::{detect, size};
@@ -144,7 +144,7 @@ fn told<T: Drop>(found: T, wanted: Option<Span>) -> PartsAnswer<T>
 
 // What is missed, where the answer is a failure.
 fn wanted<X>(answer: &ImageResult<X>, missed: Option<Span>) -> Option<Span>
-    ensures { result ≡ (if faulted answer.now then missed else None) }
+    ensures { result ≡ (if is_faulted answer.now then missed else None) }
 {
     match answer {
         Err(ImageError::IoError(Reason::Fault(_))) => missed,

@@ -19,9 +19,9 @@ sought_place (Ok n) = Some n
 sought_place (Err e) = None
 
 -- the place that is kept is the position, where both are known
-abbrev pub Agrees : Option ℕ → Option ℕ → Type 0
-Agrees None position = ⊤
-Agrees (Some place) position = IfSome position (λ p. p ≡ place)
+abbrev pub IsAt : Option ℕ → Option ℕ → Type 0
+IsAt None position = ⊤
+IsAt (Some place) position = IfSome position (λ p. p ≡ place)
 
 -- a seek leads back, or on behind the bytes in the buffer
 abbrev pub LeavesBuffer : Option ℕ → ℕ → SeekFrom → Type 0

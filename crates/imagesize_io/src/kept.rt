@@ -4,7 +4,7 @@ ghost use Rattle.std.specs.Io.Buffered.{reader_buffer, reader_inner, reader_posi
 ghost use Rattle.std.specs.Io.KnownBytes.{ReadConsumes};
 ghost use Rattle.std.specs.Io.Seek.{SeekMoves};
 ghost use Rattle.std.specs.declared.io.Error.{Error};
-ghost use Rattle.imagesize_io.specs.Kept.{place_after, read_place, sought_place, Agrees, IsBack, LeavesBuffer};
+ghost use Rattle.imagesize_io.specs.Kept.{place_after, read_place, sought_place, IsAt, IsBack, LeavesBuffer};
 ghost use Rattle.imagesize_io.specs.StopOf.{stop_of};
 ghost use Rattle.imagesize_io.specs.Telling.{ReadTells, SeekTells, counted};
 
@@ -69,7 +69,7 @@ impl<R: Read + Seek + Drop> Told for KeptReader<R> {
             → place ≤ target → target ≤ place + length (reader_buffer self.old.reader)
             → (result ≡ Ok target) × (reader_inner self.new.reader ≡ reader_inner self.old.reader)
             × (reader_buffer self.new.reader ≡ drop (target - place) (reader_buffer self.old.reader)) }
-        ensures seeks { Agrees self.old.place (reader_position R.stream_position self.old.reader)
+        ensures seeks { IsAt self.old.place (reader_position R.stream_position self.old.reader)
             → LeavesBuffer self.old.place (length (reader_buffer self.old.reader)) to
             → SeekMoves (reader_position R.stream_position self.old.reader) (reader_position R.stream_position self.new.reader)
             (R.stream_bytes (reader_inner self.old.reader)) to result }
@@ -100,7 +100,7 @@ fn seek_from<R: Read + Seek>(
         → at ≤ target → target ≤ at + length (reader_buffer reader.old)
         → (result ≡ Ok target) × (reader_inner reader.new ≡ reader_inner reader.old)
         × (reader_buffer reader.new ≡ drop (target - at) (reader_buffer reader.old)) }
-    ensures seeks { Agrees place (reader_position R.stream_position reader.old)
+    ensures seeks { IsAt place (reader_position R.stream_position reader.old)
         → LeavesBuffer place (length (reader_buffer reader.old)) to
         → SeekMoves (reader_position R.stream_position reader.old) (reader_position R.stream_position reader.new)
         (R.stream_bytes (reader_inner reader.old)) to result }
@@ -118,7 +118,7 @@ fn go<R: Read + Seek>(reader: &mut BufReader<R>, place: u64, target: u64) -> io:
     ensures ahead { place ≤ target → target ≤ place + length (reader_buffer reader.old)
         → (result ≡ Ok target) × (reader_inner reader.new ≡ reader_inner reader.old)
         × (reader_buffer reader.new ≡ drop (target - place) (reader_buffer reader.old)) }
-    ensures seeks { Agrees (Some place) (reader_position R.stream_position reader.old)
+    ensures seeks { IsAt (Some place) (reader_position R.stream_position reader.old)
         → LeavesBuffer (Some place) (length (reader_buffer reader.old)) (SeekFrom.Start target)
         → SeekMoves (reader_position R.stream_position reader.old) (reader_position R.stream_position reader.new)
         (R.stream_bytes (reader_inner reader.old)) (SeekFrom.Start target) result }

@@ -9,27 +9,27 @@ use Rattle.imagesize_source.specs.declared.util.Endian.{Endian}
 use Rattle.std.proofs.lemmas.Bool.{cases_lt}
 use Rattle.std.specs.List.{list_any, range_with_len}
 use Rattle.imagesize_source.specs.State.{places_in}
-use Rattle.imagesize_source.specs.Agreement.{Agrees, Alike, Local, Parting, has_place, covered}
+use Rattle.imagesize_source.specs.Agreement.{Agrees, Alike, IsLocal, Parting, has_place, is_covered}
 use Rattle.imagesize_source.specs.Input.{part, span_at, span_of}
-use Rattle.imagesize_source.specs.Layout.{Layout, done, refuse, field, reading, over}
+use Rattle.imagesize_source.specs.Layout.{Layout, done, refuse, field, reading, layout_reads}
 use Rattle.imagesize_source.specs.Numbers.{number}
 use Rattle.imagesize_source.specs.declared.text.Text.{Text}
 use Rattle.imagesize_source.specs.Text.{text_front}
 use Rattle.imagesize_source.proofs.Texts.{front_first, front_length, front_same, front_take}
 use Rattle.imagesize_source.proofs.Runs.{part_length, places-append, places_onward}
-use Rattle.imagesize_source.specs.Reading.{Reads, Reading, AllOf, PartOf, TextOf, onward, behind, and_then, bytes_at, bytes_read, number_at, number_read, text_part, read_of, seen}
+use Rattle.imagesize_source.specs.Reading.{Reads, Reading, AllOf, PartOf, TextOf, go_on, put_behind, and_then, bytes_at, bytes_read, number_at, number_read, text_part, read_of, map_answer}
 
-covered-left : (s t : List Span) (place : ℕ) → covered s place ≡ true → covered (s ++ t) place ≡ true
+covered-left : (s t : List Span) (place : ℕ) → is_covered s place ≡ true → is_covered (s ++ t) place ≡ true
 covered-left [] t place h = absurd cc
 covered-left (x ∷ s) t place h =
-    let Goal : Bool → Type 0 = λ b. b || covered s place ≡ true → b || covered (s ++ t) place ≡ true in
+    let Goal : Bool → Type 0 = λ b. b || is_covered s place ≡ true → b || is_covered (s ++ t) place ≡ true in
     let cases : Goal (has_place x place) = elim (has_place x place) as Goal [ true ↦ λ _. refl | false ↦ covered-left s t place ] in
     cases h
 
-covered-right : (s t : List Span) (place : ℕ) → covered t place ≡ true → covered (s ++ t) place ≡ true
+covered-right : (s t : List Span) (place : ℕ) → is_covered t place ≡ true → is_covered (s ++ t) place ≡ true
 covered-right [] t place h = h
 covered-right (x ∷ s) t place h =
-    let Goal : Bool → Type 0 = λ b. b || covered (s ++ t) place ≡ true in
+    let Goal : Bool → Type 0 = λ b. b || is_covered (s ++ t) place ≡ true in
     elim (has_place x place) as Goal [ true ↦ refl | false ↦ covered-right s t place h ]
 
 -- what agrees on spans agrees on some of them
@@ -45,7 +45,7 @@ unfolding span_of
 same_span d e place k h = ap (λ n. span_at place (min k (n - place))) h
 
 -- a place of a span
-covered-one : (place n i : ℕ) → i < n → covered (span_at place n) (place + i) ≡ true
+covered-one : (place n i : ℕ) → i < n → is_covered (span_at place n) (place + i) ≡ true
 unfolding span_at
 covered-one place zero i h = absurd (omega arith)
 covered-one place (suc n) i h = grind (arith, nat_tests)
@@ -94,7 +94,7 @@ same_bytes d e place k a = rw (a.as_long, same_part d e place k a) refl
 pub same_number : (d e : List ℕ) (order : Endian) (place k : ℕ) → Agrees d e (span_of d place k) → number_at e order place k
     ≡ number_at d order place k
 unfolding number_at
-same_number d e order place k a = ap (seen (number order)) (same_bytes d e place k a)
+same_number d e order place k a = ap (map_answer (number order)) (same_bytes d e place k a)
 
 -- the same of a text, which sees no more than its own bytes
 same_text : (d e : List ℕ) (t : Text) (place k : ℕ) → Agrees d e (span_at place (length (text_part d t place k))) → text_part e t place k
@@ -117,39 +117,39 @@ same_reading d e (TextOf t k) place a = ap (λ bs. record { answer = Ok bs; mark
 
 -- what goes on from an answer rests on its spans
 pub agrees_first : {d e : List ℕ} {X Y : Type 0} (spans : List Span) (r : Result X ImageError) (f : X → Reads Y)
-    → Agrees d e (onward spans r f).marks → Agrees d e spans
+    → Agrees d e (go_on spans r f).marks → Agrees d e spans
 agrees_first spans (Ok x) f a = agrees-left spans (f x).marks a
 agrees_first spans (Err e) f a = a
 
 -- what goes on is the same, where it is so behind each answer
 pub onward_local : {d e : List ℕ} {X Y : Type 0} (spans : List Span) (r : Result X ImageError) (f g : X → Reads Y)
-    → Agrees d e (onward spans r f).marks → ((x : X) → Agrees d e (f x).marks → g x ≡ f x) → onward spans r g ≡ onward spans r f
-onward_local spans (Ok x) f g a same = ap (behind spans) (same x (agrees-right spans (f x).marks a))
+    → Agrees d e (go_on spans r f).marks → ((x : X) → Agrees d e (f x).marks → g x ≡ f x) → go_on spans r g ≡ go_on spans r f
+onward_local spans (Ok x) f g a same = ap (put_behind spans) (same x (agrees-right spans (f x).marks a))
 onward_local spans (Err e) f g a same = refl
 
 -- Locality: an input that agrees on the marks of a layout has the same answer and the same marks.
-pub local : {X : Type 0} (d e : List ℕ) (t : Layout X) → Agrees d e (over d t).marks → over e t ≡ over d t
+pub local : {X : Type 0} (d e : List ℕ) (t : Layout X) → Agrees d e (layout_reads d t).marks → layout_reads e t ≡ layout_reads d t
 local d e (done x) a = refl
 local d e (refuse x) a = refl
 local d e (field order place k f) a =
-    let here : Agrees d e (span_of d place k) = agrees_first (span_of d place k) (number_at d order place k) (λ v. over d (f v)) a in
+    let here : Agrees d e (span_of d place k) = agrees_first (span_of d place k) (number_at d order place k) (λ v. layout_reads d (f v)) a in
     rw (same_span d e place k here.as_long, same_number d e order place k here)
-    (onward_local (span_of d place k) (number_at d order place k) (λ v. over d (f v)) (λ v. over e (f v)) a (λ v. local d e (f v)))
+    (onward_local (span_of d place k) (number_at d order place k) (λ v. layout_reads d (f v)) (λ v. layout_reads e (f v)) a (λ v. local d e (f v)))
 local d e (reading r place f) a =
     let here : Agrees d e (read_of d r place).marks = agrees_first (read_of d r place).marks (read_of d r place).answer
-    (λ bs. over d (f bs)) a in
+    (λ bs. layout_reads d (f bs)) a in
     rw (same_reading d e r place here)
-    (onward_local (read_of d r place).marks (read_of d r place).answer (λ bs. over d (f bs)) (λ bs. over e (f bs)) a
+    (onward_local (read_of d r place).marks (read_of d r place).answer (λ bs. layout_reads d (f bs)) (λ bs. layout_reads e (f bs)) a
     (λ bs. local d e (f bs)))
 
 -- ---- where two inputs part
 
 -- whether a place is among some
-any_there : (place : ℕ) (seen rest : List ℕ) → list_any (λ q. eqb q place) (seen ++ place ∷ rest) ≡ true
+any_there : (place : ℕ) (map_answer rest : List ℕ) → list_any (λ q. eqb q place) (map_answer ++ place ∷ rest) ≡ true
 any_there place [] rest = let same : eqb place place ≡ true = grind (arith, nat_tests) in ap (λ b. b || list_any (λ q. eqb q place) rest) same
-any_there place (q ∷ seen) rest =
-    let Goal : Bool → Type 0 = λ b. b || list_any (λ q. eqb q place) (seen ++ place ∷ rest) ≡ true in
-    elim (eqb q place) as Goal [ true ↦ refl | false ↦ any_there place seen rest ]
+any_there place (q ∷ map_answer) rest =
+    let Goal : Bool → Type 0 = λ b. b || list_any (λ q. eqb q place) (map_answer ++ place ∷ rest) ≡ true in
+    elim (eqb q place) as Goal [ true ↦ refl | false ↦ any_there place map_answer rest ]
 
 any_both : (p : ℕ → Bool) (xs ys : List ℕ) → list_any p (xs ++ ys) ≡ list_any p xs || list_any p ys
 any_both p [] ys = refl
@@ -161,17 +161,17 @@ any_range : (a n place : ℕ) → list_any (λ q. eqb q place) (range_with_len a
 any_range a zero place = grind (arith, nat_tests)
 any_range a (suc n) place = rw (any_range (a + 1) n place) (grind (arith, nat_tests))
 
-pub covered-places : (s : List Span) (place : ℕ) → covered s place ≡ list_any (λ q. eqb q place) (places_in s)
+pub covered-places : (s : List Span) (place : ℕ) → is_covered s place ≡ list_any (λ q. eqb q place) (places_in s)
 covered-places [] place = refl
 covered-places (x ∷ s) place = rw (any_both (λ q. eqb q place) (range_with_len x.start x.len) (places_in s), any_range x.start x.len place)
     (ap (λ b. has_place x place || b) (covered-places s place))
 
 -- a place that the readings see is one of their marks
-pub covered_at : (s : List Span) (place : ℕ) (seen rest : List ℕ) → places_in s ≡ seen ++ place ∷ rest → covered s place ≡ true
-covered_at s place seen rest is = covered-places s place ∙ ap (list_any (λ q. eqb q place)) is ∙ any_there place seen rest
+pub covered_at : (s : List Span) (place : ℕ) (map_answer rest : List ℕ) → places_in s ≡ map_answer ++ place ∷ rest → is_covered s place ≡ true
+covered_at s place map_answer rest is = covered-places s place ∙ ap (list_any (λ q. eqb q place)) is ∙ any_there place map_answer rest
 
 -- inputs that agree do not part
-pub same_by_local : {X : Type 0} (r : List ℕ → Reads X) → Local r → (d e : List ℕ) → Agrees d e (r d).marks → r e ≡ r d
+pub same_by_local : {X : Type 0} (r : List ℕ → Reads X) → IsLocal r → (d e : List ℕ) → Agrees d e (r d).marks → r e ≡ r d
 same_by_local r is_local d e a = elim (is_local d e a.as_long) [
   | inl same ↦ same
   | inr parts ↦ absurd (parts.differs (a.same_byte parts.place (covered_at (r d).marks parts.place parts.seen parts.rest parts.here)))
@@ -281,7 +281,7 @@ bytes_made d e place k long same = rw (long, same) refl
 number_made : (d e : List ℕ) (order : Endian) (place k : ℕ) → length e ≡ length d → part e place k ≡ part d place k
     → number_at e order place k ≡ number_at d order place k
 unfolding number_at
-number_made d e order place k long same = ap (seen (number order)) (bytes_made d e place k long same)
+number_made d e order place k long same = ap (map_answer (number order)) (bytes_made d e place k long same)
 
 -- a text is the same, or the inputs part within both
 alike_text : (d e : List ℕ) (t : Text) (place k : ℕ) → length e ≡ length d → (text_part e t place k ≡ text_part d t place k)
@@ -359,38 +359,38 @@ alike_then d e p q f g (inr parts) rest =
     let there = places_onward q.marks q.answer g in
     inr (parting_before (and_then p f).marks (and_then q g).marks here.0 there.0 here.1 there.1 parts)
 alike_then {X} {Y} d e p q f g (inl same) rest = subst (λ w. Alike d e (and_then p f) (and_then w g)) (sym same) (by_answer p.answer refl) where
-  by_answer : (r : Result X ImageError) → p.answer ≡ r → Alike d e (onward p.marks r f) (onward p.marks r g)
+  by_answer : (r : Result X ImageError) → p.answer ≡ r → Alike d e (go_on p.marks r f) (go_on p.marks r g)
   by_answer (Err x) is = inl refl
   by_answer (Ok x) is = elim (rest x is) [
-    | inl rest_same ↦ inl (ap (behind p.marks) rest_same)
+    | inl rest_same ↦ inl (ap (put_behind p.marks) rest_same)
     | inr parts ↦ inr (parting_behind p.marks parts)
   ]
 
 -- a layout is local
-pub alike_layout : {X : Type 0} (d e : List ℕ) (t : Layout X) → length e ≡ length d → Alike d e (over d t) (over e t)
+pub alike_layout : {X : Type 0} (d e : List ℕ) (t : Layout X) → length e ≡ length d → Alike d e (layout_reads d t) (layout_reads e t)
 alike_layout d e (done x) long = inl refl
 alike_layout d e (refuse x) long = inl refl
 alike_layout d e (field order place k f) long = alike_then d e (number_read d order place k) (number_read e order place k)
-    (λ v. over d (f v)) (λ v. over e (f v))
+    (λ v. layout_reads d (f v)) (λ v. layout_reads e (f v))
     (alike_made (λ x p. number_at x order p k) d e place k long (number_made d e order place k long)) (λ v is. alike_layout d e (f v) long)
-alike_layout d e (reading r place f) long = alike_then d e (read_of d r place) (read_of e r place) (λ bs. over d (f bs))
-    (λ bs. over e (f bs)) (alike_reading d e r place long) (λ bs is. alike_layout d e (f bs) long)
+alike_layout d e (reading r place f) long = alike_then d e (read_of d r place) (read_of e r place) (λ bs. layout_reads d (f bs))
+    (λ bs. layout_reads e (f bs)) (alike_reading d e r place long) (λ bs is. alike_layout d e (f bs) long)
 
-pub local_layout : {X : Type 0} (t : Layout X) → Local (λ d. over d t)
+pub local_layout : {X : Type 0} (t : Layout X) → IsLocal (λ d. layout_reads d t)
 local_layout t d e long = alike_layout d e t long
 
 -- readings behind readings
-pub local_then : {X Y : Type 0} (r : List ℕ → Reads X) (f : X → List ℕ → Reads Y) → Local r → ((x : X) → Local (f x))
-    → Local (λ d. and_then (r d) (λ x. f x d))
+pub local_then : {X Y : Type 0} (r : List ℕ → Reads X) (f : X → List ℕ → Reads Y) → IsLocal r → ((x : X) → IsLocal (f x))
+    → IsLocal (λ d. and_then (r d) (λ x. f x d))
 local_then r f first rest d e long = alike_then d e (r d) (r e) (λ x. f x d) (λ x. f x e) (first d e long) (λ x is. rest x d e long)
 
 -- readings that take the length of the input
-pub local_length : {X : Type 0} (f : ℕ → List ℕ → Reads X) → ((n : ℕ) → Local (f n)) → Local (λ d. f (length d) d)
+pub local_length : {X : Type 0} (f : ℕ → List ℕ → Reads X) → ((n : ℕ) → IsLocal (f n)) → IsLocal (λ d. f (length d) d)
 local_length f each d e long = subst (λ n. Alike d e (f (length d) d) (f n e)) (sym long) (each (length d) d e long)
 
 -- one number is local, and bytes are
-pub local_number : (order : Endian) (place k : ℕ) → Local (λ d. number_read d order place k)
+pub local_number : (order : Endian) (place k : ℕ) → IsLocal (λ d. number_read d order place k)
 local_number order place k d e long = alike_made (λ x p. number_at x order p k) d e place k long (number_made d e order place k long)
 
-pub local_bytes : (place k : ℕ) → Local (λ d. bytes_read d place k)
+pub local_bytes : (place k : ℕ) → IsLocal (λ d. bytes_read d place k)
 local_bytes place k d e long = alike_made (λ x p. bytes_at x p k) d e place k long (bytes_made d e place k long)

@@ -8,14 +8,14 @@ use Rattle.imagesize_source.specs.declared.text.Text.{Text}
 use Rattle.imagesize_source.specs.Input.{part, span_at}
 use Rattle.imagesize_source.specs.Lent.{lent_state}
 use Rattle.imagesize_source.specs.Reading.{Reads, part_read, text_part, text_read}
-use Rattle.imagesize_source.specs.State.{State, Runs, past, total}
+use Rattle.imagesize_source.specs.State.{State, Runs, state_after, total}
 use Rattle.imagesize_source.proofs.Recordings.{span_is}
 use Rattle.imagesize_source.proofs.Runs.{total-append}
 use Rattle.imagesize_source.proofs.Slices.{copied_is, front_is, given_runs}
 
 -- the spans of readings are recorded behind those before
-pub past-lent : (d : List ℕ) (home : ℕ) (spans more : List Span) → past (lent_state d spans home) more ≡ lent_state d (spans ++ more) home
-unfolding past
+pub past-lent : (d : List ℕ) (home : ℕ) (spans more : List Span) → state_after (lent_state d spans home) more ≡ lent_state d (spans ++ more) home
+unfolding state_after
 past-lent d home spans [] = ap (λ s. lent_state d s home) (sym (append-nil spans))
 past-lent d home spans (s ∷ more) = past-lent d home (spans ++ s ∷ []) more ∙ ap (λ t. lent_state d t home)
     (append_assoc spans (s ∷ []) more)

@@ -5,12 +5,12 @@ use Rattle.imagesize_source.specs.declared.span.Span.{Span}
 use Rattle.imagesize_source.specs.Input.{part, span_at, span_of}
 use Rattle.imagesize_source.specs.Reading.{Reads, part_read, text_part, text_read}
 use Rattle.imagesize_source.specs.declared.text.Text.{Text}
-use Rattle.imagesize_source.specs.State.{Runs, past, recording_state}
+use Rattle.imagesize_source.specs.State.{Runs, state_after, recording_state}
 use Rattle.imagesize_source.proofs.Slices.{copied_is, front_is, given_runs}
 
 -- the spans of readings are recorded behind those before
-pub past-recording : (d : List ℕ) (spans more : List Span) → past (recording_state d spans) more ≡ recording_state d (spans ++ more)
-unfolding past
+pub past-recording : (d : List ℕ) (spans more : List Span) → state_after (recording_state d spans) more ≡ recording_state d (spans ++ more)
+unfolding state_after
 past-recording d spans [] = ap (recording_state d) (sym (append-nil spans))
 past-recording d spans (s ∷ more) = past-recording d (spans ++ s ∷ []) more ∙ ap (recording_state d) (append_assoc spans (s ∷ []) more)
 

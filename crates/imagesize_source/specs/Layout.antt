@@ -1,5 +1,5 @@
 -- A layout: which readings an answer rests on, as a tree.
-use Rattle.std.specs.Prelude.{ℕ, List, length, nat_le, if◌then◌else◌, Option, None, Some}
+use Rattle.std.specs.Prelude.{ℕ, List, length, nat_le, if◌then◌else◌, Option, None, Some, Result, Ok, Err}
 use Rattle.imagesize_source.specs.declared.error.ImageError.{ImageError}
 use Rattle.imagesize_source.specs.declared.text.Text.{Text}
 use Rattle.imagesize_source.specs.declared.util.Endian.{Endian}
@@ -25,11 +25,11 @@ abbrev pub text : {X : Type 0} → Text → ℕ → ℕ → (List ℕ → Layout
 text t place k f = reading (TextOf t k) place f
 
 -- what a layout says of an input
-abbrev pub over : {X : Type 0} → List ℕ → Layout X → Reads X
-over d (done x) = gives x
-over d (refuse e) = refuses e
-over d (field order place k f) = and_then (number_read d order place k) (λ v. over d (f v))
-over d (reading r place f) = and_then (read_of d r place) (λ bs. over d (f bs))
+abbrev pub layout_reads : {X : Type 0} → List ℕ → Layout X → Reads X
+layout_reads d (done x) = gives x
+layout_reads d (refuse e) = refuses e
+layout_reads d (field order place k f) = and_then (number_read d order place k) (λ v. layout_reads d (f v))
+layout_reads d (reading r place f) = and_then (read_of d r place) (λ bs. layout_reads d (f bs))
 
 -- a layout, and what goes on from its answer
 abbrev pub bind : {X Y : Type 0} → Layout X → (X → Layout Y) → Layout Y
@@ -37,6 +37,11 @@ bind (done x) g = g x
 bind (refuse e) g = refuse e
 bind (field order place k f) g = field order place k (λ v. bind (f v) g)
 bind (reading r place f) g = reading r place (λ bs. bind (f bs) g)
+
+-- what goes on where something is accepted; a refusal ends it
+abbrev pub accept : {X Y : Type 0} → Result X ImageError → (X → Layout Y) → Layout Y
+accept (Ok x) f = f x
+accept (Err e) f = refuse e
 
 -- all of k bytes, or none where some are missing
 abbrev pub whole : ℕ → List ℕ → Option (List ℕ)

@@ -4,7 +4,7 @@ use Rattle.std.specs.List.{range_with_len}
 use Rattle.imagesize_source.specs.Limits.{most_held}
 use Rattle.imagesize_source.specs.declared.error.ImageError.{ImageError}
 use Rattle.imagesize_source.specs.declared.span.Span.{Span}
-use Rattle.imagesize_source.specs.Reading.{Reads, stopped, faulted, is_memory, spent}
+use Rattle.imagesize_source.specs.Reading.{Reads, is_stopped, is_faulted, is_memory, spent}
 
 -- What never changes: the told length and the budget, whether bytes taken are counted and spans recorded,
 -- the name of the borrow behind the source, by how much what the reader itself counts is above what was taken,
@@ -35,8 +35,8 @@ pub record State : Type 0 where
   pub missed : Option (Option ℕ)
 
 -- how many of n bytes from a place on lie behind the first `front`
-abbrev pub fresh : ℕ → ℕ → ℕ → ℕ
-fresh front place n = (place + n) - max place front
+abbrev pub new_bytes : ℕ → ℕ → ℕ → ℕ
+new_bytes front place n = (place + n) - max place front
 
 -- how many of its first bytes a source holds after such a reading: those that join on, as many as the window has
 abbrev pub front_after : ℕ → ℕ → ℕ → ℕ
@@ -46,14 +46,14 @@ front_after front place n = if nat_le place front then max front (min most_held 
 abbrev pub step : State → Span → State
 step a s = record a {
   front = if a.frame.counts then front_after a.front s.start s.len else a.front;
-  taken = if a.frame.counts then a.taken + fresh a.front s.start s.len else a.taken;
+  taken = if a.frame.counts then a.taken + new_bytes a.front s.start s.len else a.taken;
   recorded = option_map (λ spans. spans ++ s ∷ []) a.recorded;
 }
 
 -- the state after the readings of these spans
-unfoldable pub past : State → List Span → State
-past a [] = a
-past a (s ∷ spans) = past (step a s) spans
+unfoldable pub state_after : State → List Span → State
+state_after a [] = a
+state_after a (s ∷ spans) = state_after (step a s) spans
 
 -- how many bytes the spans have together, repeats counted
 abbrev pub total : List Span → ℕ
@@ -61,8 +61,8 @@ total [] = 0
 total (s ∷ spans) = s.len + total spans
 
 -- an honest source tells the true length, which is below 2^63
-abbrev pub Sound : State → Type 0
-Sound a = a.held.honest ≡ true → (a.frame.told ≡ length a.held.input) × (length a.held.input < 2 ^ 63)
+abbrev pub IsSound : State → Type 0
+IsSound a = a.held.honest ≡ true → (a.frame.told ≡ length a.held.input) × (length a.held.input < 2 ^ 63)
 
 -- A spent budget is only answered by a source that counts, and names the bytes taken; refused memory only
 -- by one that records, and over an input that has a byte.
@@ -89,15 +89,15 @@ pub record Missed (a b : State) (marks : List Span) : Type 0 where
 -- honest, it has taken no more than the readings' spans; where nothing stopped it, the answer is theirs, and
 -- the state the one past their spans; a failure comes only from a source that can fail.
 pub record Runs {X : Type 0} (a b : State) (r : Result X ImageError) (reads : Reads X) : Type 0 where
-  pub sound : Sound a
-  pub sound_after : Sound b
+  pub sound : IsSound a
+  pub sound_after : IsSound b
   pub frame : b.frame ≡ a.frame
   pub taken : a.taken ≤ b.taken
   pub within : a.held.honest ≡ true → b.taken ≤ a.taken + total reads.marks
-  pub answer : a.held.honest ≡ true → stopped r ≡ false → reads.answer ≡ r
-  pub state : a.held.honest ≡ true → stopped r ≡ false → b ≡ past a reads.marks
-  pub fault : a.held.honest ≡ true → faulted r ≡ true → a.held.can_fail ≡ true
-  pub misses : a.held.honest ≡ true → faulted r ≡ true → Missed a b reads.marks
+  pub answer : a.held.honest ≡ true → is_stopped r ≡ false → reads.answer ≡ r
+  pub state : a.held.honest ≡ true → is_stopped r ≡ false → b ≡ state_after a reads.marks
+  pub fault : a.held.honest ≡ true → is_faulted r ≡ true → a.held.can_fail ≡ true
+  pub misses : a.held.honest ≡ true → is_faulted r ≡ true → Missed a b reads.marks
   pub ended : IfErr r (EndedBy b)
 
 -- a slice as a source: it counts nothing, records nothing and cannot fail

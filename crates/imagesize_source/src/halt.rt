@@ -1,7 +1,7 @@
 //! Readings that answer a halt in place of an error, which is larger.
 ghost use Rattle.std.specs.Prelude.{◌≡◌, ◌+◌, ◌^◌, ◌<◌, ◌≤◌, IfOk, IfErr, IfSome};
 ghost use Rattle.imagesize_source.specs.Halts.{RunsOrHalts, error_by, with_error};
-ghost use Rattle.imagesize_source.specs.Layout.{over, if_there};
+ghost use Rattle.imagesize_source.specs.Layout.{layout_reads, if_there};
 ghost use Rattle.imagesize_source.specs.Layout.Layout.{«done»};
 ghost use Rattle.imagesize_source.specs.Paying.{Paid};
 ghost use Rattle.imagesize_source.specs.Reading.{bytes_read, number_read};
@@ -138,7 +138,7 @@ pub fn read_if_there<S: Source, const N: usize>(
 ) -> Result<Option<[u8; N]>, Halt>
     ensures pays { IfOk result (λ found. IfSome found (λ bytes. 0 < N → Paid (S.state source.old) (S.state source.new) place)) }
     ensures runs { RunsOrHalts (S.state source.old) (S.state source.new) (S.failure source.new) result
-        (over (S.state source.old).held.input (if_there place N done)) }
+        (layout_reads (S.state source.old).held.input (if_there place N done)) }
 {
     let mut room = [0u8; N];
     if source.read_at(place, &mut room)? < N {
@@ -156,7 +156,7 @@ pub fn read_if_there_behind<S: Source, const N: usize>(
     distance: u64,
 ) -> Result<Option<[u8; N]>, Halt>
     ensures { RunsOrHalts (S.state source.old) (S.state source.new) (S.failure source.new) result
-        (over (S.state source.old).held.input (if_there (place + distance) N done)) }
+        (layout_reads (S.state source.old).held.input (if_there (place + distance) N done)) }
 {
     read_if_there::<S, N>(source, place.saturating_add(distance))
 }

@@ -2,8 +2,8 @@
 ghost use Rattle.std.specs.Prelude.{◌≡◌, ◌+◌, ◌^◌, ◌<◌, ◌≤◌, length, take, IfOk, IfErr, IfSome};
 ghost use Rattle.imagesize_source.specs.Numbers.{number};
 ghost use Rattle.imagesize_source.specs.Paying.{Paid};
-ghost use Rattle.imagesize_source.specs.Reading.{bytes_read, end_of_input, number_read, part_read, seen, text_read};
-ghost use Rattle.imagesize_source.specs.Layout.{Layout, over, if_there};
+ghost use Rattle.imagesize_source.specs.Reading.{bytes_read, end_of_input, number_read, part_read, map_answer, text_read};
+ghost use Rattle.imagesize_source.specs.Layout.{Layout, layout_reads, if_there};
 ghost use Rattle.imagesize_source.specs.Layout.Layout.{«done»};
 ghost use Rattle.imagesize_source.specs.State.{Runs};
 
@@ -76,7 +76,7 @@ impl Endian {
 pub fn read_part<S: Source>(source: &mut S, place: u64, room: &mut [u8]) -> ImageResult<usize>
     ensures bound { IfOk result (λ n. n ≤ length room.new) }
     ensures pays { IfOk result (λ n. 0 < n → Paid (S.state source.old) (S.state source.new) place) }
-    ensures runs { Runs (S.state source.old) (S.state source.new) (seen (λ n. take n room.new) result)
+    ensures runs { Runs (S.state source.old) (S.state source.new) (map_answer (λ n. take n room.new) result)
         (part_read (S.state source.old).held.input place (length room.new)) }
 {
     answered(source.read_at(place, room), source)
@@ -92,7 +92,7 @@ pub fn read_text<S: Source>(
 ) -> ImageResult<usize>
     ensures bound { IfOk result (λ n. n ≤ length room.new) }
     ensures pays { IfOk result (λ n. 0 < n → Paid (S.state source.old) (S.state source.new) place) }
-    ensures runs { Runs (S.state source.old) (S.state source.new) (seen (λ n. take n room.new) result)
+    ensures runs { Runs (S.state source.old) (S.state source.new) (map_answer (λ n. take n room.new) result)
         (text_read (S.state source.old).held.input text place (length room.new)) }
 {
     answered(source.read_text(place, text, room), source)
@@ -114,7 +114,7 @@ pub fn read_if_there<S: Source, const N: usize>(
     place: u64,
 ) -> ImageResult<Option<[u8; N]>>
     ensures pays { IfOk result (λ found. IfSome found (λ bytes. 0 < N → Paid (S.state source.old) (S.state source.new) place)) }
-    ensures runs { Runs (S.state source.old) (S.state source.new) result (over (S.state source.old).held.input (if_there place N done)) }
+    ensures runs { Runs (S.state source.old) (S.state source.new) result (layout_reads (S.state source.old).held.input (if_there place N done)) }
 {
     answered(halt::read_if_there::<S, N>(source, place), source)
 }
@@ -144,7 +144,7 @@ pub fn read_if_there_behind<S: Source, const N: usize>(
     distance: u64,
 ) -> ImageResult<Option<[u8; N]>>
     ensures { Runs (S.state source.old) (S.state source.new) result
-        (over (S.state source.old).held.input (if_there (place + distance) N done)) }
+        (layout_reads (S.state source.old).held.input (if_there (place + distance) N done)) }
 {
     answered(
         halt::read_if_there_behind::<S, N>(source, place, distance),

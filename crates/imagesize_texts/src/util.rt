@@ -2,7 +2,7 @@
 ghost use Rattle.std.specs.Prelude.{◌≡◌, ℕ, ◌+◌, ◌^◌, ◌<◌, ◌≤◌, length, IfOk};
 ghost use Rattle.imagesize_source.specs.Halts.{RunsOrHalts, error_by, with_error};
 ghost use Rattle.imagesize_source.specs.Paying.{Paid};
-ghost use Rattle.imagesize_source.specs.Reading.{number_read, seen};
+ghost use Rattle.imagesize_source.specs.Reading.{number_read, map_answer};
 ghost use Rattle.imagesize_source.specs.State.{Runs};
 ghost use Rattle.imagesize_texts.specs.Contents.{ended_word, is_word_end, line_length, line_text, no_end, number_text, utf8, word_text};
 ghost use Rattle.imagesize_texts.specs.Texts.{length_read, line_read, read_word_of, word_read};
@@ -43,7 +43,7 @@ pub fn read_line_capped<'a, S: Source>(
     ensures bound { IfOk result (λ text. length text.now < length room.old) }
     ensures pays { IfOk result (λ text. Paid (S.state source.old) (S.state source.new) place) }
     ensures runs { Runs (S.state source.old) (S.state source.new)
-        (seen (λ text. text.now) (with_error (S.failure source.new) (S.state source.new).frame.budget result))
+        (map_answer (λ text. text.now) (with_error (S.failure source.new) (S.state source.new).frame.budget result))
         (line_read (S.state source.old).held.input delimiter place (length room.old)) }
 {
     let most = room.len();
@@ -61,7 +61,7 @@ pub fn read_null_terminated_string<'a, S: Source>(
     ensures bound { IfOk result (λ text. length text.now < length room.old) }
     ensures pays { IfOk result (λ text. Paid (S.state source.old) (S.state source.new) place) }
     ensures runs { Runs (S.state source.old) (S.state source.new)
-        (seen (λ text. text.now) (with_error (S.failure source.new) (S.state source.new).frame.budget result))
+        (map_answer (λ text. text.now) (with_error (S.failure source.new) (S.state source.new).frame.budget result))
         (line_read (S.state source.old).held.input 0 place (length room.old)) }
 {
     read_line_capped(source, place, 0, room)
@@ -100,7 +100,7 @@ pub fn read_word<'a, S: Source>(
     ensures bound { IfOk result (λ word. (0 < word.taken) × (word.taken < 1024)) }
     ensures pays { IfOk result (λ word. Paid (S.state source.old) (S.state source.new) place) }
     ensures runs { Runs (S.state source.old) (S.state source.new)
-        (seen (λ word. read_word_of word) (with_error (S.failure source.new) (S.state source.new).frame.budget result))
+        (map_answer (λ word. read_word_of word) (with_error (S.failure source.new) (S.state source.new).frame.budget result))
         (word_read (S.state source.old).held.input place) }
 {
     let count = source.read_text(place, Text::Word, room)?;
@@ -132,7 +132,7 @@ pub fn read_word_behind<'a, S: Source>(
     room: &'a mut [u8; WORD_ROOM],
 ) -> Result<Word<'a>, Halt>
     ensures { Runs (S.state source.old) (S.state source.new)
-        (seen (λ word. read_word_of word) (with_error (S.failure source.new) (S.state source.new).frame.budget result))
+        (map_answer (λ word. read_word_of word) (with_error (S.failure source.new) (S.state source.new).frame.budget result))
         (word_read (S.state source.old).held.input (place + distance)) }
 {
     read_word(source, place.saturating_add(distance), room)
@@ -156,7 +156,7 @@ pub fn read_u32_behind<S: Source>(
 fn line_text(bytes: &[u8], delimiter: u8, most: usize) -> Result<&str, Halt>
     requires { most < 2 ^ 32 }
     ensures { (failure : ImageError) (budget : ℕ) →
-        seen (λ text. text.now) (with_error failure budget result) ≡ line_text delimiter most bytes.now }
+        map_answer (λ text. text.now) (with_error failure budget result) ≡ line_text delimiter most bytes.now }
 {
     match bytes {
         [text @ .., last] if *last == delimiter => text_of(text),
@@ -180,7 +180,7 @@ fn line_length(bytes: &[u8], delimiter: u8, most: usize) -> Result<usize, Halt>
 #[tactic(auto, using(crate::proofs::Words::unspaced_is), unfolding(crate::specs::Contents::word_text))]
 fn word_text(bytes: &[u8]) -> Result<Word<'_>, Halt>
     ensures { (failure : ImageError) (budget : ℕ) →
-        seen (λ word. read_word_of word) (with_error failure budget result) ≡ word_text bytes.now }
+        map_answer (λ word. read_word_of word) (with_error failure budget result) ≡ word_text bytes.now }
 {
     ended_word(bytes.trim_ascii_start(), bytes.len())
 }
@@ -189,7 +189,7 @@ fn word_text(bytes: &[u8]) -> Result<Word<'_>, Halt>
 #[tactic(auto, unfolding(crate::specs::Contents::ended_word))]
 fn ended_word(bytes: &[u8], taken: usize) -> Result<Word<'_>, Halt>
     ensures { (failure : ImageError) (budget : ℕ) →
-        seen (λ word. read_word_of word) (with_error failure budget result) ≡ ended_word taken bytes.now }
+        map_answer (λ word. read_word_of word) (with_error failure budget result) ≡ ended_word taken bytes.now }
 {
     match bytes {
         [text @ .., last] if is_word_end(*last, taken) => Ok(Word {
@@ -227,7 +227,7 @@ fn no_end(count: usize, most: usize) -> Halt
 #[tactic(auto, using(crate::proofs::Words::is_text, crate::proofs::Words::no_text))]
 fn text_of(bytes: &[u8]) -> Result<&str, Halt>
     ensures { (failure : ImageError) (budget : ℕ) →
-        seen (λ text. text.now) (with_error failure budget result) ≡ utf8 bytes.now }
+        map_answer (λ text. text.now) (with_error failure budget result) ≡ utf8 bytes.now }
 {
     match str::from_utf8(bytes) {
         Ok(text) => Ok(text),

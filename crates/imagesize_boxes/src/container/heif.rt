@@ -1,13 +1,14 @@
 //! HEIF and AVIF, by ISO/IEC 14496-12, sections 4.2 (boxes), 4.3 (`ftyp`) and 8.11.1 (`meta`), and ISO/IEC 23008-12
 //! (the brands, the properties and their list); the brands of AVIF by the AV1 Image File Format.
 ghost use Rattle.std.specs.Prelude.{◌≡◌, ℕ, ◌+◌, ◌<◌, ◌≤◌, Some, codes, IfOk};
-ghost use Rattle.imagesize_boxes.specs.Heif.{Fits, box_size, brand_compression, compatible_compression, earlier_largest, extents_size, gathered_answer, gathered_with, heif, heif_compression, heif_in_iprp, heif_in_meta, is_general, is_heif, is_named, properties, property_at, property_bytes, property_said, search_for, searched_box, searched_said, skipped_bytes, turned};
+ghost use Rattle.imagesize_boxes.specs.Heif.{box_size, brand_compression, compatible_compression, extents_size, heif, heif_compression, heif_in_iprp, heif_in_meta, is_general, is_heif, is_named, properties, property_at, property_bytes, search_for, searched_box, skipped_bytes, turn_by};
+ghost use Rattle.imagesize_boxes.specs.Walks.{searched_said, property_said, earlier_largest, gathered_with, gathered_answer, IsLeftFor};
 ghost use Rattle.imagesize_source.specs.Chain.{chain_at};
 ghost use Rattle.imagesize_source.specs.Halts.{RunsOrHalts, with_error};
-ghost use Rattle.imagesize_source.specs.Layout.{over};
+ghost use Rattle.imagesize_source.specs.Layout.{layout_reads};
 ghost use Rattle.imagesize_source.specs.Paying.{Nears};
-ghost use Rattle.imagesize_source.specs.Reading.{bytes_read, seen};
-ghost use Rattle.imagesize_source.specs.State.{Runs, Sound};
+ghost use Rattle.imagesize_source.specs.Reading.{bytes_read, map_answer};
+ghost use Rattle.imagesize_source.specs.State.{Runs, IsSound};
 ghost use Rattle.imagesize_source.specs.declared.error.ImageError.{ImageError};
 
 use imagesize_source::halt::{
@@ -35,9 +36,9 @@ pub fn detect_compression<S: Source>(
     place: u64,
     head: &[u8; 12],
 ) -> Result<Compression, Halt>
-    requires { Sound (S.state source.old) }
+    requires { IsSound (S.state source.old) }
     ensures { RunsOrHalts (S.state source.old) (S.state source.new) (S.failure source.new) result
-        (over (S.state source.old).held.input (heif_compression place head.now)) }
+        (layout_reads (S.state source.old).held.input (heif_compression place head.now)) }
 {
     let brand = &head[8..];
     if !is_general(brand) {
@@ -166,8 +167,8 @@ fn search_from<S: Source>(source: &mut S, from: u64, name: &[u8; 4]) -> Result<F
 fn read_box<S: Source>(source: &mut S, place: u64, name: &[u8; 4]) -> Result<Searched, Halt>
     ensures nears { IfOk result (λ found. Nears (S.state source.old) (S.state source.new) place (searched_said place found)) }
     ensures runs { Runs (S.state source.old) (S.state source.new)
-        (seen (λ found. searched_said place found) (with_error (S.failure source.new) (S.state source.new).frame.budget result))
-        (over (S.state source.old).held.input (searched_box name.now place)) }
+        (map_answer (λ found. searched_said place found) (with_error (S.failure source.new) (S.state source.new).frame.budget result))
+        (layout_reads (S.state source.old).held.input (searched_box name.now place)) }
 {
     let head = read_bytes::<S, 8>(source, place)?;
     let size = box_size(&head);
@@ -268,9 +269,9 @@ fn largest_from<S: Source>(source: &mut S, from: u64, all: u32) -> Result<ImageS
 #[tactic(auto, using(imagesize_source::proofs::Runs::steps, imagesize_source::proofs::Runs::missed_before))]
 fn read_property<S: Source>(source: &mut S, place: u64, left: u32) -> Result<Option<Property>, Halt>
     ensures nears { IfOk result (λ found. Nears (S.state source.old) (S.state source.new) place (property_said place found)) }
-    ensures fits { IfOk result (λ found. Fits left found) }
+    ensures fits { IfOk result (λ found. IsLeftFor left found) }
     ensures runs { RunsOrHalts (S.state source.old) (S.state source.new) (S.failure source.new) result
-        (over (S.state source.old).held.input (property_at left place)) }
+        (layout_reads (S.state source.old).held.input (property_at left place)) }
 {
     let Some(head) = read_if_there::<S, 8>(source, place)? else {
         return Ok(None);
@@ -373,7 +374,7 @@ fn answer(gathered: Gathered) -> Result<ImageSize, Halt>
 // A quarter and three quarters of a turn exchange width and height.
 #[inline(always)]
 fn turned(size: ImageSize, turn: Option<u8>) -> ImageSize
-    ensures { result ≡ turned turn size }
+    ensures { result ≡ turn_by turn size }
 {
     match turn {
         Some(1 | 3) => ImageSize {

@@ -3,8 +3,8 @@ ghost use Rattle.std.specs.Prelude.{◌≡◌, ◌≤◌, ◌++◌, take, option
 ghost use Rattle.imagesize_boxes.specs.Jxl.{is_jxl, jxl, jxl_chain, jxl_codestream, jxl_start};
 ghost use Rattle.imagesize_source.specs.Chain.{chain_at};
 ghost use Rattle.imagesize_source.specs.Halts.{RunsOrHalts, with_error};
-ghost use Rattle.imagesize_source.specs.Layout.{over};
-ghost use Rattle.imagesize_source.specs.Reading.{seen};
+ghost use Rattle.imagesize_source.specs.Layout.{layout_reads};
+ghost use Rattle.imagesize_source.specs.Reading.{map_answer};
 ghost use Rattle.imagesize_source.specs.State.{Runs};
 
 mod bits;
@@ -50,7 +50,7 @@ pub fn size<S: Source>(source: &mut S) -> Result<ImageSize, Halt>
 #[tactic(auto, using(imagesize_source::proofs::Runs::steps))]
 fn read_codestream<S: Source>(source: &mut S) -> Result<Front, Halt>
     ensures { Runs (S.state source.old) (S.state source.new)
-        (seen (λ front. take front.len front.bytes) (with_error (S.failure source.new) (S.state source.new).frame.budget result))
+        (map_answer (λ front. take front.len front.bytes) (with_error (S.failure source.new) (S.state source.new).frame.budget result))
         (jxl_codestream (S.state source.old).held.input) }
 {
     match read_start(source)? {
@@ -63,7 +63,7 @@ fn read_codestream<S: Source>(source: &mut S) -> Result<Front, Halt>
 #[tactic(auto, using(imagesize_source::proofs::Runs::steps))]
 fn read_boxes<S: Source>(source: &mut S) -> Result<Front, Halt>
     ensures { Runs (S.state source.old) (S.state source.new)
-        (seen (λ front. take front.len front.bytes) (with_error (S.failure source.new) (S.state source.new).frame.budget result))
+        (map_answer (λ front. take front.len front.bytes) (with_error (S.failure source.new) (S.state source.new).frame.budget result))
         (chain_at jxl_chain (S.state source.old).held.input) }
 {
     let codestream = boxes::read_codestream(source)?;
@@ -74,9 +74,9 @@ fn read_boxes<S: Source>(source: &mut S) -> Result<Front, Halt>
 #[tactic(auto, using(imagesize_source::proofs::Runs::steps))]
 fn read_start<S: Source>(source: &mut S) -> Result<Option<Front>, Halt>
     ensures { Runs (S.state source.old) (S.state source.new)
-        (seen (λ found. option_map (λ front. take front.len front.bytes) found)
+        (map_answer (λ found. option_map (λ front. take front.len front.bytes) found)
         (with_error (S.failure source.new) (S.state source.new).frame.budget result))
-        (over (S.state source.old).held.input jxl_start) }
+        (layout_reads (S.state source.old).held.input jxl_start) }
 {
     let start = read_bytes::<S, 2>(source, 0)?;
     if !header::has_signature(&start) {

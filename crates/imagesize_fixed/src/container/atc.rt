@@ -5,7 +5,7 @@ ghost use Rattle.imagesize_types.specs.Table.{look_up};
 ghost use Rattle.imagesize_source.specs.Numbers.{number};
 ghost use Rattle.imagesize_source.specs.declared.util.Endian.TheVariants as endian;
 ghost use Rattle.imagesize_source.specs.Halts.{RunsOrHalts};
-ghost use Rattle.imagesize_source.specs.Layout.{over};
+ghost use Rattle.imagesize_source.specs.Layout.{layout_reads};
 
 use crate::container::{dds, pkm, pvrtc};
 use imagesize_source::halt::{Halt, read_bytes, read_if_there};
@@ -37,7 +37,7 @@ fn is_atc(header: &[u8]) -> bool
 #[tactic(auto, using(imagesize_source::proofs::Runs::steps), unfolding(crate::specs::Atc::atc_compression))]
 pub fn detect_compression<S: Source>(source: &mut S) -> Result<AtcCompression, Halt>
     ensures { RunsOrHalts (S.state source.old) (S.state source.new) (S.failure source.new) result
-        (over (S.state source.old).held.input atc_compression) }
+        (layout_reads (S.state source.old).held.input atc_compression) }
 {
     let Some(header) = read_if_there::<S, 8>(source, 0)? else {
         return Ok(AtcCompression::Unknown);
@@ -73,7 +73,7 @@ fn compression(data_type: u16) -> AtcCompression
 #[tactic(auto, using(imagesize_source::proofs::Runs::steps))]
 pub fn size<S: Source>(source: &mut S) -> Result<ImageSize, Halt>
     ensures { RunsOrHalts (S.state source.old) (S.state source.new) (S.failure source.new) result
-        (over (S.state source.old).held.input atc) }
+        (layout_reads (S.state source.old).held.input atc) }
 {
     let tag = read_bytes::<S, 4>(source, 0)?;
     if dds::is_dds(&tag) {

@@ -4,7 +4,7 @@ ghost use Rattle.std.specs.Prelude.{◌≡◌};
 ghost use Rattle.imagesize_fixed.specs.Dds.{dds, dds_bit_counts, dds_codes, dds_compression, dds_number_of, dxgi_formats, is_dds};
 ghost use Rattle.imagesize_types.specs.Table.{look_up, look_up_text};
 ghost use Rattle.imagesize_source.specs.Halts.{RunsOrHalts};
-ghost use Rattle.imagesize_source.specs.Layout.{if_there, over};
+ghost use Rattle.imagesize_source.specs.Layout.{if_there, layout_reads};
 ghost use Rattle.imagesize_source.specs.Layout.Layout.{«done»};
 
 use imagesize_source::halt::{Halt, read_if_there, read_u32};
@@ -34,7 +34,7 @@ pub(super) fn is_dds(header: &[u8]) -> bool
 #[tactic(auto, using(imagesize_source::proofs::Runs::steps, imagesize_source::proofs::Runs::missed_before), unfolding(crate::specs::Dds::dds_compression))]
 pub fn detect_compression<S: Source>(source: &mut S) -> Result<DdsCompression, Halt>
     ensures { RunsOrHalts (S.state source.old) (S.state source.new) (S.failure source.new) result
-        (over (S.state source.old).held.input dds_compression) }
+        (layout_reads (S.state source.old).held.input dds_compression) }
 {
     let Some(code) = read_if_there::<S, 4>(source, 84)? else {
         return Ok(DdsCompression::Unknown);
@@ -52,7 +52,7 @@ pub fn detect_compression<S: Source>(source: &mut S) -> Result<DdsCompression, H
 #[tactic(auto, using(imagesize_source::proofs::Runs::steps, imagesize_source::proofs::Numbers::little_4))]
 fn extended_compression<S: Source>(source: &mut S) -> Result<DdsCompression, Halt>
     ensures { RunsOrHalts (S.state source.old) (S.state source.new) (S.failure source.new) result
-        (over (S.state source.old).held.input (if_there 128 4 (λ bs. done (dds_number_of dxgi_formats bs)))) }
+        (layout_reads (S.state source.old).held.input (if_there 128 4 (λ bs. done (dds_number_of dxgi_formats bs)))) }
 {
     match read_if_there::<S, 4>(source, 128)? {
         Some(format) => Ok(format_compression(u32::from_le_bytes(format))),
@@ -64,7 +64,7 @@ fn extended_compression<S: Source>(source: &mut S) -> Result<DdsCompression, Hal
 #[tactic(auto, using(imagesize_source::proofs::Runs::steps, imagesize_source::proofs::Numbers::little_4))]
 fn plain_compression<S: Source>(source: &mut S) -> Result<DdsCompression, Halt>
     ensures { RunsOrHalts (S.state source.old) (S.state source.new) (S.failure source.new) result
-        (over (S.state source.old).held.input (if_there 88 4 (λ bs. done (dds_number_of dds_bit_counts bs)))) }
+        (layout_reads (S.state source.old).held.input (if_there 88 4 (λ bs. done (dds_number_of dds_bit_counts bs)))) }
 {
     match read_if_there::<S, 4>(source, 88)? {
         Some(bits) => Ok(bits_compression(u32::from_le_bytes(bits))),
@@ -115,7 +115,7 @@ fn bits_compression(bits: u32) -> DdsCompression
 #[tactic(auto, using(imagesize_source::proofs::Runs::steps))]
 pub fn size<S: Source>(source: &mut S) -> Result<ImageSize, Halt>
     ensures { RunsOrHalts (S.state source.old) (S.state source.new) (S.failure source.new) result
-        (over (S.state source.old).held.input dds) }
+        (layout_reads (S.state source.old).held.input dds) }
 {
     let height = read_u32(source, 12, Endian::Little)? as usize;
     let width = read_u32(source, 16, Endian::Little)? as usize;

@@ -2,7 +2,7 @@
 ghost use Rattle.std.specs.Prelude.{◌≡◌, ◌<◌, ◌≤◌, max, take, length, IfOk};
 ghost use Rattle.imagesize_source.specs.Limits.{most_held};
 ghost use Rattle.imagesize_source.specs.Halts.{with_error};
-ghost use Rattle.imagesize_source.specs.Reading.{seen, text_read};
+ghost use Rattle.imagesize_source.specs.Reading.{map_answer, text_read};
 ghost use Rattle.imagesize_io.specs.ReaderState.{reader_state};
 ghost use Rattle.imagesize_source.specs.State.{Runs};
 ghost use Rattle.imagesize_io.specs.StopOf.{fault_of};
@@ -28,7 +28,7 @@ pub(super) fn read_text<R: Told>(
         source.old.ledger.progress source.old.ledger.window.items)
         (reader_state (R.telling source.new.reader.now) (R.count source.new.reader.now) source.new.reader.ghost_name
         source.new.ledger.progress source.new.ledger.window.items)
-        (seen (λ n. take n room.new) (with_error (fault_of source.new.ledger.progress.fault) source.new.ledger.progress.budget result))
+        (map_answer (λ n. take n room.new) (with_error (fault_of source.new.ledger.progress.fault) source.new.ledger.progress.budget result))
         (text_read (reader_state (R.telling source.old.reader.now) (R.count source.old.reader.now) source.old.reader.ghost_name
         source.old.ledger.progress source.old.ledger.window.items).held.input text place (length room.new)) }
 {

@@ -2,11 +2,12 @@
 ghost use Rattle.std.specs.Prelude.{◌≡◌, ◌+◌, ◌<◌, ◌≤◌, length, IfOk};
 ghost use Rattle.imagesize_source.specs.Chain.{chain_at};
 ghost use Rattle.imagesize_source.specs.Halts.{RunsOrHalts, with_error};
-ghost use Rattle.imagesize_source.specs.Layout.{over};
+ghost use Rattle.imagesize_source.specs.Layout.{layout_reads};
 ghost use Rattle.imagesize_source.specs.Paying.{Nears, Paid};
-ghost use Rattle.imagesize_source.specs.Reading.{seen};
+ghost use Rattle.imagesize_source.specs.Reading.{map_answer};
 ghost use Rattle.imagesize_source.specs.State.{Runs};
-ghost use Rattle.imagesize_texts.specs.Exr.{attribute_said, box_size, exr, exr_attribute, exr_attributes, is_box, is_data_window, is_exr, name_room, side, signed_at, window_size};
+ghost use Rattle.imagesize_texts.specs.Exr.{size_within, exr, exr_attribute, exr_attributes, is_box, is_data_window, is_exr, name_room, window_side, signed_at, window_size};
+ghost use Rattle.imagesize_texts.specs.Walks.{attribute_said};
 ghost use Rattle.imagesize_texts.specs.Texts.{line_read};
 
 use crate::util::{read_null_terminated_string, read_u32_behind};
@@ -81,8 +82,8 @@ fn read_attribute<S: Source>(
     requires { names ≤ 256 }
     ensures nears { IfOk result (λ found. Nears (S.state source.old) (S.state source.new) place (attribute_said place found)) }
     ensures runs { Runs (S.state source.old) (S.state source.new)
-        (seen (λ found. attribute_said place found) (with_error (S.failure source.new) (S.state source.new).frame.budget result))
-        (over (S.state source.old).held.input (exr_attribute names place)) }
+        (map_answer (λ found. attribute_said place found) (with_error (S.failure source.new) (S.state source.new).frame.budget result))
+        (layout_reads (S.state source.old).held.input (exr_attribute names place)) }
 {
     let name = read_name(source, place, names, room)?;
     if name.is_empty() {
@@ -118,7 +119,7 @@ fn read_name<'a, S: Source>(
     ensures bound { IfOk result (λ text. length text.now < names) }
     ensures pays { IfOk result (λ text. Paid (S.state source.old) (S.state source.new) place) }
     ensures runs { Runs (S.state source.old) (S.state source.new)
-        (seen (λ text. text.now) (with_error (S.failure source.new) (S.state source.new).frame.budget result))
+        (map_answer (λ text. text.now) (with_error (S.failure source.new) (S.state source.new).frame.budget result))
         (line_read (S.state source.old).held.input 0 place names) }
 {
     read_null_terminated_string(source, place, &mut room[..names])
@@ -135,7 +136,7 @@ fn read_name_behind<'a, S: Source>(
     requires { names ≤ 256 }
     ensures bound { IfOk result (λ text. length text.now < names) }
     ensures runs { Runs (S.state source.old) (S.state source.new)
-        (seen (λ text. text.now) (with_error (S.failure source.new) (S.state source.new).frame.budget result))
+        (map_answer (λ text. text.now) (with_error (S.failure source.new) (S.state source.new).frame.budget result))
         (line_read (S.state source.old).held.input 0 (place + distance) names) }
 {
     read_name(source, place.saturating_add(distance), names, room)
@@ -187,9 +188,9 @@ fn signed_at(bytes: &[u8; 16], place: usize) -> i32
 }
 
 // How many there are from a number to another that is no less, with both.
-#[tactic(auto, unfolding(crate::specs::Exr::side))]
+#[tactic(auto, unfolding(crate::specs::Exr::window_side))]
 fn side(low: i32, high: i32) -> Option<usize>
-    ensures { result ≡ side low high }
+    ensures { result ≡ window_side low high }
 {
     if low > high {
         return None;
@@ -200,7 +201,7 @@ fn side(low: i32, high: i32) -> Option<usize>
 // The size of a box of these sides.
 #[inline]
 fn box_size(width: Option<usize>, height: Option<usize>) -> Option<ImageSize>
-    ensures { result ≡ box_size width height }
+    ensures { result ≡ size_within width height }
 {
     match (width, height) {
         (Some(width), Some(height)) => Some(ImageSize { width, height }),

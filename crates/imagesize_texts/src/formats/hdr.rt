@@ -2,13 +2,14 @@
 ghost use Rattle.std.specs.Prelude.{◌≡◌, ℕ, IfOk, option_map};
 ghost use Rattle.imagesize_source.specs.Chain.{chain_at};
 ghost use Rattle.imagesize_source.specs.Halts.{RunsOrHalts, with_error};
-ghost use Rattle.imagesize_source.specs.Layout.{over};
+ghost use Rattle.imagesize_source.specs.Layout.{layout_reads};
 ghost use Rattle.imagesize_source.specs.Paying.{Nears};
-ghost use Rattle.imagesize_source.specs.Reading.{seen};
+ghost use Rattle.imagesize_source.specs.Reading.{map_answer};
 ghost use Rattle.imagesize_source.specs.State.{Runs};
 ghost use Rattle.imagesize_texts.specs.Contents.{words};
-ghost use Rattle.imagesize_texts.specs.Hdr.{hdr, hdr_identifier, hdr_line, hdr_lines, hdr_size, is_hdr, is_identifier, is_resolution, part_said, second_and_fourth};
-ghost use Rattle.imagesize_texts.specs.Texts.{line};
+ghost use Rattle.imagesize_texts.specs.Hdr.{hdr, hdr_identifier, hdr_line, hdr_lines, hdr_size, is_hdr, is_identifier, is_resolution, second_and_fourth};
+ghost use Rattle.imagesize_texts.specs.Walks.{line_said};
+ghost use Rattle.imagesize_texts.specs.Texts.{line_at};
 ghost use Rattle.imagesize_source.specs.declared.error.ImageError.{ImageError};
 
 use crate::util::{number, read_line_capped};
@@ -58,7 +59,7 @@ pub fn size<S: Source>(source: &mut S) -> Result<ImageSize, Halt>
 #[tactic(auto, using(imagesize_source::proofs::Runs::steps))]
 fn read_identifier<S: Source>(source: &mut S) -> Result<u64, Halt>
     ensures { RunsOrHalts (S.state source.old) (S.state source.new) (S.failure source.new) result
-        (over (S.state source.old).held.input hdr_identifier) }
+        (layout_reads (S.state source.old).held.input hdr_identifier) }
 {
     let mut room = [0u8; 11];
     let line = read_line_capped(source, 0, b'\n', &mut room)?;
@@ -98,10 +99,10 @@ fn read_part<S: Source>(
     place: u64,
     room: &mut [u8; LINE_ROOM],
 ) -> Result<Part, Halt>
-    ensures nears { IfOk result (λ part. Nears (S.state source.old) (S.state source.new) place (part_said place part)) }
+    ensures nears { IfOk result (λ part. Nears (S.state source.old) (S.state source.new) place (line_said place part)) }
     ensures runs { Runs (S.state source.old) (S.state source.new)
-        (seen (λ part. part_said place part) (with_error (S.failure source.new) (S.state source.new).frame.budget result))
-        (over (S.state source.old).held.input (line 0x0A place 256 (hdr_line place))) }
+        (map_answer (λ part. line_said place part) (with_error (S.failure source.new) (S.state source.new).frame.budget result))
+        (layout_reads (S.state source.old).held.input (line_at 0x0A place 256 (hdr_line place))) }
 {
     let line = read_line_capped(source, place, b'\n', room)?;
     if is_resolution(line) {

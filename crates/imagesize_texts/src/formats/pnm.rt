@@ -1,11 +1,12 @@
 //! The portable bitmaps, by the manual pages pbm(5), pgm(5) and ppm(5) of Netpbm.
 ghost use Rattle.std.specs.Prelude.{◌≡◌, ℕ, IfOk};
 ghost use Rattle.imagesize_source.specs.Halts.{RunsOrHalts, with_error};
-ghost use Rattle.imagesize_source.specs.Layout.{over};
+ghost use Rattle.imagesize_source.specs.Layout.{layout_reads};
 ghost use Rattle.imagesize_source.specs.Paying.{Nears};
-ghost use Rattle.imagesize_source.specs.Reading.{seen};
+ghost use Rattle.imagesize_source.specs.Reading.{map_answer};
 ghost use Rattle.imagesize_source.specs.State.{Runs};
-ghost use Rattle.imagesize_texts.specs.Pnm.{is_blank, is_comment, is_pnm, part_said, pnm, pnm_size, pnm_word};
+ghost use Rattle.imagesize_texts.specs.Pnm.{is_blank, is_comment, is_pnm, pnm, pnm_size, pnm_word};
+ghost use Rattle.imagesize_texts.specs.Walks.{word_said};
 ghost use Rattle.imagesize_texts.specs.Texts.{word};
 ghost use Rattle.imagesize_source.specs.declared.error.ImageError.{ImageError};
 
@@ -54,10 +55,10 @@ fn read_part<S: Source>(
     place: u64,
     room: &mut [u8; WORD_ROOM],
 ) -> Result<Part, Halt>
-    ensures nears { IfOk result (λ part. Nears (S.state source.old) (S.state source.new) place (part_said place part)) }
+    ensures nears { IfOk result (λ part. Nears (S.state source.old) (S.state source.new) place (word_said place part)) }
     ensures runs { Runs (S.state source.old) (S.state source.new)
-        (seen (λ part. part_said place part) (with_error (S.failure source.new) (S.state source.new).frame.budget result))
-        (over (S.state source.old).held.input (word place (pnm_word place))) }
+        (map_answer (λ part. word_said place part) (with_error (S.failure source.new) (S.state source.new).frame.budget result))
+        (layout_reads (S.state source.old).held.input (word place (pnm_word place))) }
 {
     let word = read_word(source, place, room)?;
     let taken = word.taken as u64;

@@ -5,9 +5,9 @@ ghost use Rattle.imagesize_types.specs.Largest.{later_largest};
 ghost use Rattle.imagesize_source.specs.declared.halt.Halt.TheVariants as halt;
 ghost use Rattle.imagesize_source.specs.Chain.{chain_at};
 ghost use Rattle.imagesize_source.specs.Halts.{RunsOrHalts};
-ghost use Rattle.imagesize_source.specs.Layout.{if_there, over};
+ghost use Rattle.imagesize_source.specs.Layout.{if_there, layout_reads};
 ghost use Rattle.imagesize_source.specs.Layout.Layout.{«done»};
-ghost use Rattle.imagesize_source.specs.State.{Sound};
+ghost use Rattle.imagesize_source.specs.State.{IsSound};
 
 use imagesize_source::halt::{Halt, read_if_there, read_u16};
 use imagesize_source::source::Source;
@@ -34,7 +34,7 @@ pub fn size<S: Source>(source: &mut S) -> Result<ImageSize, Halt>
 
 // The largest of so many images, of which those count whose entries are there.
 fn largest<S: Source>(source: &mut S, count: u16) -> Result<ImageSize, Halt>
-    requires { Sound (S.state source.old) }
+    requires { IsSound (S.state source.old) }
     ensures { RunsOrHalts (S.state source.old) (S.state source.new) (S.failure source.new) result
         (chain_at (icon_entries count) (S.state source.old).held.input) }
 {
@@ -52,7 +52,7 @@ fn largest<S: Source>(source: &mut S, count: u16) -> Result<ImageSize, Halt>
 #[inline]
 fn read_entry<S: Source>(source: &mut S, index: u16) -> Result<Option<[u8; 2]>, Halt>
     ensures { RunsOrHalts (S.state source.old) (S.state source.new) (S.failure source.new) result
-        (over (S.state source.old).held.input (if_there (6 + 16 * index) 2 done)) }
+        (layout_reads (S.state source.old).held.input (if_there (6 + 16 * index) 2 done)) }
 {
     read_if_there::<S, 2>(source, 6 + 16 * index as u64)
 }

@@ -1,11 +1,11 @@
 //! TIFF, by "TIFF Revision 6.0" (section 2), and BigTIFF, by "The BigTIFF File Format".
 ghost use Rattle.std.specs.Prelude.{◌≡◌, ◌+◌, ◌*◌, ◌-◌, ◌^◌, ◌≤◌, ◌==◌, if◌then◌else◌, min, take};
-ghost use Rattle.imagesize_walked.specs.Tiff.{StandsFor, byte_order, count_bytes, directory_at, entry_bytes, head_bytes, is_tiff, field_type_in, field_type_of, size_of_sides, stated_place, tag_in, tiff, tiff_entries, tiff_entry, tiff_head, tiff_header, tiff_value, value_of, version_of, whole_value};
+ghost use Rattle.imagesize_walked.specs.Tiff.{StandsFor, byte_order, count_bytes, directory_at, entry_bytes, head_bytes, is_tiff, field_type_in, field_type_of, size_if_known, stated_place, tag_in, tiff, tiff_entries, tiff_entry, tiff_head, tiff_header, tiff_value, value_of, version_of, whole_value};
 ghost use Rattle.imagesize_source.specs.Chain.{chain_at};
 ghost use Rattle.imagesize_source.specs.Halts.{RunsOrHalts};
-ghost use Rattle.imagesize_source.specs.Layout.{over};
+ghost use Rattle.imagesize_source.specs.Layout.{layout_reads};
 ghost use Rattle.imagesize_source.specs.Reading.{number_read};
-ghost use Rattle.imagesize_source.specs.State.{Sound};
+ghost use Rattle.imagesize_source.specs.State.{IsSound};
 
 use imagesize_source::halt::{
     Halt, read_bytes, read_if_there_behind, read_u16, read_u32, read_u64,
@@ -55,7 +55,7 @@ struct Header {
 #[tactic(auto, using(imagesize_source::proofs::Runs::steps, imagesize_source::proofs::Layouts::binding), unfolding(crate::specs::Tiff::tiff_header))]
 fn read_header<S: Source>(source: &mut S) -> Result<Header, Halt>
     ensures { RunsOrHalts (S.state source.old) (S.state source.new) (S.failure source.new) result
-        (over (S.state source.old).held.input tiff_header) }
+        (layout_reads (S.state source.old).held.input tiff_header) }
 {
     let mark = read_bytes::<S, 2>(source, 0)?;
     let order = byte_order(mark)?;
@@ -108,7 +108,7 @@ fn directory_at(order: Endian, version: Version, place: u64) -> Result<Header, H
 #[tactic(auto, using(imagesize_source::proofs::Runs::steps), unfolding(crate::specs::Tiff::stated_place))]
 fn read_place<S: Source>(source: &mut S, order: Endian, version: Version) -> Result<u64, Halt>
     ensures { RunsOrHalts (S.state source.old) (S.state source.new) (S.failure source.new) result
-        (over (S.state source.old).held.input (stated_place order version)) }
+        (layout_reads (S.state source.old).held.input (stated_place order version)) }
 {
     match version {
         Version::Tiff => {
@@ -123,7 +123,7 @@ fn read_place<S: Source>(source: &mut S, order: Endian, version: Version) -> Res
 #[tactic(auto, using(imagesize_source::proofs::Runs::steps), unfolding(crate::specs::Tiff::stated_place))]
 fn read_big_place<S: Source>(source: &mut S, order: Endian) -> Result<u64, Halt>
     ensures { RunsOrHalts (S.state source.old) (S.state source.new) (S.failure source.new) result
-        (over (S.state source.old).held.input (stated_place order Version.BigTiff)) }
+        (layout_reads (S.state source.old).held.input (stated_place order Version.BigTiff)) }
 {
     if read_u16(source, 4, order)? != 8 {
         return Err(Halt::BigTiffOffsetSize);
@@ -152,7 +152,7 @@ fn read_count<S: Source>(source: &mut S, header: &Header) -> Result<u64, Halt>
 
 // The size by the first so many entries of the directory.
 fn find_size<S: Source>(source: &mut S, header: &Header, count: u64) -> Result<ImageSize, Halt>
-    requires { Sound (S.state source.old) }
+    requires { IsSound (S.state source.old) }
     ensures { RunsOrHalts (S.state source.old) (S.state source.new) (S.failure source.new) result
         (chain_at (tiff_entries header.now count) (S.state source.old).held.input) }
 {
@@ -216,7 +216,7 @@ fn side_behind(tag: u16, side: Option<u32>, entry: &Entry) -> Option<u32>
 // The size, where both sides are known.
 #[inline(always)]
 fn size_of_sides(width: Option<u32>, height: Option<u32>) -> Option<ImageSize>
-    ensures { result ≡ size_of_sides width height }
+    ensures { result ≡ size_if_known width height }
 {
     match (width, height) {
         (Some(width), Some(height)) => Some(ImageSize {
@@ -232,7 +232,7 @@ fn size_of_sides(width: Option<u32>, height: Option<u32>) -> Option<ImageSize>
 #[tactic(auto, using(imagesize_source::proofs::Runs::steps, imagesize_source::proofs::Layouts::binding), unfolding(crate::specs::Tiff::tiff_entry))]
 fn read_entry<S: Source>(source: &mut S, header: &Header, place: u64) -> Result<Entry, Halt>
     ensures { RunsOrHalts (S.state source.old) (S.state source.new) (S.failure source.new) result
-        (over (S.state source.old).held.input (tiff_entry header.now place)) }
+        (layout_reads (S.state source.old).held.input (tiff_entry header.now place)) }
 {
     let head = read_head(source, header.version, place)?;
     let field_type = field_type_of(header.version, field_type_in(header.order, head))?;
@@ -248,7 +248,7 @@ fn read_entry<S: Source>(source: &mut S, header: &Header, place: u64) -> Result<
 #[tactic(auto, using(imagesize_source::proofs::Runs::steps), unfolding(crate::specs::Tiff::tiff_head))]
 fn read_head<S: Source>(source: &mut S, version: Version, place: u64) -> Result<[u8; 4], Halt>
     ensures { RunsOrHalts (S.state source.old) (S.state source.new) (S.failure source.new) result
-        (over (S.state source.old).held.input (tiff_head version place)) }
+        (layout_reads (S.state source.old).held.input (tiff_head version place)) }
 {
     match version {
         Version::Tiff => {
@@ -267,7 +267,7 @@ fn read_head<S: Source>(source: &mut S, version: Version, place: u64) -> Result<
 #[tactic(auto, using(imagesize_source::proofs::Runs::steps), unfolding(crate::specs::Tiff::tiff_value))]
 fn read_value<S: Source>(source: &mut S, version: Version, place: u64) -> Result<[u8; 4], Halt>
     ensures { RunsOrHalts (S.state source.old) (S.state source.new) (S.failure source.new) result
-        (over (S.state source.old).held.input (tiff_value version (place + head_bytes version))) }
+        (layout_reads (S.state source.old).held.input (tiff_value version (place + head_bytes version))) }
 {
     match version {
         Version::Tiff => {

@@ -1,15 +1,16 @@
 //! The boxes of JPEG XL, by ISO/IEC 18181-2, and the bytes of a codestream in them.
 ghost use Rattle.std.specs.Prelude.{◌≡◌, ℕ, ◌+◌, ◌<◌, ◌≤◌, ◌++◌, length, drop, take, codes, IfOk};
-ghost use Rattle.imagesize_boxes.specs.Jxl.{FitsBehind, IsFurther, IsHead, box_checked, box_content, box_head, box_room, box_said, codestream_box, jxl_box, jxl_chain, partial_box, partial_said, piece_at, said_behind};
+ghost use Rattle.imagesize_boxes.specs.Jxl.{box_checked, box_content, box_head, box_room, codestream_box, jxl_box, jxl_chain, partial_box, partial_said, piece_at, said_behind};
+ghost use Rattle.imagesize_boxes.specs.Walks.{box_said, IsFurther, FitsBehind, IsHead};
 ghost use Rattle.imagesize_types.specs.Head.{begins};
 ghost use Rattle.imagesize_source.specs.Chain.{Decided, chain_at};
 ghost use Rattle.imagesize_source.specs.Halts.{RunsOrHalts, with_error};
-ghost use Rattle.imagesize_source.specs.Layout.{over};
+ghost use Rattle.imagesize_source.specs.Layout.{layout_reads};
 ghost use Rattle.imagesize_source.specs.Layout.Layout.{«done»};
 ghost use Rattle.imagesize_source.specs.Numbers.{number};
 ghost use Rattle.imagesize_source.specs.Paying.{Nears, ahead_of};
-ghost use Rattle.imagesize_source.specs.Reading.{number_read, part_read, seen};
-ghost use Rattle.imagesize_source.specs.State.{Runs, Sound};
+ghost use Rattle.imagesize_source.specs.Reading.{number_read, part_read, map_answer};
+ghost use Rattle.imagesize_source.specs.State.{Runs, IsSound};
 ghost use Rattle.imagesize_source.specs.declared.error.ImageError.{ImageError};
 ghost use Rattle.imagesize_source.specs.declared.util.Endian.TheVariants as endian;
 
@@ -25,7 +26,7 @@ pub(super) type Codestream = ArrayVec<u8, MOST>;
 // The first bytes of the codestream in the boxes behind the signature box.
 pub(super) fn read_codestream<S: Source>(source: &mut S) -> Result<Codestream, Halt>
     ensures { Runs (S.state source.old) (S.state source.new)
-        (seen (λ bytes. bytes.items) (with_error (S.failure source.new) (S.state source.new).frame.budget result))
+        (map_answer (λ bytes. bytes.items) (with_error (S.failure source.new) (S.state source.new).frame.budget result))
         (chain_at jxl_chain (S.state source.old).held.input) }
 {
     let mut codestream = Codestream::new();
@@ -67,8 +68,8 @@ fn read_box<S: Source>(source: &mut S, place: u64, held: &Codestream) -> Result<
     ensures nears { IfOk result (λ found. Nears (S.state source.old) (S.state source.new) place (box_said found)) }
     ensures fits { IfOk result (λ found. FitsBehind held.now.items found) }
     ensures runs { Runs (S.state source.old) (S.state source.new)
-        (seen (λ found. box_said found) (with_error (S.failure source.new) (S.state source.new).frame.budget result))
-        (over (S.state source.old).held.input (jxl_box held.now.items place)) }
+        (map_answer (λ found. box_said found) (with_error (S.failure source.new) (S.state source.new).frame.budget result))
+        (layout_reads (S.state source.old).held.input (jxl_box held.now.items place)) }
 {
     let head = read_head(source, place)?;
     read_content(source, place, &head, held)
@@ -80,7 +81,7 @@ fn read_head<S: Source>(source: &mut S, place: u64) -> Result<BoxHead, Halt>
     ensures nears { IfOk result (λ head. ahead_of (S.state source.new) (place + 1) < ahead_of (S.state source.old) place) }
     ensures is { IfOk result (λ head. IsHead place head) }
     ensures runs { RunsOrHalts (S.state source.old) (S.state source.new) (S.failure source.new) result
-        (over (S.state source.old).held.input (box_head place)) }
+        (layout_reads (S.state source.old).held.input (box_head place)) }
 {
     let head = read_bytes::<S, 8>(source, place)?;
     let tag = tag(&head);
@@ -159,14 +160,14 @@ fn read_content<S: Source>(
     head: &BoxHead,
     held: &Codestream,
 ) -> Result<Found, Halt>
-    requires sound { Sound (S.state source.old) }
+    requires sound { IsSound (S.state source.old) }
     requires is { IsHead place head.now }
     requires room { length held.now.items ≤ 16 }
     ensures further { IfOk result (λ found. IsFurther place found) }
     ensures fits { IfOk result (λ found. FitsBehind held.now.items found) }
     ensures runs { Runs (S.state source.old) (S.state source.new)
-        (seen (λ found. box_said found) (with_error (S.failure source.new) (S.state source.new).frame.budget result))
-        (over (S.state source.old).held.input (box_content held.now.items place head.now)) }
+        (map_answer (λ found. box_said found) (with_error (S.failure source.new) (S.state source.new).frame.budget result))
+        (layout_reads (S.state source.old).held.input (box_content held.now.items place head.now)) }
 {
     if is_codestream_box(head) {
         return Ok(Found::Whole(read_whole(source, place, head)?));
@@ -206,11 +207,11 @@ fn room(head: &BoxHead) -> u64
 // The first bytes of the codestream, in the one box that has it whole.
 #[tactic(auto, using(imagesize_source::proofs::Runs::steps, imagesize_source::proofs::Layouts::binding))]
 fn read_whole<S: Source>(source: &mut S, place: u64, head: &BoxHead) -> Result<Codestream, Halt>
-    requires sound { Sound (S.state source.old) }
+    requires sound { IsSound (S.state source.old) }
     requires is { IsHead place head.now }
     ensures { Runs (S.state source.old) (S.state source.new)
-        (seen (λ codestream. Decided codestream.items) (with_error (S.failure source.new) (S.state source.new).frame.budget result))
-        (over (S.state source.old).held.input (codestream_box place head.now)) }
+        (map_answer (λ codestream. Decided codestream.items) (with_error (S.failure source.new) (S.state source.new).frame.budget result))
+        (layout_reads (S.state source.old).held.input (codestream_box place head.now)) }
 {
     let most = room(head).min(MOST as u64) as usize;
     read_piece(source, place, head.length, most)
@@ -224,14 +225,14 @@ fn read_partial<S: Source>(
     head: &BoxHead,
     held: &Codestream,
 ) -> Result<Found, Halt>
-    requires sound { Sound (S.state source.old) }
+    requires sound { IsSound (S.state source.old) }
     requires is { IsHead place head.now }
     requires room { length held.now.items ≤ 16 }
     ensures further { IfOk result (λ found. IsFurther place found) }
     ensures fits { IfOk result (λ found. FitsBehind held.now.items found) }
     ensures runs { Runs (S.state source.old) (S.state source.new)
-        (seen (λ found. box_said found) (with_error (S.failure source.new) (S.state source.new).frame.budget result))
-        (over (S.state source.old).held.input (partial_box held.now.items place head.now)) }
+        (map_answer (λ found. box_said found) (with_error (S.failure source.new) (S.state source.new).frame.budget result))
+        (layout_reads (S.state source.old).held.input (partial_box held.now.items place head.now)) }
 {
     let room = room(head);
     if room < 4 {
@@ -250,12 +251,12 @@ fn read_piece<S: Source>(
     distance: u64,
     most: usize,
 ) -> Result<Codestream, Halt>
-    requires sound { Sound (S.state source.old) }
+    requires sound { IsSound (S.state source.old) }
     requires few { most ≤ 16 }
     ensures few { IfOk result (λ bytes. length bytes.items ≤ most) }
     ensures runs { Runs (S.state source.old) (S.state source.new)
-        (seen (λ bytes. bytes.items) (with_error (S.failure source.new) (S.state source.new).frame.budget result))
-        (over (S.state source.old).held.input (piece_at (place + distance) most)) }
+        (map_answer (λ bytes. bytes.items) (with_error (S.failure source.new) (S.state source.new).frame.budget result))
+        (layout_reads (S.state source.old).held.input (piece_at (place + distance) most)) }
 {
     if most == 0 {
         return Ok(Codestream::new());
@@ -275,7 +276,7 @@ fn read_there<S: Source>(
 ) -> Result<usize, Halt>
     ensures bound { IfOk result (λ n. n ≤ length room.new) }
     ensures runs { Runs (S.state source.old) (S.state source.new)
-        (seen (λ n. take n room.new) (with_error (S.failure source.new) (S.state source.new).frame.budget result))
+        (map_answer (λ n. take n room.new) (with_error (S.failure source.new) (S.state source.new).frame.budget result))
         (part_read (S.state source.old).held.input (place + distance) (length room.new)) }
 {
     source.read_at(place.saturating_add(distance), room)

@@ -1,9 +1,10 @@
 //! The header of a JPEG XL codestream, by ISO/IEC 18181-1, annex D: the size and the orientation of the image.
 ghost use Rattle.std.specs.Prelude.{◌≡◌, ℕ, ◌+◌, ◌*◌, ◌^◌, ◌<◌, ◌≤◌, length, take, IfSome, ok_or};
 ghost use Rattle.imagesize_boxes.specs.Fields.{found_in};
-ghost use Rattle.imagesize_boxes.specs.Jxl.{exchanged, has_signature, jxl_header, jxl_size, side, side_bits, size_of_sides, width_by, width_side};
+ghost use Rattle.imagesize_boxes.specs.Jxl.{exchanged, has_signature, jxl_header, jxl_size, side_fields, side_bits, width_by, width_side};
 ghost use Rattle.imagesize_source.specs.Halts.{with_error};
 ghost use Rattle.imagesize_source.specs.declared.error.ImageError.{ImageError};
+ghost use Rattle.imagesize_types.specs.Sides.{exchange_if};
 ghost use Rattle.imagesize_source.specs.declared.error.ImageError.TheVariants as error;
 
 use super::bits::Bits;
@@ -59,9 +60,9 @@ fn header_size(bits: &Bits) -> Option<ImageSize>
 #[inline(always)]
 fn read_side(bits: &Bits, small: bool, from: u32) -> Option<Side>
     requires { from ≤ 100 }
-    ensures found { ok_or result error.CorruptedImage ≡ found_in bits.now.number bits.now.count (side small from) }
-    ensures length { IfSome result (λ side. side.length ≤ 2 ^ 30) }
-    ensures end { IfSome result (λ side. side.end ≤ from + 32) }
+    ensures found { ok_or result error.CorruptedImage ≡ found_in bits.now.number bits.now.count (side_fields small from) }
+    ensures length { IfSome result (λ side_fields. side_fields.length ≤ 2 ^ 30) }
+    ensures end { IfSome result (λ side_fields. side_fields.end ≤ from + 32) }
 {
     if small {
         let units = bits.field(from, 5)?;
@@ -99,8 +100,8 @@ fn read_width(bits: &Bits, small: bool, height: &Side) -> Option<Side>
     requires length { height.now.length ≤ 2 ^ 30 }
     requires end { height.now.end ≤ 60 }
     ensures found { ok_or result error.CorruptedImage ≡ found_in bits.now.number bits.now.count (width_side small height.now) }
-    ensures length { IfSome result (λ side. side.length < 2 ^ 35) }
-    ensures end { IfSome result (λ side. side.end ≤ 100) }
+    ensures length { IfSome result (λ side_fields. side_fields.length < 2 ^ 35) }
+    ensures end { IfSome result (λ side_fields. side_fields.end ≤ 100) }
 {
     let ratio = bits.field(height.end, 3)?;
     if ratio == 0 {
@@ -145,7 +146,7 @@ fn read_exchanged(bits: &Bits, from: u32) -> Option<bool>
 // The size of an image of these sides, which are exchanged or not.
 #[inline(always)]
 fn size_of_sides(exchanged: bool, width: u64, height: u64) -> ImageSize
-    ensures { result ≡ size_of_sides exchanged width height }
+    ensures { result ≡ exchange_if exchanged (record { width = width; height = height }) }
 {
     let (width, height) = (width as usize, height as usize);
     if exchanged {

@@ -1,5 +1,6 @@
 use Rattle.std.proofs.Common.{ℕ, ◌+◌, ◌<◌, arith, rules}
-use Rattle.imagesize_boxes.specs.Heif.{gathered_with, property_bytes}
+use Rattle.imagesize_boxes.specs.Heif.{property_bytes}
+use Rattle.imagesize_boxes.specs.Walks.{gathered_with}
 use Rattle.imagesize_boxes.proofs.Heif.{list_start, list_on, list_out, list_end, list_past}
 use Rattle.imagesize_boxes.proofs.container.heif.largest_from.Goals as goal
 
