@@ -190,8 +190,9 @@ uint32_t imagesize_probe(const uint8_t *bytes, size_t length, uint32_t *type, ui
  * spans, one span behind another. What of a span lies behind the end of the input has no bytes.
  *
  * Where another part is needed the status is IMAGESIZE_BYTES_WANTED, and `wanted` alone is written. It has at least one byte
- * and lies within the input. Its first byte is one that the answer rests on and no part has. A call that has the first byte
- * too gets further; a caller may fetch all of it, or a block around it.
+ * and lies within the input. Its first byte is one that the answer rests on and no part has; of all types but OpenEXR, Radiance
+ * and the portable bitmaps the answer rests on each of its bytes. A call that has the first byte too gets further; a caller may
+ * fetch all of it, or a block around it.
  *
  * Else status, type, compression, width and height are those of imagesize_probe over the whole input, and `wanted` stays as it
  * was. So it is where the parts have every byte that the answer rests on.

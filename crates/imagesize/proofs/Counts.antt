@@ -5,6 +5,7 @@ use Rattle.imagesize.proofs.Ways.{laws_of}
 use Rattle.imagesize.specs.Counts.{cost, most_bytes, most_as, stated, stated_as}
 use Rattle.imagesize.specs.Meaning.{kind_of, meaning, size_of}
 use Rattle.imagesize.specs.Types.{in_record, lasts, outside, way_of}
+use Rattle.imagesize.specs.Parted.{has_texts}
 use Rattle.imagesize.specs.declared.types.ImageType.{ImageType}
 use Rattle.imagesize.specs.declared.types.ImageType.TheVariants.{Aseprite}
 use Rattle.imagesize_source.proofs.Costs.{bound_of}
@@ -22,7 +23,8 @@ kind_outside _ = omega arith
 
 -- with its type, a size is read from at most the bytes of its format
 size_most : (type : ImageType) (d : List ℕ) → kind_cost type + total (size_of type d).marks ≤ most_as (Ok type) d
-size_most type d = cost_way (kind_cost type) (outside type) (in_record type) (lasts type) (way_of type) (kind_outside type)
+size_most type d = cost_way (kind_cost type) (outside type) (in_record type) (lasts type) (has_texts type) (way_of type)
+    (kind_outside type)
     (laws_of type) d
 
 onward_most : (spans : List Span) (r : Result ImageType ImageError) (d : List ℕ) → total spans ≤ bound_of kind_cost 37 r

@@ -68,7 +68,7 @@ by_costs n place head (Some found) = with_costs place head found
 by_costs n place head None = costs_bind kind_cost 37 12 25 (is_tga n head) tga_or_none (is_tga_few n head) (omega arith)
     (λ is. none_costs is)
 
-kind_costs : (n place : ℕ) → CostsBy kind_cost 37 0 (kind n place)
+pub kind_costs : (n place : ℕ) → CostsBy kind_cost 37 0 (kind n place)
 kind_costs n place = (omega arith, λ head. by_costs n place head (first_row rows head))
 
 -- what a type is read from, by the type that is found

@@ -1,65 +1,84 @@
 -- What known parts tell of each input that has them.
-use Rattle.std.proofs.Common.{◌≡◌, ℕ, ◌^◌, ◌<◌, Bool, true, false, ◌||◌, cond, eqb, List, [], ◌∷◌, ◌++◌, Option, None, Some, Result, Ok, Err, inl, inr, refl, sym, ap, ◌∙◌, subst, arith, append_assoc}
+use Rattle.std.proofs.Common.{◌≡◌, ℕ, ◌^◌, ◌+◌, ◌-◌, ◌<◌, ◌≤◌, Bool, true, false, ◌||◌, ◌&&◌, ◌⊎◌, cond, leb, List, [], ◌∷◌, ◌++◌, Option, None, Some, Result, Ok, Err, inl, inr, refl, sym, ap, ◌∙◌, subst, arith, append_assoc}
 use Rattle.std.proofs.lemmas.List.{append-nil}
 use Rattle.std.specs.List.{list_any}
+use Rattle.std.specs.Prelude.{option_map}
+use Rattle.std.proofs.lemmas.Bool.{cases_lt}
 use Rattle.std.specs.Option.{ForSome}
 use Rattle.std.specs.Result.{result_ok}
 use Rattle.std.proofs.lemmas.Bool.Decides.{nat_tests}
 use Rattle.imagesize.specs.Meaning.{kind_of, meaning, size_of}
-use Rattle.imagesize.specs.Parted.{Cover, Fits, IsProbed, Says, SaysOf, Tells, Wants, told}
-use Rattle.imagesize.specs.Probed.{FindsKind}
+use Rattle.imagesize.specs.Parted.{Cover, Fits, IsProbed, Says, SaysOf, Tells, Wants, has_texts, texts_as, texts_of, told, wanted_of, with_type}
 use Rattle.imagesize.specs.declared.parts.PartsAnswer.{PartsAnswer}
 use Rattle.imagesize.specs.declared.parts.PartsAnswer.TheVariants.{Found, Wanted}
 use Rattle.imagesize.specs.declared.types.ImageType.{ImageType}
 use Rattle.imagesize.proofs.Endings.{no_memory}
-use Rattle.imagesize.proofs.Locality.{local_kind, local_meaning}
 use Rattle.imagesize_types.specs.declared.size.ImageSize.{ImageSize}
 use Rattle.imagesize_io.proofs.Openings.{stop_cases, some_spent}
 use Rattle.imagesize_source.specs.declared.error.ImageError.{ImageError}
+use Rattle.imagesize_source.specs.declared.source.parts.Missing.{Missing}
 use Rattle.imagesize_source.specs.declared.span.Span.{Span}
-use Rattle.imagesize_source.specs.Agreement.{Agrees, IsLocal, Parting, is_covered}
-use Rattle.imagesize_source.specs.Known.{AllKnown, HasParts, Lacks, filled, parts_state}
-use Rattle.imagesize_source.specs.Reading.{Reads, is_faulted, is_stop, spent, is_stopped}
-use Rattle.imagesize_source.specs.State.{State, Runs, state_after, places_in}
-use Rattle.imagesize_source.proofs.Agreement.{agrees_first, covered-places, covered_at, same_by_local}
+use Rattle.imagesize_source.specs.Agreement.{Agrees, IsLocal, Parting, is_covered, has_place, has_whole}
+use Rattle.imagesize_source.specs.Input.{span_at}
+use Rattle.imagesize_source.specs.Known.{AllKnown, HasParts, Lacks, filled, parts_state, sure_of}
+use Rattle.imagesize_source.specs.Reading.{Reads, is_faulted, is_stop, go_on, spent, is_stopped}
+use Rattle.imagesize_source.specs.State.{State, Runs, state_after}
+use Rattle.imagesize_source.proofs.Agreement.{covered-left, covered-one, covered-right, same_by_local}
+use Rattle.imagesize_source.proofs.Runs.{marks_onward}
 use Rattle.imagesize_source.proofs.Known.{known_agrees, known_same, length-filled, unknown_free}
 
--- ---- one list of places, cut at two of them
+-- ---- one list of spans, cut at two of them
 
--- a place that is not among the first is the one at the first cut, or the first cut's is before it
-later_cut : (xs ys rest others : List ℕ) (p q : ℕ) → xs ++ p ∷ rest ≡ ys ++ q ∷ others → list_any (λ x. eqb x q) xs ≡ false
-    → (more : List ℕ) → list_any (λ x. eqb x p) (ys ++ q ∷ more) ≡ true
-later_cut [] [] rest others p q same none more =
-    let is : p ≡ q = head_is same in let here : eqb q p ≡ true = grind (arith, nat_tests) in
-    ap (λ b. b || list_any (λ x. eqb x p) more) here
-  where
-    head_is : {x y : ℕ} {xs ys : List ℕ} → ◌≡◌ {A = List ℕ} (x ∷ xs) (y ∷ ys) → x ≡ y
-    head_is e = cc
-later_cut [] (y ∷ ys) rest others p q same none more =
-    let is : p ≡ y = head_is same in let here : eqb y p ≡ true = grind (arith, nat_tests) in
-    ap (λ b. b || list_any (λ x. eqb x p) (ys ++ q ∷ more)) here
-  where
-    head_is : {x y : ℕ} {xs ys : List ℕ} → ◌≡◌ {A = List ℕ} (x ∷ xs) (y ∷ ys) → x ≡ y
-    head_is e = cc
-later_cut (x ∷ xs) [] rest others p q same none more =
-    let is : x ≡ q = head_is same in let here : eqb x q ≡ true = grind (arith, nat_tests) in
-    absurd (let no : true ≡ false = sym (ap (λ b. b || list_any (λ z. eqb z q) xs) here) ∙ none in cc)
-  where
-    head_is : {x y : ℕ} {xs ys : List ℕ} → ◌≡◌ {A = List ℕ} (x ∷ xs) (y ∷ ys) → x ≡ y
-    head_is e = cc
-later_cut (x ∷ xs) (y ∷ ys) rest others p q same none more =
-    or_true (eqb y p) (later_cut xs ys rest others p q (tail_is same) (not_first (eqb x q) none) more)
-  where
-    tail_is : {x y : ℕ} {cs bs : List ℕ} → ◌≡◌ {A = List ℕ} (x ∷ cs) (y ∷ bs) → cs ≡ bs
-    tail_is e = cc
+-- a span is one of some: what holds of it holds of one of them
+abbrev Among : Span → List Span → Type 0
+Among m spans = (P : Span → Bool) → P m ≡ true → list_any P spans ≡ true
 
-    not_first : (b : Bool) → b || list_any (λ z. eqb z q) xs ≡ false → list_any (λ z. eqb z q) xs ≡ false
-    not_first true no_one = absurd cc
-    not_first false none_is = none_is
+or_left : (b c : Bool) → b ≡ true → b || c ≡ true
+or_left true c is = refl
+or_left false c is = absurd cc
 
-    or_true : (b : Bool) → list_any (λ z. eqb z p) (ys ++ q ∷ more) ≡ true → b || list_any (λ z. eqb z p) (ys ++ q ∷ more) ≡ true
-    or_true true is = refl
-    or_true false is = is
+or_right : (b c : Bool) → c ≡ true → b || c ≡ true
+or_right true c is = refl
+or_right false c is = is
+
+any_left : (P : Span → Bool) (s t : List Span) → list_any P s ≡ true → list_any P (s ++ t) ≡ true
+any_left P [] t is = absurd cc
+any_left P (x ∷ s) t is = by_test (P x) (any_left P s t) is where
+  by_test : (b : Bool) → (list_any P s ≡ true → list_any P (s ++ t) ≡ true) → b || list_any P s ≡ true → b || list_any P (s ++ t) ≡ true
+  by_test true rest is = refl
+  by_test false rest is = rest is
+
+any_right : (P : Span → Bool) (s t : List Span) → list_any P t ≡ true → list_any P (s ++ t) ≡ true
+any_right P [] t is = is
+any_right P (x ∷ s) t is = or_right (P x) (list_any P (s ++ t)) (any_right P s t is)
+
+middle : (before : List Span) (m : Span) (rest : List Span) → Among m (before ++ m ∷ rest)
+middle [] m rest P is = or_left (P m) (list_any P rest) is
+middle (x ∷ before) m rest P is = or_right (P x) (list_any P (before ++ m ∷ rest)) (middle before m rest P is)
+
+covered-any : (spans : List Span) (place : ℕ) → is_covered spans place ≡ list_any (λ s. has_place s place) spans
+covered-any [] place = refl
+covered-any (s ∷ spans) place = ap (λ b. has_place s place || b) (covered-any spans place)
+
+head_is : {x y : Span} {xs ys : List Span} → ◌≡◌ {A = List Span} (x ∷ xs) (y ∷ ys) → x ≡ y
+head_is e = cc
+
+tail_is : {x y : Span} {xs ys : List Span} → ◌≡◌ {A = List Span} (x ∷ xs) (y ∷ ys) → xs ≡ ys
+tail_is e = cc
+
+-- the second is before the first, is the first, or is behind it
+later_cut : (made seen rest others : List Span) (m mark : Span) → made ++ m ∷ rest ≡ seen ++ mark ∷ others
+    → Among mark made ⊎ ((m ≡ mark) ⊎ ((more : List Span) → Among m (seen ++ more)))
+later_cut [] [] rest others m mark same = inr (inl (head_is same))
+later_cut [] (y ∷ seen) rest others m mark same =
+    inr (inr (λ more P is. or_left (P y) (list_any P (seen ++ more)) (ap P (sym (head_is same)) ∙ is)))
+later_cut (x ∷ made) [] rest others m mark same = inl (λ P is. or_left (P x) (list_any P made) (ap P (head_is same) ∙ is))
+later_cut (x ∷ made) (y ∷ seen) rest others m mark same = later (later_cut made seen rest others m mark (tail_is same)) where
+  later : Among mark made ⊎ ((m ≡ mark) ⊎ ((more : List Span) → Among m (seen ++ more)))
+      → Among mark (x ∷ made) ⊎ ((m ≡ mark) ⊎ ((more : List Span) → Among m ((y ∷ seen) ++ more)))
+  later (inl before) = inl (λ P is. or_right (P x) (list_any P made) (before P is))
+  later (inr (inl at)) = inr (inl at)
+  later (inr (inr behind)) = inr (inr (λ more P is. or_right (P y) (list_any P (seen ++ more)) (behind more P is)))
 
 -- ---- a source of parts is stopped by what it misses alone
 
@@ -81,14 +100,14 @@ only_fault {b = b} (Err e) reads uncounted none h no_fault = unless (is_stop e) 
   unless false h = refl
 
 -- The readings f on known parts: what they saw and missed, and their answer.
-pub record Called {X : Type 0} (f : List ℕ → Reads X) (n : ℕ) (spans : List Span) (bytes : List ℕ) (log : List Span) (missed : Option Span)
+pub record Called {X : Type 0} (f : List ℕ → Reads X) (n : ℕ) (spans : List Span) (bytes : List ℕ) (log : List Span) (missed : Option Missing)
     (r : Result X ImageError) : Type 0 where
   pub runs : Runs (parts_state n spans bytes [] None) (parts_state n spans bytes log missed) r (f (filled n spans bytes))
   pub seen : AllKnown n spans bytes log
   pub lacks : ForSome missed (Lacks n spans bytes)
 
 -- the spans of readings are recorded behind those before
-past-parts : (n : ℕ) (spans : List Span) (bytes : List ℕ) (log : List Span) (missed : Option Span) (more : List Span)
+past-parts : (n : ℕ) (spans : List Span) (bytes : List ℕ) (log : List Span) (missed : Option Missing) (more : List Span)
     → state_after (parts_state n spans bytes log missed) more ≡ parts_state n spans bytes (log ++ more) missed
 unfolding state_after
 past-parts n spans bytes log missed [] = ap (λ s. parts_state n spans bytes s missed) (sym (append-nil log))
@@ -106,10 +125,10 @@ some_is e = cc
 
 -- ---- an input that has the parts, and local readings of it
 
-module _ {X : Type 0} (f : List ℕ → Reads X) (is_local : IsLocal f) (d : List ℕ) (n : ℕ) (spans : List Span) (bytes : List ℕ)
+module _ {X : Type 0} (texts : Bool) (f : List ℕ → Reads X) (is_local : IsLocal texts f) (d : List ℕ) (n : ℕ) (spans : List Span) (bytes : List ℕ)
     (has : HasParts d n spans bytes) (short : n < 2 ^ 63) where
   -- where nothing is missed, it agrees with what was read
-  agreed : (log : List Span) (missed : Option Span) (r : Result X ImageError) → Called f n spans bytes log missed r → is_faulted r ≡ false
+  agreed : (log : List Span) (missed : Option Missing) (r : Result X ImageError) → Called f n spans bytes log missed r → is_faulted r ≡ false
       → Agrees (filled n spans bytes) d (f (filled n spans bytes)).marks
   agreed log missed r call no_fault =
       let honest = is_short n short in
@@ -121,7 +140,7 @@ module _ {X : Type 0} (f : List ℕ → Reads X) (is_local : IsLocal f) (d : Lis
       (subst (λ l. AllKnown n spans bytes l) marked call.seen)
 
   -- and the answer is its own
-  right : (log : List Span) (missed : Option Span) (r : Result X ImageError) → Called f n spans bytes log missed r → is_faulted r ≡ false
+  right : (log : List Span) (missed : Option Missing) (r : Result X ImageError) → Called f n spans bytes log missed r → is_faulted r ≡ false
       → r ≡ (f d).answer
   right log missed r call no_fault =
       let honest = is_short n short in
@@ -129,86 +148,151 @@ module _ {X : Type 0} (f : List ℕ → Reads X) (is_local : IsLocal f) (d : Lis
       let all : f d ≡ f (filled n spans bytes) = same_by_local f is_local (filled n spans bytes) d (agreed log missed r call no_fault) in
       sym (call.runs.answer honest on) ∙ ap (λ w. w.answer) (sym all)
 
-  -- what is missed is one of its marks
-  wanted_mark : (log : List Span) (p : ℕ) → AllKnown n spans bytes log → (rest : List ℕ)
-      → places_in (f (filled n spans bytes)).marks ≡ places_in log ++ p ∷ rest → is_covered (f d).marks p ≡ true
-  wanted_mark log p seen rest places =
+  -- what is missed lies in one of its marks, and whole where no texts are read
+  wanted_mark : (log : List Span) (s : Span) (made : List Span) (mark : Span) (rest : List Span) → AllKnown n spans bytes log → 0 < s.len
+      → log ≡ made ++ span_at mark.start (s.start - mark.start) → (f (filled n spans bytes)).marks ≡ made ++ mark ∷ rest
+      → mark.start ≤ s.start → s.start + s.len ≤ mark.start + mark.len
+      → (is_covered (f d).marks s.start ≡ true) × (texts ≡ false → has_whole (f d).marks s ≡ true)
+  wanted_mark log s made mark rest seen some is_log all from fits =
       elim (is_local (filled n spans bytes) d (has.as_long ∙ sym (length-filled n spans bytes))) [
-        | inl same ↦ covered_at (f d).marks p (places_in log) rest (ap (λ w. places_in w.marks) same ∙ places)
-        | inr parts ↦ (
-            let unseen : is_covered log parts.place ≡ false = not_seen parts (is_covered log parts.place) refl in
-            let among : list_any (λ x. eqb x p) (parts.seen ++ parts.place ∷ parts.others) ≡ true =
-            later_cut (places_in log) parts.seen rest parts.rest p parts.place (sym places ∙ parts.here)
-            (sym (covered-places log parts.place) ∙ unseen) parts.others in
-            covered-places (f d).marks p ∙ ap (list_any (λ x. eqb x p)) parts.there ∙ among
-            )
+        | inl same ↦ both (subst (Among mark) (sym (ap (λ w. w.marks) same ∙ all)) (middle made mark rest))
+        | inr parts ↦ by_cut parts (later_cut made parts.seen rest parts.rest mark parts.mark (sym all ∙ parts.here))
       ]
     where
-      not_seen : (parts : Parting (filled n spans bytes) d (f (filled n spans bytes)).marks (f d).marks) (is : Bool)
-          → is_covered log parts.place ≡ is → is ≡ false
-      not_seen parts true here = absurd (parts.differs (known_same d n spans bytes parts.place has (seen parts.place here)))
-      not_seen parts false here = refl
+      whole : Among mark (f d).marks → has_whole (f d).marks s ≡ true
+      whole among =
+          let begins = from in let ends = fits in
+          among (λ x. leb x.start s.start && leb (s.start + s.len) (x.start + x.len)) (grind (arith, nat_tests))
 
-  -- where a span is missed, it is wanted
-  wants : (log : List Span) (w : Span) (r : Result X ImageError) → Called f n spans bytes log (Some w) r → is_faulted r ≡ true
-      → Wants (f d).marks spans w
-  wants log w r call faults =
+      begun : (x : Span) → Among x (f d).marks → has_place x s.start ≡ true → is_covered (f d).marks s.start ≡ true
+      begun x among there = covered-any (f d).marks s.start ∙ among (λ y. has_place y s.start) there
+
+      both : Among mark (f d).marks → (is_covered (f d).marks s.start ≡ true) × (texts ≡ false → has_whole (f d).marks s ≡ true)
+      both among =
+          let begins = from in let ends = fits in let has_one = some in
+          (begun mark among (grind (arith, nat_tests)), λ _. whole among)
+
+      not_seen : (parts : Parting texts (filled n spans bytes) d (f (filled n spans bytes)).marks (f d).marks) → is_covered log parts.place ≡ true → ⊥
+      not_seen parts here = parts.differs (known_same d n spans bytes parts.place has (seen parts.place here))
+
+      -- the inputs part behind what was seen
+      later : (parts : Parting texts (filled n spans bytes) d (f (filled n spans bytes)).marks (f d).marks) → mark ≡ parts.mark → (parts.place < s.start) ⊎ (s.start ≤ parts.place) → s.start ≤ parts.place
+      later parts at (inr more) = more
+      later parts at (inl less) =
+          let has_it : has_place mark parts.place ≡ true = ap (λ x. has_place x parts.place) at ∙ parts.within in
+          let above : mark.start ≤ parts.place = grind (arith, nat_tests) in
+          let same : mark.start + (parts.place - mark.start) ≡ parts.place = omega (arith, above) in
+          let part : List Span = span_at mark.start (s.start - mark.start) in
+          let seen_it : is_covered part parts.place ≡ true =
+          subst (λ p. is_covered part p ≡ true) same
+          (covered-one mark.start (s.start - mark.start) (parts.place - mark.start) (omega (arith, less, above))) in
+          absurd (not_seen parts (subst (λ l. is_covered l parts.place ≡ true) (sym is_log) (covered-right made part parts.place seen_it)))
+
+      at_parting : (parts : Parting texts (filled n spans bytes) d (f (filled n spans bytes)).marks (f d).marks) → mark ≡ parts.mark → (is_covered (f d).marks s.start ≡ true) × (texts ≡ false → has_whole (f d).marks s ≡ true)
+      at_parting parts at =
+          let there : Among parts.other (f d).marks = subst (Among parts.other) (sym parts.there) (middle parts.seen parts.other parts.others) in
+          let starts : parts.other.start ≡ mark.start = parts.start ∙ ap (λ x. x.start) (sym at) in
+          let after : s.start ≤ parts.place = later parts at (cases_lt parts.place s.start) in
+          let also = parts.also in let begins = from in (
+            begun parts.other there (grind (arith, nat_tests)),
+            λ none. whole (subst (λ x. Among x (f d).marks) (parts.same none ∙ sym at) there),
+          )
+
+      by_cut : (parts : Parting texts (filled n spans bytes) d (f (filled n spans bytes)).marks (f d).marks)
+          → Among parts.mark made ⊎ ((mark ≡ parts.mark) ⊎ ((more : List Span) → Among mark (parts.seen ++ more))) → (is_covered (f d).marks s.start ≡ true) × (texts ≡ false → has_whole (f d).marks s ≡ true)
+      by_cut parts (inl before) = absurd (not_seen parts (subst (λ l. is_covered l parts.place ≡ true) (sym is_log)
+          (covered-left made (span_at mark.start (s.start - mark.start)) parts.place
+          (covered-any made parts.place ∙ before (λ x. has_place x parts.place) parts.within))))
+      by_cut parts (inr (inl at)) = at_parting parts at
+      by_cut parts (inr (inr among)) = both (subst (Among mark) (sym parts.there) (among (parts.other ∷ parts.others)))
+
+  -- where something is missed, it is wanted
+  wants : (log : List Span) (m : Missing) (r : Result X ImageError) → Called f n spans bytes log (Some m) r → is_faulted r ≡ true
+      → Wants texts (f d).marks spans (wanted_of texts m)
+  wants log m r call faults =
       let is = (call.runs.misses (is_short n short) faults).told in
-      let same : log ≡ is.made = some_is is.recorded in
-      let lacks = call.lacks w refl in (
-        wanted_mark log w.start call.seen is.rest (is.places ∙ ap (λ l. places_in l ++ w.start ∷ is.rest) (sym same)),
-        unknown_free d n spans bytes w.start has (let some = lacks.0 in let fits = lacks.1 in omega arith) lacks.2,
+      let lacks = call.lacks m refl in
+      let marked = wanted_mark log (sure_of m) is.made is.mark is.rest call.seen lacks.0 (some_is is.recorded) is.all is.behind is.within in (
+        marked.0,
+        unknown_free d n spans bytes m.start has (let some = lacks.0 in let few = lacks.1 in let fits = lacks.2 in omega arith) lacks.3,
+        λ none. ap (λ (t : Bool). has_whole (f d).marks (wanted_of t m)) none ∙ marked.1 none,
       )
 
   -- a failure misses something
-  says_wanted : {T : Type 0} (IsSo : T → Type 0) (found : T) (log : List Span) (missed : Option Span) (r : Result X ImageError)
-      → Called f n spans bytes log missed r → is_faulted r ≡ true → Says IsSo (f d).marks spans (told found missed)
+  says_wanted : {T : Type 0} (IsSo : T → Type 0) (found : T) (log : List Span) (missed : Option Missing) (r : Result X ImageError)
+      → Called f n spans bytes log missed r → is_faulted r ≡ true
+      → Says texts IsSo (f d).marks spans (told found (option_map (wanted_of texts) missed))
   says_wanted IsSo found log None r call faults = absurd (call.runs.misses (is_short n short) faults).told
-  says_wanted IsSo found log (Some w) r call faults = wants log w r call faults
+  says_wanted IsSo found log (Some m) r call faults = wants log m r call faults
 
   -- by the code's test
-  pub says : {T : Type 0} (IsSo : T → Type 0) (found : T) (log : List Span) (missed : Option Span) (r : Result X ImageError)
+  pub says : {T : Type 0} (IsSo : T → Type 0) (found : T) (log : List Span) (missed : Option Missing) (r : Result X ImageError)
       → Called f n spans bytes log missed r → (is_faulted r ≡ false → IsSo found)
-      → Says IsSo (f d).marks spans (told found (cond (is_faulted r) missed None))
+      → Says texts IsSo (f d).marks spans (told found (option_map (wanted_of texts) (cond (is_faulted r) missed None)))
   says IsSo found log missed r call is_so = by_test (is_faulted r) refl where
-    by_test : (test : Bool) → is_faulted r ≡ test → Says IsSo (f d).marks spans (told found (cond test missed None))
+    by_test : (test : Bool) → is_faulted r ≡ test
+        → Says texts IsSo (f d).marks spans (told found (option_map (wanted_of texts) (cond test missed None)))
     by_test true faults = says_wanted IsSo found log missed r call faults
     by_test false no_fault = is_so no_fault
 
-  pub says_of : (log : List Span) (missed : Option Span) (r : Result X ImageError) → Called f n spans bytes log missed r
-      → SaysOf (f d) spans (told r (cond (is_faulted r) missed None))
+  pub says_of : (log : List Span) (missed : Option Missing) (r : Result X ImageError) → Called f n spans bytes log missed r
+      → SaysOf texts (f d) spans (told r (option_map (wanted_of texts) (cond (is_faulted r) missed None)))
   says_of log missed r call = says (λ answer. answer ≡ (f d).answer) r log missed r call (right log missed r call)
 
--- and the type beside a size
-pub says_probed : (d : List ℕ) (n : ℕ) (spans : List Span) (bytes : List ℕ) (log : List Span) (missed : Option Span)
-    (found : Option ImageType × Result ImageSize ImageError) → Called (λ x. meaning x 0) n spans bytes log missed found.1
-    → FindsKind (parts_state n spans bytes [] None) 0 found.0 found.1 → HasParts d n spans bytes → n < 2 ^ 63
-    → Says (IsProbed d) (meaning d 0).marks spans (told found (cond (is_faulted found.1) missed None))
+-- ---- the type beside a size
+
+-- what the type wants is wanted
+pub type_wanted : (d : List ℕ) (spans : List Span) (w : Span) → Wants false (kind_of d 0).marks spans w
+    → Wants (texts_of d) (meaning d 0).marks spans w
 unfolding meaning
-says_probed d n spans bytes log missed found call kind has short =
-    says (λ x. meaning x 0) (local_meaning 0) d n spans bytes has short (IsProbed d) found log missed found.1 call is_so
-  where
-    is_so : is_faulted found.1 ≡ false → IsProbed d found
-    is_so no_fault =
-        let on = only_fault found.1 (meaning (filled n spans bytes) 0) refl refl call.runs no_fault in
-        let agrees = agreed (λ x. meaning x 0) (local_meaning 0) d n spans bytes has short log missed found.1 call no_fault in
-        let kinds : kind_of d 0 ≡ kind_of (filled n spans bytes) 0 = same_by_local (λ x. kind_of x 0) (local_kind 0) (filled n spans bytes) d
-        (agrees_first (kind_of (filled n spans bytes) 0).marks (kind_of (filled n spans bytes) 0).answer
-        (λ type. size_of type (filled n spans bytes)) agrees) in (
-          kind.whole (is_short n short) on ∙ ap (λ w. result_ok w.answer) (sym kinds),
-          right (λ x. meaning x 0) (local_meaning 0) d n spans bytes has short log missed found.1 call no_fault,
-        )
+type_wanted d spans w wants =
+    let more = marks_onward (kind_of d 0).marks (kind_of d 0).answer (λ found. size_of found d) in (
+      ap (λ s. is_covered s w.start) more.1 ∙ covered-left (kind_of d 0).marks more.0 w.start wants.0,
+      wants.1,
+      λ _. ap (λ s. has_whole s w) more.1 ∙ any_left (λ s. leb s.start w.start && leb (w.start + w.len) (s.start + s.len)) (kind_of d 0).marks more.0
+          (wants.2 refl),
+    )
 
-pub tells : {T : Type 0} (IsSo : T → Type 0) (marks spans : List Span) (answer : PartsAnswer T) → Says IsSo marks spans answer
+-- a type that is refused is none
+pub type_refused : (d : List ℕ) (e : ImageError) → ◌≡◌ {A = Result ImageType ImageError} (Err e) (kind_of d 0).answer → IsProbed d (None, Err e)
+unfolding meaning
+type_refused d e is = (
+  ap (λ (r : Result ImageType ImageError). result_ok r) is,
+  ap (λ r. (go_on (kind_of d 0).marks r (λ found. size_of found d)).answer) is,
+)
+
+-- and a type that is found has its size
+pub type_sized : (d : List ℕ) (spans : List Span) (type : ImageType) (answer : PartsAnswer (Result ImageSize ImageError))
+    → ◌≡◌ {A = Result ImageType ImageError} (Ok type) (kind_of d 0).answer → SaysOf (has_texts type) (size_of type d) spans answer
+    → Says (texts_of d) (IsProbed d) (meaning d 0).marks spans (with_type type answer)
+unfolding meaning
+type_sized d spans type (Found answer) is says = (
+  ap (λ (r : Result ImageType ImageError). result_ok r) is,
+  says ∙ ap (λ r. (go_on (kind_of d 0).marks r (λ found. size_of found d)).answer) is,
+)
+type_sized d spans type (Wanted w) is says =
+    let marks : (meaning d 0).marks ≡ (kind_of d 0).marks ++ (size_of type d).marks =
+    ap (λ r. (go_on (kind_of d 0).marks r (λ found. size_of found d)).marks) (sym is) in (
+      ap (λ s. is_covered s w.start) marks ∙ covered-right (kind_of d 0).marks (size_of type d).marks w.start says.0,
+      says.1,
+      λ none. ap (λ s. has_whole s w) marks ∙ any_right (λ s. leb s.start w.start && leb (w.start + w.len) (s.start + s.len)) (kind_of d 0).marks
+          (size_of type d).marks (says.2 (ap texts_as is ∙ none)),
+    )
+
+pub tells : {T : Type 0} (texts : Bool) (IsSo : T → Type 0) (marks spans : List Span) (answer : PartsAnswer T)
+    → Says texts IsSo marks spans answer
     → Cover spans marks → Tells answer
-tells IsSo marks spans (Found found) says cover = tt
-tells IsSo marks spans (Wanted w) says cover = let no : true ≡ false = sym (cover w.start says.0) ∙ says.1 in cc
+tells texts IsSo marks spans (Found found) says cover = tt
+tells texts IsSo marks spans (Wanted w) says cover = let no : true ≡ false = sym (cover w.start says.0) ∙ says.1 in cc
 
-pub fits : {T : Type 0} (n : ℕ) (spans : List Span) (bytes : List ℕ) (missed : Option Span) (found : T) (test : Bool)
-    → ForSome missed (Lacks n spans bytes) → Fits n (told found (cond test missed None))
-fits n spans bytes None found true lacks = tt
-fits n spans bytes (Some w) found true lacks = ((lacks w refl).0, (lacks w refl).1)
-fits n spans bytes missed found false lacks = tt
+pub fits : {T : Type 0} (texts : Bool) (n : ℕ) (spans : List Span) (bytes : List ℕ) (missed : Option Missing) (found : T) (test : Bool)
+    → ForSome missed (Lacks n spans bytes) → Fits n (told found (option_map (wanted_of texts) (cond test missed None)))
+fits texts n spans bytes None found true lacks = tt
+fits true n spans bytes (Some m) found true lacks =
+    let is = lacks m refl in (let some = is.0 in let few = is.1 in omega arith, is.2)
+fits false n spans bytes (Some m) found true lacks =
+    let is = lacks m refl in (is.0, let few = is.1 in let within = is.2 in omega arith)
+fits texts n spans bytes missed found false lacks = tt
 
 -- ---- what the call left behind has the same parts
 
@@ -221,7 +305,7 @@ both_are : (s t : List Span) (xs ys : List ℕ) → ◌≡◌ {A = Option (List 
 both_are s t xs ys e = let is : ◌≡◌ {A = List Span × List ℕ} (s, xs) (t, ys) = cc in (ap (λ (p : List Span × List ℕ). p.0) is, ap (λ (p : List Span × List ℕ). p.1) is)
 
 pub called : {X : Type 0} (f : List ℕ → Reads X) (n m k : ℕ) (spans others given : List Span) (bytes content their : List ℕ)
-    (first log : List Span) (before missed : Option Span) (r : Result X ImageError) → k ≡ n → given ≡ spans → their ≡ bytes → first ≡ []
+    (first log : List Span) (before missed : Option Missing) (r : Result X ImageError) → k ≡ n → given ≡ spans → their ≡ bytes → first ≡ []
     → before ≡ None → Runs (parts_state k given their first before) (parts_state m others content log missed) r (f (filled k given their))
     → AllKnown m others content log → ForSome missed (Lacks m others content) → Called f n spans bytes log missed r
 called f n m k spans others given bytes content their first log before missed r told is_spans is_bytes none unmissed runs seen lacks =
@@ -238,11 +322,3 @@ called f n m k spans others given bytes content their first log before missed r 
       seen = two.1;
       lacks = two.2;
     }
-
-pub finds : (n k : ℕ) (spans given : List Span) (bytes their : List ℕ) (first : List Span) (before : Option Span)
-    (found : Option ImageType) (r : Result ImageSize ImageError) → k ≡ n → given ≡ spans → their ≡ bytes → first ≡ [] → before ≡ None
-    → FindsKind (parts_state k given their first before) 0 found r → FindsKind (parts_state n spans bytes [] None) 0 found r
-finds n k spans given bytes their first before found r told is_spans is_bytes none unmissed kind =
-    let two = moved (λ x y z. FindsKind (parts_state x y z first before) 0 found r) n k spans given bytes their told is_spans is_bytes kind in
-    subst (λ l. FindsKind (parts_state n spans bytes l None) 0 found r) none
-    (subst (λ m. FindsKind (parts_state n spans bytes first m) 0 found r) unmissed two)

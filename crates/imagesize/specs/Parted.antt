@@ -1,28 +1,46 @@
 -- What the calls over the parts of an input answer.
-use Rattle.std.specs.Prelude.{◌≡◌, ℕ, ◌+◌, ◌<◌, ◌≤◌, true, false, List, Option, None, Some, Result}
+use Rattle.std.specs.Prelude.{◌≡◌, ℕ, ◌+◌, ◌<◌, ◌≤◌, Bool, true, false, if◌then◌else◌, List, Option, None, Some, Result, Ok, Err}
 use Rattle.std.specs.Result.{result_ok}
 use Rattle.imagesize.specs.Meaning.{kind_of, meaning}
 use Rattle.imagesize.specs.declared.parts.PartsAnswer.{PartsAnswer}
 use Rattle.imagesize.specs.declared.parts.PartsAnswer.TheVariants.{Found, Wanted}
 use Rattle.imagesize.specs.declared.types.ImageType.{ImageType}
-use Rattle.imagesize_source.specs.Agreement.{is_covered}
+use Rattle.imagesize.specs.declared.types.ImageType.TheVariants.{Exr, Hdr, Pnm}
+use Rattle.imagesize_source.specs.Agreement.{is_covered, has_whole}
 use Rattle.imagesize_source.specs.Reading.{Reads}
 use Rattle.imagesize_source.specs.declared.error.ImageError.{ImageError}
+use Rattle.imagesize_source.specs.declared.source.parts.Missing.{Missing}
 use Rattle.imagesize_source.specs.declared.span.Span.{Span}
 use Rattle.imagesize_types.specs.declared.size.ImageSize.{ImageSize}
 
--- the first byte of a wanted span lies in one of the marks, and in no part
-abbrev pub Wants : List Span → List Span → Span → Type 0
-Wants marks spans w = (is_covered marks w.start ≡ true) × (is_covered spans w.start ≡ false)
+-- these types alone are told by texts: of all others a size is told by bytes and numbers
+abbrev pub has_texts : ImageType → Bool
+has_texts Exr = true
+has_texts Hdr = true
+has_texts Pnm = true
+has_texts _ = false
 
--- Of readings with these marks: what is found is so, and what is wanted is wanted by them.
-abbrev pub Says : {T : Type 0} → (T → Type 0) → List Span → List Span → PartsAnswer T → Type 0
-Says IsSo marks spans (Found found) = IsSo found
-Says IsSo marks spans (Wanted w) = Wants marks spans w
+abbrev pub texts_as : Result ImageType ImageError → Bool
+texts_as (Ok type) = has_texts type
+texts_as (Err _) = false
+
+-- whether an input's type is told by texts
+abbrev pub texts_of : List ℕ → Bool
+texts_of d = texts_as (kind_of d 0).answer
+
+-- The first byte of a wanted span lies in one of the marks, and in no part. Where no texts are read, a mark has the whole of it.
+abbrev pub Wants : Bool → List Span → List Span → Span → Type 0
+Wants texts marks spans w = (is_covered marks w.start ≡ true) × (is_covered spans w.start ≡ false)
+    × (texts ≡ false → has_whole marks w ≡ true)
+
+-- Of readings with these marks, with texts or without: what is found is so, and what is wanted is wanted by them.
+abbrev pub Says : {T : Type 0} → Bool → (T → Type 0) → List Span → List Span → PartsAnswer T → Type 0
+Says texts IsSo marks spans (Found found) = IsSo found
+Says texts IsSo marks spans (Wanted w) = Wants texts marks spans w
 
 -- what is found is the answer of the readings
-abbrev pub SaysOf : {X : Type 0} → Reads X → List Span → PartsAnswer (Result X ImageError) → Type 0
-SaysOf reads spans told = Says (λ answer. answer ≡ reads.answer) reads.marks spans told
+abbrev pub SaysOf : {X : Type 0} → Bool → Reads X → List Span → PartsAnswer (Result X ImageError) → Type 0
+SaysOf texts reads spans told = Says texts (λ answer. answer ≡ reads.answer) reads.marks spans told
 
 -- type and answer are those of the layouts
 abbrev pub IsProbed : List ℕ → Option ImageType × Result ImageSize ImageError → Type 0
@@ -49,3 +67,12 @@ Cover spans marks = (place : ℕ) → is_covered marks place ≡ true → is_cov
 abbrev pub told : {T : Type 0} → T → Option Span → PartsAnswer T
 told found None = Found found
 told found (Some w) = Wanted w
+
+-- what is wanted of what is missed: where texts are read all that is asked for, and else what is surely read
+abbrev pub wanted_of : Bool → Missing → Span
+wanted_of texts m = record { start = m.start; len = if texts then m.most else m.sure }
+
+-- the answer of a size, with its type
+abbrev pub with_type : ImageType → PartsAnswer (Result ImageSize ImageError) → PartsAnswer (Option ImageType × Result ImageSize ImageError)
+with_type image (Found answer) = Found (Some image, answer)
+with_type image (Wanted w) = Wanted w

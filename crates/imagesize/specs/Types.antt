@@ -21,7 +21,7 @@ use Rattle.imagesize_fixed.specs.Psd.{is_psd, psd}
 use Rattle.imagesize_fixed.specs.Pvrtc.{is_pvrtc, pvrtc}
 use Rattle.imagesize_fixed.specs.Qoi.{is_qoi, qoi}
 use Rattle.imagesize_fixed.specs.Tga.{tga}
-use Rattle.imagesize_walked.specs.Tiff.{is_tiff, entries_begun as tiff_begun, tiff}
+use Rattle.imagesize_walked.specs.Tiff.{is_tiff, tiff_begun, tiff}
 use Rattle.imagesize_fixed.specs.Vtf.{is_vtf, vtf}
 use Rattle.imagesize_fixed.specs.Webp.{is_webp, webp}
 use Rattle.imagesize.specs.Compressions.{atc_ways, dds_ways, heif_ways, pkm_ways, pvrtc_ways}

@@ -8,15 +8,17 @@ ghost use Rattle.imagesize_source.specs.Halts.{RunsOrHalts};
 ghost use Rattle.imagesize_source.specs.Layout.{bind, layout_reads};
 ghost use Rattle.imagesize_source.specs.State.{Runs, IsSound};
 
-use crate::types::ImageType;
 use crate::ImageResult;
+use crate::types::ImageType;
 use imagesize_boxes::container::heif;
 use imagesize_boxes::formats::jxl;
 use imagesize_fixed::container::{atc, dds, pkm, pvrtc};
 use imagesize_fixed::formats::{
     aseprite, astc, bmp, farbfeld, gif, ktx2, psd, qoi, tga, vtf, webp,
 };
-use imagesize_source::halt::{Halt, answered, read_bytes};
+use imagesize_source::Halt;
+use imagesize_source::halt::answered;
+use imagesize_source::readings::read_bytes;
 use imagesize_source::source::Source;
 use imagesize_texts::formats::{exr, hdr, pnm};
 use imagesize_types::compression::{
@@ -45,6 +47,7 @@ pub(crate) fn size<S: Source>(source: &mut S, kind: ImageType) -> ImageResult<Im
 
 // The type by the twelve bytes at a place, or why there is none.
 #[inline(always)]
+#[tactic(auto, using(imagesize_source::proofs::Runs::steps))]
 fn read_kind<S: Source>(source: &mut S, place: u64) -> Result<ImageType, Halt>
     ensures { RunsOrHalts (S.state source.old) (S.state source.new) (S.failure source.new) result
         (layout_reads (S.state source.old).held.input (kind (length (S.state source.old).held.input) place)) }
@@ -118,8 +121,32 @@ fn first_row(head: &[u8; 12]) -> Option<ImageType>
 
 // The same type, with its compression read where it has several.
 #[inline(always)]
-#[tactic(auto, using(imagesize_source::proofs::Runs::steps, imagesize_source::proofs::Layouts::binding), unfolding(crate::specs::Kind::with_compression))]
+#[tactic(auto, using(imagesize_source::proofs::Runs::steps), unfolding(crate::specs::Kind::with_compression))]
 fn with_compression<S: Source>(
+    source: &mut S,
+    place: u64,
+    head: &[u8; 12],
+    found: ImageType,
+) -> Result<ImageType, Halt>
+    requires { IsSound (S.state source.old) }
+    ensures { RunsOrHalts (S.state source.old) (S.state source.new) (S.failure source.new) result
+        (layout_reads (S.state source.old).held.input (with_compression place head.now found)) }
+{
+    match found {
+        ImageType::Heif(_)
+        | ImageType::Atc(_)
+        | ImageType::Pvrtc(_)
+        | ImageType::Eac(_)
+        | ImageType::Etc2(_)
+        | ImageType::Dds(_) => read_compression(source, place, head, found),
+        _ => Ok(found),
+    }
+}
+
+// The type with its compression read, of which it has several.
+#[inline(always)]
+#[tactic(auto, using(imagesize_source::proofs::Runs::steps, imagesize_source::proofs::Layouts::binding), unfolding(crate::specs::Kind::with_compression))]
+fn read_compression<S: Source>(
     source: &mut S,
     place: u64,
     head: &[u8; 12],

@@ -1,15 +1,14 @@
 //! Types and sizes by parts of an input, of which the caller has no more so far.
-ghost use Rattle.std.specs.Prelude.{◌≡◌, ℕ, ◌^◌, ◌<◌, List, None, if◌then◌else◌};
+ghost use Rattle.std.specs.Prelude.{◌≡◌, ℕ, ◌^◌, ◌<◌, false, List, None, if◌then◌else◌, option_map};
 ghost use Rattle.imagesize.specs.Meaning.{kind_of, meaning, size_of};
-ghost use Rattle.imagesize.specs.Parted.{Cover, Fits, IsProbed, Says, SaysOf, Tells, told};
+ghost use Rattle.imagesize.specs.Parted.{Cover, Fits, IsProbed, Says, SaysOf, Tells, has_texts, texts_of, told, wanted_of, with_type};
 ghost use Rattle.imagesize_source.specs.Known.{HasParts};
 ghost use Rattle.imagesize_source.specs.Reading.{is_faulted};
 
-use crate::calls::probe;
 use crate::formats::{detect, size};
 use crate::types::ImageType;
 use crate::{ImageError, ImageResult, Reason, Span};
-use imagesize_source::source::parts::PartsSource;
+use imagesize_source::source::parts::{Missing, PartsSource};
 use imagesize_types::size::ImageSize;
 
 /// What the known parts of an input tell of what was asked for.
@@ -18,7 +17,7 @@ pub enum PartsAnswer<T> {
     /// The parts are enough for this.
     Found(T),
     /// Bytes that are not known yet: the first of them is one that the answer rests on, and all of them are enough for the
-    /// reading that wants it.
+    /// reading that wants it. Of all types but OpenEXR, Radiance and the portable bitmaps it rests on each of them.
     Wanted(Span),
 }
 
@@ -52,17 +51,18 @@ pub fn parts_probe(
 ) -> PartsAnswer<(Option<ImageType>, ImageResult<ImageSize>)>
     // Of each input of that length that has these parts:
     ensures says { (d : List ℕ) → HasParts d total spans.now bytes.now → total < 2 ^ 63
-        → Says (IsProbed d) (meaning d 0).marks spans.now result }
+        → Says (texts_of d) (IsProbed d) (meaning d 0).marks spans.now result }
 
     // Where the parts have every byte that the answer rests on, it is given.
     ensures complete { (d : List ℕ) → HasParts d total spans.now bytes.now → total < 2 ^ 63
         → Cover spans.now (meaning d 0).marks → Tells result }
     ensures fits { Fits total result }
 {
-    let mut source = PartsSource::new(spans, bytes, total);
-    let found = probe(&mut source, 0);
-    let wanted = wanted(&found.1, source.missed);
-    told(found, wanted)
+    match parts_type(bytes, spans, total) {
+        PartsAnswer::Found(Ok(image)) => with_type(image, image.parts_size(bytes, spans, total)),
+        PartsAnswer::Found(Err(error)) => PartsAnswer::Found((None, Err(error))),
+        PartsAnswer::Wanted(span) => PartsAnswer::Wanted(span),
+    }
 }
 
 /// The type of the image in an input of which these parts are known, or a part that it needs.
@@ -80,7 +80,7 @@ pub fn parts_probe(
 /// ```
 pub fn parts_type(bytes: &[u8], spans: &[Span], total: u64) -> PartsAnswer<ImageResult<ImageType>>
     // Of each input of that length that has these parts:
-    ensures says { (d : List ℕ) → HasParts d total spans.now bytes.now → total < 2 ^ 63 → SaysOf (kind_of d 0) spans.now result }
+    ensures says { (d : List ℕ) → HasParts d total spans.now bytes.now → total < 2 ^ 63 → SaysOf false (kind_of d 0) spans.now result }
 
     // Where the parts have every byte that the type rests on, it is given.
     ensures complete { (d : List ℕ) → HasParts d total spans.now bytes.now → total < 2 ^ 63
@@ -90,7 +90,7 @@ pub fn parts_type(bytes: &[u8], spans: &[Span], total: u64) -> PartsAnswer<Image
     let mut source = PartsSource::new(spans, bytes, total);
     let found = detect(&mut source, 0);
     let wanted = wanted(&found, source.missed);
-    told(found, wanted)
+    told(found, wanted, false)
 }
 
 impl ImageType {
@@ -117,7 +117,7 @@ impl ImageType {
     ) -> PartsAnswer<ImageResult<ImageSize>>
         // Of each input of that length that has these parts:
         ensures says { (d : List ℕ) → HasParts d total spans.now bytes.now → total < 2 ^ 63
-            → SaysOf (size_of self.now d) spans.now result }
+            → SaysOf (has_texts self.now) (size_of self.now d) spans.now result }
 
         // Where the parts have every byte that the size rests on, it is given.
         ensures complete { (d : List ℕ) → HasParts d total spans.now bytes.now → total < 2 ^ 63
@@ -127,27 +127,58 @@ impl ImageType {
         let mut source = PartsSource::new(spans, bytes, total);
         let found = size(&mut source, *self);
         let wanted = wanted(&found, source.missed);
-        told(found, wanted)
+        let texts = has_texts(self);
+        told(found, wanted, texts)
     }
 }
 
-// What was found, where nothing is wanted.
+// What was found, where nothing is missed.
 #[inline(always)]
-fn told<T: Drop>(found: T, wanted: Option<Span>) -> PartsAnswer<T>
-    ensures { result ≡ told found wanted }
+fn told<T: Drop>(found: T, missed: Option<Missing>, texts: bool) -> PartsAnswer<T>
+    ensures { result ≡ told found (option_map (wanted_of texts) missed) }
 {
-    match wanted {
-        Some(span) => PartsAnswer::Wanted(span),
+    match missed {
+        Some(missing) => PartsAnswer::Wanted(wanted_of(missing, texts)),
         None => PartsAnswer::Found(found),
     }
 }
 
+// The answer of a size, with its type.
+fn with_type(
+    image: ImageType,
+    answer: PartsAnswer<ImageResult<ImageSize>>,
+) -> PartsAnswer<(Option<ImageType>, ImageResult<ImageSize>)>
+    ensures { result ≡ with_type image answer }
+{
+    match answer {
+        PartsAnswer::Found(size) => PartsAnswer::Found((Some(image), size)),
+        PartsAnswer::Wanted(span) => PartsAnswer::Wanted(span),
+    }
+}
+
+// Whether a type is told by texts.
+fn has_texts(image: &ImageType) -> bool
+    ensures { result ≡ has_texts image.now }
+{
+    matches!(image, ImageType::Exr | ImageType::Hdr | ImageType::Pnm)
+}
+
 // What is missed, where the answer is a failure.
-fn wanted<X>(answer: &ImageResult<X>, missed: Option<Span>) -> Option<Span>
+fn wanted<X>(answer: &ImageResult<X>, missed: Option<Missing>) -> Option<Missing>
     ensures { result ≡ (if is_faulted answer.now then missed else None) }
 {
     match answer {
         Err(ImageError::IoError(Reason::Fault(_))) => missed,
         _ => None,
+    }
+}
+
+// All that is asked for where texts are read, and else what is surely read.
+fn wanted_of(missing: Missing, texts: bool) -> Span
+    ensures { result ≡ wanted_of texts missing }
+{
+    Span {
+        start: missing.start,
+        len: if texts { missing.most } else { missing.sure },
     }
 }

@@ -25,7 +25,7 @@ use Rattle.imagesize_source.specs.declared.error.ImageError.{ImageError}
 use Rattle.imagesize_source.specs.declared.error.ImageError.TheVariants.{CorruptedImage, IoError}
 use Rattle.imagesize_source.specs.declared.error.Reason.TheVariants.{InvalidHeifBoxSize, NotEnoughData}
 use Rattle.imagesize_source.specs.declared.span.Span.{Span}
-use Rattle.imagesize_source.specs.declared.util.Endian.TheVariants.{Big}
+use Rattle.imagesize_source.specs.declared.endian.Endian.TheVariants.{Big}
 use Rattle.imagesize_source.specs.Agreement.{IsLocal}
 use Rattle.imagesize_source.specs.Chain.{Said, Decided, Next, Advances, start, verdict, records, chain_from, chain_at, count_behind}
 use Rattle.imagesize_source.specs.Counts.{AtMost}
@@ -43,7 +43,7 @@ use Rattle.imagesize_source.proofs.Chains.{chain_stop}
 use Rattle.imagesize_source.proofs.Counts.{then_within, total-span_of, total_behind}
 use Rattle.imagesize_source.proofs.Bytes.{first_four}
 use Rattle.imagesize_source.proofs.Layouts.{no_part, no_span}
-use Rattle.imagesize_source.proofs.Agreement.{local_bytes, local_then, local_number}
+use Rattle.imagesize_source.proofs.Agreement.{local_bytes, local_then, local_number, without_texts}
 use Rattle.imagesize_source.proofs.Reached.{runs_bind, refused_bind, reached_now}
 use Rattle.imagesize_source.proofs.Runs.{total-append}
 use Rattle.imagesize_source.proofs.Tests.{on_test}
@@ -417,48 +417,56 @@ heif_compression_laws place head =
     on_test (CompressionLaws 12) (is_general (four_at 8 head)) _ _ (λ _. record { few = (omega arith, λ _. tt); answers = λ _. tt })
     (λ _. record { few = tt; answers = tt })
 
--- what is seen of an input
-local_search : (tag : List ℕ) (place : ℕ) → IsLocal (λ d. chain_at (search_for tag place) d)
-local_search tag place = local_chain (search_for tag place) (search_advances tag place)
-
-in_iprp_local : (iprp : FoundBox) → IsLocal (heif_in_iprp iprp)
-in_iprp_local iprp = local_then (λ d. chain_at (search_for (codes "ipco") (iprp.place + 8)) d)
-    (λ ipco d. chain_at (properties ipco.size (ipco.place + 8)) d)
-    (local_search (codes "ipco") (iprp.place + 8))
-    (λ ipco. local_chain (properties ipco.size (ipco.place + 8)) (properties_advance ipco.size (ipco.place + 8)))
-
-in_meta_local : (meta : FoundBox) → IsLocal (heif_in_meta meta)
-in_meta_local meta = local_then (λ d. bytes_read d (meta.place + 8) 4)
-    (λ version d. and_then (chain_at (search_for (codes "iprp") (meta.place + 12)) d) (λ iprp. heif_in_iprp iprp d))
-    (local_bytes (meta.place + 8) 4)
-    (λ version. local_then (λ d. chain_at (search_for (codes "iprp") (meta.place + 12)) d) heif_in_iprp
-    (local_search (codes "iprp") (meta.place + 12)) in_iprp_local)
-
-pub heif_local : IsLocal heif
-heif_local = local_then (λ d. number_read d Big 0 4) (λ first d. and_then (chain_at (search_for (codes "meta") first) d)
-    (λ meta. heif_in_meta meta d))
-    (local_number Big 0 4)
-    (λ first. local_then (λ d. chain_at (search_for (codes "meta") first) d) heif_in_meta (local_search (codes "meta") first)
-    in_meta_local)
-
 -- how many bytes the boxes are read from: what an answer leads to, and nothing behind a refusal
 begun_cost : {X Y : Type 0} (spans : List Span) (r : Result X ImageError) (f : X → Reads Y) (n : X → ℕ) (j k : ℕ) → total spans ≤ j
     → ((x : X) → total (f x).marks ≤ k + 20 * n x) → total (go_on spans r f).marks ≤ j + (k + 20 * count_behind r n)
 begun_cost spans (Ok x) f n j k here rest = let all = total-append spans (f x).marks in let more = rest x in omega arith
 begun_cost spans (Err e) f n j k here rest = omega arith
 
+-- a box that is passed, or a property, is read from at most 20 bytes
+search_at_most : (tag : List ℕ) (place : ℕ) (passed : List (Unit {0})) (q : ℕ) → AtMost 20 ((search_for tag place).said passed q)
+search_at_most tag place passed q = (omega arith, λ head. by_searched (AtMost 12) tag q head tt tt (λ big. tt))
+
+property_at_most : (all place : ℕ) (held : List Property) (q : ℕ) → AtMost 20 ((properties all place).said held q)
+property_at_most all place held q = (
+  omega arith,
+  λ bs. by_listed (AtMost 12) held (all - sum_by skipped_bytes held) q (whole 8 bs) (λ e. tt) (λ size. tt)
+      (omega arith, λ content. tt) (omega arith, λ content. tt) (λ size big. tt),
+)
+
 search_cost : (tag : List ℕ) (place : ℕ) (d : List ℕ) → total (chain_at (search_for tag place) d).marks ≤ 20 * records
     (search_for tag place) d
-search_cost tag place d = chain_cost (search_for tag place) d (search_advances tag place d) 20
-    (λ passed q. (omega arith, λ head. by_searched (AtMost 12) tag q head tt tt (λ big. tt)))
+search_cost tag place d = chain_cost (search_for tag place) d (search_advances tag place d) 20 (search_at_most tag place)
 
 properties_cost : (all place : ℕ) (d : List ℕ) → total (chain_at (properties all place) d).marks ≤ 20 * records (properties all place) d
-properties_cost all place d = chain_cost (properties all place) d (properties_advance all place d) 20
-    (λ held q. (
-      omega arith,
-      λ bs. by_listed (AtMost 12) held (all - sum_by skipped_bytes held) q (whole 8 bs) (λ e. tt) (λ size. tt)
-          (omega arith, λ content. tt) (omega arith, λ content. tt) (λ size big. tt),
-    ))
+properties_cost all place d = chain_cost (properties all place) d (properties_advance all place d) 20 (property_at_most all place)
+
+-- what is seen of an input
+local_search : (tag : List ℕ) (place : ℕ) → IsLocal false (λ d. chain_at (search_for tag place) d)
+local_search tag place = local_chain (search_for tag place) (search_advances tag place)
+    (λ passed q. without_texts false 20 ((search_for tag place).said passed q) (search_at_most tag place passed q))
+
+in_iprp_local : (iprp : FoundBox) → IsLocal false (heif_in_iprp iprp)
+in_iprp_local iprp = local_then (λ d. chain_at (search_for (codes "ipco") (iprp.place + 8)) d)
+    (λ ipco d. chain_at (properties ipco.size (ipco.place + 8)) d)
+    (local_search (codes "ipco") (iprp.place + 8))
+    (λ ipco. local_chain (properties ipco.size (ipco.place + 8)) (properties_advance ipco.size (ipco.place + 8))
+    (λ held q. without_texts false 20 ((properties ipco.size (ipco.place + 8)).said held q)
+    (property_at_most ipco.size (ipco.place + 8) held q)))
+
+in_meta_local : (meta : FoundBox) → IsLocal false (heif_in_meta meta)
+in_meta_local meta = local_then (λ d. bytes_read d (meta.place + 8) 4)
+    (λ version d. and_then (chain_at (search_for (codes "iprp") (meta.place + 12)) d) (λ iprp. heif_in_iprp iprp d))
+    (local_bytes (meta.place + 8) 4)
+    (λ version. local_then (λ d. chain_at (search_for (codes "iprp") (meta.place + 12)) d) heif_in_iprp
+    (local_search (codes "iprp") (meta.place + 12)) in_iprp_local)
+
+pub heif_local : IsLocal false heif
+heif_local = local_then (λ d. number_read d Big 0 4) (λ first d. and_then (chain_at (search_for (codes "meta") first) d)
+    (λ meta. heif_in_meta meta d))
+    (local_number Big 0 4)
+    (λ first. local_then (λ d. chain_at (search_for (codes "meta") first) d) heif_in_meta (local_search (codes "meta") first)
+    in_meta_local)
 
 in_iprp_cost : (iprp : FoundBox) (d : List ℕ) → total (heif_in_iprp iprp d).marks ≤ 20 * boxes_in_iprp iprp d
 in_iprp_cost iprp d =
@@ -559,7 +567,7 @@ heif_within d = omega (
 )
 
 -- the properties may go on in bytes that follow
-pub heif_laws : RecordedLaws 24 32 20 false heif heif_boxes
+pub heif_laws : RecordedLaws 24 32 20 false false heif heif_boxes
 heif_laws = record {
   local = heif_local;
   cost = λ d. omega (arith, heif_cost d);

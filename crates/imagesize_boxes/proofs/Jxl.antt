@@ -1,11 +1,11 @@
 -- JPEG XL: how many bytes its size is read from, and what it sees of an input.
-use Rattle.std.proofs.Common.{◌≡◌, ℕ, ◌+◌, ◌-◌, ◌*◌, ◌<◌, ◌≤◌, min, true, List, [], ◌∷◌, ◌++◌, length, take, drop, Option, None, Some, Result, Ok, Err, inl, refl, ap, ◌∙◌, arith}
+use Rattle.std.proofs.Common.{false, ◌≡◌, ℕ, ◌+◌, ◌-◌, ◌*◌, ◌<◌, ◌≤◌, min, true, List, [], ◌∷◌, ◌++◌, length, take, drop, Option, None, Some, Result, Ok, Err, inl, refl, ap, ◌∙◌, arith}
 use Rattle.std.proofs.lemmas.List.{append-nil, length-append}
 use Rattle.std.proofs.lemmas.List.Folds.{concat-append}
 use Rattle.std.specs.List.{concat}
 use Rattle.imagesize_source.specs.declared.error.ImageError.{ImageError}
 use Rattle.imagesize_source.specs.declared.span.Span.{Span}
-use Rattle.imagesize_source.specs.declared.util.Endian.TheVariants.{Big}
+use Rattle.imagesize_source.specs.declared.endian.Endian.TheVariants.{Big}
 use Rattle.imagesize_source.specs.Agreement.{IsLocal}
 use Rattle.imagesize_source.specs.Chain.{Said, Decided, Next, Along, start, next_record, records_from, chain_from, chain_at, count_behind}
 use Rattle.imagesize_source.specs.Counts.{AtMost, CostsBy}
@@ -20,7 +20,7 @@ use Rattle.imagesize_source.proofs.ChainLaws.{chain_induction, local_chain}
 use Rattle.imagesize_source.proofs.Chains.{chain_next, chain_stop, records_next, records_stop}
 use Rattle.imagesize_source.proofs.Costs.{bound_of, costs}
 use Rattle.imagesize_source.proofs.Counts.{at_most, at_most_more, then_within, total-span_of, total_behind}
-use Rattle.imagesize_source.proofs.Agreement.{local_layout, local_then}
+use Rattle.imagesize_source.proofs.Agreement.{local_layout, local_then, without_texts}
 use Rattle.imagesize_source.proofs.Runs.{part_length, total-append}
 use Rattle.imagesize_source.proofs.Tests.{on_test}
 use Rattle.imagesize_source.proofs.Way.{RecordedLaws}
@@ -28,15 +28,6 @@ use Rattle.imagesize_boxes.specs.declared.formats.jxl.boxes.BoxHead.{BoxHead}
 use Rattle.imagesize_boxes.specs.Jxl.{has_signature, jxl_size, box_head, box_room, said_behind, partial_said, box_content, jxl_box, jxl_chain, jxl_start, codestream, jxl_codestream, jxl, jxl_boxes, boxes_behind}
 use Rattle.imagesize_boxes.proofs.JxlBoxes.{Says, by_checked, by_head, by_piece, by_end, by_partial, by_content, jxl_advances}
 use Rattle.imagesize_boxes.proofs.JxlGrowth.{jxl_lasts, box_sized}
-
-local_behind : (found : Option (List ℕ)) → IsLocal (λ d. codestream d found)
-local_behind None = local_chain jxl_chain jxl_advances
-local_behind (Some front) = λ d e long. inl refl
-
-pub jxl_local : IsLocal jxl
-jxl_local = local_then jxl_codestream (λ front d. record { answer = jxl_size front; marks = [] })
-    (local_then (λ d. layout_reads d jxl_start) (λ found d. codestream d found) (local_layout jxl_start) local_behind)
-    (λ front d e long. inl refl)
 
 -- a box goes forward: its content stands behind its head, and the next box behind both
 content_ahead : (q : ℕ) (held : List ℕ) (place : ℕ) (head : BoxHead) → q ≤ place + head.length
@@ -143,6 +134,18 @@ box_few held place =
           (box_content held place) (λ e. tt)
           (λ _ _. content (long - 8) (record { tag = drop 4 front; size = number Big (take 4 front); length = 8 }) (omega arith))),
     )
+
+-- what is seen of an input
+local_behind : (found : Option (List ℕ)) → IsLocal false (λ d. codestream d found)
+local_behind None = local_chain jxl_chain jxl_advances
+    (λ pieces place. without_texts false (32 + (16 - length (concat pieces))) (jxl_box (concat pieces) place) (box_few (concat pieces) place))
+local_behind (Some front) = λ d e long. inl refl
+
+pub jxl_local : IsLocal false jxl
+jxl_local = local_then jxl_codestream (λ front d. record { answer = jxl_size front; marks = [] })
+    (local_then (λ d. layout_reads d jxl_start) (λ found d. codestream d found) (local_layout jxl_start (without_texts false 16 jxl_start start_few))
+    local_behind)
+    (λ front d e long. inl refl)
 
 -- Behind u bytes: where it leads to a next box, it has read at most 20 bytes and its piece, for which there is room.
 Lean : ℕ → List ℕ → Reads (Said (List ℕ) (List ℕ)) → Type 0
@@ -252,7 +255,7 @@ jxl_cost d =
     (λ front _. omega arith) in
     omega arith
 
-pub jxl_laws : RecordedLaws 12 45 20 true jxl jxl_boxes
+pub jxl_laws : RecordedLaws 12 45 20 true false jxl jxl_boxes
 jxl_laws = record {
   local = jxl_local;
   cost = λ d. omega (arith, jxl_cost d);

@@ -14,7 +14,7 @@ use Rattle.imagesize_boxes.specs.declared.container.heif.Property.{Property}
 use Rattle.imagesize_boxes.specs.declared.container.heif.Property.TheVariants.{Extents, Rotation, Skipped}
 use Rattle.imagesize_source.specs.declared.error.ImageError.TheVariants.{CorruptedImage, IoError}
 use Rattle.imagesize_source.specs.declared.error.Reason.TheVariants.{InvalidHeifBoxSize, NotEnoughData}
-use Rattle.imagesize_source.specs.declared.util.Endian.TheVariants.{Big}
+use Rattle.imagesize_source.specs.declared.endian.Endian.TheVariants.{Big}
 use Rattle.imagesize_source.specs.Chain.{Said, Decided, Next, Chain, chain_at, records, count_behind}
 use Rattle.imagesize_source.specs.Layout.{Layout, bind, bytes, if_there}
 use Rattle.imagesize_source.specs.Layout.Layout.{refuse, «done»}

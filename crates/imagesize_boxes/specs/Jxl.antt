@@ -9,7 +9,7 @@ use Rattle.imagesize_source.specs.Layout.{Layout, layout_reads, bind, bytes, the
 use Rattle.imagesize_source.specs.Layout.Layout.{field, refuse, done}
 use Rattle.imagesize_source.specs.Numbers.{number}
 use Rattle.imagesize_source.specs.Reading.{Reads, gives, and_then, end_of_input}
-use Rattle.imagesize_source.specs.declared.util.Endian.TheVariants.{Big}
+use Rattle.imagesize_source.specs.declared.endian.Endian.TheVariants.{Big}
 use Rattle.imagesize_types.specs.Head.{begins}
 use Rattle.imagesize_types.specs.Sides.{exchange_if}
 use Rattle.imagesize_types.specs.declared.size.ImageSize.{ImageSize}

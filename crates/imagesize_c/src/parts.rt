@@ -2,7 +2,7 @@
 ghost use Rattle.std.specs.Prelude.{◌≡◌, ℕ, ◌^◌, ◌<◌, List, true, false};
 ghost use Rattle.std.specs.Result.{result_ok};
 ghost use Rattle.imagesize.specs.Meaning.{kind_of, meaning};
-ghost use Rattle.imagesize.specs.Parted.{Cover, IsWithin, Wants};
+ghost use Rattle.imagesize.specs.Parted.{Cover, IsWithin, Wants, texts_of};
 ghost use Rattle.imagesize_c.specs.Status.{is_answered, is_wanted, status_of};
 ghost use Rattle.imagesize_c.specs.Told.{TellsSize, TellsType};
 ghost use Rattle.imagesize_source.specs.Known.{HasParts};
@@ -31,7 +31,7 @@ pub extern "C" fn imagesize_probe_parts(
     ensures size { (d : List ℕ) → HasParts d total spans.now bytes.now → total < 2 ^ 63 → is_wanted result ≡ false
         → TellsSize (meaning d 0).answer width.old width.new height.old height.new }
     ensures wants { (d : List ℕ) → HasParts d total spans.now bytes.now → total < 2 ^ 63 → is_wanted result ≡ true
-        → Wants (meaning d 0).marks spans.now wanted.new }
+        → Wants (texts_of d) (meaning d 0).marks spans.now wanted.new }
 
     // Where the parts have every byte that the answer rests on, it is given.
     ensures complete { (d : List ℕ) → HasParts d total spans.now bytes.now → total < 2 ^ 63

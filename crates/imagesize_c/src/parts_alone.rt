@@ -2,7 +2,7 @@
 ghost use Rattle.std.specs.Prelude.{◌≡◌, ℕ, ◌^◌, ◌<◌, List, true, false, None, IfSome};
 ghost use Rattle.std.specs.Result.{result_ok};
 ghost use Rattle.imagesize.specs.Meaning.{kind_of, size_of};
-ghost use Rattle.imagesize.specs.Parted.{Cover, IsWithin, Wants};
+ghost use Rattle.imagesize.specs.Parted.{Cover, IsWithin, Wants, has_texts};
 ghost use Rattle.imagesize_c.specs.Numbers.{type_numbered};
 ghost use Rattle.imagesize_c.specs.Status.{is_answered, is_wanted, status_of};
 ghost use Rattle.imagesize_c.specs.Told.{TellsSize, TellsType};
@@ -30,7 +30,7 @@ pub extern "C" fn imagesize_parts_type(
     ensures told { (d : List ℕ) → HasParts d total spans.now bytes.now → total < 2 ^ 63 → is_wanted result ≡ false
         → TellsType (result_ok (kind_of d 0).answer) number.old number.new compression.old compression.new }
     ensures wants { (d : List ℕ) → HasParts d total spans.now bytes.now → total < 2 ^ 63 → is_wanted result ≡ true
-        → Wants (kind_of d 0).marks spans.now wanted.new }
+        → Wants false (kind_of d 0).marks spans.now wanted.new }
 
     // Where the parts have every byte that the type rests on, it is given.
     ensures complete { (d : List ℕ) → HasParts d total spans.now bytes.now → total < 2 ^ 63
@@ -67,7 +67,7 @@ pub extern "C" fn imagesize_parts_size(
     ensures size { IfSome (type_numbered number compression) (λ image. (d : List ℕ) → HasParts d total spans.now bytes.now
         → total < 2 ^ 63 → is_wanted result ≡ false → TellsSize (size_of image d).answer width.old width.new height.old height.new) }
     ensures wants { IfSome (type_numbered number compression) (λ image. (d : List ℕ) → HasParts d total spans.now bytes.now
-        → total < 2 ^ 63 → is_wanted result ≡ true → Wants (size_of image d).marks spans.now wanted.new) }
+        → total < 2 ^ 63 → is_wanted result ≡ true → Wants (has_texts image) (size_of image d).marks spans.now wanted.new) }
 
     // Where the parts have every byte that the size rests on, it is given.
     ensures complete { IfSome (type_numbered number compression) (λ image. (d : List ℕ) → HasParts d total spans.now bytes.now

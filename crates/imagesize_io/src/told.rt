@@ -8,7 +8,7 @@ ghost use Rattle.std.specs.declared.io.Error.{Error};
 ghost use Rattle.imagesize_io.specs.Telling.{Telling, ReadTells, SeekTells, counted};
 ghost use Rattle.imagesize_io.specs.StopOf.{stop_of};
 
-use imagesize_source::source::slice::copy_part;
+use imagesize_source::part::copy_part;
 use std::io::{self, BufReader, Cursor, ErrorKind, Read, Seek, SeekFrom};
 
 /// Why a read gave nothing.

@@ -1,14 +1,13 @@
 -- A layout sees an input by its readings alone.
-use Rattle.std.proofs.Common.{◌≡◌, ℕ, zero, suc, ◌+◌, ◌-◌, ◌<◌, ◌≤◌, min, Bool, true, false, ◌||◌, ◌&&◌, ◌⊎◌, inl, inr, eqb, leb, get_or, slice_index, append_assoc, List, [], ◌∷◌, ◌++◌, length, take, drop, Result, Ok, Err, refl, sym, ap, ◌∙◌, subst, arith}
-use Rattle.std.proofs.lemmas.List.{append-nil, length-take, take-take, length-drop, get_or-take, get_or-drop, ext_get_or}
+use Rattle.std.proofs.Common.{◌≡◌, ℕ, zero, suc, ◌+◌, ◌-◌, ◌<◌, ◌≤◌, min, Bool, true, false, ◌||◌, ◌⊎◌, inl, inr, eqb, get_or, slice_index, append_assoc, List, [], ◌∷◌, ◌++◌, length, take, drop, Result, Ok, Err, refl, sym, ap, ◌∙◌, subst, arith}
+use Rattle.std.proofs.lemmas.List.{length-take, take-take, length-drop, get_or-take, get_or-drop, ext_get_or}
 use Rattle.std.proofs.Math.Seq.{take-append_seam}
 use Rattle.std.proofs.lemmas.Bool.Decides.{nat_tests}
 use Rattle.imagesize_source.specs.declared.error.ImageError.{ImageError}
 use Rattle.imagesize_source.specs.declared.span.Span.{Span}
-use Rattle.imagesize_source.specs.declared.util.Endian.{Endian}
+use Rattle.imagesize_source.specs.declared.endian.Endian.{Endian}
 use Rattle.std.proofs.lemmas.Bool.{cases_lt}
-use Rattle.std.specs.List.{list_any, range_with_len}
-use Rattle.imagesize_source.specs.State.{places_in}
+use Rattle.imagesize_source.specs.Counts.{AtMost, CostsBy}
 use Rattle.imagesize_source.specs.Agreement.{Agrees, Alike, IsLocal, Parting, has_place, is_covered}
 use Rattle.imagesize_source.specs.Input.{part, span_at, span_of}
 use Rattle.imagesize_source.specs.Layout.{Layout, done, refuse, field, reading, layout_reads}
@@ -16,17 +15,17 @@ use Rattle.imagesize_source.specs.Numbers.{number}
 use Rattle.imagesize_source.specs.declared.text.Text.{Text}
 use Rattle.imagesize_source.specs.Text.{text_front}
 use Rattle.imagesize_source.proofs.Texts.{front_first, front_length, front_same, front_take}
-use Rattle.imagesize_source.proofs.Runs.{part_length, places-append, places_onward}
+use Rattle.imagesize_source.proofs.Runs.{part_length, marks_onward}
 use Rattle.imagesize_source.specs.Reading.{Reads, Reading, AllOf, PartOf, TextOf, go_on, put_behind, and_then, bytes_at, bytes_read, number_at, number_read, text_part, read_of, map_answer}
 
-covered-left : (s t : List Span) (place : ℕ) → is_covered s place ≡ true → is_covered (s ++ t) place ≡ true
+pub covered-left : (s t : List Span) (place : ℕ) → is_covered s place ≡ true → is_covered (s ++ t) place ≡ true
 covered-left [] t place h = absurd cc
 covered-left (x ∷ s) t place h =
     let Goal : Bool → Type 0 = λ b. b || is_covered s place ≡ true → b || is_covered (s ++ t) place ≡ true in
     let cases : Goal (has_place x place) = elim (has_place x place) as Goal [ true ↦ λ _. refl | false ↦ covered-left s t place ] in
     cases h
 
-covered-right : (s t : List Span) (place : ℕ) → is_covered t place ≡ true → is_covered (s ++ t) place ≡ true
+pub covered-right : (s t : List Span) (place : ℕ) → is_covered t place ≡ true → is_covered (s ++ t) place ≡ true
 covered-right [] t place h = h
 covered-right (x ∷ s) t place h =
     let Goal : Bool → Type 0 = λ b. b || is_covered (s ++ t) place ≡ true in
@@ -45,7 +44,7 @@ unfolding span_of
 same_span d e place k h = ap (λ n. span_at place (min k (n - place))) h
 
 -- a place of a span
-covered-one : (place n i : ℕ) → i < n → is_covered (span_at place n) (place + i) ≡ true
+pub covered-one : (place n i : ℕ) → i < n → is_covered (span_at place n) (place + i) ≡ true
 unfolding span_at
 covered-one place zero i h = absurd (omega arith)
 covered-one place (suc n) i h = grind (arith, nat_tests)
@@ -144,38 +143,25 @@ local d e (reading r place f) a =
 
 -- ---- where two inputs part
 
--- whether a place is among some
-any_there : (place : ℕ) (map_answer rest : List ℕ) → list_any (λ q. eqb q place) (map_answer ++ place ∷ rest) ≡ true
-any_there place [] rest = let same : eqb place place ≡ true = grind (arith, nat_tests) in ap (λ b. b || list_any (λ q. eqb q place) rest) same
-any_there place (q ∷ map_answer) rest =
-    let Goal : Bool → Type 0 = λ b. b || list_any (λ q. eqb q place) (map_answer ++ place ∷ rest) ≡ true in
-    elim (eqb q place) as Goal [ true ↦ refl | false ↦ any_there place map_answer rest ]
-
-any_both : (p : ℕ → Bool) (xs ys : List ℕ) → list_any p (xs ++ ys) ≡ list_any p xs || list_any p ys
-any_both p [] ys = refl
-any_both p (x ∷ xs) ys =
-    let Goal : Bool → Type 0 = λ b. b || list_any p (xs ++ ys) ≡ (b || list_any p xs) || list_any p ys in
-    elim (p x) as Goal [ true ↦ refl | false ↦ any_both p xs ys ]
-
-any_range : (a n place : ℕ) → list_any (λ q. eqb q place) (range_with_len a n) ≡ leb a place && leb (suc place) (a + n)
-any_range a zero place = grind (arith, nat_tests)
-any_range a (suc n) place = rw (any_range (a + 1) n place) (grind (arith, nat_tests))
-
-pub covered-places : (s : List Span) (place : ℕ) → is_covered s place ≡ list_any (λ q. eqb q place) (places_in s)
-covered-places [] place = refl
-covered-places (x ∷ s) place = rw (any_both (λ q. eqb q place) (range_with_len x.start x.len) (places_in s), any_range x.start x.len place)
-    (ap (λ b. has_place x place || b) (covered-places s place))
-
--- a place that the readings see is one of their marks
-pub covered_at : (s : List Span) (place : ℕ) (map_answer rest : List ℕ) → places_in s ≡ map_answer ++ place ∷ rest → is_covered s place ≡ true
-covered_at s place map_answer rest is = covered-places s place ∙ ap (list_any (λ q. eqb q place)) is ∙ any_there place map_answer rest
+-- some span has a place that one of them has
+pub covered_one_of : (before : List Span) (mark : Span) (rest : List Span) (place : ℕ) → has_place mark place ≡ true
+    → is_covered (before ++ mark ∷ rest) place ≡ true
+covered_one_of [] mark rest place is = ap (λ b. b || is_covered rest place) is
+covered_one_of (x ∷ before) mark rest place is =
+    let Goal : Bool → Type 0 = λ b. b || is_covered (before ++ mark ∷ rest) place ≡ true in
+    elim (has_place x place) as Goal [ true ↦ refl | false ↦ covered_one_of before mark rest place is ]
 
 -- inputs that agree do not part
-pub same_by_local : {X : Type 0} (r : List ℕ → Reads X) → IsLocal r → (d e : List ℕ) → Agrees d e (r d).marks → r e ≡ r d
-same_by_local r is_local d e a = elim (is_local d e a.as_long) [
+pub same_by_alike : {texts : Bool} {X : Type 0} (d e : List ℕ) (p q : Reads X) → Alike texts d e p q → Agrees d e p.marks → q ≡ p
+same_by_alike d e p q alike a = elim alike [
   | inl same ↦ same
-  | inr parts ↦ absurd (parts.differs (a.same_byte parts.place (covered_at (r d).marks parts.place parts.seen parts.rest parts.here)))
+  | inr parts ↦ absurd (parts.differs (a.same_byte parts.place (subst (λ s. is_covered s parts.place ≡ true) (sym parts.here)
+      (covered_one_of parts.seen parts.mark parts.rest parts.place parts.within))))
 ]
+
+pub same_by_local : {texts : Bool} {X : Type 0} (r : List ℕ → Reads X) → IsLocal texts r → (d e : List ℕ) → Agrees d e (r d).marks
+    → r e ≡ r d
+same_by_local r is_local d e a = same_by_alike d e (r d) (r e) (is_local d e a.as_long) a
 
 -- two lists of one length are the same, or differ at a first place
 record Differ (xs ys : List ℕ) : Type 0 where
@@ -207,36 +193,29 @@ differ (x ∷ xs) (y ∷ ys) long = by_test (eqb y x) refl (differ xs ys (omega 
     unlike = λ same. let no : y ≡ x = same in absurd (grind (arith, nat_tests));
   })
 
-pub places-span : (place n : ℕ) → places_in (span_at place n) ≡ range_with_len place n
+-- bytes have one span
+pub span-some : (place n : ℕ) → 0 < n → span_at place n ≡ record { start = place; len = n } ∷ []
 unfolding span_at
-places-span place zero = refl
-places-span place (suc n) = let some : eqb (suc n) 0 ≡ false = grind (arith, nat_tests) in rw some (append-nil (range_with_len place (suc n)))
-
-pub range_split : (a n i : ℕ) → i < n → range_with_len a n ≡ range_with_len a i ++ (a + i) ∷ range_with_len (a + i + 1) (n - i - 1)
-range_split a zero i below = absurd (omega (arith, below))
-range_split a (suc n) zero below =
-    let here : a ≡ a + 0 = omega arith in
-    let next : a + 1 ≡ a + 0 + 1 = omega arith in
-    let fewer : n ≡ suc n - 0 - 1 = omega arith in
-    ap (λ p. p ∷ range_with_len (a + 1) n) here ∙ ap (λ p. (a + 0) ∷ range_with_len p n) next
-    ∙ ap (λ k. (a + 0) ∷ range_with_len (a + 0 + 1) k) fewer
-range_split a (suc n) (suc i) below =
-    let at : a + 1 + i ≡ a + suc i = omega arith in
-    let fewer : n - i - 1 ≡ suc n - suc i - 1 = omega arith in
-    ap (λ ps. a ∷ ps) (range_split (a + 1) n i (omega (arith, below))
-    ∙ ap (λ p. range_with_len (a + 1) i ++ p ∷ range_with_len (p + 1) (n - i - 1)) at
-    ∙ ap (λ k. range_with_len (a + 1) i ++ (a + suc i) ∷ range_with_len (a + suc i + 1) k) fewer)
+span-some place zero some = absurd (omega (arith, some))
+span-some place (suc n) some = let is : eqb (suc n) 0 ≡ false = grind (arith, nat_tests) in rw is refl
 
 -- two spans from one place on, at a place of both
-parting_at : (d e : List ℕ) (place m n i : ℕ) → i < m → i < n → (slice_index e (place + i) ≡ slice_index d (place + i) → ⊥)
-    → Parting d e (span_at place m) (span_at place n)
-parting_at d e place m n i within also unlike = record {
-  seen = range_with_len place i;
+parting_at : {texts : Bool} (d e : List ℕ) (place m n i : ℕ) → i < m → i < n
+    → (slice_index e (place + i) ≡ slice_index d (place + i) → ⊥) → (texts ≡ false → n ≡ m)
+    → Parting texts d e (span_at place m) (span_at place n)
+parting_at d e place m n i within also unlike same = record {
+  seen = [];
+  mark = record { start = place; len = m };
+  other = record { start = place; len = n };
+  rest = [];
+  others = [];
+  here = span-some place m (omega (arith, within));
+  there = span-some place n (omega (arith, also));
+  start = refl;
+  same = λ none. ap (λ k. record { start = place; len = k }) (same none);
   place = place + i;
-  rest = range_with_len (place + i + 1) (m - i - 1);
-  others = range_with_len (place + i + 1) (n - i - 1);
-  here = places-span place m ∙ range_split place m i within;
-  there = places-span place n ∙ range_split place n i also;
+  within = grind (arith, nat_tests);
+  also = grind (arith, nat_tests);
   differs = unlike;
 }
 
@@ -253,22 +232,23 @@ parts_long : (d e : List ℕ) (place k : ℕ) → length e ≡ length d → leng
 parts_long d e place k long = part_length e place k ∙ ap (λ m. min k (m - place)) long ∙ sym (part_length d place k)
 
 -- bytes are the same, or the inputs part
-alike_part : (d e : List ℕ) (place k : ℕ) → length e ≡ length d → (part e place k ≡ part d place k)
-    ⊎ Parting d e (span_of d place k) (span_of e place k)
+alike_part : {texts : Bool} (d e : List ℕ) (place k : ℕ) → length e ≡ length d → (part e place k ≡ part d place k)
+    ⊎ Parting texts d e (span_of d place k) (span_of e place k)
 unfolding span_of
 alike_part d e place k long = elim (differ (part d place k) (part e place k) (parts_long d e place k long)) [
   | inl same ↦ inl same
   | inr x ↦ (
       let within : x.at < min k (length d - place) = omega (arith, x.below, part_length d place k) in
       inr (parting_at d e place (min k (length d - place)) (min k (length e - place)) x.at within
-      (omega (arith, within, long)) (unlike_at d e place k x.at (omega (arith, within)) x.unlike))
+      (omega (arith, within, long)) (unlike_at d e place k x.at (omega (arith, within)) x.unlike)
+      (λ none. ap (λ n. min k (n - place)) long))
       )
 ]
 
 -- and so is what is made of them
-alike_made : {X : Type 0} (f : List ℕ → ℕ → Result X ImageError) (d e : List ℕ) (place k : ℕ) → length e ≡ length d
+alike_made : {texts : Bool} {X : Type 0} (f : List ℕ → ℕ → Result X ImageError) (d e : List ℕ) (place k : ℕ) → length e ≡ length d
     → (part e place k ≡ part d place k → f e place ≡ f d place)
-    → Alike d e (record { answer = f d place; marks = span_of d place k }) (record { answer = f e place; marks = span_of e place k })
+    → Alike texts d e (record { answer = f d place; marks = span_of d place k }) (record { answer = f e place; marks = span_of e place k })
 alike_made f d e place k long same = elim (alike_part d e place k long) [
   | inl is ↦ (let span = same_span d e place k long in inl (rw (span, same is) refl))
   | inr parts ↦ inr parts
@@ -284,10 +264,11 @@ unfolding number_at
 number_made d e order place k long same = ap (map_answer (number order)) (bytes_made d e place k long same)
 
 -- a text is the same, or the inputs part within both
-alike_text : (d e : List ℕ) (t : Text) (place k : ℕ) → length e ≡ length d → (text_part e t place k ≡ text_part d t place k)
-    ⊎ Parting d e (span_at place (length (text_part d t place k))) (span_at place (length (text_part e t place k)))
+alike_text : {texts : Bool} (d e : List ℕ) (t : Text) (place k : ℕ) → texts ≡ true → length e ≡ length d
+    → (text_part e t place k ≡ text_part d t place k)
+    ⊎ Parting texts d e (span_at place (length (text_part d t place k))) (span_at place (length (text_part e t place k)))
 unfolding text_part
-alike_text d e t place k long = elim (differ xs ys (parts_long d e place k long)) [
+alike_text {texts} d e t place k read long = elim (differ xs ys (parts_long d e place k long)) [
   | inl same ↦ inl (ap (text_front t) same)
   | inr x ↦ by_first x (cases_lt x.at m) (cases_lt x.at n)
 ] where
@@ -307,7 +288,7 @@ alike_text d e t place k long = elim (differ xs ys (parts_long d e place k long)
   first_same cs bs j i few same = sym (take-take j i bs few) ∙ ap (take j) same ∙ take-take j i cs few
 
   by_first : (x : Differ xs ys) → (x.at < m) ⊎ (m ≤ x.at) → (x.at < n) ⊎ (n ≤ x.at)
-      → (text_front t ys ≡ text_front t xs) ⊎ Parting d e (span_at place m) (span_at place n)
+      → (text_front t ys ≡ text_front t xs) ⊎ Parting texts d e (span_at place m) (span_at place n)
   by_first x (inr early) also =
       let begins : take m ys ≡ take m xs = first_same xs ys m x.at early x.before in
       inl (front_same t xs ys (parts_long d e place k long) (begins ∙ front_take t xs))
@@ -316,81 +297,162 @@ alike_text d e t place k long = elim (differ xs ys (parts_long d e place k long)
       inl (sym (front_same t ys xs (sym (parts_long d e place k long)) (begins ∙ front_take t ys)))
   by_first x (inl within) (inl also) =
       let fits : x.at < k = omega (arith, x.below, part_length d place k) in
-      inr (parting_at d e place m n x.at within also (unlike_at d e place k x.at fits x.unlike))
+      inr (parting_at d e place m n x.at within also (unlike_at d e place k x.at fits x.unlike)
+      (λ none. absurd (let no : true ≡ false = sym read ∙ none in cc)))
 
-alike_reading : (d e : List ℕ) (r : Reading) (place : ℕ) → length e ≡ length d → Alike d e (read_of d r place) (read_of e r place)
-alike_reading d e (AllOf k) place long = alike_made (λ x p. bytes_at x p k) d e place k long (bytes_made d e place k long)
-alike_reading d e (PartOf k) place long = alike_made (λ x p. Ok (part x p k)) d e place k long (λ same. ap Ok same)
-alike_reading d e (TextOf t k) place long = elim (alike_text d e t place k long) [
+-- a reading of a text is one where texts are read
+abbrev pub IsRead : Bool → Reading → Type 0
+IsRead texts (AllOf k) = Unit {0}
+IsRead texts (PartOf k) = Unit {0}
+IsRead texts (TextOf t k) = texts ≡ true
+
+-- and so are all of a layout
+abbrev pub AllRead : {X : Type 0} → Bool → Layout X → Type 0
+AllRead texts (done x) = Unit {0}
+AllRead texts (refuse e) = Unit {0}
+AllRead texts (field order place k f) = (v : ℕ) → AllRead texts (f v)
+AllRead texts (reading r place f) = IsRead texts r × ((bs : List ℕ) → AllRead texts (f bs))
+
+is_read : (r : Reading) → IsRead true r
+is_read (AllOf k) = tt
+is_read (PartOf k) = tt
+is_read (TextOf t k) = refl
+
+-- each layout is read where texts are
+pub with_texts : {X : Type 0} (t : Layout X) → AllRead true t
+with_texts (done x) = tt
+with_texts (refuse e) = tt
+with_texts (field order place k f) = λ v. with_texts (f v)
+with_texts (reading r place f) = (is_read r, λ bs. with_texts (f bs))
+
+-- and one whose bytes are counted has no texts
+pub without_texts : (texts : Bool) {X : Type 0} (k : ℕ) (t : Layout X) → AtMost k t → AllRead texts t
+without_texts texts k (done x) few = tt
+without_texts texts k (refuse e) few = tt
+without_texts texts k (field order place n f) few = λ v. without_texts texts (k - n) (f v) (few.1 v)
+without_texts texts k (reading (AllOf n) place f) few = (tt, λ bs. without_texts texts (k - n) (f bs) (few.1 bs))
+without_texts texts k (reading (PartOf n) place f) few = (tt, λ bs. without_texts texts (k - n) (f bs) (few.1 bs))
+without_texts texts k (reading (TextOf t n) place f) few = absurd few
+
+pub costed_texts : (texts : Bool) {X : Type 0} (f : X → ℕ) (e u : ℕ) (t : Layout X) → CostsBy f e u t → AllRead texts t
+costed_texts texts f e u (done x) few = tt
+costed_texts texts f e u (refuse r) few = tt
+costed_texts texts f e u (field order place n g) few = λ v. costed_texts texts f e (u + n) (g v) (few.1 v)
+costed_texts texts f e u (reading (AllOf n) place g) few = (tt, λ bs. costed_texts texts f e (u + n) (g bs) (few.1 bs))
+costed_texts texts f e u (reading (PartOf n) place g) few = (tt, λ bs. costed_texts texts f e (u + n) (g bs) (few bs))
+costed_texts texts f e u (reading (TextOf t n) place g) few = absurd few
+
+alike_reading : {texts : Bool} (d e : List ℕ) (r : Reading) (place : ℕ) → IsRead texts r → length e ≡ length d
+    → Alike texts d e (read_of d r place) (read_of e r place)
+alike_reading d e (AllOf k) place is long = alike_made (λ x p. bytes_at x p k) d e place k long (bytes_made d e place k long)
+alike_reading d e (PartOf k) place is long = alike_made (λ x p. Ok (part x p k)) d e place k long (λ same. ap Ok same)
+alike_reading d e (TextOf t k) place is long = elim (alike_text d e t place k is long) [
   | inl same ↦ inl (ap (λ bs. record { answer = Ok bs; marks = span_at place (length bs) }) same)
   | inr parts ↦ inr parts
 ]
 
 -- readings behind others, and before others
-parting_behind : {d e : List ℕ} {s t : List Span} (before : List Span) → Parting d e s t → Parting d e (before ++ s) (before ++ t)
-parting_behind {d} {e} {s} {t} before x = record {
-  seen = places_in before ++ x.seen;
-  place = x.place;
+parting_behind : {texts : Bool} {d e : List ℕ} {s t : List Span} (before : List Span) → Parting texts d e s t
+    → Parting texts d e (before ++ s) (before ++ t)
+parting_behind before x = record {
+  seen = before ++ x.seen;
+  mark = x.mark;
+  other = x.other;
   rest = x.rest;
   others = x.others;
-  here = places-append before s ∙ ap (λ ps. places_in before ++ ps) x.here ∙ sym (append_assoc (places_in before) x.seen (x.place ∷ x.rest));
-  there = places-append before t ∙ ap (λ ps. places_in before ++ ps) x.there
-      ∙ sym (append_assoc (places_in before) x.seen (x.place ∷ x.others));
+  here = ap (λ s. before ++ s) x.here ∙ sym (append_assoc before x.seen (x.mark ∷ x.rest));
+  there = ap (λ s. before ++ s) x.there ∙ sym (append_assoc before x.seen (x.other ∷ x.others));
+  start = x.start;
+  same = x.same;
+  place = x.place;
+  within = x.within;
+  also = x.also;
   differs = x.differs;
 }
 
-parting_before : {d e : List ℕ} {s t : List Span} (all whole : List Span) (more others : List ℕ) → places_in all ≡ places_in s ++ more
-    → places_in whole ≡ places_in t ++ others → Parting d e s t → Parting d e all whole
+parting_before : {texts : Bool} {d e : List ℕ} {s t : List Span} (all whole more others : List Span) → all ≡ s ++ more
+    → whole ≡ t ++ others → Parting texts d e s t → Parting texts d e all whole
 parting_before all whole more others is also x = record {
   seen = x.seen;
-  place = x.place;
+  mark = x.mark;
+  other = x.other;
   rest = x.rest ++ more;
   others = x.others ++ others;
-  here = is ∙ ap (λ ps. ps ++ more) x.here ∙ append_assoc x.seen (x.place ∷ x.rest) more;
-  there = also ∙ ap (λ ps. ps ++ others) x.there ∙ append_assoc x.seen (x.place ∷ x.others) others;
+  here = is ∙ ap (λ s. s ++ more) x.here ∙ append_assoc x.seen (x.mark ∷ x.rest) more;
+  there = also ∙ ap (λ s. s ++ others) x.there ∙ append_assoc x.seen (x.other ∷ x.others) others;
+  start = x.start;
+  same = x.same;
+  place = x.place;
+  within = x.within;
+  also = x.also;
   differs = x.differs;
 }
 
+-- where no texts are read, none are among readings with them
+pub alike_more : {X : Type 0} (texts : Bool) (d e : List ℕ) (p q : Reads X) → Alike false d e p q → Alike texts d e p q
+alike_more texts d e p q (inl same) = inl same
+alike_more texts d e p q (inr x) = inr (record {
+  seen = x.seen;
+  mark = x.mark;
+  other = x.other;
+  rest = x.rest;
+  others = x.others;
+  here = x.here;
+  there = x.there;
+  start = x.start;
+  same = λ _. x.same refl;
+  place = x.place;
+  within = x.within;
+  also = x.also;
+  differs = x.differs;
+})
+
 -- what goes on from answers that are alike, where it is alike behind each
-pub alike_then : {X Y : Type 0} (d e : List ℕ) (p q : Reads X) (f g : X → Reads Y) → Alike d e p q
-    → ((x : X) → p.answer ≡ Ok x → Alike d e (f x) (g x)) → Alike d e (and_then p f) (and_then q g)
+pub alike_then : {texts : Bool} {X Y : Type 0} (d e : List ℕ) (p q : Reads X) (f g : X → Reads Y) → Alike texts d e p q
+    → ((x : X) → p.answer ≡ Ok x → q.answer ≡ Ok x → Alike texts d e (f x) (g x)) → Alike texts d e (and_then p f) (and_then q g)
 alike_then d e p q f g (inr parts) rest =
-    let here = places_onward p.marks p.answer f in
-    let there = places_onward q.marks q.answer g in
+    let here = marks_onward p.marks p.answer f in
+    let there = marks_onward q.marks q.answer g in
     inr (parting_before (and_then p f).marks (and_then q g).marks here.0 there.0 here.1 there.1 parts)
-alike_then {X} {Y} d e p q f g (inl same) rest = subst (λ w. Alike d e (and_then p f) (and_then w g)) (sym same) (by_answer p.answer refl) where
-  by_answer : (r : Result X ImageError) → p.answer ≡ r → Alike d e (go_on p.marks r f) (go_on p.marks r g)
-  by_answer (Err x) is = inl refl
-  by_answer (Ok x) is = elim (rest x is) [
-    | inl rest_same ↦ inl (ap (put_behind p.marks) rest_same)
-    | inr parts ↦ inr (parting_behind p.marks parts)
-  ]
+alike_then {texts} {X} {Y} d e p q f g (inl same) rest =
+    subst (λ w. Alike texts d e (and_then p f) (and_then w g)) (sym same) (by_answer p.answer refl)
+  where
+    by_answer : (r : Result X ImageError) → p.answer ≡ r → Alike texts d e (go_on p.marks r f) (go_on p.marks r g)
+    by_answer (Err x) is = inl refl
+    by_answer (Ok x) is = elim (rest x is (ap (λ w. w.answer) same ∙ is)) [
+      | inl rest_same ↦ inl (ap (put_behind p.marks) rest_same)
+      | inr parts ↦ inr (parting_behind p.marks parts)
+    ]
 
 -- a layout is local
-pub alike_layout : {X : Type 0} (d e : List ℕ) (t : Layout X) → length e ≡ length d → Alike d e (layout_reads d t) (layout_reads e t)
-alike_layout d e (done x) long = inl refl
-alike_layout d e (refuse x) long = inl refl
-alike_layout d e (field order place k f) long = alike_then d e (number_read d order place k) (number_read e order place k)
+pub alike_layout : {texts : Bool} {X : Type 0} (d e : List ℕ) (t : Layout X) → AllRead texts t → length e ≡ length d
+    → Alike texts d e (layout_reads d t) (layout_reads e t)
+alike_layout d e (done x) read long = inl refl
+alike_layout d e (refuse x) read long = inl refl
+alike_layout d e (field order place k f) read long = alike_then d e (number_read d order place k) (number_read e order place k)
     (λ v. layout_reads d (f v)) (λ v. layout_reads e (f v))
-    (alike_made (λ x p. number_at x order p k) d e place k long (number_made d e order place k long)) (λ v is. alike_layout d e (f v) long)
-alike_layout d e (reading r place f) long = alike_then d e (read_of d r place) (read_of e r place) (λ bs. layout_reads d (f bs))
-    (λ bs. layout_reads e (f bs)) (alike_reading d e r place long) (λ bs is. alike_layout d e (f bs) long)
+    (alike_made (λ x p. number_at x order p k) d e place k long (number_made d e order place k long))
+    (λ v is also. alike_layout d e (f v) (read v) long)
+alike_layout d e (reading r place f) read long = alike_then d e (read_of d r place) (read_of e r place) (λ bs. layout_reads d (f bs))
+    (λ bs. layout_reads e (f bs)) (alike_reading d e r place read.0 long) (λ bs is also. alike_layout d e (f bs) (read.1 bs) long)
 
-pub local_layout : {X : Type 0} (t : Layout X) → IsLocal (λ d. layout_reads d t)
-local_layout t d e long = alike_layout d e t long
+pub local_layout : {texts : Bool} {X : Type 0} (t : Layout X) → AllRead texts t → IsLocal texts (λ d. layout_reads d t)
+local_layout t read d e long = alike_layout d e t read long
 
 -- readings behind readings
-pub local_then : {X Y : Type 0} (r : List ℕ → Reads X) (f : X → List ℕ → Reads Y) → IsLocal r → ((x : X) → IsLocal (f x))
-    → IsLocal (λ d. and_then (r d) (λ x. f x d))
-local_then r f first rest d e long = alike_then d e (r d) (r e) (λ x. f x d) (λ x. f x e) (first d e long) (λ x is. rest x d e long)
+pub local_then : {texts : Bool} {X Y : Type 0} (r : List ℕ → Reads X) (f : X → List ℕ → Reads Y) → IsLocal texts r
+    → ((x : X) → IsLocal texts (f x)) → IsLocal texts (λ d. and_then (r d) (λ x. f x d))
+local_then r f first rest d e long = alike_then d e (r d) (r e) (λ x. f x d) (λ x. f x e) (first d e long)
+    (λ x is also. rest x d e long)
 
 -- readings that take the length of the input
-pub local_length : {X : Type 0} (f : ℕ → List ℕ → Reads X) → ((n : ℕ) → IsLocal (f n)) → IsLocal (λ d. f (length d) d)
-local_length f each d e long = subst (λ n. Alike d e (f (length d) d) (f n e)) (sym long) (each (length d) d e long)
+pub local_length : {texts : Bool} {X : Type 0} (f : ℕ → List ℕ → Reads X) → ((n : ℕ) → IsLocal texts (f n))
+    → IsLocal texts (λ d. f (length d) d)
+local_length {texts} f each d e long = subst (λ n. Alike texts d e (f (length d) d) (f n e)) (sym long) (each (length d) d e long)
 
 -- one number is local, and bytes are
-pub local_number : (order : Endian) (place k : ℕ) → IsLocal (λ d. number_read d order place k)
+pub local_number : {texts : Bool} (order : Endian) (place k : ℕ) → IsLocal texts (λ d. number_read d order place k)
 local_number order place k d e long = alike_made (λ x p. number_at x order p k) d e place k long (number_made d e order place k long)
 
-pub local_bytes : (place k : ℕ) → IsLocal (λ d. bytes_read d place k)
+pub local_bytes : {texts : Bool} (place k : ℕ) → IsLocal texts (λ d. bytes_read d place k)
 local_bytes place k d e long = alike_made (λ x p. bytes_at x p k) d e place k long (bytes_made d e place k long)

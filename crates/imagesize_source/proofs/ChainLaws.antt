@@ -1,5 +1,5 @@
 -- What holds of every chain: locality, counts and extension.
-use Rattle.std.proofs.Common.{◌≡◌, ℕ, zero, suc, ◌+◌, ◌*◌, ◌<◌, ◌≤◌, List, [], ◌∷◌, ◌++◌, length, Some, Result, Ok, Err, inl, refl, sym, ap, ◌∙◌, subst, arith}
+use Rattle.std.proofs.Common.{Bool, ◌≡◌, ℕ, zero, suc, ◌+◌, ◌*◌, ◌<◌, ◌≤◌, List, [], ◌∷◌, ◌++◌, length, Some, Result, Ok, Err, inl, refl, sym, ap, ◌∙◌, subst, arith}
 use Rattle.std.proofs.Math.Nat.{mul-add}
 use Rattle.imagesize_source.specs.declared.error.ImageError.{ImageError}
 use Rattle.imagesize_source.specs.Agreement.{Agrees, Alike, IsLocal}
@@ -9,7 +9,7 @@ use Rattle.imagesize_source.specs.Extension.{Plain, Lasts}
 use Rattle.imagesize_source.specs.Reading.{and_then, put_behind}
 use Rattle.imagesize_source.specs.State.{total}
 use Rattle.imagesize_source.proofs.Chains.{chain_unfolds, follows, chain_next, chain_stop, records_next, records_stop}
-use Rattle.imagesize_source.proofs.Agreement.{alike_layout, alike_then, local, agrees-left, agrees-right}
+use Rattle.imagesize_source.proofs.Agreement.{AllRead, alike_layout, alike_then, local, agrees-left, agrees-right}
 use Rattle.imagesize_source.proofs.Counts.{at_most}
 use Rattle.imagesize_source.proofs.Extension.{more}
 use Rattle.imagesize_source.proofs.Runs.{total-append}
@@ -72,27 +72,28 @@ said_is : {A : Type 0} {x y : A} → ◌≡◌ {A = Result A ImageError} (Ok x) 
 said_is e = cc
 
 -- a chain that advances is local
-pub local_chain : {C X : Type 0} (c : Chain C X) → ((d : List ℕ) → Advances c d) → IsLocal (λ d. chain_at c d)
-local_chain {C} {X} c adv d e long = chain_induction c d P (adv d) on last (start c) where
+pub local_chain : {texts : Bool} {C X : Type 0} (c : Chain C X) → ((d : List ℕ) → Advances c d)
+    → ((held : List C) (place : ℕ) → AllRead texts (c.said held place)) → IsLocal texts (λ d. chain_at c d)
+local_chain {texts} {C} {X} c adv read d e long = chain_induction c d P (adv d) on last (start c) where
   P : Along C → Type 0
-  P t = Alike d e (chain_from c d t) (chain_from c e t)
+  P t = Alike texts d e (chain_from c d t) (chain_from c e t)
 
   -- a record, and what follows it
-  by_record : (t : Along C) → ((x : Said C X) → (next_record c d t).answer ≡ Ok x → Alike d e (follows c d t.held x) (follows c e t.held x)) → P t
-  by_record t rest = subst (λ w. Alike d e w (chain_from c e t)) (sym (chain_unfolds c d t (adv d)))
-      (subst (λ w. Alike d e (and_then (next_record c d t) (follows c d t.held)) w) (sym (chain_unfolds c e t (adv e)))
+  by_record : (t : Along C) → ((x : Said C X) → (next_record c d t).answer ≡ Ok x → Alike texts d e (follows c d t.held x) (follows c e t.held x)) → P t
+  by_record t rest = subst (λ w. Alike texts d e w (chain_from c e t)) (sym (chain_unfolds c d t (adv d)))
+      (subst (λ w. Alike texts d e (and_then (next_record c d t) (follows c d t.held)) w) (sym (chain_unfolds c e t (adv e)))
       (alike_then d e (next_record c d t) (next_record c e t) (follows c d t.held) (follows c e t.held)
-      (alike_layout d e (c.said t.held t.place) long) rest))
+      (alike_layout d e (c.said t.held t.place) (read t.held t.place) long) (λ x is also. rest x is)))
 
   on : (t : Along C) (v : C) (place : ℕ) → (next_record c d t).answer ≡ Ok (Next v place)
       → P (record { held = t.held ++ v ∷ []; place = place }) → P t
   on t v place is later = by_record t (λ x also.
       let same : x ≡ Next v place = said_is (sym also ∙ is) in
-      subst (λ y. Alike d e (follows c d t.held y) (follows c e t.held y)) (sym same) later)
+      subst (λ y. Alike texts d e (follows c d t.held y) (follows c e t.held y)) (sym same) later)
 
   last : (t : Along C) (r : Result X ImageError) → verdict (next_record c d t).answer ≡ Some r → P t
   last t r is = by_record t (λ x also. decided x r (ap verdict (sym also) ∙ is)) where
-    decided : (x : Said C X) (r : Result X ImageError) → verdict (Ok x) ≡ Some r → Alike d e (follows c d t.held x) (follows c e t.held x)
+    decided : (x : Said C X) (r : Result X ImageError) → verdict (Ok x) ≡ Some r → Alike texts d e (follows c d t.held x) (follows c e t.held x)
     decided (Decided x) r is = inl refl
     decided (Next v place) r is = absurd cc
 

@@ -1,6 +1,6 @@
 -- How many bytes a layout reads, by its answer.
 use Rattle.std.proofs.Common.{◌≡◌, ℕ, ◌+◌, ◌-◌, ◌≤◌, List, Result, Ok, Err, refl, arith}
-use Rattle.imagesize_source.specs.Counts.{AtMost, CostsBy, IfRefused}
+use Rattle.imagesize_source.specs.Counts.{AtMost, CostsBy, IfBytes, IfRefused}
 use Rattle.imagesize_source.specs.declared.error.ImageError.{ImageError}
 use Rattle.imagesize_source.specs.declared.span.Span.{Span}
 use Rattle.imagesize_source.specs.Input.{span_of}
@@ -8,7 +8,7 @@ use Rattle.imagesize_source.specs.Layout.{Layout, layout_reads, bind}
 use Rattle.imagesize_source.specs.Layout.Layout.{«done», refuse, field, reading}
 use Rattle.imagesize_source.specs.Reading.{Reads, Reading, AllOf, PartOf, TextOf, go_on, number_at, read_of, most}
 use Rattle.imagesize_source.specs.State.{total}
-use Rattle.imagesize_source.proofs.Counts.{total-span_of, total_reading}
+use Rattle.imagesize_source.proofs.Counts.{of_bytes, total-span_of, total_reading}
 use Rattle.imagesize_source.proofs.Runs.{total-append}
 
 -- the bound that goes with an answer
@@ -25,18 +25,18 @@ refused P Q d (TextOf t k) place h is = absurd cc
 otherwise : (P Q : Type 0) (r : Reading) → IfRefused r P Q → Q
 otherwise P Q (AllOf k) h = h.1
 otherwise P Q (PartOf k) h = h
-otherwise P Q (TextOf t k) h = h
+otherwise P Q (TextOf t k) h = absurd h
 
 -- of less, and of both
 if_refused : {P Q P' Q' : Type 0} (r : Reading) → (P → P') → (Q → Q') → IfRefused r P Q → IfRefused r P' Q'
 if_refused (AllOf k) f g h = (f h.0, g h.1)
 if_refused (PartOf k) f g h = g h
-if_refused (TextOf t k) f g h = g h
+if_refused (TextOf t k) f g h = h
 
-both : {P Q : Type 0} (r : Reading) → P → Q → IfRefused r P Q
-both (AllOf k) p q = (p, q)
-both (PartOf k) p q = q
-both (TextOf t k) p q = q
+both : (Few : Type 0) {P Q : Type 0} (r : Reading) → IfBytes r Few → P → Q → IfRefused r P Q
+both Few (AllOf k) few p q = (p, q)
+both Few (PartOf k) few p q = q
+both Few (TextOf t k) few p q = absurd few
 
 onward_costs : {X Y : Type 0} (f : Y → ℕ) (e u n : ℕ) (spans : List Span) (r : Result X ImageError) (g : X → Reads Y) → total spans ≤ n
     → ((x : ImageError) → r ≡ Err x → u + n ≤ e) → ((x : X) → u + n + total (g x).marks ≤ bound_of f e (g x).answer)
@@ -78,6 +78,7 @@ costs_bind f e u j (field order place n h) g few enough next = let here = few.0 
       (g x) (omega arith) (next x)),
 )
 costs_bind f e u j (reading r place h) g few enough next =
-    let here = few.0 in
-    both r (omega arith) (λ bs. costs_bind f e (u + most r) (j - most r) (h bs) g (few.1 bs) (omega arith)
+    let all = of_bytes r few in
+    let here = all.0 in
+    both ((most r ≤ j) × ((bs : List ℕ) → AtMost (j - most r) (h bs))) r few (omega arith) (λ bs. costs_bind f e (u + most r) (j - most r) (h bs) g (all.1 bs) (omega arith)
     (λ x. costs_less f e (u + most r + (j - most r)) (u + j) (g x) (omega arith) (next x)))

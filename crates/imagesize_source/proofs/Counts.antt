@@ -11,7 +11,7 @@ use Rattle.imagesize_source.specs.declared.error.ImageError.{ImageError}
 use Rattle.imagesize_source.specs.declared.span.Span.{Span}
 use Rattle.imagesize_source.specs.declared.text.Text.{Text}
 use Rattle.imagesize_source.specs.Agreement.{has_place, is_covered}
-use Rattle.imagesize_source.specs.Counts.{places, AtMost}
+use Rattle.imagesize_source.specs.Counts.{places, AtMost, IfBytes}
 use Rattle.imagesize_source.specs.Input.{part, span_at, span_of}
 use Rattle.imagesize_source.specs.Layout.{Layout, done, refuse, field, reading, layout_reads, bind}
 use Rattle.imagesize_source.specs.Reading.{Reads, Reading, AllOf, PartOf, TextOf, and_then, go_on, number_at, text_part, read_of, most}
@@ -55,6 +55,17 @@ total_reading d (TextOf t k) place = omega (
   part_length d place k,
 )
 
+-- what is owed of a reading of bytes
+pub of_bytes : {P : Type 0} (r : Reading) → IfBytes r P → P
+of_bytes (AllOf k) h = h
+of_bytes (PartOf k) h = h
+of_bytes (TextOf t k) h = absurd h
+
+if_bytes : {P Q : Type 0} (r : Reading) → (P → Q) → IfBytes r P → IfBytes r Q
+if_bytes (AllOf k) f h = f h
+if_bytes (PartOf k) f h = f h
+if_bytes (TextOf t k) f h = h
+
 onward_at_most : {X Y : Type 0} (spans : List Span) (r : Result X ImageError) (f : X → Reads Y) (n k : ℕ) → total spans ≤ n → n ≤ k
     → ((x : X) → total (f x).marks ≤ k - n) → total (go_on spans r f).marks ≤ k
 onward_at_most spans (Ok x) f n k here fits rest = let all = total-append spans (f x).marks in let more = rest x in omega arith
@@ -67,7 +78,7 @@ at_most d k (refuse e) h = omega arith
 at_most d k (field order place n f) h = onward_at_most (span_of d place n) (number_at d order place n) (λ v. layout_reads d (f v)) n k
     (total-span_of d place n) h.0 (λ v. at_most d (k - n) (f v) (h.1 v))
 at_most d k (reading r place f) h = onward_at_most (read_of d r place).marks (read_of d r place).answer (λ bs. layout_reads d (f bs)) (most r) k
-    (total_reading d r place) h.0 (λ bs. at_most d (k - most r) (f bs) (h.1 bs))
+    (total_reading d r place) (of_bytes r h).0 (λ bs. at_most d (k - most r) (f bs) ((of_bytes r h).1 bs))
 
 onward_within : {X Y : Type 0} (spans : List Span) (r : Result X ImageError) (f : X → Reads Y) (j k : ℕ) → total spans ≤ j
     → ((x : X) → r ≡ Ok x → total (f x).marks ≤ k) → total (go_on spans r f).marks ≤ j + k
@@ -88,11 +99,11 @@ at_most_more j k (field order place n f) le h = let here = h.0 in (
   λ v. at_most_more (j - n) (k - n) (f v) (omega arith)
       (h.1 v),
 )
-at_most_more j k (reading r place f) le h = let here = h.0 in (
+at_most_more j k (reading r place f) le h = if_bytes r (λ few. let here = few.0 in (
   omega arith,
   λ bs. at_most_more (j - most r) (k - most r) (f bs)
-      (omega arith) (h.1 bs),
-)
+      (omega arith) (few.1 bs),
+)) h
 
 -- a layout behind another asks for as many bytes as both
 pub at_most_bind : {X Y : Type 0} (j k : ℕ) (t : Layout X) (g : X → Layout Y) → AtMost j t → ((x : X) → AtMost k (g x))
@@ -101,11 +112,11 @@ at_most_bind j k (done x) g h rest = at_most_more k (j + k) (g x) (omega arith) 
 at_most_bind j k (refuse e) g h rest = tt
 at_most_bind j k (field order place n f) g h rest = let here = h.0 in
     (omega arith, λ v. at_most_more (j - n + k) (j + k - n) (bind (f v) g) (omega arith) (at_most_bind (j - n) k (f v) g (h.1 v) rest))
-at_most_bind j k (reading r place f) g h rest = let here = h.0 in (
+at_most_bind j k (reading r place f) g h rest = if_bytes r (λ few. let here = few.0 in (
   omega arith,
   λ bs. at_most_more (j - most r + k) (j + k - most r)
-      (bind (f bs) g) (omega arith) (at_most_bind (j - most r) k (f bs) g (h.1 bs) rest),
-)
+      (bind (f bs) g) (omega arith) (at_most_bind (j - most r) k (f bs) g (few.1 bs) rest),
+)) h
 
 count-cons : (p : ℕ → Bool) (x : ℕ) (xs : List ℕ) → count_by p (x ∷ xs) ≡ cond (p x) 1 0 + count_by p xs
 count-cons p x xs = sum_by-cons (λ y. cond (p y) 1 0) x xs

@@ -1,7 +1,7 @@
 -- What a reading of known parts sees, and what it misses.
 use Rattle.std.proofs.Common.{◌≡◌, ℕ, zero, suc, ◌+◌, ◌-◌, ◌<◌, ◌≤◌, min, Bool, true, false, ◌&&◌, ◌||◌, not, cond, eqb, leb, List, [], ◌∷◌, ◌++◌, length, take, drop, get_or, slice_index, Option, None, Some, is_some, Ok, Err, ◌⊎◌, inl, inr, refl, sym, ap, ◌∙◌, subst, arith, append_assoc}
 use Rattle.std.specs.Prelude.{unwrap_or}
-use Rattle.std.specs.List.{list_any, position, position_or_len, range_with_len}
+use Rattle.std.specs.List.{list_any, position, position_or_len}
 use Rattle.std.proofs.lemmas.Bool.{cases_lt}
 use Rattle.std.proofs.lemmas.Bool.Decides.{nat_tests}
 use Rattle.std.proofs.lemmas.List.{length-append, length-take, length-drop, get_or-take, get_or-drop, take-append-drop, drop_all, take_all, drop-drop, ext_get_or, take_min, take-take, take-append-le, append-nil}
@@ -11,6 +11,7 @@ use Rattle.std.specs.Char.{is_ascii_whitespace}
 use Rattle.std.specs.declared.io.Error.{Error}
 use Rattle.imagesize_source.specs.declared.error.ImageError.TheVariants.{IoError}
 use Rattle.imagesize_source.specs.declared.error.Reason.TheVariants.{Fault}
+use Rattle.imagesize_source.specs.declared.source.parts.Missing.{Missing}
 use Rattle.imagesize_source.specs.declared.span.Span.{Span}
 use Rattle.imagesize_source.specs.declared.text.Text.{Text}
 use Rattle.imagesize_source.specs.declared.text.Text.TheVariants.{Line, Word}
@@ -18,9 +19,9 @@ use Rattle.imagesize_source.specs.Agreement.{Agrees, is_covered, has_place}
 use Rattle.imagesize_source.specs.Input.{part, span_at, span_of}
 use Rattle.imagesize_source.specs.Known.{AllKnown, HasParts, byte_of, bytes_of, filled, known, parts_state, reaches, within}
 use Rattle.imagesize_source.specs.Reading.{Reads, part_read, text_part, text_read}
-use Rattle.imagesize_source.specs.State.{State, Runs, IsSound, state_after, places_in}
+use Rattle.imagesize_source.specs.State.{State, Runs, IsSound, state_after}
 use Rattle.imagesize_source.specs.Text.{is_ended, text_front}
-use Rattle.imagesize_source.proofs.Agreement.{places-span, range_split}
+use Rattle.imagesize_source.proofs.Agreement.{span-some}
 use Rattle.imagesize_source.proofs.Runs.{part_length}
 use Rattle.imagesize_source.proofs.Texts.{front_all, front_any, front_first, front_length, front_more, front_take}
 
@@ -157,14 +158,14 @@ unknown_free d n spans bytes place has below none = by_test (is_covered spans pl
 
 -- ---- readings
 
-past-parts : (n : ℕ) (spans : List Span) (bytes : List ℕ) (log : List Span) (missed : Option Span) (more : List Span)
+past-parts : (n : ℕ) (spans : List Span) (bytes : List ℕ) (log : List Span) (missed : Option Missing) (more : List Span)
     → state_after (parts_state n spans bytes log missed) more ≡ parts_state n spans bytes (log ++ more) missed
 unfolding state_after
 past-parts n spans bytes log missed [] = ap (λ s. parts_state n spans bytes s missed) (sym (append-nil log))
 past-parts n spans bytes log missed (s ∷ more) = past-parts n spans bytes (log ++ s ∷ []) missed more
     ∙ ap (λ t. parts_state n spans bytes t missed) (append_assoc log (s ∷ []) more)
 
-pub parts_sound : (n : ℕ) (spans : List Span) (bytes : List ℕ) (log : List Span) (missed : Option Span)
+pub parts_sound : (n : ℕ) (spans : List Span) (bytes : List ℕ) (log : List Span) (missed : Option Missing)
     → IsSound (parts_state n spans bytes log missed)
 parts_sound n spans bytes log missed = λ honest.
     let long = length-filled n spans bytes in (sym long, grind (arith, nat_tests))
@@ -207,7 +208,7 @@ goes_behind t xs ys still some = by_length (cases_lt (length xs) m) where
   by_length (inl less) = less
   by_length (inr few) = by_end (is_ended t (xs ++ ys)) refl few
 
-module _ (n : ℕ) (spans : List Span) (bytes : List ℕ) (log : List Span) (missed : Option Span) where
+module _ (n : ℕ) (spans : List Span) (bytes : List ℕ) (log : List Span) (missed : Option Missing) where
   -- a reading that was answered
   answers : {X : Type 0} (reads : Reads X) (b : State) (x : X) → b ≡ parts_state n spans bytes (log ++ reads.marks) missed
       → reads.answer ≡ Ok x → Runs (parts_state n spans bytes log missed) b (Ok x) reads
@@ -225,20 +226,31 @@ module _ (n : ℕ) (spans : List Span) (bytes : List ℕ) (log : List Span) (mis
   })
 
   -- one that misses a byte
-  fails : {X : Type 0} (reads : Reads X) (b : State) (f : Error) (w : Span) (made : List Span) (rest : List ℕ)
-      → b ≡ parts_state n spans bytes (log ++ made) (Some w) → places_in reads.marks ≡ places_in made ++ w.start ∷ rest
+  fails : {X : Type 0} (reads : Reads X) (b : State) (f : Error) (w : Missing) (place m : ℕ)
+      → b ≡ parts_state n spans bytes (log ++ span_at place (w.start - place)) (Some w) → reads.marks ≡ span_at place m → 0 < m
+      → place ≤ w.start → w.start + w.sure ≤ place + m
       → Runs (parts_state n spans bytes log missed) b (Err (IoError (Fault f))) reads
-  fails {X} reads b f w made rest after places = subst (λ s. Runs (parts_state n spans bytes log missed) s (Err (IoError (Fault f))) reads)
+  fails {X} reads b f w place m after marks some behind within = subst (λ s. Runs (parts_state n spans bytes log missed) s (Err (IoError (Fault f))) reads)
       (sym after) (record {
         sound = parts_sound n spans bytes log missed;
-        sound_after = parts_sound n spans bytes (log ++ made) (Some w);
+        sound_after = parts_sound n spans bytes (log ++ span_at place (w.start - place)) (Some w);
         frame = refl;
         taken = omega arith;
         within = λ honest. omega arith;
         answer = λ honest goes_on. absurd cc;
         state = λ honest goes_on. absurd cc;
         fault = λ honest faults. refl;
-        misses = λ honest faults. record { told = record { made = made; rest = rest; recorded = refl; places = places } };
+        misses = λ honest faults. record {
+          told = record {
+            made = [];
+            mark = record { start = place; len = m };
+            rest = [];
+            recorded = refl;
+            all = marks ∙ span-some place m some;
+            behind = behind;
+            within = within;
+          };
+        };
         ended = record { budget = tt; memory = λ is. absurd cc };
       })
 
@@ -260,14 +272,17 @@ module _ (n : ℕ) (spans : List Span) (bytes : List ℕ) (log : List Span) (mis
       (after ∙ ap (λ s. parts_state n spans bytes (log ++ s) missed) (sym (span_is place (length room) found (same ∙ long))))
       (ap Ok (part_whole (filled n spans bytes) place (length room) found (wanted_is place (length room) found (same ∙ long)) ∙ sym copied))
 
-  pub parts_missing : (b : State) (f : Error) (k place wanted found : ℕ) (w : Span) → wanted ≡ min k (n - place) → found < wanted
-      → w.start ≡ place + found → b ≡ parts_state n spans bytes (log ++ span_at place found) (Some w)
+  -- what was found is what lies before the missing byte
+  found_before : (place found : ℕ) (w : Missing) → w.start ≡ place + found → found ≡ w.start - place
+  found_before place found w at = omega (arith, at)
+
+  pub parts_missing : (b : State) (f : Error) (k place wanted found : ℕ) (w : Missing) → wanted ≡ min k (n - place) → found < wanted
+      → w.start ≡ place + found → w.sure ≡ wanted - found → b ≡ parts_state n spans bytes (log ++ span_at place found) (Some w)
       → Runs {X = List ℕ} (parts_state n spans bytes log missed) b (Err (IoError (Fault f))) (part_read (filled n spans bytes) place k)
-  parts_missing b f k place wanted found w long short at after =
-      fails (part_read (filled n spans bytes) place k) b f w (span_at place found) (range_with_len (place + found + 1) (wanted - found - 1)) after
-      (ap places_in (span_is place k wanted long) ∙ places-span place wanted ∙ range_split place wanted found short
-      ∙ ap (λ ps. ps ++ (place + found) ∷ range_with_len (place + found + 1) (wanted - found - 1)) (sym (places-span place found))
-      ∙ ap (λ p. places_in (span_at place found) ++ p ∷ range_with_len (place + found + 1) (wanted - found - 1)) (sym at))
+  parts_missing b f k place wanted found w long short at sure after =
+      fails (part_read (filled n spans bytes) place k) b f w place wanted
+      (after ∙ ap (λ i. parts_state n spans bytes (log ++ span_at place i) (Some w)) (found_before place found w at))
+      (span_is place k wanted long) (omega (arith, short)) (omega (arith, at)) (omega (arith, at, sure, short))
 
   -- the text that a reading has, by its bytes so far
   whole_text : (place k wanted found : ℕ) → wanted ≡ min k (n - place) → found ≤ wanted
@@ -312,13 +327,13 @@ module _ (n : ℕ) (spans : List Span) (bytes : List ℕ) (log : List Span) (mis
       (after ∙ ap (λ k. parts_state n spans bytes (log ++ span_at place k) missed) (counts ∙ ap length (sym is)))
       (ap Ok (is ∙ sym got))
 
-  pub parts_text_missing : (b : State) (f : Error) (t : Text) (room : List ℕ) (place k wanted found : ℕ) (w : Span)
+  pub parts_text_missing : (b : State) (f : Error) (t : Text) (room : List ℕ) (place k wanted found : ℕ) (w : Missing)
       → wanted ≡ min k (n - place) → found ≤ wanted → take found room ≡ part (filled n spans bytes) place found
       → leb (suc found) wanted && not (is_ended t (take found room)) ≡ true → w.start ≡ place + found
-      → b ≡ parts_state n spans bytes (log ++ span_at place found) (Some w)
+      → w.sure ≡ 1 → b ≡ parts_state n spans bytes (log ++ span_at place found) (Some w)
       → Runs {X = List ℕ} (parts_state n spans bytes log missed) b (Err (IoError (Fault f))) (text_read (filled n spans bytes) t place k)
   unfolding text_part
-  parts_text_missing b f t room place k wanted found w long fits copied cut at after =
+  parts_text_missing b f t room place k wanted found w long fits copied cut at sure after =
       let d : List ℕ = filled n spans bytes in
       let bs : List ℕ = part d place found in
       let short : found < wanted = cut_short (is_ended t (take found room)) cut in
@@ -334,10 +349,9 @@ module _ (n : ℕ) (spans : List Span) (bytes : List ℕ) (log : List Span) (mis
         ap (λ xs. length (text_front t xs)) (whole_text place k wanted found long fits),
       ) in
       let m : ℕ = length (text_front t (part d place k)) in
-      fails (text_read d t place k) b f w (span_at place found) (range_with_len (place + found + 1) (m - found - 1)) after
-      (places-span place m ∙ range_split place m found behind
-      ∙ ap (λ ps. ps ++ (place + found) ∷ range_with_len (place + found + 1) (m - found - 1)) (sym (places-span place found))
-      ∙ ap (λ p. places_in (span_at place found) ++ p ∷ range_with_len (place + found + 1) (m - found - 1)) (sym at))
+      fails (text_read d t place k) b f w place m
+      (after ∙ ap (λ i. parts_state n spans bytes (log ++ span_at place i) (Some w)) (found_before place found w at))
+      refl (omega (arith, behind)) (omega (arith, at)) (omega (arith, at, sure, behind))
     where
       cut_short : (is : Bool) → leb (suc found) wanted && not is ≡ true → found < wanted
       cut_short true cut = absurd (grind (arith, nat_tests))
@@ -350,7 +364,7 @@ module _ (n : ℕ) (spans : List Span) (bytes : List ℕ) (log : List Span) (mis
 
 -- ---- as the code has them
 
-pub state_is : (n m : ℕ) (spans others : List Span) (bytes content : List ℕ) (log more : List Span) (missed also : Option Span) → m ≡ n
+pub state_is : (n m : ℕ) (spans others : List Span) (bytes content : List ℕ) (log more : List Span) (missed also : Option Missing) → m ≡ n
     → others ≡ spans → content ≡ bytes → more ≡ log → also ≡ missed → parts_state m others content more also ≡ parts_state n spans bytes log missed
 state_is n m spans others bytes content log more missed also told is_spans is_bytes is_log is_missed =
     ap (λ x. parts_state x others content more also) told ∙ ap (λ x. parts_state n x content more also) is_spans

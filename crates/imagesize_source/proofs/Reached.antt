@@ -6,11 +6,11 @@ use Rattle.imagesize_source.specs.declared.span.Span.{Span}
 use Rattle.imagesize_source.specs.Chain.{Decided, Next, Chain, Along, next_record, chain_from, Advances}
 use Rattle.imagesize_source.specs.Layout.{Layout, layout_reads, bind}
 use Rattle.imagesize_source.specs.Reading.{Reads, and_then, go_on, put_behind, gives, is_stopped, is_faulted}
-use Rattle.imagesize_source.specs.State.{State, Runs, EndedBy, Missed, IsSound, places_in, total, state_after}
+use Rattle.imagesize_source.specs.State.{State, Runs, EndedBy, Missed, IsSound, total, state_after}
 use Rattle.imagesize_source.proofs.Chains.{chain_unfolds, follows}
 use Rattle.imagesize_source.proofs.Marks.{behind-behind}
 use Rattle.imagesize_source.proofs.Layouts.{over-bind}
-use Rattle.imagesize_source.proofs.Runs.{missed_as, missed_behind, past-past, past-held, past-recorded, places-append, places_onward, total-append, runs_then, runs_refused}
+use Rattle.imagesize_source.proofs.Runs.{marks_onward, missed_before, missed_behind, past-past, past-held, past-recorded, total-append, runs_then, runs_refused}
 
 -- From a on a run was to make the readings `whole`, and has made some of them; what is left from b on is `rest`.
 pub record Reached {X : Type 0} (a b : State) (whole rest : Reads X) : Type 0 where
@@ -87,7 +87,7 @@ module _ {X : Type 0} {a b : State} {whole rest : Reads X} (h : Reached a b whol
   -- a run that ends with what was left, or is ended by a refusal on the way
   ended_by : {end : State} {Y : Type 0} (r : Result X ImageError) (s : Result Y ImageError) (given : Reads Y) → Runs b end s given
       → is_stopped s ≡ is_stopped r → is_faulted s ≡ is_faulted r → IfErr r (EndedBy end)
-      → (a.held.honest ≡ true → (more : List ℕ) × (places_in rest.marks ≡ places_in given.marks ++ more))
+      → (a.held.honest ≡ true → (more : List Span) × (rest.marks ≡ given.marks ++ more))
       → (a.held.honest ≡ true → total given.marks ≤ total rest.marks) → (a.held.honest ≡ true → given.answer ≡ s
       → (rest.answer ≡ r) × (rest.marks ≡ given.marks)) → Runs a end r whole
   ended_by {end} r s given run stops faults ended first within same = record {
@@ -110,16 +110,9 @@ module _ {X : Type 0} {a b : State} {whole rest : Reads X} (h : Reached a b whol
         let more = first honest in
         let here : Missed a end (h.made ++ given.marks) = missed_behind a b end h.made given.marks
         (ap (λ s. s.recorded) (h.state honest) ∙ past-recorded a h.made) (run.misses (still_honest honest) (faults ∙ faulty)) in
-        let all : places_in whole.marks ≡ places_in (h.made ++ given.marks) ++ more.0 =
-        ap (λ w. places_in w.marks) (h.left honest) ∙ places-append h.made rest.marks ∙ ap (λ ps. places_in h.made ++ ps) more.1
-        ∙ sym (append_assoc (places_in h.made) (places_in given.marks) more.0)
-        ∙ ap (λ ps. ps ++ more.0) (sym (places-append h.made given.marks)) in
-        missed_as a a end (h.made ++ given.marks) whole.marks (λ p is. record {
-          made = is.made;
-          rest = is.rest ++ more.0;
-          recorded = is.recorded;
-          places = all ∙ ap (λ ps. ps ++ more.0) is.places ∙ append_assoc (places_in is.made) (p ∷ is.rest) more.0;
-        }) here;
+        let all : whole.marks ≡ (h.made ++ given.marks) ++ more.0 =
+        ap (λ w. w.marks) (h.left honest) ∙ ap (λ ms. h.made ++ ms) more.1 ∙ sym (append_assoc h.made given.marks more.0) in
+        subst (Missed a end) (sym all) (missed_before a end (h.made ++ given.marks) more.0 here);
     ended = ended;
   }
 
@@ -127,7 +120,7 @@ module _ {X : Type 0} {a b : State} {whole rest : Reads X} (h : Reached a b whol
   pub reached_end : {end : State} (r : Result X ImageError) (given : Reads X) → Runs b end r given
       → (a.held.honest ≡ true → given ≡ rest) → Runs a end r whole
   reached_end r given run same = ended_by r r given run refl refl run.ended
-      (λ honest. ([], ap (λ w. places_in w.marks) (sym (same honest)) ∙ sym (append-nil (places_in given.marks))))
+      (λ honest. ([], ap (λ w. w.marks) (sym (same honest)) ∙ sym (append-nil given.marks)))
       (λ honest. let is = ap (λ w. total w.marks) (same honest) in omega arith)
       (λ honest is. (ap (λ w. w.answer) (sym (same honest)) ∙ is, ap (λ w. w.marks) (sym (same honest))))
 
@@ -162,7 +155,8 @@ module _ {X Y : Type 0} {a b : State} {whole : Reads X} (reads : Reads Y) (f : Y
     pub reached_out : {end : State} (e : ImageError) (given : Reads Y) → Runs b end (Err e) given → (a.held.honest ≡ true → given ≡ reads)
         → Runs a end (Err e) whole
     reached_out e given run same = ended_by h (Err e) (Err e) given run refl refl run.ended
-        (λ honest. subst (λ (w : Reads Y). (more : List ℕ) × (places_in (and_then reads f).marks ≡ places_in w.marks ++ more)) (sym (same honest)) (places_onward reads.marks reads.answer f))
+        (λ honest. subst (λ (w : Reads Y). (more : List Span) × ((and_then reads f).marks ≡ w.marks ++ more)) (sym (same honest))
+        (marks_onward reads.marks reads.answer f))
         (λ honest. let is = ap (λ w. total w.marks) (same honest) in let more = total_onward reads.marks reads.answer f in omega arith)
         (λ honest is.
         let out : go_on reads.marks reads.answer f ≡ record { answer = Err e; marks = given.marks } =
@@ -173,7 +167,8 @@ module _ {X Y : Type 0} {a b : State} {whole : Reads X} (reads : Reads Y) (f : Y
     pub reached_stop : {end : State} (x : X) (y : Y) (given : Reads Y) → f y ≡ gives x → Runs b end (Ok y) given
         → (a.held.honest ≡ true → given ≡ reads) → Runs a end (Ok x) whole
     reached_stop x y given last run same = ended_by h (Ok x) (Ok y) given run refl refl tt
-        (λ honest. subst (λ (w : Reads Y). (more : List ℕ) × (places_in (and_then reads f).marks ≡ places_in w.marks ++ more)) (sym (same honest)) (places_onward reads.marks reads.answer f))
+        (λ honest. subst (λ (w : Reads Y). (more : List Span) × ((and_then reads f).marks ≡ w.marks ++ more)) (sym (same honest))
+        (marks_onward reads.marks reads.answer f))
         (λ honest. let is = ap (λ w. total w.marks) (same honest) in let more = total_onward reads.marks reads.answer f in omega arith)
         (λ honest is.
         let out : go_on reads.marks reads.answer f ≡ put_behind given.marks (gives x) =

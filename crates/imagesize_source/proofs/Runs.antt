@@ -4,14 +4,12 @@ use Rattle.std.proofs.lemmas.List.{length-take, length-drop, take_all, append-ni
 use Rattle.std.proofs.lemmas.Bool.Decides.{nat_tests}
 use Rattle.imagesize_source.specs.declared.error.ImageError.{ImageError}
 use Rattle.imagesize_source.specs.declared.span.Span.{Span}
-use Rattle.imagesize_source.specs.declared.util.Endian.{Endian}
-use Rattle.imagesize_source.specs.Input.{part, span_of}
+use Rattle.imagesize_source.specs.declared.endian.Endian.{Endian}
+use Rattle.imagesize_source.specs.Input.{part, span_at, span_of}
 use Rattle.imagesize_source.specs.Numbers.{number}
 use Rattle.imagesize_source.specs.Reading.{Reads, go_on, put_behind, and_then, bytes_at, number_at, part_read, bytes_read, number_read, map_answer, is_stopped, is_faulted, end_of_input}
-use Rattle.std.proofs.lemmas.Grind.{flat_map-append}
 use Rattle.std.specs.Prelude.{Option, None, Some, IfSome, IsSomeAnd, option_map}
-use Rattle.std.specs.List.{range_with_len}
-use Rattle.imagesize_source.specs.State.{State, Held, Runs, EndedBy, Misses, Missed, places_in, total, state_after, step}
+use Rattle.imagesize_source.specs.State.{State, Held, Runs, EndedBy, Misses, Missed, total, state_after, step}
 
 -- the same readings, answered otherwise where nothing stopped them
 pub answered : {X Y : Type 0} {a b : State} {x : X} {reads : Reads X} (r : Result Y ImageError) (other : Reads Y) → Runs a b (Ok x) reads
@@ -124,40 +122,42 @@ past-recorded a [] = none_more a.recorded where
   none_more (Some spans) = ap Some (sym (append-nil spans))
 past-recorded a (x ∷ s) = past-recorded (step a x) s ∙ one_more a.recorded x s
 
-pub places-append : (s t : List Span) → places_in (s ++ t) ≡ places_in s ++ places_in t
-places-append s t = flat_map-append (λ (x : Span). range_with_len x.start x.len) s t
-
 -- what was missed in some spans' readings was missed in those of others
-pub missed_as : (a m b : State) (marks others : List Span) → ((p : ℕ) → Misses m b marks p → Misses a b others p) → Missed m b marks
+pub missed_as : (a m b : State) (marks others : List Span) → ((s : Span) → Misses m b marks s → Misses a b others s) → Missed m b marks
     → Missed a b others
 missed_as a m b marks others same h = record { told = by_told b.missed h.told } where
-  by_place : (o : Option ℕ) → IsSomeAnd o (Misses m b marks) → IsSomeAnd o (Misses a b others)
-  by_place None none = none
-  by_place (Some p) is = same p is
+  by_span : (o : Option Span) → IsSomeAnd o (Misses m b marks) → IsSomeAnd o (Misses a b others)
+  by_span None none = none
+  by_span (Some s) is = same s is
 
-  by_told : (o : Option (Option ℕ)) → IfSome o (λ x. IsSomeAnd x (Misses m b marks)) → IfSome o (λ x. IsSomeAnd x (Misses a b others))
+  by_told : (o : Option (Option Span)) → IfSome o (λ x. IsSomeAnd x (Misses m b marks)) → IfSome o (λ x. IsSomeAnd x (Misses a b others))
   by_told None none = tt
-  by_told (Some o) is = by_place o is
+  by_told (Some o) is = by_span o is
 
 -- behind other readings, and before others
 pub missed_behind : (a m b : State) (before marks : List Span) → m.recorded ≡ option_map (λ spans. spans ++ before) a.recorded
     → Missed m b marks → Missed a b (before ++ marks)
-missed_behind a m b before marks past_before h = missed_as a m b marks (before ++ marks) (λ p is. record {
-  made = before ++ is.made;
-  rest = is.rest;
-  recorded = is.recorded ∙ ap (option_map (λ spans. spans ++ is.made)) past_before ∙ both a.recorded before is.made;
-  places = places-append before marks ∙ ap (λ ps. places_in before ++ ps) is.places
-      ∙ sym (append_assoc (places_in before) (places_in is.made) (p ∷ is.rest))
-      ∙ ap (λ ps. ps ++ p ∷ is.rest) (sym (places-append before is.made));
-}) h
+missed_behind a m b before marks past_before h = missed_as a m b marks (before ++ marks) (λ s is.
+    let part : List Span = span_at is.mark.start (s.start - is.mark.start) in record {
+      made = before ++ is.made;
+      mark = is.mark;
+      rest = is.rest;
+      recorded = is.recorded ∙ ap (option_map (λ spans. spans ++ (is.made ++ part))) past_before ∙ both a.recorded before (is.made ++ part)
+          ∙ ap (λ (more : List Span). option_map (λ spans. spans ++ more) a.recorded) (sym (append_assoc before is.made part));
+      all = ap (λ ms. before ++ ms) is.all ∙ sym (append_assoc before is.made (is.mark ∷ is.rest));
+      behind = is.behind;
+      within = is.within;
+    }) h
 
 pub missed_before : (a b : State) (marks more : List Span) → Missed a b marks → Missed a b (marks ++ more)
-missed_before a b marks more h = missed_as a a b marks (marks ++ more) (λ p is. record {
+missed_before a b marks more h = missed_as a a b marks (marks ++ more) (λ s is. record {
   made = is.made;
-  rest = is.rest ++ places_in more;
+  mark = is.mark;
+  rest = is.rest ++ more;
   recorded = is.recorded;
-  places = places-append marks more ∙ ap (λ ps. ps ++ places_in more) is.places
-      ∙ append_assoc (places_in is.made) (p ∷ is.rest) (places_in more);
+  all = ap (λ ms. ms ++ more) is.all ∙ append_assoc is.made (is.mark ∷ is.rest) more;
+  behind = is.behind;
+  within = is.within;
 }) h
 
 pub past-held : (a : State) (s : List Span) → (state_after a s).held ≡ a.held
@@ -182,10 +182,10 @@ missed_first a b spans (Ok x) f h = missed_before a b spans (f x).marks h
 missed_first a b spans (Err e) f h = h
 
 -- the spans of the readings before are the first of the whole
-pub places_onward : {X Y : Type 0} (spans : List Span) (r : Result Y ImageError) (f : Y → Reads X)
-    → (more : List ℕ) × (places_in (go_on spans r f).marks ≡ places_in spans ++ more)
-places_onward spans (Ok y) f = (places_in (f y).marks, places-append spans (f y).marks)
-places_onward spans (Err e) f = ([], sym (append-nil (places_in spans)))
+pub marks_onward : {X Y : Type 0} (spans : List Span) (r : Result Y ImageError) (f : Y → Reads X)
+    → (more : List Span) × ((go_on spans r f).marks ≡ spans ++ more)
+marks_onward spans (Ok y) f = ((f y).marks, refl)
+marks_onward spans (Err e) f = ([], sym (append-nil spans))
 
 pub ruleset steps = (past-past, past-none, total-append, append-nil, past-held, missed_past, missed_first)
 

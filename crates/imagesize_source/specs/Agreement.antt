@@ -1,8 +1,8 @@
 -- When one input cannot be told from another by the bytes at some places.
 use Rattle.std.specs.Prelude.{◌≡◌, ℕ, ◌+◌, Bool, true, false, ◌&&◌, ◌||◌, ◌⊎◌, List, [], ◌∷◌, ◌++◌, length, slice_index, nat_le, nat_lt}
+use Rattle.std.specs.List.{list_any}
 use Rattle.imagesize_source.specs.declared.span.Span.{Span}
 use Rattle.imagesize_source.specs.Reading.{Reads}
-use Rattle.imagesize_source.specs.State.{places_in}
 
 -- a span has the places from its start on, as many as it is long
 abbrev pub has_place : Span → ℕ → Bool
@@ -18,21 +18,32 @@ pub record Agrees (d e : List ℕ) (spans : List Span) : Type 0 where
   pub as_long : length e ≡ length d
   pub same_byte : (place : ℕ) → is_covered spans place ≡ true → slice_index e place ≡ slice_index d place
 
--- Where two inputs part: some readings of each see the same places up to one at which the inputs differ.
-pub record Parting (d e : List ℕ) (s t : List Span) : Type 0 where
-  pub seen : List ℕ
+-- some span has the whole of this one
+abbrev pub has_whole : List Span → Span → Bool
+has_whole spans w = list_any (λ s. nat_le s.start w.start && nat_le (w.start + w.len) (s.start + s.len)) spans
+
+-- Where two inputs part: some readings of each have the same spans up to one of each, from one place on, and the inputs
+-- differ at a place of both. Where no texts are read, the two are one span.
+pub record Parting (texts : Bool) (d e : List ℕ) (s t : List Span) : Type 0 where
+  pub seen : List Span
+  pub mark : Span
+  pub other : Span
+  pub rest : List Span
+  pub others : List Span
+  pub here : s ≡ seen ++ mark ∷ rest
+  pub there : t ≡ seen ++ other ∷ others
+  pub start : other.start ≡ mark.start
+  pub same : texts ≡ false → other ≡ mark
   pub place : ℕ
-  pub rest : List ℕ
-  pub others : List ℕ
-  pub here : places_in s ≡ seen ++ place ∷ rest
-  pub there : places_in t ≡ seen ++ place ∷ others
+  pub within : has_place mark place ≡ true
+  pub also : has_place other place ≡ true
   pub differs : slice_index e place ≡ slice_index d place → ⊥
 
 -- the same answer with the same marks, or the inputs part
-abbrev pub Alike : {X : Type 0} → List ℕ → List ℕ → Reads X → Reads X → Type 0
-Alike d e p q = (q ≡ p) ⊎ Parting d e p.marks q.marks
+abbrev pub Alike : {X : Type 0} → Bool → List ℕ → List ℕ → Reads X → Reads X → Type 0
+Alike texts d e p q = (q ≡ p) ⊎ Parting texts d e p.marks q.marks
 
--- Readings see an input by their marks alone, one behind another: of two inputs as long they have the same answer and
--- marks, or see the same places up to one at which these differ.
-abbrev pub IsLocal : {X : Type 0} → (List ℕ → Reads X) → Type 0
-IsLocal r = (d e : List ℕ) → length e ≡ length d → Alike d e (r d) (r e)
+-- Readings, with texts or without, see an input by their marks alone, one behind another: of two inputs as long they have
+-- the same answer and marks, or these part.
+abbrev pub IsLocal : {X : Type 0} → Bool → (List ℕ → Reads X) → Type 0
+IsLocal texts r = (d e : List ℕ) → length e ≡ length d → Alike texts d e (r d) (r e)

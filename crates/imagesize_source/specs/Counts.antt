@@ -10,21 +10,27 @@ use Rattle.imagesize_source.specs.Reading.{Reading, AllOf, PartOf, TextOf, most}
 abbrev pub places : ℕ → List Span → ℕ
 places n spans = count_by (is_covered spans) (range_with_len 0 n)
 
--- the layout asks for at most k bytes in all, whatever its readings answer
+-- what is owed of a reading that is not of a text
+abbrev pub IfBytes : Reading → Type 0 → Type 0
+IfBytes (AllOf k) P = P
+IfBytes (PartOf k) P = P
+IfBytes (TextOf t k) P = ⊥
+
+-- the layout asks for at most k bytes in all and for no text, whatever its readings answer
 abbrev pub AtMost : {X : Type 0} → ℕ → Layout X → Type 0
 AtMost k (done x) = Unit {0}
 AtMost k (refuse e) = Unit {0}
 AtMost k (field order place n f) = (n ≤ k) × ((v : ℕ) → AtMost (k - n) (f v))
-AtMost k (reading r place f) = (most r ≤ k) × ((bs : List ℕ) → AtMost (k - most r) (f bs))
+AtMost k (reading r place f) = IfBytes r ((most r ≤ k) × ((bs : List ℕ) → AtMost (k - most r) (f bs)))
 
 -- what is owed of a reading that may be refused, where it is and where it is answered
 abbrev pub IfRefused : Reading → Type 0 → Type 0 → Type 0
 IfRefused (AllOf k) P Q = P × Q
 IfRefused (PartOf k) P Q = Q
-IfRefused (TextOf t k) P Q = Q
+IfRefused (TextOf t k) P Q = ⊥
 
 -- By its answer: behind u bytes, the layout asks for at most f x bytes in all where it answers x, and at most e
--- where it is refused.
+-- where it is refused; and it asks for no text.
 abbrev pub CostsBy : {X : Type 0} → (X → ℕ) → ℕ → ℕ → Layout X → Type 0
 CostsBy f e u (done x) = u ≤ f x
 CostsBy f e u (refuse r) = u ≤ e

@@ -2,6 +2,7 @@
 use Rattle.std.specs.Prelude.{◌≡◌, ℕ, ◌+◌, ◌-◌, ◌^◌, ◌<◌, ◌≤◌, min, Bool, true, false, ◌&&◌, List, [], ◌∷◌, length, drop, map, slice_index, nat_le, nat_lt, if◌then◌else◌, Option, None, Some, is_some, option_map}
 use Rattle.std.specs.Prelude.{unwrap_or, flat_map}
 use Rattle.std.specs.List.{range_with_len}
+use Rattle.imagesize_source.specs.declared.source.parts.Missing.{Missing}
 use Rattle.imagesize_source.specs.declared.span.Span.{Span}
 use Rattle.imagesize_source.specs.Agreement.{is_covered}
 use Rattle.imagesize_source.specs.Input.{part}
@@ -42,16 +43,20 @@ abbrev pub AllKnown : ℕ → List Span → List ℕ → List Span → Type 0
 AllKnown n spans bytes seen = (place : ℕ) → is_covered seen place ≡ true → is_some (known n spans bytes place) ≡ true
 
 -- what is missed lies within the input, and its first byte is not known
-abbrev pub Lacks : ℕ → List Span → List ℕ → Span → Type 0
-Lacks n spans bytes w = (0 < w.len) × (w.start + w.len ≤ n) × (is_some (known n spans bytes w.start) ≡ false)
+abbrev pub Lacks : ℕ → List Span → List ℕ → Missing → Type 0
+Lacks n spans bytes m = (0 < m.sure) × (m.sure ≤ m.most) × (m.start + m.most ≤ n) × (is_some (known n spans bytes m.start) ≡ false)
+
+-- what is surely read of it
+abbrev pub sure_of : Missing → Span
+sure_of m = record { start = m.start; len = m.sure }
 
 -- the known parts as a source: it counts nothing, and what it misses is a failure
-abbrev pub parts_state : ℕ → List Span → List ℕ → List Span → Option Span → State
+abbrev pub parts_state : ℕ → List Span → List ℕ → List Span → Option Missing → State
 parts_state n spans bytes seen missed = record {
   frame = record { told = n; budget = 0; counts = false; records = false; home = 0; since = None; parts = Some (spans, bytes) };
   held = record { honest = nat_lt n (2 ^ 63); input = filled n spans bytes; can_fail = true };
   front = 0;
   taken = 0;
   recorded = Some seen;
-  missed = Some (option_map (λ w. w.start) missed);
+  missed = Some (option_map sure_of missed);
 }

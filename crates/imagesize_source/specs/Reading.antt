@@ -5,7 +5,7 @@ use Rattle.imagesize_source.specs.declared.error.ImageError.TheVariants.{NotSupp
 use Rattle.imagesize_source.specs.declared.error.Reason.TheVariants.{EndOfInput, Fault, BudgetSpent, Memory}
 use Rattle.imagesize_source.specs.declared.span.Span.{Span}
 use Rattle.imagesize_source.specs.declared.text.Text.{Text}
-use Rattle.imagesize_source.specs.declared.util.Endian.{Endian}
+use Rattle.imagesize_source.specs.declared.endian.Endian.{Endian}
 use Rattle.imagesize_source.specs.Input.{part, span_at, span_of}
 use Rattle.imagesize_source.specs.Numbers.{number}
 use Rattle.imagesize_source.specs.Text.{text_front}

@@ -1,6 +1,6 @@
 -- What stands behind a source of bytes, and what readings do to it.
-use Rattle.std.specs.Prelude.{◌≡◌, ℕ, ◌+◌, ◌-◌, ◌^◌, ◌<◌, ◌≤◌, min, max, Bool, true, false, List, [], ◌∷◌, ◌++◌, length, nat_le, if◌then◌else◌, Option, None, Some, Result, IfErr, IfSome, IsSomeAnd, option_map, flat_map}
-use Rattle.std.specs.List.{range_with_len}
+use Rattle.std.specs.Prelude.{◌≡◌, ℕ, ◌+◌, ◌-◌, ◌^◌, ◌<◌, ◌≤◌, min, max, Bool, true, false, List, [], ◌∷◌, ◌++◌, length, nat_le, if◌then◌else◌, Option, None, Some, Result, IfErr, IfSome, IsSomeAnd, option_map}
+use Rattle.imagesize_source.specs.Input.{span_at}
 use Rattle.imagesize_source.specs.Limits.{most_held}
 use Rattle.imagesize_source.specs.declared.error.ImageError.{ImageError}
 use Rattle.imagesize_source.specs.declared.span.Span.{Span}
@@ -25,14 +25,14 @@ pub record Held : Type 0 where
   pub can_fail : Bool
 
 -- A source as a whole: how many of its first bytes it holds, how many bytes it has taken, the spans that it
--- has recorded, and, of a source that tells it, the place of the byte that its last failed reading missed.
+-- has recorded, and, of a source that tells it, what its last failed reading missed.
 pub record State : Type 0 where
   pub frame : Frame
   pub held : Held
   pub front : ℕ
   pub taken : ℕ
   pub recorded : Option (List Span)
-  pub missed : Option (Option ℕ)
+  pub missed : Option (Option Span)
 
 -- how many of n bytes from a place on lie behind the first `front`
 abbrev pub new_bytes : ℕ → ℕ → ℕ → ℕ
@@ -70,16 +70,16 @@ pub record EndedBy (b : State) (e : ImageError) : Type 0 where
   pub budget : IfSome (spent e) (λ n. (b.frame.counts ≡ true) × (n ≡ b.frame.budget) × (n ≡ b.taken))
   pub memory : is_memory e ≡ true → (b.frame.records ≡ true) × (0 < length b.held.input)
 
--- the places of the spans, in their order
-abbrev pub places_in : List Span → List ℕ
-places_in spans = flat_map (λ s. range_with_len s.start s.len) spans
-
--- A failed call made the first of these spans' readings, has seen their places up to this one, and missed it.
-pub record Misses (a b : State) (marks : List Span) (place : ℕ) : Type 0 where
+-- A failed call made the first of these spans' readings, saw the next one's bytes up to what it missed, which lies whole
+-- in that span.
+pub record Misses (a b : State) (marks : List Span) (missed : Span) : Type 0 where
   pub made : List Span
-  pub rest : List ℕ
-  pub recorded : b.recorded ≡ option_map (λ spans. spans ++ made) a.recorded
-  pub places : places_in marks ≡ places_in made ++ place ∷ rest
+  pub mark : Span
+  pub rest : List Span
+  pub recorded : b.recorded ≡ option_map (λ spans. spans ++ (made ++ span_at mark.start (missed.start - mark.start))) a.recorded
+  pub all : marks ≡ made ++ mark ∷ rest
+  pub behind : mark.start ≤ missed.start
+  pub within : missed.start + missed.len ≤ mark.start + mark.len
 
 -- where the source tells what it missed
 pub record Missed (a b : State) (marks : List Span) : Type 0 where

@@ -9,7 +9,7 @@ use Rattle.imagesize_types.specs.declared.size.ImageSize.{ImageSize}
 use Rattle.imagesize_source.specs.declared.error.ImageError.{ImageError}
 use Rattle.imagesize_source.specs.declared.error.ImageError.TheVariants.{IoError}
 use Rattle.imagesize_source.specs.declared.error.Reason.TheVariants.{DataWindowNotFound}
-use Rattle.imagesize_source.specs.declared.util.Endian.TheVariants.{Little}
+use Rattle.imagesize_source.specs.declared.endian.Endian.TheVariants.{Little}
 use Rattle.imagesize_source.specs.Agreement.{IsLocal}
 use Rattle.imagesize_source.specs.Chain.{Said, Decided, Next, Advances, chain_at, start, count_behind, records}
 use Rattle.imagesize_source.specs.Counts.{AtMost}
@@ -23,7 +23,7 @@ use Rattle.imagesize_source.proofs.Advances.{Tells, advances}
 use Rattle.imagesize_source.proofs.Ahead.{Ahead, chain_ahead}
 use Rattle.imagesize_source.proofs.ChainLaws.{local_chain, lasts_chain, chain_cost_from}
 use Rattle.imagesize_source.proofs.Counts.{at_most, at_most_more, then_within, total-span_of}
-use Rattle.imagesize_source.proofs.Agreement.{local_then, local_number}
+use Rattle.imagesize_source.proofs.Agreement.{local_then, local_number, with_texts}
 use Rattle.imagesize_source.proofs.Numbers.{little_4}
 use Rattle.imagesize_source.proofs.Runs.{total-append}
 use Rattle.imagesize_source.proofs.Spends.{said_to}
@@ -98,9 +98,10 @@ attribute_advances room = advances (exr_attributes room)
     (omega arith)))))
     (λ passed place. line_begins 0 place room (exr_named room place) place (omega arith))
 
-pub exr_local : IsLocal exr
+pub exr_local : IsLocal true exr
 exr_local = local_then (λ d. number_read d Little 4 4) (λ version d. chain_at (exr_attributes (name_room version)) d)
-    (local_number Little 4 4) (λ version. local_chain (exr_attributes (name_room version)) (attribute_advances (name_room version)))
+    (local_number Little 4 4) (λ version. local_chain (exr_attributes (name_room version)) (attribute_advances (name_room version))
+    (λ passed place. with_texts ((exr_attributes (name_room version)).said passed place)))
 
 -- bytes behind an EXR change no answer that was given, nor its marks
 pub exr_keeps : Lasts exr
@@ -188,7 +189,7 @@ cost_by d (Err e) = let first = total-span_of d 4 4 in omega arith
 pub exr_cost : (d : List ℕ) → total (exr d).marks ≤ 4 + 530 * attributes_begun d
 exr_cost d = cost_by d (number_at d Little 4 4)
 
-pub exr_laws : RecordedLaws 12 16 530 true exr attributes_begun
+pub exr_laws : RecordedLaws 12 16 530 true true exr attributes_begun
 exr_laws = record {
   local = exr_local;
   cost = λ d. omega (arith, exr_cost d);

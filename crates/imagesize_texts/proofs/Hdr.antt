@@ -14,7 +14,7 @@ use Rattle.imagesize_source.specs.State.{State, Runs, total}
 use Rattle.imagesize_source.proofs.Advances.{Tells, advances}
 use Rattle.imagesize_source.proofs.Ahead.{Ahead}
 use Rattle.imagesize_source.proofs.ChainLaws.{local_chain, lasts_chain}
-use Rattle.imagesize_source.proofs.Agreement.{local_then, local_layout}
+use Rattle.imagesize_source.proofs.Agreement.{local_then, local_layout, with_texts}
 use Rattle.imagesize_source.proofs.Extension.{more}
 use Rattle.imagesize_source.proofs.Spends.{Onto, said_to, spends, spends_then, chain_onto}
 use Rattle.imagesize_source.proofs.Tests.{on_test}
@@ -44,9 +44,9 @@ hdr_advances first = advances (hdr_lines first)
     (λ size. tt) (λ e. tt) (omega arith)))
     (λ passed place. line_begins 0x0A place 256 (hdr_line place) place (omega arith))
 
-pub hdr_local : IsLocal hdr
-hdr_local = local_then (λ d. layout_reads d hdr_identifier) (λ first d. chain_at (hdr_lines first) d) (local_layout hdr_identifier)
-    (λ first. local_chain (hdr_lines first) (hdr_advances first))
+pub hdr_local : IsLocal true hdr
+hdr_local = local_then (λ d. layout_reads d hdr_identifier) (λ first d. chain_at (hdr_lines first) d) (local_layout hdr_identifier (with_texts hdr_identifier))
+    (λ first. local_chain (hdr_lines first) (hdr_advances first) (λ passed place. with_texts ((hdr_lines first).said passed place)))
 
 -- bytes behind an HDR change no answer that was given, nor its marks
 pub hdr_keeps : Lasts hdr
@@ -70,7 +70,7 @@ hdr_within d =
     (λ text. by_line (Ahead (place + (length text + 1))) place text (λ size. tt) (λ e. tt) (omega arith)))) in
     omega arith
 
-pub hdr_laws : TextsLaws 12 true hdr
+pub hdr_laws : TextsLaws 12 true true hdr
 hdr_laws = record { local = hdr_local; within = λ d. omega (arith, hdr_within d); lasts = λ _. hdr_lasts }
 
 -- how far a walk has come

@@ -11,6 +11,7 @@ use Rattle.imagesize_source.specs.Reading.{end_of_input}
 use Rattle.imagesize_source.specs.State.{State, Runs, total}
 use Rattle.imagesize_source.proofs.Advances.{Tells, advances}
 use Rattle.imagesize_source.proofs.Ahead.{Ahead, chain_ahead}
+use Rattle.imagesize_source.proofs.Agreement.{with_texts}
 use Rattle.imagesize_source.proofs.ChainLaws.{local_chain, lasts_chain}
 use Rattle.imagesize_source.proofs.Spends.{said_to}
 use Rattle.imagesize_source.proofs.Tests.{on_test}
@@ -47,8 +48,8 @@ pnm_advances = advances pnm_words
     (λ next _. by_size (Tells (λ p. place < p)) (number_text w.text) (number_text (trim next.text)) (λ size. tt) (λ e. tt)))))
     (λ passed place. word_begins place (pnm_word place) place (omega arith))
 
-pub pnm_local : IsLocal pnm
-pnm_local = local_chain pnm_words pnm_advances
+pub pnm_local : IsLocal true pnm
+pnm_local = local_chain pnm_words pnm_advances (λ passed place. with_texts (pnm_words.said passed place))
 
 -- bytes behind a PNM change no answer that was given, nor its marks
 pub pnm_keeps : Lasts pnm
@@ -77,7 +78,7 @@ pnm_within d =
     (λ e. tt))))) in
     omega arith
 
-pub pnm_laws : TextsLaws 12 true pnm
+pub pnm_laws : TextsLaws 12 true true pnm
 pnm_laws = record { local = pnm_local; within = λ d. omega (arith, pnm_within d); lasts = λ _. pnm_lasts }
 
 -- how far a walk has come

@@ -8,10 +8,9 @@ ghost use Rattle.imagesize_texts.specs.Contents.{ended_word, is_word_end, line_l
 ghost use Rattle.imagesize_texts.specs.Texts.{length_read, line_read, read_word_of, word_read};
 ghost use Rattle.imagesize_source.specs.declared.error.ImageError.{ImageError};
 
-use imagesize_source::Text;
-use imagesize_source::halt::{Halt, read_u32};
+use imagesize_source::readings::read_u32;
 use imagesize_source::source::Source;
-use imagesize_source::util::Endian;
+use imagesize_source::{Endian, Halt, Text};
 
 /// A word takes fewer bytes of an input than this.
 pub const WORD_ROOM: usize = 1024;

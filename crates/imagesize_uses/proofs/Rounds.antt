@@ -7,7 +7,7 @@ use Rattle.std.proofs.lemmas.Grind.{flat_map-append}
 use Rattle.std.proofs.lemmas.List.{append-nil}
 use Rattle.std.proofs.lemmas.List.Sums.{sum_by-cons}
 use Rattle.imagesize.specs.Meaning.{meaning}
-use Rattle.imagesize.specs.Parted.{Wants}
+use Rattle.imagesize.specs.Parted.{Wants, texts_of}
 use Rattle.imagesize_source.specs.Agreement.{is_covered, has_place}
 use Rattle.imagesize_source.specs.Counts.{places}
 use Rattle.imagesize_source.specs.Input.{part}
@@ -96,14 +96,14 @@ begun d whole now spans bytes long short none also = record {
 -- what is wanted of the parts, as the call has them
 pub asked : (d : List ℕ) (whole : ℕ) (spans others : List Span) (bytes content : List ℕ) (before now : ℕ) (w : Span)
     → Fetching d whole spans bytes before now → others ≡ spans → content ≡ bytes
-    → (HasParts d whole others content → whole < 2 ^ 63 → Wants (meaning d 0).marks others w) → Wants (meaning d 0).marks spans w
+    → (HasParts d whole others content → whole < 2 ^ 63 → Wants (texts_of d) (meaning d 0).marks others w) → Wants (texts_of d) (meaning d 0).marks spans w
 asked d whole spans others bytes content before now w f same also says =
     let has : HasParts d whole others content = record { as_long = sym f.as_long; bytes = ap (bytes_of d) same ∙ f.content ∙ sym also } in
-    subst (λ s. Wants (meaning d 0).marks s w) same (says has f.short)
+    subst (λ s. Wants (texts_of d) (meaning d 0).marks s w) same (says has f.short)
 
 -- a fetch of what is wanted leaves fewer places that are lacking
 module _ (d : List ℕ) (whole : ℕ) (spans : List Span) (bytes : List ℕ) (before now : ℕ) (w : Span) (f : Fetching d whole spans bytes before now)
-    (says : Wants (meaning d 0).marks spans w) (fits : (0 < w.len) × (w.start + w.len ≤ whole)) where
+    (says : Wants (texts_of d) (meaning d 0).marks spans w) (fits : (0 < w.len) × (w.start + w.len ≤ whole)) where
   pub smaller : (more : List Span) → more ≡ spans ++ w ∷ [] → lacking d more < lacking d spans
   unfolding lacking
   smaller more is =

@@ -13,7 +13,7 @@ use Rattle.imagesize_types.specs.declared.size.ImageSize.{ImageSize}
 use Rattle.imagesize_source.specs.declared.error.ImageError.{ImageError}
 use Rattle.imagesize_source.specs.declared.error.ImageError.TheVariants.{CorruptedImage}
 use Rattle.imagesize_source.specs.declared.halt.Halt.TheVariants.{Corrupted}
-use Rattle.imagesize_source.specs.declared.util.Endian.TheVariants.{Little}
+use Rattle.imagesize_source.specs.declared.endian.Endian.TheVariants.{Little}
 use Rattle.imagesize_source.specs.Agreement.{IsLocal}
 use Rattle.imagesize_source.specs.Chain.{Said, Decided, Next, Along, Advances, start, next_record, records, records_from, verdict, chain_at, count_behind}
 use Rattle.imagesize_source.specs.Counts.{AtMost}
@@ -27,7 +27,7 @@ use Rattle.imagesize_source.proofs.Ahead.{Ahead, chain_ahead}
 use Rattle.imagesize_source.proofs.ChainLaws.{local_chain, chain_cost, chain_induction}
 use Rattle.imagesize_source.proofs.Chains.{records_next, records_stop}
 use Rattle.imagesize_source.proofs.Counts.{then_within, total-span_of}
-use Rattle.imagesize_source.proofs.Agreement.{local_then, local_number}
+use Rattle.imagesize_source.proofs.Agreement.{local_then, local_number, without_texts}
 use Rattle.imagesize_source.proofs.Reached.{runs_bind, refused_bind}
 use Rattle.imagesize_source.proofs.Runs.{total-append}
 use Rattle.imagesize_source.proofs.Tests.{on_test}
@@ -104,10 +104,6 @@ icon_advances count = advances (icon_entries count)
     (λ sizes place. by_count (Begins place) count sizes place
     (by_answer (Begins place) (last_largest sizes) tt (λ size. tt))
     (omega arith, by_answer (Tells (λ _. ⊥)) (last_largest sizes) tt (λ size. tt)))
-
-pub ico_local : IsLocal ico
-ico_local = local_then (λ d. number_read d Little 4 2) (λ count d. chain_at (icon_entries count) d) (local_number Little 4 2)
-    (λ count. local_chain (icon_entries count) (icon_advances count))
 
 entries_within : (count : ℕ) (d : List ℕ) → total (chain_at (icon_entries count) d).marks ≤ length d
 entries_within count d =
@@ -238,28 +234,34 @@ records_few count d =
     (start (icon_entries count)) in
     let all = few (omega arith) in omega arith
 
+-- an entry is read from at most 2 bytes
+entry_at_most : (count : ℕ) (sizes : List ImageSize) (place : ℕ) → AtMost 2 ((icon_entries count).said sizes place)
+entry_at_most count sizes place = by_count (AtMost 2) count sizes place (by_answer (AtMost 2) (last_largest sizes) tt (λ size. tt)) (
+  omega arith,
+  λ bs. by_entry (AtMost 0) sizes place (whole 2 bs) (by_answer (AtMost 0) (last_largest sizes) tt (λ size. tt)) (λ size. tt),
+)
+
+-- what is seen of an input
+pub ico_local : IsLocal false ico
+ico_local = local_then (λ d. number_read d Little 4 2) (λ count d. chain_at (icon_entries count) d) (local_number Little 4 2)
+    (λ count. local_chain (icon_entries count) (icon_advances count)
+    (λ sizes place. without_texts false 2 ((icon_entries count).said sizes place) (entry_at_most count sizes place)))
+
 cost_by : (d : List ℕ) (r : Result ℕ ImageError) → total (go_on (span_of d 4 2) r (λ count. chain_at (icon_entries count) d)).marks ≤ 4
     + 2 * count_behind r (λ count. min count (records (icon_entries count) d))
 cost_by d (Ok count) =
     let all = total-append (span_of d 4 2) (chain_at (icon_entries count) d).marks in
     let first = total-span_of d 4 2 in
     let few = records_few count d in
-    let each = chain_cost (icon_entries count) d (icon_advances count d) 2
-    (λ sizes place. by_count (AtMost 2) count sizes place
-    (by_answer (AtMost 2) (last_largest sizes) tt (λ size. tt)) (
-      omega arith,
-      λ bs. by_entry (AtMost 0) sizes place (whole 2 bs) (by_answer (AtMost 0) (last_largest sizes) tt (λ size. tt))
-          (λ size. tt),
-    )) in
+    let each = chain_cost (icon_entries count) d (icon_advances count d) 2 (entry_at_most count) in
     omega arith
 cost_by d (Err e) = let first = total-span_of d 4 2 in omega arith
 
--- an entry is read from at most 2 bytes
 pub ico_cost : (d : List ℕ) → total (ico d).marks ≤ 4 + 2 * icons_begun d
 ico_cost d = cost_by d (number_at d Little 4 2)
 
 -- the list may go on in bytes that follow
-pub ico_laws : RecordedLaws 12 18 20 false ico icons_begun
+pub ico_laws : RecordedLaws 12 18 20 false false ico icons_begun
 ico_laws = record {
   local = ico_local;
   cost = λ d. omega (arith, ico_cost d);

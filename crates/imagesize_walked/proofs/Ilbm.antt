@@ -1,5 +1,5 @@
 -- ILBM: how a walk along its chunks goes, how many bytes they are read from, and what it sees of an input.
-use Rattle.std.proofs.Common.{ℕ, ◌+◌, ◌*◌, ◌^◌, ◌<◌, ◌≤◌, true, List, length, Ok, Err, ap, ◌∙◌, arith}
+use Rattle.std.proofs.Common.{false, ℕ, ◌+◌, ◌*◌, ◌^◌, ◌<◌, ◌≤◌, true, List, length, Ok, Err, ap, ◌∙◌, arith}
 use Rattle.imagesize_walked.specs.Ilbm.{ilbm, ilbm_chunks, ilbm_chunk, ilbm_named, bitmap_header, chunk_bytes, chunk_length, is_bitmap_header, is_body}
 use Rattle.imagesize_types.specs.declared.size.ImageSize.{ImageSize}
 use Rattle.imagesize_source.specs.declared.error.ImageError.{ImageError}
@@ -14,6 +14,7 @@ use Rattle.imagesize_source.specs.State.{State, Runs, total}
 use Rattle.imagesize_source.proofs.Advances.{Tells, advances}
 use Rattle.imagesize_source.proofs.Ahead.{Ahead, chain_ahead}
 use Rattle.imagesize_source.proofs.PastTheEnd.{bytes_beyond}
+use Rattle.imagesize_source.proofs.Agreement.{without_texts}
 use Rattle.imagesize_source.proofs.ChainLaws.{local_chain, lasts_chain, chain_cost}
 use Rattle.imagesize_source.proofs.Tests.{on_test}
 use Rattle.imagesize_source.proofs.Way.{RecordedLaws}
@@ -32,16 +33,20 @@ ilbm_advances = advances ilbm_chunks
     (λ passed place head. by_name (Tells (λ p. place < p)) place head tt (λ width height. tt) (omega arith))
     (λ passed place. (omega arith, omega arith))
 
-pub ilbm_local : IsLocal ilbm
-ilbm_local = local_chain ilbm_chunks ilbm_advances
-
 pub ilbm_lasts : Lasts ilbm
 ilbm_lasts = lasts_chain ilbm_chunks ilbm_advances (λ passed place head. by_name Plain place head tt (λ width height. tt) tt)
 
 -- a chunk is read from at most 12 bytes
+chunk_at_most : (passed : List (Unit {0})) (place : ℕ) → AtMost 12 (ilbm_chunks.said passed place)
+chunk_at_most passed place = (omega arith, λ head. by_name (AtMost 4) place head tt (omega arith, λ width. (omega arith, λ height. tt)) tt)
+
 pub ilbm_cost : (d : List ℕ) → total (ilbm d).marks ≤ 12 * records ilbm_chunks d
-ilbm_cost d = chain_cost ilbm_chunks d (ilbm_advances d) 12
-    (λ passed place. (omega arith, λ head. by_name (AtMost 4) place head tt (omega arith, λ width. (omega arith, λ height. tt)) tt))
+ilbm_cost d = chain_cost ilbm_chunks d (ilbm_advances d) 12 chunk_at_most
+
+-- what is seen of an input
+pub ilbm_local : IsLocal false ilbm
+ilbm_local = local_chain ilbm_chunks ilbm_advances
+    (λ passed place. without_texts false 12 (ilbm_chunks.said passed place) (chunk_at_most passed place))
 
 -- the chunks are read from at most the bytes behind the form's type
 pub ilbm_within : (d : List ℕ) → total (ilbm d).marks ≤ length d
@@ -78,7 +83,7 @@ pub ilbm_past : {a b : State} (place : ℕ) → IlbmWalks a b place → 2 ^ 64 �
 ilbm_past place w far = walks_past ilbm_chunks ilbm_advances (λ passed. Unit {0}) w (omega arith) (omega arith)
     (λ passed d _ h. bytes_beyond d place 8 (λ head. ilbm_named place head) h (omega arith))
 
-pub ilbm_laws : RecordedLaws 12 18 20 true ilbm (records ilbm_chunks)
+pub ilbm_laws : RecordedLaws 12 18 20 true false ilbm (records ilbm_chunks)
 ilbm_laws = record {
   local = ilbm_local;
   cost = λ d. omega (arith, ilbm_cost d);

@@ -1,5 +1,5 @@
 -- JPEG: how a walk along its segments goes, how many bytes they are read from, and what it sees of an input.
-use Rattle.std.proofs.Common.{zero-add, ◌≡◌, ℕ, ◌+◌, ◌-◌, ◌*◌, ◌^◌, ◌<◌, ◌≤◌, Bool, true, cond, eqb, List, [], ◌∷◌, ◌++◌, length, Result, Ok, Err, refl, sym, ap, ◌∙◌, subst, arith, slice_index}
+use Rattle.std.proofs.Common.{false, zero-add, ◌≡◌, ℕ, ◌+◌, ◌-◌, ◌*◌, ◌^◌, ◌<◌, ◌≤◌, Bool, true, cond, eqb, List, [], ◌∷◌, ◌++◌, length, Result, Ok, Err, refl, sym, ap, ◌∙◌, subst, arith, slice_index}
 use Rattle.std.proofs.lemmas.Bool.Decides.{nat_tests}
 use Rattle.std.proofs.lemmas.List.Sums.{sum_by-append}
 use Rattle.std.specs.Prelude.{count_by}
@@ -13,12 +13,13 @@ use Rattle.imagesize_source.specs.Chain.{Said, Decided, Next, Advances, records,
 use Rattle.imagesize_source.specs.Counts.{AtMost}
 use Rattle.imagesize_source.specs.Extension.{Plain, Lasts}
 use Rattle.imagesize_source.specs.Input.{span_of}
-use Rattle.imagesize_source.specs.declared.util.Endian.TheVariants.{Big}
+use Rattle.imagesize_source.specs.declared.endian.Endian.TheVariants.{Big}
 use Rattle.imagesize_source.specs.Layout.{Layout, layout_reads, refuse, done}
 use Rattle.imagesize_source.specs.Reading.{Reads, put_behind, bytes_at, number_at, end_of_input}
 use Rattle.imagesize_source.specs.State.{State, Runs, total}
 use Rattle.imagesize_source.proofs.Advances.{Tells, advances, tells}
 use Rattle.imagesize_source.proofs.PastTheEnd.{bytes_beyond}
+use Rattle.imagesize_source.proofs.Agreement.{without_texts}
 use Rattle.imagesize_source.proofs.ChainLaws.{local_chain, lasts_chain, chain_cost, chain_within}
 use Rattle.imagesize_source.proofs.Counts.{at_most, total-span_of}
 use Rattle.imagesize_source.proofs.Answered.{bytes_is, part_first, big_pair, on_answer}
@@ -45,9 +46,6 @@ jpeg_advances = advances jpeg_segments
     (λ marker length. omega arith))
     (λ markers place. (omega arith, omega arith))
 
-pub jpeg_local : IsLocal jpeg
-jpeg_local = local_chain jpeg_segments jpeg_advances
-
 pub jpeg_lasts : Lasts jpeg
 jpeg_lasts = lasts_chain jpeg_segments jpeg_advances
     (λ markers place head. by_head Plain (depth markers) place head tt (λ height width. tt) (λ marker length. tt))
@@ -64,6 +62,11 @@ segment_at_most k place = (
   λ head. on_test (AtMost 4) (eqb (slice_index head 0) 0xFF)
       (jpeg_marked k place (slice_index head 1)) (refuse CorruptedImage) (λ _. marked_at_most k place (slice_index head 1)) (λ _. tt),
 )
+
+-- what is seen of an input
+pub jpeg_local : IsLocal false jpeg
+jpeg_local = local_chain jpeg_segments jpeg_advances
+    (λ markers place. without_texts false 6 (jpeg_segment (depth markers) place) (segment_at_most (depth markers) place))
 
 -- a segment is read from at most 6 bytes
 pub jpeg_cost : (d : List ℕ) → total (jpeg d).marks ≤ 6 * records jpeg_segments d
@@ -199,7 +202,7 @@ jpeg_within d =
     let few : allowed d 2 ≤ length d + 6 = grind (arith, nat_tests) in
     omega arith
 
-pub jpeg_laws : RecordedLaws 12 18 20 true jpeg (records jpeg_segments)
+pub jpeg_laws : RecordedLaws 12 18 20 true false jpeg (records jpeg_segments)
 jpeg_laws = record {
   local = jpeg_local;
   cost = λ d. omega (arith, jpeg_cost d);

@@ -6,7 +6,7 @@ use Rattle.std.proofs.lemmas.List.{append-nil, length_push}
 use Rattle.std.proofs.lemmas.List.Elements.{filter-append}
 use Rattle.std.specs.Prelude.{filter, option_and_then}
 use Rattle.std.specs.List.{last_or}
-use Rattle.imagesize_walked.specs.Tiff.{byte_order, completed, count_bytes, directory_at, tiff_entries_begun, entry_bytes, head_bytes, field_type_in, field_type_of, last_value, size_in, size_if_known, stated_place, tag_in, tiff, tiff_directory, tiff_entries, tiff_entry, tiff_head, tiff_header, tiff_value, value_bytes, value_of, version_of, whole_value, directory_begun}
+use Rattle.imagesize_walked.specs.Tiff.{byte_order, completed, count_bytes, directory_at, tiff_begun, entry_bytes, head_bytes, field_type_in, field_type_of, last_value, size_in, size_if_known, stated_place, tag_in, tiff, tiff_directory, tiff_entries, tiff_entry, tiff_head, tiff_header, tiff_value, value_bytes, value_of, version_of, whole_value, directory_begun}
 use Rattle.imagesize_walked.specs.declared.formats.tiff.Entry.{Entry}
 use Rattle.imagesize_walked.specs.declared.formats.tiff.Header.{Header}
 use Rattle.imagesize_walked.specs.declared.formats.tiff.FieldType.{FieldType}
@@ -16,7 +16,7 @@ use Rattle.imagesize_types.specs.declared.size.ImageSize.{ImageSize}
 use Rattle.imagesize_source.specs.declared.error.ImageError.{ImageError}
 use Rattle.imagesize_source.specs.declared.error.ImageError.TheVariants.{IoError}
 use Rattle.imagesize_source.specs.declared.error.Reason.TheVariants.{InvalidIfdValueLength, NoDimensionsInIfd}
-use Rattle.imagesize_source.specs.declared.util.Endian.{Endian}
+use Rattle.imagesize_source.specs.declared.endian.Endian.{Endian}
 use Rattle.imagesize_source.specs.Agreement.{IsLocal}
 use Rattle.imagesize_source.specs.Chain.{Said, Decided, Next, Chain, Along, Advances, start, next_record, records, records_from, verdict, chain_at, chain_from, count_behind}
 use Rattle.imagesize_source.specs.Counts.{AtMost}
@@ -34,7 +34,7 @@ use Rattle.imagesize_source.proofs.ChainLaws.{local_chain, lasts_chain, chain_in
 use Rattle.imagesize_source.proofs.Chains.{chain_next, chain_stop, records_next, records_stop}
 use Rattle.imagesize_source.proofs.Counts.{at_most, at_most_bind, at_most_more, then_within, total-span_of, total_behind}
 use Rattle.imagesize_source.proofs.Answered.{on_answer}
-use Rattle.imagesize_source.proofs.Agreement.{local_layout, local_number, local_then}
+use Rattle.imagesize_source.proofs.Agreement.{AllRead, local_layout, local_number, local_then, without_texts}
 use Rattle.imagesize_source.proofs.Extension.{bytes_more, more, number_ok}
 use Rattle.imagesize_source.proofs.Reached.{runs_bind, refused_bind}
 use Rattle.imagesize_source.proofs.Runs.{total-append}
@@ -127,12 +127,6 @@ entries_advance : (header : Header) (count : ℕ) (d : List ℕ) → Advances (t
 entries_advance header count = advances (tiff_entries header count)
     (λ entries place. by_count (Tells (λ p. place < p)) header count entries place tt (record_tells header entries place))
     (λ entries place. by_count (Begins place) header count entries place tt (record_begins header entries place))
-
-pub tiff_local : IsLocal tiff
-tiff_local = local_then (λ d. layout_reads d tiff_header) (λ header d. tiff_directory d header) (local_layout tiff_header)
-    (λ header. local_then (λ d. number_read d header.order header.directory (count_bytes header.version))
-    (λ count d. chain_at (tiff_entries header count) d) (local_number header.order header.directory (count_bytes header.version))
-    (λ count. local_chain (tiff_entries header count) (entries_advance header count)))
 
 last_push : {A : Type 0} (o : Option A) (xs : List A) (x : A) → last_or o (xs ++ x ∷ []) ≡ Some x
 last_push o [] x = refl
@@ -439,7 +433,7 @@ directory_cost d header = cost_by (number_at d header.order header.directory (co
       omega arith
 
 -- outside of the entries, header and count are read from at most 24
-pub tiff_cost : (d : List ℕ) → total (tiff d).marks ≤ 24 + 20 * tiff_entries_begun d
+pub tiff_cost : (d : List ℕ) → total (tiff d).marks ≤ 24 + 20 * tiff_begun d
 tiff_cost d = cost_by (layout_reads d tiff_header).answer where
   cost_by : (r : Result Header ImageError) → total (go_on (layout_reads d tiff_header).marks r (tiff_directory d)).marks ≤ 24
       + 20 * count_behind r (directory_begun d)
@@ -517,7 +511,21 @@ tiff_lasts d x size = by_header (layout_reads d tiff_header).answer refl where
       ∙ ap (λ r. (go_on (layout_reads d tiff_header).marks r (tiff_directory (d ++ x))).answer) read ∙ directory_lasts d x header size is
   by_header (Err e) read is = absurd cc
 
-pub tiff_laws : RecordedLaws 12 36 20 true tiff tiff_entries_begun
+-- an entry is of bytes alone
+entry_of_bytes : (header : Header) (count : ℕ) (entries : List Entry) (place : ℕ) → AllRead false ((tiff_entries header count).said entries place)
+entry_of_bytes header count entries place =
+    on_test (AllRead false) (eqb (length entries) count) (refuse (IoError NoDimensionsInIfd)) (record_behind header entries place) (λ _. tt)
+    (λ _. without_texts false 20 (record_behind header entries place) (record_at_most header entries place))
+
+-- what is seen of an input
+pub tiff_local : IsLocal false tiff
+tiff_local = local_then (λ d. layout_reads d tiff_header) (λ header d. tiff_directory d header)
+    (local_layout tiff_header (without_texts false 16 tiff_header header_at_most))
+    (λ header. local_then (λ d. number_read d header.order header.directory (count_bytes header.version))
+    (λ count d. chain_at (tiff_entries header count) d) (local_number header.order header.directory (count_bytes header.version))
+    (λ count. local_chain (tiff_entries header count) (entries_advance header count) (entry_of_bytes header count)))
+
+pub tiff_laws : RecordedLaws 12 36 20 true false tiff tiff_begun
 tiff_laws = record {
   local = tiff_local;
   cost = λ d. omega (arith, tiff_cost d);

@@ -4,7 +4,7 @@ use Rattle.imagesize_types.specs.Head.{begins}
 use Rattle.imagesize_types.specs.Largest.{last_largest}
 use Rattle.imagesize_types.specs.declared.size.ImageSize.{ImageSize}
 use Rattle.imagesize_source.specs.declared.error.ImageError.TheVariants.{CorruptedImage}
-use Rattle.imagesize_source.specs.declared.util.Endian.TheVariants.{Little}
+use Rattle.imagesize_source.specs.declared.endian.Endian.TheVariants.{Little}
 use Rattle.imagesize_source.specs.Chain.{Said, Decided, Next, Chain, chain_at, records, count_behind}
 use Rattle.imagesize_source.specs.Layout.{Layout, if_there}
 use Rattle.imagesize_source.specs.Layout.Layout.{refuse, «done»}

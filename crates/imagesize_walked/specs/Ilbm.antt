@@ -3,7 +3,7 @@ use Rattle.std.specs.Prelude.{ℕ, ◌+◌, ◌%◌, Bool, List, codes, drop, �
 use Rattle.imagesize_types.specs.Head.{begins, stands_at}
 use Rattle.imagesize_types.specs.declared.size.ImageSize.{ImageSize}
 use Rattle.imagesize_source.specs.declared.error.ImageError.TheVariants.{CorruptedImage}
-use Rattle.imagesize_source.specs.declared.util.Endian.TheVariants.{Big}
+use Rattle.imagesize_source.specs.declared.endian.Endian.TheVariants.{Big}
 use Rattle.imagesize_source.specs.Chain.{Said, Decided, Next, Chain, chain_at}
 use Rattle.imagesize_source.specs.Layout.{Layout, bytes}
 use Rattle.imagesize_source.specs.Layout.Layout.{field, refuse, «done»}

@@ -14,8 +14,8 @@ use Rattle.imagesize_source.specs.declared.error.ImageError.{ImageError}
 use Rattle.imagesize_source.specs.declared.error.ImageError.TheVariants.{IoError}
 use Rattle.imagesize_source.specs.declared.error.Reason.TheVariants.{InvalidTiffHeader, BigTiffOffsetSize, InvalidBigTiffHeader, InvalidIfdOffset, IfdTypeForStandardTiff, InvalidIfdType, InvalidIfdValueLength, NoDimensionsInIfd}
 use Rattle.imagesize_source.specs.declared.halt.Halt.{Halt}
-use Rattle.imagesize_source.specs.declared.util.Endian.{Endian}
-use Rattle.imagesize_source.specs.declared.util.Endian.TheVariants.{Little, Big}
+use Rattle.imagesize_source.specs.declared.endian.Endian.{Endian}
+use Rattle.imagesize_source.specs.declared.endian.Endian.TheVariants.{Little, Big}
 use Rattle.imagesize_source.specs.Chain.{Said, Decided, Next, Chain, chain_at, records, count_behind}
 use Rattle.imagesize_source.specs.Halts.{error_by}
 use Rattle.imagesize_source.specs.Layout.{Layout, layout_reads, bind, bytes, if_there, accept}
@@ -169,5 +169,5 @@ abbrev pub directory_begun : List ℕ → Header → ℕ
 directory_begun d header = count_behind (number_at d header.order header.directory (count_bytes header.version))
     (λ count. min count (records (tiff_entries header count) d))
 
-abbrev pub tiff_entries_begun : List ℕ → ℕ
-tiff_entries_begun d = count_behind (layout_reads d tiff_header).answer (directory_begun d)
+abbrev pub tiff_begun : List ℕ → ℕ
+tiff_begun d = count_behind (layout_reads d tiff_header).answer (directory_begun d)

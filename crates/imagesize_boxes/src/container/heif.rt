@@ -11,12 +11,11 @@ ghost use Rattle.imagesize_source.specs.Reading.{bytes_read, map_answer};
 ghost use Rattle.imagesize_source.specs.State.{Runs, IsSound};
 ghost use Rattle.imagesize_source.specs.declared.error.ImageError.{ImageError};
 
-use imagesize_source::halt::{
-    Halt, place_behind, read_bytes, read_bytes_behind, read_if_there, read_if_there_behind,
-    read_u32,
+use imagesize_source::readings::{
+    place_behind, read_bytes, read_bytes_behind, read_if_there, read_if_there_behind, read_u32,
 };
 use imagesize_source::source::Source;
-use imagesize_source::util::Endian;
+use imagesize_source::{Endian, Halt};
 use imagesize_types::compression::Compression;
 use imagesize_types::size::{ImageSize, area};
 

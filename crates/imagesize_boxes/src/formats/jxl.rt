@@ -13,7 +13,8 @@ mod front;
 mod header;
 
 use front::Front;
-use imagesize_source::halt::{Halt, read_bytes};
+use imagesize_source::Halt;
+use imagesize_source::readings::read_bytes;
 use imagesize_source::source::Source;
 use imagesize_types::size::ImageSize;
 

@@ -3,12 +3,13 @@ ghost use Rattle.std.specs.Prelude.{◌≡◌, ◌≤◌, length, drop};
 ghost use Rattle.imagesize_fixed.specs.Atc.{atc, atc_compression, atc_data_types, is_atc};
 ghost use Rattle.imagesize_types.specs.Table.{look_up};
 ghost use Rattle.imagesize_source.specs.Numbers.{number};
-ghost use Rattle.imagesize_source.specs.declared.util.Endian.TheVariants as endian;
+ghost use Rattle.imagesize_source.specs.declared.endian.Endian.TheVariants as endian;
 ghost use Rattle.imagesize_source.specs.Halts.{RunsOrHalts};
 ghost use Rattle.imagesize_source.specs.Layout.{layout_reads};
 
 use crate::container::{dds, pkm, pvrtc};
-use imagesize_source::halt::{Halt, read_bytes, read_if_there};
+use imagesize_source::Halt;
+use imagesize_source::readings::{read_bytes, read_if_there};
 use imagesize_source::source::Source;
 use imagesize_types::compression::AtcCompression;
 use imagesize_types::size::ImageSize;

@@ -5,9 +5,9 @@ ghost use Rattle.imagesize_types.specs.Table.{look_up};
 ghost use Rattle.imagesize_source.specs.Halts.{RunsOrHalts};
 ghost use Rattle.imagesize_source.specs.Layout.{layout_reads};
 
-use imagesize_source::halt::{Halt, read_if_there, read_u16};
+use imagesize_source::readings::{read_if_there, read_u16};
 use imagesize_source::source::Source;
-use imagesize_source::util::Endian;
+use imagesize_source::{Endian, Halt};
 use imagesize_types::compression::PkmCompression;
 use imagesize_types::size::ImageSize;
 

@@ -6,9 +6,9 @@ ghost use Rattle.imagesize_source.specs.Halts.{RunsOrHalts};
 ghost use Rattle.imagesize_source.specs.Layout.{if_there, layout_reads};
 ghost use Rattle.imagesize_source.specs.Layout.Layout.{«done»};
 
-use imagesize_source::halt::{Halt, read_bytes, read_if_there, read_u32};
+use imagesize_source::readings::{read_bytes, read_if_there, read_u32};
 use imagesize_source::source::Source;
-use imagesize_source::util::Endian;
+use imagesize_source::{Endian, Halt};
 use imagesize_types::compression::PvrtcCompression;
 use imagesize_types::size::ImageSize;
 

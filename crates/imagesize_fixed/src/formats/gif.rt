@@ -4,9 +4,9 @@ ghost use Rattle.imagesize_fixed.specs.Gif.{is_gif, gif};
 ghost use Rattle.imagesize_source.specs.Halts.{RunsOrHalts};
 ghost use Rattle.imagesize_source.specs.Layout.{layout_reads};
 
-use imagesize_source::halt::{Halt, read_u16};
+use imagesize_source::readings::read_u16;
 use imagesize_source::source::Source;
-use imagesize_source::util::Endian;
+use imagesize_source::{Endian, Halt};
 use imagesize_types::size::ImageSize;
 
 /// Whether the signature stands first, of either version.

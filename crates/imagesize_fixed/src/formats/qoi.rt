@@ -4,9 +4,9 @@ ghost use Rattle.imagesize_fixed.specs.Qoi.{is_qoi, qoi};
 ghost use Rattle.imagesize_source.specs.Halts.{RunsOrHalts};
 ghost use Rattle.imagesize_source.specs.Layout.{layout_reads};
 
-use imagesize_source::halt::{Halt, read_u32};
+use imagesize_source::readings::read_u32;
 use imagesize_source::source::Source;
-use imagesize_source::util::Endian;
+use imagesize_source::{Endian, Halt};
 use imagesize_types::size::ImageSize;
 
 /// Whether the magic bytes stand first.

@@ -5,9 +5,9 @@ ghost use Rattle.imagesize_source.specs.Halts.{RunsOrHalts};
 ghost use Rattle.imagesize_source.specs.Layout.{layout_reads};
 ghost use Rattle.imagesize_source.specs.State.{IsSound};
 
-use imagesize_source::halt::{Halt, read_bytes, read_u8, read_u16};
+use imagesize_source::readings::{read_bytes, read_u8, read_u16};
 use imagesize_source::source::Source;
-use imagesize_source::util::Endian;
+use imagesize_source::{Endian, Halt};
 use imagesize_types::size::ImageSize;
 
 /// Whether the footer has the signature, or the header alone can be that of a TGA.

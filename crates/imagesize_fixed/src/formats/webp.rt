@@ -4,9 +4,9 @@ ghost use Rattle.imagesize_fixed.specs.Webp.{is_webp, webp, lossy_webp, lossless
 ghost use Rattle.imagesize_source.specs.Halts.{RunsOrHalts};
 ghost use Rattle.imagesize_source.specs.Layout.{layout_reads};
 
-use imagesize_source::halt::{Halt, read_bytes, read_u16, read_u24, read_u32};
+use imagesize_source::readings::{read_bytes, read_u16, read_u24, read_u32};
 use imagesize_source::source::Source;
-use imagesize_source::util::Endian;
+use imagesize_source::{Endian, Halt};
 use imagesize_types::size::ImageSize;
 
 /// Whether a RIFF form of the type `WEBP` stands first.

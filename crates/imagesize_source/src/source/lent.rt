@@ -10,7 +10,7 @@ pub(super) mod log;
 
 use self::log::SpanLog;
 use super::Source;
-use super::slice::{copy_part, text_at};
+use crate::part::{copy_part, text_at};
 use crate::{Halt, ImageError, Reason, Span, Text};
 
 /// A slice that is read by place, and the spans of the readings so far, in their order. A reading that saw no byte has no

@@ -13,10 +13,21 @@ ghost use Rattle.imagesize_source.specs.declared.error.Reason.TheVariants as rea
 
 use super::Source;
 use super::lent::log::SpanLog;
-use super::slice::part_of;
+use crate::part::part_of;
 use crate::text::{is_closed, text_length};
 use crate::{Halt, ImageError, Reason, Span, Text};
 use std::io::{self, ErrorKind};
+
+/// What a reading misses, from the first byte that is not known on.
+#[derive(Clone, Copy)]
+pub struct Missing {
+    /// The place of that byte.
+    pub start: u64,
+    /// How many bytes it reads from there on, whatever they are: of a text this one alone, and else all that it asks for.
+    pub sure: u64,
+    /// How many bytes it asks for from there on.
+    pub most: u64,
+}
 
 /// Parts of an input, as a source: `bytes` are those of the spans, one behind another.
 #[derive(Drop)]
@@ -29,8 +40,8 @@ pub struct PartsSource<'a> {
     pub told: u64,
     /// The known bytes from place 0 on, up to the end of the first part that has it.
     pub front: &'a [u8],
-    /// What the last reading that failed misses: from the first byte that is not known to the end of what it asks for.
-    pub missed: Option<Span>,
+    /// What the last reading that failed misses.
+    pub missed: Option<Missing>,
     /// What the readings saw.
     pub log: SpanLog,
     /// What a reading that fails ends the call with.
@@ -91,22 +102,24 @@ impl<'a> PartsSource<'a> {
     }
 
     // Records a reading that misses bytes behind these.
-    fn miss(&mut self, start: u64, count: usize, missing: usize) -> Halt
+    fn miss(&mut self, start: u64, count: usize, sure: usize, most: usize) -> Halt
         requires known { (i : ℕ) → i < count → is_some (known self.old.told self.old.spans.now self.old.bytes.now (start + i)) ≡ true }
-        requires some { 0 < missing }
-        requires fits { start + count + missing ≤ self.old.told }
+        requires some { 0 < sure }
+        requires among { sure ≤ most }
+        requires fits { start + count + most ≤ self.old.told }
         requires unknown { is_some (known self.old.told self.old.spans.now self.old.bytes.now (start + count)) ≡ false }
         ensures spans { self.new.spans.now ≡ self.old.spans.now }
         ensures bytes { self.new.bytes.now ≡ self.old.bytes.now }
         ensures told { self.new.told ≡ self.old.told }
         ensures seen { self.new.log.spans ≡ self.old.log.spans ++ span_at start count }
-        ensures missed { self.new.missed ≡ Some (record { start = start + count; len = missing }) }
+        ensures missed { self.new.missed ≡ Some (record { start = start + count; sure = sure; most = most }) }
         ensures halts { result ≡ Halt.Failed }
     {
         self.saw(start, count);
-        self.missed = Some(Span {
+        self.missed = Some(Missing {
             start: start + count as u64,
-            len: missing as u64,
+            sure: sure as u64,
+            most: most as u64,
         });
         Halt::Failed
     }
@@ -131,7 +144,8 @@ impl<'a> PartsSource<'a> {
             &mut room[..wanted],
         );
         if found < wanted {
-            return Err(self.miss(place, found, wanted - found));
+            let missing = wanted - found;
+            return Err(self.miss(place, found, missing, missing));
         }
         self.saw(place, found);
         Ok(found)
@@ -175,7 +189,7 @@ impl Source for PartsSource<'_> {
             &mut room[..wanted],
         );
         if is_cut(text, &room[..found], wanted) {
-            return Err(self.miss(place, found, wanted - found));
+            return Err(self.miss(place, found, 1, wanted - found));
         }
         let count = text_length(text, &room[..found]);
         self.saw(place, count);

@@ -7,7 +7,7 @@ ghost use Rattle.imagesize_source.specs.declared.error.ImageError.TheVariants as
 ghost use Rattle.imagesize_source.specs.declared.error.Reason.TheVariants as reason;
 
 use super::Source;
-use super::slice::{copy_part, text_at};
+use crate::part::{copy_part, text_at};
 use crate::{Halt, ImageError, Reason, Span, Text};
 use std::alloc::Allocator;
 

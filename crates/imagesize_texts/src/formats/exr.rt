@@ -11,9 +11,9 @@ ghost use Rattle.imagesize_texts.specs.Walks.{attribute_said};
 ghost use Rattle.imagesize_texts.specs.Texts.{line_read};
 
 use crate::util::{read_null_terminated_string, read_u32_behind};
-use imagesize_source::halt::{Halt, place_behind, read_bytes_behind, read_u32};
+use imagesize_source::readings::{place_behind, read_bytes_behind, read_u32};
 use imagesize_source::source::Source;
-use imagesize_source::util::Endian;
+use imagesize_source::{Endian, Halt};
 use imagesize_types::size::ImageSize;
 
 /// Whether the magic number stands first.

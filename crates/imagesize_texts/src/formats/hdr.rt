@@ -13,7 +13,8 @@ ghost use Rattle.imagesize_texts.specs.Texts.{line_at};
 ghost use Rattle.imagesize_source.specs.declared.error.ImageError.{ImageError};
 
 use crate::util::{number, read_line_capped};
-use imagesize_source::halt::{Halt, place_behind};
+use imagesize_source::Halt;
+use imagesize_source::readings::place_behind;
 use imagesize_source::source::Source;
 use imagesize_types::size::ImageSize;
 

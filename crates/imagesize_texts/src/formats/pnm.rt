@@ -11,7 +11,8 @@ ghost use Rattle.imagesize_texts.specs.Texts.{word};
 ghost use Rattle.imagesize_source.specs.declared.error.ImageError.{ImageError};
 
 use crate::util::{WORD_ROOM, number, pass_line_behind, read_word, read_word_behind};
-use imagesize_source::halt::{Halt, place_behind};
+use imagesize_source::Halt;
+use imagesize_source::readings::place_behind;
 use imagesize_source::source::Source;
 use imagesize_types::size::ImageSize;
 

@@ -9,9 +9,9 @@ ghost use Rattle.imagesize_source.specs.Layout.{if_there, layout_reads};
 ghost use Rattle.imagesize_source.specs.Layout.Layout.{«done»};
 ghost use Rattle.imagesize_source.specs.State.{IsSound};
 
-use imagesize_source::halt::{Halt, read_if_there, read_u16};
+use imagesize_source::readings::{read_if_there, read_u16};
 use imagesize_source::source::Source;
-use imagesize_source::util::Endian;
+use imagesize_source::{Endian, Halt};
 use imagesize_types::size::{ImageSize, area};
 
 /// Whether a directory of icons stands first.

@@ -8,9 +8,9 @@ ghost use Rattle.imagesize_source.specs.Paying.{Nears};
 ghost use Rattle.imagesize_source.specs.Reading.{map_answer};
 ghost use Rattle.imagesize_source.specs.State.{Runs};
 
-use imagesize_source::halt::{Halt, place_behind, read_bytes, read_u16_behind};
+use imagesize_source::readings::{place_behind, read_bytes, read_u16_behind};
 use imagesize_source::source::Source;
-use imagesize_source::util::Endian;
+use imagesize_source::{Endian, Halt};
 use imagesize_types::size::ImageSize;
 
 /// Whether the start of the image stands first, and another marker behind it.

@@ -1,17 +1,15 @@
 //! TIFF, by "TIFF Revision 6.0" (section 2), and BigTIFF, by "The BigTIFF File Format".
 ghost use Rattle.std.specs.Prelude.{◌≡◌, ◌+◌, ◌*◌, ◌-◌, ◌^◌, ◌≤◌, ◌==◌, if◌then◌else◌, min, take};
-ghost use Rattle.imagesize_walked.specs.Tiff.{StandsFor, byte_order, count_bytes, directory_at, entry_bytes, head_bytes, is_tiff, field_type_in, field_type_of, size_if_known, stated_place, tag_in, tiff, tiff_entries, tiff_entry, tiff_head, tiff_header, tiff_value, value_of, version_of, whole_value};
+ghost use Rattle.imagesize_walked.specs.Tiff.{StandsFor, byte_order, count_bytes, directory_at, entry_bytes, head_bytes, is_tiff, field_type_in, field_type_of, size_if_known, stated_place, tag_in, tiff, tiff_entries, tiff_entry, tiff_header, value_bytes, value_of, version_of, whole_value};
 ghost use Rattle.imagesize_source.specs.Chain.{chain_at};
 ghost use Rattle.imagesize_source.specs.Halts.{RunsOrHalts};
 ghost use Rattle.imagesize_source.specs.Layout.{layout_reads};
 ghost use Rattle.imagesize_source.specs.Reading.{number_read};
 ghost use Rattle.imagesize_source.specs.State.{IsSound};
 
-use imagesize_source::halt::{
-    Halt, read_bytes, read_if_there_behind, read_u16, read_u32, read_u64,
-};
+use imagesize_source::readings::{read_bytes, read_if_there_behind, read_u16, read_u32, read_u64};
 use imagesize_source::source::Source;
-use imagesize_source::util::Endian;
+use imagesize_source::{Endian, Halt};
 use imagesize_types::size::ImageSize;
 
 /// Whether the order of the bytes stands first, and the version behind it.
@@ -227,58 +225,40 @@ fn size_of_sides(width: Option<u32>, height: Option<u32>) -> Option<ImageSize>
     }
 }
 
-// The entry at a place. Its field type is judged before its value is read.
+// The entry at a place.
 #[inline(always)]
-#[tactic(auto, using(imagesize_source::proofs::Runs::steps, imagesize_source::proofs::Layouts::binding), unfolding(crate::specs::Tiff::tiff_entry))]
 fn read_entry<S: Source>(source: &mut S, header: &Header, place: u64) -> Result<Entry, Halt>
     ensures { RunsOrHalts (S.state source.old) (S.state source.new) (S.failure source.new) result
         (layout_reads (S.state source.old).held.input (tiff_entry header.now place)) }
 {
-    let head = read_head(source, header.version, place)?;
+    match header.version {
+        Version::Tiff => read_entry_of::<S, 8, 4>(source, header, place),
+        Version::BigTiff => read_entry_of::<S, 12, 8>(source, header, place),
+    }
+}
+
+// The entry at a place, by how many bytes its head and its value have. Of each the first four count. Its field type
+// is judged before its value is read.
+#[inline(always)]
+#[tactic(auto, using(imagesize_source::proofs::Runs::steps, imagesize_source::proofs::Layouts::binding), unfolding(crate::specs::Tiff::tiff_entry, crate::specs::Tiff::tiff_head, crate::specs::Tiff::tiff_value))]
+fn read_entry_of<S: Source, const HEAD: usize, const VALUE: usize>(
+    source: &mut S,
+    header: &Header,
+    place: u64,
+) -> Result<Entry, Halt>
+    requires head { HEAD ≡ head_bytes header.now.version }
+    requires value { VALUE ≡ value_bytes header.now.version }
+    requires first { (4 ≤ HEAD) × (4 ≤ VALUE) }
+    ensures { RunsOrHalts (S.state source.old) (S.state source.new) (S.failure source.new) result
+        (layout_reads (S.state source.old).held.input (tiff_entry header.now place)) }
+{
+    let head = first_four(read_bytes::<S, HEAD>(source, place)?);
     let field_type = field_type_of(header.version, field_type_in(header.order, head))?;
-    let value = read_value(source, header.version, place)?;
+    let value = whole_value(read_if_there_behind::<S, VALUE>(source, place, HEAD as u64)?)?;
     Ok(Entry {
         tag: tag_in(header.order, head),
         value: value_of(header.order, field_type, value),
     })
-}
-
-// The first four bytes of an entry's head, which is read whole.
-#[inline(always)]
-#[tactic(auto, using(imagesize_source::proofs::Runs::steps), unfolding(crate::specs::Tiff::tiff_head))]
-fn read_head<S: Source>(source: &mut S, version: Version, place: u64) -> Result<[u8; 4], Halt>
-    ensures { RunsOrHalts (S.state source.old) (S.state source.new) (S.failure source.new) result
-        (layout_reads (S.state source.old).held.input (tiff_head version place)) }
-{
-    match version {
-        Version::Tiff => {
-            let head = read_bytes::<S, 8>(source, place)?;
-            Ok(first_four(head))
-        }
-        Version::BigTiff => {
-            let head = read_bytes::<S, 12>(source, place)?;
-            Ok(first_four(head))
-        }
-    }
-}
-
-// The first four bytes of the value of the entry at a place, which is read whole.
-#[inline(always)]
-#[tactic(auto, using(imagesize_source::proofs::Runs::steps), unfolding(crate::specs::Tiff::tiff_value))]
-fn read_value<S: Source>(source: &mut S, version: Version, place: u64) -> Result<[u8; 4], Halt>
-    ensures { RunsOrHalts (S.state source.old) (S.state source.new) (S.failure source.new) result
-        (layout_reads (S.state source.old).held.input (tiff_value version (place + head_bytes version))) }
-{
-    match version {
-        Version::Tiff => {
-            let value = whole_value(read_if_there_behind::<S, 4>(source, place, 8)?)?;
-            Ok(value)
-        }
-        Version::BigTiff => {
-            let value = whole_value(read_if_there_behind::<S, 8>(source, place, 12)?)?;
-            Ok(value)
-        }
-    }
 }
 
 // The first four bytes of a value that the end of the input does not cut.

@@ -2,7 +2,7 @@
 ghost use Rattle.std.specs.Prelude.{◌≡◌, ℕ, ◌+◌, ◌*◌, ◌%◌, ◌^◌, ◌<◌, ◌≤◌, ok_or};
 ghost use Rattle.imagesize_boxes.specs.Fields.{field_in};
 ghost use Rattle.imagesize_source.specs.declared.error.ImageError.TheVariants as error;
-ghost use Rattle.imagesize_source.specs.declared.util.Endian.TheVariants as endian;
+ghost use Rattle.imagesize_source.specs.declared.endian.Endian.TheVariants as endian;
 ghost use Rattle.imagesize_source.specs.Numbers.{number};
 
 use super::front::MOST;

@@ -12,13 +12,13 @@ ghost use Rattle.imagesize_source.specs.Paying.{Nears, ahead_of};
 ghost use Rattle.imagesize_source.specs.Reading.{number_read, part_read, map_answer};
 ghost use Rattle.imagesize_source.specs.State.{Runs, IsSound};
 ghost use Rattle.imagesize_source.specs.declared.error.ImageError.{ImageError};
-ghost use Rattle.imagesize_source.specs.declared.util.Endian.TheVariants as endian;
+ghost use Rattle.imagesize_source.specs.declared.endian.Endian.TheVariants as endian;
 
 use super::front::MOST;
 use arrayvec::ArrayVec;
-use imagesize_source::halt::{Halt, read_bytes, read_bytes_behind, read_u64};
+use imagesize_source::readings::{read_bytes, read_bytes_behind, read_u64};
 use imagesize_source::source::Source;
-use imagesize_source::util::Endian;
+use imagesize_source::{Endian, Halt};
 
 /// The first bytes of a codestream, or a piece of them.
 pub(super) type Codestream = ArrayVec<u8, MOST>;

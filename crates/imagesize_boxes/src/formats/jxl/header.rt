@@ -9,7 +9,7 @@ ghost use Rattle.imagesize_source.specs.declared.error.ImageError.TheVariants as
 
 use super::bits::Bits;
 use super::front::MOST;
-use imagesize_source::halt::Halt;
+use imagesize_source::Halt;
 use imagesize_types::size::ImageSize;
 
 // A width or a height, and the bit behind it.

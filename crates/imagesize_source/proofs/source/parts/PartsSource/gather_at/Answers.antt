@@ -14,7 +14,8 @@ returns-then-found-wanted-clause-runs c =
     let copied = room_front g.new.room c.args.room.now c.there-wanted.result g.result (omega (arith, few, long)) ∙ g.ensures.copied in
     let wanted = c.there-wanted.ensures ∙ ap (λ k. min k (s.told - c.args.place)) (sym kept) in
     rw c.miss.ensures.halts (parts_missing s.told s.spans.now s.bytes.now s.log.spans s.missed _ c.miss.new.self.fault _ c.args.place
-    c.there-wanted.result g.result (record { start = c.args.place + g.result; len = c.there-wanted.result - g.result }) wanted c.if-found-wanted.true refl
+    c.there-wanted.result g.result (record { start = c.args.place + g.result; sure = c.there-wanted.result - g.result; most = c.there-wanted.result - g.result })
+    wanted c.if-found-wanted.true refl refl
     (state_is _ _ _ _ _ _ _ _ _ _ c.miss.ensures.told c.miss.ensures.spans c.miss.ensures.bytes c.miss.ensures.seen c.miss.ensures.missed))
 
 pub returns-clause-runs : goal.returns-clause-runs

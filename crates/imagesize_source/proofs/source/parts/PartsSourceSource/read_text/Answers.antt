@@ -16,8 +16,9 @@ returns-then-is_cut-clause-runs c =
     let room = g.new.room ++ drop c.there-wanted.result c.args.room.now in
     let so_long : length (take g.result room) ≡ g.result = length-take g.result room ∙ omega (arith, kept, few, fits) in
     rw c.miss.ensures.halts (parts_text_missing s.told s.spans.now s.bytes.now s.log.spans s.missed _ c.miss.new.self.fault c.args.text room
-    c.args.place _ c.there-wanted.result g.result (record { start = c.args.place + g.result; len = c.there-wanted.result - g.result }) wanted few copied
-    (cut_is (take g.result room) g.result c.there-wanted.result c.is_cut.result _ so_long c.is_cut.ensures ∙ c.if-is_cut.true) refl
+    c.args.place _ c.there-wanted.result g.result (record { start = c.args.place + g.result; sure = 1; most = c.there-wanted.result - g.result })
+    wanted few copied
+    (cut_is (take g.result room) g.result c.there-wanted.result c.is_cut.result _ so_long c.is_cut.ensures ∙ c.if-is_cut.true) refl refl
     (state_is _ _ _ _ _ _ _ _ _ _ c.miss.ensures.told c.miss.ensures.spans c.miss.ensures.bytes c.miss.ensures.seen c.miss.ensures.missed))
 
 pub returns-clause-runs : goal.returns-clause-runs
