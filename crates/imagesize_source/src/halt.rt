@@ -45,7 +45,8 @@ pub enum Halt {
 
 impl Halt {
     /// The error of this halt, where a call fails for this reason and no more bytes than the budget may be taken.
-    #[inline(always)]
+    #[cold]
+    #[inline(never)]
     pub fn error(self, failure: Reason, budget: u64) -> ImageError
         ensures { result ≡ error_by (error.IoError failure) budget self }
     {
