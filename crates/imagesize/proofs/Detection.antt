@@ -25,8 +25,8 @@ use Rattle.imagesize_source.specs.Counts.{CostsBy}
 use Rattle.imagesize_source.specs.Input.{span_of}
 use Rattle.imagesize_source.specs.Layout.{layout_reads, bind}
 use Rattle.imagesize_source.proofs.Runs.{runs_then}
-use Rattle.imagesize_source.specs.Reading.{Reads, go_on, bytes_at, bytes_read}
-use Rattle.imagesize_source.specs.State.{State, Runs, total}
+use Rattle.imagesize_source.specs.Reading.{Reads, is_faulted, go_on, bytes_at, bytes_read, part_read}
+use Rattle.imagesize_source.specs.State.{State, Runs, Missed, total}
 use Rattle.imagesize_source.specs.declared.error.ImageError.{ImageError}
 use Rattle.imagesize_source.specs.declared.span.Span.{Span}
 
@@ -149,3 +149,19 @@ pub head_then : {a m b : State} (r : Result ImageType ImageError) (place : ℕ) 
     → Runs a b r (layout_reads a.held.input (kind (length a.held.input) place))
 head_then {a} {m} {b} r place head first second = runs_then (bytes_read a.held.input place 12)
     (λ bs held. layout_reads held.input (kind_by (length held.input) place bs (first_row rows bs))) first second
+
+-- a head that was not read
+pub head_refused : {a b : State} (d room : List ℕ) (place : ℕ) (e : ImageError) → length room ≡ 12
+    → Runs a b (Err e) (part_read d place (length room)) → Runs a b (Err e) (bytes_read d place 12)
+head_refused {a} {b} d room place e long h = record {
+  sound = h.sound;
+  sound_after = h.sound_after;
+  frame = h.frame;
+  taken = h.taken;
+  within = subst (λ k. (honest : a.held.honest ≡ true) → b.taken ≤ a.taken + total (span_of d place k)) long h.within;
+  answer = λ honest goes_on. let no = h.answer honest goes_on in absurd cc;
+  state = λ honest goes_on. let no = h.answer honest goes_on in absurd cc;
+  fault = h.fault;
+  misses = subst (λ k. (honest : a.held.honest ≡ true) → is_faulted {X = List ℕ} (Err e) ≡ true → Missed a b (span_of d place k)) long h.misses;
+  ended = h.ended;
+}

@@ -18,7 +18,6 @@ use imagesize_fixed::formats::{
 };
 use imagesize_source::Halt;
 use imagesize_source::halt::answered;
-use imagesize_source::readings::read_bytes;
 use imagesize_source::source::Source;
 use imagesize_texts::formats::{exr, hdr, pnm};
 use imagesize_types::compression::{
@@ -52,7 +51,11 @@ fn read_kind<S: Source>(source: &mut S, place: u64) -> Result<ImageType, Halt>
     ensures { RunsOrHalts (S.state source.old) (S.state source.new) (S.failure source.new) result
         (layout_reads (S.state source.old).held.input (kind (length (S.state source.old).held.input) place)) }
 {
-    let head = read_bytes::<S, 12>(source, place)?;
+    let mut head = [0u8; 12];
+    let count = source.read_at(place, &mut head)?;
+    if count < head.len() {
+        return Err(Halt::Ended);
+    }
     by_head(source, place, &head)
 }
 

@@ -1,5 +1,6 @@
 -- What halts a reading, and the error that this ends a call with.
 use Rattle.std.specs.Prelude.{ℕ, Result, Ok, Err}
+use Rattle.std.specs.Int.{w32, to_be_bytes}
 use Rattle.imagesize_source.specs.declared.error.ImageError.{ImageError}
 use Rattle.imagesize_source.specs.declared.error.ImageError.TheVariants.{CorruptedImage, IoError, NotSupported}
 use Rattle.imagesize_source.specs.declared.error.Reason.TheVariants as reason
@@ -19,7 +20,7 @@ error_by failure budget halt.NotEnoughData = IoError reason.NotEnoughData
 error_by failure budget (halt.NoDelimiter max_size) = IoError (reason.NoDelimiter max_size)
 error_by failure budget halt.NotUtf8 = IoError reason.NotUtf8
 error_by failure budget (halt.InvalidHeifBoxSize size) = IoError (reason.InvalidHeifBoxSize size)
-error_by failure budget (halt.InvalidJxlBoxSize tag size) = IoError (reason.InvalidJxlBoxSize tag size)
+error_by failure budget (halt.InvalidJxlBoxSize size tag) = IoError (reason.InvalidJxlBoxSize (to_be_bytes w32 tag) size)
 error_by failure budget halt.InvalidJxlSignature = IoError reason.InvalidJxlSignature
 error_by failure budget halt.InvalidTiffHeader = IoError reason.InvalidTiffHeader
 error_by failure budget halt.BigTiffOffsetSize = IoError reason.BigTiffOffsetSize

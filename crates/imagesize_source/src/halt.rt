@@ -25,7 +25,8 @@ pub enum Halt {
     NoDelimiter { max_size: u32 },
     NotUtf8,
     InvalidHeifBoxSize { size: u8 },
-    InvalidJxlBoxSize { tag: [u8; 4], size: u8 },
+    // The tag is the number of its four bytes, the first the highest: a halt without arrays is moved as one value.
+    InvalidJxlBoxSize { size: u8, tag: u32 },
     InvalidJxlSignature,
     InvalidTiffHeader,
     BigTiffOffsetSize,
@@ -62,8 +63,8 @@ impl Halt {
             },
             Halt::NotUtf8 => Reason::NotUtf8,
             Halt::InvalidHeifBoxSize { size } => Reason::InvalidHeifBoxSize { size: size as u32 },
-            Halt::InvalidJxlBoxSize { tag, size } => Reason::InvalidJxlBoxSize {
-                tag,
+            Halt::InvalidJxlBoxSize { size, tag } => Reason::InvalidJxlBoxSize {
+                tag: tag.to_be_bytes(),
                 size: size as u64,
             },
             Halt::InvalidJxlSignature => Reason::InvalidJxlSignature,

@@ -134,6 +134,7 @@ fn read_long_size<S: Source>(source: &mut S, place: u64) -> Result<u64, Halt>
 }
 
 // The head, where the box ends at 2^64-1 at the latest and not before its head does.
+#[tactic(auto, using(std::proofs::lemmas::Nat::be_bytes_4))]
 fn checked(place: u64, head: BoxHead) -> Result<BoxHead, Halt>
     requires { head.length ≤ 16 }
     ensures is { IfOk result (λ found. IsHead place found) }
@@ -145,8 +146,8 @@ fn checked(place: u64, head: BoxHead) -> Result<BoxHead, Halt>
     if head.size != 0 && head.size < head.length {
         let BoxHead { tag, size, .. } = head;
         return Err(Halt::InvalidJxlBoxSize {
-            tag,
             size: size as u8,
+            tag: u32::from_be_bytes(tag),
         });
     }
     Ok(head)
