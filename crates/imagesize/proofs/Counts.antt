@@ -2,7 +2,7 @@
 use Rattle.std.proofs.Common.{ℕ, ◌+◌, ◌≤◌, List, length, Result, Ok, Err, arith}
 use Rattle.imagesize.proofs.Detection.{kind_cost, kind_at_most}
 use Rattle.imagesize.proofs.Ways.{laws_of}
-use Rattle.imagesize.specs.Counts.{cost, most, most_as, stated, stated_as}
+use Rattle.imagesize.specs.Counts.{cost, most_bytes, most_as, stated, stated_as}
 use Rattle.imagesize.specs.Meaning.{kind_of, meaning, size_of}
 use Rattle.imagesize.specs.Types.{in_record, lasts, outside, way_of}
 use Rattle.imagesize.specs.Parted.{has_texts}
@@ -11,7 +11,7 @@ use Rattle.imagesize.specs.declared.types.ImageType.TheVariants.{Aseprite}
 use Rattle.imagesize_source.proofs.Costs.{bound_of}
 use Rattle.imagesize_source.proofs.Runs.{total-append}
 use Rattle.imagesize_source.proofs.Way.{cost_way}
-use Rattle.imagesize_source.specs.Reading.{onward}
+use Rattle.imagesize_source.specs.Reading.{go_on}
 use Rattle.imagesize_source.specs.State.{total}
 use Rattle.imagesize_source.specs.declared.error.ImageError.{ImageError}
 use Rattle.imagesize_source.specs.declared.span.Span.{Span}
@@ -28,11 +28,11 @@ size_most type d = cost_way (kind_cost type) (outside type) (in_record type) (la
     (laws_of type) d
 
 onward_most : (spans : List Span) (r : Result ImageType ImageError) (d : List ℕ) → total spans ≤ bound_of kind_cost 37 r
-    → total (onward spans r (λ found. size_of found d)).marks ≤ most_as r d
+    → total (go_on spans r (λ found. size_of found d)).marks ≤ most_as r d
 onward_most spans (Ok type) d few = omega (arith, total-append spans (size_of type d).marks, few, size_most type d)
 onward_most spans (Err e) d few = omega (arith, few)
 
-pub cost_most : (d : List ℕ) (place : ℕ) → cost d place ≤ most d place
+pub cost_most : (d : List ℕ) (place : ℕ) → cost d place ≤ most_bytes d place
 unfolding meaning
 cost_most d place = onward_most (kind_of d place).marks (kind_of d place).answer d (kind_at_most d place)
 

@@ -1,5 +1,5 @@
 -- The type at a place: what it is read from, and what bytes that follow leave of it.
-use Rattle.std.proofs.Common.{◌≡◌, ℕ, ◌+◌, ◌≤◌, Bool, true, false, List, ◌++◌, length, Option, Some, None, Result, Ok, Err, refl, sym, ap, ◌∙◌, subst, arith}
+use Rattle.std.proofs.Common.{◌≡◌, ℕ, ◌≤◌, Bool, true, false, List, ◌++◌, length, Option, Some, None, Result, Ok, Err, refl, sym, ap, ◌∙◌, subst, arith}
 use Rattle.imagesize_boxes.proofs.Heif.{heif_compression_laws}
 use Rattle.imagesize_boxes.specs.Heif.{heif_compression}
 use Rattle.imagesize_fixed.proofs.Atc.{atc_compression_laws}
@@ -23,10 +23,10 @@ use Rattle.imagesize_source.proofs.Layouts.{over-bind}
 use Rattle.imagesize_source.proofs.Extension.{bytes_ok, bytes_more}
 use Rattle.imagesize_source.specs.Counts.{CostsBy}
 use Rattle.imagesize_source.specs.Input.{span_of}
-use Rattle.imagesize_source.specs.Layout.{over, bind}
+use Rattle.imagesize_source.specs.Layout.{layout_reads, bind}
 use Rattle.imagesize_source.proofs.Runs.{runs_then}
-use Rattle.imagesize_source.specs.Reading.{Reads, faulted, onward, bytes_at, bytes_read, part_read}
-use Rattle.imagesize_source.specs.State.{State, Runs, Missed, total}
+use Rattle.imagesize_source.specs.Reading.{Reads, go_on, bytes_at, bytes_read}
+use Rattle.imagesize_source.specs.State.{State, Runs, total}
 use Rattle.imagesize_source.specs.declared.error.ImageError.{ImageError}
 use Rattle.imagesize_source.specs.declared.span.Span.{Span}
 
@@ -99,27 +99,27 @@ with_alike place head (Dds k) = always_bind (Alike (Dds k)) dds_compression _ dd
 with_alike place head _ = refl
 
 -- an answer behind readings is that behind what they answered
-onward_ok : {X Y : Type 0} (spans : List Span) (r : Result X ImageError) (f : X → Reads Y) (y : Y) → (onward spans r f).answer ≡ Ok y
+onward_ok : {X Y : Type 0} (spans : List Span) (r : Result X ImageError) (f : X → Reads Y) (y : Y) → (go_on spans r f).answer ≡ Ok y
     → (x : X) × (r ≡ Ok x) × ((f x).answer ≡ Ok y)
 onward_ok spans (Ok x) f y is = (x, refl, is)
 onward_ok spans (Err e) f y is = absurd cc
 
-tga_is : (is : Bool) (d : List ℕ) (type : ImageType) → (over d (tga_or_none is)).answer ≡ Ok type → type ≡ Tga
+tga_is : (is : Bool) (d : List ℕ) (type : ImageType) → (layout_reads d (tga_or_none is)).answer ≡ Ok type → type ≡ Tga
 tga_is true d type is = cc
 tga_is false d type is = absurd cc
 
-none_lasts : (d : List ℕ) (n place : ℕ) (head : List ℕ) (type : ImageType) → (over d (bind (is_tga n head) tga_or_none)).answer ≡ Ok type
+none_lasts : (d : List ℕ) (n place : ℕ) (head : List ℕ) (type : ImageType) → (layout_reads d (bind (is_tga n head) tga_or_none)).answer ≡ Ok type
     → lasts type ≡ true → ⊥
 none_lasts d n place head type is stays =
     let both = ap (λ r. r.answer) (sym (over-bind d (is_tga n head) tga_or_none)) ∙ is in
-    let last = onward_ok (over d (is_tga n head)).marks (over d (is_tga n head)).answer (λ b. over d (tga_or_none b)) type both in
+    let last = onward_ok (layout_reads d (is_tga n head)).marks (layout_reads d (is_tga n head)).answer (λ b. layout_reads d (tga_or_none b)) type both in
     let tga_found : type ≡ Tga = tga_is last.0 d type last.2 in
     let not_tga : lasts Tga ≡ true = ap lasts (sym tga_found) ∙ stays in
     absurd cc
 
 by_more : (d x : List ℕ) (place : ℕ) (head : List ℕ) (row : Option ImageType) (type : ImageType)
-    → (over d (kind_by (length d) place head row)).answer ≡ Ok type → lasts type ≡ true → (after : ImageType)
-    × ((over (d ++ x) (kind_by (length (d ++ x)) place head row)).answer ≡ Ok after) × Alike type after
+    → (layout_reads d (kind_by (length d) place head row)).answer ≡ Ok type → lasts type ≡ true → (after : ImageType)
+    × ((layout_reads (d ++ x) (kind_by (length (d ++ x)) place head row)).answer ≡ Ok after) × Alike type after
 by_more d x place head None type is stays = absurd (none_lasts d (length d) place head type is stays)
 by_more d x place head (Some found) type is stays =
     let before = always (Alike found) d (with_compression place head found) (with_alike place head found) in
@@ -132,36 +132,21 @@ by_more d x place head (Some found) type is stays =
 pub kind_more : (d x : List ℕ) (place : ℕ) (type : ImageType) → (kind_of d place).answer ≡ Ok type → lasts type ≡ true
     → (after : ImageType) × ((kind_of (d ++ x) place).answer ≡ Ok after) × Alike type after
 kind_more d x place type is stays =
-    let head = onward_ok (span_of d place 12) (bytes_at d place 12) (λ bs. over d (kind_by (length d) place bs (first_row rows bs))) type
+    let head = onward_ok (span_of d place 12) (bytes_at d place 12) (λ bs. layout_reads d (kind_by (length d) place bs (first_row rows bs))) type
     is in
     let there : bytes_at (d ++ x) place 12 ≡ Ok head.0 = bytes_more d x place 12 (bytes_ok d head.0 place 12 head.1) ∙ head.1 in
     let after = by_more d x place head.0 (first_row rows head.0) type head.2 stays in (
       after.0,
-      ap (λ r. (onward (span_of (d ++ x) place 12) r
-          (λ bs. over (d ++ x) (kind_by (length (d ++ x)) place bs (first_row rows bs)))).answer) there ∙ after.1,
+      ap (λ r. (go_on (span_of (d ++ x) place 12) r
+          (λ bs. layout_reads (d ++ x) (kind_by (length (d ++ x)) place bs (first_row rows bs)))).answer) there ∙ after.1,
       after.2,
     )
 
 -- a head that was read, and the type by it
-pub head_then : {a m b : State} (r : Result ImageType ImageError) (place : ℕ) (head : List ℕ)
-    → Runs a m (Ok head) (bytes_read a.held.input place 12)
-    → Runs m b r (over m.held.input (kind_by (length m.held.input) place head (first_row rows head)))
-    → Runs a b r (over a.held.input (kind (length a.held.input) place))
-head_then {a} {m} {b} r place head first second = runs_then (bytes_read a.held.input place 12)
-    (λ bs held. over held.input (kind_by (length held.input) place bs (first_row rows bs))) first second
-
--- a head that was not read
-pub head_refused : {a b : State} (d room : List ℕ) (place : ℕ) (e : ImageError) → length room ≡ 12
-    → Runs a b (Err e) (part_read d place (length room)) → Runs a b (Err e) (bytes_read d place 12)
-head_refused {a} {b} d room place e long h = record {
-  sound = h.sound;
-  sound_after = h.sound_after;
-  frame = h.frame;
-  taken = h.taken;
-  within = subst (λ k. (honest : a.held.honest ≡ true) → b.taken ≤ a.taken + total (span_of d place k)) long h.within;
-  answer = λ honest goes_on. let no = h.answer honest goes_on in absurd cc;
-  state = λ honest goes_on. let no = h.answer honest goes_on in absurd cc;
-  fault = h.fault;
-  misses = subst (λ k. (honest : a.held.honest ≡ true) → faulted {X = List ℕ} (Err e) ≡ true → Missed a b (span_of d place k)) long h.misses;
-  ended = h.ended;
-}
+pub head_then : {a m b : State} (r : Result ImageType ImageError) (place : ℕ) (head : List ℕ) → length head ≡ 12
+    → Runs a m (Ok head) (bytes_read a.held.input place (length head))
+    → Runs m b r (layout_reads m.held.input (kind_by (length m.held.input) place head (first_row rows head)))
+    → Runs a b r (layout_reads a.held.input (kind (length a.held.input) place))
+head_then {a} {m} {b} r place head long first second = runs_then (bytes_read a.held.input place 12)
+    (λ bs held. layout_reads held.input (kind_by (length held.input) place bs (first_row rows bs)))
+    (subst (λ k. Runs a m (Ok head) (bytes_read a.held.input place k)) long first) second

@@ -3,8 +3,8 @@ use Rattle.std.proofs.Common.{◌≡◌, ℕ, ◌+◌, ◌-◌, ◌^◌, ◌≤�
 use Rattle.std.specs.Prelude.{option_map}
 use Rattle.imagesize.specs.Probed.{SpentAll}
 use Rattle.imagesize_io.proofs.Openings.{stop_cases, some_spent}
-use Rattle.imagesize_source.specs.Reading.{Reads, is_memory, is_stop, spent, stopped}
-use Rattle.imagesize_io.specs.Standing.{since}
+use Rattle.imagesize_source.specs.Reading.{Reads, is_memory, is_stop, spent, is_stopped}
+use Rattle.imagesize_io.specs.Standing.{drift}
 use Rattle.imagesize_source.specs.State.{State, Runs}
 use Rattle.imagesize_source.specs.declared.error.ImageError.{ImageError}
 
@@ -26,7 +26,7 @@ unless false h = refl
 
 -- a source that cannot fail and counts nothing stops a call for want of memory alone
 pub stops_for_memory : {X : Type 0} {a b : State} (r : Result X ImageError) (reads : Reads X) → a.held.honest ≡ true → a.held.can_fail ≡ false
-    → a.frame.counts ≡ false → IfErr r (λ e. is_memory e ≡ false) → Runs a b r reads → stopped r ≡ false
+    → a.frame.counts ≡ false → IfErr r (λ e. is_memory e ≡ false) → Runs a b r reads → is_stopped r ≡ false
 stops_for_memory (Ok x) reads honest sure uncounted memory h = refl
 stops_for_memory {b = b} (Err e) reads honest sure uncounted memory h = unless (is_stop e) (λ stops. elim (stop_cases e stops) [
   | inl faults ↦ let no : true ≡ false = sym (h.fault honest faults) ∙ sure in (cc)
@@ -41,7 +41,7 @@ stops_for_memory {b = b} (Err e) reads honest sure uncounted memory h = unless (
 
 -- over a slice that records nothing nothing does
 pub never_stopped : {X : Type 0} {a b : State} (r : Result X ImageError) (reads : Reads X) → a.held.honest ≡ true → a.held.can_fail ≡ false
-    → a.frame.counts ≡ false → a.frame.records ≡ false → Runs a b r reads → stopped r ≡ false
+    → a.frame.counts ≡ false → a.frame.records ≡ false → Runs a b r reads → is_stopped r ≡ false
 never_stopped r reads honest sure uncounted none h = stops_for_memory r reads honest sure uncounted (no_memory r reads none h) h
 
 some_budget : (named : Option ℕ) (budget taken n : ℕ) (counts : Bool) → 64 ≤ budget → n ≡ taken
@@ -69,7 +69,7 @@ budget_least {b = b} told (Err e) reads start h = least (spent e) b.taken (budge
 parts : (p q : ℕ × ℕ) → p ≡ q → (p.0 ≡ q.0) × (p.1 ≡ q.1)
 parts p q same = (ap (λ (x : ℕ × ℕ). x.0) same, ap (λ (x : ℕ × ℕ). x.1) same)
 
-rose : (before after : Option ℕ) (taken : ℕ) → since after taken ≡ since before 0 → after ≡ option_map (λ c. c + taken) before
+rose : (before after : Option ℕ) (taken : ℕ) → drift after taken ≡ drift before 0 → after ≡ option_map (λ c. c + taken) before
 rose None None taken same = refl
 rose None (Some c) taken same = absurd cc
 rose (Some c) None taken same = absurd cc
@@ -84,8 +84,8 @@ all_spent (Some n) before after taken up is = (is.1, up ∙ ap (λ k. option_map
 
 -- a named count rose by all of it
 pub budget_counted : {X : Type 0} {a b : State} (told : ℕ) (before after : Option ℕ) (r : Result X ImageError) (reads : Reads X)
-    → a.frame.budget ≡ min (told + 64) (2 ^ 64 - 1) → a.frame.since ≡ since before 0 → Runs a b r reads
-    → b.frame.since ≡ since after b.taken → IfErr r (λ e. IfSome (spent e) (SpentAll before after))
+    → a.frame.budget ≡ min (told + 64) (2 ^ 64 - 1) → a.frame.since ≡ drift before 0 → Runs a b r reads
+    → b.frame.since ≡ drift after b.taken → IfErr r (λ e. IfSome (spent e) (SpentAll before after))
 budget_counted told before after (Ok x) reads start counts h counted = tt
 budget_counted {b = b} told before after (Err e) reads start counts h counted =
     all_spent (spent e) before after b.taken

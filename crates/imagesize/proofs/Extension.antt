@@ -9,14 +9,14 @@ use Rattle.imagesize.specs.Parted.{has_texts}
 use Rattle.imagesize_types.specs.declared.size.ImageSize.{ImageSize}
 use Rattle.imagesize.specs.declared.types.ImageType.{ImageType}
 use Rattle.imagesize_source.proofs.Way.{lasts_way}
-use Rattle.imagesize_source.specs.Reading.{onward}
+use Rattle.imagesize_source.specs.Reading.{go_on}
 use Rattle.imagesize_source.specs.Way.{by_way}
 use Rattle.imagesize_source.specs.declared.error.ImageError.{ImageError}
 
 meaning_of : (d : List ℕ) (place : ℕ) (type : ImageType) → (kind_of d place).answer ≡ Ok type → (meaning d place).answer
     ≡ (size_of type d).answer
 unfolding meaning
-meaning_of d place type is = ap (λ r. (onward (kind_of d place).marks r (λ found. size_of found d)).answer) is
+meaning_of d place type is = ap (λ r. (go_on (kind_of d place).marks r (λ found. size_of found d)).answer) is
 
 lasting_kind : (r : Result ImageType ImageError) → lasts_as r ≡ true → (type : ImageType) × (r ≡ Ok type) × (lasts type ≡ true)
 lasting_kind (Ok type) stays = (type, refl, stays)

@@ -9,26 +9,26 @@ use Rattle.imagesize.specs.Parted.{has_texts}
 use Rattle.imagesize.specs.declared.types.ImageType.{ImageType}
 use Rattle.imagesize_source.proofs.Agreement.{alike_more, costed_texts, local_layout, local_then, local_length}
 use Rattle.imagesize_source.proofs.Way.{local_way}
-use Rattle.imagesize_source.specs.Agreement.{Local}
-use Rattle.imagesize_source.specs.Layout.{over}
+use Rattle.imagesize_source.specs.Agreement.{IsLocal}
+use Rattle.imagesize_source.specs.Layout.{layout_reads}
 use Rattle.imagesize_source.specs.Reading.{Reads}
 
 -- the type sees an input by its marks
-pub local_kind : (place : ℕ) → Local false (λ d. kind_of d place)
-local_kind place = local_length (λ n d. over d (kind n place)) (λ n. local_layout (kind n place) (costed_texts false kind_cost 37 0 (kind n place) (kind_costs n place)))
+pub local_kind : (place : ℕ) → IsLocal false (λ d. kind_of d place)
+local_kind place = local_length (λ n d. layout_reads d (kind n place)) (λ n. local_layout (kind n place) (costed_texts false kind_cost 37 0 (kind n place) (kind_costs n place)))
 
 -- and a size does
-pub local_size : (type : ImageType) → Local (has_texts type) (size_of type)
+pub local_size : (type : ImageType) → IsLocal (has_texts type) (size_of type)
 local_size type = local_way (kind_cost type) (outside type) (in_record type) (lasts type) (has_texts type) (way_of type)
     (laws_of type)
 
 -- where no texts are read, none are among readings with them
-widened : {X : Type 0} (texts : Bool) (r : List ℕ → Reads X) → Local texts r → Local true r
+widened : {X : Type 0} (texts : Bool) (r : List ℕ → Reads X) → IsLocal texts r → IsLocal true r
 widened true r is = is
 widened false r is = λ d e long. alike_more true d e (r d) (r e) (is d e long)
 
 -- an input that agrees with another on its marks has the same type, the same size and the same marks
-pub local_meaning : (place : ℕ) → Local true (λ d. meaning d place)
+pub local_meaning : (place : ℕ) → IsLocal true (λ d. meaning d place)
 unfolding meaning
 local_meaning place = local_then (λ d. kind_of d place) size_of (widened false (λ d. kind_of d place) (local_kind place))
     (λ type. widened (has_texts type) (size_of type) (local_size type))

@@ -13,7 +13,7 @@ use Rattle.imagesize.specs.declared.types.ImageType.{ImageType}
 use Rattle.imagesize_io.proofs.Openings.{IsBounded, Began, claim, start_of, start_holds, opened_answers, opened_takes}
 use Rattle.imagesize_source.proofs.Runs.{runs_then, runs_refused}
 use Rattle.imagesize_io.specs.Answers.{Answers, TakesAs}
-use Rattle.imagesize_source.specs.Reading.{stopped}
+use Rattle.imagesize_source.specs.Reading.{is_stopped}
 use Rattle.imagesize_io.specs.ReaderState.{Opens, start_state}
 use Rattle.imagesize_source.specs.State.{State, Runs}
 use Rattle.imagesize_io.specs.Telling.{Telling, IsHonest}
@@ -50,7 +50,7 @@ kind_answers telling mid count home opened a b r start opens h =
 
 found_kind : (t : Telling) (mid : Option Telling) (count : Option ℕ) (home told place : ℕ) (a : State) (found : Option ImageType)
     (r : Result ImageSize ImageError) → IsHonest t → Began t mid told place → a ≡ start_state mid count home told
-    → FindsKind a place found r → (IfSome found (λ type. (kind_of t.bytes t.place).answer ≡ Ok type)) × (stopped r ≡ false
+    → FindsKind a place found r → (IfSome found (λ type. (kind_of t.bytes t.place).answer ≡ Ok type)) × (is_stopped r ≡ false
     → found ≡ result_ok (kind_of t.bytes t.place).answer)
 found_kind t mid count home told place a found r honest began start finds =
     let held : a.held ≡ claim t = ap (λ s. s.held) (start ∙ start_of t mid count home told place began) ∙ start_holds t count home honest

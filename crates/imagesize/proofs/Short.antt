@@ -8,8 +8,8 @@ use Rattle.imagesize.specs.Short.{Ends}
 use Rattle.imagesize_io.specs.Answers.{Answers}
 use Rattle.imagesize_io.specs.Telling.{Telling}
 use Rattle.imagesize_source.specs.Input.{span_of}
-use Rattle.imagesize_source.specs.Layout.{over}
-use Rattle.imagesize_source.specs.Reading.{Reads, bytes_at, end_of_input, onward}
+use Rattle.imagesize_source.specs.Layout.{layout_reads}
+use Rattle.imagesize_source.specs.Reading.{Reads, bytes_at, end_of_input, go_on}
 use Rattle.imagesize_source.specs.declared.error.ImageError.{ImageError}
 
 no_head : (d : List ℕ) (place : ℕ) → length d < place + 12 → bytes_at d place 12 ≡ Err end_of_input
@@ -18,12 +18,12 @@ no_head d place few = grind (arith, nat_tests)
 
 pub no_kind : (d : List ℕ) (place : ℕ) → length d < place + 12 → (kind_of d place).answer ≡ Err end_of_input
 no_kind d place few =
-    ap (λ r. (onward (span_of d place 12) r (λ head. over d (kind_by (length d) place head (first_row rows head)))).answer)
+    ap (λ r. (go_on (span_of d place 12) r (λ head. layout_reads d (kind_by (length d) place head (first_row rows head)))).answer)
     (no_head d place few)
 
 pub no_meaning : (d : List ℕ) (place : ℕ) → length d < place + 12 → (meaning d place).answer ≡ Err end_of_input
 unfolding meaning
-no_meaning d place few = ap (λ r. (onward (kind_of d place).marks r (λ found. size_of found d)).answer) (no_kind d place few)
+no_meaning d place few = ap (λ r. (go_on (kind_of d place).marks r (λ found. size_of found d)).answer) (no_kind d place few)
 
 -- so does an answer of a reader
 pub answers_end : {X : Type 0} (telling : Option Telling) (reads_of : List ℕ → ℕ → Reads X) (r : Result X ImageError)

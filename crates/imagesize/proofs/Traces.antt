@@ -1,5 +1,6 @@
 -- What a recording slice shows of an answer.
-use Rattle.std.proofs.Common.{◌≡◌, ℕ, ◌+◌, ◌≤◌, false, List, [], ◌++◌, length, Result, Ok, Err, IfErr, IfOk, IsTrue, refl, sym, ap, ◌∙◌, arith}
+use Rattle.std.proofs.Common.{◌≡◌, ℕ, ◌+◌, ◌≤◌, Bool, true, false, List, [], ◌++◌, length, take, Result, Ok, Err, IfErr, IfOk, IsTrue, refl, sym, ap, ◌∙◌, arith}
+use Rattle.std.proofs.lemmas.List.{take_all}
 use Rattle.imagesize.specs.Counts.{lasts_as, stated}
 use Rattle.imagesize.specs.Meaning.{kind_of, meaning, size_of}
 use Rattle.imagesize.specs.Probed.{FindsKind}
@@ -13,13 +14,13 @@ use Rattle.imagesize.proofs.Locality.{local_kind, local_meaning}
 use Rattle.imagesize_source.proofs.Agreement.{agrees_first, same_by_local}
 use Rattle.imagesize_source.proofs.Recordings.{past-recording}
 use Rattle.imagesize_source.specs.Agreement.{Agrees}
-use Rattle.imagesize_source.specs.Reading.{Reads, is_memory, stopped}
+use Rattle.imagesize_source.specs.Reading.{Reads, is_memory, is_stopped}
 use Rattle.imagesize_source.specs.State.{State, Runs, recording_state, total}
 use Rattle.imagesize_source.specs.declared.error.ImageError.{ImageError}
 use Rattle.imagesize_source.specs.declared.span.Span.{Span}
 
 -- one state has one list of spans
-spans_of : {d e : List ℕ} {s t : List Span} → recording_state e s ≡ recording_state d t → s ≡ t
+pub spans_of : {d e : List ℕ} {s t : List Span} {a b : Bool} {g h : ℕ} → recording_state e s a g ≡ recording_state d t b h → s ≡ t
 spans_of e = let same = ap (λ (a : State). a.recorded) e in (cc)
 
 memory_there : {X : Type 0} (r : Result X ImageError) → lacks_memory r ≡ false → IfErr r (λ e. is_memory e ≡ false)
@@ -28,44 +29,53 @@ memory_there (Err e) memory = memory
 
 -- over a slice no failure and no spent budget ends a call
 goes_on : (d after : List ℕ) (spans : List Span) (r : Result ImageSize ImageError) (reads : Reads ImageSize)
-    → Runs (recording_state d []) (recording_state after spans) r reads → lacks_memory r ≡ false → stopped r ≡ false
+    → Runs (recording_state d [] true 0) (recording_state after spans true 0) r reads → lacks_memory r ≡ false → is_stopped r ≡ false
 goes_on d after spans r reads h memory = stops_for_memory r reads refl refl refl (memory_there r memory) h
 
 -- where memory was found, the spans are those of the readings
-marked : (d after : List ℕ) (spans : List Span) (r : Result ImageSize ImageError) → Runs (recording_state d [])
-    (recording_state after spans) r (meaning d 0) → lacks_memory r ≡ false → spans ≡ (meaning d 0).marks
+marked : (d after : List ℕ) (spans : List Span) (r : Result ImageSize ImageError) → Runs (recording_state d [] true 0)
+    (recording_state after spans true 0) r (meaning d 0) → lacks_memory r ≡ false → spans ≡ (meaning d 0).marks
 marked d after spans r h memory = spans_of (h.state refl (goes_on d after spans r (meaning d 0) h memory) ∙ past-recording d []
-    (meaning d 0).marks)
+    (meaning d 0).marks true 0)
 
 -- and the answer is theirs
-answered : (d after : List ℕ) (spans : List Span) (r : Result ImageSize ImageError) → Runs (recording_state d [])
-    (recording_state after spans) r (meaning d 0) → lacks_memory r ≡ false → r ≡ (meaning d 0).answer
+answered : (d after : List ℕ) (spans : List Span) (r : Result ImageSize ImageError) → Runs (recording_state d [] true 0)
+    (recording_state after spans true 0) r (meaning d 0) → lacks_memory r ≡ false → r ≡ (meaning d 0).answer
 answered d after spans r h memory = sym (h.answer refl (goes_on d after spans r (meaning d 0) h memory))
 
-pub traced : {A : Type 0} (d after : List ℕ) (t : Trace A) → Runs (recording_state d []) (recording_state after t.spans.items) t.answer
-    (meaning d 0) → FindsKind (recording_state d []) 0 t.kind t.answer → lacks_memory t.answer ≡ false → Traces d t
-traced d after t h finds memory =
-    let on = goes_on d after t.spans.items t.answer (meaning d 0) h memory in
+-- memory has all of them
+all_held : (items spans : List Span) → items ≡ take (length spans) spans → items ≡ spans
+all_held items spans held = held ∙ take_all (length spans) spans (omega arith)
+
+pub traced : {A : Type 0} (d after : List ℕ) (spans : List Span) (t : Trace A) → Runs (recording_state d [] true 0)
+    (recording_state after spans true 0) t.answer (meaning d 0) → FindsKind (recording_state d [] true 0) 0 t.kind t.answer
+    → t.spans.items ≡ take (length spans) spans → lacks_memory t.answer ≡ false → Traces d t
+traced d after spans t h finds held memory =
+    let on = goes_on d after spans t.answer (meaning d 0) h memory in
     record {
       kind = finds.whole refl on;
-      answer = answered d after t.spans.items t.answer h memory;
-      spans = marked d after t.spans.items t.answer h memory;
+      answer = answered d after spans t.answer h memory;
+      spans = all_held t.spans.items spans held ∙ marked d after spans t.answer h memory;
       goes = on;
     }
 
 -- the spans are together at most as long as is stated
-pub spans_stated : (d after : List ℕ) (spans : List Span) (r : Result ImageSize ImageError) → Runs (recording_state d [])
-    (recording_state after spans) r (meaning d 0) → lacks_memory r ≡ false → total spans ≤ stated d 0
-spans_stated d after spans r h memory = rw (marked d after spans r h memory) (cost_stated d 0)
+pub spans_stated : (d after : List ℕ) (items spans : List Span) (r : Result ImageSize ImageError) → Runs (recording_state d [] true 0)
+    (recording_state after spans true 0) r (meaning d 0) → items ≡ take (length spans) spans → lacks_memory r ≡ false
+    → total items ≤ stated d 0
+spans_stated d after items spans r h held memory =
+    rw (all_held items spans held ∙ marked d after spans r h memory) (cost_stated d 0)
 
 -- and as there are bytes and 64 more
-pub spans_within : (d after : List ℕ) (spans : List Span) (r : Result ImageSize ImageError) → Runs (recording_state d [])
-    (recording_state after spans) r (meaning d 0) → lacks_memory r ≡ false → total spans ≤ length d + 64
-spans_within d after spans r h memory = rw (marked d after spans r h memory) (omega (arith, cost_within d 0))
+pub spans_within : (d after : List ℕ) (items spans : List Span) (r : Result ImageSize ImageError) → Runs (recording_state d [] true 0)
+    (recording_state after spans true 0) r (meaning d 0) → items ≡ take (length spans) spans → lacks_memory r ≡ false
+    → total items ≤ length d + 64
+spans_within d after items spans r h held memory =
+    rw (all_held items spans held ∙ marked d after spans r h memory) (omega (arith, cost_within d 0))
 
 -- a size stays, whatever bytes follow
-pub answer_lasts : (d after : List ℕ) (spans : List Span) (r : Result ImageSize ImageError) → Runs (recording_state d [])
-    (recording_state after spans) r (meaning d 0) → lacks_memory r ≡ false → IsTrue (lasts_as (kind_of d 0).answer)
+pub answer_lasts : (d after : List ℕ) (spans : List Span) (r : Result ImageSize ImageError) → Runs (recording_state d [] true 0)
+    (recording_state after spans true 0) r (meaning d 0) → lacks_memory r ≡ false → IsTrue (lasts_as (kind_of d 0).answer)
     → IfOk r (λ size. (x : List ℕ) → (meaning (d ++ x) 0).answer ≡ Ok size)
 answer_lasts d after spans r h memory = size_lasts d 0 r (answered d after spans r h memory)
 

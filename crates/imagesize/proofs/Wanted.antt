@@ -18,11 +18,11 @@ use Rattle.imagesize_io.proofs.Openings.{stop_cases, some_spent}
 use Rattle.imagesize_source.specs.declared.error.ImageError.{ImageError}
 use Rattle.imagesize_source.specs.declared.source.parts.Missing.{Missing}
 use Rattle.imagesize_source.specs.declared.span.Span.{Span}
-use Rattle.imagesize_source.specs.Agreement.{Agrees, Local, Parting, covered, has_place, has_whole}
+use Rattle.imagesize_source.specs.Agreement.{Agrees, IsLocal, Parting, is_covered, has_place, has_whole}
 use Rattle.imagesize_source.specs.Input.{span_at}
 use Rattle.imagesize_source.specs.Known.{AllKnown, HasParts, Lacks, filled, parts_state, sure_of}
-use Rattle.imagesize_source.specs.Reading.{Reads, faulted, is_stop, onward, spent, stopped}
-use Rattle.imagesize_source.specs.State.{State, Runs, past}
+use Rattle.imagesize_source.specs.Reading.{Reads, is_faulted, is_stop, go_on, spent, is_stopped}
+use Rattle.imagesize_source.specs.State.{State, Runs, state_after}
 use Rattle.imagesize_source.proofs.Agreement.{covered-left, covered-one, covered-right, same_by_local}
 use Rattle.imagesize_source.proofs.Runs.{marks_onward}
 use Rattle.imagesize_source.proofs.Known.{known_agrees, known_same, length-filled, unknown_free}
@@ -56,7 +56,7 @@ middle : (before : List Span) (m : Span) (rest : List Span) → Among m (before 
 middle [] m rest P is = or_left (P m) (list_any P rest) is
 middle (x ∷ before) m rest P is = or_right (P x) (list_any P (before ++ m ∷ rest)) (middle before m rest P is)
 
-covered-any : (spans : List Span) (place : ℕ) → covered spans place ≡ list_any (λ s. has_place s place) spans
+covered-any : (spans : List Span) (place : ℕ) → is_covered spans place ≡ list_any (λ s. has_place s place) spans
 covered-any [] place = refl
 covered-any (s ∷ spans) place = ap (λ b. has_place s place || b) (covered-any spans place)
 
@@ -83,7 +83,7 @@ later_cut (x ∷ made) (y ∷ seen) rest others m mark same = later (later_cut m
 -- ---- a source of parts is stopped by what it misses alone
 
 only_fault : {X : Type 0} {a b : State} (r : Result X ImageError) (reads : Reads X) → a.frame.counts ≡ false → a.frame.records ≡ false
-    → Runs a b r reads → faulted r ≡ false → stopped r ≡ false
+    → Runs a b r reads → is_faulted r ≡ false → is_stopped r ≡ false
 only_fault (Ok x) reads uncounted none h no_fault = refl
 only_fault {b = b} (Err e) reads uncounted none h no_fault = unless (is_stop e) (λ stops. elim (stop_cases e stops) [
   | inl faults ↦ let no : true ≡ false = sym faults ∙ no_fault in (cc)
@@ -108,8 +108,8 @@ pub record Called {X : Type 0} (f : List ℕ → Reads X) (n : ℕ) (spans : Lis
 
 -- the spans of readings are recorded behind those before
 past-parts : (n : ℕ) (spans : List Span) (bytes : List ℕ) (log : List Span) (missed : Option Missing) (more : List Span)
-    → past (parts_state n spans bytes log missed) more ≡ parts_state n spans bytes (log ++ more) missed
-unfolding past
+    → state_after (parts_state n spans bytes log missed) more ≡ parts_state n spans bytes (log ++ more) missed
+unfolding state_after
 past-parts n spans bytes log missed [] = ap (λ s. parts_state n spans bytes s missed) (sym (append-nil log))
 past-parts n spans bytes log missed (s ∷ more) = past-parts n spans bytes (log ++ s ∷ []) missed more
     ∙ ap (λ t. parts_state n spans bytes t missed) (append_assoc log (s ∷ []) more)
@@ -125,10 +125,10 @@ some_is e = cc
 
 -- ---- an input that has the parts, and local readings of it
 
-module _ {X : Type 0} (texts : Bool) (f : List ℕ → Reads X) (is_local : Local texts f) (d : List ℕ) (n : ℕ) (spans : List Span) (bytes : List ℕ)
+module _ {X : Type 0} (texts : Bool) (f : List ℕ → Reads X) (is_local : IsLocal texts f) (d : List ℕ) (n : ℕ) (spans : List Span) (bytes : List ℕ)
     (has : HasParts d n spans bytes) (short : n < 2 ^ 63) where
   -- where nothing is missed, it agrees with what was read
-  agreed : (log : List Span) (missed : Option Missing) (r : Result X ImageError) → Called f n spans bytes log missed r → faulted r ≡ false
+  agreed : (log : List Span) (missed : Option Missing) (r : Result X ImageError) → Called f n spans bytes log missed r → is_faulted r ≡ false
       → Agrees (filled n spans bytes) d (f (filled n spans bytes)).marks
   agreed log missed r call no_fault =
       let honest = is_short n short in
@@ -140,7 +140,7 @@ module _ {X : Type 0} (texts : Bool) (f : List ℕ → Reads X) (is_local : Loca
       (subst (λ l. AllKnown n spans bytes l) marked call.seen)
 
   -- and the answer is its own
-  right : (log : List Span) (missed : Option Missing) (r : Result X ImageError) → Called f n spans bytes log missed r → faulted r ≡ false
+  right : (log : List Span) (missed : Option Missing) (r : Result X ImageError) → Called f n spans bytes log missed r → is_faulted r ≡ false
       → r ≡ (f d).answer
   right log missed r call no_fault =
       let honest = is_short n short in
@@ -152,7 +152,7 @@ module _ {X : Type 0} (texts : Bool) (f : List ℕ → Reads X) (is_local : Loca
   wanted_mark : (log : List Span) (s : Span) (made : List Span) (mark : Span) (rest : List Span) → AllKnown n spans bytes log → 0 < s.len
       → log ≡ made ++ span_at mark.start (s.start - mark.start) → (f (filled n spans bytes)).marks ≡ made ++ mark ∷ rest
       → mark.start ≤ s.start → s.start + s.len ≤ mark.start + mark.len
-      → (covered (f d).marks s.start ≡ true) × (texts ≡ false → has_whole (f d).marks s ≡ true)
+      → (is_covered (f d).marks s.start ≡ true) × (texts ≡ false → has_whole (f d).marks s ≡ true)
   wanted_mark log s made mark rest seen some is_log all from fits =
       elim (is_local (filled n spans bytes) d (has.as_long ∙ sym (length-filled n spans bytes))) [
         | inl same ↦ both (subst (Among mark) (sym (ap (λ w. w.marks) same ∙ all)) (middle made mark rest))
@@ -164,15 +164,15 @@ module _ {X : Type 0} (texts : Bool) (f : List ℕ → Reads X) (is_local : Loca
           let begins = from in let ends = fits in
           among (λ x. leb x.start s.start && leb (s.start + s.len) (x.start + x.len)) (grind (arith, nat_tests))
 
-      begun : (x : Span) → Among x (f d).marks → has_place x s.start ≡ true → covered (f d).marks s.start ≡ true
+      begun : (x : Span) → Among x (f d).marks → has_place x s.start ≡ true → is_covered (f d).marks s.start ≡ true
       begun x among there = covered-any (f d).marks s.start ∙ among (λ y. has_place y s.start) there
 
-      both : Among mark (f d).marks → (covered (f d).marks s.start ≡ true) × (texts ≡ false → has_whole (f d).marks s ≡ true)
+      both : Among mark (f d).marks → (is_covered (f d).marks s.start ≡ true) × (texts ≡ false → has_whole (f d).marks s ≡ true)
       both among =
           let begins = from in let ends = fits in let has_one = some in
           (begun mark among (grind (arith, nat_tests)), λ _. whole among)
 
-      not_seen : (parts : Parting texts (filled n spans bytes) d (f (filled n spans bytes)).marks (f d).marks) → covered log parts.place ≡ true → ⊥
+      not_seen : (parts : Parting texts (filled n spans bytes) d (f (filled n spans bytes)).marks (f d).marks) → is_covered log parts.place ≡ true → ⊥
       not_seen parts here = parts.differs (known_same d n spans bytes parts.place has (seen parts.place here))
 
       -- the inputs part behind what was seen
@@ -183,12 +183,12 @@ module _ {X : Type 0} (texts : Bool) (f : List ℕ → Reads X) (is_local : Loca
           let above : mark.start ≤ parts.place = grind (arith, nat_tests) in
           let same : mark.start + (parts.place - mark.start) ≡ parts.place = omega (arith, above) in
           let part : List Span = span_at mark.start (s.start - mark.start) in
-          let seen_it : covered part parts.place ≡ true =
-          subst (λ p. covered part p ≡ true) same
+          let seen_it : is_covered part parts.place ≡ true =
+          subst (λ p. is_covered part p ≡ true) same
           (covered-one mark.start (s.start - mark.start) (parts.place - mark.start) (omega (arith, less, above))) in
-          absurd (not_seen parts (subst (λ l. covered l parts.place ≡ true) (sym is_log) (covered-right made part parts.place seen_it)))
+          absurd (not_seen parts (subst (λ l. is_covered l parts.place ≡ true) (sym is_log) (covered-right made part parts.place seen_it)))
 
-      at_parting : (parts : Parting texts (filled n spans bytes) d (f (filled n spans bytes)).marks (f d).marks) → mark ≡ parts.mark → (covered (f d).marks s.start ≡ true) × (texts ≡ false → has_whole (f d).marks s ≡ true)
+      at_parting : (parts : Parting texts (filled n spans bytes) d (f (filled n spans bytes)).marks (f d).marks) → mark ≡ parts.mark → (is_covered (f d).marks s.start ≡ true) × (texts ≡ false → has_whole (f d).marks s ≡ true)
       at_parting parts at =
           let there : Among parts.other (f d).marks = subst (Among parts.other) (sym parts.there) (middle parts.seen parts.other parts.others) in
           let starts : parts.other.start ≡ mark.start = parts.start ∙ ap (λ x. x.start) (sym at) in
@@ -199,15 +199,15 @@ module _ {X : Type 0} (texts : Bool) (f : List ℕ → Reads X) (is_local : Loca
           )
 
       by_cut : (parts : Parting texts (filled n spans bytes) d (f (filled n spans bytes)).marks (f d).marks)
-          → Among parts.mark made ⊎ ((mark ≡ parts.mark) ⊎ ((more : List Span) → Among mark (parts.seen ++ more))) → (covered (f d).marks s.start ≡ true) × (texts ≡ false → has_whole (f d).marks s ≡ true)
-      by_cut parts (inl before) = absurd (not_seen parts (subst (λ l. covered l parts.place ≡ true) (sym is_log)
+          → Among parts.mark made ⊎ ((mark ≡ parts.mark) ⊎ ((more : List Span) → Among mark (parts.seen ++ more))) → (is_covered (f d).marks s.start ≡ true) × (texts ≡ false → has_whole (f d).marks s ≡ true)
+      by_cut parts (inl before) = absurd (not_seen parts (subst (λ l. is_covered l parts.place ≡ true) (sym is_log)
           (covered-left made (span_at mark.start (s.start - mark.start)) parts.place
           (covered-any made parts.place ∙ before (λ x. has_place x parts.place) parts.within))))
       by_cut parts (inr (inl at)) = at_parting parts at
       by_cut parts (inr (inr among)) = both (subst (Among mark) (sym parts.there) (among (parts.other ∷ parts.others)))
 
   -- where something is missed, it is wanted
-  wants : (log : List Span) (m : Missing) (r : Result X ImageError) → Called f n spans bytes log (Some m) r → faulted r ≡ true
+  wants : (log : List Span) (m : Missing) (r : Result X ImageError) → Called f n spans bytes log (Some m) r → is_faulted r ≡ true
       → Wants texts (f d).marks spans (wanted_of texts m)
   wants log m r call faults =
       let is = (call.runs.misses (is_short n short) faults).told in
@@ -220,23 +220,23 @@ module _ {X : Type 0} (texts : Bool) (f : List ℕ → Reads X) (is_local : Loca
 
   -- a failure misses something
   says_wanted : {T : Type 0} (IsSo : T → Type 0) (found : T) (log : List Span) (missed : Option Missing) (r : Result X ImageError)
-      → Called f n spans bytes log missed r → faulted r ≡ true
+      → Called f n spans bytes log missed r → is_faulted r ≡ true
       → Says texts IsSo (f d).marks spans (told found (option_map (wanted_of texts) missed))
   says_wanted IsSo found log None r call faults = absurd (call.runs.misses (is_short n short) faults).told
   says_wanted IsSo found log (Some m) r call faults = wants log m r call faults
 
   -- by the code's test
   pub says : {T : Type 0} (IsSo : T → Type 0) (found : T) (log : List Span) (missed : Option Missing) (r : Result X ImageError)
-      → Called f n spans bytes log missed r → (faulted r ≡ false → IsSo found)
-      → Says texts IsSo (f d).marks spans (told found (option_map (wanted_of texts) (cond (faulted r) missed None)))
-  says IsSo found log missed r call is_so = by_test (faulted r) refl where
-    by_test : (test : Bool) → faulted r ≡ test
+      → Called f n spans bytes log missed r → (is_faulted r ≡ false → IsSo found)
+      → Says texts IsSo (f d).marks spans (told found (option_map (wanted_of texts) (cond (is_faulted r) missed None)))
+  says IsSo found log missed r call is_so = by_test (is_faulted r) refl where
+    by_test : (test : Bool) → is_faulted r ≡ test
         → Says texts IsSo (f d).marks spans (told found (option_map (wanted_of texts) (cond test missed None)))
     by_test true faults = says_wanted IsSo found log missed r call faults
     by_test false no_fault = is_so no_fault
 
   pub says_of : (log : List Span) (missed : Option Missing) (r : Result X ImageError) → Called f n spans bytes log missed r
-      → SaysOf texts (f d) spans (told r (option_map (wanted_of texts) (cond (faulted r) missed None)))
+      → SaysOf texts (f d) spans (told r (option_map (wanted_of texts) (cond (is_faulted r) missed None)))
   says_of log missed r call = says (λ answer. answer ≡ (f d).answer) r log missed r call (right log missed r call)
 
 -- ---- the type beside a size
@@ -247,7 +247,7 @@ pub type_wanted : (d : List ℕ) (spans : List Span) (w : Span) → Wants false 
 unfolding meaning
 type_wanted d spans w wants =
     let more = marks_onward (kind_of d 0).marks (kind_of d 0).answer (λ found. size_of found d) in (
-      ap (λ s. covered s w.start) more.1 ∙ covered-left (kind_of d 0).marks more.0 w.start wants.0,
+      ap (λ s. is_covered s w.start) more.1 ∙ covered-left (kind_of d 0).marks more.0 w.start wants.0,
       wants.1,
       λ _. ap (λ s. has_whole s w) more.1 ∙ any_left (λ s. leb s.start w.start && leb (w.start + w.len) (s.start + s.len)) (kind_of d 0).marks more.0
           (wants.2 refl),
@@ -258,7 +258,7 @@ pub type_refused : (d : List ℕ) (e : ImageError) → ◌≡◌ {A = Result Ima
 unfolding meaning
 type_refused d e is = (
   ap (λ (r : Result ImageType ImageError). result_ok r) is,
-  ap (λ r. (onward (kind_of d 0).marks r (λ found. size_of found d)).answer) is,
+  ap (λ r. (go_on (kind_of d 0).marks r (λ found. size_of found d)).answer) is,
 )
 
 -- and a type that is found has its size
@@ -268,12 +268,12 @@ pub type_sized : (d : List ℕ) (spans : List Span) (type : ImageType) (answer :
 unfolding meaning
 type_sized d spans type (Found answer) is says = (
   ap (λ (r : Result ImageType ImageError). result_ok r) is,
-  says ∙ ap (λ r. (onward (kind_of d 0).marks r (λ found. size_of found d)).answer) is,
+  says ∙ ap (λ r. (go_on (kind_of d 0).marks r (λ found. size_of found d)).answer) is,
 )
 type_sized d spans type (Wanted w) is says =
     let marks : (meaning d 0).marks ≡ (kind_of d 0).marks ++ (size_of type d).marks =
-    ap (λ r. (onward (kind_of d 0).marks r (λ found. size_of found d)).marks) (sym is) in (
-      ap (λ s. covered s w.start) marks ∙ covered-right (kind_of d 0).marks (size_of type d).marks w.start says.0,
+    ap (λ r. (go_on (kind_of d 0).marks r (λ found. size_of found d)).marks) (sym is) in (
+      ap (λ s. is_covered s w.start) marks ∙ covered-right (kind_of d 0).marks (size_of type d).marks w.start says.0,
       says.1,
       λ none. ap (λ s. has_whole s w) marks ∙ any_right (λ s. leb s.start w.start && leb (w.start + w.len) (s.start + s.len)) (kind_of d 0).marks
           (size_of type d).marks (says.2 (ap texts_as is ∙ none)),
@@ -296,12 +296,17 @@ fits texts n spans bytes missed found false lacks = tt
 
 -- ---- what the call left behind has the same parts
 
-moved : (P : ℕ → List Span → List ℕ → Type 0) (n m : ℕ) (spans others : List Span) (bytes content : List ℕ) → m ≡ n → others ≡ spans
+-- an answer says of each input that has the parts what these readings of it are
+abbrev pub SaysOfEach : {X : Type 0} → Bool → (List ℕ → Reads X) → PartsAnswer (Result X ImageError) → ℕ → List Span → List ℕ → Type 0
+SaysOfEach texts f answer n spans bytes = (d : List ℕ) → HasParts d n spans bytes → n < 2 ^ 63 → SaysOf texts (f d) spans answer
+
+-- what holds of the parts of a source holds of those that it has them from
+pub moved : (P : ℕ → List Span → List ℕ → Type 0) (n m : ℕ) (spans others : List Span) (bytes content : List ℕ) → m ≡ n → others ≡ spans
     → content ≡ bytes → P m others content → P n spans bytes
 moved P n m spans others bytes content told is_spans is_bytes p =
     subst (λ z. P n spans z) is_bytes (subst (λ y. P n y content) is_spans (subst (λ x. P x others content) told p))
 
-both_are : (s t : List Span) (xs ys : List ℕ) → ◌≡◌ {A = Option (List Span × List ℕ)} (Some (s, xs)) (Some (t, ys)) → (s ≡ t) × (xs ≡ ys)
+pub both_are : (s t : List Span) (xs ys : List ℕ) → ◌≡◌ {A = Option (List Span × List ℕ)} (Some (s, xs)) (Some (t, ys)) → (s ≡ t) × (xs ≡ ys)
 both_are s t xs ys e = let is : ◌≡◌ {A = List Span × List ℕ} (s, xs) (t, ys) = cc in (ap (λ (p : List Span × List ℕ). p.0) is, ap (λ (p : List Span × List ℕ). p.1) is)
 
 pub called : {X : Type 0} (f : List ℕ → Reads X) (n m k : ℕ) (spans others given : List Span) (bytes content their : List ℕ)

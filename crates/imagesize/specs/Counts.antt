@@ -26,8 +26,8 @@ abbrev pub most_as : Result ImageType ImageError → List ℕ → ℕ
 most_as (Ok type) d = most_by (outside type) (in_record type) (way_of type) d
 most_as (Err _) d = 37
 
-abbrev pub most : List ℕ → ℕ → ℕ
-most d place = most_as (kind_of d place).answer d
+abbrev pub most_bytes : List ℕ → ℕ → ℕ
+most_bytes d place = most_as (kind_of d place).answer d
 
 -- bytes that follow change no size of what was found
 abbrev pub lasts_as : Result ImageType ImageError → Bool

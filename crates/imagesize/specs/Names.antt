@@ -16,10 +16,10 @@ compression_name_of (Pvrtc compression) = Some (pvrtc_name_of compression)
 compression_name_of _ = None
 
 -- a name, and a compression's in parentheses where there is one
-abbrev pub named : List ℕ → Option (List ℕ) → List ℕ
-named name None = name
-named name (Some compression) = name ++ (codes "(" ++ (compression ++ codes ")"))
+abbrev pub name_with : List ℕ → Option (List ℕ) → List ℕ
+name_with name None = name
+name_with name (Some compression) = name ++ (codes "(" ++ (compression ++ codes ")"))
 
 -- a type as it is printed
 abbrev pub type_text : ImageType → List ℕ
-type_text image = named (type_name_of image) (compression_name_of image)
+type_text image = name_with (type_name_of image) (compression_name_of image)

@@ -6,7 +6,7 @@ use Rattle.imagesize.specs.declared.parts.PartsAnswer.{PartsAnswer}
 use Rattle.imagesize.specs.declared.parts.PartsAnswer.TheVariants.{Found, Wanted}
 use Rattle.imagesize.specs.declared.types.ImageType.{ImageType}
 use Rattle.imagesize.specs.declared.types.ImageType.TheVariants.{Exr, Hdr, Pnm}
-use Rattle.imagesize_source.specs.Agreement.{covered, has_whole}
+use Rattle.imagesize_source.specs.Agreement.{is_covered, has_whole}
 use Rattle.imagesize_source.specs.Reading.{Reads}
 use Rattle.imagesize_source.specs.declared.error.ImageError.{ImageError}
 use Rattle.imagesize_source.specs.declared.source.parts.Missing.{Missing}
@@ -30,7 +30,7 @@ texts_of d = texts_as (kind_of d 0).answer
 
 -- The first byte of a wanted span lies in one of the marks, and in no part. Where no texts are read, a mark has the whole of it.
 abbrev pub Wants : Bool → List Span → List Span → Span → Type 0
-Wants texts marks spans w = (covered marks w.start ≡ true) × (covered spans w.start ≡ false)
+Wants texts marks spans w = (is_covered marks w.start ≡ true) × (is_covered spans w.start ≡ false)
     × (texts ≡ false → has_whole marks w ≡ true)
 
 -- Of readings with these marks, with texts or without: what is found is so, and what is wanted is wanted by them.
@@ -61,7 +61,7 @@ Tells (Wanted w) = ⊥
 
 -- the spans have each place of the marks
 abbrev pub Cover : List Span → List Span → Type 0
-Cover spans marks = (place : ℕ) → covered marks place ≡ true → covered spans place ≡ true
+Cover spans marks = (place : ℕ) → is_covered marks place ≡ true → is_covered spans place ≡ true
 
 -- what is found, where nothing is wanted
 abbrev pub told : {T : Type 0} → T → Option Span → PartsAnswer T

@@ -10,14 +10,14 @@ use Rattle.imagesize.specs.declared.calls.Probed.{Probed}
 use Rattle.imagesize_source.specs.Limits.{allowance}
 use Rattle.imagesize_source.specs.declared.error.ImageError.{ImageError}
 use Rattle.imagesize_io.specs.Answers.{AnswersAs, TakesAs, over_reader}
-use Rattle.imagesize_source.specs.Reading.{stopped}
+use Rattle.imagesize_source.specs.Reading.{is_stopped}
 use Rattle.imagesize_source.specs.State.{State}
 use Rattle.imagesize_io.specs.Telling.{Telling, IsHonest}
 
 -- A type that is named is the input's, and where nothing failed it is named if there is one.
 pub record FindsKind (a : State) (place : ℕ) (found : Option ImageType) (r : Result ImageSize ImageError) : Type 0 where
   pub right : a.held.honest ≡ true → IfSome found (λ type. (kind_of a.held.input place).answer ≡ Ok type)
-  pub whole : a.held.honest ≡ true → stopped r ≡ false → found ≡ result_ok (kind_of a.held.input place).answer
+  pub whole : a.held.honest ≡ true → is_stopped r ≡ false → found ≡ result_ok (kind_of a.held.input place).answer
 
 -- Over an honest reader the answer is that of the layouts or a failure, the type named beside it is right, and the
 -- bytes taken are those of their readings, at most as many as are stated, and the allowance more than the input has. What is
@@ -26,7 +26,7 @@ pub record ProbesOf (t : Telling) (probed : Probed) : Type 0 where
   pub answer : AnswersAs t (over_reader t meaning) probed.answer
   pub takes : TakesAs t (over_reader t meaning) probed.answer probed.taken
   pub right : IfSome probed.kind (λ type. (over_reader t kind_of).answer ≡ Ok type)
-  pub whole : stopped probed.answer ≡ false → probed.kind ≡ result_ok (over_reader t kind_of).answer
+  pub whole : is_stopped probed.answer ≡ false → probed.kind ≡ result_ok (over_reader t kind_of).answer
   pub stated : probed.taken ≤ stated t.bytes t.place
   pub within : probed.taken ≤ length t.bytes + allowance
   pub short : EndsAs t probed.answer

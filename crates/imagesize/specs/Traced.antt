@@ -3,7 +3,7 @@ use Rattle.std.specs.Prelude.{◌≡◌, ℕ, Bool, false, List, Result, Ok, Err
 use Rattle.std.specs.Result.{result_ok}
 use Rattle.imagesize.specs.Meaning.{kind_of, meaning}
 use Rattle.imagesize.specs.declared.trace.Trace.{Trace}
-use Rattle.imagesize_source.specs.Reading.{is_memory, stopped}
+use Rattle.imagesize_source.specs.Reading.{is_memory, is_stopped}
 use Rattle.imagesize_source.specs.declared.error.ImageError.{ImageError}
 
 -- memory was refused
@@ -17,7 +17,7 @@ pub record Traces {A : Type 0} (d : List ℕ) (t : Trace A) : Type 0 where
   pub kind : t.kind ≡ result_ok (kind_of d 0).answer
   pub answer : t.answer ≡ (meaning d 0).answer
   pub spans : t.spans.items ≡ (meaning d 0).marks
-  pub goes : stopped t.answer ≡ false
+  pub goes : is_stopped t.answer ≡ false
 
 -- another input has the same type, the same size and the same marks
 pub record IsSame (d e : List ℕ) : Type 0 where

@@ -10,7 +10,7 @@ use Rattle.imagesize_fixed.specs.Farbfeld.{is_farbfeld, farbfeld}
 use Rattle.imagesize_fixed.specs.Gif.{is_gif, gif}
 use Rattle.imagesize_texts.specs.Hdr.{is_hdr, hdr}
 use Rattle.imagesize_boxes.specs.Heif.{is_heif, heif, heif_boxes}
-use Rattle.imagesize_walked.specs.Ico.{is_ico, entries_begun, ico}
+use Rattle.imagesize_walked.specs.Ico.{is_ico, icons_begun, ico}
 use Rattle.imagesize_walked.specs.Ilbm.{is_ilbm, ilbm, ilbm_chunks}
 use Rattle.imagesize_walked.specs.Jpeg.{is_jpeg, jpeg, jpeg_segments}
 use Rattle.imagesize_boxes.specs.Jxl.{is_jxl, jxl, jxl_boxes}
@@ -21,7 +21,7 @@ use Rattle.imagesize_fixed.specs.Psd.{is_psd, psd}
 use Rattle.imagesize_fixed.specs.Pvrtc.{is_pvrtc, pvrtc}
 use Rattle.imagesize_fixed.specs.Qoi.{is_qoi, qoi}
 use Rattle.imagesize_fixed.specs.Tga.{tga}
-use Rattle.imagesize_walked.specs.Tiff.{is_tiff, entries_begun as tiff_begun, tiff}
+use Rattle.imagesize_walked.specs.Tiff.{is_tiff, tiff_begun, tiff}
 use Rattle.imagesize_fixed.specs.Vtf.{is_vtf, vtf}
 use Rattle.imagesize_fixed.specs.Webp.{is_webp, webp}
 use Rattle.imagesize.specs.Compressions.{atc_ways, dds_ways, heif_ways, pkm_ways, pvrtc_ways}
@@ -72,7 +72,7 @@ row_of Farbfeld = row 8 (codes "Farbfeld") (Fixed farbfeld) 41 20 true
 row_of Gif = row 9 (codes "Gif") (Fixed gif) 41 20 true
 row_of Hdr = row 10 (codes "Hdr") (Texts hdr) 41 20 true
 row_of (Heif _) = row 11 (codes "Heif") (Recorded 20 heif heif_boxes) 32 20 false
-row_of Ico = row 12 (codes "Ico") (Recorded 20 ico entries_begun) 18 20 false
+row_of Ico = row 12 (codes "Ico") (Recorded 20 ico icons_begun) 18 20 false
 row_of Ilbm = row 13 (codes "Ilbm") (Recorded 20 ilbm (records ilbm_chunks)) 18 20 true
 row_of Jpeg = row 14 (codes "Jpeg") (Recorded 20 jpeg (records jpeg_segments)) 18 20 true
 row_of Jxl = row 15 (codes "Jxl") (Recorded 20 jxl jxl_boxes) 45 20 true

@@ -1,13 +1,13 @@
 //! The calls: type and size of a slice's bytes, or of a reader's.
 ghost use Rattle.std.specs.Prelude.{◌≡◌, ℕ, ◌+◌, ◌<◌, ◌≤◌, List, length, ◌++◌, IsTrue, IfOk, IfErr, IfSome, IsSome, Some, true, false, Option, Ok, Err, option_map};
-ghost use Rattle.imagesize_io.specs.Answers.{Answers, Counts};
+ghost use Rattle.imagesize_io.specs.Answers.{Answers, CountsWithin};
 ghost use Rattle.imagesize_source.specs.Limits.{allowance};
-ghost use Rattle.imagesize_source.specs.Reading.{end_of_input, is_fault, is_memory, spent, stopped};
+ghost use Rattle.imagesize_source.specs.Reading.{end_of_input, is_memory, spent, is_stopped};
 ghost use Rattle.imagesize_source.specs.State.{Runs};
 ghost use Rattle.imagesize_io.specs.ReaderState.{Opens};
 ghost use Rattle.imagesize_io.specs.Telling.{Telling};
 ghost use Rattle.imagesize_source.specs.Agreement.{Agrees};
-ghost use Rattle.imagesize.specs.Counts.{cost, lasts_as, most, stated};
+ghost use Rattle.imagesize.specs.Counts.{cost, lasts_as, most_bytes, stated};
 ghost use Rattle.imagesize.specs.Meaning.{kind_of, meaning, size_of};
 ghost use Rattle.imagesize.specs.Probed.{FindsKind, Probes, SpentAll};
 ghost use Rattle.imagesize.specs.Short.{Ends};
@@ -15,11 +15,10 @@ ghost use Rattle.imagesize.specs.Short.{Ends};
 use crate::formats::{detect, size};
 use crate::types::ImageType;
 use crate::{ImageResult, Told};
-use imagesize_io::reader::{Opened, ReaderSource, open};
+use imagesize_io::reader::{Opened, Origin, ReaderSource, open};
 use imagesize_source::source::Source;
 use imagesize_source::source::slice::SliceSource;
 use imagesize_types::size::ImageSize;
-use std::io::SeekFrom;
 
 /// What a reader was found to hold, and what it took to find it.
 #[derive(Debug, Drop)]
@@ -51,7 +50,7 @@ pub fn image_type(header: &[u8]) -> ImageResult<ImageType>
         → kind_of e place ≡ kind_of header.now place }
 
     // A slice fails at no reading, has no budget and wants no memory.
-    ensures unstopped { stopped result ≡ false }
+    ensures unstopped { is_stopped result ≡ false }
 {
     detect(&mut SliceSource { bytes: header }, 0)
 }
@@ -81,7 +80,7 @@ pub fn blob_size(data: &[u8]) -> ImageResult<ImageSize>
 
     // Each format has its own count: what stands outside of its records, and so much for each that is begun, and of
     // all formats but those at fixed places at most 28 bytes more than there are.
-    ensures most { (place : ℕ) → cost «data».now place ≤ most «data».now place }
+    ensures most { (place : ℕ) → cost «data».now place ≤ most_bytes «data».now place }
 
     // Every size, and every refusal, is read from at most 64 bytes more than there are.
     ensures within { (place : ℕ) → cost «data».now place ≤ length «data».now + allowance }
@@ -91,7 +90,7 @@ pub fn blob_size(data: &[u8]) -> ImageResult<ImageSize>
         (x : List ℕ) → (meaning («data».now ++ x) 0).answer ≡ Ok size) }
 
     // A slice fails at no reading, has no budget and wants no memory.
-    ensures unstopped { stopped result ≡ false }
+    ensures unstopped { is_stopped result ≡ false }
 {
     probe_slice(data)
 }
@@ -99,7 +98,7 @@ pub fn blob_size(data: &[u8]) -> ImageResult<ImageSize>
 // The size that a slice's bytes mean.
 fn probe_slice(data: &[u8]) -> ImageResult<ImageSize>
     ensures value { result ≡ (meaning «data».now 0).answer }
-    ensures unstopped { stopped result ≡ false }
+    ensures unstopped { is_stopped result ≡ false }
 {
     probe(&mut SliceSource { bytes: data }, 0).1
 }
@@ -140,7 +139,7 @@ pub fn reader_type<R: Told>(mut reader: R) -> ImageResult<ImageType>
     // The budget that is spent is the length that was told, and 64.
     ensures spent { IfErr result (λ e. IfSome (spent e) (λ budget. allowance ≤ budget)) }
 {
-    let opened = open_at_place(&mut reader)?;
+    let opened = open(&mut reader, Origin::Place)?;
     type_opened(&mut reader, opened)
 }
 
@@ -188,7 +187,7 @@ pub fn reader_probe<R: Told>(reader: &mut R) -> Probed
     ensures spent { IfErr result.answer (λ e. IfSome (spent e) (λ budget. (budget ≡ result.taken) × (allowance ≤ budget))) }
     ensures memory { IfErr result.answer (λ e. is_memory e ≡ false) }
 {
-    match open_at_place(reader) {
+    match open(reader, Origin::Place) {
         Ok(opened) => probe_opened(reader, opened),
         Err(error) => Probed {
             kind: None,
@@ -214,13 +213,13 @@ impl ImageType {
     /// ```
     pub fn reader_size<R: Told>(&self, reader: &mut R) -> ImageResult<ImageSize>
         ensures answers { Answers (R.telling reader.old) (λ d place. size_of self.now d) result }
-        ensures counts { Counts (R.telling reader.old) (R.count reader.old) (R.count reader.new) (λ d place. size_of self.now d) }
+        ensures counts { CountsWithin (R.telling reader.old) (R.count reader.old) (R.count reader.new) (λ d place. size_of self.now d) }
 
         // Over every reader, also one that tells nothing or lies:
         ensures spent { IfErr result (λ e. IfSome (spent e) (λ budget. SpentAll (R.count reader.old) (R.count reader.new) budget)) }
         ensures memory { IfErr result (λ e. is_memory e ≡ false) }
     {
-        let opened = open(reader)?;
+        let opened = open(reader, Origin::Start)?;
         size_opened(*self, reader, opened)
     }
 }
@@ -242,7 +241,7 @@ fn size_opened<R: Told>(kind: ImageType, reader: &mut R, opened: Opened) -> Imag
     ensures answers { (telling : Option Telling) → Opens telling (R.telling reader.old) (Ok opened)
         → Answers telling (λ d place. size_of kind d) result }
     ensures counts { (telling : Option Telling) → Opens telling (R.telling reader.old) (Ok opened)
-        → Counts telling (R.count reader.old) (R.count reader.new) (λ d place. size_of kind d) }
+        → CountsWithin telling (R.count reader.old) (R.count reader.new) (λ d place. size_of kind d) }
     ensures spent { IfErr result (λ e. IfSome (spent e) (λ budget. SpentAll (R.count reader.old) (R.count reader.new) budget)) }
     ensures memory { IfErr result (λ e. is_memory e ≡ false) }
 {
@@ -268,19 +267,4 @@ fn probe_opened<R: Told>(reader: &mut R, opened: Opened) -> Probed
         answer,
         taken,
     }
-}
-
-// Opens a reader whose type is read at its place. The first reading goes back there from the end; where its place
-// is the told length, which a reader may lie about, this does.
-fn open_at_place<R: Told>(reader: &mut R) -> ImageResult<Opened>
-    ensures told { Opens (R.telling reader.old) (R.telling reader.new) result }
-    ensures counts { R.count reader.new ≡ R.count reader.old }
-    ensures fault { IfErr result (λ e. is_fault e ≡ true) }
-    ensures memory { IfErr result (λ e. is_memory e ≡ false) }
-{
-    let opened = open(reader)?;
-    if opened.place == opened.told {
-        reader.seek_told(SeekFrom::Start(opened.place))?;
-    }
-    Ok(opened)
 }

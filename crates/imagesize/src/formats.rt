@@ -4,18 +4,21 @@ ghost use Rattle.imagesize.specs.Kind.{first_row, kind, kind_by, tga_or_none, wi
 ghost use Rattle.imagesize.specs.Types.{rows};
 ghost use Rattle.imagesize.specs.Meaning.{size_of};
 ghost use Rattle.imagesize_fixed.specs.Tga.{is_tga};
-ghost use Rattle.imagesize_source.specs.Layout.{bind, over};
-ghost use Rattle.imagesize_source.specs.State.{Runs, Sound};
+ghost use Rattle.imagesize_source.specs.Halts.{RunsOrHalts};
+ghost use Rattle.imagesize_source.specs.Layout.{bind, layout_reads};
+ghost use Rattle.imagesize_source.specs.State.{Runs, IsSound};
 
+use crate::ImageResult;
 use crate::types::ImageType;
-use crate::{ImageError, ImageResult, Reason};
 use imagesize_boxes::container::heif;
 use imagesize_boxes::formats::jxl;
 use imagesize_fixed::container::{atc, dds, pkm, pvrtc};
 use imagesize_fixed::formats::{
     aseprite, astc, bmp, farbfeld, gif, ktx2, psd, qoi, tga, vtf, webp,
 };
+use imagesize_source::Halt;
 use imagesize_source::halt::answered;
+use imagesize_source::readings::read_exact_at;
 use imagesize_source::source::Source;
 use imagesize_texts::formats::{exr, hdr, pnm};
 use imagesize_types::compression::{
@@ -28,23 +31,39 @@ use imagesize_walked::formats::{ico, ilbm, jpeg, tiff};
 #[inline(always)]
 pub(crate) fn detect<S: Source>(source: &mut S, place: u64) -> ImageResult<ImageType>
     ensures { Runs (S.state source.old) (S.state source.new) result
-        (over (S.state source.old).held.input (kind (length (S.state source.old).held.input) place)) }
+        (layout_reads (S.state source.old).held.input (kind (length (S.state source.old).held.input) place)) }
+{
+    answered(read_kind(source, place), source)
+}
+
+/// The size of the image, read as this type whatever its first bytes are.
+#[inline(always)]
+pub(crate) fn size<S: Source>(source: &mut S, kind: ImageType) -> ImageResult<ImageSize>
+    ensures { Runs (S.state source.old) (S.state source.new) result
+        (size_of kind (S.state source.old).held.input) }
+{
+    answered(read_size(source, kind), source)
+}
+
+// The type by the twelve bytes at a place, or why there is none.
+#[inline(always)]
+#[tactic(auto, using(imagesize_source::proofs::Runs::steps))]
+fn read_kind<S: Source>(source: &mut S, place: u64) -> Result<ImageType, Halt>
+    ensures { RunsOrHalts (S.state source.old) (S.state source.new) (S.failure source.new) result
+        (layout_reads (S.state source.old).held.input (kind (length (S.state source.old).held.input) place)) }
 {
     let mut head = [0u8; 12];
-    match source.read_at(place, &mut head) {
-        Ok(count) if count >= head.len() => by_head(source, place, &head),
-        Ok(_) => Err(ImageError::IoError(Reason::EndOfInput)),
-        Err(halt) => Err(source.refusal(halt)),
-    }
+    read_exact_at(source, place, &mut head)?;
+    by_head(source, place, &head)
 }
 
 // The type by the twelve bytes at a place.
 #[inline(always)]
 #[tactic(auto, using(imagesize_source::proofs::Runs::steps, imagesize_source::proofs::Layouts::binding))]
-fn by_head<S: Source>(source: &mut S, place: u64, head: &[u8; 12]) -> ImageResult<ImageType>
-    requires { Sound (S.state source.old) }
-    ensures { Runs (S.state source.old) (S.state source.new) result
-        (over (S.state source.old).held.input
+fn by_head<S: Source>(source: &mut S, place: u64, head: &[u8; 12]) -> Result<ImageType, Halt>
+    requires { IsSound (S.state source.old) }
+    ensures { RunsOrHalts (S.state source.old) (S.state source.new) (S.failure source.new) result
+        (layout_reads (S.state source.old).held.input
         (kind_by (length (S.state source.old).held.input) place head.now (first_row rows head.now))) }
 {
     match first_row(head) {
@@ -56,15 +75,15 @@ fn by_head<S: Source>(source: &mut S, place: u64, head: &[u8; 12]) -> ImageResul
 // TGA has no signature at its beginning, so it comes behind the rows.
 #[inline(always)]
 #[tactic(auto, using(imagesize_source::proofs::Runs::steps, imagesize_source::proofs::Layouts::binding))]
-fn tga_or_none<S: Source>(source: &mut S, head: &[u8; 12]) -> ImageResult<ImageType>
-    requires { Sound (S.state source.old) }
-    ensures { Runs (S.state source.old) (S.state source.new) result
-        (over (S.state source.old).held.input (bind (is_tga (length (S.state source.old).held.input) head.now) tga_or_none)) }
+fn tga_or_none<S: Source>(source: &mut S, head: &[u8; 12]) -> Result<ImageType, Halt>
+    requires { IsSound (S.state source.old) }
+    ensures { RunsOrHalts (S.state source.old) (S.state source.new) (S.failure source.new) result
+        (layout_reads (S.state source.old).held.input (bind (is_tga (length (S.state source.old).held.input) head.now) tga_or_none)) }
 {
     if tga::matches(source, head)? {
         return Ok(ImageType::Tga);
     }
-    Err(ImageError::NotSupported)
+    Err(Halt::NotSupported)
 }
 
 // The type of the first row that holds, its compression still unknown.
@@ -109,10 +128,10 @@ fn with_compression<S: Source>(
     place: u64,
     head: &[u8; 12],
     found: ImageType,
-) -> ImageResult<ImageType>
-    requires { Sound (S.state source.old) }
-    ensures { Runs (S.state source.old) (S.state source.new) result
-        (over (S.state source.old).held.input (with_compression place head.now found)) }
+) -> Result<ImageType, Halt>
+    requires { IsSound (S.state source.old) }
+    ensures { RunsOrHalts (S.state source.old) (S.state source.new) (S.failure source.new) result
+        (layout_reads (S.state source.old).held.input (with_compression place head.now found)) }
 {
     match found {
         ImageType::Heif(_)
@@ -120,7 +139,7 @@ fn with_compression<S: Source>(
         | ImageType::Pvrtc(_)
         | ImageType::Eac(_)
         | ImageType::Etc2(_)
-        | ImageType::Dds(_) => read_kind(source, place, head, found),
+        | ImageType::Dds(_) => read_compression(source, place, head, found),
         _ => Ok(found),
     }
 }
@@ -128,15 +147,15 @@ fn with_compression<S: Source>(
 // The type with its compression read, of which it has several.
 #[inline(always)]
 #[tactic(auto, using(imagesize_source::proofs::Runs::steps, imagesize_source::proofs::Layouts::binding), unfolding(crate::specs::Kind::with_compression))]
-fn read_kind<S: Source>(
+fn read_compression<S: Source>(
     source: &mut S,
     place: u64,
     head: &[u8; 12],
     found: ImageType,
-) -> ImageResult<ImageType>
-    requires { Sound (S.state source.old) }
-    ensures { Runs (S.state source.old) (S.state source.new) result
-        (over (S.state source.old).held.input (with_compression place head.now found)) }
+) -> Result<ImageType, Halt>
+    requires { IsSound (S.state source.old) }
+    ensures { RunsOrHalts (S.state source.old) (S.state source.new) (S.failure source.new) result
+        (layout_reads (S.state source.old).held.input (with_compression place head.now found)) }
 {
     Ok(match found {
         ImageType::Heif(_) => ImageType::Heif(heif::detect_compression(source, place, head)?),
@@ -149,36 +168,36 @@ fn read_kind<S: Source>(
     })
 }
 
-/// The size of the image, read as this type whatever its first bytes are.
+// The size, by the format of a type.
 #[tactic(auto, using(imagesize_source::proofs::Runs::steps))]
-pub(crate) fn size<S: Source>(source: &mut S, kind: ImageType) -> ImageResult<ImageSize>
-    ensures { Runs (S.state source.old) (S.state source.new) result
+fn read_size<S: Source>(source: &mut S, kind: ImageType) -> Result<ImageSize, Halt>
+    ensures { RunsOrHalts (S.state source.old) (S.state source.new) (S.failure source.new) result
         (size_of kind (S.state source.old).held.input) }
 {
     match kind {
-        ImageType::Aseprite => answered(aseprite::size(source), source),
-        ImageType::Astc => answered(astc::size(source), source),
-        ImageType::Atc(_) => answered(atc::size(source), source),
-        ImageType::Bmp => answered(bmp::size(source), source),
-        ImageType::Dds(_) => answered(dds::size(source), source),
-        ImageType::Eac(_) | ImageType::Etc2(_) => answered(pkm::size(source), source),
+        ImageType::Aseprite => aseprite::size(source),
+        ImageType::Astc => astc::size(source),
+        ImageType::Atc(_) => atc::size(source),
+        ImageType::Bmp => bmp::size(source),
+        ImageType::Dds(_) => dds::size(source),
+        ImageType::Eac(_) | ImageType::Etc2(_) => pkm::size(source),
         ImageType::Exr => exr::size(source),
-        ImageType::Farbfeld => answered(farbfeld::size(source), source),
-        ImageType::Gif => answered(gif::size(source), source),
+        ImageType::Farbfeld => farbfeld::size(source),
+        ImageType::Gif => gif::size(source),
         ImageType::Hdr => hdr::size(source),
         ImageType::Heif(_) => heif::size(source),
         ImageType::Ico => ico::size(source),
-        ImageType::Ilbm => answered(ilbm::size(source), source),
-        ImageType::Jpeg => answered(jpeg::size(source), source),
+        ImageType::Ilbm => ilbm::size(source),
+        ImageType::Jpeg => jpeg::size(source),
         ImageType::Jxl => jxl::size(source),
-        ImageType::Ktx2 => answered(ktx2::size(source), source),
+        ImageType::Ktx2 => ktx2::size(source),
         ImageType::Pnm => pnm::size(source),
-        ImageType::Pvrtc(_) => answered(pvrtc::size(source), source),
-        ImageType::Psd => answered(psd::size(source), source),
-        ImageType::Qoi => answered(qoi::size(source), source),
-        ImageType::Tga => answered(tga::size(source), source),
+        ImageType::Pvrtc(_) => pvrtc::size(source),
+        ImageType::Psd => psd::size(source),
+        ImageType::Qoi => qoi::size(source),
+        ImageType::Tga => tga::size(source),
         ImageType::Tiff => tiff::size(source),
-        ImageType::Vtf => answered(vtf::size(source), source),
-        ImageType::Webp => answered(webp::size(source), source),
+        ImageType::Vtf => vtf::size(source),
+        ImageType::Webp => webp::size(source),
     }
 }

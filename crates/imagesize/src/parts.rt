@@ -3,7 +3,7 @@ ghost use Rattle.std.specs.Prelude.{◌≡◌, ℕ, ◌^◌, ◌<◌, false, Lis
 ghost use Rattle.imagesize.specs.Meaning.{kind_of, meaning, size_of};
 ghost use Rattle.imagesize.specs.Parted.{Cover, Fits, IsProbed, Says, SaysOf, Tells, has_texts, texts_of, told, wanted_of, with_type};
 ghost use Rattle.imagesize_source.specs.Known.{HasParts};
-ghost use Rattle.imagesize_source.specs.Reading.{faulted};
+ghost use Rattle.imagesize_source.specs.Reading.{is_faulted};
 
 use crate::formats::{detect, size};
 use crate::types::ImageType;
@@ -58,8 +58,9 @@ pub fn parts_probe(
         → Cover spans.now (meaning d 0).marks → Tells result }
     ensures fits { Fits total result }
 {
-    match parts_type(bytes, spans, total) {
-        PartsAnswer::Found(Ok(image)) => with_type(image, image.parts_size(bytes, spans, total)),
+    let mut source = PartsSource::new(spans, bytes, total);
+    match type_of(&mut source) {
+        PartsAnswer::Found(Ok(image)) => with_type(image, size_as(&mut source, image)),
         PartsAnswer::Found(Err(error)) => PartsAnswer::Found((None, Err(error))),
         PartsAnswer::Wanted(span) => PartsAnswer::Wanted(span),
     }
@@ -88,9 +89,7 @@ pub fn parts_type(bytes: &[u8], spans: &[Span], total: u64) -> PartsAnswer<Image
     ensures fits { Fits total result }
 {
     let mut source = PartsSource::new(spans, bytes, total);
-    let found = detect(&mut source, 0);
-    let wanted = wanted(&found, source.missed);
-    told(found, wanted, false)
+    type_of(&mut source)
 }
 
 impl ImageType {
@@ -125,11 +124,40 @@ impl ImageType {
         ensures fits { Fits total result }
     {
         let mut source = PartsSource::new(spans, bytes, total);
-        let found = size(&mut source, *self);
-        let wanted = wanted(&found, source.missed);
-        let texts = has_texts(self);
-        told(found, wanted, texts)
+        size_as(&mut source, *self)
     }
+}
+
+// The type, by readings that begin anew.
+#[inline(always)]
+fn type_of(source: &mut PartsSource<'_>) -> PartsAnswer<ImageResult<ImageType>>
+    ensures says { (d : List ℕ) → HasParts d source.old.told source.old.spans.now source.old.bytes.now → source.old.told < 2 ^ 63
+        → SaysOf false (kind_of d 0) source.old.spans.now result }
+    ensures fits { Fits source.old.told result }
+
+    // The parts stay as they are.
+    ensures spans { source.new.spans.now ≡ source.old.spans.now }
+    ensures bytes { source.new.bytes.now ≡ source.old.bytes.now }
+    ensures told { source.new.told ≡ source.old.told }
+{
+    source.forget();
+    let found = detect(source, 0);
+    let wanted = wanted(&found, source.missed);
+    told(found, wanted, false)
+}
+
+// The size, read as this type, by readings that begin anew.
+#[inline(always)]
+fn size_as(source: &mut PartsSource<'_>, image: ImageType) -> PartsAnswer<ImageResult<ImageSize>>
+    ensures says { (d : List ℕ) → HasParts d source.old.told source.old.spans.now source.old.bytes.now → source.old.told < 2 ^ 63
+        → SaysOf (has_texts image) (size_of image d) source.old.spans.now result }
+    ensures fits { Fits source.old.told result }
+{
+    source.forget();
+    let found = size(source, image);
+    let wanted = wanted(&found, source.missed);
+    let texts = has_texts(&image);
+    told(found, wanted, texts)
 }
 
 // What was found, where nothing is missed.
@@ -165,7 +193,7 @@ fn has_texts(image: &ImageType) -> bool
 
 // What is missed, where the answer is a failure.
 fn wanted<X>(answer: &ImageResult<X>, missed: Option<Missing>) -> Option<Missing>
-    ensures { result ≡ (if faulted answer.now then missed else None) }
+    ensures { result ≡ (if is_faulted answer.now then missed else None) }
 {
     match answer {
         Err(ImageError::IoError(Reason::Fault(_))) => missed,

@@ -4,7 +4,7 @@ ghost use Rattle.imagesize.specs.Meaning.{meaning};
 
 use crate::Span;
 use crate::calls::probe;
-use imagesize_source::source::lent::LentSource;
+use imagesize_source::source::recording::RecordingSource;
 
 /// The number of spans that `blob_trace` has of these bytes. Where the buffer is long enough, it begins with them, in their
 /// order. No memory is allocated.
@@ -36,7 +36,7 @@ fn record_spans(data: &[u8], room: &mut [Span]) -> usize
 {
     // The proof needs that the length is below 2^63.
     let _length = data.len();
-    let mut source = LentSource::new(data, room);
+    let mut source = RecordingSource::in_room(data, room);
     let _ = probe(&mut source, 0);
     source.count
 }

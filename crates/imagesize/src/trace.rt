@@ -52,10 +52,7 @@ pub fn blob_trace<A: Allocator>(alloc: A, data: &[u8]) -> Result<Trace<A>, Alloc
     ensures lasts { IsTrue (lasts_as (kind_of «data».now 0).answer) → IfOk result (λ t. IfOk t.answer (λ size.
         (x : List ℕ) → (meaning («data».now ++ x) 0).answer ≡ Ok size)) }
 {
-    let mut source = RecordingSource {
-        bytes: data,
-        spans: Vec::new(alloc),
-    };
+    let mut source = RecordingSource::in_memory(alloc, data);
     let (kind, answer) = probe(&mut source, 0);
     if lacks_memory(&answer) {
         return Err(AllocError);
@@ -63,7 +60,7 @@ pub fn blob_trace<A: Allocator>(alloc: A, data: &[u8]) -> Result<Trace<A>, Alloc
     Ok(Trace {
         kind,
         answer,
-        spans: source.spans,
+        spans: source.buffer,
     })
 }
 

@@ -9,7 +9,7 @@ use Rattle.std.proofs.lemmas.Nat.{and_mask, one_shl, pow_pos, mod-pow-add, shr-s
 use Rattle.std.specs.Int.{w128, from_le_bytes}
 use Rattle.imagesize_source.specs.declared.error.ImageError.{ImageError}
 use Rattle.imagesize_source.specs.declared.error.ImageError.TheVariants.{CorruptedImage}
-use Rattle.imagesize_source.specs.declared.util.Endian.TheVariants.{Little}
+use Rattle.imagesize_source.specs.declared.endian.Endian.TheVariants.{Little}
 use Rattle.imagesize_source.specs.Numbers.{number, little}
 use Rattle.imagesize_boxes.specs.Fields.{low_bits, bits_of, binary, field_at, Fields, found, bits, with_found, found_by, after, field_in}
 

@@ -10,8 +10,9 @@ use Rattle.std.proofs.lemmas.List.Sums.{fold-append, sum_by_push}
 use Rattle.std.specs.Int.{w32, from_be_bytes}
 use Rattle.std.specs.List.{find, last_or, sum_by}
 use Rattle.std.specs.Option.{option_or}
-use Rattle.std.specs.Prelude.{codes, flat_map, fold, nat_lt, nat_le, unwrap_or, ok_or, option_map, IfErr}
-use Rattle.imagesize_boxes.specs.Heif.{heif_compression, is_general, is_named, box_size, box_searched, search_for, searched_box, extents_size, property_named, property_found, property_at, property_bytes, extents_of, rotations_of, skipped_bytes, no_pixels, first_largest, largest_extents, turned, heif_answer, listed, properties, heif, heif_in_meta, heif_in_iprp, earlier_largest, gathered_with, gathered_answer, begun, boxes_in_iprp, boxes_in_meta, heif_boxes}
+use Rattle.std.specs.Prelude.{codes, flat_map, fold, nat_lt, nat_le, unwrap_or, ok_or, option_map, IfErr, slice_get, filter}
+use Rattle.imagesize_boxes.specs.Heif.{heif_compression, is_general, is_named, box_size, box_searched, search_for, searched_box, extents_size, property_named, property_found, property_at, property_bytes, extents_of, rotations_of, skipped_bytes, no_pixels, largest_or_none, largest_extents, turn_by, heif_answer, listed, properties, heif, heif_in_meta, heif_in_iprp, boxes_in_iprp, boxes_in_meta, heif_boxes}
+use Rattle.imagesize_boxes.specs.Walks.{earlier_largest, gathered_with, gathered_answer}
 use Rattle.imagesize_boxes.specs.declared.container.heif.FoundBox.{FoundBox}
 use Rattle.imagesize_boxes.specs.declared.container.heif.Gathered.{Gathered}
 use Rattle.imagesize_boxes.specs.declared.container.heif.Property.{Property}
@@ -24,14 +25,14 @@ use Rattle.imagesize_source.specs.declared.error.ImageError.{ImageError}
 use Rattle.imagesize_source.specs.declared.error.ImageError.TheVariants.{CorruptedImage, IoError}
 use Rattle.imagesize_source.specs.declared.error.Reason.TheVariants.{InvalidHeifBoxSize, NotEnoughData}
 use Rattle.imagesize_source.specs.declared.span.Span.{Span}
-use Rattle.imagesize_source.specs.declared.util.Endian.TheVariants.{Big}
-use Rattle.imagesize_source.specs.Agreement.{Local}
-use Rattle.imagesize_source.specs.Chain.{Said, Decided, Next, Advances, start, verdict, records, chain_from, chain_at}
+use Rattle.imagesize_source.specs.declared.endian.Endian.TheVariants.{Big}
+use Rattle.imagesize_source.specs.Agreement.{IsLocal}
+use Rattle.imagesize_source.specs.Chain.{Said, Decided, Next, Advances, start, verdict, records, chain_from, chain_at, count_behind}
 use Rattle.imagesize_source.specs.Counts.{AtMost}
 use Rattle.imagesize_source.specs.Input.{span_of}
-use Rattle.imagesize_source.specs.Layout.{Layout, bytes, refuse, done, over, bind, whole}
+use Rattle.imagesize_source.specs.Layout.{Layout, bytes, refuse, done, layout_reads, bind, whole}
 use Rattle.imagesize_source.specs.Numbers.{number}
-use Rattle.imagesize_source.specs.Reading.{Reads, and_then, onward, bytes_at, bytes_read, number_at, number_read, refuses, end_of_input, faulted}
+use Rattle.imagesize_source.specs.Reading.{Reads, and_then, go_on, bytes_at, bytes_read, number_at, number_read, refuses, end_of_input, is_faulted}
 use Rattle.imagesize_source.specs.State.{State, Runs, EndedBy, total}
 use Rattle.imagesize_source.proofs.Always.{CompressionLaws}
 use Rattle.imagesize_source.proofs.Advances.{Tells, advances}
@@ -80,18 +81,18 @@ pub search_start : (tag : List ℕ) (first : ℕ) (a : State) → SearchWalks ta
 search_start tag first a = walks_start (search_for tag first) (λ passed. Unit {0}) a tt
 
 pub search_on : {a b end : State} (tag : List ℕ) (first place next : ℕ) → SearchWalks tag first a b place
-    → Runs b end (Ok (Next tt next)) (over b.held.input (searched_box tag place)) → SearchWalks tag first a end next
+    → Runs b end (Ok (Next tt next)) (layout_reads b.held.input (searched_box tag place)) → SearchWalks tag first a end next
 search_on tag first place next w run = walks_on (search_for tag first) (search_advances tag first) (λ passed. Unit {0}) w
     (λ passed. Unit {0}) tt next (λ passed _. run) (λ passed _. tt)
 
 pub search_stop : {a b end : State} (tag : List ℕ) (first place : ℕ) (found : FoundBox) → SearchWalks tag first a b place
-    → Runs b end (Ok (Decided found)) (over b.held.input (searched_box tag place))
+    → Runs b end (Ok (Decided found)) (layout_reads b.held.input (searched_box tag place))
     → Runs a end (Ok found) (chain_at (search_for tag first) a.held.input)
 search_stop tag first place found w run = walks_stop (search_for tag first) (search_advances tag first) (λ passed. Unit {0}) w found
     (λ passed _. run)
 
 pub search_out : {a b end : State} (tag : List ℕ) (first place : ℕ) (e : ImageError) → SearchWalks tag first a b place
-    → Runs b end (Err e) (over b.held.input (searched_box tag place)) → Runs a end (Err e) (chain_at (search_for tag first) a.held.input)
+    → Runs b end (Err e) (layout_reads b.held.input (searched_box tag place)) → Runs a end (Err e) (chain_at (search_for tag first) a.held.input)
 search_out tag first place e w run = walks_out (search_for tag first) (search_advances tag first) (λ passed. Unit {0}) w e
     (λ passed _. run)
 
@@ -140,7 +141,7 @@ by_found P left place (Some head) end bad extents rotation skipped = by_named P 
 by_answer : (P : Layout (Said Property ImageSize) → Type 0) (best : Option ImageSize) (turn : Option ℕ)
     → P (refuse (IoError NotEnoughData)) → ((size : ImageSize) → P (done (Decided size))) → P (heif_answer best turn)
 by_answer P None turn none some = none
-by_answer P (Some size) turn none some = some (turned turn size)
+by_answer P (Some size) turn none some = some (turn_by turn size)
 
 -- and of what stands in the list, behind these properties
 by_listed : (P : Layout (Said Property ImageSize) → Type 0) (held : List Property) (left place : ℕ) (found : Option (List ℕ))
@@ -168,7 +169,7 @@ properties_advance all first = advances (properties all first)
 -- These are the largest extents, of several the first.
 pub record Largest (best : Option ImageSize) (sizes : List ImageSize) : Type 0 where
   is : largest_extents sizes ≡ best
-  first : first_largest sizes ≡ unwrap_or best no_pixels
+  first : largest_or_none sizes ≡ unwrap_or best no_pixels
   area : greatest_area sizes ≡ area_if_some best
   found : 0 < greatest_area sizes → is_some (find (λ s. eqb (area_of s) (greatest_area sizes)) sizes) ≡ true
 
@@ -177,7 +178,7 @@ greatest_push sizes size = ap (fold max 0) (map-append area_of sizes (size ∷ [
     (area_of size ∷ [])
 
 largest_some : (sizes : List ImageSize) (size : ImageSize) → largest_extents (sizes ++ size ∷ [])
-    ≡ Some (first_largest (sizes ++ size ∷ []))
+    ≡ Some (largest_or_none (sizes ++ size ∷ []))
 largest_some [] size = refl
 largest_some (s ∷ sizes) size = refl
 
@@ -201,6 +202,16 @@ or_first (Some x) p h = refl
 abbrev first_of : ℕ → List ImageSize → ImageSize
 first_of n sizes = cond (eqb n 0) no_pixels (unwrap_or (find (λ s. eqb (area_of s) n) sizes) no_pixels)
 
+first_filtered : (p : ImageSize → Bool) (sizes : List ImageSize) → slice_get (filter p sizes) 0 ≡ find p sizes
+first_filtered p [] = refl
+first_filtered p (s ∷ sizes) =
+    let Goal : Bool → Type 0 = λ b. slice_get (cond b (s ∷ filter p sizes) (filter p sizes)) 0 ≡ cond b (Some s) (find p sizes) in
+    elim (p s) as Goal [ true ↦ refl | false ↦ first_filtered p sizes ]
+
+first_is : (sizes : List ImageSize) → largest_or_none sizes ≡ first_of (greatest_area sizes) sizes
+first_is sizes = ap (λ o. cond (eqb (greatest_area sizes) 0) no_pixels (unwrap_or o no_pixels))
+    (first_filtered (λ s. eqb (area_of s) (greatest_area sizes)) sizes)
+
 same_unless : (b : Bool) (x y z : ImageSize) → (b ≡ false → y ≡ z) → cond b x y ≡ cond b x z
 same_unless true x y z h = refl
 same_unless false x y z h = h refl
@@ -222,7 +233,7 @@ largest_by best sizes size true test h =
     find-append (λ s. eqb (area_of s) (area_of size)) sizes (size ∷ [])
     ∙ ap (λ o. option_or o (find (λ s. eqb (area_of s) (area_of size)) (size ∷ []))) (none_above 0 (area_of size) sizes more)
     ∙ ap (λ b. cond b (Some size) None) here in
-    let first : first_largest (sizes ++ size ∷ []) ≡ size = ap (λ n. first_of n (sizes ++ size ∷ [])) now
+    let first : largest_or_none (sizes ++ size ∷ []) ≡ size = first_is (sizes ++ size ∷ []) ∙ ap (λ n. first_of n (sizes ++ size ∷ [])) now
     ∙ ap (λ b. cond b no_pixels (unwrap_or (find (λ s. eqb (area_of s) (area_of size)) (sizes ++ size ∷ [])) no_pixels)) some
     ∙ ap (λ o. unwrap_or o no_pixels) found in
     record {
@@ -239,11 +250,11 @@ largest_by best sizes size false test h =
     let p : ImageSize → Bool = λ s. eqb (area_of s) (greatest_area sizes) in
     let found : 0 < greatest_area sizes → find p (sizes ++ size ∷ []) ≡ find p sizes = λ some. find-append p sizes (size ∷ []) ∙ or_first
     (find p sizes) (find p (size ∷ [])) (h.found some) in
-    let first : first_largest (sizes ++ size ∷ []) ≡ unwrap_or best no_pixels =
-    ap (λ n. first_of n (sizes ++ size ∷ [])) now
+    let first : largest_or_none (sizes ++ size ∷ []) ≡ unwrap_or best no_pixels =
+    first_is (sizes ++ size ∷ []) ∙ ap (λ n. first_of n (sizes ++ size ∷ [])) now
     ∙ same_unless (eqb (greatest_area sizes) 0) no_pixels (unwrap_or (find p (sizes ++ size ∷ [])) no_pixels)
     (unwrap_or (find p sizes) no_pixels) (λ some. ap (λ o. unwrap_or o no_pixels) (found (grind (arith, nat_tests))))
-    ∙ h.first in
+    ∙ sym (first_is sizes) ∙ h.first in
     record {
       is = largest_some sizes size ∙ ap Some first;
       first = first;
@@ -300,13 +311,13 @@ list_start all first a = walks_start (properties all first) (Amounts all (record
     })
 
 list_said : {b end : State} {r : Result (Said Property ImageSize) ImageError} (all : ℕ) (g : Gathered) (place : ℕ) (held : List Property)
-    → Amounts all g held → Runs b end r (over b.held.input (bind (property_at g.left place) (listed held place)))
-    → Runs b end r (over b.held.input (bind (property_at (all - sum_by skipped_bytes held) place) (listed held place)))
+    → Amounts all g held → Runs b end r (layout_reads b.held.input (bind (property_at g.left place) (listed held place)))
+    → Runs b end r (layout_reads b.held.input (bind (property_at (all - sum_by skipped_bytes held) place) (listed held place)))
 list_said {b} {end} {r} all g place held h run =
-    subst (λ n. Runs b end r (over b.held.input (bind (property_at n place) (listed held place)))) (sym h.left) run
+    subst (λ n. Runs b end r (layout_reads b.held.input (bind (property_at n place) (listed held place)))) (sym h.left) run
 
 pub list_on : {a b end : State} (all first place : ℕ) (g : Gathered) (property : Property) → ListWalks all first a b place g
-    → Runs b end (Ok (Some property)) (over b.held.input (property_at g.left place)) → ListWalks all first a end
+    → Runs b end (Ok (Some property)) (layout_reads b.held.input (property_at g.left place)) → ListWalks all first a end
     (place + property_bytes property) (gathered_with g property)
 list_on all first place g property w run =
     walks_on (properties all first) (properties_advance all first) (Amounts all g) w (Amounts all (gathered_with g property)) property
@@ -316,57 +327,57 @@ list_on all first place g property w run =
     (λ held h. amounts_on all g held property h)
 
 pub list_out : {a b end : State} (all first place : ℕ) (g : Gathered) (e : ImageError) → ListWalks all first a b place g
-    → Runs {X = Option Property} b end (Err e) (over b.held.input (property_at g.left place)) → Runs {X = ImageSize} a end (Err e)
+    → Runs {X = Option Property} b end (Err e) (layout_reads b.held.input (property_at g.left place)) → Runs {X = ImageSize} a end (Err e)
     (chain_at (properties all first) a.held.input)
 list_out all first place g e w run =
     walks_out (properties all first) (properties_advance all first) (Amounts all g) w e
     (λ held h. list_said all g place held h (refused_bind (property_at g.left place) (listed held place) run))
 
 -- what is answered by what the properties amount to
-answers : (all : ℕ) (g : Gathered) (held : List Property) (place : ℕ) (d : List ℕ) → Amounts all g held → over d (listed held place None)
-    ≡ over d (heif_answer g.best g.turn)
-answers all g held place d h = ap (λ o. over d (heif_answer o (last_or None (flat_map rotations_of held)))) h.best.is
-    ∙ ap (λ t. over d (heif_answer g.best t)) h.turn
+answers : (all : ℕ) (g : Gathered) (held : List Property) (place : ℕ) (d : List ℕ) → Amounts all g held → layout_reads d (listed held place None)
+    ≡ layout_reads d (heif_answer g.best g.turn)
+answers all g held place d h = ap (λ o. layout_reads d (heif_answer o (last_or None (flat_map rotations_of held)))) h.best.is
+    ∙ ap (λ t. layout_reads d (heif_answer g.best t)) h.turn
 
 -- the list ends
 list_end_by : {a b end : State} (all first place : ℕ) (g : Gathered) (best : Option ImageSize) → g.best ≡ best
-    → ListWalks all first a b place g → Runs b end (Ok None) (over b.held.input (property_at g.left place))
-    → Runs a end (ok_or (option_map (turned g.turn) best) (IoError NotEnoughData)) (chain_at (properties all first) a.held.input)
+    → ListWalks all first a b place g → Runs b end (Ok None) (layout_reads b.held.input (property_at g.left place))
+    → Runs a end (ok_or (option_map (turn_by g.turn) best) (IoError NotEnoughData)) (chain_at (properties all first) a.held.input)
 list_end_by all first place g None is w run =
     walks_out (properties all first) (properties_advance all first) (Amounts all g) w (IoError NotEnoughData)
     (λ held h. list_said all g place held h
     (runs_bind (Err (IoError NotEnoughData)) (property_at g.left place) (listed held place) run
-    (λ d. answers all g held place d h ∙ ap (λ o. over d (heif_answer o g.turn)) is) refl
+    (λ d. answers all g held place d h ∙ ap (λ o. layout_reads d (heif_answer o g.turn)) is) refl
     (record { budget = tt; memory = λ e. absurd cc })))
 list_end_by all first place g (Some size) is w run =
-    walks_stop (properties all first) (properties_advance all first) (Amounts all g) w (turned g.turn size)
+    walks_stop (properties all first) (properties_advance all first) (Amounts all g) w (turn_by g.turn size)
     (λ held h. list_said all g place held h
-    (runs_bind (Ok (Decided (turned g.turn size))) (property_at g.left place) (listed held place) run
-    (λ d. answers all g held place d h ∙ ap (λ o. over d (heif_answer o g.turn)) is) refl tt))
+    (runs_bind (Ok (Decided (turn_by g.turn size))) (property_at g.left place) (listed held place) run
+    (λ d. answers all g held place d h ∙ ap (λ o. layout_reads d (heif_answer o g.turn)) is) refl tt))
 
 pub list_end : {a b end : State} (all first place : ℕ) (g : Gathered) → ListWalks all first a b place g
-    → Runs b end (Ok None) (over b.held.input (property_at g.left place)) → Runs a end (gathered_answer g)
+    → Runs b end (Ok None) (layout_reads b.held.input (property_at g.left place)) → Runs a end (gathered_answer g)
     (chain_at (properties all first) a.held.input)
 list_end all first place g w run = list_end_by all first place g g.best refl w run
 
 -- at a place beyond the input it ends too
 none_listed : (d : List ℕ) (held : List Property) (left place : ℕ) → length d ≤ place
-    → over d (bind (property_at left place) (listed held place)) ≡ over d (listed held place None)
+    → layout_reads d (bind (property_at left place) (listed held place)) ≡ layout_reads d (listed held place None)
 none_listed d held left place far = rw (no_part d place 8 far, no_span d place 8 far) refl
 
 answer_ended : (b : State) (best : Option ImageSize) (turn : Option ℕ)
-    → IfErr (ok_or (option_map (turned turn) best) (IoError NotEnoughData)) (EndedBy b)
+    → IfErr (ok_or (option_map (turn_by turn) best) (IoError NotEnoughData)) (EndedBy b)
 answer_ended b None turn = record { budget = tt; memory = λ e. absurd cc }
 answer_ended b (Some size) turn = tt
 
-answer_no_fault : (best : Option ImageSize) (turn : Option ℕ) → faulted (ok_or (option_map (turned turn) best) (IoError NotEnoughData))
+answer_no_fault : (best : Option ImageSize) (turn : Option ℕ) → is_faulted (ok_or (option_map (turn_by turn) best) (IoError NotEnoughData))
     ≡ false
 answer_no_fault None turn = refl
 answer_no_fault (Some size) turn = refl
 
 answer_verdict : (d : List ℕ) (best : Option ImageSize) (turn : Option ℕ)
-    → (verdict (over d (heif_answer best turn)).answer ≡ Some (ok_or (option_map (turned turn) best) (IoError NotEnoughData)))
-    × ((over d (heif_answer best turn)).marks ≡ [])
+    → (verdict (layout_reads d (heif_answer best turn)).answer ≡ Some (ok_or (option_map (turn_by turn) best) (IoError NotEnoughData)))
+    × ((layout_reads d (heif_answer best turn)).marks ≡ [])
 answer_verdict d None turn = (refl, refl)
 answer_verdict d (Some size) turn = (refl, refl)
 
@@ -408,7 +419,7 @@ heif_compression_laws place head =
 
 -- how many bytes the boxes are read from: what an answer leads to, and nothing behind a refusal
 begun_cost : {X Y : Type 0} (spans : List Span) (r : Result X ImageError) (f : X → Reads Y) (n : X → ℕ) (j k : ℕ) → total spans ≤ j
-    → ((x : X) → total (f x).marks ≤ k + 20 * n x) → total (onward spans r f).marks ≤ j + (k + 20 * begun r n)
+    → ((x : X) → total (f x).marks ≤ k + 20 * n x) → total (go_on spans r f).marks ≤ j + (k + 20 * count_behind r n)
 begun_cost spans (Ok x) f n j k here rest = let all = total-append spans (f x).marks in let more = rest x in omega arith
 begun_cost spans (Err e) f n j k here rest = omega arith
 
@@ -431,11 +442,11 @@ properties_cost : (all place : ℕ) (d : List ℕ) → total (chain_at (properti
 properties_cost all place d = chain_cost (properties all place) d (properties_advance all place d) 20 (property_at_most all place)
 
 -- what is seen of an input
-local_search : (tag : List ℕ) (place : ℕ) → Local false (λ d. chain_at (search_for tag place) d)
+local_search : (tag : List ℕ) (place : ℕ) → IsLocal false (λ d. chain_at (search_for tag place) d)
 local_search tag place = local_chain (search_for tag place) (search_advances tag place)
     (λ passed q. without_texts false 20 ((search_for tag place).said passed q) (search_at_most tag place passed q))
 
-in_iprp_local : (iprp : FoundBox) → Local false (heif_in_iprp iprp)
+in_iprp_local : (iprp : FoundBox) → IsLocal false (heif_in_iprp iprp)
 in_iprp_local iprp = local_then (λ d. chain_at (search_for (codes "ipco") (iprp.place + 8)) d)
     (λ ipco d. chain_at (properties ipco.size (ipco.place + 8)) d)
     (local_search (codes "ipco") (iprp.place + 8))
@@ -443,14 +454,14 @@ in_iprp_local iprp = local_then (λ d. chain_at (search_for (codes "ipco") (iprp
     (λ held q. without_texts false 20 ((properties ipco.size (ipco.place + 8)).said held q)
     (property_at_most ipco.size (ipco.place + 8) held q)))
 
-in_meta_local : (meta : FoundBox) → Local false (heif_in_meta meta)
+in_meta_local : (meta : FoundBox) → IsLocal false (heif_in_meta meta)
 in_meta_local meta = local_then (λ d. bytes_read d (meta.place + 8) 4)
     (λ version d. and_then (chain_at (search_for (codes "iprp") (meta.place + 12)) d) (λ iprp. heif_in_iprp iprp d))
     (local_bytes (meta.place + 8) 4)
     (λ version. local_then (λ d. chain_at (search_for (codes "iprp") (meta.place + 12)) d) heif_in_iprp
     (local_search (codes "iprp") (meta.place + 12)) in_iprp_local)
 
-pub heif_local : Local false heif
+pub heif_local : IsLocal false heif
 heif_local = local_then (λ d. number_read d Big 0 4) (λ first d. and_then (chain_at (search_for (codes "meta") first) d)
     (λ meta. heif_in_meta meta d))
     (local_number Big 0 4)
@@ -469,7 +480,7 @@ in_meta_cost : (meta : FoundBox) (d : List ℕ) → total (heif_in_meta meta d).
 in_meta_cost meta d =
     let reads = chain_at (search_for (codes "iprp") (meta.place + 12)) d in
     let rest : total (and_then reads (λ iprp. heif_in_iprp iprp d)).marks ≤ 20 * (records (search_for (codes "iprp") (meta.place + 12)) d
-    + begun reads.answer (λ iprp. boxes_in_iprp iprp d)) =
+    + count_behind reads.answer (λ iprp. boxes_in_iprp iprp d)) =
     omega (
       arith,
       begun_cost reads.marks reads.answer (λ iprp. heif_in_iprp iprp d) (λ iprp. boxes_in_iprp iprp d) _ 0
@@ -478,7 +489,7 @@ in_meta_cost meta d =
     omega (
       arith,
       begun_cost (span_of d (meta.place + 8) 4) (bytes_at d (meta.place + 8) 4) (λ version. and_then reads (λ iprp. heif_in_iprp iprp d))
-          (λ version. records (search_for (codes "iprp") (meta.place + 12)) d + begun reads.answer (λ iprp. boxes_in_iprp iprp d)) 4 0
+          (λ version. records (search_for (codes "iprp") (meta.place + 12)) d + count_behind reads.answer (λ iprp. boxes_in_iprp iprp d)) 4 0
           (total-span_of d (meta.place + 8) 4) (λ version. omega (arith, rest)),
     )
 
@@ -486,7 +497,7 @@ in_meta_cost meta d =
 pub heif_cost : (d : List ℕ) → total (heif d).marks ≤ 8 + 20 * heif_boxes d
 heif_cost d =
     let rest : (first : ℕ) → total (and_then (chain_at (search_for (codes "meta") first) d) (λ meta. heif_in_meta meta d)).marks ≤ 4
-    + 20 * (records (search_for (codes "meta") first) d + begun (chain_at (search_for (codes "meta") first) d).answer
+    + 20 * (records (search_for (codes "meta") first) d + count_behind (chain_at (search_for (codes "meta") first) d).answer
     (λ meta. boxes_in_meta meta d)) =
     λ first. let reads = chain_at (search_for (codes "meta") first) d in
     omega (
@@ -497,7 +508,7 @@ heif_cost d =
     omega (
       arith,
       begun_cost (span_of d 0 4) (number_at d Big 0 4) (λ first. and_then (chain_at (search_for (codes "meta") first) d)
-          (λ meta. heif_in_meta meta d)) (λ first. records (search_for (codes "meta") first) d + begun
+          (λ meta. heif_in_meta meta d)) (λ first. records (search_for (codes "meta") first) d + count_behind
           (chain_at (search_for (codes "meta") first) d).answer (λ meta. boxes_in_meta meta d)) 4 4
           (total-span_of d 0 4) rest,
     )

@@ -5,15 +5,15 @@ use Rattle.std.proofs.lemmas.List.Folds.{concat-append}
 use Rattle.std.specs.List.{concat}
 use Rattle.imagesize_source.specs.declared.error.ImageError.{ImageError}
 use Rattle.imagesize_source.specs.declared.span.Span.{Span}
-use Rattle.imagesize_source.specs.declared.util.Endian.TheVariants.{Big}
-use Rattle.imagesize_source.specs.Agreement.{Local}
-use Rattle.imagesize_source.specs.Chain.{Said, Decided, Next, Along, start, next_record, records_from, chain_from, chain_at}
+use Rattle.imagesize_source.specs.declared.endian.Endian.TheVariants.{Big}
+use Rattle.imagesize_source.specs.Agreement.{IsLocal}
+use Rattle.imagesize_source.specs.Chain.{Said, Decided, Next, Along, start, next_record, records_from, chain_from, chain_at, count_behind}
 use Rattle.imagesize_source.specs.Counts.{AtMost, CostsBy}
 use Rattle.imagesize_source.specs.Input.{part, span_of}
-use Rattle.imagesize_source.specs.Layout.{over, there}
+use Rattle.imagesize_source.specs.Layout.{layout_reads, there}
 use Rattle.imagesize_source.specs.Layout.Layout.{«done»}
 use Rattle.imagesize_source.specs.Numbers.{number}
-use Rattle.imagesize_source.specs.Reading.{Reads, onward, gives, behind, bytes_at, number_at}
+use Rattle.imagesize_source.specs.Reading.{Reads, go_on, gives, put_behind, bytes_at, number_at}
 use Rattle.imagesize_source.specs.State.{total}
 use Rattle.imagesize_source.proofs.Ahead.{Ahead, chain_ahead}
 use Rattle.imagesize_source.proofs.ChainLaws.{chain_induction, local_chain}
@@ -25,7 +25,7 @@ use Rattle.imagesize_source.proofs.Runs.{part_length, total-append}
 use Rattle.imagesize_source.proofs.Tests.{on_test}
 use Rattle.imagesize_source.proofs.Way.{RecordedLaws}
 use Rattle.imagesize_boxes.specs.declared.formats.jxl.boxes.BoxHead.{BoxHead}
-use Rattle.imagesize_boxes.specs.Jxl.{has_signature, jxl_size, box_head, box_room, said_behind, partial_said, box_content, jxl_box, jxl_chain, jxl_start, codestream, jxl_codestream, jxl, begun_behind, jxl_boxes}
+use Rattle.imagesize_boxes.specs.Jxl.{has_signature, jxl_size, box_head, box_room, said_behind, partial_said, box_content, jxl_box, jxl_chain, jxl_start, codestream, jxl_codestream, jxl, jxl_boxes, boxes_behind}
 use Rattle.imagesize_boxes.proofs.JxlBoxes.{Says, by_checked, by_head, by_piece, by_end, by_partial, by_content, jxl_advances}
 use Rattle.imagesize_boxes.proofs.JxlGrowth.{jxl_lasts, box_sized}
 
@@ -92,7 +92,7 @@ start_costs = (
 pub jxl_within : (d : List ℕ) → total (jxl d).marks ≤ length d + 16
 jxl_within d =
     let boxes = chain_ahead jxl_chain d (jxl_advances d) (λ pieces place. box_ahead (concat pieces) place) in
-    let found = then_within (over d jxl_start) (codestream d) 16 (length d) (at_most d 16 jxl_start start_few) (λ o _. by_start o boxes) in
+    let found = then_within (layout_reads d jxl_start) (codestream d) 16 (length d) (at_most d 16 jxl_start start_few) (λ o _. by_start o boxes) in
     let all = then_within (jxl_codestream d) (λ front. record { answer = jxl_size front; marks = [] }) (16 + length d) 0 found
     (λ front _. omega arith) in
     omega arith where
@@ -136,14 +136,14 @@ box_few held place =
     )
 
 -- what is seen of an input
-local_behind : (found : Option (List ℕ)) → Local false (λ d. codestream d found)
+local_behind : (found : Option (List ℕ)) → IsLocal false (λ d. codestream d found)
 local_behind None = local_chain jxl_chain jxl_advances
     (λ pieces place. without_texts false (32 + (16 - length (concat pieces))) (jxl_box (concat pieces) place) (box_few (concat pieces) place))
 local_behind (Some front) = λ d e long. inl refl
 
-pub jxl_local : Local false jxl
+pub jxl_local : IsLocal false jxl
 jxl_local = local_then jxl_codestream (λ front d. record { answer = jxl_size front; marks = [] })
-    (local_then (λ d. over d jxl_start) (λ found d. codestream d found) (local_layout jxl_start (without_texts false 16 jxl_start start_few))
+    (local_then (λ d. layout_reads d jxl_start) (λ found d. codestream d found) (local_layout jxl_start (without_texts false 16 jxl_start start_few))
     local_behind)
     (λ front d e long. inl refl)
 
@@ -153,7 +153,7 @@ Lean u held r = (piece : List ℕ) (place : ℕ) → r.answer ≡ Ok (Next piece
     × (length piece ≤ 16 - length held)
 
 lean_onward : {Y : Type 0} (u n : ℕ) (held : List ℕ) (spans : List Span) (r : Result Y ImageError)
-    (f : Y → Reads (Said (List ℕ) (List ℕ))) → total spans ≤ n → ((y : Y) → Lean (u + n) held (f y)) → Lean u held (onward spans r f)
+    (f : Y → Reads (Said (List ℕ) (List ℕ))) → total spans ≤ n → ((y : Y) → Lean (u + n) held (f y)) → Lean u held (go_on spans r f)
 unfolding Lean
 lean_onward u n held spans (Ok y) f few each piece place is = let rest = each y piece place is in
     (omega (arith, rest.0, total-append spans (f y).marks), rest.1)
@@ -162,7 +162,7 @@ lean_onward u n held spans (Err e) f few each piece place is = absurd cc
 -- what a box says at once, behind its piece
 lean_said : (u : ℕ) (held : List ℕ) (spans : List Span) (s : Said (List ℕ) (List ℕ)) (piece : List ℕ)
     → ((found : List ℕ) (place : ℕ) → s ≡ Next found place → found ≡ piece) → u ≤ 20 → total spans ≤ length piece
-    → length piece ≤ 16 - length held → Lean u held (behind spans (gives s))
+    → length piece ≤ 16 - length held → Lean u held (put_behind spans (gives s))
 unfolding Lean
 lean_said u held spans s piece same few seen fits found place is =
     let at : s ≡ Next found place = cc in
@@ -181,17 +181,17 @@ partial_piece held at head index piece found place = by_partial (λ s. s ≡ Nex
     (λ is. absurd cc) (λ _ is. cc)
 
 module _ (d : List ℕ) where
-  content_lean : (u : ℕ) (held : List ℕ) (place : ℕ) (head : BoxHead) → u ≤ 16 → Lean u held (over d (box_content held place head))
+  content_lean : (u : ℕ) (held : List ℕ) (place : ℕ) (head : BoxHead) → u ≤ 16 → Lean u held (layout_reads d (box_content held place head))
   unfolding Lean
   content_lean u held place head few =
-      let P : Says → Type 0 = λ t. Lean u held (over d t) in
+      let P : Says → Type 0 = λ t. Lean u held (layout_reads d t) in
       by_content P held place head
       (by_piece P (place + head.length) (min 16 (box_room head)) (λ front. done (Decided front)) (λ _ piece next is. absurd cc)
       (λ _ piece next is. absurd cc))
       (λ piece next is. absurd cc)
       (λ _. lean_onward u 4 held (span_of d (place + head.length) 4) (bytes_at d (place + head.length) 4) _
       (total-span_of d (place + head.length) 4)
-      (λ index. by_piece (λ t. Lean (u + 4) held (over d t)) (place + (head.length + 4)) (min (box_room head - 4) (16 - length held))
+      (λ index. by_piece (λ t. Lean (u + 4) held (layout_reads d t)) (place + (head.length + 4)) (min (box_room head - 4) (16 - length held))
       (λ piece. done (partial_said held place head index piece))
       (λ _. lean_said (u + 4) held [] (partial_said held place head index []) [] (λ found next is. partial_piece held place head index []
       found next is) (omega arith) (omega arith) (omega arith))
@@ -202,16 +202,16 @@ module _ (d : List ℕ) where
       (lean_said u held [] (said_behind held place head []) [] (λ found next is. end_piece held place head [] found next is)
       (omega arith) (omega arith) (omega arith))
 
-  box_lean : (held : List ℕ) (place : ℕ) → Lean 0 held (over d (jxl_box held place))
+  box_lean : (held : List ℕ) (place : ℕ) → Lean 0 held (layout_reads d (jxl_box held place))
   unfolding box_head Lean
   box_lean held place =
       lean_onward 0 8 held (span_of d place 8) (bytes_at d place 8) _ (total-span_of d place 8)
-      (λ front. by_head (λ t. Lean 8 held (over d t)) place front (box_content held place)
+      (λ front. by_head (λ t. Lean 8 held (layout_reads d t)) place front (box_content held place)
       (lean_onward 8 8 held (span_of d (place + 8) 8) (number_at d Big (place + 8) 8) _ (total-span_of d (place + 8) 8)
-      (λ size. by_checked (λ t. Lean 16 held (over d t)) place (record { tag = drop 4 front; size = size; length = 16 })
+      (λ size. by_checked (λ t. Lean 16 held (layout_reads d t)) place (record { tag = drop 4 front; size = size; length = 16 })
       (box_content held place) (λ e piece next is. absurd cc)
       (λ _ _. content_lean 16 held place (record { tag = drop 4 front; size = size; length = 16 }) (omega arith))))
-      (by_checked (λ t. Lean 8 held (over d t)) place (record { tag = drop 4 front; size = number Big (take 4 front); length = 8 })
+      (by_checked (λ t. Lean 8 held (layout_reads d t)) place (record { tag = drop 4 front; size = number Big (take 4 front); length = 8 })
       (box_content held place) (λ e piece next is. absurd cc)
       (λ _ _. content_lean 8 held place (record { tag = drop 4 front; size = number Big (take 4 front); length = 8 }) (omega arith))))
 
@@ -241,7 +241,7 @@ module _ (d : List ℕ) where
       omega arith)
 
   begun_within : (found : Result (Option (List ℕ)) ImageError) (spans : List Span) → total spans ≤ bound_of start_bound 16 found
-      → total (onward spans found (codestream d)).marks ≤ 30 + 20 * begun_behind d found
+      → total (go_on spans found (codestream d)).marks ≤ 30 + 20 * count_behind found (boxes_behind d)
   begun_within (Ok None) spans few = let boxes = boxes_lean (start jxl_chain) in let all = total-append spans
       (chain_at jxl_chain d).marks in omega arith
   begun_within (Ok (Some front)) spans few = let all = total-append spans [] in omega arith
@@ -250,7 +250,7 @@ module _ (d : List ℕ) where
 -- a box is read from at most 20 bytes and its piece
 pub jxl_cost : (d : List ℕ) → total (jxl d).marks ≤ 30 + 20 * jxl_boxes d
 jxl_cost d =
-    let found = begun_within d (over d jxl_start).answer (over d jxl_start).marks (omega (arith, costs start_bound 16 0 d jxl_start start_costs)) in
+    let found = begun_within d (layout_reads d jxl_start).answer (layout_reads d jxl_start).marks (omega (arith, costs start_bound 16 0 d jxl_start start_costs)) in
     let all = then_within (jxl_codestream d) (λ front. record { answer = jxl_size front; marks = [] }) (30 + 20 * jxl_boxes d) 0 found
     (λ front _. omega arith) in
     omega arith

@@ -1,20 +1,22 @@
 -- JPEG XL: the ways that a box can go, how a walk along the boxes goes, and the size by what it found.
-use Rattle.std.proofs.Common.{◌≡◌, ℕ, ◌+◌, ◌-◌, ◌*◌, ◌^◌, ◌<◌, ◌≤◌, true, false, cond, eqb, leb, ltb, not, ◌&&◌, ◌||◌, codes, take, drop, min, slice_index, List, [], ◌∷◌, ◌++◌, length, get_or, Result, Ok, Err, refl, sym, ap, ◌∙◌, subst, arith}
+use Rattle.std.proofs.Common.{◌≡◌, ℕ, ◌+◌, ◌-◌, ◌*◌, ◌^◌, ◌<◌, ◌≤◌, true, false, cond, eqb, leb, ltb, not, ◌&&◌, ◌||◌, codes, take, drop, min, slice_index, List, [], ◌∷◌, ◌++◌, length, get_or, Option, None, Some, Result, Ok, Err, refl, sym, ap, ◌∙◌, subst, arith}
 use Rattle.std.proofs.lemmas.Bool.Decides.{nat_tests}
 use Rattle.std.proofs.lemmas.List.{append-nil, length-take, length-take-le, get_or-take}
 use Rattle.std.proofs.lemmas.List.Folds.{concat-append}
 use Rattle.std.specs.List.{concat}
+use Rattle.std.specs.Option.{ok_or}
 use Rattle.imagesize_boxes.specs.declared.formats.jxl.boxes.BoxHead.{BoxHead}
 use Rattle.imagesize_boxes.specs.Fields.{Fields, found, bits, binary, bits_of, field_at, field_in, with_found, found_by, found_in}
-use Rattle.imagesize_boxes.specs.Jxl.{has_signature, jxl_header, jxl_size, piece_at, answer, box_checked, box_head, box_room, said_behind, codestream_box, partial_said, partial_box, box_content, jxl_box, jxl_chain, jxl_codestream, jxl}
+use Rattle.imagesize_boxes.specs.Jxl.{has_signature, jxl_header, jxl_size, piece_at, box_checked, box_head, box_room, said_behind, codestream_box, partial_said, partial_box, box_content, jxl_box, jxl_chain, jxl_codestream, jxl}
 use Rattle.imagesize_boxes.proofs.Fields.{field_front, found_alike}
 use Rattle.imagesize_types.specs.Head.{begins}
 use Rattle.imagesize_types.specs.declared.size.ImageSize.{ImageSize}
 use Rattle.imagesize_source.specs.Chain.{Said, Decided, Next, Advances, chain_at}
-use Rattle.imagesize_source.specs.Layout.{Layout, over, bind, bytes, there}
-use Rattle.imagesize_source.specs.Layout.Layout.{field, refuse, «done»}
+use Rattle.imagesize_source.specs.Halts.{with_error}
+use Rattle.imagesize_source.specs.Layout.{Layout, layout_reads, bind, bytes, there, accept}
+use Rattle.imagesize_source.specs.Layout.Layout.{field, refuse, done}
 use Rattle.imagesize_source.specs.Reading.{end_of_input, is_fault}
-use Rattle.imagesize_source.specs.State.{State, Runs, EndedBy, Sound}
+use Rattle.imagesize_source.specs.State.{State, Runs, EndedBy, IsSound}
 use Rattle.imagesize_source.proofs.Advances.{Tells, advances}
 use Rattle.imagesize_source.proofs.Reached.{reads_nothing}
 use Rattle.imagesize_source.proofs.Runs.{runs_then}
@@ -23,7 +25,8 @@ use Rattle.imagesize_source.proofs.Walks.{Walks, walks_start, walks_on, walks_st
 use Rattle.imagesize_source.specs.declared.error.ImageError.{ImageError}
 use Rattle.imagesize_source.specs.declared.error.ImageError.TheVariants.{CorruptedImage, IoError}
 use Rattle.imagesize_source.specs.declared.error.Reason.TheVariants.{InvalidJxlBoxSize, InvalidJxlSignature}
-use Rattle.imagesize_source.specs.declared.util.Endian.TheVariants.{Little, Big}
+use Rattle.imagesize_source.specs.declared.halt.Halt.TheVariants as halt
+use Rattle.imagesize_source.specs.declared.endian.Endian.TheVariants.{Little, Big}
 use Rattle.imagesize_source.specs.Numbers.{number, little}
 
 -- the size by too few bytes, by others than the signature, and by its bits as a number
@@ -63,23 +66,23 @@ abbrev pub Says : Type 0
 Says = Layout (Said (List ℕ) (List ℕ))
 
 pub by_checked : (P : Says → Type 0) (place : ℕ) (head : BoxHead) (f : BoxHead → Says) → ((e : ImageError) → P (refuse e))
-    → (place + head.size < 2 ^ 64 → (0 < head.size → head.length ≤ head.size) → P (f head)) → P (bind (answer (box_checked place head)) f)
+    → (place + head.size < 2 ^ 64 → (0 < head.size → head.length ≤ head.size) → P (f head)) → P (bind (accept (box_checked place head) done) f)
 by_checked P place head f out on =
-    on_test (λ r. P (bind (answer r) f)) (ltb (2 ^ 64 - 1) (place + head.size)) (Err CorruptedImage) _ (λ _. out CorruptedImage)
-    (λ within. on_test (λ r. P (bind (answer r) f)) (not (eqb head.size 0) && ltb head.size head.length)
+    on_test (λ r. P (bind (accept r done) f)) (ltb (2 ^ 64 - 1) (place + head.size)) (Err CorruptedImage) _ (λ _. out CorruptedImage)
+    (λ within. on_test (λ r. P (bind (accept r done) f)) (not (eqb head.size 0) && ltb head.size head.length)
     (Err (IoError (InvalidJxlBoxSize head.tag head.size))) (Ok head) (λ _. out (IoError (InvalidJxlBoxSize head.tag head.size)))
     (λ whole. on (grind (arith, nat_tests)) (λ some. grind (arith, nat_tests))))
 
 pub by_head : (P : Says → Type 0) (place : ℕ) (front : List ℕ) (f : BoxHead → Says)
-    → P (field Big (place + 8) 8 (λ size. bind (answer (box_checked place (record { tag = drop 4 front; size = size; length = 16 }))) f))
-    → P (bind (answer (box_checked place (record { tag = drop 4 front; size = number Big (take 4 front); length = 8 }))) f)
+    → P (field Big (place + 8) 8 (λ size. bind (accept (box_checked place (record { tag = drop 4 front; size = size; length = 16 })) done) f))
+    → P (bind (accept (box_checked place (record { tag = drop 4 front; size = number Big (take 4 front); length = 8 })) done) f)
     → P (bind (cond (eqb (number Big (take 4 front)) 1)
-    (field Big (place + 8) 8 (λ size. answer (box_checked place (record { tag = drop 4 front; size = size; length = 16 }))))
-    (answer (box_checked place (record { tag = drop 4 front; size = number Big (take 4 front); length = 8 })))) f)
+    (field Big (place + 8) 8 (λ size. accept (box_checked place (record { tag = drop 4 front; size = size; length = 16 })) done))
+    (accept (box_checked place (record { tag = drop 4 front; size = number Big (take 4 front); length = 8 })) done)) f)
 by_head P place front f long short =
     on_test (λ t. P (bind t f)) (eqb (number Big (take 4 front)) 1)
-    (field Big (place + 8) 8 (λ size. answer (box_checked place (record { tag = drop 4 front; size = size; length = 16 }))))
-    (answer (box_checked place (record { tag = drop 4 front; size = number Big (take 4 front); length = 8 })))
+    (field Big (place + 8) 8 (λ size. accept (box_checked place (record { tag = drop 4 front; size = size; length = 16 })) done))
+    (accept (box_checked place (record { tag = drop 4 front; size = number Big (take 4 front); length = 8 })) done)
     (λ _. long) (λ _. short)
 
 pub by_piece : (P : Says → Type 0) (place k : ℕ) (f : List ℕ → Says) → (k ≡ 0 → P (f [])) → (0 < k → P (there place k f))
@@ -144,12 +147,12 @@ pub walk_start : (a : State) → JxlWalks a a 12 []
 walk_start a = walks_start jxl_chain (λ pieces. concat pieces ≡ []) a refl
 
 box_as : {b end : State} {r : Result (Said (List ℕ) (List ℕ)) ImageError} (place : ℕ) (front : List ℕ)
-    → Runs b end r (over b.held.input (jxl_box front place)) → (pieces : List (List ℕ)) → concat pieces ≡ front
-    → Runs b end r (over b.held.input (jxl_box (concat pieces) place))
-box_as {b} {end} {r} place front run pieces is = subst (λ held. Runs b end r (over b.held.input (jxl_box held place))) (sym is) run
+    → Runs b end r (layout_reads b.held.input (jxl_box front place)) → (pieces : List (List ℕ)) → concat pieces ≡ front
+    → Runs b end r (layout_reads b.held.input (jxl_box (concat pieces) place))
+box_as {b} {end} {r} place front run pieces is = subst (λ held. Runs b end r (layout_reads b.held.input (jxl_box held place))) (sym is) run
 
 pub walk_on : {a b end : State} (place next : ℕ) (front piece : List ℕ) → JxlWalks a b place front → Runs b end (Ok (Next piece next))
-    (over b.held.input (jxl_box front place)) → JxlWalks a end next (front ++ piece)
+    (layout_reads b.held.input (jxl_box front place)) → JxlWalks a end next (front ++ piece)
 walk_on place next front piece w run =
     walks_on jxl_chain jxl_advances (λ pieces. concat pieces ≡ front) w (λ pieces. concat pieces ≡ front ++ piece) piece next
     (box_as place front run)
@@ -157,11 +160,11 @@ walk_on place next front piece w run =
     is)
 
 pub walk_stop : {a b end : State} (place : ℕ) (front whole : List ℕ) → JxlWalks a b place front → Runs b end (Ok (Decided whole))
-    (over b.held.input (jxl_box front place)) → Runs a end (Ok whole) (chain_at jxl_chain a.held.input)
+    (layout_reads b.held.input (jxl_box front place)) → Runs a end (Ok whole) (chain_at jxl_chain a.held.input)
 walk_stop place front whole w run = walks_stop jxl_chain jxl_advances (λ pieces. concat pieces ≡ front) w whole (box_as place front run)
 
 pub walk_out : {a b end : State} (place : ℕ) (front : List ℕ) (e : ImageError) → JxlWalks a b place front
-    → Runs b end (Err e) (over b.held.input (jxl_box front place)) → Runs {X = List ℕ} a end (Err e) (chain_at jxl_chain a.held.input)
+    → Runs b end (Err e) (layout_reads b.held.input (jxl_box front place)) → Runs {X = List ℕ} a end (Err e) (chain_at jxl_chain a.held.input)
 walk_out place front e w run = walks_out jxl_chain jxl_advances (λ pieces. concat pieces ≡ front) w e (box_as place front run)
 
 -- The size by a codestream.
@@ -190,9 +193,15 @@ plain_size front =
     (λ _. plain_found (bits_of front) jxl_header)
     (λ _. (refl, λ b. record { budget = tt; memory = λ e. absurd cc })))
 
-sized_by : {b : State} (r : Result ImageSize ImageError) → Sound b → Plainly r → Runs b b r (record { answer = r; marks = [] })
+sized_by : {b : State} (r : Result ImageSize ImageError) → IsSound b → Plainly r → Runs b b r (record { answer = r; marks = [] })
 sized_by {b} (Ok size) sound plain = reads_nothing b (Ok size) sound refl tt
 sized_by {b} (Err e) sound plain = reads_nothing b (Err e) sound plain.0 (plain.1 b)
+
+-- what is not there whole is corrupt
+pub none_corrupted : {X : Type 0} (failure : ImageError) (budget : ℕ) (found : Option X)
+    → with_error failure budget (ok_or found halt.Corrupted) ≡ ok_or found CorruptedImage
+none_corrupted failure budget (Some x) = refl
+none_corrupted failure budget None = refl
 
 -- the size by a codestream that was found
 pub sized : {a b : State} (front : List ℕ) → Runs a b (Ok front) (jxl_codestream a.held.input) → Runs a b (jxl_size front)

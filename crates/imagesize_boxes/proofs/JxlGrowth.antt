@@ -9,14 +9,14 @@ use Rattle.imagesize_source.specs.declared.error.ImageError.{ImageError}
 use Rattle.imagesize_source.specs.declared.error.ImageError.TheVariants.{CorruptedImage, IoError}
 use Rattle.imagesize_source.specs.declared.error.Reason.TheVariants.{InvalidJxlSignature}
 use Rattle.imagesize_source.specs.declared.span.Span.{Span}
-use Rattle.imagesize_source.specs.declared.util.Endian.{Endian}
-use Rattle.imagesize_source.specs.declared.util.Endian.TheVariants.{Big}
+use Rattle.imagesize_source.specs.declared.endian.Endian.{Endian}
+use Rattle.imagesize_source.specs.declared.endian.Endian.TheVariants.{Big}
 use Rattle.imagesize_source.specs.Chain.{Said, Decided, Next, Along, next_record, verdict, chain_from, start}
 use Rattle.imagesize_source.specs.Input.{part, span_of}
-use Rattle.imagesize_source.specs.Layout.{Layout, over, bind, bytes, there}
-use Rattle.imagesize_source.specs.Layout.Layout.{field, «done»}
+use Rattle.imagesize_source.specs.Layout.{Layout, layout_reads, bind, bytes, there, accept}
+use Rattle.imagesize_source.specs.Layout.Layout.{field, done}
 use Rattle.imagesize_source.specs.Numbers.{number}
-use Rattle.imagesize_source.specs.Reading.{Reads, onward, gives, bytes_at, number_at, seen, end_of_input}
+use Rattle.imagesize_source.specs.Reading.{Reads, go_on, gives, bytes_at, number_at, map_answer, end_of_input}
 use Rattle.imagesize_source.proofs.PastTheEnd.{bytes_beyond}
 use Rattle.imagesize_source.proofs.ChainLaws.{chain_induction}
 use Rattle.imagesize_source.proofs.Chains.{chain_next, chain_stop}
@@ -25,7 +25,7 @@ use Rattle.imagesize_source.proofs.Runs.{part_length}
 use Rattle.imagesize_source.proofs.Tests.{on_test}
 use Rattle.imagesize_boxes.specs.declared.formats.jxl.boxes.BoxHead.{BoxHead}
 use Rattle.imagesize_boxes.specs.Fields.{bits_of, low_bits, field_at, found_by}
-use Rattle.imagesize_boxes.specs.Jxl.{has_signature, jxl_header, jxl_size, piece_at, answer, box_checked, box_head, box_room, said_behind, partial_said, box_content, jxl_box, jxl_chain, jxl_start, codestream, jxl_codestream, jxl}
+use Rattle.imagesize_boxes.specs.Jxl.{has_signature, jxl_header, jxl_size, piece_at, box_checked, box_head, box_room, said_behind, partial_said, box_content, jxl_box, jxl_chain, jxl_start, codestream, jxl_codestream, jxl}
 use Rattle.imagesize_boxes.proofs.Fields.{found_more}
 use Rattle.imagesize_boxes.proofs.JxlBoxes.{Says, by_checked, by_head, by_piece, by_content, jxl_advances}
 
@@ -56,31 +56,31 @@ grows_given : {X : Type 0} (R : X → X → Type 0) (s t : X) → R s t → Grow
 grows_given R s t h u is = let same : s ≡ u = cc in (t, refl, subst (λ v. R v t) same h)
 
 grows_onward : {X Y : Type 0} (R : X → X → Type 0) (spans more : List Span) (r r' : Result Y ImageError) (f g : Y → Reads X)
-    → ((y : Y) → r ≡ Ok y → r' ≡ Ok y) → ((y : Y) → Grows R (f y) (g y)) → Grows R (onward spans r f) (onward more r' g)
+    → ((y : Y) → r ≡ Ok y → r' ≡ Ok y) → ((y : Y) → Grows R (f y) (g y)) → Grows R (go_on spans r f) (go_on more r' g)
 grows_onward R spans more (Ok y) r' f g same each s is =
     let rest = each y s is in
-    (rest.0, ap (λ q. (onward more q g).answer) (same y refl) ∙ rest.1, rest.2)
+    (rest.0, ap (λ q. (go_on more q g).answer) (same y refl) ∙ rest.1, rest.2)
 grows_onward R spans more (Err e) r' f g same each s is = absurd cc
 
 grows_bytes : {X : Type 0} (R : X → X → Type 0) (d x : List ℕ) (place k : ℕ) (f : List ℕ → Layout X)
-    → ((bs : List ℕ) → Grows R (over d (f bs)) (over (d ++ x) (f bs))) → Grows R (over d (bytes place k f))
-    (over (d ++ x) (bytes place k f))
+    → ((bs : List ℕ) → Grows R (layout_reads d (f bs)) (layout_reads (d ++ x) (f bs))) → Grows R (layout_reads d (bytes place k f))
+    (layout_reads (d ++ x) (bytes place k f))
 grows_bytes R d x place k f each =
-    grows_onward R (span_of d place k) (span_of (d ++ x) place k) (bytes_at d place k) (bytes_at (d ++ x) place k) (λ bs. over d (f bs))
-    (λ bs. over (d ++ x) (f bs))
+    grows_onward R (span_of d place k) (span_of (d ++ x) place k) (bytes_at d place k) (bytes_at (d ++ x) place k) (λ bs. layout_reads d (f bs))
+    (λ bs. layout_reads (d ++ x) (f bs))
     (λ bs got. bytes_more d x place k (bytes_ok d bs place k got) ∙ got) each
 
 number_more : (d x : List ℕ) (order : Endian) (place k : ℕ) → k ≤ length d - place → number_at (d ++ x) order place k ≡ number_at d order
     place k
 unfolding number_at
-number_more d x order place k h = ap (seen (number order)) (bytes_more d x place k h)
+number_more d x order place k h = ap (map_answer (number order)) (bytes_more d x place k h)
 
 grows_field : {X : Type 0} (R : X → X → Type 0) (d x : List ℕ) (order : Endian) (place k : ℕ) (f : ℕ → Layout X)
-    → ((v : ℕ) → Grows R (over d (f v)) (over (d ++ x) (f v))) → Grows R (over d (field order place k f))
-    (over (d ++ x) (field order place k f))
+    → ((v : ℕ) → Grows R (layout_reads d (f v)) (layout_reads (d ++ x) (f v))) → Grows R (layout_reads d (field order place k f))
+    (layout_reads (d ++ x) (field order place k f))
 grows_field R d x order place k f each =
     grows_onward R (span_of d place k) (span_of (d ++ x) place k) (number_at d order place k) (number_at (d ++ x) order place k)
-    (λ v. over d (f v)) (λ v. over (d ++ x) (f v))
+    (λ v. layout_reads d (f v)) (λ v. layout_reads (d ++ x) (f v))
     (λ v got. number_more d x order place k (number_ok d order place k v got) ∙ got) each
 
 -- The codestream of a box may go on; a next box within the input stays.
@@ -134,7 +134,7 @@ box_sized head closed = let test : eqb head.size 0 ≡ false = grind (arith, nat
 
 module _ (d x : List ℕ) where
   Both : Says → Type 0
-  Both t = Grows (GoesOn (length d)) (over d t) (over (d ++ x) t)
+  Both t = Grows (GoesOn (length d)) (layout_reads d t) (layout_reads (d ++ x) t)
 
   content_grows : (held : List ℕ) (place : ℕ) (head : BoxHead) → (0 < head.size → head.length ≤ head.size)
       → Both (box_content held place head)
@@ -174,12 +174,12 @@ module _ (d x : List ℕ) where
   box_grows held place =
       grows_bytes (GoesOn (length d)) d x place 8
       (λ front. bind (cond (eqb (number Big (take 4 front)) 1)
-      (field Big (place + 8) 8 (λ size. answer (box_checked place (record { tag = drop 4 front; size = size; length = 16 }))))
-      (answer (box_checked place (record { tag = drop 4 front; size = number Big (take 4 front); length = 8 }))))
+      (field Big (place + 8) 8 (λ size. accept (box_checked place (record { tag = drop 4 front; size = size; length = 16 })) done))
+      (accept (box_checked place (record { tag = drop 4 front; size = number Big (take 4 front); length = 8 })) done))
       (box_content held place))
       (λ front. by_head Both place front (box_content held place)
       (grows_field (GoesOn (length d)) d x Big (place + 8) 8
-      (λ size. bind (answer (box_checked place (record { tag = drop 4 front; size = size; length = 16 }))) (box_content held place))
+      (λ size. bind (accept (box_checked place (record { tag = drop 4 front; size = size; length = 16 })) done) (box_content held place))
       (λ size.
       by_checked Both place (record { tag = drop 4 front; size = size; length = 16 }) (box_content held place) (λ e s is. absurd cc)
       (λ _ sized. content_grows held place (record { tag = drop 4 front; size = size; length = 16 }) sized)))
@@ -199,8 +199,8 @@ unfolding box_head
 box_gone d t gone =
     let out = bytes_beyond d t.place 8
     (λ front. bind (cond (eqb (number Big (take 4 front)) 1)
-    (field Big (t.place + 8) 8 (λ size. answer (box_checked t.place (record { tag = drop 4 front; size = size; length = 16 }))))
-    (answer (box_checked t.place (record { tag = drop 4 front; size = number Big (take 4 front); length = 8 }))))
+    (field Big (t.place + 8) 8 (λ size. accept (box_checked t.place (record { tag = drop 4 front; size = size; length = 16 })) done))
+    (accept (box_checked t.place (record { tag = drop 4 front; size = number Big (take 4 front); length = 8 })) done))
     (box_content (concat t.held) t.place)) gone (omega arith) in
     chain_stop jxl_chain d t (Err end_of_input) (ap (λ r. verdict r.answer) out) ∙ ap (λ r. record {
       answer = Err end_of_input;
@@ -248,10 +248,10 @@ abbrev StartsAs : Option (List ℕ) → Option (List ℕ) → Type 0
 StartsAs None t = t ≡ None
 StartsAs (Some front) t = (more : List ℕ) × (t ≡ Some (front ++ more))
 
-start_grows : (d x : List ℕ) → Grows StartsAs (over d jxl_start) (over (d ++ x) jxl_start)
+start_grows : (d x : List ℕ) → Grows StartsAs (layout_reads d jxl_start) (layout_reads (d ++ x) jxl_start)
 start_grows d x =
     grows_bytes StartsAs d x 0 2 (λ start. cond (has_signature start) (there 2 14 (λ more. done (Some (start ++ more)))) (done None))
-    (λ start. on_test (λ t. Grows StartsAs (over d t) (over (d ++ x) t)) (has_signature start)
+    (λ start. on_test (λ t. Grows StartsAs (layout_reads d t) (layout_reads (d ++ x) t)) (has_signature start)
     (there 2 14 (λ more. done (Some (start ++ more)))) (done None)
     (λ _. let grown = part_grows d x 2 14 in
     grows_given StartsAs (Some (start ++ part d 2 14)) (Some (start ++ part (d ++ x) 2 14))
@@ -268,22 +268,22 @@ either_grows d x (Some found) t h front is =
     (h.0, ap (λ o. (codestream (d ++ x) o).answer) h.1 ∙ ap (λ f. Ok (f ++ h.0)) same)
 
 -- an answer behind an answer
-then_ok : {X Y : Type 0} (r : Result X ImageError) (spans : List Span) (f : X → Reads Y) (y : Y) → (onward spans r f).answer ≡ Ok y
+then_ok : {X Y : Type 0} (r : Result X ImageError) (spans : List Span) (f : X → Reads Y) (y : Y) → (go_on spans r f).answer ≡ Ok y
     → (x : X) × (r ≡ Ok x) × ((f x).answer ≡ Ok y)
 then_ok (Ok x) spans f y is = (x, refl, is)
 then_ok (Err e) spans f y is = absurd cc
 
-then_at : {X Y : Type 0} (r : Result X ImageError) (spans : List Span) (f : X → Reads Y) (x : X) → r ≡ Ok x → (onward spans r f).answer
+then_at : {X Y : Type 0} (r : Result X ImageError) (spans : List Span) (f : X → Reads Y) (x : X) → r ≡ Ok x → (go_on spans r f).answer
     ≡ (f x).answer
-then_at r spans f x is = ap (λ q. (onward spans q f).answer) is
+then_at r spans f x is = ap (λ q. (go_on spans q f).answer) is
 
 codestream_grows : (d x front : List ℕ) → (jxl_codestream d).answer ≡ Ok front
     → (more : List ℕ) × ((jxl_codestream (d ++ x)).answer ≡ Ok (front ++ more))
 codestream_grows d x front is =
-    let found = then_ok (over d jxl_start).answer (over d jxl_start).marks (codestream d) front is in
+    let found = then_ok (layout_reads d jxl_start).answer (layout_reads d jxl_start).marks (codestream d) front is in
     let grown = start_grows d x found.0 found.1 in
     let rest = either_grows d x found.0 grown.0 grown.2 front found.2 in
-    (rest.0, then_at (over (d ++ x) jxl_start).answer (over (d ++ x) jxl_start).marks (codestream (d ++ x)) grown.0 grown.1 ∙ rest.1)
+    (rest.0, then_at (layout_reads (d ++ x) jxl_start).answer (layout_reads (d ++ x) jxl_start).marks (codestream (d ++ x)) grown.0 grown.1 ∙ rest.1)
 
 -- more bytes leave a size that was found
 size_grows : (front more : List ℕ) (v : ImageSize) → jxl_size front ≡ Ok v → jxl_size (front ++ more) ≡ Ok v

@@ -5,24 +5,24 @@ use Rattle.std.proofs.lemmas.List.{append-nil}
 use Rattle.imagesize_source.specs.declared.error.ImageError.{ImageError}
 use Rattle.imagesize_source.specs.Input.{part, span_of}
 use Rattle.imagesize_source.specs.Reading.{part_read}
-use Rattle.imagesize_source.specs.Layout.{over, there}
+use Rattle.imagesize_source.specs.Layout.{layout_reads, there}
 use Rattle.imagesize_source.specs.Layout.Layout.{«done»}
-use Rattle.imagesize_source.specs.State.{State, Runs, Sound}
+use Rattle.imagesize_source.specs.State.{State, Runs, IsSound}
 use Rattle.imagesize_source.proofs.Reached.{reads_nothing}
 use Rattle.imagesize_boxes.specs.Jxl.{piece_at}
 
 -- no byte is no reading
-pub piece_none : {a : State} (place : ℕ) → Sound a → Runs a a (Ok []) (over a.held.input (piece_at place 0))
+pub piece_none : {a : State} (place : ℕ) → IsSound a → Runs a a (Ok []) (layout_reads a.held.input (piece_at place 0))
 unfolding piece_at
 piece_none {a} place sound = reads_nothing a (Ok []) sound refl tt
 
 -- bytes that were read
 pub piece_some : {a b : State} {r : Result (List ℕ) ImageError} (place k n : ℕ) → k ≢ 0 → n ≡ k
-    → Runs a b r (part_read a.held.input place n) → Runs a b r (over a.held.input (piece_at place k))
+    → Runs a b r (part_read a.held.input place n) → Runs a b r (layout_reads a.held.input (piece_at place k))
 unfolding piece_at
 piece_some {a} {b} {r} place k n some long h =
     let test : eqb k 0 ≡ false = grind (arith, nat_tests) in
-    let reads : over a.held.input (cond (eqb k 0) (done []) (there place k (λ piece. done piece))) ≡ part_read a.held.input place k =
+    let reads : layout_reads a.held.input (cond (eqb k 0) (done []) (there place k (λ piece. done piece))) ≡ part_read a.held.input place k =
     rw test (ap (λ marks. record { answer = Ok (part a.held.input place k); marks = marks }) (append-nil (span_of a.held.input place k)))
     in
     subst (λ w. Runs a b r w) (sym reads) (subst (λ m. Runs a b r (part_read a.held.input place m)) long h)

@@ -1,25 +1,21 @@
 -- HEIF, and AVIF and HEIC in it.
-use Rattle.std.specs.Prelude.{ℕ, ◌+◌, ◌-◌, ◌≤◌, ◌==◌, ◌||◌, nat_lt, nat_le, Bool, List, [], ◌∷◌, codes, slice_index, flat_map, if◌then◌else◌, Option, None, Some, unwrap_or, ok_or, option_map, Result, Ok, Err}
-use Rattle.std.specs.List.{list_any, find, last_or, sum_by}
+use Rattle.std.specs.Prelude.{ℕ, ◌+◌, ◌-◌, ◌==◌, ◌||◌, nat_lt, nat_le, Bool, List, [], ◌∷◌, codes, slice_index, flat_map, if◌then◌else◌, Option, None, Some, unwrap_or}
+use Rattle.std.specs.List.{list_any, last_or, sum_by}
 use Rattle.std.specs.Str.{bytes_eq}
 use Rattle.imagesize_types.specs.Head.{stands_at, four_at}
-use Rattle.imagesize_types.specs.Largest.{greatest_area, area_if_some}
-use Rattle.imagesize_types.specs.Order.{area_of}
+use Rattle.imagesize_types.specs.Largest.{greatest_area, first_largest}
+use Rattle.imagesize_types.specs.Sides.{exchange_if}
 use Rattle.imagesize_types.specs.Table.{look_up_text}
 use Rattle.imagesize_types.specs.declared.compression.Compression.{Compression}
 use Rattle.imagesize_types.specs.declared.compression.Compression.TheVariants.{Av1, Hevc, Jpeg, Unknown}
 use Rattle.imagesize_types.specs.declared.size.ImageSize.{ImageSize}
 use Rattle.imagesize_boxes.specs.declared.container.heif.FoundBox.{FoundBox}
-use Rattle.imagesize_boxes.specs.declared.container.heif.Gathered.{Gathered}
 use Rattle.imagesize_boxes.specs.declared.container.heif.Property.{Property}
 use Rattle.imagesize_boxes.specs.declared.container.heif.Property.TheVariants.{Extents, Rotation, Skipped}
-use Rattle.imagesize_boxes.specs.declared.container.heif.Searched.{Searched}
-use Rattle.imagesize_boxes.specs.declared.container.heif.Searched.TheVariants.{Found, Other}
-use Rattle.imagesize_source.specs.declared.error.ImageError.{ImageError}
 use Rattle.imagesize_source.specs.declared.error.ImageError.TheVariants.{CorruptedImage, IoError}
 use Rattle.imagesize_source.specs.declared.error.Reason.TheVariants.{InvalidHeifBoxSize, NotEnoughData}
-use Rattle.imagesize_source.specs.declared.util.Endian.TheVariants.{Big}
-use Rattle.imagesize_source.specs.Chain.{Said, Decided, Next, Chain, chain_at, records}
+use Rattle.imagesize_source.specs.declared.endian.Endian.TheVariants.{Big}
+use Rattle.imagesize_source.specs.Chain.{Said, Decided, Next, Chain, chain_at, records, count_behind}
 use Rattle.imagesize_source.specs.Layout.{Layout, bind, bytes, if_there}
 use Rattle.imagesize_source.specs.Layout.Layout.{refuse, «done»}
 use Rattle.imagesize_source.specs.Numbers.{number}
@@ -128,23 +124,22 @@ abbrev pub no_pixels : ImageSize
 no_pixels = record { width = 0; height = 0 }
 
 -- the first of greatest area, and no pixels where no extents have any
-abbrev pub first_largest : List ImageSize → ImageSize
-first_largest sizes = if greatest_area sizes == 0 then no_pixels else unwrap_or (find (λ size. area_of size == greatest_area sizes)
-    sizes) no_pixels
+abbrev pub largest_or_none : List ImageSize → ImageSize
+largest_or_none sizes = if greatest_area sizes == 0 then no_pixels else unwrap_or (first_largest sizes) no_pixels
 
 abbrev pub largest_extents : List ImageSize → Option ImageSize
 largest_extents [] = None
-largest_extents (size ∷ sizes) = Some (first_largest (size ∷ sizes))
+largest_extents (size ∷ sizes) = Some (largest_or_none (size ∷ sizes))
 
 -- a quarter and three quarters of a turn exchange width and height
-abbrev pub turned : Option ℕ → ImageSize → ImageSize
-turned None size = size
-turned (Some turn) size = if turn == 1 || turn == 3 then record { width = size.height; height = size.width } else size
+abbrev pub turn_by : Option ℕ → ImageSize → ImageSize
+turn_by None size = size
+turn_by (Some turn) size = exchange_if (turn == 1 || turn == 3) size
 
 -- what is answered at the end of the list
 abbrev pub heif_answer : Option ImageSize → Option ℕ → Layout (Said Property ImageSize)
 heif_answer None turn = refuse (IoError NotEnoughData)
-heif_answer (Some size) turn = done (Decided (turned turn size))
+heif_answer (Some size) turn = done (Decided (turn_by turn size))
 
 -- a property, or by those before it the answer
 abbrev pub listed : List Property → ℕ → Option Property → Layout (Said Property ImageSize)
@@ -175,55 +170,22 @@ heif d =
     and_then (chain_at (search_for (codes "meta") first) d) (λ meta.
     heif_in_meta meta d))
 
--- what a box says to a search, and a property to the list
-abbrev pub searched_said : ℕ → Searched → Said (Unit {0}) FoundBox
-searched_said place (Found found) = Decided found
-searched_said place (Other size) = Next tt (place + size)
-
-abbrev pub property_said : ℕ → Option Property → Said Property (Unit {0})
-property_said place None = Decided tt
-property_said place (Some property) = Next property (place + property_bytes property)
-
--- a box that is passed is smaller than the bytes that are left
-abbrev pub Fits : ℕ → Option Property → Type 0
-Fits left None = Unit {0}
-Fits left (Some property) = skipped_bytes property ≤ left
-
--- the second, unless the first is as large
-abbrev pub earlier_largest : Option ImageSize → ImageSize → ImageSize
-earlier_largest first second = if nat_lt (area_if_some first) (area_of second) then second else unwrap_or first no_pixels
-
--- what the properties so far amount to, with one more
-abbrev pub gathered_with : Gathered → Property → Gathered
-gathered_with g (Extents size) = record g { best = Some (earlier_largest g.best size) }
-gathered_with g (Rotation turn) = record g { turn = Some turn }
-gathered_with g (Skipped size) = record g { left = g.left - size }
-
--- and what they answer at the end of the list
-abbrev pub gathered_answer : Gathered → Result ImageSize ImageError
-gathered_answer g = ok_or (option_map (turned g.turn) g.best) (IoError NotEnoughData)
-
--- how many boxes are begun: of what an answer leads to, and none behind a refusal
-abbrev pub begun : {X : Type 0} → Result X ImageError → (X → ℕ) → ℕ
-begun (Ok x) count = count x
-begun (Err e) count = 0
-
--- those of the three searches, and of the list
+-- how many boxes are begun, in the three searches and in the list
 abbrev pub boxes_in_iprp : FoundBox → List ℕ → ℕ
 boxes_in_iprp iprp d =
-    records (search_for (codes "ipco") (iprp.place + 8)) d + begun (chain_at (search_for (codes "ipco") (iprp.place + 8)) d).answer
+    records (search_for (codes "ipco") (iprp.place + 8)) d + count_behind (chain_at (search_for (codes "ipco") (iprp.place + 8)) d).answer
     (λ ipco.
     records (properties ipco.size (ipco.place + 8)) d)
 
 abbrev pub boxes_in_meta : FoundBox → List ℕ → ℕ
 boxes_in_meta meta d =
-    begun (bytes_at d (meta.place + 8) 4) (λ version.
-    records (search_for (codes "iprp") (meta.place + 12)) d + begun (chain_at (search_for (codes "iprp") (meta.place + 12)) d).answer
+    count_behind (bytes_at d (meta.place + 8) 4) (λ version.
+    records (search_for (codes "iprp") (meta.place + 12)) d + count_behind (chain_at (search_for (codes "iprp") (meta.place + 12)) d).answer
     (λ iprp.
     boxes_in_iprp iprp d))
 
 abbrev pub heif_boxes : List ℕ → ℕ
 heif_boxes d =
-    begun (number_at d Big 0 4) (λ first.
-    records (search_for (codes "meta") first) d + begun (chain_at (search_for (codes "meta") first) d).answer (λ meta.
+    count_behind (number_at d Big 0 4) (λ first.
+    records (search_for (codes "meta") first) d + count_behind (chain_at (search_for (codes "meta") first) d).answer (λ meta.
     boxes_in_meta meta d))

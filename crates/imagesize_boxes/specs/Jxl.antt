@@ -1,18 +1,17 @@
 -- JPEG XL, by ISO/IEC 18181-1 (the codestream) and 18181-2 (the boxes around it).
-use Rattle.std.specs.Prelude.{◌<◌, ◌≤◌, min, take, drop, slice_index, Option, None, Some, ℕ, ◌+◌, ◌-◌, ◌*◌, ◌/◌, ◌^◌, ◌==◌, Bool, false, List, codes, [], ◌∷◌, ◌++◌, ◌||◌, ◌&&◌, not, length, nat_le, nat_lt, if◌then◌else◌, Result, Ok, Err}
+use Rattle.std.specs.Prelude.{min, take, drop, slice_index, Option, None, Some, ℕ, ◌+◌, ◌-◌, ◌*◌, ◌/◌, ◌^◌, ◌==◌, Bool, false, List, codes, [], ◌∷◌, ◌++◌, ◌||◌, ◌&&◌, not, length, nat_le, nat_lt, if◌then◌else◌, Result, Ok, Err}
 use Rattle.std.specs.List.{concat}
 use Rattle.imagesize_boxes.specs.Fields.{Fields, found, bits, after, found_by, field_at, bits_of}
 use Rattle.imagesize_boxes.specs.declared.formats.jxl.boxes.BoxHead.{BoxHead}
-use Rattle.imagesize_boxes.specs.declared.formats.jxl.boxes.Found.{Found}
-use Rattle.imagesize_boxes.specs.declared.formats.jxl.boxes.Found.TheVariants.{Whole, Passed}
 use Rattle.imagesize_boxes.specs.declared.formats.jxl.header.Side.{Side}
-use Rattle.imagesize_source.specs.Chain.{Said, Decided, Next, Chain, chain_at, records}
-use Rattle.imagesize_source.specs.Layout.{Layout, over, bind, bytes, there}
-use Rattle.imagesize_source.specs.Layout.Layout.{field, refuse, «done»}
+use Rattle.imagesize_source.specs.Chain.{Said, Decided, Next, Chain, chain_at, records, count_behind}
+use Rattle.imagesize_source.specs.Layout.{Layout, layout_reads, bind, bytes, there, accept}
+use Rattle.imagesize_source.specs.Layout.Layout.{field, refuse, done}
 use Rattle.imagesize_source.specs.Numbers.{number}
 use Rattle.imagesize_source.specs.Reading.{Reads, gives, and_then, end_of_input}
-use Rattle.imagesize_source.specs.declared.util.Endian.TheVariants.{Big}
+use Rattle.imagesize_source.specs.declared.endian.Endian.TheVariants.{Big}
 use Rattle.imagesize_types.specs.Head.{begins}
+use Rattle.imagesize_types.specs.Sides.{exchange_if}
 use Rattle.imagesize_types.specs.declared.size.ImageSize.{ImageSize}
 use Rattle.imagesize_source.specs.declared.error.ImageError.{ImageError}
 use Rattle.imagesize_source.specs.declared.error.ImageError.TheVariants.{CorruptedImage, IoError}
@@ -41,8 +40,8 @@ abbrev pub large_side : ℕ → Fields Side
 large_side from = bits from 2 (λ selector. bits (from + 2) (side_bits selector)
     (λ less_one. found (record { length = less_one + 1; end = from + 2 + side_bits selector })))
 
-abbrev pub side : Bool → ℕ → Fields Side
-side small from = if small then small_side from else large_side from
+abbrev pub side_fields : Bool → ℕ → Fields Side
+side_fields small from = if small then small_side from else large_side from
 
 -- the width by its ratio to the height
 abbrev pub width_by : ℕ → ℕ → ℕ
@@ -58,7 +57,7 @@ width_by ratio height =
 -- behind the height: a ratio, or 0 and a side of its own
 abbrev pub width_side : Bool → Side → Fields Side
 width_side small height = bits height.end 3 (λ ratio.
-    if ratio == 0 then side small (height.end + 3) else found (record { length = width_by ratio height.length; end = height.end + 3 }))
+    if ratio == 0 then side_fields small (height.end + 3) else found (record { length = width_by ratio height.length; end = height.end + 3 }))
 
 -- behind the size (ImageMetadata): all is default, or there are extra fields and the first is the orientation.
 -- Those from the fifth on exchange width and height.
@@ -67,19 +66,12 @@ exchanged from = bits from 1 (λ all_default.
     if all_default == 1 then found false
     else bits (from + 1) 1 (λ extra. if extra == 0 then found false else bits (from + 2) 3 (λ orientation. found (nat_le 4 orientation))))
 
-abbrev pub size_of_sides : Bool → ℕ → ℕ → ImageSize
-size_of_sides exchanged width height = if exchanged then record { width = height; height = width } else record {
-  width = width;
-  height =
-      height;
-}
-
 -- whether the image is small, its height, its width and its orientation, behind the signature
 abbrev pub jxl_header : Fields ImageSize
 jxl_header = bits 16 1 (λ small.
-    after (side (small == 1) 17) (λ height.
+    after (side_fields (small == 1) 17) (λ height.
     after (width_side (small == 1) height) (λ width.
-    after (exchanged width.end) (λ exchanged. found (size_of_sides exchanged width.length height.length)))))
+    after (exchanged width.end) (λ exchanged. found (exchange_if exchanged (record { width = width.length; height = height.length }))))))
 
 -- the size by the first bytes of a codestream
 unfoldable pub jxl_size : List ℕ → Result ImageSize ImageError
@@ -101,16 +93,12 @@ box_checked place head =
     else if not (head.size == 0) && nat_lt head.size head.length then Err (IoError (InvalidJxlBoxSize head.tag head.size))
     else Ok head
 
-abbrev pub answer : {X : Type 0} → Result X ImageError → Layout X
-answer (Ok x) = done x
-answer (Err e) = refuse e
-
 -- the size and the tag; the size 1 stands for one of eight bytes behind them (ISO/IEC 14496-12, section 4.2)
 unfoldable pub box_head : ℕ → Layout BoxHead
 box_head place = bytes place 8 (λ head.
     if number Big (take 4 head) == 1 then field Big (place + 8) 8
-    (λ size. answer (box_checked place (record { tag = drop 4 head; size = size; length = 16 })))
-    else answer (box_checked place (record { tag = drop 4 head; size = number Big (take 4 head); length = 8 })))
+    (λ size. accept (box_checked place (record { tag = drop 4 head; size = size; length = 16 })) done)
+    else accept (box_checked place (record { tag = drop 4 head; size = number Big (take 4 head); length = 8 })) done)
 
 -- how many bytes of content a box has; of an open one sixteen are enough
 abbrev pub box_room : BoxHead → ℕ
@@ -161,38 +149,16 @@ codestream d (Some front) = gives front
 codestream d None = chain_at jxl_chain d
 
 abbrev pub jxl_codestream : List ℕ → Reads (List ℕ)
-jxl_codestream d = and_then (over d jxl_start) (codestream d)
+jxl_codestream d = and_then (layout_reads d jxl_start) (codestream d)
 
 -- by them the size
 abbrev pub jxl : List ℕ → Reads ImageSize
 jxl d = and_then (jxl_codestream d) (λ front. record { answer = jxl_size front; marks = [] })
 
 -- how many boxes are begun
-abbrev pub begun_behind : List ℕ → Result (Option (List ℕ)) ImageError → ℕ
-begun_behind d (Ok None) = records jxl_chain d
-begun_behind d (Ok (Some front)) = 0
-begun_behind d (Err e) = 0
+abbrev pub boxes_behind : List ℕ → Option (List ℕ) → ℕ
+boxes_behind d None = records jxl_chain d
+boxes_behind d (Some front) = 0
 
 abbrev pub jxl_boxes : List ℕ → ℕ
-jxl_boxes d = begun_behind d (over d jxl_start).answer
-
--- what a box that was found says
-abbrev pub box_said : Found → Said (List ℕ) (List ℕ)
-box_said (Whole front) = Decided front.items
-box_said (Passed piece next) = Next piece.items next
-
--- the next box stands behind the place
-abbrev pub IsFurther : ℕ → Found → Type 0
-IsFurther place (Whole front) = Unit {0}
-IsFurther place (Passed piece next) = place < next
-
--- there is room for the piece behind these bytes
-abbrev pub FitsBehind : List ℕ → Found → Type 0
-FitsBehind held (Whole front) = Unit {0}
-FitsBehind held (Passed piece next) = length held + length piece.items ≤ 16
-
--- Such a head was checked.
-pub record IsHead (place : ℕ) (head : BoxHead) : Type 0 where
-  pub within : place + head.size < 2 ^ 64
-  pub whole : 0 < head.size → head.length ≤ head.size
-  pub short : head.length ≤ 16
+jxl_boxes d = count_behind (layout_reads d jxl_start).answer (boxes_behind d)

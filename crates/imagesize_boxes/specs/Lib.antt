@@ -1,3 +1,4 @@
 pub mod Fields
 pub mod Heif
 pub mod Jxl
+pub mod Walks

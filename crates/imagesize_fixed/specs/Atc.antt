@@ -8,7 +8,7 @@ use Rattle.imagesize_types.specs.Table.{look_up}
 use Rattle.imagesize_types.specs.declared.size.ImageSize.{ImageSize}
 use Rattle.imagesize_types.specs.declared.compression.AtcCompression.{AtcCompression}
 use Rattle.imagesize_types.specs.declared.compression.AtcCompression.TheVariants.{Rgb, RgbaExplicit, RgbaInterpolated, Unknown}
-use Rattle.imagesize_source.specs.declared.util.Endian.TheVariants.{Big}
+use Rattle.imagesize_source.specs.declared.endian.Endian.TheVariants.{Big}
 use Rattle.imagesize_source.specs.Numbers.{number}
 use Rattle.imagesize_source.specs.Layout.{Layout, if_there, bytes}
 use Rattle.imagesize_source.specs.Layout.Layout.{«done»}

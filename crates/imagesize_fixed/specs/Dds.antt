@@ -6,7 +6,7 @@ use Rattle.imagesize_types.specs.Table.{look_up, look_up_text}
 use Rattle.imagesize_types.specs.declared.size.ImageSize.{ImageSize}
 use Rattle.imagesize_types.specs.declared.compression.DdsCompression.{DdsCompression}
 use Rattle.imagesize_types.specs.declared.compression.DdsCompression.TheVariants.{Bc1, Bc2, Bc3, Bc4, Bc5, Bc6h, Bc7, Rgba32, Rgb24, Unknown}
-use Rattle.imagesize_source.specs.declared.util.Endian.TheVariants.{Little}
+use Rattle.imagesize_source.specs.declared.endian.Endian.TheVariants.{Little}
 use Rattle.imagesize_source.specs.Numbers.{number}
 use Rattle.imagesize_source.specs.Layout.{Layout, if_there}
 use Rattle.imagesize_source.specs.Layout.Layout.{field, «done»}

@@ -5,7 +5,7 @@ use Rattle.imagesize_types.specs.Table.{look_up}
 use Rattle.imagesize_types.specs.declared.size.ImageSize.{ImageSize}
 use Rattle.imagesize_types.specs.declared.compression.PkmCompression.{PkmCompression}
 use Rattle.imagesize_types.specs.declared.compression.PkmCompression.TheVariants.{Etc1, Etc2, Etc2A1, Etc2A8, EacR, EacRg, EacRSigned, EacRgSigned, Unknown}
-use Rattle.imagesize_source.specs.declared.util.Endian.TheVariants.{Big}
+use Rattle.imagesize_source.specs.declared.endian.Endian.TheVariants.{Big}
 use Rattle.imagesize_source.specs.Numbers.{number}
 use Rattle.imagesize_source.specs.Layout.{Layout, if_there}
 use Rattle.imagesize_source.specs.Layout.Layout.{field, «done»}

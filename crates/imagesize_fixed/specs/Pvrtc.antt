@@ -5,7 +5,7 @@ use Rattle.imagesize_types.specs.Table.{look_up}
 use Rattle.imagesize_types.specs.declared.size.ImageSize.{ImageSize}
 use Rattle.imagesize_types.specs.declared.compression.PvrtcCompression.{PvrtcCompression}
 use Rattle.imagesize_types.specs.declared.compression.PvrtcCompression.TheVariants.{Pvrtc2BppRgb, Pvrtc2BppRgba, Pvrtc4BppRgb, Pvrtc4BppRgba, Etc2Rgb, Etc2Rgba, Etc2RgbA1, EacR11, EacRg11, Unknown}
-use Rattle.imagesize_source.specs.declared.util.Endian.TheVariants.{Little}
+use Rattle.imagesize_source.specs.declared.endian.Endian.TheVariants.{Little}
 use Rattle.imagesize_source.specs.Numbers.{number}
 use Rattle.imagesize_source.specs.Layout.{Layout, if_there, bytes}
 use Rattle.imagesize_source.specs.Layout.Layout.{field, «done»}

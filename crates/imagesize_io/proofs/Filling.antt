@@ -7,7 +7,7 @@ use borrow.Rule.Slice.PartMut.{put_mid}
 use Rattle.imagesize_io.specs.declared.progress.Progress.{Progress}
 use Rattle.imagesize_source.specs.Input.{part}
 use Rattle.imagesize_io.proofs.Standings.{keeps_both}
-use Rattle.imagesize_io.specs.Standing.{Standing, onto, stand, GivesSome, GivesAll, ReadsOnce, Fills, Keeps, since}
+use Rattle.imagesize_io.specs.Standing.{Standing, onto, stand, GivesSome, GivesAll, ReadsOnce, Fills, KeepsCounts, drift}
 use Rattle.imagesize_io.specs.Telling.{Telling}
 
 -- so many bytes of the room are the next of the bytes that the reader stood at first
@@ -22,8 +22,8 @@ pub record Filling (first now : Option Standing) (count count' : Option ℕ) (ol
   pub reached : Filled first now filled room
   pub taken : new.taken ≡ old.taken + filled
   pub place : new.place ≡ min (old.place + filled) (2 ^ 64 - 1)
-  pub counts : since count' new.taken ≡ since count old.taken
-  pub keeps : Keeps old new
+  pub counts : drift count' new.taken ≡ drift count old.taken
+  pub keeps : KeepsCounts old new
 
 none_reached : (first : Option Standing) (room : List ℕ) → Filled first first 0 room
 unfolding part
@@ -88,8 +88,8 @@ reached_more (Some s) now next room more filled n fits enough reached gave =
 pub filling_more : {first now next : Option Standing} {count before after : Option ℕ} {old new newer : Progress} {filled : ℕ}
     {room : List ℕ} (more : List ℕ) (n : ℕ) → Filling first now count before old new filled room → n ≤ length more
     → length more ≡ length room - filled → GivesSome now next more (Ok n) → newer.taken ≡ new.taken + n
-    → newer.place ≡ min (new.place + n) (2 ^ 64 - 1) → since after newer.taken
-    ≡ since before new.taken → Keeps new newer → Filling first next count after old newer (filled + n)
+    → newer.place ≡ min (new.place + n) (2 ^ 64 - 1) → drift after newer.taken
+    ≡ drift before new.taken → KeepsCounts new newer → Filling first next count after old newer (filled + n)
     (put_mid filled (length room - filled) room more)
 filling_more {first} {now} {next} {filled = filled} {room = room} more n h enough long gave taken place same keeps = record {
   fits = rw (length-put room more filled h.fits long) (omega (arith, h.fits, long));

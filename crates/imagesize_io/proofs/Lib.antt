@@ -1,5 +1,6 @@
 mod Cursors
 pub mod Filling
+pub mod HeldReads
 pub mod Openings
 pub mod Standings
 pub mod TextReads

@@ -8,7 +8,7 @@ use Rattle.imagesize_io.specs.declared.reader.Opened.{Opened}
 use Rattle.imagesize_io.specs.Answers.{AnswersAs, TakesAs, Answers, Takes, over_reader}
 use Rattle.imagesize_source.specs.Reading.{Reads, is_fault, is_stop, is_memory, spent}
 use Rattle.imagesize_io.specs.ReaderState.{start_state, Opens}
-use Rattle.imagesize_source.specs.State.{State, Held, Runs, past, total}
+use Rattle.imagesize_source.specs.State.{State, Held, Runs, state_after, total}
 use Rattle.imagesize_io.specs.Telling.{Telling, IsHonest, at_place}
 use Rattle.imagesize_source.proofs.Counts.{places_past}
 
@@ -103,7 +103,7 @@ takes_of {X} t a b r reads starts h =
     record {
       most = omega (arith, h.within honest, starts.taken);
       least = λ goes_on.
-          let after : b.taken ≡ (past a reads.marks).taken = ap (λ s. s.taken) (h.state honest goes_on) in
+          let after : b.taken ≡ (state_after a reads.marks).taken = ap (λ s. s.taken) (h.state honest goes_on) in
           omega (arith, after, places_past (length t.bytes) a reads.marks starts.counts starts.front, starts.taken);
     }
 

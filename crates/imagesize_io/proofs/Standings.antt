@@ -5,7 +5,7 @@ use Rattle.imagesize_source.specs.declared.error.ImageError.{ImageError}
 use Rattle.imagesize_io.specs.declared.progress.Progress.{Progress}
 use Rattle.imagesize_source.specs.Input.{part}
 use Rattle.imagesize_io.specs.Telling.{Telling}
-use Rattle.imagesize_io.specs.Standing.{Standing, steady, in_step, stand_of, stand, GivesAll, GoesTo, GivesFrom, Keeps, Tries}
+use Rattle.imagesize_io.specs.Standing.{Standing, steady, in_step, stand_of, stand, GivesAll, GoesTo, GivesFrom, KeepsCounts, Tries}
 
 kept_if : (b : Bool) (s t : Standing) → cond b (Some s) None ≡ Some t → (b ≡ true) × (s ≡ t)
 kept_if true s t e = (refl, cc)
@@ -71,7 +71,7 @@ within_none None old new place k same = tt
 within_none (Some s) old new place k same = omega arith
 
 -- what one call keeps after another
-pub keeps_both : {old mid new : Progress} → Keeps old mid → Keeps mid new → Keeps old new
+pub keeps_both : {old mid new : Progress} → KeepsCounts old mid → KeepsCounts mid new → KeepsCounts old new
 keeps_both h k = record {
   told = k.told ∙ h.told;
   budget = k.budget ∙ h.budget;

@@ -14,7 +14,7 @@ use Rattle.imagesize_source.specs.declared.text.Text.TheVariants.{Line, Word}
 use Rattle.imagesize_source.specs.Input.{part, span_at, span_of}
 use Rattle.imagesize_source.specs.Paying.{Paid}
 use Rattle.imagesize_source.specs.Reading.{part_read, text_part, text_read}
-use Rattle.imagesize_source.specs.State.{State, Runs, Sound, total, past, step, fresh, front_after}
+use Rattle.imagesize_source.specs.State.{State, Runs, IsSound, total, state_after, step, new_bytes, front_after}
 use Rattle.imagesize_io.specs.declared.progress.Progress.{Progress}
 use Rattle.imagesize_io.specs.ReaderState.{reader_frame, reader_state}
 use Rattle.imagesize_io.specs.Standing.{stand}
@@ -33,7 +33,7 @@ text_rest (Line delimiter) begun bs = through (delimits (Line delimiter)) bs
 text_rest Word true bs = through is_ascii_whitespace bs
 text_rest Word false bs = text_front Word bs
 
-rest_start : (t : Text) (bs : List ℕ) → text_front t bs ≡ text_rest t false bs
+pub rest_start : (t : Text) (bs : List ℕ) → text_front t bs ≡ text_rest t false bs
 rest_start (Line delimiter) bs = line_front delimiter bs
 rest_start Word bs = refl
 
@@ -42,14 +42,14 @@ rest_none (Line delimiter) begun = refl
 rest_none Word true = refl
 rest_none Word false = no_front
 
-rest_ends : (t : Text) (begun : Bool) (b : ℕ) (bs : List ℕ) → ends t begun b ≡ true → text_rest t begun (b ∷ bs) ≡ b ∷ []
+pub rest_ends : (t : Text) (begun : Bool) (b : ℕ) (bs : List ℕ) → ends t begun b ≡ true → text_rest t begun (b ∷ bs) ≡ b ∷ []
 rest_ends (Line delimiter) begun b bs is = through-cons (delimits (Line delimiter)) b bs ∙ ap (λ test. cond test (b ∷ [])
     (b ∷ through (delimits (Line delimiter)) bs)) is
 rest_ends Word true b bs is = through-cons is_ascii_whitespace b bs ∙ ap (λ test. cond test (b ∷ [])
     (b ∷ through is_ascii_whitespace bs)) is
 rest_ends Word false b bs is = absurd cc
 
-rest_goes_on : (t : Text) (begun : Bool) (b : ℕ) (bs : List ℕ) → ends t begun b ≡ false → text_rest t begun (b ∷ bs) ≡ b ∷ text_rest t
+pub rest_goes_on : (t : Text) (begun : Bool) (b : ℕ) (bs : List ℕ) → ends t begun b ≡ false → text_rest t begun (b ∷ bs) ≡ b ∷ text_rest t
     (begun || not (is_ascii_whitespace b)) bs
 rest_goes_on (Line delimiter) begun b bs is = through-cons (delimits (Line delimiter)) b bs ∙ ap (λ test. cond test (b ∷ [])
     (b ∷ through (delimits (Line delimiter)) bs)) is
@@ -62,7 +62,7 @@ rest_goes_on Word false b bs is =
     word_front b bs ∙ cases
 
 -- where a byte is left, the text has it
-rest_some : (t : Text) (begun : Bool) (b : ℕ) (bs : List ℕ) → 0 < length (text_rest t begun (b ∷ bs))
+pub rest_some : (t : Text) (begun : Bool) (b : ℕ) (bs : List ℕ) → 0 < length (text_rest t begun (b ∷ bs))
 rest_some t begun b bs = by_end (ends t begun b) refl where
   by_end : (is : Bool) → ends t begun b ≡ is → 0 < length (text_rest t begun (b ∷ bs))
   by_end true is = omega (arith, ap length (rest_ends t begun b bs is))
@@ -75,7 +75,7 @@ CountsOnly a = (a.frame.counts ≡ true) × (a.recorded ≡ None)
 front_joins : (front place n : ℕ) → front_after (front_after front place n) (place + n) 1 ≡ front_after front place (n + 1)
 front_joins front place n = grind (arith, nat_tests)
 
-fresh_joins : (front place n : ℕ) → fresh front place n + fresh (front_after front place n) (place + n) 1 ≡ fresh front place (n + 1)
+fresh_joins : (front place n : ℕ) → new_bytes front place n + new_bytes (front_after front place n) (place + n) 1 ≡ new_bytes front place (n + 1)
 fresh_joins front place n = grind (arith, nat_tests)
 
 -- a state by what was taken
@@ -83,7 +83,7 @@ abbrev having : State → ℕ → ℕ → State
 having a front taken = record a { front = front; taken = taken; recorded = None }
 
 step_counts : (a : State) (s : Span) → CountsOnly a → step a s ≡ having a (front_after a.front s.start s.len)
-    (a.taken + fresh a.front s.start s.len)
+    (a.taken + new_bytes a.front s.start s.len)
 step_counts a s only = let counts = only.0 in let none = only.1 in rw (counts, none) refl
 
 step_joins : (a : State) (place n : ℕ) → CountsOnly a → step (step a (record { start = place; len = n }))
@@ -91,11 +91,11 @@ step_joins : (a : State) (place n : ℕ) → CountsOnly a → step (step a (reco
 step_joins a place n only =
     let first = step_counts a (record { start = place; len = n }) only in
     let front : ℕ = front_after a.front place n in
-    let taken : ℕ = a.taken + fresh a.front place n in
-    let more : taken + fresh front (place + n) 1 ≡ a.taken + fresh a.front place (n + 1) = omega (arith, fresh_joins a.front place n) in
+    let taken : ℕ = a.taken + new_bytes a.front place n in
+    let more : taken + new_bytes front (place + n) 1 ≡ a.taken + new_bytes a.front place (n + 1) = omega (arith, fresh_joins a.front place n) in
     ap (λ s. step s (record { start = place + n; len = 1 })) first
     ∙ step_counts (having a front taken) (record { start = place + n; len = 1 }) (only.0, refl)
-    ∙ ap (λ w. having a w (taken + fresh front (place + n) 1)) (front_joins a.front place n)
+    ∙ ap (λ w. having a w (taken + new_bytes front (place + n) 1)) (front_joins a.front place n)
     ∙ ap (λ m. having a (front_after a.front place (n + 1)) m) more
     ∙ sym (step_counts a (record { start = place; len = n + 1 }) only)
 
@@ -103,14 +103,14 @@ span_some : (place n : ℕ) → 0 < n → span_at place n ≡ record { start = p
 unfolding span_at
 span_some place n some = grind (arith, nat_tests)
 
-span_joins : (a : State) (place n : ℕ) → CountsOnly a → past (past a (span_at place n)) (span_at (place + n) 1) ≡ past a
+span_joins : (a : State) (place n : ℕ) → CountsOnly a → state_after (state_after a (span_at place n)) (span_at (place + n) 1) ≡ state_after a
     (span_at place (n + 1))
-unfolding past span_at
+unfolding state_after span_at
 span_joins a place zero only = rw add-zero refl
 span_joins a place (suc n) only =
-    ap (λ s. past (past a s) (span_at (place + suc n) 1)) (span_some place (suc n) (omega arith))
+    ap (λ s. state_after (state_after a s) (span_at (place + suc n) 1)) (span_some place (suc n) (omega arith))
     ∙ step_joins a place (suc n) only
-    ∙ sym (ap (past a) (span_some place (suc n + 1) (omega arith)))
+    ∙ sym (ap (state_after a) (span_some place (suc n + 1) (omega arith)))
 
 -- what stands from a place on, where one byte there is known
 drop_byte : (d : List ℕ) (place b : ℕ) → take 1 (drop place d) ≡ b ∷ [] → drop place d ≡ b ∷ drop (suc place) d
@@ -138,15 +138,15 @@ pub record Taking (a b : State) (t : Text) (place count : ℕ) (begun : Bool) (k
   pub frame : b.frame ≡ a.frame
   pub taken : a.taken ≤ b.taken
   pub pays : 0 < count → max a.frame.told 32 < place → a.taken < b.taken
-  pub sound : Sound b
+  pub sound : IsSound b
   pub within : a.held.honest ≡ true → b.taken ≤ a.taken + count
-  pub state : a.held.honest ≡ true → b ≡ past a (span_at place count)
+  pub state : a.held.honest ≡ true → b ≡ state_after a (span_at place count)
   pub left : a.held.honest ≡ true → text_part a.held.input t place k ≡ got ++ text_rest t begun
       (part a.held.input (place + count) (k - count))
 
 -- before the first
-pub taking_none : (a : State) (t : Text) (place k : ℕ) → Sound a → Taking a a t place 0 false k []
-unfolding past span_at text_part
+pub taking_none : (a : State) (t : Text) (place k : ℕ) → IsSound a → Taking a a t place 0 false k []
+unfolding state_after span_at text_part
 taking_none a t place k sound = record {
   fits = omega arith;
   long = refl;
@@ -199,8 +199,8 @@ module _ {a b : State} {t : Text} {place count k : ℕ} {begun : Bool} {got : Li
         omega (arith, part_length a.held.input next 1, ap length none)
 
     -- a text ends where the input does
-    pub taking_ends : Runs b c (Ok []) (part_read b.held.input next 1) → Sound a → Runs a c (Ok got) (text_read a.held.input t place k)
-    unfolding past
+    pub taking_ends : Runs b c (Ok []) (part_read b.held.input next 1) → IsSound a → Runs a c (Ok got) (text_read a.held.input t place k)
+    unfolding state_after
     taking_ends run sound = record {
       sound = sound;
       sound_after = run.sound_after;
@@ -218,8 +218,8 @@ module _ {a b : State} {t : Text} {place count k : ℕ} {begun : Bool} {got : Li
       );
       answer = λ honest goes_on. ap Ok (ends_now honest);
       state = λ honest goes_on.
-          run.state (same_honest honest) refl ∙ ap (past b) (no_mark honest) ∙ h.state honest
-          ∙ ap (λ n. past a (span_at place n)) (sym (ap length (ends_now honest) ∙ h.long));
+          run.state (same_honest honest) refl ∙ ap (state_after b) (no_mark honest) ∙ h.state honest
+          ∙ ap (λ n. state_after a (span_at place n)) (sym (ap length (ends_now honest) ∙ h.long));
       fault = λ honest faults. absurd cc;
       misses = λ honest faults. absurd cc;
       ended = tt;
@@ -231,7 +231,7 @@ module _ {a b : State} {t : Text} {place count k : ℕ} {begun : Bool} {got : Li
       no_mark honest = ap (λ d. span_of d next 1) (same_input honest) ∙ no_span a.held.input next 1 (end_there run honest)
 
     -- a failure on the way
-    pub taking_stopped : {e : ImageError} → count < k → Runs b c (Err e) (part_read b.held.input next 1) → Sound a → c.missed ≡ None
+    pub taking_stopped : {e : ImageError} → count < k → Runs b c (Err e) (part_read b.held.input next 1) → IsSound a → c.missed ≡ None
         → Runs a c (Err e) (text_read a.held.input t place k)
     taking_stopped {e} more run sound untold = record {
       sound = sound;
@@ -288,7 +288,7 @@ module _ {a b : State} {t : Text} {place count k : ℕ} {begun : Bool} {got : Li
           ∙ ap (λ p. byte ∷ part a.held.input p (k - count - 1)) there
           ∙ ap (λ j. byte ∷ part a.held.input (place + (count + 1)) j) fewer
 
-      joined : CountsOnly a → a.held.honest ≡ true → c ≡ past a (span_at place (count + 1))
+      joined : CountsOnly a → a.held.honest ≡ true → c ≡ state_after a (span_at place (count + 1))
       joined only honest =
           let there : 1 ≤ length b.held.input - next = omega (
             arith,
@@ -296,9 +296,9 @@ module _ {a b : State} {t : Text} {place count k : ℕ} {begun : Bool} {got : Li
             ap length (part_is (run.answer (same_honest honest) refl)),
           ) in
           run.state (same_honest honest) refl
-          ∙ ap (past b) (whole_span b.held.input next 1 there)
-          ∙ ap (λ p. past b (span_at p 1)) (next_place honest)
-          ∙ ap (λ s. past s (span_at (place + count) 1)) (h.state honest)
+          ∙ ap (state_after b) (whole_span b.held.input next 1 there)
+          ∙ ap (λ p. state_after b (span_at p 1)) (next_place honest)
+          ∙ ap (λ s. state_after s (span_at (place + count) 1)) (h.state honest)
           ∙ span_joins a place count only
 
       -- a byte that does not end it
@@ -325,7 +325,7 @@ module _ {a b : State} {t : Text} {place count k : ℕ} {begun : Bool} {got : Li
       }
 
       -- the one that does
-      pub taking_done : CountsOnly a → ends t begun byte ≡ true → Sound a → Runs a c (Ok (got ++ byte ∷ []))
+      pub taking_done : CountsOnly a → ends t begun byte ≡ true → IsSound a → Runs a c (Ok (got ++ byte ∷ []))
           (text_read a.held.input t place k)
       taking_done only is_end sound = record {
         sound = sound;
@@ -341,7 +341,7 @@ module _ {a b : State} {t : Text} {place count k : ℕ} {begun : Bool} {got : Li
           long_now honest,
         );
         answer = λ honest goes_on. ap Ok (done_now honest);
-        state = λ honest goes_on. joined only honest ∙ ap (λ n. past a (span_at place n)) (sym (long_now honest));
+        state = λ honest goes_on. joined only honest ∙ ap (λ n. state_after a (span_at place n)) (sym (long_now honest));
         fault = λ honest faults. absurd cc;
         misses = λ honest faults. absurd cc;
         ended = tt;
@@ -356,7 +356,7 @@ module _ {a b : State} {t : Text} {place count k : ℕ} {begun : Bool} {got : Li
         long_now honest = omega (arith, ap length (done_now honest), length-append got (byte ∷ []), h.long)
 
   -- there is no more room
-  pub taking_full : k ≤ count → Sound a → Runs a b (Ok got) (text_read a.held.input t place k)
+  pub taking_full : k ≤ count → IsSound a → Runs a b (Ok got) (text_read a.held.input t place k)
   taking_full full sound = record {
     sound = sound;
     sound_after = h.sound;
@@ -370,7 +370,7 @@ module _ {a b : State} {t : Text} {place count k : ℕ} {begun : Bool} {got : Li
       h.long,
     );
     answer = λ honest goes_on. ap Ok (full_now honest);
-    state = λ honest goes_on. h.state honest ∙ ap (λ n. past a (span_at place n)) (sym (ap length (full_now honest) ∙ h.long));
+    state = λ honest goes_on. h.state honest ∙ ap (λ n. state_after a (span_at place n)) (sym (ap length (full_now honest) ∙ h.long));
     fault = λ honest faults. absurd cc;
     misses = λ honest faults. absurd cc;
     ended = tt;
@@ -401,7 +401,7 @@ one_read {b} {c} d more got next n one is run = subst (λ k. Runs b c (Ok got) (
 
 -- a reader tells the true length where it is honest
 pub reader_sound : (telling : Option Telling) (count : Option ℕ) (home : ℕ) (p : Progress) (window : List ℕ)
-    → Sound (reader_state telling count home p window)
+    → IsSound (reader_state telling count home p window)
 reader_sound telling count home p window = sound_at (reader_frame count home p) (stand telling p) window p.taken
     (told_by count home telling p)
 
@@ -440,7 +440,7 @@ module _ {a b : State} {t : Text} {place count : ℕ} {begun : Bool} (room : Lis
           (begun || not (is_ascii_whitespace (slice_index (put_mid count m room more) count))) (length room) bs) (sym room_more) on))
 
       -- one byte more, which ends the text
-      pub text_ends : (is_end : Bool) → CountsOnly a → Sound a → is_end ≡ ends t begun (slice_index (put_mid count m room more) count)
+      pub text_ends : (is_end : Bool) → CountsOnly a → IsSound a → is_end ≡ ends t begun (slice_index (put_mid count m room more) count)
           → is_end ≡ true → Runs a c (Ok (take (count + 1) (put_mid count m room more)))
           (text_read a.held.input t place (length (put_mid count m room more)))
       text_ends is_end only sound end_is ends_here =
@@ -450,7 +450,7 @@ module _ {a b : State} {t : Text} {place count : ℕ} {begun : Bool} (room : Lis
           (taking_done h next next_is (slice_index (put_mid count m room more) count) fits read_one only (sym end_is ∙ ends_here) sound))
 
     -- no byte more
-    pub input_ends : Sound a → n ≡ 0 → Runs a c (Ok (take count (put_mid count m room more)))
+    pub input_ends : IsSound a → n ≡ 0 → Runs a c (Ok (take count (put_mid count m room more)))
         (text_read a.held.input t place (length (put_mid count m room more)))
     input_ends sound none =
         subst (λ k. Runs a c (Ok (take count (put_mid count m room more))) (text_read a.held.input t place k))
@@ -461,7 +461,7 @@ module _ {a b : State} {t : Text} {place count : ℕ} {begun : Bool} (room : Lis
 
   -- a failure
   pub text_stopped : {c : State} {e : ImageError} (next m : ℕ) (more : List ℕ) → next ≡ min (place + count) (2 ^ 64 - 1)
-      → count < length room → m ≡ 1 → length more ≡ 1 → Runs b c (Err e) (part_read b.held.input next (length more)) → Sound a → c.missed ≡ None
+      → count < length room → m ≡ 1 → length more ≡ 1 → Runs b c (Err e) (part_read b.held.input next (length more)) → IsSound a → c.missed ≡ None
       → Runs a c (Err e) (text_read a.held.input t place (length (put_mid count m room more)))
   text_stopped {c} {e} next m more next_is fits is_one one run sound untold =
       subst (λ k. Runs a c (Err e) (text_read a.held.input t place k)) (sym (room_long count m room more fits is_one one))

@@ -10,13 +10,13 @@ use Rattle.imagesize_io.specs.Telling.{Telling}
 use Rattle.imagesize_source.proofs.Layouts.{no_part}
 use Rattle.imagesize_io.proofs.Standings.{told_at}
 use Rattle.imagesize_source.specs.Input.{part, span_at, span_of}
-use Rattle.imagesize_source.specs.Reading.{part_read, seen, is_fault, is_stop, spent}
+use Rattle.imagesize_source.specs.Reading.{part_read, map_answer, is_fault, is_stop, spent}
 use Rattle.imagesize_io.specs.ReaderState.{held_at, unclaimed, overlaid, kept_window, state_at, reader_frame}
-use Rattle.imagesize_io.specs.Standing.{Standing, GivesFrom, stand, since, Keeps, StopsBy}
+use Rattle.imagesize_io.specs.Standing.{Standing, GivesFrom, stand, drift, KeepsCounts, StopsBy}
 use borrow.Rule.Slice.PartMut.{put_mid}
 use Rattle.imagesize_io.proofs.Filling.{part-add, take_more, length-put}
 use Rattle.imagesize_source.proofs.Slices.{front_is}
-use Rattle.imagesize_source.specs.State.{State, Frame, Held, Runs, EndedBy, Sound, past, step, total, fresh, front_after}
+use Rattle.imagesize_source.specs.State.{State, Frame, Held, Runs, EndedBy, IsSound, state_after, step, total, new_bytes, front_after}
 
 -- the told length is that of the bytes
 abbrev pub ToldBy : Frame → Option Standing → Type 0
@@ -40,7 +40,7 @@ holds s w honest =
     let fits = honest_if (leb (length w) (length s.bytes)) _ honest in
     (leb_is (length w) (length s.bytes) fits, rw fits refl)
 
-pub sound_at : (f : Frame) (st : Option Standing) (w : List ℕ) (taken : ℕ) → ToldBy f st → Sound (state_at f st w taken)
+pub sound_at : (f : Frame) (st : Option Standing) (w : List ℕ) (taken : ℕ) → ToldBy f st → IsSound (state_at f st w taken)
 sound_at f None w taken told honest = absurd cc
 sound_at f (Some s) w taken told honest =
     let h = holds s w honest in
@@ -48,7 +48,7 @@ sound_at f (Some s) w taken told honest =
 
 -- the state after a reading, whether or not it has a span
 abbrev pub read_on : State → ℕ → ℕ → State
-read_on a place n = record a { front = front_after a.front place n; taken = a.taken + fresh a.front place n }
+read_on a place n = record a { front = front_after a.front place n; taken = a.taken + new_bytes a.front place n }
 
 no_span : (front place : ℕ) → front_after front place 0 ≡ front
 no_span front place = grind (arith, nat_tests)
@@ -60,12 +60,12 @@ span-suc : (place n : ℕ) → span_at place (suc n) ≡ record { start = place;
 unfolding span_at
 span-suc place n = let some : eqb (suc n) 0 ≡ false = grind (arith, nat_tests) in rw some refl
 
-pub past-span : (a : State) (place n : ℕ) → a.frame.counts ≡ true → a.recorded ≡ None → past a (span_at place n) ≡ read_on a place n
-unfolding past span_at
+pub past-span : (a : State) (place n : ℕ) → a.frame.counts ≡ true → a.recorded ≡ None → state_after a (span_at place n) ≡ read_on a place n
+unfolding state_after span_at
 past-span a place zero counts bare =
-    let taken : a.taken + fresh a.front place 0 ≡ a.taken = omega arith in
+    let taken : a.taken + new_bytes a.front place 0 ≡ a.taken = omega arith in
     rw (no_span a.front place, taken) refl
-past-span a place (suc n) counts bare = ap (past a) (span-suc place n) ∙ step_is a _ counts bare
+past-span a place (suc n) counts bare = ap (state_after a) (span-suc place n) ∙ step_is a _ counts bare
 
 -- no more of a part is there than its input has
 pub part-min : (d : List ℕ) (place k n : ℕ) → n ≡ min k (length d - place) → part d place k ≡ part d place n
@@ -143,7 +143,7 @@ in_window_answer (Some s) w room old place n count copied all kept honest =
     ∙ sym (take_all n room (omega arith))
 
 in_window_state : (f : Frame) (st : Option Standing) (w : List ℕ) (taken place k : ℕ) → f.counts ≡ true → k ≤ length w - place
-    → (held_at st w).honest ≡ true → state_at f st w taken ≡ past (state_at f st w taken) (span_of (held_at st w).input place k)
+    → (held_at st w).honest ≡ true → state_at f st w taken ≡ state_after (state_at f st w taken) (span_of (held_at st w).input place k)
 unfolding span_of
 in_window_state f None w taken place k counts fits honest = absurd cc
 in_window_state f (Some s) w taken place k counts fits honest =
@@ -152,9 +152,9 @@ in_window_state f (Some s) w taken place k counts fits honest =
     (holds s w honest).0 in
     let within : length w ≤ length s.bytes = (holds s w honest).0 in
     let all : min k (length (held_at (Some s) w).input - place) ≡ k = omega (arith, long, within) in
-    let same : taken + fresh (length w) place k ≡ taken = omega arith in
-    sym (ap (λ m. past a (span_at place m)) all ∙ past-span a place k counts refl
-    ∙ ap (λ n. record a { front = n; taken = taken + fresh (length w) place k }) (kept_front (length w) place k fits)
+    let same : taken + new_bytes (length w) place k ≡ taken = omega arith in
+    sym (ap (λ m. state_after a (span_at place m)) all ∙ past-span a place k counts refl
+    ∙ ap (λ n. record a { front = n; taken = taken + new_bytes (length w) place k }) (kept_front (length w) place k fits)
     ∙ ap (λ t. record a { taken = t }) same)
 
 pub in_window : (f : Frame) (st : Option Standing) (w room old : List ℕ) (taken place n : ℕ) → ToldBy f st → f.counts ≡ true
@@ -250,7 +250,7 @@ together f f' h h' m m' t t' p q r s = cc
 behind_state : (f f' : Frame) (s : Standing) (w w' : List ℕ) (taken taken' place now k copied n : ℕ) → f.counts ≡ true → f' ≡ f
     → length w ≤ length s.bytes → Grown w w' s.bytes place (copied + n) → (held_at (Some s) w).honest ≡ true
     → copied ≡ min k (length w - place) → n ≡ min (k - copied) (length s.bytes - (place + copied)) → copied < k → taken' ≡ taken + n
-    → state_at f' (Some (record s { place = now })) w' taken' ≡ past (state_at f (Some s) w taken)
+    → state_at f' (Some (record s { place = now })) w' taken' ≡ state_after (state_at f (Some s) w taken)
     (span_of (held_at (Some s) w).input place k)
 unfolding span_of
 behind_state f f' s w w' taken taken' place now k copied n counts frame fits grown honest count rest short took =
@@ -258,11 +258,11 @@ behind_state f f' s w w' taken taken' place now k copied n counts frame fits gro
     let long : length (held_at (Some s) w).input ≡ length s.bytes = ap length (input_is s w honest) ∙ length-overlaid w s.bytes fits in
     let all : min k (length (held_at (Some s) w).input - place) ≡ copied + n = omega (arith, long, count, rest) in
     let held : held_at (Some (record s { place = now })) w' ≡ held_at (Some s) w = behind_held s w w' now fits grown.fits grown.same in
-    let paid : taken' ≡ taken + fresh (length w) place (copied + n) = omega (arith, took, count) in
+    let paid : taken' ≡ taken + new_bytes (length w) place (copied + n) = omega (arith, took, count) in
     let front = grown.front in
     together f' f (held_at (Some (record s { place = now })) w') (held_at (Some s) w) (length w')
-    (front_after (length w) place (copied + n)) taken' (taken + fresh (length w) place (copied + n)) frame held front paid
-    ∙ sym (ap (λ m. past a (span_at place m)) all ∙ past-span a place (copied + n) counts refl)
+    (front_after (length w) place (copied + n)) taken' (taken + new_bytes (length w) place (copied + n)) frame held front paid
+    ∙ sym (ap (λ m. state_after a (span_at place m)) all ∙ past-span a place (copied + n) counts refl)
 
 -- A reading that the window does not hold: it copied what the window has, and got n bytes more.
 pub record Behind (f f' : Frame) (st st' : Option Standing) (w w' room old more : List ℕ) (taken taken' place now copied n : ℕ) : Type 0
@@ -301,7 +301,7 @@ behind_runs_answer f f' (Some s) st' w w' room old more taken taken' place now c
 
 behind_runs_state : (f f' : Frame) (st st' : Option Standing) (w w' room old more : List ℕ) (taken taken' place now copied n : ℕ)
     → Behind f f' st st' w w' room old more taken taken' place now copied n → (held_at st w).honest ≡ true → state_at f' st' w' taken'
-    ≡ past (state_at f st w taken) (span_of (held_at st w).input place (length room))
+    ≡ state_after (state_at f st w taken) (span_of (held_at st w).input place (length room))
 behind_runs_state f f' None st' w w' room old more taken taken' place now copied n h honest = absurd cc
 behind_runs_state f f' (Some s) st' w w' room old more taken taken' place now copied n h honest =
     let fits = (holds s w honest).0 in
@@ -377,7 +377,7 @@ pub record Halted (f f' : Frame) (st st' : Option Standing) (w w' room old more 
 
 halted : {f f' : Frame} {st st' : Option Standing} {w w' room old more : List ℕ} {taken taken' place now copied : ℕ} {e : ImageError}
     (value : ℕ → List ℕ) → Halted f f' st st' w w' room old more taken taken' place now copied e → Runs (state_at f st w taken)
-    (state_at f' st' w' taken') (seen value (Err e)) (part_read (held_at st w).input place (length room))
+    (state_at f' st' w' taken') (map_answer value (Err e)) (part_read (held_at st w).input place (length room))
 halted {f} {f'} {st} {st'} {w} {w'} {room} {old} {more} {taken} {taken'} {place} {now} {copied} {e} value h = record {
   sound = sound_at f st w taken h.told;
   sound_after = sound_at f' st' w' taken' h.told_after;
@@ -394,14 +394,14 @@ halted {f} {f'} {st} {st'} {w} {w'} {room} {old} {more} {taken} {taken'} {place}
 
 pub behind_stopped : {f f' : Frame} {st st' : Option Standing} {w w' room old more : List ℕ} {taken taken' place now copied : ℕ}
     {e : ImageError} (value : ℕ → List ℕ) (r : Result ℕ ImageError) → Halted f f' st st' w w' room old more taken taken' place now copied
-    e → r ≡ Err e → Runs (state_at f st w taken) (state_at f' st' w' taken') (seen value r)
+    e → r ≡ Err e → Runs (state_at f st w taken) (state_at f' st' w' taken') (map_answer value r)
     (part_read (held_at st w).input place (length (put_mid copied (length room - copied) room more)))
 behind_stopped {f} {f'} {st} {st'} {w} {w'} {room} {old} {more} {taken} {taken'} {place} {now} {copied} {e} value r h is =
     let whole : length (put_mid copied (length room - copied) room more) ≡ length room = length-put room more copied
     (omega (arith, h.count, h.kept)) h.long in
-    subst (λ k. Runs (state_at f st w taken) (state_at f' st' w' taken') (seen value r) (part_read (held_at st w).input place k))
+    subst (λ k. Runs (state_at f st w taken) (state_at f' st' w' taken') (map_answer value r) (part_read (held_at st w).input place k))
     (sym whole)
-    (subst (λ q. Runs (state_at f st w taken) (state_at f' st' w' taken') (seen value q)
+    (subst (λ q. Runs (state_at f st w taken) (state_at f' st' w' taken') (map_answer value q)
     (part_read (held_at st w).input place (length room))) (sym is) (halted value h))
 
 -- the window has nothing from a place on that lies behind it
@@ -426,9 +426,9 @@ straight {f} {f'} {st} {st'} {w} {w'} {more} {taken} {taken'} {place} {now} {n} 
 -- and one that was stopped
 pub straight_stopped : {f f' : Frame} {st st' : Option Standing} {w w' more : List ℕ} {taken taken' place now : ℕ} {e : ImageError}
     (value : ℕ → List ℕ) (r : Result ℕ ImageError) → Halted f f' st st' w w' more more more taken taken' place now 0 e → r ≡ Err e
-    → Runs (state_at f st w taken) (state_at f' st' w' taken') (seen value r) (part_read (held_at st w).input place (length more))
+    → Runs (state_at f st w taken) (state_at f' st' w' taken') (map_answer value r) (part_read (held_at st w).input place (length more))
 straight_stopped {f} {f'} {st} {st'} {w} {w'} {more} {taken} {taken'} {place} value r h is =
-    subst (λ l. Runs (state_at f st w taken) (state_at f' st' w' taken') (seen value r)
+    subst (λ l. Runs (state_at f st w taken) (state_at f' st' w' taken') (map_answer value r)
     (part_read (held_at st w).input place (length l))) (put_whole more) (behind_stopped value r h is)
 
 told_if : (f : Frame) (telling : Option Telling) (p : Progress) (st : Option Standing) → f.told ≡ p.told → stand telling p ≡ st
@@ -447,7 +447,7 @@ same_frames : (told told' budget budget' home : ℕ) (s s' : Option (ℕ × ℕ)
 same_frames told told' budget budget' home s s' p q r = cc
 
 -- what never changes
-pub same_frame : (count count' : Option ℕ) (home : ℕ) (p p' : Progress) → Keeps p p' → since count' p'.taken ≡ since count p.taken
+pub same_frame : (count count' : Option ℕ) (home : ℕ) (p p' : Progress) → KeepsCounts p p' → drift count' p'.taken ≡ drift count p.taken
     → reader_frame count' home p' ≡ reader_frame count home p
 same_frame count count' home p p' keeps same = same_frames p'.told p.told p'.budget p.budget home _ _ keeps.told keeps.budget same
 
@@ -473,14 +473,14 @@ end_answer f (Some s) w place k told far honest =
     no_part (held_at (Some s) w).input place k (omega (arith, long, told.0, far))
 
 end_state : (f : Frame) (st : Option Standing) (w : List ℕ) (taken place k : ℕ) → ToldBy f st → f.told < place → (held_at st w).honest
-    ≡ true → state_at f st w taken ≡ past (state_at f st w taken) (span_of (held_at st w).input place k)
-unfolding span_of span_at past
+    ≡ true → state_at f st w taken ≡ state_after (state_at f st w taken) (span_of (held_at st w).input place k)
+unfolding span_of span_at state_after
 end_state f None w taken place k told far honest = absurd cc
 end_state f (Some s) w taken place k told far honest =
     let long : length (held_at (Some s) w).input ≡ length s.bytes = ap length (input_is s w honest) ∙ length-overlaid w s.bytes
     (holds s w honest).0 in
     let none : min k (length (held_at (Some s) w).input - place) ≡ 0 = omega (arith, long, told.0, far) in
-    sym (ap (λ n. past (state_at f (Some s) w taken) (span_at place n)) none)
+    sym (ap (λ n. state_after (state_at f (Some s) w taken) (span_at place n)) none)
 
 -- a reading above the told length sees nothing, and changes nothing
 pub behind_end : {f : Frame} (st : Option Standing) (w : List ℕ) (taken place k : ℕ) → ToldBy f st → f.told < place

@@ -2,20 +2,20 @@
 use Rattle.std.specs.Prelude.{◌≡◌, ℕ, ◌+◌, ◌≤◌, true, false, List, length, Result, Option, None, Some, IsSomeAnd}
 use Rattle.imagesize_source.specs.declared.error.ImageError.{ImageError}
 use Rattle.imagesize_source.specs.Counts.{places}
-use Rattle.imagesize_source.specs.Reading.{Reads, stopped, faulted}
+use Rattle.imagesize_source.specs.Reading.{Reads, is_stopped, is_faulted}
 use Rattle.imagesize_source.specs.State.{total}
 use Rattle.imagesize_io.specs.Telling.{Telling, IsHonest}
 
 -- The answer is that of the readings, or a failure of a reader that can fail.
 pub record AnswersAs {X : Type 0} (t : Telling) (reads : Reads X) (r : Result X ImageError) : Type 0 where
-  pub answer : stopped r ≡ false → reads.answer ≡ r
-  pub fault : stopped r ≡ true → (faulted r ≡ true) × (t.can_fail ≡ true)
+  pub answer : is_stopped r ≡ false → reads.answer ≡ r
+  pub fault : is_stopped r ≡ true → (is_faulted r ≡ true) × (t.can_fail ≡ true)
 
 -- The bytes taken are at most those of the readings' spans together, and where nothing failed at least the
 -- places that the spans have.
 pub record TakesAs {X : Type 0} (t : Telling) (reads : Reads X) (r : Result X ImageError) (taken : ℕ) : Type 0 where
   pub most : taken ≤ total reads.marks
-  pub least : stopped r ≡ false → places (length t.bytes) reads.marks ≤ taken
+  pub least : is_stopped r ≡ false → places (length t.bytes) reads.marks ≤ taken
 
 -- what readings of an input from a place on say of the bytes of a reader, at its place
 abbrev pub over_reader : {X : Type 0} → Telling → (List ℕ → ℕ → Reads X) → Reads X
@@ -37,6 +37,6 @@ RisesWithin None after k = after ≡ None
 RisesWithin (Some before) after k = IsSomeAnd after (λ count. (before ≤ count) × (count ≤ before + k))
 
 -- over an honest reader that counts, the bytes given are at most those of the readings' spans together
-abbrev pub Counts : {X : Type 0} → Option Telling → Option ℕ → Option ℕ → (List ℕ → ℕ → Reads X) → Type 0
-Counts None before after reads = Unit {0}
-Counts (Some t) before after reads = IsHonest t → RisesWithin before after (total (over_reader t reads).marks)
+abbrev pub CountsWithin : {X : Type 0} → Option Telling → Option ℕ → Option ℕ → (List ℕ → ℕ → Reads X) → Type 0
+CountsWithin None before after reads = Unit {0}
+CountsWithin (Some t) before after reads = IsHonest t → RisesWithin before after (total (over_reader t reads).marks)

@@ -1,5 +1,7 @@
 -- What is kept of the place of a buffered reader.
-use Rattle.std.specs.Prelude.{◌≡◌, ℕ, ◌+◌, ◌^◌, ◌<◌, ◌⊎◌, nat_lt, if◌then◌else◌, Option, None, Some, Result, Ok, Err, IfSome, ⊤}
+use Rattle.std.specs.Prelude.{◌≡◌, ℕ, List, length, take, drop, ◌≤◌, ◌+◌, ◌^◌, ◌<◌, ◌⊎◌, nat_lt, if◌then◌else◌, Option, None, Some, Result, Ok, Err, IfSome, ⊤}
+use Rattle.std.specs.Io.Buffered.{reader_buffer, reader_inner}
+use Rattle.std.specs.declared.io.buffered.BufReader.{BufReader}
 use Rattle.std.specs.declared.io.traits.SeekFrom.{SeekFrom}
 use Rattle.std.specs.declared.io.traits.SeekFrom.TheVariants.{Start}
 
@@ -19,9 +21,9 @@ sought_place (Ok n) = Some n
 sought_place (Err e) = None
 
 -- the place that is kept is the position, where both are known
-abbrev pub Agrees : Option ℕ → Option ℕ → Type 0
-Agrees None position = ⊤
-Agrees (Some place) position = IfSome position (λ p. p ≡ place)
+abbrev pub IsAt : Option ℕ → Option ℕ → Type 0
+IsAt None position = ⊤
+IsAt (Some place) position = IfSome position (λ p. p ≡ place)
 
 -- a seek leads back, or on behind the bytes in the buffer
 abbrev pub LeavesBuffer : Option ℕ → ℕ → SeekFrom → Type 0
@@ -31,3 +33,9 @@ LeavesBuffer place ahead to = ⊤
 -- the position, where it is known, is so far behind a place
 abbrev pub IsBack : Option ℕ → ℕ → ℕ → Type 0
 IsBack position distance target = IfSome position (λ p. p ≡ target + distance)
+
+-- n bytes of the room are the first that were in the buffer, which has what followed them, and the reader below is as it was
+abbrev pub HeldOf : {T A : Type 0} → BufReader T A → BufReader T A → List ℕ → ℕ → Type 0
+HeldOf old new room n =
+    (n ≤ length (reader_buffer old)) × (take n room ≡ take n (reader_buffer old)) × (reader_buffer new ≡ drop n (reader_buffer old))
+    × (reader_inner new ≡ reader_inner old)

@@ -1,4 +1,5 @@
 pub mod Answers
+pub mod Held
 pub mod Kept
 pub mod ReaderState
 pub mod Standing

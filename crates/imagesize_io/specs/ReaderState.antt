@@ -5,9 +5,9 @@ use Rattle.imagesize_io.specs.declared.reader.Opened.{Opened}
 use Rattle.imagesize_io.specs.declared.progress.Progress.{Progress}
 use Rattle.imagesize_source.specs.Limits.{allowance, most_held}
 use Rattle.imagesize_io.specs.declared.reader.Ledger.{Ledger}
-use Rattle.imagesize_source.specs.Reading.{part_read, seen}
+use Rattle.imagesize_source.specs.Reading.{part_read, map_answer}
 use Rattle.imagesize_io.specs.Telling.{Telling, at_place}
-use Rattle.imagesize_io.specs.Standing.{Standing, Keeps, steady, stand_of, stand, since}
+use Rattle.imagesize_io.specs.Standing.{Standing, KeepsCounts, steady, stand_of, stand, drift}
 use Rattle.imagesize_source.specs.State.{State, Frame, Held, Runs}
 
 -- no claim
@@ -33,7 +33,7 @@ reader_frame count home p = record {
   counts = true;
   records = false;
   home = home;
-  since = since count p.taken;
+  since = drift count p.taken;
   parts = None;
 }
 
@@ -66,7 +66,7 @@ Opens (Some t) new (Err e) = t.can_fail ≡ true
 -- budget is the told length and the allowance.
 abbrev pub start_state : Option Telling → Option ℕ → ℕ → ℕ → State
 start_state telling count home told = state_at
-    (record { told = told; budget = min (told + allowance) (2 ^ 64 - 1); counts = true; records = false; home = home; since = since count 0; parts = None })
+    (record { told = told; budget = min (told + allowance) (2 ^ 64 - 1); counts = true; records = false; home = home; since = drift count 0; parts = None })
     (stand_of told told (steady telling 0)) [] 0
 
 -- What a reading from a place on did, over every reader: it saw what the window has of it, and what follows from the reader.
@@ -75,7 +75,7 @@ pub record ReadsAt (old new : Ledger) (telling telling' : Option Telling) (count
   pub bound : IfOk r (λ n. n ≤ length room)
   pub pays : IfOk r (λ n. 0 < n → max old.progress.told most_held < place → (old.progress.taken < new.progress.taken)
       × (new.progress.taken ≤ old.progress.budget))
-  pub keeps : Keeps old.progress new.progress
+  pub keeps : KeepsCounts old.progress new.progress
   pub runs : (home : ℕ) → Runs (reader_state telling count home old.progress old.window.items)
-      (reader_state telling' count' home new.progress new.window.items) (seen (λ n. take n room) r)
+      (reader_state telling' count' home new.progress new.window.items) (map_answer (λ n. take n room) r)
       (part_read (held_at (stand telling old.progress) old.window.items).input place (length room))

@@ -80,8 +80,8 @@ abbrev pub error_at : Progress → Halt → ImageError
 error_at p halt = error_by (fault_of p.fault) p.budget halt
 
 -- an answer, with the error of its halt
-abbrev pub named : {X : Type 0} → Progress → Result X Halt → Result X ImageError
-named p r = with_error (fault_of p.fault) p.budget r
+abbrev pub with_kept_error : {X : Type 0} → Progress → Result X Halt → Result X ImageError
+with_kept_error p r = with_error (fault_of p.fault) p.budget r
 
 -- the bytes that a read gave, or the error that is kept
 abbrev pub given_or : Error → Result ℕ Halt → Result ℕ ImageError
@@ -89,8 +89,8 @@ given_or e (Ok n) = Ok n
 given_or e (Err halt) = Err (fault_of e)
 
 -- by how much a count is above a number, and below it
-abbrev pub since : Option ℕ → ℕ → Option (ℕ × ℕ)
-since count taken = option_map (λ c. (c - taken, taken - c)) count
+abbrev pub drift : Option ℕ → ℕ → Option (ℕ × ℕ)
+drift count taken = option_map (λ c. (c - taken, taken - c)) count
 
 -- Only a failure or a spent budget stops a read: the budget that is named is the one that was taken.
 pub record StopsBy (p : Progress) (e : ImageError) : Type 0 where
@@ -99,7 +99,7 @@ pub record StopsBy (p : Progress) (e : ImageError) : Type 0 where
   pub budget : IfSome (spent e) (λ n. (n ≡ p.budget) × (n ≡ p.taken))
 
 -- What a call leaves of the numbers beside the reader. Tries are never forgotten, and never more than `most_retries`.
-pub record Keeps (old new : Progress) : Type 0 where
+pub record KeepsCounts (old new : Progress) : Type 0 where
   pub told : new.told ≡ old.told
   pub budget : new.budget ≡ old.budget
   pub taken : old.taken ≤ new.taken
@@ -113,9 +113,9 @@ pub record ReadsOnce (old new : Progress) (telling telling' : Option Telling) (c
   pub stand : GivesSome (stand telling old) (stand telling' new) room r
   pub taken : new.taken ≡ old.taken + given r
   pub place : IfOk r (λ n. new.place ≡ min (old.place + n) (2 ^ 64 - 1))
-  pub since : since count' new.taken ≡ since count old.taken
+  pub since : drift count' new.taken ≡ drift count old.taken
   pub tries : OnOk r (Tries telling old.retries telling' new.retries)
-  pub keeps : Keeps old new
+  pub keeps : KeepsCounts old new
   pub stops : IfErr r (StopsBy new)
 
 -- what reads from where a reader stands did, one after another until the room is full or the bytes end
@@ -126,8 +126,8 @@ pub record Fills (old new : Progress) (before after : Option Standing) (count co
   pub taken : IfOk r (λ n. new.taken ≡ old.taken + n)
   pub place : IfOk r (λ n. new.place ≡ min (old.place + n) (2 ^ 64 - 1))
   pub within : IfSome before (λ s. new.taken ≤ old.taken + min (length room) (length s.bytes - s.place))
-  pub since : since count' new.taken ≡ since count old.taken
-  pub keeps : Keeps old new
+  pub since : drift count' new.taken ≡ drift count old.taken
+  pub keeps : KeepsCounts old new
   pub stops : IfErr r (StopsBy new)
 
 -- what a reading from a place on did, over every reader
@@ -139,6 +139,6 @@ pub record ReadsFrom (old new : Progress) (before after : Option Standing) (coun
   pub taken : IfOk r (λ n. new.taken ≡ old.taken + n)
   pub within : IfSome before (λ s. new.taken ≤ old.taken + min (length room) (length s.bytes - place))
   pub pays : IfOk r (λ n. old.told < place → 0 < n → old.taken < new.taken)
-  pub since : since count' new.taken ≡ since count old.taken
-  pub keeps : Keeps old new
+  pub since : drift count' new.taken ≡ drift count old.taken
+  pub keeps : KeepsCounts old new
   pub stops : IfErr r (StopsBy new)

@@ -15,6 +15,10 @@ pub record Telling : Type 0 where
   pub can_fail : Bool
   pub interruptions : ℕ
 
+-- what is told of a reader each of whose calls may also fail
+abbrev pub may_fail : Option Telling → Option Telling
+may_fail told = option_map {T = Telling} (λ t. record t { can_fail = true }) told
+
 -- n bytes further on
 abbrev pub moved : Telling → ℕ → Telling
 moved t n = record t { place = t.place + n }

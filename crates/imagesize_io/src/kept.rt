@@ -1,14 +1,17 @@
 //! A buffered reader that keeps its place.
-ghost use Rattle.std.specs.Prelude.{◌≡◌, ℕ, ◌+◌, ◌-◌, ◌≤◌, drop, length, Option, Some, None, Ok, pos, IfOk, IfErr};
+ghost use Rattle.std.specs.Prelude.{◌≡◌, ℕ, ◌+◌, ◌-◌, ◌≤◌, drop, length, take, Option, Some, None, Ok, pos, IfOk, IfErr, IfSome};
 ghost use Rattle.std.specs.Io.Buffered.{reader_buffer, reader_inner, reader_position, reader_remaining};
 ghost use Rattle.std.specs.Io.KnownBytes.{ReadConsumes};
 ghost use Rattle.std.specs.Io.Seek.{SeekMoves};
 ghost use Rattle.std.specs.declared.io.Error.{Error};
-ghost use Rattle.imagesize_io.specs.Kept.{place_after, read_place, sought_place, Agrees, IsBack, LeavesBuffer};
+ghost use Rattle.imagesize_io.specs.Held.{IsWhole};
+ghost use Rattle.imagesize_io.specs.Kept.{place_after, read_place, sought_place, HeldOf, IsAt, IsBack, LeavesBuffer};
 ghost use Rattle.imagesize_io.specs.StopOf.{stop_of};
-ghost use Rattle.imagesize_io.specs.Telling.{ReadTells, SeekTells, counted};
+ghost use Rattle.imagesize_io.specs.Telling.{Telling, ReadTells, SeekTells, counted};
 
+use crate::held::copy_text;
 use crate::{Stop, Told};
+use imagesize_source::Text;
 use std::io::{self, BufRead, BufReader, Read, Seek, SeekFrom};
 
 /// A buffered reader that keeps the place where it stands. A move to a place in its buffer makes no call of the
@@ -57,6 +60,24 @@ impl<R: Read + Seek + Drop> Told for KeptReader<R> {
         Ok(count)
     }
 
+    #[inline(always)]
+    fn read_held(&mut self, text: Text, room: &mut [u8]) -> Option<usize>
+        ensures bound { IfSome result (λ n. n ≤ length room.new) }
+        ensures whole { IfSome result (λ n. IsWhole text (take n room.new)) }
+        ensures told { IfSome result (λ n. ReadTells None None room.new (Ok n)) }
+        ensures counts { IfSome result (λ n. ◌≡◌ {A = Option ℕ} None (counted {E = Stop} None (Ok n))) }
+        ensures none { result ≡ None → (◌≡◌ {A = Option Telling} None None) × (◌≡◌ {A = Option ℕ} None None) }
+        // What it gives is in the buffer, and the reader below is not called.
+        ensures stays { result ≡ None → (self.new.reader ≡ self.old.reader) × (self.new.place ≡ self.old.place) }
+        ensures held { IfSome result (HeldOf self.old.reader self.new.reader room.new) }
+        ensures place { IfSome result (λ n. self.new.place ≡ place_after self.old.place n) }
+    {
+        let count = copy_text(text, self.reader.buffer(), room)?;
+        self.reader.consume(count);
+        self.place = place_after(self.place, count);
+        Some(count)
+    }
+
     fn seek_told(&mut self, to: SeekFrom) -> io::Result<u64>
         ensures told { SeekTells None None to result }
         ensures counts { ◌≡◌ {A = Option ℕ} None None }
@@ -69,7 +90,7 @@ impl<R: Read + Seek + Drop> Told for KeptReader<R> {
             → place ≤ target → target ≤ place + length (reader_buffer self.old.reader)
             → (result ≡ Ok target) × (reader_inner self.new.reader ≡ reader_inner self.old.reader)
             × (reader_buffer self.new.reader ≡ drop (target - place) (reader_buffer self.old.reader)) }
-        ensures seeks { Agrees self.old.place (reader_position R.stream_position self.old.reader)
+        ensures seeks { IsAt self.old.place (reader_position R.stream_position self.old.reader)
             → LeavesBuffer self.old.place (length (reader_buffer self.old.reader)) to
             → SeekMoves (reader_position R.stream_position self.old.reader) (reader_position R.stream_position self.new.reader)
             (R.stream_bytes (reader_inner self.old.reader)) to result }
@@ -100,7 +121,7 @@ fn seek_from<R: Read + Seek>(
         → at ≤ target → target ≤ at + length (reader_buffer reader.old)
         → (result ≡ Ok target) × (reader_inner reader.new ≡ reader_inner reader.old)
         × (reader_buffer reader.new ≡ drop (target - at) (reader_buffer reader.old)) }
-    ensures seeks { Agrees place (reader_position R.stream_position reader.old)
+    ensures seeks { IsAt place (reader_position R.stream_position reader.old)
         → LeavesBuffer place (length (reader_buffer reader.old)) to
         → SeekMoves (reader_position R.stream_position reader.old) (reader_position R.stream_position reader.new)
         (R.stream_bytes (reader_inner reader.old)) to result }
@@ -118,7 +139,7 @@ fn go<R: Read + Seek>(reader: &mut BufReader<R>, place: u64, target: u64) -> io:
     ensures ahead { place ≤ target → target ≤ place + length (reader_buffer reader.old)
         → (result ≡ Ok target) × (reader_inner reader.new ≡ reader_inner reader.old)
         × (reader_buffer reader.new ≡ drop (target - place) (reader_buffer reader.old)) }
-    ensures seeks { Agrees (Some place) (reader_position R.stream_position reader.old)
+    ensures seeks { IsAt (Some place) (reader_position R.stream_position reader.old)
         → LeavesBuffer (Some place) (length (reader_buffer reader.old)) (SeekFrom.Start target)
         → SeekMoves (reader_position R.stream_position reader.old) (reader_position R.stream_position reader.new)
         (R.stream_bytes (reader_inner reader.old)) (SeekFrom.Start target) result }

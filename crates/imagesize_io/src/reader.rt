@@ -7,6 +7,7 @@ ghost use Rattle.imagesize_io.specs.Standing.{error_at};
 ghost use Rattle.imagesize_io.specs.StopOf.{fault_of};
 
 mod filling;
+mod held;
 mod text;
 mod windowed;
 
@@ -93,6 +94,15 @@ impl<R: Told> Source for ReaderSource<'_, R> {
 /// How many bytes more than the told length a call may take.
 pub const ALLOWANCE: u64 = 64;
 
+/// Where a call reads first.
+#[derive(Clone, Copy)]
+pub enum Origin {
+    /// At the first byte, wherever the reader stands.
+    Start,
+    /// Where the reader stands.
+    Place,
+}
+
 /// What a reader told as a call began.
 #[derive(Clone, Copy, Debug)]
 pub struct Opened {
@@ -102,9 +112,11 @@ pub struct Opened {
     pub told: u64,
 }
 
-/// Asks a reader where it stands, and for its length. It stands at the end then.
+/// Asks a reader where it stands, and for its length. It stands at the end then, and the first reading goes to its offset.
+/// Where the place is the told length, which a reader may lie about, that reading would not: a call that reads first at
+/// the place goes back here.
 #[inline]
-pub fn open<R: Told>(reader: &mut R) -> ImageResult<Opened>
+pub fn open<R: Told>(reader: &mut R, origin: Origin) -> ImageResult<Opened>
     ensures told { Opens (R.telling reader.old) (R.telling reader.new) result }
     ensures counts { R.count reader.new ≡ R.count reader.old }
     ensures fault { IfErr result (λ e. is_fault e ≡ true) }
@@ -112,6 +124,9 @@ pub fn open<R: Told>(reader: &mut R) -> ImageResult<Opened>
 {
     let place = seek(reader, SeekFrom::Current(0))?;
     let told = seek(reader, SeekFrom::End(0))?;
+    if place == told && matches!(origin, Origin::Place) {
+        seek(reader, SeekFrom::Start(place))?;
+    }
     Ok(Opened { place, told })
 }
 

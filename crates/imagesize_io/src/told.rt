@@ -1,14 +1,16 @@
 //! Readers, and what they may tell of themselves.
-ghost use Rattle.std.specs.Prelude.{◌≡◌, ℕ, ◌≤◌, length, Option, Some, None, false, ◌<◌, ◌^◌, IfOk, IfErr, IfSome, IsSome, List};
+ghost use Rattle.std.specs.Prelude.{◌≡◌, ℕ, ◌≤◌, length, Option, Some, None, false, ◌<◌, ◌^◌, IfOk, IfErr, IfSome, IsSome, List, Ok, take};
 ghost use Rattle.std.specs.Io.Buffered.{reader_inner, reader_position, reader_remaining};
 ghost use Rattle.std.specs.Io.Cursor.{cursor_inner, cursor_position};
 ghost use Rattle.std.specs.Io.KnownBytes.{ReadConsumes};
 ghost use Rattle.std.specs.Io.Seek.{SeekMoves, IsAtOffset};
 ghost use Rattle.std.specs.declared.io.Error.{Error};
+ghost use Rattle.imagesize_io.specs.Held.{IsWhole};
 ghost use Rattle.imagesize_io.specs.Telling.{Telling, ReadTells, SeekTells, counted};
 ghost use Rattle.imagesize_io.specs.StopOf.{stop_of};
 
-use imagesize_source::source::slice::copy_part;
+use imagesize_source::Text;
+use imagesize_source::part::copy_part;
 use std::io::{self, BufReader, Cursor, ErrorKind, Read, Seek, SeekFrom};
 
 /// Why a read gave nothing.
@@ -45,6 +47,19 @@ pub trait Told: Drop {
         ensures bound { IfOk result (λ n. n ≤ length room.new) }
         ensures told { ReadTells (telling self.old) (telling self.new) room.new result }
         ensures counts { count self.new ≡ counted (count self.old) result };
+
+    /// Reads the text at the place where it stands, where it holds all of that, and answers how many bytes it gave. It
+    /// may answer nothing, and has then given nothing.
+    #[inline(always)]
+    fn read_held(&mut self, _text: Text, _room: &mut [u8]) -> Option<usize>
+        ensures bound { IfSome result (λ n. n ≤ length _room.new) }
+        ensures whole { IfSome result (λ n. IsWhole _text (take n _room.new)) }
+        ensures told { IfSome result (λ n. ReadTells (telling self.old) (telling self.new) _room.new (Ok n)) }
+        ensures counts { IfSome result (λ n. count self.new ≡ counted {E = Stop} (count self.old) (Ok n)) }
+        ensures none { result ≡ None → (telling self.new ≡ telling self.old) × (count self.new ≡ count self.old) }
+    {
+        None
+    }
 
     /// Moves to a place, and answers it. Places count bytes from 0.
     fn seek_told(&mut self, to: SeekFrom) -> io::Result<u64>

@@ -5,7 +5,7 @@ ghost use Rattle.imagesize_source.specs.Input.{part};
 ghost use Rattle.imagesize_io.specs.ReaderState.{kept_window};
 
 use arrayvec::ArrayVec;
-use imagesize_source::source::slice::copy_part;
+use imagesize_source::part::copy_part;
 
 // How many of its first bytes a reader's source keeps.
 pub(crate) const WINDOW: usize = 32;

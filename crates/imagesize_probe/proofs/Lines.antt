@@ -9,9 +9,9 @@ use Rattle.imagesize.specs.Probed.{Probes, ProbesOf}
 use Rattle.imagesize_types.specs.declared.size.ImageSize.{ImageSize}
 use Rattle.imagesize.specs.declared.types.ImageType.{ImageType}
 use Rattle.imagesize.specs.declared.calls.Probed.{Probed}
-use Rattle.imagesize_probe.specs.Line.{line, line_of, refused_line, Reports, ReportsOf}
+use Rattle.imagesize_probe.specs.Line.{answer_line, line_of, refused_line, Reports, ReportsOf}
 use Rattle.imagesize_io.specs.Answers.{over_reader}
-use Rattle.imagesize_source.specs.Reading.{Reads, onward, stopped, is_stop}
+use Rattle.imagesize_source.specs.Reading.{Reads, go_on, is_stopped, is_stop}
 use Rattle.imagesize_source.specs.Reason.{error_text}
 use Rattle.imagesize_io.specs.Telling.{Telling}
 use Rattle.imagesize_source.specs.declared.span.Span.{Span}
@@ -49,7 +49,7 @@ has_text (IoError HdrDimensionsNotFound) _ = refl
 has_text (IoError PnmDimensionsNotFound) _ = refl
 
 -- what goes on from a refusal is no success
-began : {X Y : Type 0} (marks : List Span) (r : Result X ImageError) (f : X → Reads Y) → IsOk (onward marks r f).answer → IsOk r
+began : {X Y : Type 0} (marks : List Span) (r : Result X ImageError) (f : X → Reads Y) → IsOk (go_on marks r f).answer → IsOk r
 began marks (Ok x) f _ = refl
 began marks (Err e) f ok = ok
 
@@ -67,17 +67,17 @@ refused_text name (Some text) old new _ wrote = wrote
 
 -- the line of an answer that is no failure, beside a type where it is a size
 answer_text : (name : List ℕ) (r : Result ImageSize ImageError) (found : Result ImageType ImageError) (old new : Option (List ℕ)) →
-    (IsOk r → IsOk found) → stopped r ≡ false →
-    IfSome (line name (result_ok found) r) (Appends old new) →
-    IsSomeAnd (line name (result_ok found) r) (Appends old new)
+    (IsOk r → IsOk found) → is_stopped r ≡ false →
+    IfSome (answer_line name (result_ok found) r) (Appends old new) →
+    IsSomeAnd (answer_line name (result_ok found) r) (Appends old new)
 answer_text name (Ok size) (Ok image) old new _ _ wrote = wrote
 answer_text name (Ok size) (Err e) old new typed _ _ = (cc (typed refl))
 answer_text name (Err e) found old new _ going wrote = refused_text name (error_text e) old new (has_text e going) wrote
 
 -- what was found where no failure ended it
 found_line : (t : Telling) (name : List ℕ) (probed : Probed) (old new : Option (List ℕ)) →
-    ProbesOf t probed → IfSome (line name probed.kind probed.answer) (Appends old new) →
-    stopped probed.answer ≡ false → IsSomeAnd (line_of name t) (Appends old new)
+    ProbesOf t probed → IfSome (answer_line name probed.kind probed.answer) (Appends old new) →
+    is_stopped probed.answer ≡ false → IsSomeAnd (line_of name t) (Appends old new)
 found_line t name probed old new probes wrote going =
     let same : (over_reader t meaning).answer ≡ probed.answer = probes.answer.answer going in
     let typed : IsOk (over_reader t meaning).answer → IsOk (over_reader t kind_of).answer = sized_kind t.bytes t.place in
@@ -90,7 +90,7 @@ no_failure true can_fail fails faultless = (cc (fails refl))
 no_failure false can_fail _ _ = refl
 
 -- a size is no failure
-size_goes : (r : Result ImageSize ImageError) → is_ok r ≡ true → stopped r ≡ false
+size_goes : (r : Result ImageSize ImageError) → is_ok r ≡ true → is_stopped r ≡ false
 size_goes (Ok size) _ = refl
 size_goes (Err e) is = (cc)
 
@@ -104,12 +104,12 @@ none_is_err (Err e) _ = refl
 
 -- what was written of what was found
 pub reported : (t : Telling) (name : List ℕ) (probed : Probed) (old new : Option (List ℕ)) (sized : Bool) →
-    ProbesOf t probed → IfSome (line name probed.kind probed.answer) (Appends old new) →
+    ProbesOf t probed → IfSome (answer_line name probed.kind probed.answer) (Appends old new) →
     sized ≡ is_ok probed.answer → ReportsOf t name old new sized
 reported t name probed old new sized probes wrote is =
-    let going : t.can_fail ≡ false → stopped probed.answer ≡ false =
-    no_failure (stopped probed.answer) t.can_fail (λ stops. (probes.answer.fault stops).1) in
-    let ends : sized ≡ true → stopped probed.answer ≡ false = λ so. size_goes probed.answer (cc) in
+    let going : t.can_fail ≡ false → is_stopped probed.answer ≡ false =
+    no_failure (is_stopped probed.answer) t.can_fail (λ stops. (probes.answer.fault stops).1) in
+    let ends : sized ≡ true → is_stopped probed.answer ≡ false = λ so. size_goes probed.answer (cc) in
     record {
       text = λ case. found_line t name probed old new probes wrote (⊎_elim going ends case);
       size = λ so.
@@ -122,7 +122,7 @@ reported t name probed old new sized probes wrote is =
 
 -- the same of a reader that may tell nothing
 pub reports : (telling : Option Telling) (name : List ℕ) (probed : Probed) (old new : Option (List ℕ)) (r : Result Bool Error) →
-    Probes telling probed → OnOk r (IfSome (line name probed.kind probed.answer) (Appends old new)) →
+    Probes telling probed → OnOk r (IfSome (answer_line name probed.kind probed.answer) (Appends old new)) →
     IfOk r (λ sized. sized ≡ is_ok probed.answer) →
     IfOk r (Reports telling name old new)
 reports telling name probed old new (Err e) _ _ _ = tt

@@ -10,8 +10,8 @@ use Rattle.imagesize.specs.declared.trace.Trace.{Trace}
 use Rattle.imagesize.specs.declared.types.ImageType.{ImageType}
 use Rattle.imagesize_types.specs.declared.size.ImageSize.{ImageSize}
 use Rattle.imagesize_probe.proofs.Lines.{has_text, sized_kind}
-use Rattle.imagesize_probe.specs.Line.{line, refused_line, span_line, span_lines, ReportsSpans, TracesTo}
-use Rattle.imagesize_source.specs.Reading.{stopped}
+use Rattle.imagesize_probe.specs.Line.{answer_line, refused_line, span_line, span_lines, ReportsSpans, TracesTo}
+use Rattle.imagesize_source.specs.Reading.{is_stopped}
 use Rattle.imagesize_source.specs.Reason.{error_text}
 use Rattle.imagesize_source.specs.declared.error.ImageError.{ImageError}
 use Rattle.imagesize_source.specs.declared.span.Span.{Span}
@@ -47,7 +47,7 @@ one_span spans i other a b c there wrote more =
 
 -- of an answer that is no failure there is a line
 line_there : (name : List ℕ) (found : Option ImageType) (r : Result ImageSize ImageError) → (IsOk r → IsSome found) →
-    stopped r ≡ false → IsSome (line name found r)
+    is_stopped r ≡ false → IsSome (answer_line name found r)
 line_there name (Some image) (Ok size) _ _ = refl
 line_there name None (Ok size) typed _ = (cc (typed refl))
 line_there name found (Err e) _ going = text_there name (error_text e) (has_text e going)
@@ -78,12 +78,12 @@ trace_typed d t traces = rw traces.answer (rw traces.kind (on_ok (meaning d 0).a
 
 -- what was written of a trace
 pub traced : {A : Type 0} (d name : List ℕ) (t : Trace A) (old new : Option (List ℕ)) (sized : Bool) → Traces d t →
-    IfSome (line name t.kind t.answer) (λ text. Appends old new (text ++ span_lines t.spans.items)) →
+    IfSome (answer_line name t.kind t.answer) (λ text. Appends old new (text ++ span_lines t.spans.items)) →
     sized ≡ is_ok t.answer → TracesTo d name old new sized
 traced d name t old new sized traces wrote is =
     let kind = traces.kind in let answer = traces.answer in let spans = traces.spans in
     record {
-      text = more_behind (line name (result_ok (kind_of d 0).answer) (meaning d 0).answer) (span_lines (meaning d 0).marks) old new
+      text = more_behind (answer_line name (result_ok (kind_of d 0).answer) (meaning d 0).answer) (span_lines (meaning d 0).marks) old new
           (line_there name (result_ok (kind_of d 0).answer) (meaning d 0).answer
           (kind_there (meaning d 0).answer (kind_of d 0).answer (sized_kind d 0)) (rw (← answer) traces.goes))
           (rw (← kind) (rw (← answer) (rw (← spans) wrote)));
@@ -91,7 +91,7 @@ traced d name t old new sized traces wrote is =
     }
 
 pub traces_to : {A : Type 0} (d name : List ℕ) (t : Trace A) (old new : Option (List ℕ)) (r : Result Bool Error) → Traces d t →
-    OnOk r (IfSome (line name t.kind t.answer) (λ text. Appends old new (text ++ span_lines t.spans.items))) →
+    OnOk r (IfSome (answer_line name t.kind t.answer) (λ text. Appends old new (text ++ span_lines t.spans.items))) →
     IfOk r (λ sized. sized ≡ is_ok t.answer) → IfOk r (ReportsSpans d name old new)
 traces_to d name t old new (Err e) _ _ _ = tt
 traces_to d name t old new (Ok sized) traces wrote is = inl (traced d name t old new sized traces wrote is)

@@ -7,7 +7,7 @@ use Rattle.std.specs.declared.io.Error.{Error}
 use Rattle.imagesize_source.specs.declared.error.ImageError.{ImageError}
 use Rattle.imagesize_probe.specs.Line.{ReportsSpans}
 use Rattle.imagesize_probe.specs.Run.{Files, WritesEach, RunsWith, WritesEach, WritesLine, WritesLines, WritesOne, WritesSpans, Loads, ReportsWhole, SpansBehind, line_behind, joined, lines_of, is_any_refused, names_in, wants_spans}
-use Rattle.imagesize_probe.specs.Status.{status_of}
+use Rattle.imagesize_probe.specs.Status.{exit_status}
 
 -- a line was written and sent on, and then others
 wrote_both : (first second a b c d : Option (List ℕ)) → IfSome first (Appends a b) → Keeps b c → IfSome second (Appends c d) →
@@ -128,8 +128,8 @@ plain_lines files true names old new refused plain _ = absurd (cc)
 pub plain_run : (files : Files) (arguments : List (List ℕ)) (old new : Option (List ℕ)) (r : Result ℕ Error) →
     IfOk r (RunsWith (Some files) arguments old new) → IfOk r (λ status. wants_spans arguments ≡ false →
     IfSome (lines_of files (names_in arguments)) (Appends old new)
-    × (status ≡ status_of (length (names_in arguments)) (is_any_refused files (names_in arguments))))
+    × (status ≡ exit_status (length (names_in arguments)) (is_any_refused files (names_in arguments))))
 plain_run files arguments old new (Err e) _ = tt
 plain_run files arguments old new (Ok status) ran = λ plain.
     let lines = plain_lines files (wants_spans arguments) (names_in arguments) old new ran.refused plain ran.lines in
-    (lines.0, ran.ends ∙ ap (status_of (length (names_in arguments))) lines.1)
+    (lines.0, ran.ends ∙ ap (exit_status (length (names_in arguments))) lines.1)

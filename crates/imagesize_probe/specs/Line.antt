@@ -26,9 +26,9 @@ refused_line name text = name ++ (codes ": error: " ++ (text ++ codes "\n"))
 
 -- The line of a name, a type and an answer. None is stated of a refusal whose text is not, nor of a size
 -- that stands beside no type.
-abbrev pub line : List ℕ → Option ImageType → Result ImageSize ImageError → Option (List ℕ)
-line name found (Ok size) = option_map (λ image. sized_line name image size) found
-line name found (Err e) = option_map (refused_line name) (error_text e)
+abbrev pub answer_line : List ℕ → Option ImageType → Result ImageSize ImageError → Option (List ℕ)
+answer_line name found (Ok size) = option_map (λ image. sized_line name image size) found
+answer_line name found (Err e) = option_map (refused_line name) (error_text e)
 
 -- the line of a span: its first place, and how many bytes it has
 abbrev pub span_line : Span → List ℕ
@@ -41,7 +41,7 @@ span_lines (span ∷ spans) = span_line span ++ span_lines spans
 
 -- the line of a name and of bytes
 abbrev pub line_in : List ℕ → List ℕ → Option (List ℕ)
-line_in name d = line name (result_ok (kind_of d 0).answer) (meaning d 0).answer
+line_in name d = answer_line name (result_ok (kind_of d 0).answer) (meaning d 0).answer
 
 -- the line of a name and of bytes, and then one for each reading that tells it
 abbrev pub lines : List ℕ → List ℕ → Option (List ℕ)
@@ -49,7 +49,7 @@ lines name d = option_map (λ text. text ++ span_lines (meaning d 0).marks) (lin
 
 -- the line of a name and of the bytes of a reader, at its place
 abbrev pub line_of : List ℕ → Telling → Option (List ℕ)
-line_of name t = line name (result_ok (over_reader t kind_of).answer) (over_reader t meaning).answer
+line_of name t = answer_line name (result_ok (over_reader t kind_of).answer) (over_reader t meaning).answer
 
 -- What a writer got that held these bytes and holds those, where the answer is whether there is a size: the
 -- line of the layouts, but where a reader that can fail gave no size.

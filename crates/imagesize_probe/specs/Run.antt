@@ -5,8 +5,8 @@ use Rattle.std.specs.Result.{result_ok}
 use Rattle.std.specs.Io.KnownBytes.{Appends, Keeps}
 use Rattle.std.specs.declared.io.Error.{Error}
 use Rattle.imagesize.specs.Meaning.{kind_of, meaning}
-use Rattle.imagesize_probe.specs.Line.{line, refused_line, LacksMemory, ReportsSpans}
-use Rattle.imagesize_probe.specs.Status.{status_of}
+use Rattle.imagesize_probe.specs.Line.{answer_line, refused_line, LacksMemory, ReportsSpans}
+use Rattle.imagesize_probe.specs.Status.{exit_status}
 use Rattle.imagesize_source.specs.Reason.{error_text}
 use Rattle.imagesize_io.specs.Telling.{Telling, IsHonest}
 use Rattle.imagesize_source.specs.declared.error.ImageError.{ImageError}
@@ -37,7 +37,7 @@ OpensTo telling (Some files) name answer = OpensAs telling (files name) answer
 
 -- the line of a name, by what is behind it
 abbrev pub line_behind : List ℕ → Result (List ℕ) ImageError → Option (List ℕ)
-line_behind name (Ok bytes) = line name (result_ok (kind_of bytes 0).answer) (meaning bytes 0).answer
+line_behind name (Ok bytes) = answer_line name (result_ok (kind_of bytes 0).answer) (meaning bytes 0).answer
 line_behind name (Err e) = option_map (refused_line name) (error_text e)
 
 -- whether what is behind a name has a size
@@ -133,7 +133,7 @@ names_in (first ∷ names) = if bytes_eq first (codes "--spans") then names else
 pub record RunsWith (known : Option Files) (arguments : List (List ℕ)) (old new : Option (List ℕ)) (status : ℕ) : Type 0 where
   pub refused : Bool
   pub lines : WritesEach (WritesOne (wants_spans arguments) known) (names_in arguments) old new refused
-  pub ends : status ≡ status_of (length (names_in arguments)) refused
+  pub ends : status ≡ exit_status (length (names_in arguments)) refused
 
 -- what the program ends with, by what the writing of the lines did
 abbrev pub exit_code : Result ℕ Error → ℕ

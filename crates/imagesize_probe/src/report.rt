@@ -1,8 +1,8 @@
 //! The line about one image.
 ghost use Rattle.std.specs.Prelude.{◌≡◌, ◌++◌, IfOk, IfSome, IsSome, OnOk, true, false, is_ok};
 ghost use Rattle.std.specs.Io.KnownBytes.{Appends};
-ghost use Rattle.imagesize_probe.specs.Line.{line, sized_line, refused_line, span_line, span_lines, Reports, ReportsSpans};
-ghost use Rattle.imagesize_probe.specs.Status.{status_of};
+ghost use Rattle.imagesize_probe.specs.Line.{answer_line, sized_line, refused_line, span_line, span_lines, Reports, ReportsSpans};
+ghost use Rattle.imagesize_probe.specs.Status.{exit_status};
 ghost use Rattle.imagesize_source.specs.Reason.{error_text};
 
 use imagesize::{
@@ -48,7 +48,7 @@ fn write_trace<A: Allocator, W: Write>(
     writer: &mut W,
 ) -> io::Result<bool>
     requires typed { OnOk trace.answer (IsSome trace.kind) }
-    ensures lines { OnOk result (IfSome (line name.now trace.kind trace.answer)
+    ensures lines { OnOk result (IfSome (answer_line name.now trace.kind trace.answer)
         (λ text. Appends (W.contents writer.old) (W.contents writer.new) (text ++ span_lines trace.spans.items))) }
     ensures sized { IfOk result (λ sized. sized ≡ is_ok trace.answer) }
 {
@@ -88,7 +88,7 @@ fn write_line<W: Write>(
     writer: &mut W,
 ) -> io::Result<bool>
     requires typed { OnOk answer (IsSome kind) }
-    ensures line { OnOk result (IfSome (line name.now kind answer)
+    ensures line { OnOk result (IfSome (answer_line name.now kind answer)
         (Appends (W.contents writer.old) (W.contents writer.new))) }
     ensures sized { IfOk result (λ sized. sized ≡ is_ok answer) }
 {
@@ -126,7 +126,7 @@ pub fn write_refusal<W: Write>(name: &str, error: &ImageError, writer: &mut W) -
 
 /// What the program ends with behind so many files: 0 where each was sized.
 pub fn status(files: usize, refused: bool) -> u8
-    ensures { result ≡ status_of files refused }
+    ensures { result ≡ exit_status files refused }
 {
     match (files, refused) {
         (0, _) => 2,

@@ -1,10 +1,6 @@
 -- What a reader that stands around another one tells and does.
-use Rattle.std.specs.Prelude.{◌≡◌, ℕ, zero, suc, ◌+◌, ◌≤◌, List, length, true, false, Option, None, Some, Result, Ok, Err, option_map}
+use Rattle.std.specs.Prelude.{◌≡◌, ℕ, zero, suc, ◌+◌, ◌≤◌, List, length, false, Option, None, Some, Result, Ok, Err, option_map}
 use Rattle.imagesize_io.specs.Telling.{Telling, at_place}
-
--- what is told of a reader each of whose calls may also fail
-abbrev pub may_fail : Option Telling → Option Telling
-may_fail told = option_map {T = Telling} (λ t. record t { can_fail = true }) told
 
 -- what is told of a reader of which so many more reads may be interrupted
 abbrev pub interrupted_more : ℕ → Option Telling → Option Telling

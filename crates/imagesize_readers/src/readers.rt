@@ -1,8 +1,8 @@
 //! Readers that do what few files do.
 ghost use Rattle.std.specs.Prelude.{◌≡◌, ◌≢◌, ℕ, pos, zero, ◌+◌, ◌-◌, ◌%◌, ◌^◌, ◌<◌, ◌≤◌, min, length, slice_get, Option, None, Some, Ok, Err, IfOk, IfErr, IsErr, true, false, not};
 ghost use Rattle.std.specs.Io.Cursor.{cursor_inner, cursor_position};
-ghost use Rattle.imagesize_io.specs.Telling.{ReadTells, SeekTells, counted};
-ghost use Rattle.imagesize_readers.specs.Readers.{may_fail, interrupted_more, halting_telling, StandsAt, StandsAtEnd, failure_at, left_after};
+ghost use Rattle.imagesize_io.specs.Telling.{ReadTells, SeekTells, counted, may_fail};
+ghost use Rattle.imagesize_readers.specs.Readers.{interrupted_more, halting_telling, StandsAt, StandsAtEnd, failure_at, left_after};
 
 use imagesize_io::{Stop, Told};
 use std::io::{self, Cursor, ErrorKind, SeekFrom};

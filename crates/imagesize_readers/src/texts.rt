@@ -1,6 +1,6 @@
 //! A text is the same over a slice and over a reader, which takes none of the bytes behind it.
 
-use imagesize_io::reader::{ReaderSource, open};
+use imagesize_io::reader::{Origin, ReaderSource, open};
 use imagesize_source::Text;
 use imagesize_source::source::Source;
 use imagesize_source::source::slice::SliceSource;
@@ -22,7 +22,7 @@ fn check_text(
     let count = SliceSource { bytes }.read_text(place, text, &mut room[..most])?;
     assert_eq!(rt; &room[..count], expected);
     let mut reader = Cursor::new(bytes);
-    let opened = open(&mut reader)?;
+    let opened = open(&mut reader, Origin::Start)?;
     let mut source = ReaderSource::new(&mut reader, opened.told);
     let mut other = [0u8; 16];
     let read = source.read_text(place, text, &mut other[..most])?;

@@ -4,8 +4,8 @@ use Rattle.imagesize_source.specs.declared.error.ImageError.{ImageError}
 use Rattle.imagesize_source.specs.declared.span.Span.{Span}
 use Rattle.imagesize_source.specs.Chain.{Said, Decided, Next, Chain, Advances}
 use Rattle.imagesize_source.specs.Input.{span_of}
-use Rattle.imagesize_source.specs.Layout.{Layout, done, refuse, field, reading, over}
-use Rattle.imagesize_source.specs.Reading.{Reads, Reading, AllOf, PartOf, TextOf, onward, number_at, read_of}
+use Rattle.imagesize_source.specs.Layout.{Layout, done, refuse, field, reading, layout_reads}
+use Rattle.imagesize_source.specs.Reading.{Reads, Reading, AllOf, PartOf, TextOf, go_on, number_at, read_of}
 use Rattle.imagesize_source.proofs.Extension.{bytes_ok, number_ok}
 use Rattle.imagesize_source.proofs.Runs.{part_is, part_length}
 use Rattle.imagesize_source.proofs.Counts.{text_length}
@@ -33,18 +33,18 @@ Begins q (field order place k f) = (q ≤ place) × (0 < k)
 Begins q (reading r place f) = (q ≤ place) × OrSome r (Tells (λ _. ⊥) (f []))
 
 onward_tells : {C X Y : Type 0} (P : Type 0) (spans : List Span) (r : Result Y ImageError) (f : Y → Reads (Said C X)) (s : Said C X)
-    → (onward spans r f).answer ≡ Ok s → ((y : Y) → r ≡ Ok y → (f y).answer ≡ Ok s → P) → P
+    → (go_on spans r f).answer ≡ Ok s → ((y : Y) → r ≡ Ok y → (f y).answer ≡ Ok s → P) → P
 onward_tells P spans (Ok y) f s is each = each y refl is
 onward_tells P spans (Err e) f s is each = absurd cc
 
 pub tells : {C X : Type 0} (P : ℕ → Type 0) (d : List ℕ) (t : Layout (Said C X)) (v : C) (q : ℕ) → Tells P t
-    → (over d t).answer ≡ Ok (Next v q) → P q
+    → (layout_reads d t).answer ≡ Ok (Next v q) → P q
 tells P d (done (Decided x)) v q h is = absurd cc
 tells P d (done (Next w place)) v q h is = let same : place ≡ q = cc in subst P same h
 tells P d (refuse e) v q h is = absurd cc
-tells P d (field order place k f) v q h is = onward_tells (P q) (span_of d place k) (number_at d order place k) (λ n. over d (f n))
+tells P d (field order place k f) v q h is = onward_tells (P q) (span_of d place k) (number_at d order place k) (λ n. layout_reads d (f n))
     (Next v q) is (λ n _ got. tells P d (f n) v q (h n) got)
-tells P d (reading r place f) v q h is = onward_tells (P q) (read_of d r place).marks (read_of d r place).answer (λ bs. over d (f bs))
+tells P d (reading r place f) v q h is = onward_tells (P q) (read_of d r place).marks (read_of d r place).answer (λ bs. layout_reads d (f bs))
     (Next v q) is (λ bs _ got. tells P d (f bs) v q (h bs) got)
 
 -- where a reading gives a byte, there was one
@@ -57,18 +57,18 @@ some_byte d (TextOf t k) place [] h none is = absurd (none refl h)
 some_byte d (TextOf t k) place (b ∷ bs) h none is = omega (arith, text_length d t place k, part_length d place k, ap length (part_is is))
 
 -- where a layout tells a next place, there was a byte
-begins : {C X : Type 0} (d : List ℕ) (t : Layout (Said C X)) (v : C) (q p : ℕ) → Begins q t → (over d t).answer ≡ Ok (Next v p)
+begins : {C X : Type 0} (d : List ℕ) (t : Layout (Said C X)) (v : C) (q p : ℕ) → Begins q t → (layout_reads d t).answer ≡ Ok (Next v p)
     → q < length d
 begins d (done (Decided x)) v q p h is = absurd cc
 begins d (done (Next w place)) v q p h is = absurd h
 begins d (refuse e) v q p h is = absurd cc
 begins d (field order place k f) v q p h is = onward_tells (q < length d) (span_of d place k) (number_at d order place k)
-    (λ n. over d (f n)) (Next v p) is (λ n got _. let here = h.0 in let some = h.1 in let all = number_ok d order place k n got in
+    (λ n. layout_reads d (f n)) (Next v p) is (λ n got _. let here = h.0 in let some = h.1 in let all = number_ok d order place k n got in
     omega arith)
 begins d (reading r place f) v q p h is = onward_tells (q < length d) (read_of d r place).marks (read_of d r place).answer
-    (λ bs. over d (f bs)) (Next v p) is
+    (λ bs. layout_reads d (f bs)) (Next v p) is
     (λ bs got told. let below = some_byte d r place bs h.1 (λ none nothing. tells (λ _. ⊥) d (f []) v p nothing
-    (sym (ap (λ bs. (over d (f bs)).answer) none) ∙ told)) got in omega (arith, h.0))
+    (sym (ap (λ bs. (layout_reads d (f bs)).answer) none) ∙ told)) got in omega (arith, h.0))
 
 -- A chain advances, whose records each begin at their place or behind it and tell only greater places.
 pub advances : {C X : Type 0} (c : Chain C X) → ((held : List C) (place : ℕ) → Tells (λ p. place < p) (c.said held place))

@@ -5,30 +5,30 @@ use Rattle.std.proofs.Math.Seq.{take-append_seam}
 use Rattle.std.proofs.lemmas.Bool.Decides.{nat_tests}
 use Rattle.imagesize_source.specs.declared.error.ImageError.{ImageError}
 use Rattle.imagesize_source.specs.declared.span.Span.{Span}
-use Rattle.imagesize_source.specs.declared.util.Endian.{Endian}
+use Rattle.imagesize_source.specs.declared.endian.Endian.{Endian}
 use Rattle.std.proofs.lemmas.Bool.{cases_lt}
 use Rattle.imagesize_source.specs.Counts.{AtMost, CostsBy}
-use Rattle.imagesize_source.specs.Agreement.{Agrees, Alike, Local, Parting, has_place, covered}
+use Rattle.imagesize_source.specs.Agreement.{Agrees, Alike, IsLocal, Parting, has_place, is_covered}
 use Rattle.imagesize_source.specs.Input.{part, span_at, span_of}
-use Rattle.imagesize_source.specs.Layout.{Layout, done, refuse, field, reading, over}
+use Rattle.imagesize_source.specs.Layout.{Layout, done, refuse, field, reading, layout_reads}
 use Rattle.imagesize_source.specs.Numbers.{number}
 use Rattle.imagesize_source.specs.declared.text.Text.{Text}
 use Rattle.imagesize_source.specs.Text.{text_front}
 use Rattle.imagesize_source.proofs.Texts.{front_first, front_length, front_same, front_take}
 use Rattle.imagesize_source.proofs.Runs.{part_length, marks_onward}
-use Rattle.imagesize_source.specs.Reading.{Reads, Reading, AllOf, PartOf, TextOf, onward, behind, and_then, bytes_at, bytes_read, number_at, number_read, text_part, read_of, seen}
+use Rattle.imagesize_source.specs.Reading.{Reads, Reading, AllOf, PartOf, TextOf, go_on, put_behind, and_then, bytes_at, bytes_read, number_at, number_read, text_part, read_of, map_answer}
 
-pub covered-left : (s t : List Span) (place : ℕ) → covered s place ≡ true → covered (s ++ t) place ≡ true
+pub covered-left : (s t : List Span) (place : ℕ) → is_covered s place ≡ true → is_covered (s ++ t) place ≡ true
 covered-left [] t place h = absurd cc
 covered-left (x ∷ s) t place h =
-    let Goal : Bool → Type 0 = λ b. b || covered s place ≡ true → b || covered (s ++ t) place ≡ true in
+    let Goal : Bool → Type 0 = λ b. b || is_covered s place ≡ true → b || is_covered (s ++ t) place ≡ true in
     let cases : Goal (has_place x place) = elim (has_place x place) as Goal [ true ↦ λ _. refl | false ↦ covered-left s t place ] in
     cases h
 
-pub covered-right : (s t : List Span) (place : ℕ) → covered t place ≡ true → covered (s ++ t) place ≡ true
+pub covered-right : (s t : List Span) (place : ℕ) → is_covered t place ≡ true → is_covered (s ++ t) place ≡ true
 covered-right [] t place h = h
 covered-right (x ∷ s) t place h =
-    let Goal : Bool → Type 0 = λ b. b || covered (s ++ t) place ≡ true in
+    let Goal : Bool → Type 0 = λ b. b || is_covered (s ++ t) place ≡ true in
     elim (has_place x place) as Goal [ true ↦ refl | false ↦ covered-right s t place h ]
 
 -- what agrees on spans agrees on some of them
@@ -44,7 +44,7 @@ unfolding span_of
 same_span d e place k h = ap (λ n. span_at place (min k (n - place))) h
 
 -- a place of a span
-pub covered-one : (place n i : ℕ) → i < n → covered (span_at place n) (place + i) ≡ true
+pub covered-one : (place n i : ℕ) → i < n → is_covered (span_at place n) (place + i) ≡ true
 unfolding span_at
 covered-one place zero i h = absurd (omega arith)
 covered-one place (suc n) i h = grind (arith, nat_tests)
@@ -93,7 +93,7 @@ same_bytes d e place k a = rw (a.as_long, same_part d e place k a) refl
 pub same_number : (d e : List ℕ) (order : Endian) (place k : ℕ) → Agrees d e (span_of d place k) → number_at e order place k
     ≡ number_at d order place k
 unfolding number_at
-same_number d e order place k a = ap (seen (number order)) (same_bytes d e place k a)
+same_number d e order place k a = ap (map_answer (number order)) (same_bytes d e place k a)
 
 -- the same of a text, which sees no more than its own bytes
 same_text : (d e : List ℕ) (t : Text) (place k : ℕ) → Agrees d e (span_at place (length (text_part d t place k))) → text_part e t place k
@@ -116,50 +116,50 @@ same_reading d e (TextOf t k) place a = ap (λ bs. record { answer = Ok bs; mark
 
 -- what goes on from an answer rests on its spans
 pub agrees_first : {d e : List ℕ} {X Y : Type 0} (spans : List Span) (r : Result X ImageError) (f : X → Reads Y)
-    → Agrees d e (onward spans r f).marks → Agrees d e spans
+    → Agrees d e (go_on spans r f).marks → Agrees d e spans
 agrees_first spans (Ok x) f a = agrees-left spans (f x).marks a
 agrees_first spans (Err e) f a = a
 
 -- what goes on is the same, where it is so behind each answer
 pub onward_local : {d e : List ℕ} {X Y : Type 0} (spans : List Span) (r : Result X ImageError) (f g : X → Reads Y)
-    → Agrees d e (onward spans r f).marks → ((x : X) → Agrees d e (f x).marks → g x ≡ f x) → onward spans r g ≡ onward spans r f
-onward_local spans (Ok x) f g a same = ap (behind spans) (same x (agrees-right spans (f x).marks a))
+    → Agrees d e (go_on spans r f).marks → ((x : X) → Agrees d e (f x).marks → g x ≡ f x) → go_on spans r g ≡ go_on spans r f
+onward_local spans (Ok x) f g a same = ap (put_behind spans) (same x (agrees-right spans (f x).marks a))
 onward_local spans (Err e) f g a same = refl
 
 -- Locality: an input that agrees on the marks of a layout has the same answer and the same marks.
-pub local : {X : Type 0} (d e : List ℕ) (t : Layout X) → Agrees d e (over d t).marks → over e t ≡ over d t
+pub local : {X : Type 0} (d e : List ℕ) (t : Layout X) → Agrees d e (layout_reads d t).marks → layout_reads e t ≡ layout_reads d t
 local d e (done x) a = refl
 local d e (refuse x) a = refl
 local d e (field order place k f) a =
-    let here : Agrees d e (span_of d place k) = agrees_first (span_of d place k) (number_at d order place k) (λ v. over d (f v)) a in
+    let here : Agrees d e (span_of d place k) = agrees_first (span_of d place k) (number_at d order place k) (λ v. layout_reads d (f v)) a in
     rw (same_span d e place k here.as_long, same_number d e order place k here)
-    (onward_local (span_of d place k) (number_at d order place k) (λ v. over d (f v)) (λ v. over e (f v)) a (λ v. local d e (f v)))
+    (onward_local (span_of d place k) (number_at d order place k) (λ v. layout_reads d (f v)) (λ v. layout_reads e (f v)) a (λ v. local d e (f v)))
 local d e (reading r place f) a =
     let here : Agrees d e (read_of d r place).marks = agrees_first (read_of d r place).marks (read_of d r place).answer
-    (λ bs. over d (f bs)) a in
+    (λ bs. layout_reads d (f bs)) a in
     rw (same_reading d e r place here)
-    (onward_local (read_of d r place).marks (read_of d r place).answer (λ bs. over d (f bs)) (λ bs. over e (f bs)) a
+    (onward_local (read_of d r place).marks (read_of d r place).answer (λ bs. layout_reads d (f bs)) (λ bs. layout_reads e (f bs)) a
     (λ bs. local d e (f bs)))
 
 -- ---- where two inputs part
 
 -- some span has a place that one of them has
 pub covered_one_of : (before : List Span) (mark : Span) (rest : List Span) (place : ℕ) → has_place mark place ≡ true
-    → covered (before ++ mark ∷ rest) place ≡ true
-covered_one_of [] mark rest place is = ap (λ b. b || covered rest place) is
+    → is_covered (before ++ mark ∷ rest) place ≡ true
+covered_one_of [] mark rest place is = ap (λ b. b || is_covered rest place) is
 covered_one_of (x ∷ before) mark rest place is =
-    let Goal : Bool → Type 0 = λ b. b || covered (before ++ mark ∷ rest) place ≡ true in
+    let Goal : Bool → Type 0 = λ b. b || is_covered (before ++ mark ∷ rest) place ≡ true in
     elim (has_place x place) as Goal [ true ↦ refl | false ↦ covered_one_of before mark rest place is ]
 
 -- inputs that agree do not part
 pub same_by_alike : {texts : Bool} {X : Type 0} (d e : List ℕ) (p q : Reads X) → Alike texts d e p q → Agrees d e p.marks → q ≡ p
 same_by_alike d e p q alike a = elim alike [
   | inl same ↦ same
-  | inr parts ↦ absurd (parts.differs (a.same_byte parts.place (subst (λ s. covered s parts.place ≡ true) (sym parts.here)
+  | inr parts ↦ absurd (parts.differs (a.same_byte parts.place (subst (λ s. is_covered s parts.place ≡ true) (sym parts.here)
       (covered_one_of parts.seen parts.mark parts.rest parts.place parts.within))))
 ]
 
-pub same_by_local : {texts : Bool} {X : Type 0} (r : List ℕ → Reads X) → Local texts r → (d e : List ℕ) → Agrees d e (r d).marks
+pub same_by_local : {texts : Bool} {X : Type 0} (r : List ℕ → Reads X) → IsLocal texts r → (d e : List ℕ) → Agrees d e (r d).marks
     → r e ≡ r d
 same_by_local r is_local d e a = same_by_alike d e (r d) (r e) (is_local d e a.as_long) a
 
@@ -261,7 +261,7 @@ bytes_made d e place k long same = rw (long, same) refl
 number_made : (d e : List ℕ) (order : Endian) (place k : ℕ) → length e ≡ length d → part e place k ≡ part d place k
     → number_at e order place k ≡ number_at d order place k
 unfolding number_at
-number_made d e order place k long same = ap (seen (number order)) (bytes_made d e place k long same)
+number_made d e order place k long same = ap (map_answer (number order)) (bytes_made d e place k long same)
 
 -- a text is the same, or the inputs part within both
 alike_text : {texts : Bool} (d e : List ℕ) (t : Text) (place k : ℕ) → texts ≡ true → length e ≡ length d
@@ -417,42 +417,42 @@ alike_then d e p q f g (inr parts) rest =
 alike_then {texts} {X} {Y} d e p q f g (inl same) rest =
     subst (λ w. Alike texts d e (and_then p f) (and_then w g)) (sym same) (by_answer p.answer refl)
   where
-    by_answer : (r : Result X ImageError) → p.answer ≡ r → Alike texts d e (onward p.marks r f) (onward p.marks r g)
+    by_answer : (r : Result X ImageError) → p.answer ≡ r → Alike texts d e (go_on p.marks r f) (go_on p.marks r g)
     by_answer (Err x) is = inl refl
     by_answer (Ok x) is = elim (rest x is (ap (λ w. w.answer) same ∙ is)) [
-      | inl rest_same ↦ inl (ap (behind p.marks) rest_same)
+      | inl rest_same ↦ inl (ap (put_behind p.marks) rest_same)
       | inr parts ↦ inr (parting_behind p.marks parts)
     ]
 
 -- a layout is local
 pub alike_layout : {texts : Bool} {X : Type 0} (d e : List ℕ) (t : Layout X) → AllRead texts t → length e ≡ length d
-    → Alike texts d e (over d t) (over e t)
+    → Alike texts d e (layout_reads d t) (layout_reads e t)
 alike_layout d e (done x) read long = inl refl
 alike_layout d e (refuse x) read long = inl refl
 alike_layout d e (field order place k f) read long = alike_then d e (number_read d order place k) (number_read e order place k)
-    (λ v. over d (f v)) (λ v. over e (f v))
+    (λ v. layout_reads d (f v)) (λ v. layout_reads e (f v))
     (alike_made (λ x p. number_at x order p k) d e place k long (number_made d e order place k long))
     (λ v is also. alike_layout d e (f v) (read v) long)
-alike_layout d e (reading r place f) read long = alike_then d e (read_of d r place) (read_of e r place) (λ bs. over d (f bs))
-    (λ bs. over e (f bs)) (alike_reading d e r place read.0 long) (λ bs is also. alike_layout d e (f bs) (read.1 bs) long)
+alike_layout d e (reading r place f) read long = alike_then d e (read_of d r place) (read_of e r place) (λ bs. layout_reads d (f bs))
+    (λ bs. layout_reads e (f bs)) (alike_reading d e r place read.0 long) (λ bs is also. alike_layout d e (f bs) (read.1 bs) long)
 
-pub local_layout : {texts : Bool} {X : Type 0} (t : Layout X) → AllRead texts t → Local texts (λ d. over d t)
+pub local_layout : {texts : Bool} {X : Type 0} (t : Layout X) → AllRead texts t → IsLocal texts (λ d. layout_reads d t)
 local_layout t read d e long = alike_layout d e t read long
 
 -- readings behind readings
-pub local_then : {texts : Bool} {X Y : Type 0} (r : List ℕ → Reads X) (f : X → List ℕ → Reads Y) → Local texts r
-    → ((x : X) → Local texts (f x)) → Local texts (λ d. and_then (r d) (λ x. f x d))
+pub local_then : {texts : Bool} {X Y : Type 0} (r : List ℕ → Reads X) (f : X → List ℕ → Reads Y) → IsLocal texts r
+    → ((x : X) → IsLocal texts (f x)) → IsLocal texts (λ d. and_then (r d) (λ x. f x d))
 local_then r f first rest d e long = alike_then d e (r d) (r e) (λ x. f x d) (λ x. f x e) (first d e long)
     (λ x is also. rest x d e long)
 
 -- readings that take the length of the input
-pub local_length : {texts : Bool} {X : Type 0} (f : ℕ → List ℕ → Reads X) → ((n : ℕ) → Local texts (f n))
-    → Local texts (λ d. f (length d) d)
+pub local_length : {texts : Bool} {X : Type 0} (f : ℕ → List ℕ → Reads X) → ((n : ℕ) → IsLocal texts (f n))
+    → IsLocal texts (λ d. f (length d) d)
 local_length {texts} f each d e long = subst (λ n. Alike texts d e (f (length d) d) (f n e)) (sym long) (each (length d) d e long)
 
 -- one number is local, and bytes are
-pub local_number : {texts : Bool} (order : Endian) (place k : ℕ) → Local texts (λ d. number_read d order place k)
+pub local_number : {texts : Bool} (order : Endian) (place k : ℕ) → IsLocal texts (λ d. number_read d order place k)
 local_number order place k d e long = alike_made (λ x p. number_at x order p k) d e place k long (number_made d e order place k long)
 
-pub local_bytes : {texts : Bool} (place k : ℕ) → Local texts (λ d. bytes_read d place k)
+pub local_bytes : {texts : Bool} (place k : ℕ) → IsLocal texts (λ d. bytes_read d place k)
 local_bytes place k d e long = alike_made (λ x p. bytes_at x p k) d e place k long (bytes_made d e place k long)

@@ -5,11 +5,11 @@ use Rattle.std.proofs.lemmas.Bool.Decides.{nat_tests}
 use Rattle.std.proofs.lemmas.List.{get_or-take, get_or-drop}
 use Rattle.imagesize_source.specs.declared.error.ImageError.{ImageError}
 use Rattle.imagesize_source.specs.declared.span.Span.{Span}
-use Rattle.imagesize_source.specs.declared.util.Endian.{Endian}
-use Rattle.imagesize_source.specs.declared.util.Endian.TheVariants.{Big}
+use Rattle.imagesize_source.specs.declared.endian.Endian.{Endian}
+use Rattle.imagesize_source.specs.declared.endian.Endian.TheVariants.{Big}
 use Rattle.imagesize_source.specs.Input.{part}
 use Rattle.imagesize_source.specs.Numbers.{number}
-use Rattle.imagesize_source.specs.Reading.{Reads, onward, behind, bytes_at, number_at}
+use Rattle.imagesize_source.specs.Reading.{Reads, go_on, put_behind, bytes_at, number_at}
 use Rattle.imagesize_source.proofs.Extension.{bytes_ok, number_ok}
 use Rattle.imagesize_source.proofs.Runs.{part_length}
 
@@ -57,7 +57,7 @@ big_pair d place v is =
 
 -- what holds behind an answer and behind a refusal holds of what goes on
 pub on_answer : {X Y : Type 0} (P : Reads Y → Type 0) (spans : List Span) (r : Result X ImageError) (f : X → Reads Y)
-    → ((x : X) → r ≡ Ok x → P (behind spans (f x))) → ((e : ImageError) → r ≡ Err e → P (record { answer = Err e; marks = spans }))
-    → P (onward spans r f)
+    → ((x : X) → r ≡ Ok x → P (put_behind spans (f x))) → ((e : ImageError) → r ≡ Err e → P (record { answer = Err e; marks = spans }))
+    → P (go_on spans r f)
 on_answer P spans (Ok x) f answered refused = answered x refl
 on_answer P spans (Err e) f answered refused = refused e refl

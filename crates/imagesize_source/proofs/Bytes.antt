@@ -1,7 +1,7 @@
 -- Numbers within bytes.
 use Rattle.std.proofs.Common.{◌≡◌, ℕ, ◌≤◌, List, [], ◌∷◌, length, take, drop, slice_index_or, refl, arith}
 use Rattle.std.specs.Int.{w16, w32, from_be_bytes}
-use Rattle.imagesize_source.specs.declared.util.Endian.TheVariants.{Big}
+use Rattle.imagesize_source.specs.declared.endian.Endian.TheVariants.{Big}
 use Rattle.imagesize_source.specs.Numbers.{number}
 use Rattle.imagesize_source.proofs.Numbers.{Eight, are_eight, eight, big_2, big_4}
 

@@ -2,11 +2,11 @@
 use Rattle.std.proofs.Common.{Bool, ◌≡◌, ℕ, zero, suc, ◌+◌, ◌*◌, ◌<◌, ◌≤◌, List, [], ◌∷◌, ◌++◌, length, Some, Result, Ok, Err, inl, refl, sym, ap, ◌∙◌, subst, arith}
 use Rattle.std.proofs.Math.Nat.{mul-add}
 use Rattle.imagesize_source.specs.declared.error.ImageError.{ImageError}
-use Rattle.imagesize_source.specs.Agreement.{Agrees, Alike, Local}
+use Rattle.imagesize_source.specs.Agreement.{Agrees, Alike, IsLocal}
 use Rattle.imagesize_source.specs.Chain.{Said, Decided, Next, Chain, Along, start, next_record, verdict, records_from, records, chain_from, chain_at, Advances}
 use Rattle.imagesize_source.specs.Counts.{AtMost}
 use Rattle.imagesize_source.specs.Extension.{Plain, Lasts}
-use Rattle.imagesize_source.specs.Reading.{and_then, behind}
+use Rattle.imagesize_source.specs.Reading.{and_then, put_behind}
 use Rattle.imagesize_source.specs.State.{total}
 use Rattle.imagesize_source.proofs.Chains.{chain_unfolds, follows, chain_next, chain_stop, records_next, records_stop}
 use Rattle.imagesize_source.proofs.Agreement.{AllRead, alike_layout, alike_then, local, agrees-left, agrees-right}
@@ -52,7 +52,7 @@ module _ {C X : Type 0} (c : Chain C X) (d e : List ℕ) (adv : Advances c d) (a
       all) in
       let is_e : (next_record c e t).answer ≡ Ok (Next v place) = ap (λ w. w.answer) here ∙ is in
       let rest = later (agrees-right (next_record c d t).marks (chain_from c d u).marks all) in (
-        chain_next c e t v place adv_e is_e ∙ ap (λ w. behind w.marks (chain_from c e u)) here ∙ ap (behind (next_record c d t).marks)
+        chain_next c e t v place adv_e is_e ∙ ap (λ w. put_behind w.marks (chain_from c e u)) here ∙ ap (put_behind (next_record c d t).marks)
             rest.0 ∙ sym (chain_next c d t v place adv is),
         records_next c e t v place adv_e is_e ∙ ap (λ n. n + 1) rest.1 ∙ sym (records_next c d t v place adv is),
       ))
@@ -73,7 +73,7 @@ said_is e = cc
 
 -- a chain that advances is local
 pub local_chain : {texts : Bool} {C X : Type 0} (c : Chain C X) → ((d : List ℕ) → Advances c d)
-    → ((held : List C) (place : ℕ) → AllRead texts (c.said held place)) → Local texts (λ d. chain_at c d)
+    → ((held : List C) (place : ℕ) → AllRead texts (c.said held place)) → IsLocal texts (λ d. chain_at c d)
 local_chain {texts} {C} {X} c adv read d e long = chain_induction c d P (adv d) on last (start c) where
   P : Along C → Type 0
   P t = Alike texts d e (chain_from c d t) (chain_from c e t)
@@ -156,8 +156,8 @@ module _ {C X : Type 0} (c : Chain C X) (d x : List ℕ) (adv : Advances c d) (a
       let here : next_record c (d ++ x) t ≡ next_record c d t = each t (Next v place) is in
       let is_more : (next_record c (d ++ x) t).answer ≡ Ok (Next v place) = ap (λ w. w.answer) here ∙ is in
       let rest = later y (sym (ap (λ w. w.answer) (chain_next c d t v place adv is)) ∙ ok) in (
-        chain_next c (d ++ x) t v place adv_more is_more ∙ ap (λ w. behind w.marks (chain_from c (d ++ x) u)) here
-            ∙ ap (behind (next_record c d t).marks) rest.0 ∙ sym (chain_next c d t v place adv is),
+        chain_next c (d ++ x) t v place adv_more is_more ∙ ap (λ w. put_behind w.marks (chain_from c (d ++ x) u)) here
+            ∙ ap (put_behind (next_record c d t).marks) rest.0 ∙ sym (chain_next c d t v place adv is),
         records_next c (d ++ x) t v place adv_more is_more ∙ ap (λ n. n + 1) rest.1 ∙ sym (records_next c d t v place adv is),
       ))
       (λ t r is y ok.

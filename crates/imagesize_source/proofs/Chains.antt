@@ -7,7 +7,7 @@ use Rattle.std.specs.List.{position_or_len, range_with_len}
 use Rattle.std.specs.Option.{option_map_or}
 use Rattle.imagesize_source.specs.declared.error.ImageError.{ImageError}
 use Rattle.imagesize_source.specs.Chain.{Said, Decided, Next, Chain, Along, next_record, leads, verdict, trail, verdict_of, marks_of, deciding, records_from, chain_from, Advances}
-use Rattle.imagesize_source.specs.Reading.{Reads, behind, onward, and_then, gives, end_of_input}
+use Rattle.imagesize_source.specs.Reading.{Reads, put_behind, go_on, and_then, gives, end_of_input}
 
 -- a list of numbers one higher
 flat_map_shift : {A : Type 0} (f g : ℕ → List A) (a k : ℕ) → ((i : ℕ) → f (i + 1) ≡ g i) → flat_map f (range_with_len (a + 1) k)
@@ -112,13 +112,13 @@ module _ {C X : Type 0} (c : Chain C X) (d : List ℕ) where
 
   -- a record that tells the place of the next: its marks, and the chain from there on
   pub chain_next : (t : Along C) (v : C) (place : ℕ) → Advances c d → (next_record c d t).answer ≡ Ok (Next v place)
-      → chain_from c d t ≡ behind (next_record c d t).marks (chain_from c d (record { held = t.held ++ v ∷ []; place = place }))
+      → chain_from c d t ≡ put_behind (next_record c d t).marks (chain_from c d (record { held = t.held ++ v ∷ []; place = place }))
   unfolding chain_from
   chain_next t v place adv is =
       let u : Along C = record { held = t.held ++ v ∷ []; place = place } in
       let led : leads t.held (next_record c d t).answer ≡ Some u = ap (leads t.held) is in
       let one = deciding_next t u adv led (ap (λ r. is_some (verdict r)) is) (adv t v place is).0 (adv t v place is).1 in
-      same_reads (chain_from c d t) (behind (next_record c d t).marks (chain_from c d u))
+      same_reads (chain_from c d t) (put_behind (next_record c d t).marks (chain_from c d u))
       (ap (λ o. unwrap_or o (Err end_of_input)) (ap (verdict_of c d t) one ∙ verdict_next t u (deciding c d u) led))
       (marks_first t (deciding c d t) ∙ ap (λ m. (next_record c d t).marks ++ m)
       (ap (λ n. flat_map (marks_of c d t) (range_with_len 1 n)) one ∙ flat_map_shift (marks_of c d t) (marks_of c d u) 0
@@ -152,7 +152,7 @@ module _ {C X : Type 0} (c : Chain C X) (d : List ℕ) where
   follows held (Next v place) = chain_from c d (record { held = held ++ v ∷ []; place = place })
 
   unfolds_by : (t : Along C) (r : Result (Said C X) ImageError) → Advances c d → (next_record c d t).answer ≡ r
-      → chain_from c d t ≡ onward (next_record c d t).marks r (follows t.held)
+      → chain_from c d t ≡ go_on (next_record c d t).marks r (follows t.held)
   unfolds_by t (Ok (Decided x)) adv is = chain_stop t (Ok x) (ap verdict is) ∙ ap (λ m. record { answer = Ok x; marks = m })
       (sym (append-nil (next_record c d t).marks))
   unfolds_by t (Ok (Next v place)) adv is = chain_next t v place adv is

@@ -4,9 +4,9 @@ use Rattle.imagesize_source.specs.Counts.{AtMost, CostsBy, IfBytes, IfRefused}
 use Rattle.imagesize_source.specs.declared.error.ImageError.{ImageError}
 use Rattle.imagesize_source.specs.declared.span.Span.{Span}
 use Rattle.imagesize_source.specs.Input.{span_of}
-use Rattle.imagesize_source.specs.Layout.{Layout, over, bind}
+use Rattle.imagesize_source.specs.Layout.{Layout, layout_reads, bind}
 use Rattle.imagesize_source.specs.Layout.Layout.{«done», refuse, field, reading}
-use Rattle.imagesize_source.specs.Reading.{Reads, Reading, AllOf, PartOf, TextOf, onward, number_at, read_of, most}
+use Rattle.imagesize_source.specs.Reading.{Reads, Reading, AllOf, PartOf, TextOf, go_on, number_at, read_of, most}
 use Rattle.imagesize_source.specs.State.{total}
 use Rattle.imagesize_source.proofs.Counts.{of_bytes, total-span_of, total_reading}
 use Rattle.imagesize_source.proofs.Runs.{total-append}
@@ -40,18 +40,18 @@ both Few (TextOf t k) few p q = absurd few
 
 onward_costs : {X Y : Type 0} (f : Y → ℕ) (e u n : ℕ) (spans : List Span) (r : Result X ImageError) (g : X → Reads Y) → total spans ≤ n
     → ((x : ImageError) → r ≡ Err x → u + n ≤ e) → ((x : X) → u + n + total (g x).marks ≤ bound_of f e (g x).answer)
-    → u + total (onward spans r g).marks ≤ bound_of f e (onward spans r g).answer
+    → u + total (go_on spans r g).marks ≤ bound_of f e (go_on spans r g).answer
 onward_costs f e u n spans (Ok x) g few enough next = omega (arith, next x, total-append spans (g x).marks)
 onward_costs f e u n spans (Err r) g few enough next = omega (arith, enough r refl)
 
-pub costs : {X : Type 0} (f : X → ℕ) (e u : ℕ) (d : List ℕ) (t : Layout X) → CostsBy f e u t → u + total (over d t).marks ≤ bound_of f e
-    (over d t).answer
+pub costs : {X : Type 0} (f : X → ℕ) (e u : ℕ) (d : List ℕ) (t : Layout X) → CostsBy f e u t → u + total (layout_reads d t).marks ≤ bound_of f e
+    (layout_reads d t).answer
 costs f e u d (done x) h = omega arith
 costs f e u d (refuse r) h = omega arith
-costs f e u d (field order place n g) h = onward_costs f e u n (span_of d place n) (number_at d order place n) (λ v. over d (g v))
+costs f e u d (field order place n g) h = onward_costs f e u n (span_of d place n) (number_at d order place n) (λ v. layout_reads d (g v))
     (total-span_of d place n) (λ _ _. h.0) (λ v. costs f e (u + n) d (g v) (h.1 v))
 costs f e u d (reading r place g) h = onward_costs f e u (most r) (read_of d r place).marks (read_of d r place).answer
-    (λ bs. over d (g bs)) (total_reading d r place) (λ x is. refused (u + most r ≤ e) ((bs : List ℕ) → CostsBy f e (u + most r) (g bs))
+    (λ bs. layout_reads d (g bs)) (total_reading d r place) (λ x is. refused (u + most r ≤ e) ((bs : List ℕ) → CostsBy f e (u + most r) (g bs))
     {e = x} d r place h is) (λ bs. costs f e (u + most r) d (g bs)
     (otherwise (u + most r ≤ e) ((bs : List ℕ) → CostsBy f e (u + most r) (g bs)) r h bs))
 

@@ -10,12 +10,12 @@ use Rattle.imagesize_source.proofs.Texts.{front_length}
 use Rattle.imagesize_source.specs.declared.error.ImageError.{ImageError}
 use Rattle.imagesize_source.specs.declared.span.Span.{Span}
 use Rattle.imagesize_source.specs.declared.text.Text.{Text}
-use Rattle.imagesize_source.specs.Agreement.{has_place, covered}
+use Rattle.imagesize_source.specs.Agreement.{has_place, is_covered}
 use Rattle.imagesize_source.specs.Counts.{places, AtMost, IfBytes}
 use Rattle.imagesize_source.specs.Input.{part, span_at, span_of}
-use Rattle.imagesize_source.specs.Layout.{Layout, done, refuse, field, reading, over, bind}
-use Rattle.imagesize_source.specs.Reading.{Reads, Reading, AllOf, PartOf, TextOf, and_then, onward, number_at, text_part, read_of, most}
-use Rattle.imagesize_source.specs.State.{State, past, step, total, fresh, front_after}
+use Rattle.imagesize_source.specs.Layout.{Layout, done, refuse, field, reading, layout_reads, bind}
+use Rattle.imagesize_source.specs.Reading.{Reads, Reading, AllOf, PartOf, TextOf, and_then, go_on, number_at, text_part, read_of, most}
+use Rattle.imagesize_source.specs.State.{State, state_after, step, total, new_bytes, front_after}
 
 total_unless : (b : Bool) (place n : ℕ) → (b ≡ true → n ≡ 0) → total (cond b [] (record { start = place; len = n } ∷ [])) ≡ n
 total_unless true place n h = sym (h refl)
@@ -67,21 +67,21 @@ if_bytes (PartOf k) f h = f h
 if_bytes (TextOf t k) f h = h
 
 onward_at_most : {X Y : Type 0} (spans : List Span) (r : Result X ImageError) (f : X → Reads Y) (n k : ℕ) → total spans ≤ n → n ≤ k
-    → ((x : X) → total (f x).marks ≤ k - n) → total (onward spans r f).marks ≤ k
+    → ((x : X) → total (f x).marks ≤ k - n) → total (go_on spans r f).marks ≤ k
 onward_at_most spans (Ok x) f n k here fits rest = let all = total-append spans (f x).marks in let more = rest x in omega arith
 onward_at_most spans (Err e) f n k here fits rest = omega arith
 
 -- a layout that asks for at most k bytes reads no more of any input
-pub at_most : {X : Type 0} (d : List ℕ) (k : ℕ) (t : Layout X) → AtMost k t → total (over d t).marks ≤ k
+pub at_most : {X : Type 0} (d : List ℕ) (k : ℕ) (t : Layout X) → AtMost k t → total (layout_reads d t).marks ≤ k
 at_most d k (done x) h = omega arith
 at_most d k (refuse e) h = omega arith
-at_most d k (field order place n f) h = onward_at_most (span_of d place n) (number_at d order place n) (λ v. over d (f v)) n k
+at_most d k (field order place n f) h = onward_at_most (span_of d place n) (number_at d order place n) (λ v. layout_reads d (f v)) n k
     (total-span_of d place n) h.0 (λ v. at_most d (k - n) (f v) (h.1 v))
-at_most d k (reading r place f) h = onward_at_most (read_of d r place).marks (read_of d r place).answer (λ bs. over d (f bs)) (most r) k
+at_most d k (reading r place f) h = onward_at_most (read_of d r place).marks (read_of d r place).answer (λ bs. layout_reads d (f bs)) (most r) k
     (total_reading d r place) (of_bytes r h).0 (λ bs. at_most d (k - most r) (f bs) ((of_bytes r h).1 bs))
 
 onward_within : {X Y : Type 0} (spans : List Span) (r : Result X ImageError) (f : X → Reads Y) (j k : ℕ) → total spans ≤ j
-    → ((x : X) → r ≡ Ok x → total (f x).marks ≤ k) → total (onward spans r f).marks ≤ j + k
+    → ((x : X) → r ≡ Ok x → total (f x).marks ≤ k) → total (go_on spans r f).marks ≤ j + k
 onward_within spans (Ok x) f j k one two = let all = total-append spans (f x).marks in let more = two x refl in omega arith
 onward_within spans (Err e) f j k one two = omega arith
 
@@ -152,13 +152,13 @@ count_span s a (suc n) =
     omega arith
 
 -- spans that have no place which others have not have no more places
-pub places_fewer : (n : ℕ) (s t : List Span) → ((place : ℕ) → covered s place ≡ true → covered t place ≡ true) → places n s ≤ places n t
-places_fewer n s t h = count_fewer (covered s) (covered t) (range_with_len 0 n) h
+pub places_fewer : (n : ℕ) (s t : List Span) → ((place : ℕ) → is_covered s place ≡ true → is_covered t place ≡ true) → places n s ≤ places n t
+places_fewer n s t h = count_fewer (is_covered s) (is_covered t) (range_with_len 0 n) h
 
 -- one more span has no more places than it is long
 pub places_more : (n : ℕ) (s : Span) (spans : List Span) → places n (s ∷ spans) ≤ s.len + places n spans
 places_more n s spans =
-    let both = count_or (has_place s) (covered spans) (range_with_len 0 n) in
+    let both = count_or (has_place s) (is_covered spans) (range_with_len 0 n) in
     let here = count_span s 0 n in omega arith
 
 -- the spans have no more places than they are long
@@ -176,7 +176,7 @@ step_covers : (front place n at : ℕ) → has_place (record { start = 0; len = 
     (record { start = place; len = n }) at ≡ true
     → has_place (record {
       start = max (front_after front place n) place;
-      len = fresh front place n - (front_after front place n - front);
+      len = new_bytes front place n - (front_after front place n - front);
     }) at || has_place (record { start = 0; len = front_after front place n }) at ≡ true
 step_covers front place n at h = grind (arith, nat_tests)
 
@@ -196,12 +196,12 @@ step_covers_all : (n : ℕ) (a : State) (s : Span) (spans : List Span) → a.fra
     + a.taken + (step a s).front ≤ places n (front_span (step a s) ∷ spans) + (step a s).taken + a.front
 step_covers_all n a s spans counts =
     let w : ℕ = front_after a.front s.start s.len in
-    let m : ℕ = fresh a.front s.start s.len in
+    let m : ℕ = new_bytes a.front s.start s.len in
     let more : Span = record { start = max w s.start; len = m - (w - a.front) } in
     let after : Span = record { start = 0; len = w } in
     let fewer : places n (front_span a ∷ s ∷ spans) ≤ places n (more ∷ after ∷ spans) =
     places_fewer n (front_span a ∷ s ∷ spans) (more ∷ after ∷ spans)
-    (λ at h. joined (has_place (front_span a) at) (has_place s at) (covered spans at) (has_place more at) (has_place after at)
+    (λ at h. joined (has_place (front_span a) at) (has_place s at) (is_covered spans at) (has_place more at) (has_place after at)
     (step_covers a.front s.start s.len at) h) in
     let one = places_more n more (after ∷ spans) in
     let grows : w - a.front ≤ m = grind (arith, nat_tests) in
@@ -210,16 +210,16 @@ step_covers_all n a s spans counts =
 
 -- what the front or the spans cover was taken
 pub covers_past : (n : ℕ) (a : State) (spans : List Span) → a.frame.counts ≡ true → places n (front_span a ∷ spans) + a.taken
-    ≤ (past a spans).taken + a.front
-unfolding past
+    ≤ (state_after a spans).taken + a.front
+unfolding state_after
 covers_past n a [] counts = let front = places_total n (front_span a ∷ []) in omega arith
 covers_past n a (s ∷ spans) counts =
     let here = step_covers_all n a s spans counts in let rest = covers_past n (step a s) spans counts in omega arith
 
 -- each place of the spans was taken, by a source that held nothing before
 pub places_past : (n : ℕ) (a : State) (spans : List Span) → a.frame.counts ≡ true → a.front ≡ 0 → places n spans + a.taken
-    ≤ (past a spans).taken
+    ≤ (state_after a spans).taken
 places_past n a spans counts none =
     let all = covers_past n a spans counts in
-    let fewer = places_fewer n spans (front_span a ∷ spans) (λ at h. or_right (has_place (front_span a) at) (covered spans at) h) in
+    let fewer = places_fewer n spans (front_span a ∷ spans) (λ at h. or_right (has_place (front_span a) at) (is_covered spans at) h) in
     omega arith

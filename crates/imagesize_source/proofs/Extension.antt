@@ -9,12 +9,12 @@ use Rattle.imagesize_source.specs.declared.text.Text.{Text}
 use Rattle.imagesize_source.specs.Text.{is_ended, text_front}
 use Rattle.imagesize_source.proofs.Runs.{part_is, part_length}
 use Rattle.imagesize_source.proofs.Texts.{front_all, front_any, front_more}
-use Rattle.imagesize_source.specs.declared.util.Endian.{Endian}
+use Rattle.imagesize_source.specs.declared.endian.Endian.{Endian}
 use Rattle.imagesize_source.specs.Input.{part, span_at, span_of}
-use Rattle.imagesize_source.specs.Layout.{Layout, done, refuse, field, reading, over}
+use Rattle.imagesize_source.specs.Layout.{Layout, done, refuse, field, reading, layout_reads}
 use Rattle.imagesize_source.specs.Numbers.{number}
 use Rattle.imagesize_source.specs.Extension.{Plain, Never, WhereCut}
-use Rattle.imagesize_source.specs.Reading.{Reads, and_then, number_read, Reading, AllOf, PartOf, TextOf, onward, behind, bytes_at, number_at, text_part, read_of, seen, end_of_input}
+use Rattle.imagesize_source.specs.Reading.{Reads, and_then, number_read, Reading, AllOf, PartOf, TextOf, go_on, put_behind, bytes_at, number_at, text_part, read_of, map_answer, end_of_input}
 
 -- bytes behind the input are not among those that are all there
 part_more : (d x : List ℕ) (place k : ℕ) → k ≤ length d - place → part (d ++ x) place k ≡ part d place k
@@ -40,7 +40,7 @@ pub bytes_ok : (d a : List ℕ) (place k : ℕ) → bytes_at d place k ≡ Ok a 
 unfolding bytes_at
 bytes_ok d a place k is = let test = enough (leb k (length d - place)) a (part d place k) is in grind (arith, nat_tests)
 
-seen_ok : (r : Result (List ℕ) ImageError) (order : Endian) (v : ℕ) → seen (number order) r ≡ Ok v → (bs : List ℕ) × (r ≡ Ok bs)
+seen_ok : (r : Result (List ℕ) ImageError) (order : Endian) (v : ℕ) → map_answer (number order) r ≡ Ok v → (bs : List ℕ) × (r ≡ Ok bs)
 seen_ok (Ok bs) order v is = (bs, refl)
 seen_ok (Err e) order v is = absurd cc
 
@@ -59,20 +59,20 @@ bytes_more d x place k h =
 number_more : (d x : List ℕ) (order : Endian) (place k : ℕ) → k ≤ length d - place → number_at (d ++ x) order place k ≡ number_at d order
     place k
 unfolding number_at
-number_more d x order place k h = ap (seen (number order)) (bytes_more d x place k h)
+number_more d x order place k h = ap (map_answer (number order)) (bytes_more d x place k h)
 
 -- a layout that is always refused has no answer
-onward_never : {X Y : Type 0} (spans : List Span) (r : Result X ImageError) (f : X → Reads Y) (y : Y) → (onward spans r f).answer ≡ Ok y
+onward_never : {X Y : Type 0} (spans : List Span) (r : Result X ImageError) (f : X → Reads Y) (y : Y) → (go_on spans r f).answer ≡ Ok y
     → ((x : X) → (f x).answer ≡ Ok y → ⊥) → ⊥
 onward_never spans (Ok x) f y is never = never x is
 onward_never spans (Err e) f y is never = absurd cc
 
-never_ok : {X : Type 0} (d : List ℕ) (t : Layout X) (v : X) → Never t → (over d t).answer ≡ Ok v → ⊥
+never_ok : {X : Type 0} (d : List ℕ) (t : Layout X) (v : X) → Never t → (layout_reads d t).answer ≡ Ok v → ⊥
 never_ok d (done x) v never is = never
 never_ok d (refuse e) v never is = absurd cc
-never_ok d (field order place k f) v never is = onward_never (span_of d place k) (number_at d order place k) (λ n. over d (f n)) v is
+never_ok d (field order place k f) v never is = onward_never (span_of d place k) (number_at d order place k) (λ n. layout_reads d (f n)) v is
     (λ n ok. never_ok d (f n) v (never n) ok)
-never_ok d (reading r place f) v never is = onward_never (read_of d r place).marks (read_of d r place).answer (λ bs. over d (f bs)) v is
+never_ok d (reading r place f) v never is = onward_never (read_of d r place).marks (read_of d r place).answer (λ bs. layout_reads d (f bs)) v is
     (λ bs ok. never_ok d (f bs) v (never bs) ok)
 
 -- bytes behind the input follow those that are there
@@ -134,25 +134,25 @@ onward_more : {X Y : Type 0} (r r' : Reads X) (f g : X → Reads Y) (y : Y) → 
 onward_more {X} {Y} r r' f g y is same rest = by_answer r.answer refl where
   by_answer : (a : Result X ImageError) → r.answer ≡ a → and_then r' g ≡ and_then r f
   by_answer (Ok x) ok =
-      let ends : (f x).answer ≡ Ok y = sym (ap (λ a. (onward r.marks a f).answer) ok) ∙ is in
-      ap (λ w. and_then w g) (same x ok ends) ∙ ap (λ a. onward r.marks a g) ok ∙ ap (behind r.marks) (rest x ends)
-      ∙ sym (ap (λ a. onward r.marks a f) ok)
-  by_answer (Err e) bad = absurd (let no : ◌≡◌ {A = Result Y ImageError} (Err e) (Ok y) = sym (ap (λ a. (onward r.marks a f).answer) bad)
+      let ends : (f x).answer ≡ Ok y = sym (ap (λ a. (go_on r.marks a f).answer) ok) ∙ is in
+      ap (λ w. and_then w g) (same x ok ends) ∙ ap (λ a. go_on r.marks a g) ok ∙ ap (put_behind r.marks) (rest x ends)
+      ∙ sym (ap (λ a. go_on r.marks a f) ok)
+  by_answer (Err e) bad = absurd (let no : ◌≡◌ {A = Result Y ImageError} (Err e) (Ok y) = sym (ap (λ a. (go_on r.marks a f).answer) bad)
       ∙ is in cc)
 
 -- Extension: where a plain layout has an answer, it has it over the input and any bytes behind it, with the same marks.
-pub more : {X : Type 0} (d x : List ℕ) (t : Layout X) (v : X) → Plain t → (over d t).answer ≡ Ok v → over (d ++ x) t ≡ over d t
+pub more : {X : Type 0} (d x : List ℕ) (t : Layout X) (v : X) → Plain t → (layout_reads d t).answer ≡ Ok v → layout_reads (d ++ x) t ≡ layout_reads d t
 more d x (done u) v p is = refl
 more d x (refuse e) v p is = refl
 more d x (field order place k f) v p is = onward_more (number_read d order place k) (number_read (d ++ x) order place k)
-    (λ n. over d (f n)) (λ n. over (d ++ x) (f n)) v is
+    (λ n. layout_reads d (f n)) (λ n. layout_reads (d ++ x) (f n)) v is
     (λ n got ok. let all = number_ok d order place k n got in rw (span_more d x place k all, number_more d x order place k all) refl)
     (λ n ok. more d x (f n) v (p n) ok)
-more d x (reading r place f) v p is = onward_more (read_of d r place) (read_of (d ++ x) r place) (λ bs. over d (f bs))
-    (λ bs. over (d ++ x) (f bs)) v is
+more d x (reading r place f) v p is = onward_more (read_of d r place) (read_of (d ++ x) r place) (λ bs. layout_reads d (f bs))
+    (λ bs. layout_reads (d ++ x) (f bs)) v is
     (λ bs got ok. reading_more (Never (f bs)) (Plain (f bs)) d x r place bs (λ never. never_ok d (f bs) v never ok) (p bs) got)
     (λ bs ok. more d x (f bs) v (otherwise (Never (f bs)) (Plain (f bs)) r bs (p bs)) ok)
 
 -- the answer alone
-pub more_answer : {X : Type 0} (d x : List ℕ) (t : Layout X) (v : X) → Plain t → (over d t).answer ≡ Ok v → (over (d ++ x) t).answer ≡ Ok v
+pub more_answer : {X : Type 0} (d x : List ℕ) (t : Layout X) (v : X) → Plain t → (layout_reads d t).answer ≡ Ok v → (layout_reads (d ++ x) t).answer ≡ Ok v
 more_answer d x t v p is = ap (λ r. r.answer) (more d x t v p is) ∙ is

@@ -15,11 +15,11 @@ use Rattle.imagesize_source.specs.declared.source.parts.Missing.{Missing}
 use Rattle.imagesize_source.specs.declared.span.Span.{Span}
 use Rattle.imagesize_source.specs.declared.text.Text.{Text}
 use Rattle.imagesize_source.specs.declared.text.Text.TheVariants.{Line, Word}
-use Rattle.imagesize_source.specs.Agreement.{Agrees, covered, has_place}
+use Rattle.imagesize_source.specs.Agreement.{Agrees, is_covered, has_place}
 use Rattle.imagesize_source.specs.Input.{part, span_at, span_of}
 use Rattle.imagesize_source.specs.Known.{AllKnown, HasParts, byte_of, bytes_of, filled, known, parts_state, reaches, within}
 use Rattle.imagesize_source.specs.Reading.{Reads, part_read, text_part, text_read}
-use Rattle.imagesize_source.specs.State.{State, Runs, Sound, past}
+use Rattle.imagesize_source.specs.State.{State, Runs, IsSound, state_after}
 use Rattle.imagesize_source.specs.Text.{is_ended, text_front}
 use Rattle.imagesize_source.proofs.Agreement.{span-some}
 use Rattle.imagesize_source.proofs.Runs.{part_length}
@@ -95,7 +95,7 @@ has_known d (s ∷ spans) bytes place b parts is = by_test (reaches (length d) s
 
 -- and each place of its parts is known
 pub covered_known : (d : List ℕ) (spans : List Span) (bytes : List ℕ) (place : ℕ) → bytes_of d spans ≡ bytes → place < length d
-    → covered spans place ≡ true → is_some (known (length d) spans bytes place) ≡ true
+    → is_covered spans place ≡ true → is_some (known (length d) spans bytes place) ≡ true
 covered_known d [] bytes place parts below is = absurd cc
 covered_known d (s ∷ spans) bytes place parts below is = by_test (reaches (length d) s place) refl
     (λ rest. covered_known d spans (drop (within (length d) s) bytes) place rest below) where
@@ -105,12 +105,12 @@ covered_known d (s ∷ spans) bytes place parts below is = by_test (reaches (len
       not_first : reaches (length d) s place ≡ false → has_place s place ≡ false
       not_first misses = grind (arith, nat_tests)
 
-      later : (test : Bool) → has_place s place ≡ test → test ≡ false → test || covered spans place ≡ true → covered spans place ≡ true
+      later : (test : Bool) → has_place s place ≡ test → test ≡ false → test || is_covered spans place ≡ true → is_covered spans place ≡ true
       later true has misses is = absurd cc
       later false has misses is = is
 
       by_test : (test : Bool) → reaches (length d) s place ≡ test
-          → (bytes_of d spans ≡ drop (within (length d) s) bytes → covered spans place ≡ true
+          → (bytes_of d spans ≡ drop (within (length d) s) bytes → is_covered spans place ≡ true
           → is_some (known (length d) spans (drop (within (length d) s) bytes) place) ≡ true)
           → is_some (cond test (byte_of bytes (place - s.start)) (known (length d) spans (drop (within (length d) s) bytes) place)) ≡ true
       by_test true has on =
@@ -147,9 +147,9 @@ known_agrees d n spans bytes marks has all = record {
 
 -- no part has a place that is not known
 pub unknown_free : (d : List ℕ) (n : ℕ) (spans : List Span) (bytes : List ℕ) (place : ℕ) → HasParts d n spans bytes → place < n
-    → is_some (known n spans bytes place) ≡ false → covered spans place ≡ false
-unknown_free d n spans bytes place has below none = by_test (covered spans place) refl where
-  by_test : (test : Bool) → covered spans place ≡ test → test ≡ false
+    → is_some (known n spans bytes place) ≡ false → is_covered spans place ≡ false
+unknown_free d n spans bytes place has below none = by_test (is_covered spans place) refl where
+  by_test : (test : Bool) → is_covered spans place ≡ test → test ≡ false
   by_test false is = refl
   by_test true is =
       let some = covered_known d spans bytes place has.bytes (omega (arith, below, has.as_long)) is in
@@ -159,14 +159,14 @@ unknown_free d n spans bytes place has below none = by_test (covered spans place
 -- ---- readings
 
 past-parts : (n : ℕ) (spans : List Span) (bytes : List ℕ) (log : List Span) (missed : Option Missing) (more : List Span)
-    → past (parts_state n spans bytes log missed) more ≡ parts_state n spans bytes (log ++ more) missed
-unfolding past
+    → state_after (parts_state n spans bytes log missed) more ≡ parts_state n spans bytes (log ++ more) missed
+unfolding state_after
 past-parts n spans bytes log missed [] = ap (λ s. parts_state n spans bytes s missed) (sym (append-nil log))
 past-parts n spans bytes log missed (s ∷ more) = past-parts n spans bytes (log ++ s ∷ []) missed more
     ∙ ap (λ t. parts_state n spans bytes t missed) (append_assoc log (s ∷ []) more)
 
 pub parts_sound : (n : ℕ) (spans : List Span) (bytes : List ℕ) (log : List Span) (missed : Option Missing)
-    → Sound (parts_state n spans bytes log missed)
+    → IsSound (parts_state n spans bytes log missed)
 parts_sound n spans bytes log missed = λ honest.
     let long = length-filled n spans bytes in (sym long, grind (arith, nat_tests))
 
@@ -614,19 +614,19 @@ span_known n spans bytes start count s so at long place has =
 
 pub pushed_known : (n : ℕ) (spans : List Span) (bytes : List ℕ) (log more : List Span) (s : Span) → AllKnown n spans bytes log
     → ((place : ℕ) → has_place s place ≡ true → is_some (known n spans bytes place) ≡ true) → more ≡ log ++ s ∷ [] → AllKnown n spans bytes more
-pushed_known n spans bytes log more s all also is place here = by_part (covered log place) refl (has_place s place) refl where
-  split : (xs : List Span) → covered (xs ++ s ∷ []) place ≡ covered xs place || (has_place s place || false)
+pushed_known n spans bytes log more s all also is place here = by_part (is_covered log place) refl (has_place s place) refl where
+  split : (xs : List Span) → is_covered (xs ++ s ∷ []) place ≡ is_covered xs place || (has_place s place || false)
   split [] = refl
   split (x ∷ xs) =
-      let Goal : Bool → Type 0 = λ b. b || covered (xs ++ s ∷ []) place ≡ (b || covered xs place) || (has_place s place || false) in
+      let Goal : Bool → Type 0 = λ b. b || is_covered (xs ++ s ∷ []) place ≡ (b || is_covered xs place) || (has_place s place || false) in
       elim (has_place x place) as Goal [ true ↦ refl | false ↦ split xs ]
 
-  by_part : (first : Bool) → covered log place ≡ first → (last : Bool) → has_place s place ≡ last
+  by_part : (first : Bool) → is_covered log place ≡ first → (last : Bool) → has_place s place ≡ last
       → is_some (known n spans bytes place) ≡ true
   by_part true is_first last is_last = all place is_first
   by_part false is_first true is_last = also place is_last
   by_part false is_first false is_last =
-      absurd (let none : covered more place ≡ false = ap (λ l. covered l place) is ∙ split log
+      absurd (let none : is_covered more place ≡ false = ap (λ l. is_covered l place) is ∙ split log
       ∙ ap (λ b. b || (has_place s place || false)) is_first ∙ ap (λ b. b || false) is_last in
       let no : true ≡ false = sym here ∙ none in cc)
 

@@ -1,36 +1,38 @@
 -- What a layout says of an input.
-use Rattle.std.proofs.Common.{◌≡◌, ℕ, ◌+◌, ◌-◌, ◌<◌, ◌≤◌, min, true, List, [], ◌++◌, length, take, None, Some, Result, Ok, Err, refl, sym, ap, ◌∙◌, subst, arith, append_assoc}
+use Rattle.std.proofs.Common.{◌≡◌, ℕ, ◌+◌, ◌-◌, ◌<◌, ◌≤◌, min, Bool, true, false, eqb, List, [], ◌++◌, length, take, Option, None, Some, Result, Ok, Err, refl, sym, ap, ◌∙◌, subst, arith, append_assoc}
 use Rattle.std.proofs.lemmas.List.{length-take, take_all, drop_all, append-nil}
 use Rattle.std.proofs.Math.Seq.{take-nil}
 use Rattle.std.proofs.lemmas.Bool.Decides.{nat_tests}
 use Rattle.imagesize_source.specs.declared.error.ImageError.{ImageError}
 use Rattle.imagesize_source.specs.declared.span.Span.{Span}
+use Rattle.imagesize_source.specs.declared.halt.Halt.{Halt}
+use Rattle.imagesize_source.specs.Halts.{error_by, with_error}
 use Rattle.imagesize_source.specs.Input.{part, span_of, span_at}
-use Rattle.imagesize_source.specs.Layout.{Layout, over, bind, whole, if_there}
+use Rattle.imagesize_source.specs.Layout.{Layout, layout_reads, bind, whole, if_there, some_where}
 use Rattle.imagesize_source.specs.Layout.Layout.{«done», refuse, field, reading}
-use Rattle.imagesize_source.specs.Reading.{Reads, and_then, onward, behind, number_at, part_read, read_of}
-use Rattle.imagesize_source.specs.State.{State, Runs, Missed, total, past}
-use Rattle.imagesize_source.proofs.Runs.{answered, part_is}
+use Rattle.imagesize_source.specs.Reading.{Reads, and_then, gives, go_on, map_answer, put_behind, number_at, part_read, read_of}
+use Rattle.imagesize_source.specs.State.{State, Runs, Missed, total, state_after}
+use Rattle.imagesize_source.proofs.Runs.{answered, part_is, runs_refused}
 
-behind-onward : {Y Z : Type 0} (marks more : List Span) (r : Result Y ImageError) (g : Y → Reads Z) → behind marks (onward more r g)
-    ≡ onward (marks ++ more) r g
+behind-onward : {Y Z : Type 0} (marks more : List Span) (r : Result Y ImageError) (g : Y → Reads Z) → put_behind marks (go_on more r g)
+    ≡ go_on (marks ++ more) r g
 behind-onward marks more (Ok y) g = ap (λ m. record { answer = (g y).answer; marks = m }) (sym (append_assoc marks more (g y).marks))
 behind-onward marks more (Err e) g = refl
 
 -- what goes on from an answer that itself goes on
 onward-and_then : {X Y Z : Type 0} (marks : List Span) (r : Result X ImageError) (f : X → Reads Y) (g : Y → Reads Z) (both : X → Reads Z)
-    → ((x : X) → both x ≡ and_then (f x) g) → onward marks r both ≡ and_then (onward marks r f) g
-onward-and_then marks (Ok x) f g both is = ap (behind marks) (is x) ∙ behind-onward marks (f x).marks (f x).answer g
+    → ((x : X) → both x ≡ and_then (f x) g) → go_on marks r both ≡ and_then (go_on marks r f) g
+onward-and_then marks (Ok x) f g both is = ap (put_behind marks) (is x) ∙ behind-onward marks (f x).marks (f x).answer g
 onward-and_then marks (Err e) f g both is = refl
 
 -- one layout behind the other: first the readings of the one, then those of the other
-pub over-bind : {X Y : Type 0} (d : List ℕ) (t : Layout X) (f : X → Layout Y) → over d (bind t f) ≡ and_then (over d t) (λ x. over d (f x))
+pub over-bind : {X Y : Type 0} (d : List ℕ) (t : Layout X) (f : X → Layout Y) → layout_reads d (bind t f) ≡ and_then (layout_reads d t) (λ x. layout_reads d (f x))
 over-bind d (done x) f = refl
 over-bind d (refuse e) f = refl
-over-bind d (field order place k g) f = onward-and_then (span_of d place k) (number_at d order place k) (λ v. over d (g v))
-    (λ x. over d (f x)) (λ v. over d (bind (g v) f)) (λ v. over-bind d (g v) f)
-over-bind d (reading r place g) f = onward-and_then (read_of d r place).marks (read_of d r place).answer (λ bs. over d (g bs))
-    (λ x. over d (f x)) (λ bs. over d (bind (g bs) f)) (λ bs. over-bind d (g bs) f)
+over-bind d (field order place k g) f = onward-and_then (span_of d place k) (number_at d order place k) (λ v. layout_reads d (g v))
+    (λ x. layout_reads d (f x)) (λ v. layout_reads d (bind (g v) f)) (λ v. over-bind d (g v) f)
+over-bind d (reading r place g) f = onward-and_then (read_of d r place).marks (read_of d r place).answer (λ bs. layout_reads d (g bs))
+    (λ x. layout_reads d (f x)) (λ bs. layout_reads d (bind (g bs) f)) (λ bs. over-bind d (g bs) f)
 
 whole-all : (k : ℕ) (bs : List ℕ) → k ≤ length bs → whole k bs ≡ Some bs
 whole-all k bs all = grind (arith, nat_tests)
@@ -38,25 +40,33 @@ whole-all k bs all = grind (arith, nat_tests)
 whole-some : (k : ℕ) (bs : List ℕ) → length bs < k → whole k bs ≡ None
 whole-some k bs short = grind (arith, nat_tests)
 
--- all of the bytes are there
-pub whole_there : {a b : State} (d room : List ℕ) (place k n : ℕ) → Runs a b (Ok (take n room)) (part_read d place (length room))
-    → length room ≡ k → k ≤ n → Runs a b (Ok (Some room)) (over d (if_there place k done))
-whole_there {a} {b} d room place k n h long all =
-    let same : take n room ≡ room = take_all n room (omega arith) in
-    answered (Ok (Some room)) (over d (if_there place k done)) h (append-nil _ ∙ ap (span_of d place) (sym long))
-    (λ is.
-    let got : part d place k ≡ room = ap (part d place) (sym long) ∙ part_is is ∙ same in
-    ap (λ bs. Ok (whole k bs)) got ∙ ap Ok (whole-all k room (omega (arith, long))))
-    refl refl tt
+-- of a reading: all of the bytes are there, or some are missing
+pub whole_read : {a b : State} (d room : List ℕ) (place n : ℕ) → n ≤ length room
+    → Runs a b (Ok (take n room)) (part_read d place (length room))
+    → Runs a b (Ok (some_where room (eqb n (length room)))) (layout_reads d (if_there place (length room) done))
+whole_read {a} {b} d room place n fits h = by_test (eqb n (length room)) refl where
+  by_test : (all : Bool) → eqb n (length room) ≡ all
+      → Runs a b (Ok (some_where room all)) (layout_reads d (if_there place (length room) done))
+  by_test true is =
+      let same : take n room ≡ room = take_all n room (grind (arith, nat_tests)) in
+      answered (Ok (Some room)) (layout_reads d (if_there place (length room) done)) h (append-nil _)
+      (λ read. ap (λ bs. Ok (whole (length room) bs)) (part_is read ∙ same) ∙ ap Ok (whole-all (length room) room (omega arith)))
+      refl refl tt
+  by_test false is =
+      let short : n < length room = grind (arith, nat_tests) in
+      answered (Ok None) (layout_reads d (if_there place (length room) done)) h (append-nil _)
+      (λ read. ap Ok (whole-some (length room) (part d place (length room))
+      (omega (arith, length-take n room, ap length (part_is read)))))
+      refl refl tt
 
--- some are missing
-pub whole_missing : {a b : State} (d room : List ℕ) (place k n : ℕ) → Runs a b (Ok (take n room)) (part_read d place (length room))
-    → length room ≡ k → n < k → Runs a b (Ok None) (over d (if_there place k done))
-whole_missing {a} {b} d room place k n h long short =
-    answered (Ok None) (over d (if_there place k done)) h (append-nil _ ∙ ap (span_of d place) (sym long))
-    (λ is. ap Ok (whole-some k (part d place k)
-    (omega (arith, long, length-take n room, ap length (ap (part d place) (sym long) ∙ part_is is)))))
-    refl refl tt
+-- a reading that was stopped found none
+pub whole_stopped : {X : Type 0} {a b : State} (d : List ℕ) (place k : ℕ) (failure : ImageError) (budget : ℕ)
+    (found : X → Option (List ℕ)) (r : Result X Halt) (why : Halt) → r ≡ Err why
+    → Runs {X = List ℕ} a b (Err (error_by failure budget why)) (part_read d place k)
+    → Runs a b (map_answer found (with_error failure budget r)) (layout_reads d (if_there place k done))
+whole_stopped {a = a} {b = b} d place k failure budget found r why is h =
+    subst (λ s. Runs a b (map_answer found (with_error failure budget s)) (layout_reads d (if_there place k done))) (sym is)
+    (runs_refused (part_read d place k) (λ bs. gives (whole k bs)) h)
 
 -- readings that are others' where the source is honest
 pub runs_as : {X : Type 0} {a b : State} {r : Result X ImageError} {reads : Reads X} (other : Reads X) → Runs a b r reads
@@ -68,7 +78,7 @@ runs_as {X} {a} {b} {r} other h same = record {
   taken = h.taken;
   within = λ honest. subst (λ reads. b.taken ≤ a.taken + total reads.marks) (same honest) (h.within honest);
   answer = λ honest goes_on. ap (λ reads. reads.answer) (sym (same honest)) ∙ h.answer honest goes_on;
-  state = λ honest goes_on. h.state honest goes_on ∙ ap (λ reads. past a reads.marks) (same honest);
+  state = λ honest goes_on. h.state honest goes_on ∙ ap (λ reads. state_after a reads.marks) (same honest);
   fault = h.fault;
   misses = λ honest faults. subst (λ reads. Missed a b reads.marks) (same honest) (h.misses honest faults);
   ended = h.ended;
@@ -82,10 +92,10 @@ by_told {a} f h = runs_as (f (length a.held.input)) h (λ honest. ap f (h.sound 
 -- behind the end nothing is there
 pub no_part : (d : List ℕ) (place k : ℕ) → length d ≤ place → part d place k ≡ []
 unfolding part
-no_part d place k behind = ap (take k) (drop_all place d behind) ∙ take-nil k
+no_part d place k put_behind = ap (take k) (drop_all place d put_behind) ∙ take-nil k
 
 pub no_span : (d : List ℕ) (place k : ℕ) → length d ≤ place → span_of d place k ≡ []
 unfolding span_of span_at
-no_span d place k behind = let none : min k (length d - place) ≡ 0 = omega arith in rw none refl
+no_span d place k put_behind = let none : min k (length d - place) ≡ 0 = omega arith in rw none refl
 
 pub ruleset binding = (over-bind)

@@ -11,7 +11,6 @@ pub mod Counts
 pub mod Extension
 pub mod Known
 pub mod Layouts
-pub mod Lendings
 pub mod Marks
 pub mod Numbers
 pub mod PastTheEnd

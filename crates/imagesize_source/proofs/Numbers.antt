@@ -1,7 +1,7 @@
 -- The numbers of one to eight bytes, as std makes them.
 use Rattle.std.proofs.Common.{◌≡◌, ℕ, List, [], ◌∷◌, length, slice_index_or, arith}
 use Rattle.std.specs.Int.{w16, w32, w64, from_le_bytes, from_be_bytes}
-use Rattle.imagesize_source.specs.declared.util.Endian.TheVariants.{Little, Big}
+use Rattle.imagesize_source.specs.declared.endian.Endian.TheVariants.{Little, Big}
 use Rattle.imagesize_source.specs.Numbers.{number}
 
 pub little_2 : (bs : List ℕ) → length bs ≡ 2 → from_le_bytes w16 bs ≡ number Little bs

@@ -1,12 +1,12 @@
 -- Readings beyond the end of the input.
 use Rattle.std.proofs.Common.{◌≡◌, ℕ, ◌-◌, ◌^◌, ◌<◌, ◌≤◌, min, Bool, true, false, leb, List, [], length, Option, Result, Err, refl, sym, ap, ◌∙◌, arith}
 use Rattle.std.proofs.lemmas.Bool.Decides.{nat_tests}
-use Rattle.imagesize_source.specs.declared.util.Endian.{Endian}
+use Rattle.imagesize_source.specs.declared.endian.Endian.{Endian}
 use Rattle.imagesize_source.specs.declared.error.ImageError.{ImageError}
-use Rattle.imagesize_source.specs.Layout.{Layout, bytes, over, if_there, whole}
+use Rattle.imagesize_source.specs.Layout.{Layout, bytes, layout_reads, if_there, whole}
 use Rattle.imagesize_source.specs.Layout.Layout.{«done»}
 use Rattle.imagesize_source.specs.Reading.{Reads, bytes_at, bytes_read, number_at, number_read, part_read, gives, refuses, end_of_input}
-use Rattle.imagesize_source.specs.State.{State, Sound, Runs, past}
+use Rattle.imagesize_source.specs.State.{State, IsSound, Runs, state_after}
 use Rattle.imagesize_source.proofs.Layouts.{no_part, no_span, runs_as}
 use Rattle.imagesize_source.proofs.Runs.{past-none}
 
@@ -26,7 +26,7 @@ saturated_by {a} f other place beyond h = runs_as (f place a.held.input) h (λ h
 part_beyond : (d : List ℕ) (place k : ℕ) → length d ≤ place → part_read d place k ≡ gives []
 part_beyond d place k h = rw (no_part d place k h, no_span d place k h) refl
 
-whole_beyond : (d : List ℕ) (place k : ℕ) → length d ≤ place → over d (if_there place k done) ≡ gives (whole k [])
+whole_beyond : (d : List ℕ) (place k : ℕ) → length d ≤ place → layout_reads d (if_there place k done) ≡ gives (whole k [])
 whole_beyond d place k h = rw (no_part d place k h, no_span d place k h) refl
 
 bytes_at_beyond : (d : List ℕ) (place k : ℕ) → length d ≤ place → 0 < k → bytes_at d place k ≡ Err end_of_input
@@ -34,7 +34,7 @@ unfolding bytes_at
 bytes_at_beyond d place k h some = let test : leb k (length d - place) ≡ false = grind (arith, nat_tests) in rw test refl
 
 -- a layout that reads bytes beyond the end of the input is refused there, and has no mark of them
-pub bytes_beyond : {X : Type 0} (d : List ℕ) (place k : ℕ) (f : List ℕ → Layout X) → length d ≤ place → 0 < k → over d (bytes place k f)
+pub bytes_beyond : {X : Type 0} (d : List ℕ) (place k : ℕ) (f : List ℕ → Layout X) → length d ≤ place → 0 < k → layout_reads d (bytes place k f)
     ≡ refuses end_of_input
 bytes_beyond d place k f h some = rw (no_span d place k h, bytes_at_beyond d place k h some) refl
 
@@ -51,8 +51,8 @@ pub part_saturated : {a b : State} {r : Result (List ℕ) ImageError} (place k :
 part_saturated place k h = saturated_by (λ p d. part_read d p k) (gives []) place (λ d p far. part_beyond d p k far) h
 
 pub whole_saturated : {a b : State} {r : Result (Option (List ℕ)) ImageError} (place at k : ℕ)
-    → Runs a b r (over a.held.input (if_there at k done)) → at ≡ min place (2 ^ 64 - 1) → Runs a b r (over a.held.input (if_there place k done))
-whole_saturated place at k h is = saturated_by (λ p d. over d (if_there p k done)) (gives (whole k [])) place
+    → Runs a b r (layout_reads a.held.input (if_there at k done)) → at ≡ min place (2 ^ 64 - 1) → Runs a b r (layout_reads a.held.input (if_there place k done))
+whole_saturated place at k h is = saturated_by (λ p d. layout_reads d (if_there p k done)) (gives (whole k [])) place
     (λ d p far. whole_beyond d p k far) (rw is at h)
 
 pub bytes_saturated : {a b : State} {r : Result (List ℕ) ImageError} (place at k : ℕ) → 0 < k
@@ -66,7 +66,7 @@ number_saturated order place k some h = saturated_by (λ p d. number_read d orde
     (λ d p far. number_beyond d order p k far some) h
 
 -- a number that would stand beyond 64 bits is refused with no reading
-pub number_refused : {a : State} (order : Endian) (place k : ℕ) → Sound a → 2 ^ 64 ≤ place → 0 < k → Runs {X = ℕ} a a (Err end_of_input)
+pub number_refused : {a : State} (order : Endian) (place k : ℕ) → IsSound a → 2 ^ 64 ≤ place → 0 < k → Runs {X = ℕ} a a (Err end_of_input)
     (number_read a.held.input order place k)
 number_refused {a} order place k sound beyond some =
     let gone = λ (honest : a.held.honest ≡ true). number_beyond a.held.input order place k (omega (arith, (sound honest).1, beyond)) some
@@ -78,7 +78,7 @@ number_refused {a} order place k sound beyond some =
       taken = omega arith;
       within = λ honest. omega arith;
       answer = λ honest goes_on. ap (λ q. q.answer) (gone honest);
-      state = λ honest goes_on. sym (past-none a) ∙ ap (λ q. past a q.marks) (sym (gone honest));
+      state = λ honest goes_on. sym (past-none a) ∙ ap (λ q. state_after a q.marks) (sym (gone honest));
       fault = λ honest faults. absurd cc;
       misses = λ honest faults. absurd cc;
       ended = record { budget = tt; memory = λ e. absurd cc };

@@ -4,9 +4,9 @@ use Rattle.std.proofs.lemmas.List.{append-nil}
 use Rattle.imagesize_source.specs.declared.error.ImageError.{ImageError}
 use Rattle.imagesize_source.specs.declared.span.Span.{Span}
 use Rattle.imagesize_source.specs.Chain.{Decided, Next, Chain, Along, next_record, chain_from, Advances}
-use Rattle.imagesize_source.specs.Layout.{Layout, over, bind}
-use Rattle.imagesize_source.specs.Reading.{Reads, and_then, onward, behind, gives, stopped, faulted}
-use Rattle.imagesize_source.specs.State.{State, Runs, EndedBy, Missed, Sound, total, past}
+use Rattle.imagesize_source.specs.Layout.{Layout, layout_reads, bind}
+use Rattle.imagesize_source.specs.Reading.{Reads, and_then, go_on, put_behind, gives, is_stopped, is_faulted}
+use Rattle.imagesize_source.specs.State.{State, Runs, EndedBy, Missed, IsSound, total, state_after}
 use Rattle.imagesize_source.proofs.Chains.{chain_unfolds, follows}
 use Rattle.imagesize_source.proofs.Marks.{behind-behind}
 use Rattle.imagesize_source.proofs.Layouts.{over-bind}
@@ -14,17 +14,17 @@ use Rattle.imagesize_source.proofs.Runs.{marks_onward, missed_before, missed_beh
 
 -- From a on a run was to make the readings `whole`, and has made some of them; what is left from b on is `rest`.
 pub record Reached {X : Type 0} (a b : State) (whole rest : Reads X) : Type 0 where
-  pub sound : Sound b → Sound a
+  pub sound : IsSound b → IsSound a
   pub frame : b.frame ≡ a.frame
   pub taken : a.taken ≤ b.taken
   pub made : List Span
   pub within : a.held.honest ≡ true → b.taken ≤ a.taken + total made
-  pub state : a.held.honest ≡ true → b ≡ past a made
-  pub left : a.held.honest ≡ true → whole ≡ behind made rest
+  pub state : a.held.honest ≡ true → b ≡ state_after a made
+  pub left : a.held.honest ≡ true → whole ≡ put_behind made rest
 
 -- nothing was read
 pub reached_start : {X : Type 0} (a : State) (whole : Reads X) → Reached a a whole whole
-unfolding past
+unfolding state_after
 reached_start a whole = record {
   sound = λ s. s;
   frame = refl;
@@ -36,17 +36,17 @@ reached_start a whole = record {
 }
 
 total_onward : {X Y : Type 0} (spans : List Span) (r : Result Y ImageError) (f : Y → Reads X)
-    → total spans ≤ total (onward spans r f).marks
+    → total spans ≤ total (go_on spans r f).marks
 total_onward spans (Ok y) f = let all = total-append spans (f y).marks in omega arith
 total_onward spans (Err e) f = omega arith
 
-onward_at : {X Y : Type 0} (spans : List Span) (r s : Result Y ImageError) (f : Y → Reads X) → r ≡ s → onward spans r f ≡ onward spans s f
-onward_at spans r s f is = ap (λ q. onward spans q f) is
+onward_at : {X Y : Type 0} (spans : List Span) (r s : Result Y ImageError) (f : Y → Reads X) → r ≡ s → go_on spans r f ≡ go_on spans s f
+onward_at spans r s f is = ap (λ q. go_on spans q f) is
 
 -- nothing is read
-pub reads_nothing : {X : Type 0} (b : State) (r : Result X ImageError) → Sound b → faulted r ≡ false → IfErr r (EndedBy b)
+pub reads_nothing : {X : Type 0} (b : State) (r : Result X ImageError) → IsSound b → is_faulted r ≡ false → IfErr r (EndedBy b)
     → Runs b b r (record { answer = r; marks = [] })
-unfolding past
+unfolding state_after
 reads_nothing b r sound no_fault ended = record {
   sound = sound;
   sound_after = sound;
@@ -81,12 +81,12 @@ module _ {X : Type 0} {a b : State} {whole rest : Reads X} (h : Reached a b whol
     made = h.made;
     within = h.within;
     state = h.state;
-    left = λ honest. h.left honest ∙ ap (behind h.made) (same honest);
+    left = λ honest. h.left honest ∙ ap (put_behind h.made) (same honest);
   }
 
   -- a run that ends with what was left, or is ended by a refusal on the way
   ended_by : {end : State} {Y : Type 0} (r : Result X ImageError) (s : Result Y ImageError) (given : Reads Y) → Runs b end s given
-      → stopped s ≡ stopped r → faulted s ≡ faulted r → IfErr r (EndedBy end)
+      → is_stopped s ≡ is_stopped r → is_faulted s ≡ is_faulted r → IfErr r (EndedBy end)
       → (a.held.honest ≡ true → (more : List Span) × (rest.marks ≡ given.marks ++ more))
       → (a.held.honest ≡ true → total given.marks ≤ total rest.marks) → (a.held.honest ≡ true → given.answer ≡ s
       → (rest.answer ≡ r) × (rest.marks ≡ given.marks)) → Runs a end r whole
@@ -102,9 +102,9 @@ module _ {X : Type 0} {a b : State} {whole rest : Reads X} (h : Reached a b whol
         omega arith;
     answer = λ honest goes_on. ap (λ w. w.answer) (h.left honest) ∙ (same honest (run.answer (still_honest honest) (stops ∙ goes_on))).0;
     state = λ honest goes_on.
-        run.state (still_honest honest) (stops ∙ goes_on) ∙ ap (λ s. past s given.marks) (h.state honest) ∙ past-past a h.made given.marks
-        ∙ ap (λ m. past a (h.made ++ m)) (sym (same honest (run.answer (still_honest honest) (stops ∙ goes_on))).1)
-        ∙ sym (ap (λ w. past a w.marks) (h.left honest));
+        run.state (still_honest honest) (stops ∙ goes_on) ∙ ap (λ s. state_after s given.marks) (h.state honest) ∙ past-past a h.made given.marks
+        ∙ ap (λ m. state_after a (h.made ++ m)) (sym (same honest (run.answer (still_honest honest) (stops ∙ goes_on))).1)
+        ∙ sym (ap (λ w. state_after a w.marks) (h.left honest));
     fault = λ honest faulty. ap (λ x. x.can_fail) (sym (still honest)) ∙ run.fault (still_honest honest) (faults ∙ faulty);
     misses = λ honest faulty.
         let more = first honest in
@@ -125,7 +125,7 @@ module _ {X : Type 0} {a b : State} {whole rest : Reads X} (h : Reached a b whol
       (λ honest is. (ap (λ w. w.answer) (sym (same honest)) ∙ is, ap (λ w. w.marks) (sym (same honest))))
 
   -- nothing more is read, and the answer is known
-  pub reached_now : (r : Result X ImageError) → Sound b → faulted r ≡ false → IfErr r (EndedBy b)
+  pub reached_now : (r : Result X ImageError) → IsSound b → is_faulted r ≡ false → IfErr r (EndedBy b)
       → (a.held.honest ≡ true → length a.held.input < 2 ^ 63 → rest ≡ record { answer = r; marks = [] }) → Runs a b r whole
   reached_now r sound no_fault ended same = reached_end r (record { answer = r; marks = [] }) (reads_nothing b r sound no_fault ended)
       (λ honest. sym (same honest (let short = (h.sound sound honest).1 in omega arith)))
@@ -143,11 +143,11 @@ module _ {X Y : Type 0} {a b : State} {whole : Reads X} (reads : Reads Y) (f : Y
       within = λ honest.
           let one = h.within honest in let two = run.within (still_honest h honest) in let all = total-append h.made given.marks in
           omega arith;
-      state = λ honest. run.state (still_honest h honest) refl ∙ ap (λ s. past s given.marks) (h.state honest) ∙ past-past a h.made
+      state = λ honest. run.state (still_honest h honest) refl ∙ ap (λ s. state_after s given.marks) (h.state honest) ∙ past-past a h.made
           given.marks;
       left = λ honest.
-          h.left honest ∙ ap (λ w. behind h.made (and_then w f)) (sym (same honest))
-          ∙ ap (behind h.made) (onward_at given.marks given.answer (Ok y) f (run.answer (still_honest h honest) refl))
+          h.left honest ∙ ap (λ w. put_behind h.made (and_then w f)) (sym (same honest))
+          ∙ ap (put_behind h.made) (onward_at given.marks given.answer (Ok y) f (run.answer (still_honest h honest) refl))
           ∙ behind-behind h.made given.marks (f y);
     }
 
@@ -159,7 +159,7 @@ module _ {X Y : Type 0} {a b : State} {whole : Reads X} (reads : Reads Y) (f : Y
         (marks_onward reads.marks reads.answer f))
         (λ honest. let is = ap (λ w. total w.marks) (same honest) in let more = total_onward reads.marks reads.answer f in omega arith)
         (λ honest is.
-        let out : onward reads.marks reads.answer f ≡ record { answer = Err e; marks = given.marks } =
+        let out : go_on reads.marks reads.answer f ≡ record { answer = Err e; marks = given.marks } =
         ap (λ w. and_then w f) (sym (same honest)) ∙ onward_at given.marks given.answer (Err e) f is in
         (ap (λ w. w.answer) out, ap (λ w. w.marks) out))
 
@@ -171,8 +171,8 @@ module _ {X Y : Type 0} {a b : State} {whole : Reads X} (reads : Reads Y) (f : Y
         (marks_onward reads.marks reads.answer f))
         (λ honest. let is = ap (λ w. total w.marks) (same honest) in let more = total_onward reads.marks reads.answer f in omega arith)
         (λ honest is.
-        let out : onward reads.marks reads.answer f ≡ behind given.marks (gives x) =
-        ap (λ w. and_then w f) (sym (same honest)) ∙ onward_at given.marks given.answer (Ok y) f is ∙ ap (behind given.marks) last in
+        let out : go_on reads.marks reads.answer f ≡ put_behind given.marks (gives x) =
+        ap (λ w. and_then w f) (sym (same honest)) ∙ onward_at given.marks given.answer (Ok y) f is ∙ ap (put_behind given.marks) last in
         (ap (λ w. w.answer) out, ap (λ w. w.marks) out ∙ append-nil given.marks))
 
 -- a walk along a chain, from which what is left is the chain from here on
@@ -203,16 +203,16 @@ module _ {C X : Type 0} (c : Chain C X) (adv : (d : List ℕ) → Advances c d) 
 
 -- a layout that was read, and what goes on from its answer and reads nothing
 pub runs_bind : {X Y : Type 0} {a b : State} {x : X} (r : Result Y ImageError) (t : Layout X) (f : X → Layout Y)
-    → Runs a b (Ok x) (over a.held.input t) → ((d : List ℕ) → over d (f x) ≡ record { answer = r; marks = [] }) → faulted r ≡ false
-    → IfErr r (EndedBy b) → Runs a b r (over a.held.input (bind t f))
+    → Runs a b (Ok x) (layout_reads a.held.input t) → ((d : List ℕ) → layout_reads d (f x) ≡ record { answer = r; marks = [] }) → is_faulted r ≡ false
+    → IfErr r (EndedBy b) → Runs a b r (layout_reads a.held.input (bind t f))
 runs_bind {X} {Y} {a} {b} {x} r t f first says no_fault ended =
-    let second : Runs b b r (over b.held.input (f x)) = subst (λ w. Runs b b r w) (sym (says b.held.input))
+    let second : Runs b b r (layout_reads b.held.input (f x)) = subst (λ w. Runs b b r w) (sym (says b.held.input))
     (reads_nothing b r first.sound_after no_fault ended) in
-    subst (λ w. Runs a b r w) (sym (over-bind a.held.input t f)) (runs_then (over a.held.input t) (λ v held. over held.input (f v)) first
+    subst (λ w. Runs a b r w) (sym (over-bind a.held.input t f)) (runs_then (layout_reads a.held.input t) (λ v held. layout_reads held.input (f v)) first
     second)
 
 -- a layout that was refused
 pub refused_bind : {X Y : Type 0} {a b : State} {e : ImageError} (t : Layout X) (f : X → Layout Y) → Runs {X = X} a b (Err e)
-    (over a.held.input t) → Runs {X = Y} a b (Err e) (over a.held.input (bind t f))
+    (layout_reads a.held.input t) → Runs {X = Y} a b (Err e) (layout_reads a.held.input (bind t f))
 refused_bind {X} {Y} {a} {b} {e} t f h = subst (λ w. Runs {X = Y} a b (Err e) w) (sym (over-bind a.held.input t f))
-    (runs_refused (over a.held.input t) (λ v. over a.held.input (f v)) h)
+    (runs_refused (layout_reads a.held.input t) (λ v. layout_reads a.held.input (f v)) h)

@@ -1,19 +1,21 @@
 -- How a call's readings follow from those of the calls that it makes.
-use Rattle.std.proofs.Common.{◌≡◌, ℕ, ◌+◌, ◌-◌, ◌*◌, ◌^◌, ◌<◌, ◌≤◌, min, zero, suc, Bool, true, false, cond, List, [], ◌∷◌, ◌++◌, length, take, drop, leb, Result, Ok, Err, zero-add, add_assoc, append_assoc, refl, sym, ap, ◌∙◌, subst, arith, IfErr}
+use Rattle.std.proofs.Common.{◌≡◌, ℕ, ◌+◌, ◌-◌, ◌*◌, ◌^◌, ◌<◌, ◌≤◌, min, zero, true, false, List, [], ◌∷◌, ◌++◌, length, take, drop, leb, Result, Ok, Err, zero-add, add_assoc, append_assoc, refl, sym, ap, ◌∙◌, subst, arith, IfErr}
 use Rattle.std.proofs.lemmas.List.{length-take, length-drop, take_all, append-nil}
 use Rattle.std.proofs.lemmas.Bool.Decides.{nat_tests}
 use Rattle.imagesize_source.specs.declared.error.ImageError.{ImageError}
 use Rattle.imagesize_source.specs.declared.span.Span.{Span}
-use Rattle.imagesize_source.specs.declared.util.Endian.{Endian}
+use Rattle.imagesize_source.specs.declared.endian.Endian.{Endian}
 use Rattle.imagesize_source.specs.Input.{part, span_at, span_of}
 use Rattle.imagesize_source.specs.Numbers.{number}
-use Rattle.imagesize_source.specs.Reading.{Reads, onward, behind, and_then, bytes_at, number_at, part_read, bytes_read, number_read, seen, stopped, faulted, end_of_input}
+use Rattle.imagesize_source.specs.Halts.{error_by, with_error}
+use Rattle.imagesize_source.specs.declared.halt.Halt.{Halt}
+use Rattle.imagesize_source.specs.Reading.{Reads, go_on, put_behind, and_then, bytes_at, number_at, part_read, bytes_read, number_read, map_answer, is_stopped, is_faulted, end_of_input}
 use Rattle.std.specs.Prelude.{Option, None, Some, IfSome, IsSomeAnd, option_map}
-use Rattle.imagesize_source.specs.State.{State, Held, Runs, EndedBy, Misses, Missed, total, past, step}
+use Rattle.imagesize_source.specs.State.{State, Held, Runs, EndedBy, Misses, Missed, total, state_after, step}
 
 -- the same readings, answered otherwise where nothing stopped them
 pub answered : {X Y : Type 0} {a b : State} {x : X} {reads : Reads X} (r : Result Y ImageError) (other : Reads Y) → Runs a b (Ok x) reads
-    → other.marks ≡ reads.marks → (reads.answer ≡ Ok x → other.answer ≡ r) → stopped r ≡ false → faulted r ≡ false → IfErr r (EndedBy b)
+    → other.marks ≡ reads.marks → (reads.answer ≡ Ok x → other.answer ≡ r) → is_stopped r ≡ false → is_faulted r ≡ false → IfErr r (EndedBy b)
     → Runs a b r other
 answered {a} {b} {x} {reads} r other h marks answer goes_on no_fault ended = record {
   sound = h.sound;
@@ -22,7 +24,7 @@ answered {a} {b} {x} {reads} r other h marks answer goes_on no_fault ended = rec
   taken = h.taken;
   within = λ honest. subst (λ m. b.taken ≤ a.taken + total m) (sym marks) (h.within honest);
   answer = λ honest _. answer (h.answer honest refl);
-  state = λ honest _. h.state honest refl ∙ ap (past a) (sym marks);
+  state = λ honest _. h.state honest refl ∙ ap (state_after a) (sym marks);
   fault = λ honest faults. absurd cc;
   misses = λ honest faults. absurd cc;
   ended = ended;
@@ -68,12 +70,30 @@ bytes_missing {a} {b} d room place k n h long short =
     rw too_few refl)
     refl refl (record { budget = tt; memory = λ e. absurd cc })
 
+-- a reading that was stopped gave none
+pub bytes_stopped : {X : Type 0} {a b : State} (d : List ℕ) (place k : ℕ) (failure : ImageError) (budget : ℕ) (bytes : X → List ℕ) (r : Result X Halt)
+    (why : Halt) → r ≡ Err why → Runs {X = List ℕ} a b (Err (error_by failure budget why)) (part_read d place k)
+    → Runs a b (map_answer bytes (with_error failure budget r)) (bytes_read d place k)
+bytes_stopped {a = a} {b = b} d place k failure budget bytes r why is h =
+    subst (λ s. Runs a b (map_answer bytes (with_error failure budget s)) (bytes_read d place k)) (sym is) (record {
+      sound = h.sound;
+      sound_after = h.sound_after;
+      frame = h.frame;
+      taken = h.taken;
+      within = h.within;
+      answer = λ honest goes_on. let no = h.answer honest goes_on in absurd cc;
+      state = λ honest goes_on. let no = h.answer honest goes_on in absurd cc;
+      fault = h.fault;
+      misses = h.misses;
+      ended = h.ended;
+    })
+
 -- the number of bytes that were read
 pub number_there : {a b : State} (d bs : List ℕ) (order : Endian) (place k v : ℕ) → Runs a b (Ok bs) (bytes_read d place k)
     → v ≡ number order bs → Runs a b (Ok v) (number_read d order place k)
 unfolding number_at
 number_there {a} {b} d bs order place k v h is =
-    answered (Ok v) (number_read d order place k) h refl (λ read. ap (seen (number order)) read ∙ ap Ok (sym is)) refl refl tt
+    answered (Ok v) (number_read d order place k) h refl (λ read. ap (map_answer (number order)) read ∙ ap Ok (sym is)) refl refl tt
 
 -- a refused reading has no number
 pub number_missing : {a b : State} (d : List ℕ) (order : Endian) (place k : ℕ) (e : ImageError) → Runs a b (Err e) (bytes_read d place k)
@@ -85,20 +105,20 @@ number_missing {a} {b} d order place k e h = record {
   frame = h.frame;
   taken = h.taken;
   within = h.within;
-  answer = λ honest goes_on. ap (seen (number order)) (h.answer honest goes_on);
+  answer = λ honest goes_on. ap (map_answer (number order)) (h.answer honest goes_on);
   state = h.state;
   fault = h.fault;
   misses = h.misses;
   ended = h.ended;
 }
 
-pub past-past : (a : State) (s t : List Span) → past (past a s) t ≡ past a (s ++ t)
-unfolding past
+pub past-past : (a : State) (s t : List Span) → state_after (state_after a s) t ≡ state_after a (s ++ t)
+unfolding state_after
 past-past a [] t = refl
 past-past a (x ∷ s) t = past-past (step a x) s t
 
-pub past-none : (a : State) → past a [] ≡ a
-unfolding past
+pub past-none : (a : State) → state_after a [] ≡ a
+unfolding state_after
 past-none a = refl
 
 both : (o : Option (List Span)) (s t : List Span) → option_map (λ spans. spans ++ t) (option_map (λ spans. spans ++ s) o)
@@ -114,8 +134,8 @@ pub total-append : (s t : List Span) → total (s ++ t) ≡ total s + total t
 total-append [] t = sym (zero-add (total t))
 total-append (x ∷ s) t = ap (λ n. x.len + n) (total-append s t) ∙ sym (add_assoc x.len (total s) (total t))
 
-pub past-recorded : (a : State) (s : List Span) → (past a s).recorded ≡ option_map (λ spans. spans ++ s) a.recorded
-unfolding past
+pub past-recorded : (a : State) (s : List Span) → (state_after a s).recorded ≡ option_map (λ spans. spans ++ s) a.recorded
+unfolding state_after
 past-recorded a [] = none_more a.recorded where
   none_more : (o : Option (List Span)) → o ≡ option_map (λ spans. spans ++ []) o
   none_more None = refl
@@ -160,8 +180,8 @@ missed_before a b marks more h = missed_as a a b marks (marks ++ more) (λ s is.
   within = is.within;
 }) h
 
-pub past-held : (a : State) (s : List Span) → (past a s).held ≡ a.held
-unfolding past
+pub past-held : (a : State) (s : List Span) → (state_after a s).held ≡ a.held
+unfolding state_after
 past-held a [] = refl
 past-held a (x ∷ s) = past-held (step a x) s
 
@@ -169,21 +189,21 @@ past_honest : {X : Type 0} {a m : State} {x : X} {r : Reads X} → Runs a m (Ok 
 past_honest {X} {a} {m} {x} {r} h honest = ap (λ s. s.held) (h.state honest refl) ∙ past-held a r.marks
 
 -- the spans of the readings before are among those of the whole
-total_first : {X Y : Type 0} (spans : List Span) (r : Result X ImageError) (f : X → Reads Y) → total spans ≤ total (onward spans r f).marks
+total_first : {X Y : Type 0} (spans : List Span) (r : Result X ImageError) (f : X → Reads Y) → total spans ≤ total (go_on spans r f).marks
 total_first spans (Ok x) f = omega (arith, total-append spans (f x).marks)
 total_first spans (Err e) f = omega arith
 
-pub missed_past : (a m b : State) (before marks : List Span) → m ≡ past a before → Missed m b marks → Missed a b (before ++ marks)
+pub missed_past : (a m b : State) (before marks : List Span) → m ≡ state_after a before → Missed m b marks → Missed a b (before ++ marks)
 missed_past a m b before marks is h = missed_behind a m b before marks (ap (λ s. s.recorded) is ∙ past-recorded a before) h
 
 pub missed_first : {X Y : Type 0} (a b : State) (spans : List Span) (r : Result X ImageError) (f : X → Reads Y) → Missed a b spans
-    → Missed a b (onward spans r f).marks
+    → Missed a b (go_on spans r f).marks
 missed_first a b spans (Ok x) f h = missed_before a b spans (f x).marks h
 missed_first a b spans (Err e) f h = h
 
 -- the spans of the readings before are the first of the whole
 pub marks_onward : {X Y : Type 0} (spans : List Span) (r : Result Y ImageError) (f : Y → Reads X)
-    → (more : List Span) × ((onward spans r f).marks ≡ spans ++ more)
+    → (more : List Span) × ((go_on spans r f).marks ≡ spans ++ more)
 marks_onward spans (Ok y) f = ((f y).marks, refl)
 marks_onward spans (Err e) f = ([], sym (append-nil spans))
 
@@ -195,8 +215,8 @@ pub runs_then : {X Y : Type 0} {a m b : State} {x : X} {y : Result Y ImageError}
 runs_then {X} {Y} {a} {m} {b} {x} {y} r f first second =
     let same = λ (honest : a.held.honest ≡ true). past_honest first honest in
     let honest_then = λ (honest : a.held.honest ≡ true). ap (λ h. h.honest) (same honest) ∙ honest in
-    let next = λ (honest : a.held.honest ≡ true). ap (λ v. onward r.marks v (λ w. f w a.held)) (first.answer honest refl)
-    ∙ ap (λ h. behind r.marks (f x h)) (sym (same honest)) in
+    let next = λ (honest : a.held.honest ≡ true). ap (λ v. go_on r.marks v (λ w. f w a.held)) (first.answer honest refl)
+    ∙ ap (λ h. put_behind r.marks (f x h)) (sym (same honest)) in
     record {
       sound = first.sound;
       sound_after = second.sound_after;
@@ -212,9 +232,9 @@ runs_then {X} {Y} {a} {m} {b} {x} {y} r f first second =
       answer = λ honest goes_on. ap (λ q. q.answer) (next honest) ∙ second.answer (honest_then honest) goes_on;
       state = λ honest goes_on.
           second.state (honest_then honest) goes_on
-          ∙ ap (λ s. past s (f x m.held).marks) (first.state honest refl)
+          ∙ ap (λ s. state_after s (f x m.held).marks) (first.state honest refl)
           ∙ past-past a r.marks (f x m.held).marks
-          ∙ ap (past a) (sym (ap (λ q. q.marks) (next honest)));
+          ∙ ap (state_after a) (sym (ap (λ q. q.marks) (next honest)));
       fault = λ honest faults. ap (λ h. h.can_fail) (sym (same honest)) ∙ second.fault (honest_then honest) faults;
       misses = λ honest faults. subst (λ (w : Reads Y). Missed a b w.marks) (sym (next honest))
           (missed_behind a m b r.marks (f x m.held).marks (ap (λ s. s.recorded) (first.state honest refl) ∙ past-recorded a r.marks)
@@ -231,8 +251,8 @@ runs_refused {X} {Y} {a} {b} {e} r f h = record {
   frame = h.frame;
   taken = h.taken;
   within = λ honest. omega (arith, h.within honest, total_first r.marks r.answer f);
-  answer = λ honest goes_on. ap (λ v. (onward r.marks v f).answer) (h.answer honest goes_on);
-  state = λ honest goes_on. h.state honest goes_on ∙ ap (past a) (sym (ap (λ v. (onward r.marks v f).marks) (h.answer honest goes_on)));
+  answer = λ honest goes_on. ap (λ v. (go_on r.marks v f).answer) (h.answer honest goes_on);
+  state = λ honest goes_on. h.state honest goes_on ∙ ap (state_after a) (sym (ap (λ v. (go_on r.marks v f).marks) (h.answer honest goes_on)));
   fault = h.fault;
   misses = λ honest faults. missed_first a b r.marks r.answer f (h.misses honest faults);
   ended = h.ended;

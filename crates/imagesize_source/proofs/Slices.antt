@@ -11,10 +11,10 @@ use Rattle.imagesize_source.proofs.Runs.{part_length}
 use Rattle.imagesize_source.proofs.Texts.{front_take}
 use Rattle.imagesize_source.specs.declared.text.Text.{Text}
 use Rattle.std.proofs.lemmas.Bool.{cases_lt}
-use Rattle.imagesize_source.specs.State.{State, Runs, Sound, past, slice_state}
+use Rattle.imagesize_source.specs.State.{State, Runs, IsSound, state_after, slice_state}
 
-past-slice : (d : List ℕ) (spans : List Span) → past (slice_state d) spans ≡ slice_state d
-unfolding past
+past-slice : (d : List ℕ) (spans : List Span) → state_after (slice_state d) spans ≡ slice_state d
+unfolding state_after
 past-slice d [] = refl
 past-slice d (s ∷ spans) = past-slice d spans
 
@@ -31,8 +31,8 @@ front_is d room old place n count copied kept =
     (part d place (length old)) (drop n old) ∙ ap (part d place) (sym kept)
 
 -- a reading that was answered, and for which nothing was taken
-pub given_runs : {X : Type 0} {a b : State} {reads : Reads X} (x : X) → Sound a → Sound b → b.frame ≡ a.frame → b.taken ≡ a.taken
-    → reads.answer ≡ Ok x → b ≡ past a reads.marks → Runs a b (Ok x) reads
+pub given_runs : {X : Type 0} {a b : State} {reads : Reads X} (x : X) → IsSound a → IsSound b → b.frame ≡ a.frame → b.taken ≡ a.taken
+    → reads.answer ≡ Ok x → b ≡ state_after a reads.marks → Runs a b (Ok x) reads
 given_runs x sound sound_after same none is passed = record {
   sound = sound;
   sound_after = sound_after;

@@ -4,8 +4,8 @@ use Rattle.imagesize_source.specs.declared.error.ImageError.{ImageError}
 use Rattle.imagesize_source.specs.declared.span.Span.{Span}
 use Rattle.imagesize_source.specs.Chain.{Said, Decided, Next, Chain, Along, start, next_record, verdict, chain_from, chain_at, Advances}
 use Rattle.imagesize_source.specs.Input.{span_of}
-use Rattle.imagesize_source.specs.Layout.{Layout, done, refuse, field, reading, over}
-use Rattle.imagesize_source.specs.Reading.{Reads, Reading, AllOf, PartOf, TextOf, onward, and_then, number_at, read_of, text_part}
+use Rattle.imagesize_source.specs.Layout.{Layout, done, refuse, field, reading, layout_reads}
+use Rattle.imagesize_source.specs.Reading.{Reads, Reading, AllOf, PartOf, TextOf, go_on, and_then, number_at, read_of, text_part}
 use Rattle.imagesize_source.specs.State.{total}
 use Rattle.imagesize_source.proofs.ChainLaws.{chain_induction}
 use Rattle.imagesize_source.proofs.Chains.{chain_next, chain_stop}
@@ -74,20 +74,20 @@ reading_spends d (TextOf t k) place bs is = omega (
 
 onward_spends : {X Y : Type 0} (n q : ℕ) (to : Y → Option ℕ) (spans : List Span) (r : Result X ImageError) (f : X → Reads Y)
     (next : X → ℕ) → total spans ≤ n - q → ((x : X) → r ≡ Ok x → total spans + (n - next x) ≤ n - q)
-    → ((x : X) → r ≡ Ok x → Spends n (next x) to (f x)) → Spends n q to (onward spans r f)
+    → ((x : X) → r ≡ Ok x → Spends n (next x) to (f x)) → Spends n q to (go_on spans r f)
 onward_spends n q to spans (Ok x) f next few here rest = omega (arith, here x refl, rest x refl, total-append spans (f x).marks)
 onward_spends n q to spans (Err e) f next few here rest = omega arith
 
 -- a layout that goes forward spends the bytes of the input
-pub spends : {X : Type 0} (d : List ℕ) (to : X → Option ℕ) (q : ℕ) (t : Layout X) → Onto to q t → Spends (length d) q to (over d t)
+pub spends : {X : Type 0} (d : List ℕ) (to : X → Option ℕ) (q : ℕ) (t : Layout X) → Onto to q t → Spends (length d) q to (layout_reads d t)
 spends d to q (done x) h = omega (arith, not_before_left (length d) q (to x) h)
 spends d to q (refuse e) h = omega arith
 spends d to q (field order place k f) h =
-    onward_spends (length d) q to (span_of d place k) (number_at d order place k) (λ v. over d (f v)) (λ _. place + k)
+    onward_spends (length d) q to (span_of d place k) (number_at d order place k) (λ v. layout_reads d (f v)) (λ _. place + k)
     (omega (arith, h.0, total_there d place k)) (λ v _. omega (arith, h.0, total_there d place k))
     (λ v _. spends d to (place + k) (f v) (h.1 v))
 spends d to q (reading r place f) h =
-    onward_spends (length d) q to (read_of d r place).marks (read_of d r place).answer (λ bs. over d (f bs)) (λ bs. place + passed r bs)
+    onward_spends (length d) q to (read_of d r place).marks (read_of d r place).answer (λ bs. layout_reads d (f bs)) (λ bs. place + passed r bs)
     (omega (arith, h.0, reading_left d r place)) (λ bs is. omega (arith, h.0, reading_spends d r place bs is))
     (λ bs _. spends d to (place + passed r bs) (f bs) (h.1 bs))
 

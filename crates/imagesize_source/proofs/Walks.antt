@@ -2,9 +2,9 @@
 use Rattle.std.proofs.Common.{◌≡◌, ℕ, ◌^◌, ◌<◌, ◌≤◌, List, [], ◌∷◌, ◌++◌, length, Some, Result, Ok, Err, IfErr, false, refl, ap, ◌∙◌, arith}
 use Rattle.imagesize_source.specs.declared.error.ImageError.{ImageError}
 use Rattle.imagesize_source.specs.Chain.{Decided, Next, Chain, verdict, chain_from, chain_at, Advances}
-use Rattle.imagesize_source.specs.Layout.{over}
-use Rattle.imagesize_source.specs.Reading.{refuses, faulted, end_of_input}
-use Rattle.imagesize_source.specs.State.{State, Runs, EndedBy, Sound}
+use Rattle.imagesize_source.specs.Layout.{layout_reads}
+use Rattle.imagesize_source.specs.Reading.{refuses, is_faulted, end_of_input}
+use Rattle.imagesize_source.specs.State.{State, Runs, EndedBy, IsSound}
 use Rattle.imagesize_source.proofs.Chains.{chain_stop}
 use Rattle.imagesize_source.proofs.Reached.{Reached, reached_start, reached_now, walk_on, walk_stop, walk_out}
 
@@ -13,7 +13,7 @@ pub record Walks {C X : Type 0} (c : Chain C X) (P : List C → Type 0) (a b : S
   pub held : List C
   pub known : P held
   pub reached : Reached a b (chain_at c a.held.input) (chain_from c a.held.input (record { held = held; place = place }))
-  pub sound : c.first < place → Sound b
+  pub sound : c.first < place → IsSound b
 
 module _ {C X : Type 0} (c : Chain C X) where
   -- it starts at the first record
@@ -30,7 +30,7 @@ module _ {C X : Type 0} (c : Chain C X) (adv : (d : List ℕ) → Advances c d) 
     (w : Walks c P a b place) where
   -- it goes on by a record that tells the place of the next
   pub walks_on : {end : State} (Q : List C → Type 0) (v : C) (next : ℕ)
-      → ((held : List C) → P held → Runs b end (Ok (Next v next)) (over b.held.input (c.said held place)))
+      → ((held : List C) → P held → Runs b end (Ok (Next v next)) (layout_reads b.held.input (c.said held place)))
       → ((held : List C) → P held → Q (held ++ v ∷ [])) → Walks c Q a end next
   walks_on Q v next run knows = record {
     held = w.held ++ v ∷ [];
@@ -41,19 +41,19 @@ module _ {C X : Type 0} (c : Chain C X) (adv : (d : List ℕ) → Advances c d) 
 
   -- it ends by one that decides
   pub walks_stop : {end : State} (x : X)
-      → ((held : List C) → P held → Runs b end (Ok (Decided x)) (over b.held.input (c.said held place)))
+      → ((held : List C) → P held → Runs b end (Ok (Decided x)) (layout_reads b.held.input (c.said held place)))
       → Runs a end (Ok x) (chain_at c a.held.input)
   walks_stop x run = walk_stop c adv (record { held = w.held; place = place }) w.reached x (run w.held w.known)
 
   -- or by one that is refused
   pub walks_out : {end : State} (e : ImageError)
-      → ((held : List C) → P held → Runs b end (Err e) (over b.held.input (c.said held place)))
+      → ((held : List C) → P held → Runs b end (Err e) (layout_reads b.held.input (c.said held place)))
       → Runs a end (Err e) (chain_at c a.held.input)
   walks_out e run = walk_out c adv (record { held = w.held; place = place }) w.reached e (run w.held w.known)
 
   -- or at a place beyond every input, where nothing more is read
   pub walks_past : 2 ^ 63 ≤ place → c.first < place → ((held : List C) (d : List ℕ) → P held → length d ≤ place
-      → over d (c.said held place) ≡ refuses end_of_input) → Runs a b (Err end_of_input) (chain_at c a.held.input)
+      → layout_reads d (c.said held place) ≡ refuses end_of_input) → Runs a b (Err end_of_input) (chain_at c a.held.input)
   walks_past far some none = reached_now w.reached (Err end_of_input) (w.sound some) refl (record { budget = tt; memory = λ e. absurd cc })
       (λ honest short.
       let out = none w.held a.held.input w.known (omega arith) in
@@ -61,8 +61,8 @@ module _ {C X : Type 0} (c : Chain C X) (adv : (d : List ℕ) → Advances c d) 
       ∙ ap (λ r. record { answer = Err end_of_input; marks = r.marks }) out)
 
   -- or where nothing more is read, and the record at this place has its verdict
-  pub walks_now : (r : Result X ImageError) → Sound b → faulted r ≡ false → IfErr r (EndedBy b) → ((held : List C) (d : List ℕ) → P held
-      → (verdict (over d (c.said held place)).answer ≡ Some r) × ((over d (c.said held place)).marks ≡ []))
+  pub walks_now : (r : Result X ImageError) → IsSound b → is_faulted r ≡ false → IfErr r (EndedBy b) → ((held : List C) (d : List ℕ) → P held
+      → (verdict (layout_reads d (c.said held place)).answer ≡ Some r) × ((layout_reads d (c.said held place)).marks ≡ []))
       → Runs a b r (chain_at c a.held.input)
   walks_now r sound no_fault ended says = reached_now w.reached r sound no_fault ended
       (λ honest short.

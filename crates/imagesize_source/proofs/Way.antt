@@ -1,6 +1,6 @@
 -- What holds of a format, by the way in which it tells its answer.
 use Rattle.std.proofs.Common.{◌≡◌, ℕ, ◌+◌, ◌-◌, ◌*◌, ◌≤◌, Bool, true, List, ◌++◌, length, Ok, arith}
-use Rattle.imagesize_source.specs.Agreement.{Local}
+use Rattle.imagesize_source.specs.Agreement.{IsLocal}
 use Rattle.imagesize_source.specs.Counts.{AtMost}
 use Rattle.imagesize_source.specs.Extension.{Plain}
 use Rattle.imagesize_source.specs.Layout.{Layout}
@@ -23,14 +23,14 @@ pub record FixedLaws {X : Type 0} (first outside : ℕ) (layout : Layout X) : Ty
 -- Of a format of records, `outside` of which so much is read with the type, and at most `each` of a record; `keeps`
 -- says whether bytes that follow leave its answer, and `texts` whether texts are read.
 pub record RecordedLaws {X : Type 0} (first outside each : ℕ) (keeps texts : Bool) (reads : List ℕ → Reads X) (begun : List ℕ → ℕ) : Type 0 where
-  pub local : Local texts reads
+  pub local : IsLocal texts reads
   pub cost : (d : List ℕ) → first + total (reads d).marks ≤ outside + each * begun d
   pub within : (d : List ℕ) → first + total (reads d).marks ≤ length d + 28
   pub lasts : keeps ≡ true → AnswersLast reads
 
 -- Of a format of texts.
 pub record TextsLaws {X : Type 0} (first : ℕ) (keeps texts : Bool) (reads : List ℕ → Reads X) : Type 0 where
-  pub local : Local texts reads
+  pub local : IsLocal texts reads
   pub within : (d : List ℕ) → first + total (reads d).marks ≤ length d + 28
   pub lasts : keeps ≡ true → AnswersLast reads
 
@@ -41,7 +41,7 @@ Laws first outside each keeps texts (Texts reads) = TextsLaws first keeps texts 
 
 -- an input that agrees on the marks has the same answer and the same marks
 pub local_way : {X : Type 0} (first outside each : ℕ) (keeps texts : Bool) (way : Way X) → Laws first outside each keeps texts way
-    → Local texts (by_way way)
+    → IsLocal texts (by_way way)
 local_way first outside each keeps texts (Fixed layout) laws = local_layout layout (without_texts texts (outside - first) layout laws.few)
 local_way first outside each keeps texts (Recorded _ reads begun) laws = laws.local
 local_way first outside each keeps texts (Texts reads) laws = laws.local

@@ -9,14 +9,14 @@ abbrev pub has_place : Span → ℕ → Bool
 has_place s place = nat_le s.start place && nat_lt place (s.start + s.len)
 
 -- some span has the place
-abbrev pub covered : List Span → ℕ → Bool
-covered [] place = false
-covered (s ∷ spans) place = has_place s place || covered spans place
+abbrev pub is_covered : List Span → ℕ → Bool
+is_covered [] place = false
+is_covered (s ∷ spans) place = has_place s place || is_covered spans place
 
 -- e is as long as d, and has the byte of d at every place of every span
 pub record Agrees (d e : List ℕ) (spans : List Span) : Type 0 where
   pub as_long : length e ≡ length d
-  pub same_byte : (place : ℕ) → covered spans place ≡ true → slice_index e place ≡ slice_index d place
+  pub same_byte : (place : ℕ) → is_covered spans place ≡ true → slice_index e place ≡ slice_index d place
 
 -- some span has the whole of this one
 abbrev pub has_whole : List Span → Span → Bool
@@ -45,5 +45,5 @@ Alike texts d e p q = (q ≡ p) ⊎ Parting texts d e p.marks q.marks
 
 -- Readings, with texts or without, see an input by their marks alone, one behind another: of two inputs as long they have
 -- the same answer and marks, or these part.
-abbrev pub Local : {X : Type 0} → Bool → (List ℕ → Reads X) → Type 0
-Local texts r = (d e : List ℕ) → length e ≡ length d → Alike texts d e (r d) (r e)
+abbrev pub IsLocal : {X : Type 0} → Bool → (List ℕ → Reads X) → Type 0
+IsLocal texts r = (d e : List ℕ) → length e ≡ length d → Alike texts d e (r d) (r e)

@@ -4,7 +4,7 @@ use Rattle.std.specs.List.{position_or_len, range_with_len}
 use Rattle.std.specs.Option.{option_map_or}
 use Rattle.imagesize_source.specs.declared.error.ImageError.{ImageError}
 use Rattle.imagesize_source.specs.declared.span.Span.{Span}
-use Rattle.imagesize_source.specs.Layout.{Layout, over}
+use Rattle.imagesize_source.specs.Layout.{Layout, layout_reads}
 use Rattle.imagesize_source.specs.Reading.{Reads, end_of_input}
 
 -- what a record says: the chain's answer, or what the record holds and the place of the next
@@ -27,7 +27,7 @@ start c = record { held = []; place = c.first }
 
 -- the record that is next
 abbrev pub next_record : {C X : Type 0} → Chain C X → List ℕ → Along C → Reads (Said C X)
-next_record c d t = over d (c.said t.held t.place)
+next_record c d t = layout_reads d (c.said t.held t.place)
 
 -- how far along a record leads; nowhere where it decides or is refused
 abbrev pub leads : {C X : Type 0} → List C → Result (Said C X) ImageError → Option (Along C)
@@ -71,6 +71,11 @@ chain_from c d t = record {
 
 abbrev pub records : {C X : Type 0} → Chain C X → List ℕ → ℕ
 records c d = records_from c d (start c)
+
+-- how many of them an answer leads to: behind a refusal none is begun
+abbrev pub count_behind : {X : Type 0} → Result X ImageError → (X → ℕ) → ℕ
+count_behind (Ok x) count = count x
+count_behind (Err e) count = 0
 
 abbrev pub chain_at : {C X : Type 0} → Chain C X → List ℕ → Reads X
 chain_at c d = chain_from c d (start c)

@@ -2,13 +2,13 @@
 use Rattle.std.specs.Prelude.{ℕ, ◌+◌, ◌-◌, ◌≤◌, List, count_by}
 use Rattle.std.specs.List.{range_with_len}
 use Rattle.imagesize_source.specs.declared.span.Span.{Span}
-use Rattle.imagesize_source.specs.Agreement.{covered}
+use Rattle.imagesize_source.specs.Agreement.{is_covered}
 use Rattle.imagesize_source.specs.Layout.{Layout, done, refuse, field, reading}
 use Rattle.imagesize_source.specs.Reading.{Reading, AllOf, PartOf, TextOf, most}
 
 -- how many of the first n places the spans have, each counted once
 abbrev pub places : ℕ → List Span → ℕ
-places n spans = count_by (covered spans) (range_with_len 0 n)
+places n spans = count_by (is_covered spans) (range_with_len 0 n)
 
 -- what is owed of a reading that is not of a text
 abbrev pub IfBytes : Reading → Type 0 → Type 0

@@ -4,7 +4,7 @@ use Rattle.std.specs.Prelude.{unwrap_or, flat_map}
 use Rattle.std.specs.List.{range_with_len}
 use Rattle.imagesize_source.specs.declared.source.parts.Missing.{Missing}
 use Rattle.imagesize_source.specs.declared.span.Span.{Span}
-use Rattle.imagesize_source.specs.Agreement.{covered}
+use Rattle.imagesize_source.specs.Agreement.{is_covered}
 use Rattle.imagesize_source.specs.Input.{part}
 use Rattle.imagesize_source.specs.State.{State}
 
@@ -40,7 +40,7 @@ pub record HasParts (d : List ℕ) (n : ℕ) (spans : List Span) (content : List
 
 -- the parts have each place of these spans
 abbrev pub AllKnown : ℕ → List Span → List ℕ → List Span → Type 0
-AllKnown n spans bytes seen = (place : ℕ) → covered seen place ≡ true → is_some (known n spans bytes place) ≡ true
+AllKnown n spans bytes seen = (place : ℕ) → is_covered seen place ≡ true → is_some (known n spans bytes place) ≡ true
 
 -- what is missed lies within the input, and its first byte is not known
 abbrev pub Lacks : ℕ → List Span → List ℕ → Missing → Type 0

@@ -1,8 +1,8 @@
 -- A layout: which readings an answer rests on, as a tree.
-use Rattle.std.specs.Prelude.{ℕ, List, length, nat_le, if◌then◌else◌, Option, None, Some}
+use Rattle.std.specs.Prelude.{ℕ, Bool, true, false, List, length, nat_le, if◌then◌else◌, Option, None, Some, Result, Ok, Err}
 use Rattle.imagesize_source.specs.declared.error.ImageError.{ImageError}
 use Rattle.imagesize_source.specs.declared.text.Text.{Text}
-use Rattle.imagesize_source.specs.declared.util.Endian.{Endian}
+use Rattle.imagesize_source.specs.declared.endian.Endian.{Endian}
 use Rattle.imagesize_source.specs.Reading.{Reads, Reading, AllOf, PartOf, TextOf, gives, refuses, and_then, number_read, read_of}
 
 -- It sees the input by its readings alone: a number of k bytes at a place, or a reading of bytes there.
@@ -25,11 +25,11 @@ abbrev pub text : {X : Type 0} → Text → ℕ → ℕ → (List ℕ → Layout
 text t place k f = reading (TextOf t k) place f
 
 -- what a layout says of an input
-abbrev pub over : {X : Type 0} → List ℕ → Layout X → Reads X
-over d (done x) = gives x
-over d (refuse e) = refuses e
-over d (field order place k f) = and_then (number_read d order place k) (λ v. over d (f v))
-over d (reading r place f) = and_then (read_of d r place) (λ bs. over d (f bs))
+abbrev pub layout_reads : {X : Type 0} → List ℕ → Layout X → Reads X
+layout_reads d (done x) = gives x
+layout_reads d (refuse e) = refuses e
+layout_reads d (field order place k f) = and_then (number_read d order place k) (λ v. layout_reads d (f v))
+layout_reads d (reading r place f) = and_then (read_of d r place) (λ bs. layout_reads d (f bs))
 
 -- a layout, and what goes on from its answer
 abbrev pub bind : {X Y : Type 0} → Layout X → (X → Layout Y) → Layout Y
@@ -38,6 +38,11 @@ bind (refuse e) g = refuse e
 bind (field order place k f) g = field order place k (λ v. bind (f v) g)
 bind (reading r place f) g = reading r place (λ bs. bind (f bs) g)
 
+-- what goes on where something is accepted; a refusal ends it
+abbrev pub accept : {X Y : Type 0} → Result X ImageError → (X → Layout Y) → Layout Y
+accept (Ok x) f = f x
+accept (Err e) f = refuse e
+
 -- all of k bytes, or none where some are missing
 abbrev pub whole : ℕ → List ℕ → Option (List ℕ)
 whole k bs = if nat_le k (length bs) then Some bs else None
@@ -45,3 +50,8 @@ whole k bs = if nat_le k (length bs) then Some bs else None
 -- k bytes, or none where the input ends before the last of them
 abbrev pub if_there : {X : Type 0} → ℕ → ℕ → (Option (List ℕ) → Layout X) → Layout X
 if_there place k f = there place k (λ bs. f (whole k bs))
+
+-- bytes, or none where this is false
+abbrev pub some_where : List ℕ → Bool → Option (List ℕ)
+some_where bs true = Some bs
+some_where bs false = None

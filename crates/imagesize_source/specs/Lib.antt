@@ -1,4 +1,5 @@
 pub mod Agreement
+pub mod Buffer
 pub mod Chain
 pub mod Counts
 pub mod Extension
@@ -6,7 +7,6 @@ pub mod Halts
 pub mod Input
 pub mod Known
 pub mod Layout
-pub mod Lent
 pub mod Limits
 pub mod Numbers
 pub mod Paying

@@ -1,7 +1,7 @@
 -- Numbers of both byte orders.
 use Rattle.std.specs.Prelude.{ℕ, ◌+◌, ◌*◌, List, [], ◌∷◌, reverse}
-use Rattle.imagesize_source.specs.declared.util.Endian.{Endian}
-use Rattle.imagesize_source.specs.declared.util.Endian.TheVariants.{Little, Big}
+use Rattle.imagesize_source.specs.declared.endian.Endian.{Endian}
+use Rattle.imagesize_source.specs.declared.endian.Endian.TheVariants.{Little, Big}
 
 -- the sum of the bytes times the powers of 256, the first byte times 1
 abbrev pub little : List ℕ → ℕ

@@ -5,7 +5,7 @@ use Rattle.imagesize_source.specs.declared.error.ImageError.TheVariants.{NotSupp
 use Rattle.imagesize_source.specs.declared.error.Reason.TheVariants.{EndOfInput, Fault, BudgetSpent, Memory}
 use Rattle.imagesize_source.specs.declared.span.Span.{Span}
 use Rattle.imagesize_source.specs.declared.text.Text.{Text}
-use Rattle.imagesize_source.specs.declared.util.Endian.{Endian}
+use Rattle.imagesize_source.specs.declared.endian.Endian.{Endian}
 use Rattle.imagesize_source.specs.Input.{part, span_at, span_of}
 use Rattle.imagesize_source.specs.Numbers.{number}
 use Rattle.imagesize_source.specs.Text.{text_front}
@@ -23,21 +23,21 @@ abbrev pub refuses : {X : Type 0} → ImageError → Reads X
 refuses e = record { answer = Err e; marks = [] }
 
 -- readings behind some spans
-abbrev pub behind : {X : Type 0} → List Span → Reads X → Reads X
-behind marks r = record { answer = r.answer; marks = marks ++ r.marks }
+abbrev pub put_behind : {X : Type 0} → List Span → Reads X → Reads X
+put_behind marks r = record { answer = r.answer; marks = marks ++ r.marks }
 
 -- what goes on from an answer, behind the spans of its readings; a refusal ends it
-abbrev pub onward : {X Y : Type 0} → List Span → Result X ImageError → (X → Reads Y) → Reads Y
-onward marks (Ok x) f = behind marks (f x)
-onward marks (Err e) f = record { answer = Err e; marks = marks }
+abbrev pub go_on : {X Y : Type 0} → List Span → Result X ImageError → (X → Reads Y) → Reads Y
+go_on marks (Ok x) f = put_behind marks (f x)
+go_on marks (Err e) f = record { answer = Err e; marks = marks }
 
 abbrev pub and_then : {X Y : Type 0} → Reads X → (X → Reads Y) → Reads Y
-and_then r f = onward r.marks r.answer f
+and_then r f = go_on r.marks r.answer f
 
 -- the same answer, its value seen through a function
-abbrev pub seen : {X Y : Type 0} → (X → Y) → Result X ImageError → Result Y ImageError
-seen f (Ok x) = Ok (f x)
-seen f (Err e) = Err e
+abbrev pub map_answer : {X Y : Type 0} → (X → Y) → Result X ImageError → Result Y ImageError
+map_answer f (Ok x) = Ok (f x)
+map_answer f (Err e) = Err e
 
 -- the end of the input, as a refusal
 abbrev pub end_of_input : ImageError
@@ -49,7 +49,7 @@ bytes_at d place k = if nat_le k (length d - place) then Ok (part d place k) els
 
 -- the number of k bytes from a place on, where all are there
 unfoldable pub number_at : List ℕ → Endian → ℕ → ℕ → Result ℕ ImageError
-number_at d order place k = seen (number order) (bytes_at d place k)
+number_at d order place k = map_answer (number order) (bytes_at d place k)
 
 -- the reading of what is there of k bytes from a place on
 abbrev pub part_read : List ℕ → ℕ → ℕ → Reads (List ℕ)
@@ -119,10 +119,10 @@ abbrev pub is_stop : ImageError → Bool
 is_stop e = is_fault e || is_spent e || is_memory e
 
 -- an answer that ends a call at once, and one by a failure of the reader
-abbrev pub stopped : {X : Type 0} → Result X ImageError → Bool
-stopped (Ok _) = false
-stopped (Err e) = is_stop e
+abbrev pub is_stopped : {X : Type 0} → Result X ImageError → Bool
+is_stopped (Ok _) = false
+is_stopped (Err e) = is_stop e
 
-abbrev pub faulted : {X : Type 0} → Result X ImageError → Bool
-faulted (Ok _) = false
-faulted (Err e) = is_fault e
+abbrev pub is_faulted : {X : Type 0} → Result X ImageError → Bool
+is_faulted (Ok _) = false
+is_faulted (Err e) = is_fault e

@@ -4,9 +4,9 @@ use Rattle.imagesize_source.specs.Input.{span_at}
 use Rattle.imagesize_source.specs.Limits.{most_held}
 use Rattle.imagesize_source.specs.declared.error.ImageError.{ImageError}
 use Rattle.imagesize_source.specs.declared.span.Span.{Span}
-use Rattle.imagesize_source.specs.Reading.{Reads, stopped, faulted, is_memory, spent}
+use Rattle.imagesize_source.specs.Reading.{Reads, is_stopped, is_faulted, is_memory, spent}
 
--- What never changes: the told length and the budget, whether bytes taken are counted and spans recorded,
+-- What never changes: the told length and the budget, whether bytes taken are counted and memory is taken for spans,
 -- the name of the borrow behind the source, by how much what the reader itself counts is above what was taken,
 -- and below it, and the parts that are known, of a source of parts.
 pub record Frame : Type 0 where
@@ -35,8 +35,8 @@ pub record State : Type 0 where
   pub missed : Option (Option Span)
 
 -- how many of n bytes from a place on lie behind the first `front`
-abbrev pub fresh : ℕ → ℕ → ℕ → ℕ
-fresh front place n = (place + n) - max place front
+abbrev pub new_bytes : ℕ → ℕ → ℕ → ℕ
+new_bytes front place n = (place + n) - max place front
 
 -- how many of its first bytes a source holds after such a reading: those that join on, as many as the window has
 abbrev pub front_after : ℕ → ℕ → ℕ → ℕ
@@ -46,14 +46,14 @@ front_after front place n = if nat_le place front then max front (min most_held 
 abbrev pub step : State → Span → State
 step a s = record a {
   front = if a.frame.counts then front_after a.front s.start s.len else a.front;
-  taken = if a.frame.counts then a.taken + fresh a.front s.start s.len else a.taken;
+  taken = if a.frame.counts then a.taken + new_bytes a.front s.start s.len else a.taken;
   recorded = option_map (λ spans. spans ++ s ∷ []) a.recorded;
 }
 
 -- the state after the readings of these spans
-unfoldable pub past : State → List Span → State
-past a [] = a
-past a (s ∷ spans) = past (step a s) spans
+unfoldable pub state_after : State → List Span → State
+state_after a [] = a
+state_after a (s ∷ spans) = state_after (step a s) spans
 
 -- how many bytes the spans have together, repeats counted
 abbrev pub total : List Span → ℕ
@@ -61,11 +61,11 @@ total [] = 0
 total (s ∷ spans) = s.len + total spans
 
 -- an honest source tells the true length, which is below 2^63
-abbrev pub Sound : State → Type 0
-Sound a = a.held.honest ≡ true → (a.frame.told ≡ length a.held.input) × (length a.held.input < 2 ^ 63)
+abbrev pub IsSound : State → Type 0
+IsSound a = a.held.honest ≡ true → (a.frame.told ≡ length a.held.input) × (length a.held.input < 2 ^ 63)
 
 -- A spent budget is only answered by a source that counts, and names the bytes taken; refused memory only
--- by one that records, and over an input that has a byte.
+-- by one that takes it for spans, and over an input that has a byte.
 pub record EndedBy (b : State) (e : ImageError) : Type 0 where
   pub budget : IfSome (spent e) (λ n. (b.frame.counts ≡ true) × (n ≡ b.frame.budget) × (n ≡ b.taken))
   pub memory : is_memory e ≡ true → (b.frame.records ≡ true) × (0 < length b.held.input)
@@ -89,15 +89,15 @@ pub record Missed (a b : State) (marks : List Span) : Type 0 where
 -- honest, it has taken no more than the readings' spans; where nothing stopped it, the answer is theirs, and
 -- the state the one past their spans; a failure comes only from a source that can fail.
 pub record Runs {X : Type 0} (a b : State) (r : Result X ImageError) (reads : Reads X) : Type 0 where
-  pub sound : Sound a
-  pub sound_after : Sound b
+  pub sound : IsSound a
+  pub sound_after : IsSound b
   pub frame : b.frame ≡ a.frame
   pub taken : a.taken ≤ b.taken
   pub within : a.held.honest ≡ true → b.taken ≤ a.taken + total reads.marks
-  pub answer : a.held.honest ≡ true → stopped r ≡ false → reads.answer ≡ r
-  pub state : a.held.honest ≡ true → stopped r ≡ false → b ≡ past a reads.marks
-  pub fault : a.held.honest ≡ true → faulted r ≡ true → a.held.can_fail ≡ true
-  pub misses : a.held.honest ≡ true → faulted r ≡ true → Missed a b reads.marks
+  pub answer : a.held.honest ≡ true → is_stopped r ≡ false → reads.answer ≡ r
+  pub state : a.held.honest ≡ true → is_stopped r ≡ false → b ≡ state_after a reads.marks
+  pub fault : a.held.honest ≡ true → is_faulted r ≡ true → a.held.can_fail ≡ true
+  pub misses : a.held.honest ≡ true → is_faulted r ≡ true → Missed a b reads.marks
   pub ended : IfErr r (EndedBy b)
 
 -- a slice as a source: it counts nothing, records nothing and cannot fail
@@ -111,10 +111,11 @@ slice_state d = record {
   missed = None;
 }
 
--- a slice whose readings' spans are recorded behind these
-abbrev pub recording_state : List ℕ → List Span → State
-recording_state d spans = record {
-  frame = record { told = length d; budget = 0; counts = false; records = true; home = 0; since = None; parts = None };
+-- a slice whose readings' spans are recorded behind these, with the name of the borrow of their buffer: memory can be
+-- refused where that buffer takes any
+abbrev pub recording_state : List ℕ → List Span → Bool → ℕ → State
+recording_state d spans allocates home = record {
+  frame = record { told = length d; budget = 0; counts = false; records = allocates; home = home; since = None; parts = None };
   held = record { honest = true; input = d; can_fail = false };
   front = 0;
   taken = 0;

@@ -1,7 +1,7 @@
 -- The ways in which the formats tell their answers.
 use Rattle.std.specs.Prelude.{ℕ, ◌+◌, ◌*◌, min, List, length}
 use Rattle.imagesize_source.specs.Limits.{allowance, stated_beside, stated_fixed}
-use Rattle.imagesize_source.specs.Layout.{Layout, over}
+use Rattle.imagesize_source.specs.Layout.{Layout, layout_reads}
 use Rattle.imagesize_source.specs.Reading.{Reads}
 
 -- An answer stands at fixed places; or behind records, each of which is read from at most so many bytes, with how many
@@ -13,7 +13,7 @@ pub data Way (X : Type 0) : Type 0 where
 
 -- what an input says that is read in this way
 abbrev pub by_way : {X : Type 0} → Way X → List ℕ → Reads X
-by_way (Fixed layout) d = over d layout
+by_way (Fixed layout) d = layout_reads d layout
 by_way (Recorded each reads begun) d = reads d
 by_way (Texts reads) d = reads d
 

@@ -2,13 +2,13 @@
 ghost use Rattle.std.specs.Prelude.{◌≡◌, ◌<◌, ◌≤◌, take, length, IfOk};
 ghost use Rattle.imagesize_source.specs.Halts.{error_by, with_error};
 ghost use Rattle.imagesize_source.specs.Paying.{Paid};
-ghost use Rattle.imagesize_source.specs.Reading.{seen, part_read, text_read};
-ghost use Rattle.imagesize_source.specs.State.{State, Runs, Sound};
+ghost use Rattle.imagesize_source.specs.Reading.{map_answer, part_read, text_read};
+ghost use Rattle.imagesize_source.specs.State.{State, Runs, IsSound};
 ghost use Rattle.imagesize_source.specs.declared.error.ImageError.{ImageError};
 
 use crate::{Halt, ImageError, Text};
 
-pub mod lent;
+mod log;
 pub mod parts;
 pub mod recording;
 pub mod slice;
@@ -24,7 +24,7 @@ pub trait Source {
     /// The length of the input, as it was given.
     fn told(&self) -> u64
         ensures told { result ≡ (state self.now).frame.told }
-        ensures sound { Sound (state self.now) };
+        ensures sound { IsSound (state self.now) };
 
     /// How many bytes were taken from a reader.
     fn taken(&self) -> u64
@@ -41,7 +41,7 @@ pub trait Source {
         // Above the told length and the bytes held, what comes is paid for.
         ensures pays { IfOk result (λ n. 0 < n → Paid (state self.old) (state self.new) place) }
         ensures runs { Runs (state self.old) (state self.new)
-            (seen (λ n. take n room.new) (with_error (failure self.new) (state self.new).frame.budget result))
+            (map_answer (λ n. take n room.new) (with_error (failure self.new) (state self.new).frame.budget result))
             (part_read (state self.old).held.input place (length room.new)) };
 
     /// Reads the text from an offset on into the buffer, as far as that goes, and returns how many bytes that
@@ -52,6 +52,6 @@ pub trait Source {
         // Above the told length and the bytes held, what comes is paid for.
         ensures pays { IfOk result (λ n. 0 < n → Paid (state self.old) (state self.new) place) }
         ensures runs { Runs (state self.old) (state self.new)
-            (seen (λ n. take n room.new) (with_error (failure self.new) (state self.new).frame.budget result))
+            (map_answer (λ n. take n room.new) (with_error (failure self.new) (state self.new).frame.budget result))
             (text_read (state self.old).held.input text place (length room.new)) };
 }

@@ -9,15 +9,15 @@ use Rattle.imagesize_types.specs.declared.size.ImageSize.{ImageSize}
 use Rattle.imagesize_source.specs.declared.error.ImageError.{ImageError}
 use Rattle.imagesize_source.specs.declared.error.ImageError.TheVariants.{IoError}
 use Rattle.imagesize_source.specs.declared.error.Reason.TheVariants.{DataWindowNotFound}
-use Rattle.imagesize_source.specs.declared.util.Endian.TheVariants.{Little}
-use Rattle.imagesize_source.specs.Agreement.{Local}
-use Rattle.imagesize_source.specs.Chain.{Said, Decided, Next, Advances, chain_at, start}
+use Rattle.imagesize_source.specs.declared.endian.Endian.TheVariants.{Little}
+use Rattle.imagesize_source.specs.Agreement.{IsLocal}
+use Rattle.imagesize_source.specs.Chain.{Said, Decided, Next, Advances, chain_at, start, count_behind, records}
 use Rattle.imagesize_source.specs.Counts.{AtMost}
 use Rattle.imagesize_source.specs.Extension.{Plain, Lasts}
 use Rattle.imagesize_source.specs.Input.{span_of}
-use Rattle.imagesize_source.specs.Layout.{Layout, over, bytes, done, refuse}
+use Rattle.imagesize_source.specs.Layout.{Layout, layout_reads, bytes, done, refuse}
 use Rattle.imagesize_source.specs.Numbers.{number}
-use Rattle.imagesize_source.specs.Reading.{onward, number_at, number_read, end_of_input}
+use Rattle.imagesize_source.specs.Reading.{go_on, number_at, number_read, end_of_input}
 use Rattle.imagesize_source.specs.State.{State, Runs, total}
 use Rattle.imagesize_source.proofs.Advances.{Tells, advances}
 use Rattle.imagesize_source.proofs.Ahead.{Ahead, chain_ahead}
@@ -30,8 +30,8 @@ use Rattle.imagesize_source.proofs.Spends.{said_to}
 use Rattle.imagesize_source.proofs.Tests.{on_test}
 use Rattle.imagesize_source.proofs.Walks.{Walks, walks_start, walks_on, walks_stop, walks_out, walks_past}
 use Rattle.imagesize_source.proofs.Way.{RecordedLaws}
-use Rattle.imagesize_texts.specs.Exr.{exr, exr_attributes, exr_attribute, exr_named, exr_typed, exr_value, exr_window, name_room, window_size, is_data_window, is_box, signed_at, begun_of, attributes_begun}
-use Rattle.imagesize_texts.specs.Texts.{line}
+use Rattle.imagesize_texts.specs.Exr.{exr, exr_attributes, exr_attribute, exr_named, exr_typed, exr_value, exr_window, name_room, window_size, is_data_window, is_box, signed_at, attributes_begun}
+use Rattle.imagesize_texts.specs.Texts.{line_at}
 use Rattle.imagesize_texts.proofs.Texts.{first_of, line_total, line_onto, line_plain, line_tells, line_begins, line_beyond, lasts_then, number_lasts}
 
 -- the four bytes of a number
@@ -79,9 +79,9 @@ by_value P place taken is_window size window other =
 
 -- and of each name
 by_name : (P : Layout (Said (Unit {0}) ImageSize) → Type 0) (room place : ℕ) (name : List ℕ) → P (refuse (IoError DataWindowNotFound))
-    → P (line 0 (place + (length name + 1)) room (exr_typed place name)) → P (exr_named room place name)
+    → P (line_at 0 (place + (length name + 1)) room (exr_typed place name)) → P (exr_named room place name)
 by_name P room place name none typed =
-    on_test P (eqb (length name) 0) (refuse (IoError DataWindowNotFound)) (line 0 (place + (length name + 1)) room
+    on_test P (eqb (length name) 0) (refuse (IoError DataWindowNotFound)) (line_at 0 (place + (length name + 1)) room
     (exr_typed place name)) (λ _. none) (λ _. typed)
 
 -- how far behind an attribute's place its value stands
@@ -98,7 +98,7 @@ attribute_advances room = advances (exr_attributes room)
     (omega arith)))))
     (λ passed place. line_begins 0 place room (exr_named room place) place (omega arith))
 
-pub exr_local : Local true exr
+pub exr_local : IsLocal true exr
 exr_local = local_then (λ d. number_read d Little 4 4) (λ version d. chain_at (exr_attributes (name_room version)) d)
     (local_number Little 4 4) (λ version. local_chain (exr_attributes (name_room version)) (attribute_advances (name_room version))
     (λ passed place. with_texts ((exr_attributes (name_room version)).said passed place)))
@@ -160,9 +160,9 @@ name_and_window name is_type few = on_test (λ n. n + (length name + 1) ≤ 256)
     (λ is. let ten = window_name name (first_of (is_data_window name) is_type is) in omega arith) (λ _. omega arith)
 
 -- an attribute is read from at most 530 bytes
-attribute_cost : (d : List ℕ) (room place : ℕ) → room ≤ 256 → total (over d (exr_attribute room place)).marks ≤ 530
+attribute_cost : (d : List ℕ) (room place : ℕ) → room ≤ 256 → total (layout_reads d (exr_attribute room place)).marks ≤ 530
 attribute_cost d room place few = line_total 0 place room (exr_named room place) d 530 (omega arith)
-    (λ name long. by_name (λ t. length name + 1 + total (over d t).marks ≤ 530) room place name (omega arith)
+    (λ name long. by_name (λ t. length name + 1 + total (layout_reads d t).marks ≤ 530) room place name (omega arith)
     (let rest = line_total 0 (place + (length name + 1)) room (exr_typed place name) d (530 - (length name + 1)) (omega arith)
     (λ type_name short.
     let is_window : Bool = is_data_window name && is_box type_name in
@@ -177,7 +177,7 @@ attribute_cost d room place few = line_total 0 place room (exr_named room place)
     omega arith))
 
 cost_by : (d : List ℕ) (r : Result ℕ ImageError)
-    → total (onward (span_of d 4 4) r (λ version. chain_at (exr_attributes (name_room version)) d)).marks ≤ 4 + 530 * begun_of d r
+    → total (go_on (span_of d 4 4) r (λ version. chain_at (exr_attributes (name_room version)) d)).marks ≤ 4 + 530 * count_behind r (λ version. records (exr_attributes (name_room version)) d)
 cost_by d (Ok version) =
     let all = total-append (span_of d 4 4) (chain_at (exr_attributes (name_room version)) d).marks in
     let first = total-span_of d 4 4 in
@@ -205,16 +205,16 @@ pub exr_start : (room : ℕ) (a : State) → ExrWalks room a a 8
 exr_start room a = walks_start (exr_attributes room) (λ passed. Unit {0}) a tt
 
 pub exr_on : {a b end : State} (room place next : ℕ) → ExrWalks room a b place → Runs b end (Ok (Next tt next))
-    (over b.held.input (exr_attribute room place)) → ExrWalks room a end next
+    (layout_reads b.held.input (exr_attribute room place)) → ExrWalks room a end next
 exr_on room place next w run = walks_on (exr_attributes room) (attribute_advances room) (λ passed. Unit {0}) w (λ passed. Unit {0}) tt
     next (λ passed _. run) (λ passed _. tt)
 
 pub exr_stop : {a b end : State} (room place : ℕ) (size : ImageSize) → ExrWalks room a b place → Runs b end (Ok (Decided size))
-    (over b.held.input (exr_attribute room place)) → Runs a end (Ok size) (chain_at (exr_attributes room) a.held.input)
+    (layout_reads b.held.input (exr_attribute room place)) → Runs a end (Ok size) (chain_at (exr_attributes room) a.held.input)
 exr_stop room place size w run = walks_stop (exr_attributes room) (attribute_advances room) (λ passed. Unit {0}) w size (λ passed _. run)
 
 pub exr_out : {a b end : State} (room place : ℕ) (e : ImageError) → ExrWalks room a b place
-    → Runs b end (Err e) (over b.held.input (exr_attribute room place)) → Runs a end (Err e) (chain_at (exr_attributes room) a.held.input)
+    → Runs b end (Err e) (layout_reads b.held.input (exr_attribute room place)) → Runs a end (Err e) (chain_at (exr_attributes room) a.held.input)
 exr_out room place e w run = walks_out (exr_attributes room) (attribute_advances room) (λ passed. Unit {0}) w e (λ passed _. run)
 
 pub exr_past : {a b : State} (room place : ℕ) → 0 < room → ExrWalks room a b place → 2 ^ 64 ≤ place → Runs a b (Err end_of_input)

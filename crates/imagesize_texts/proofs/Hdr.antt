@@ -5,10 +5,10 @@ use Rattle.imagesize_types.specs.declared.size.ImageSize.{ImageSize}
 use Rattle.imagesize_source.specs.declared.error.ImageError.{ImageError}
 use Rattle.imagesize_source.specs.declared.error.ImageError.TheVariants.{IoError}
 use Rattle.imagesize_source.specs.declared.error.Reason.TheVariants.{InvalidHdrIdentifier}
-use Rattle.imagesize_source.specs.Agreement.{Local}
+use Rattle.imagesize_source.specs.Agreement.{IsLocal}
 use Rattle.imagesize_source.specs.Chain.{Said, Decided, Next, Advances, chain_at}
 use Rattle.imagesize_source.specs.Extension.{Plain, Lasts}
-use Rattle.imagesize_source.specs.Layout.{Layout, over, done, refuse}
+use Rattle.imagesize_source.specs.Layout.{Layout, layout_reads, done, refuse, accept}
 use Rattle.imagesize_source.specs.Reading.{end_of_input}
 use Rattle.imagesize_source.specs.State.{State, Runs, total}
 use Rattle.imagesize_source.proofs.Advances.{Tells, advances}
@@ -21,14 +21,14 @@ use Rattle.imagesize_source.proofs.Tests.{on_test}
 use Rattle.imagesize_source.proofs.Walks.{Walks, walks_start, walks_on, walks_stop, walks_out, walks_past}
 use Rattle.imagesize_source.proofs.Way.{TextsLaws}
 use Rattle.imagesize_texts.specs.Hdr.{hdr, hdr_identifier, identified, hdr_lines, hdr_line, is_identifier, is_resolution, resolution, second_and_fourth}
-use Rattle.imagesize_texts.specs.Texts.{found, line}
+use Rattle.imagesize_texts.specs.Texts.{line_at}
 use Rattle.imagesize_texts.proofs.Texts.{found_by, line_onto, line_plain, line_tells, line_begins, line_beyond, lasts_then}
 
 -- what holds of each line
 by_line : (P : Layout (Said (Unit {0}) ImageSize) → Type 0) (place : ℕ) (text : List ℕ) → ((size : ImageSize) → P (done (Decided size)))
     → ((e : ImageError) → P (refuse e)) → P (done (Next tt (place + (length text + 1)))) → P (hdr_line place text)
 by_line P place text decided refused passed =
-    on_test P (is_resolution text) (found (resolution text) (λ size. done (Decided size))) (done (Next tt (place + (length text + 1))))
+    on_test P (is_resolution text) (accept (resolution text) (λ size. done (Decided size))) (done (Next tt (place + (length text + 1))))
     (λ _. found_by P (resolution text) (λ size. done (Decided size)) (λ size _. decided size) refused)
     (λ _. passed)
 
@@ -44,13 +44,13 @@ hdr_advances first = advances (hdr_lines first)
     (λ size. tt) (λ e. tt) (omega arith)))
     (λ passed place. line_begins 0x0A place 256 (hdr_line place) place (omega arith))
 
-pub hdr_local : Local true hdr
-hdr_local = local_then (λ d. over d hdr_identifier) (λ first d. chain_at (hdr_lines first) d) (local_layout hdr_identifier (with_texts hdr_identifier))
+pub hdr_local : IsLocal true hdr
+hdr_local = local_then (λ d. layout_reads d hdr_identifier) (λ first d. chain_at (hdr_lines first) d) (local_layout hdr_identifier (with_texts hdr_identifier))
     (λ first. local_chain (hdr_lines first) (hdr_advances first) (λ passed place. with_texts ((hdr_lines first).said passed place)))
 
 -- bytes behind an HDR change no answer that was given, nor its marks
 pub hdr_keeps : Lasts hdr
-hdr_keeps = lasts_then (λ d. over d hdr_identifier) (λ first d. chain_at (hdr_lines first) d)
+hdr_keeps = lasts_then (λ d. layout_reads d hdr_identifier) (λ first d. chain_at (hdr_lines first) d)
     (λ d x first is. more d x hdr_identifier first (line_plain 0x0A 0 11 identified (λ text. by_identifier Plain text tt tt)) is)
     (λ first. lasts_chain (hdr_lines first) (hdr_advances first) (λ passed place. line_plain 0x0A place 256 (hdr_line place)
     (λ text. by_line Plain place text (λ size. tt) (λ e. tt) tt)))
@@ -61,7 +61,7 @@ hdr_lasts d x size is = ap (λ r. r.answer) (hdr_keeps d x size is) ∙ is
 -- the lines are read from at most the bytes of the input
 pub hdr_within : (d : List ℕ) → total (hdr d).marks ≤ length d
 hdr_within d =
-    let all = spends_then (length d) 0 (λ first. first) (λ _. None) (over d hdr_identifier) (λ first. chain_at (hdr_lines first) d)
+    let all = spends_then (length d) 0 (λ first. first) (λ _. None) (layout_reads d hdr_identifier) (λ first. chain_at (hdr_lines first) d)
     (spends d (λ first. Some first) 0 hdr_identifier
     (line_onto 0x0A 0 11 identified (λ first. Some first) 0 (omega arith)
     (λ text. by_identifier (Onto (λ first. Some first) (0 + (length text + 1))) text (omega arith) tt)))
@@ -81,16 +81,16 @@ pub hdr_start : (first : ℕ) (a : State) → HdrWalks first a a first
 hdr_start first a = walks_start (hdr_lines first) (λ passed. Unit {0}) a tt
 
 pub hdr_on : {a b end : State} (first place next : ℕ) → HdrWalks first a b place → Runs b end (Ok (Next tt next))
-    (over b.held.input (line 0x0A place 256 (hdr_line place))) → HdrWalks first a end next
+    (layout_reads b.held.input (line_at 0x0A place 256 (hdr_line place))) → HdrWalks first a end next
 hdr_on first place next w run = walks_on (hdr_lines first) (hdr_advances first) (λ passed. Unit {0}) w (λ passed. Unit {0}) tt next
     (λ passed _. run) (λ passed _. tt)
 
 pub hdr_stop : {a b end : State} (first place : ℕ) (size : ImageSize) → HdrWalks first a b place → Runs b end (Ok (Decided size))
-    (over b.held.input (line 0x0A place 256 (hdr_line place))) → Runs a end (Ok size) (chain_at (hdr_lines first) a.held.input)
+    (layout_reads b.held.input (line_at 0x0A place 256 (hdr_line place))) → Runs a end (Ok size) (chain_at (hdr_lines first) a.held.input)
 hdr_stop first place size w run = walks_stop (hdr_lines first) (hdr_advances first) (λ passed. Unit {0}) w size (λ passed _. run)
 
 pub hdr_out : {a b end : State} (first place : ℕ) (e : ImageError) → HdrWalks first a b place
-    → Runs b end (Err e) (over b.held.input (line 0x0A place 256 (hdr_line place)))
+    → Runs b end (Err e) (layout_reads b.held.input (line_at 0x0A place 256 (hdr_line place)))
     → Runs a end (Err e) (chain_at (hdr_lines first) a.held.input)
 hdr_out first place e w run = walks_out (hdr_lines first) (hdr_advances first) (λ passed. Unit {0}) w e (λ passed _. run)
 

@@ -3,10 +3,10 @@ use Rattle.std.proofs.Common.{◌≡◌, ℕ, ◌+◌, ◌^◌, ◌<◌, ◌≤�
 use Rattle.std.specs.Str.{trim}
 use Rattle.imagesize_types.specs.declared.size.ImageSize.{ImageSize}
 use Rattle.imagesize_source.specs.declared.error.ImageError.{ImageError}
-use Rattle.imagesize_source.specs.Agreement.{Local}
+use Rattle.imagesize_source.specs.Agreement.{IsLocal}
 use Rattle.imagesize_source.specs.Chain.{Said, Decided, Next, Advances}
 use Rattle.imagesize_source.specs.Extension.{Plain, Lasts}
-use Rattle.imagesize_source.specs.Layout.{Layout, over, done}
+use Rattle.imagesize_source.specs.Layout.{Layout, layout_reads, done, accept}
 use Rattle.imagesize_source.specs.Reading.{end_of_input}
 use Rattle.imagesize_source.specs.State.{State, Runs, total}
 use Rattle.imagesize_source.proofs.Advances.{Tells, advances}
@@ -19,7 +19,7 @@ use Rattle.imagesize_source.proofs.Walks.{Walks, walks_start, walks_on, walks_st
 use Rattle.imagesize_source.proofs.Way.{TextsLaws}
 use Rattle.imagesize_texts.specs.Contents.{WordRead, number_text}
 use Rattle.imagesize_texts.specs.Pnm.{pnm, pnm_words, pnm_word, pnm_comment, pnm_passed, pnm_height, pnm_size, is_comment, is_blank}
-use Rattle.imagesize_texts.specs.Texts.{found, passed_line, word}
+use Rattle.imagesize_texts.specs.Texts.{passed_line, word}
 use Rattle.imagesize_texts.proofs.Texts.{found_by, passed_onto, passed_plain, passed_tells, word_onto, word_plain, word_tells, word_begins, word_beyond}
 
 -- what holds of each way that a word can go
@@ -34,8 +34,8 @@ by_word P place w passed comment height =
 
 -- and of the size that the width and the height give
 by_size : (P : Layout (Said (Unit {0}) ImageSize) → Type 0) (width height : Option ℕ) → ((size : ImageSize) → P (done (Decided size)))
-    → ((e : ImageError) → P (found (Err e) (λ (size : ImageSize). done (Decided size))))
-    → P (found (pnm_size width height) (λ size. done (Decided size)))
+    → ((e : ImageError) → P (accept (Err e) (λ (size : ImageSize). done (Decided size))))
+    → P (accept (pnm_size width height) (λ size. done (Decided size)))
 by_size P width height decided refused = found_by P (pnm_size width height) (λ size. done (Decided size)) (λ size _. decided size) refused
 
 pnm_advances : (d : List ℕ) → Advances pnm_words d
@@ -43,12 +43,12 @@ pnm_advances = advances pnm_words
     (λ passed place. word_tells place (pnm_word place) (λ p. place < p)
     (λ w some. by_word (Tells (λ p. place < p)) place w (omega arith)
     (passed_tells 0x0A (place + w.taken) 1024 (λ rest. pnm_passed place (w.taken + rest)) (λ p. place < p) (λ n. omega arith))
-    (word_tells (place + w.taken) (λ next. found (pnm_size (number_text w.text) (number_text (trim next.text)))
+    (word_tells (place + w.taken) (λ next. accept (pnm_size (number_text w.text) (number_text (trim next.text)))
     (λ size. done (Decided size))) (λ p. place < p)
     (λ next _. by_size (Tells (λ p. place < p)) (number_text w.text) (number_text (trim next.text)) (λ size. tt) (λ e. tt)))))
     (λ passed place. word_begins place (pnm_word place) place (omega arith))
 
-pub pnm_local : Local true pnm
+pub pnm_local : IsLocal true pnm
 pnm_local = local_chain pnm_words pnm_advances (λ passed place. with_texts (pnm_words.said passed place))
 
 -- bytes behind a PNM change no answer that was given, nor its marks
@@ -57,7 +57,7 @@ pnm_keeps = lasts_chain pnm_words pnm_advances
     (λ passed place. word_plain place (pnm_word place)
     (λ w. by_word Plain place w tt
     (passed_plain 0x0A (place + w.taken) 1024 (λ rest. pnm_passed place (w.taken + rest)) (λ n. tt))
-    (word_plain (place + w.taken) (λ next. found (pnm_size (number_text w.text) (number_text (trim next.text)))
+    (word_plain (place + w.taken) (λ next. accept (pnm_size (number_text w.text) (number_text (trim next.text)))
     (λ size. done (Decided size)))
     (λ next. by_size Plain (number_text w.text) (number_text (trim next.text)) (λ size. tt) (λ e. tt)))))
 
@@ -72,7 +72,7 @@ pnm_within d =
     (λ w. by_word (Ahead (place + w.taken)) place w (omega arith)
     (passed_onto 0x0A (place + w.taken) 1024 (λ rest. pnm_passed place (w.taken + rest)) (said_to (λ _. None)) (place + w.taken)
     (omega arith) (λ n. omega arith))
-    (word_onto (place + w.taken) (λ next. found (pnm_size (number_text w.text) (number_text (trim next.text)))
+    (word_onto (place + w.taken) (λ next. accept (pnm_size (number_text w.text) (number_text (trim next.text)))
     (λ size. done (Decided size))) (said_to (λ _. None)) (place + w.taken) (omega arith)
     (λ next. by_size (Ahead (place + w.taken + next.taken)) (number_text w.text) (number_text (trim next.text)) (λ size. tt)
     (λ e. tt))))) in
@@ -89,16 +89,16 @@ pub pnm_start : (a : State) → PnmWalks a a 2
 pnm_start a = walks_start pnm_words (λ passed. Unit {0}) a tt
 
 pub pnm_on : {a b end : State} (place next : ℕ) → PnmWalks a b place → Runs b end (Ok (Next tt next))
-    (over b.held.input (word place (pnm_word place))) → PnmWalks a end next
+    (layout_reads b.held.input (word place (pnm_word place))) → PnmWalks a end next
 pnm_on place next w run = walks_on pnm_words pnm_advances (λ passed. Unit {0}) w (λ passed. Unit {0}) tt next (λ passed _. run)
     (λ passed _. tt)
 
 pub pnm_stop : {a b end : State} (place : ℕ) (size : ImageSize) → PnmWalks a b place → Runs b end (Ok (Decided size))
-    (over b.held.input (word place (pnm_word place))) → Runs a end (Ok size) (pnm a.held.input)
+    (layout_reads b.held.input (word place (pnm_word place))) → Runs a end (Ok size) (pnm a.held.input)
 pnm_stop place size w run = walks_stop pnm_words pnm_advances (λ passed. Unit {0}) w size (λ passed _. run)
 
 pub pnm_out : {a b end : State} (place : ℕ) (e : ImageError) → PnmWalks a b place
-    → Runs b end (Err e) (over b.held.input (word place (pnm_word place))) → Runs a end (Err e) (pnm a.held.input)
+    → Runs b end (Err e) (layout_reads b.held.input (word place (pnm_word place))) → Runs a end (Err e) (pnm a.held.input)
 pnm_out place e w run = walks_out pnm_words pnm_advances (λ passed. Unit {0}) w e (λ passed _. run)
 
 pub pnm_past : {a b : State} (place : ℕ) → PnmWalks a b place → 2 ^ 64 ≤ place → Runs a b (Err end_of_input) (pnm a.held.input)

@@ -9,16 +9,18 @@ use Rattle.std.specs.Str.{is_utf8}
 use Rattle.imagesize_source.specs.declared.error.ImageError.{ImageError}
 use Rattle.imagesize_source.specs.declared.error.ImageError.TheVariants.{IoError}
 use Rattle.imagesize_source.specs.declared.error.Reason.TheVariants.{NoDelimiter, NotUtf8}
+use Rattle.imagesize_source.specs.declared.halt.Halt.{Halt}
 use Rattle.imagesize_source.specs.declared.text.Text.{Text}
 use Rattle.imagesize_source.specs.declared.text.Text.TheVariants.{Line, Word}
 use Rattle.imagesize_source.specs.declared.span.Span.{Span}
-use Rattle.imagesize_source.specs.declared.util.Endian.{Endian}
+use Rattle.imagesize_source.specs.declared.endian.Endian.{Endian}
 use Rattle.imagesize_source.specs.Chain.{Said}
 use Rattle.imagesize_source.specs.Extension.{Plain, Never, Lasts}
+use Rattle.imagesize_source.specs.Halts.{with_error}
 use Rattle.imagesize_source.specs.Input.{span_at, span_of}
-use Rattle.imagesize_source.specs.Layout.{Layout, over}
+use Rattle.imagesize_source.specs.Layout.{Layout, layout_reads, accept}
 use Rattle.imagesize_source.specs.Layout.Layout.{refuse, «done», field}
-use Rattle.imagesize_source.specs.Reading.{Reads, gives, and_then, onward, number_at, number_read, refuses, behind, text_part, text_read, is_stop, seen, is_fault, is_memory, spent, stopped, faulted, end_of_input}
+use Rattle.imagesize_source.specs.Reading.{Reads, gives, and_then, go_on, number_at, number_read, refuses, put_behind, text_part, text_read, is_stop, map_answer, is_fault, is_memory, spent, is_stopped, is_faulted, end_of_input}
 use Rattle.imagesize_source.specs.State.{State, Runs, EndedBy, total}
 use Rattle.imagesize_source.specs.Text.{is_ended, skipped}
 use Rattle.imagesize_source.proofs.Advances.{Tells, Begins}
@@ -29,7 +31,7 @@ use Rattle.imagesize_source.proofs.Runs.{answered, part_is, part_length, total-a
 use Rattle.imagesize_source.proofs.Spends.{Onto}
 use Rattle.imagesize_source.proofs.Tests.{on_test}
 use Rattle.imagesize_texts.specs.Contents.{WordRead, word_room, last_byte, before_last, last_passes, no_end, utf8, line_text, line_length, word_text, ended_word, word_of, word_at, is_word_end, unspaced}
-use Rattle.imagesize_texts.specs.Texts.{found, line, passed_line, word, text_as, line_read, length_read, word_read}
+use Rattle.imagesize_texts.specs.Texts.{line_at, passed_line, word, text_as, line_read, length_read, word_read}
 
 -- a refusal by what was read, and none that ends a call at once
 pub record Harmless (e : ImageError) : Type 0 where
@@ -43,11 +45,11 @@ abbrev pub Judged : {X : Type 0} → Result X ImageError → Type 0
 Judged (Ok x) = Unit {0}
 Judged (Err e) = Harmless e
 
-judged_goes_on : {X : Type 0} (r : Result X ImageError) → Judged r → stopped r ≡ false
+judged_goes_on : {X : Type 0} (r : Result X ImageError) → Judged r → is_stopped r ≡ false
 judged_goes_on (Ok x) h = refl
 judged_goes_on (Err e) h = h.goes_on
 
-judged_no_fault : {X : Type 0} (r : Result X ImageError) → Judged r → faulted r ≡ false
+judged_no_fault : {X : Type 0} (r : Result X ImageError) → Judged r → is_faulted r ≡ false
 judged_no_fault (Ok x) h = refl
 judged_no_fault (Err e) h = h.no_fault
 
@@ -102,7 +104,7 @@ unfolding line_length
 length_judged delimiter most bs = on_test Judged (last_passes (λ b. eqb b delimiter) bs) (Ok (length bs)) (Err (no_end most (length bs)))
     (λ _. tt) (λ _. no_end_harmless most (length bs))
 
-seen_judged : {X Y : Type 0} (f : X → Y) (r : Result X ImageError) → Judged r → Judged (seen f r)
+seen_judged : {X Y : Type 0} (f : X → Y) (r : Result X ImageError) → Judged r → Judged (map_answer f r)
 seen_judged f (Ok x) h = tt
 seen_judged f (Err e) h = h
 
@@ -181,7 +183,7 @@ length_ok delimiter most bs n = on_test (λ r. r ≡ Ok n → (length bs ≡ n) 
     (λ ends is. (cc, ends))
     (λ _ is. absurd cc)
 
-seen_ok : {X Y : Type 0} (f : X → Y) (r : Result X ImageError) (y : Y) → seen f r ≡ Ok y → (x : X) × (y ≡ f x)
+seen_ok : {X Y : Type 0} (f : X → Y) (r : Result X ImageError) (y : Y) → map_answer f r ≡ Ok y → (x : X) × (y ≡ f x)
 seen_ok f (Ok x) y is = (x, cc)
 seen_ok f (Err e) y is = absurd cc
 
@@ -208,44 +210,50 @@ below_room last count is = let few : ltb count word_room ≡ true = second_of (i
     grind (arith, nat_tests)
 
 -- so what was read of it was paid for
-pub line_pays : {A P : Type 0} (v : A → List ℕ) (delimiter most : ℕ) (room : List ℕ) (n : ℕ) (r : Result A ImageError)
-    → seen v r ≡ line_text delimiter most (take n room) → (0 < n → P) → IfOk r (λ _. P)
-line_pays v delimiter most room n (Ok x) is pays =
-    pays (omega (arith, (line_ok delimiter most (take n room) (v x) (sym is)).0, length-take n room))
-line_pays v delimiter most room n (Err e) is pays = tt
-
-pub word_pays : {A P : Type 0} (v : A → WordRead) (room : List ℕ) (n : ℕ) (r : Result A ImageError) → seen v r ≡ word_text (take n room)
+pub line_pays : {A P : Type 0} (v : A → List ℕ) (delimiter most : ℕ) (room : List ℕ) (n : ℕ) (r : Result A Halt)
+    → ((failure : ImageError) (budget : ℕ) → map_answer v (with_error failure budget r) ≡ line_text delimiter most (take n room))
     → (0 < n → P) → IfOk r (λ _. P)
-word_pays v room n (Ok x) is pays = pays (omega (arith, (word_ok (take n room) (v x) (sym is)).1, length-take n room))
-word_pays v room n (Err e) is pays = tt
+line_pays v delimiter most room n (Ok x) is pays =
+    pays (omega (arith, (line_ok delimiter most (take n room) (v x) (sym (is end_of_input 0))).0, length-take n room))
+line_pays v delimiter most room n (Err why) is pays = tt
+
+pub word_pays : {A P : Type 0} (v : A → WordRead) (room : List ℕ) (n : ℕ) (r : Result A Halt)
+    → ((failure : ImageError) (budget : ℕ) → map_answer v (with_error failure budget r) ≡ word_text (take n room))
+    → (0 < n → P) → IfOk r (λ _. P)
+word_pays v room n (Ok x) is pays = pays (omega (arith, (word_ok (take n room) (v x) (sym (is end_of_input 0))).1, length-take n room))
+word_pays v room n (Err why) is pays = tt
 
 -- a line is no longer than there is room for, and a word takes some bytes, and fewer
-pub length_bound : (delimiter most : ℕ) (room : List ℕ) (n : ℕ) (r : Result ℕ ImageError) → length room ≡ most
-    → r ≡ line_length delimiter most (take n room) → IfOk r (λ count. count ≤ most)
+pub length_bound : (delimiter most : ℕ) (room : List ℕ) (n : ℕ) (r : Result ℕ Halt) → length room ≡ most
+    → ((failure : ImageError) (budget : ℕ) → with_error failure budget r ≡ line_length delimiter most (take n room))
+    → IfOk r (λ count. count ≤ most)
 length_bound delimiter most room n (Ok count) long is = omega (
   arith,
-  (length_ok delimiter most (take n room) count (sym is)).0,
+  (length_ok delimiter most (take n room) count (sym (is end_of_input 0))).0,
   length-take n room,
 )
-length_bound delimiter most room n (Err e) long is = tt
+length_bound delimiter most room n (Err why) long is = tt
 
-pub line_bound : {A : Type 0} (v : A → List ℕ) (delimiter most : ℕ) (room : List ℕ) (n : ℕ) (r : Result A ImageError)
-    → length room ≡ most → seen v r ≡ line_text delimiter most (take n room) → IfOk r (λ text. length (v text) < most)
+pub line_bound : {A : Type 0} (v : A → List ℕ) (delimiter most : ℕ) (room : List ℕ) (n : ℕ) (r : Result A Halt)
+    → length room ≡ most
+    → ((failure : ImageError) (budget : ℕ) → map_answer v (with_error failure budget r) ≡ line_text delimiter most (take n room))
+    → IfOk r (λ text. length (v text) < most)
 line_bound v delimiter most room n (Ok x) long is = omega (
   arith,
-  (line_ok delimiter most (take n room) (v x) (sym is)).0,
+  (line_ok delimiter most (take n room) (v x) (sym (is end_of_input 0))).0,
   length-take n room,
 )
-line_bound v delimiter most room n (Err e) long is = tt
+line_bound v delimiter most room n (Err why) long is = tt
 
-pub word_bound : {A : Type 0} (v : A → WordRead) (room : List ℕ) (n : ℕ) (r : Result A ImageError) → seen v r ≡ word_text (take n room)
+pub word_bound : {A : Type 0} (v : A → WordRead) (room : List ℕ) (n : ℕ) (r : Result A Halt)
+    → ((failure : ImageError) (budget : ℕ) → map_answer v (with_error failure budget r) ≡ word_text (take n room))
     → IfOk r (λ w. (0 < (v w).taken) × ((v w).taken < word_room))
 word_bound v room n (Ok x) is =
-    let ok = word_ok (take n room) (v x) (sym is) in
+    let ok = word_ok (take n room) (v x) (sym (is end_of_input 0)) in
     let ends = passes_last (λ b. is_word_end b (length (take n room))) (unspaced (take n room)) ok.2 in
     let few = below_room (last_byte (unspaced (take n room))) (length (take n room)) ends in
     (omega (arith, ok.0, ok.1), omega (arith, ok.0, few))
-word_bound v room n (Err e) is = tt
+word_bound v room n (Err why) is = tt
 
 any_at : (p : ℕ → Bool) (bs : List ℕ) (i : ℕ) → i < length bs → p (slice_index bs i) ≡ true → list_any p bs ≡ true
 any_at p [] i h is = absurd (omega arith)
@@ -280,7 +288,7 @@ word_ended bs is = ap (list_any is_ascii_whitespace) (skipped_unspaced bs) ∙ a
 
 -- what holds of what goes on and of a refusal
 pub found_by : {X Y : Type 0} (P : Layout Y → Type 0) (r : Result X ImageError) (f : X → Layout Y) → ((x : X) → r ≡ Ok x → P (f x))
-    → ((e : ImageError) → P (refuse e)) → P (found r f)
+    → ((e : ImageError) → P (refuse e)) → P (accept r f)
 found_by P (Ok x) f goes_on out = goes_on x refl
 found_by P (Err e) f goes_on out = out e
 
@@ -288,29 +296,29 @@ found_by P (Err e) f goes_on out = out e
 module _ {X : Type 0} (delimiter place most : ℕ) (f : List ℕ → Layout X) where
   -- where each text leads on to at most k bytes with its own, so does the line
   pub line_total : (d : List ℕ) (k : ℕ) → most ≤ k
-      → ((text : List ℕ) → length text + 1 ≤ most → length text + 1 + total (over d (f text)).marks ≤ k)
-      → total (over d (line delimiter place most f)).marks ≤ k
+      → ((text : List ℕ) → length text + 1 ≤ most → length text + 1 + total (layout_reads d (f text)).marks ≤ k)
+      → total (layout_reads d (line_at delimiter place most f)).marks ≤ k
   line_total d k few rest =
       let bs : List ℕ = text_part d (Line delimiter) place most in
       let here = total-span_at place (length bs) in
       let short = text_length d (Line delimiter) place most in
       let part = part_length d place most in
-      let all = total-append (span_at place (length bs)) (over d (found (line_text delimiter most bs) f)).marks in
-      let next = found_by (λ t. length bs ≤ most → length bs + total (over d t).marks ≤ k) (line_text delimiter most bs) f
+      let all = total-append (span_at place (length bs)) (layout_reads d (accept (line_text delimiter most bs) f)).marks in
+      let next = found_by (λ t. length bs ≤ most → length bs + total (layout_reads d t).marks ≤ k) (line_text delimiter most bs) f
       (λ text is long. let same = (line_ok delimiter most bs text is).0 in let more = rest text (omega arith) in omega arith)
       (λ e long. omega arith) in
       let sum = next (omega arith) in
       omega arith
 
   pub line_onto : (to : X → Option ℕ) (q : ℕ) → q ≤ place → ((text : List ℕ) → Onto to (place + (length text + 1)) (f text))
-      → Onto to q (line delimiter place most f)
+      → Onto to q (line_at delimiter place most f)
   line_onto to q here rest = (
     here,
     λ bs. found_by (Onto to (place + length bs)) (line_text delimiter most bs) f
         (λ text is. subst (λ n. Onto to (place + n) (f text)) (sym (line_ok delimiter most bs text is).0) (rest text)) (λ e. tt),
   )
 
-  pub line_plain : ((text : List ℕ) → Plain (f text)) → Plain (line delimiter place most f)
+  pub line_plain : ((text : List ℕ) → Plain (f text)) → Plain (line_at delimiter place most f)
   line_plain rest = λ bs. (
     (λ open_end _. found_by Never (line_text delimiter most bs) f
         (λ text is. absurd (let ended = line_ended delimiter most bs (line_ok delimiter most bs text is).1 in cc)) (λ e. tt)),
@@ -318,10 +326,10 @@ module _ {X : Type 0} (delimiter place most : ℕ) (f : List ℕ → Layout X) w
   )
 
 module _ {C X : Type 0} (delimiter place most : ℕ) (f : List ℕ → Layout (Said C X)) where
-  pub line_tells : (P : ℕ → Type 0) → ((text : List ℕ) → Tells P (f text)) → Tells P (line delimiter place most f)
+  pub line_tells : (P : ℕ → Type 0) → ((text : List ℕ) → Tells P (f text)) → Tells P (line_at delimiter place most f)
   line_tells P rest = λ bs. found_by (Tells P) (line_text delimiter most bs) f (λ text _. rest text) (λ e. tt)
 
-  pub line_begins : (q : ℕ) → q ≤ place → Begins q (line delimiter place most f)
+  pub line_begins : (q : ℕ) → q ≤ place → Begins q (line_at delimiter place most f)
   line_begins q here = (
     here,
     found_by (Tells (λ _. ⊥)) (line_text delimiter most []) f
@@ -391,22 +399,22 @@ word_none = refl
 
 -- what a layout says behind such bytes
 over_text : {X : Type 0} → List ℕ → ℕ → List ℕ → Layout X → Reads X
-over_text d place bs t = behind (span_at place (length bs)) (over d t)
+over_text d place bs t = put_behind (span_at place (length bs)) (layout_reads d t)
 
 -- and a layout that reads one there is refused, with no mark of it
 pub line_beyond : {X : Type 0} (d : List ℕ) (delimiter place most : ℕ) (f : List ℕ → Layout X) → length d ≤ place → 0 < most
-    → over d (line delimiter place most f) ≡ refuses end_of_input
+    → layout_reads d (line_at delimiter place most f) ≡ refuses end_of_input
 unfolding span_at over_text
 line_beyond d delimiter place most f h some =
-    ap (λ bs. over_text d place bs (found (line_text delimiter most bs) f)) (text_none d (Line delimiter) place most h)
-    ∙ ap (λ r. over d (found r f)) (line_none delimiter most some)
+    ap (λ bs. over_text d place bs (accept (line_text delimiter most bs) f)) (text_none d (Line delimiter) place most h)
+    ∙ ap (λ r. layout_reads d (accept r f)) (line_none delimiter most some)
 
-pub word_beyond : {X : Type 0} (d : List ℕ) (place : ℕ) (f : WordRead → Layout X) → length d ≤ place → over d (word place f)
+pub word_beyond : {X : Type 0} (d : List ℕ) (place : ℕ) (f : WordRead → Layout X) → length d ≤ place → layout_reads d (word place f)
     ≡ refuses end_of_input
 unfolding span_at over_text
 word_beyond d place f h =
-    ap (λ bs. over_text d place bs (found (word_text bs) f)) (text_none d Word place word_room h)
-    ∙ ap (λ r. over d (found r f)) word_none
+    ap (λ bs. over_text d place bs (accept (word_text bs) f)) (text_none d Word place word_room h)
+    ∙ ap (λ r. layout_reads d (accept r f)) word_none
 
 as_beyond : {X : Type 0} (d : List ℕ) (t : Text) (place k : ℕ) (f : List ℕ → Result X ImageError) → length d ≤ place
     → text_as d t place k f ≡ record { answer = f []; marks = [] }
@@ -425,13 +433,13 @@ pub lasts_then : {X Y : Type 0} (r : List ℕ → Reads X) (f : X → List ℕ �
 lasts_then {X} {Y} r f first rest d x v is = by_answer (r d).answer refl where
   by_answer : (a : Result X ImageError) → (r d).answer ≡ a → and_then (r (d ++ x)) (λ y. f y (d ++ x)) ≡ and_then (r d) (λ y. f y d)
   by_answer (Ok y) got =
-      let ends : (f y d).answer ≡ Ok v = sym (ap (λ a. (onward (r d).marks a (λ y. f y d)).answer) got) ∙ is in
-      ap (λ w. and_then w (λ y. f y (d ++ x))) (first d x y got) ∙ ap (λ a. onward (r d).marks a (λ y. f y (d ++ x))) got
-      ∙ ap (behind (r d).marks) (rest y d x v ends) ∙ sym (ap (λ a. onward (r d).marks a (λ y. f y d)) got)
+      let ends : (f y d).answer ≡ Ok v = sym (ap (λ a. (go_on (r d).marks a (λ y. f y d)).answer) got) ∙ is in
+      ap (λ w. and_then w (λ y. f y (d ++ x))) (first d x y got) ∙ ap (λ a. go_on (r d).marks a (λ y. f y (d ++ x))) got
+      ∙ ap (put_behind (r d).marks) (rest y d x v ends) ∙ sym (ap (λ a. go_on (r d).marks a (λ y. f y d)) got)
   by_answer (Err e) got = absurd (let no : ◌≡◌ {A = Result Y ImageError} (Err e) (Ok v) =
-      sym (ap (λ a. (onward (r d).marks a (λ y. f y d)).answer) got) ∙ is in cc)
+      sym (ap (λ a. (go_on (r d).marks a (λ y. f y d)).answer) got) ∙ is in cc)
 
-answered_done : {X : Type 0} (marks : List Span) (a : Result X ImageError) → onward marks a gives ≡ record { answer = a; marks = marks }
+answered_done : {X : Type 0} (marks : List Span) (a : Result X ImageError) → go_on marks a gives ≡ record { answer = a; marks = marks }
 answered_done marks (Ok x) = ap (λ m. record { answer = Ok x; marks = m }) (append-nil marks)
 answered_done marks (Err e) = refl
 

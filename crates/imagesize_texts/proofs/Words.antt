@@ -10,13 +10,14 @@ use Rattle.std.proofs.lemmas.Str.Parse.{IsNumeralModel, numerals_by_value, tells
 use Rattle.std.specs.Char.{is_ascii_whitespace, is_whitespace, is_not_whitespace, encode_utf8}
 use Rattle.std.specs.List.{prefix_len, slice_split, onto_first}
 use Rattle.std.specs.Result.{result_ok}
-use Rattle.std.specs.Str.{IsUtf8, is_utf8, chars, encode_utf8_all, all_ascii_digits, NoCharPasses, NonePass, EmptyOrStartsWithPassing, IsTrimAsciiStart}
+use Rattle.std.specs.Str.{IsUtf8, is_utf8, chars, encode_utf8_all, all_ascii_digits, NoCharPasses, NonePass, EmptyOrStartsWithPassing, IsTrimAsciiStart, trim_start, trim_end}
 use Rattle.std.specs.Str.Iter.{split_whitespace_rest, split_whitespace_steps}
 use Rattle.std.specs.Borrow.{Bor}
 use Rattle.std.specs.Str.Parse.{ParsesUnsigned, IsNumeral, digits_value, without_leading_plus}
 use Rattle.imagesize_source.specs.declared.error.ImageError.TheVariants.{IoError}
 use Rattle.imagesize_source.specs.declared.error.Reason.TheVariants.{NotUtf8}
 use Rattle.imagesize_source.proofs.Tests.{on_test}
+use Rattle.imagesize_texts.specs.Pnm.{is_comment}
 use Rattle.imagesize_texts.specs.Contents.{utf8, unspaced, is_number, number_text, char_words, words}
 
 -- bytes that are text
@@ -29,6 +30,30 @@ pub no_text : (bs : List ℕ) → ¬ (IsUtf8 bs) → utf8 bs ≡ Err (IoError No
 unfolding utf8
 no_text bs none = on_test (λ r. r ≡ Err (IoError NotUtf8)) (is_utf8 bs) (Ok bs) (Err (IoError NotUtf8))
     (λ is. absurd (none (IsUtf8-from_is_utf8 bs is))) (λ _. refl)
+
+-- no byte is a text, and so is a `#`
+no_bytes : utf8 [] ≡ Ok []
+unfolding utf8 is_utf8 chars
+no_bytes = refl
+
+one_hash : utf8 (0x23 ∷ []) ≡ Ok (0x23 ∷ [])
+unfolding utf8 is_utf8 chars encode_utf8
+one_hash = refl
+
+pub empty_text : (bs : List ℕ) → length bs ≡ 0 → utf8 bs ≡ Ok []
+empty_text [] none = no_bytes
+empty_text (b ∷ bs) none = absurd (omega (arith, none))
+
+pub hash_text : (bs : List ℕ) → bs ≡ 0x23 ∷ [] → utf8 bs ≡ Ok (0x23 ∷ [])
+hash_text bs is = ap utf8 is ∙ one_hash
+
+-- which begins a comment
+comment_hash : is_comment (0x23 ∷ []) ≡ true
+unfolding is_comment trim_start trim_end chars encode_utf8
+comment_hash = refl
+
+pub hash_comment : (text : List ℕ) → text ≡ 0x23 ∷ [] → is_comment text ≡ true
+hash_comment text is = ap is_comment is ∙ comment_hash
 
 -- the white space before a word, as std trims it
 unspaced-prefix : (bs : List ℕ) → drop (prefix_len is_ascii_whitespace bs) bs ≡ unspaced bs

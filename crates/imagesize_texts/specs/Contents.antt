@@ -7,7 +7,7 @@ use Rattle.std.specs.Str.Parse.{digits_value, without_leading_plus}
 use Rattle.imagesize_source.specs.declared.error.ImageError.{ImageError}
 use Rattle.imagesize_source.specs.declared.error.ImageError.TheVariants.{IoError}
 use Rattle.imagesize_source.specs.declared.error.Reason.TheVariants.{NoDelimiter, NotUtf8}
-use Rattle.imagesize_source.specs.Reading.{seen, end_of_input}
+use Rattle.imagesize_source.specs.Reading.{map_answer, end_of_input}
 
 -- the last byte, and the bytes before it
 abbrev pub last_byte : List ℕ → ℕ
@@ -57,7 +57,7 @@ abbrev pub word_at : ℕ → List ℕ → List ℕ → WordRead
 word_at count bs text = record { text = text; ended_by = last_byte bs; taken = count }
 
 abbrev pub word_of : ℕ → List ℕ → Result WordRead ImageError
-word_of count bs = seen (word_at count bs) (utf8 (before_last bs))
+word_of count bs = map_answer (word_at count bs) (utf8 (before_last bs))
 
 -- white space ends it, as one of fewer bytes than there is room for
 abbrev pub is_word_end : ℕ → ℕ → Bool

@@ -1,20 +1,17 @@
 -- OpenEXR, by "OpenEXR File Layout".
-use Rattle.std.specs.Prelude.{ℕ, ◌+◌, Bool, ◌&&◌, List, [], ◌∷◌, length, codes, ◌==◌, if◌then◌else◌, Option, None, Some, Result, Ok, Err, ℤ, ◌-ℤ◌, int_le, unsigned_abs, bit_and}
+use Rattle.std.specs.Prelude.{ℕ, ◌+◌, Bool, ◌&&◌, List, [], ◌∷◌, length, codes, ◌==◌, if◌then◌else◌, Option, None, Some, ℤ, ◌-ℤ◌, int_le, unsigned_abs, bit_and}
 use Rattle.std.specs.Int.{w32, cast_signed}
 use Rattle.imagesize_types.specs.Head.{begins, four_at}
 use Rattle.imagesize_types.specs.declared.size.ImageSize.{ImageSize}
-use Rattle.imagesize_source.specs.declared.error.ImageError.{ImageError}
 use Rattle.imagesize_source.specs.declared.error.ImageError.TheVariants.{IoError}
 use Rattle.imagesize_source.specs.declared.error.Reason.TheVariants.{DataWindowNotFound}
-use Rattle.imagesize_source.specs.declared.util.Endian.TheVariants.{Little}
-use Rattle.imagesize_source.specs.Chain.{Said, Decided, Next, Chain, chain_at, records}
+use Rattle.imagesize_source.specs.declared.endian.Endian.TheVariants.{Little}
+use Rattle.imagesize_source.specs.Chain.{Said, Decided, Next, Chain, chain_at, records, count_behind}
 use Rattle.imagesize_source.specs.Layout.{Layout, bytes}
 use Rattle.imagesize_source.specs.Layout.Layout.{field, refuse, «done»}
 use Rattle.imagesize_source.specs.Numbers.{number}
 use Rattle.imagesize_source.specs.Reading.{Reads, and_then, number_read, number_at}
-use Rattle.imagesize_texts.specs.declared.formats.exr.Attribute.{Attribute}
-use Rattle.imagesize_texts.specs.declared.formats.exr.Attribute.TheVariants.{Window, Other}
-use Rattle.imagesize_texts.specs.Texts.{line}
+use Rattle.imagesize_texts.specs.Texts.{line_at}
 
 -- the magic number ("Magic Number")
 unfoldable pub is_exr : List ℕ → Bool
@@ -40,17 +37,17 @@ abbrev pub signed_at : ℕ → List ℕ → ℤ
 signed_at place bs = cast_signed w32 (number Little (four_at place bs))
 
 -- how many there are from a number to another that is no less, with both
-unfoldable pub side : ℤ → ℤ → Option ℕ
-side low high = if int_le low high then Some (unsigned_abs (high -ℤ low) + 1) else None
+unfoldable pub window_side : ℤ → ℤ → Option ℕ
+window_side low high = if int_le low high then Some (unsigned_abs (high -ℤ low) + 1) else None
 
-abbrev pub box_size : Option ℕ → Option ℕ → Option ImageSize
-box_size (Some width) (Some height) = Some (record { width = width; height = height })
-box_size (Some width) None = None
-box_size None height = None
+abbrev pub size_within : Option ℕ → Option ℕ → Option ImageSize
+size_within (Some width) (Some height) = Some (record { width = width; height = height })
+size_within (Some width) None = None
+size_within None height = None
 
 -- the size of a box of xMin, yMin, xMax and yMax; one that is reversed has none
 unfoldable pub window_size : List ℕ → Option ImageSize
-window_size bs = box_size (side (signed_at 0 bs) (signed_at 8 bs)) (side (signed_at 4 bs) (signed_at 12 bs))
+window_size bs = size_within (window_side (signed_at 0 bs) (signed_at 8 bs)) (window_side (signed_at 4 bs) (signed_at 12 bs))
 
 abbrev pub exr_window : ℕ → ℕ → Option ImageSize → Layout (Said (Unit {0}) ImageSize)
 exr_window place taken (Some size) = done (Decided size)
@@ -71,11 +68,11 @@ exr_typed place name type_name =
 abbrev pub exr_named : ℕ → ℕ → List ℕ → Layout (Said (Unit {0}) ImageSize)
 exr_named room place name =
     if length name == 0 then refuse (IoError DataWindowNotFound)
-    else line 0 (place + (length name + 1)) room (exr_typed place name)
+    else line_at 0 (place + (length name + 1)) room (exr_typed place name)
 
 -- an attribute is its name, its type, the size of its value, and the value ("Attribute Layout")
 abbrev pub exr_attribute : ℕ → ℕ → Layout (Said (Unit {0}) ImageSize)
-exr_attribute room place = line 0 place room (exr_named room place)
+exr_attribute room place = line_at 0 place room (exr_named room place)
 
 -- the attributes behind the version field
 abbrev pub exr_attributes : ℕ → Chain (Unit {0}) ImageSize
@@ -86,14 +83,5 @@ abbrev pub exr : List ℕ → Reads ImageSize
 exr d = and_then (number_read d Little 4 4) (λ version. chain_at (exr_attributes (name_room version)) d)
 
 -- how many attributes are begun
-abbrev pub begun_of : List ℕ → Result ℕ ImageError → ℕ
-begun_of d (Ok version) = records (exr_attributes (name_room version)) d
-begun_of d (Err e) = 0
-
 abbrev pub attributes_begun : List ℕ → ℕ
-attributes_begun d = begun_of d (number_at d Little 4 4)
-
--- what an attribute at a place says
-abbrev pub attribute_said : ℕ → Attribute → Said (Unit {0}) ImageSize
-attribute_said place (Window size) = Decided size
-attribute_said place (Other taken) = Next tt (place + taken)
+attributes_begun d = count_behind (number_at d Little 4 4) (λ version. records (exr_attributes (name_room version)) d)

@@ -6,13 +6,11 @@ use Rattle.imagesize_source.specs.declared.error.ImageError.{ImageError}
 use Rattle.imagesize_source.specs.declared.error.ImageError.TheVariants.{IoError}
 use Rattle.imagesize_source.specs.declared.error.Reason.TheVariants.{InvalidHdrIdentifier, InvalidHdrDimensionsLine, HdrDimensionsNotFound}
 use Rattle.imagesize_source.specs.Chain.{Said, Decided, Next, Chain, chain_at}
-use Rattle.imagesize_source.specs.Layout.{Layout, over}
+use Rattle.imagesize_source.specs.Layout.{Layout, layout_reads, accept}
 use Rattle.imagesize_source.specs.Layout.Layout.{refuse, «done»}
 use Rattle.imagesize_source.specs.Reading.{Reads, and_then}
-use Rattle.imagesize_texts.specs.declared.formats.hdr.Part.{Part}
-use Rattle.imagesize_texts.specs.declared.formats.hdr.Part.TheVariants.{Size, Passed}
 use Rattle.imagesize_texts.specs.Contents.{number_text, words}
-use Rattle.imagesize_texts.specs.Texts.{found, line}
+use Rattle.imagesize_texts.specs.Texts.{line_at}
 
 -- the first line
 unfoldable pub is_hdr : List ℕ → Bool
@@ -27,7 +25,7 @@ identified text = if is_identifier text then done (length text + 1) else refuse 
 
 -- how many bytes the first line takes, of 11 at most
 abbrev pub hdr_identifier : Layout ℕ
-hdr_identifier = line 0x0A 0 11 identified
+hdr_identifier = line_at 0x0A 0 11 identified
 
 -- a line gives the resolution where it begins with an axis and its direction
 unfoldable pub is_resolution : List ℕ → Bool
@@ -52,18 +50,13 @@ abbrev pub resolution : List ℕ → Result ImageSize ImageError
 resolution text = hdr_lengths (second_and_fourth (words text))
 
 abbrev pub hdr_line : ℕ → List ℕ → Layout (Said (Unit {0}) ImageSize)
-hdr_line place text = if is_resolution text then found (resolution text) (λ size. done (Decided size)) else done
+hdr_line place text = if is_resolution text then accept (resolution text) (λ size. done (Decided size)) else done
     (Next tt (place + (length text + 1)))
 
 -- the lines behind the first, each of 256 bytes at most
 abbrev pub hdr_lines : ℕ → Chain (Unit {0}) ImageSize
-hdr_lines first = record { first = first; said = λ passed place. line 0x0A place 256 (hdr_line place) }
+hdr_lines first = record { first = first; said = λ passed place. line_at 0x0A place 256 (hdr_line place) }
 
 -- the first of them that gives the resolution
 abbrev pub hdr : List ℕ → Reads ImageSize
-hdr d = and_then (over d hdr_identifier) (λ first. chain_at (hdr_lines first) d)
-
--- what a part at a place says
-abbrev pub part_said : ℕ → Part → Said (Unit {0}) ImageSize
-part_said place (Size size) = Decided size
-part_said place (Passed taken) = Next tt (place + taken)
+hdr d = and_then (layout_reads d hdr_identifier) (λ first. chain_at (hdr_lines first) d)

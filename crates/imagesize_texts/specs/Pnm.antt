@@ -7,13 +7,11 @@ use Rattle.imagesize_source.specs.declared.error.ImageError.{ImageError}
 use Rattle.imagesize_source.specs.declared.error.ImageError.TheVariants.{IoError}
 use Rattle.imagesize_source.specs.declared.error.Reason.TheVariants.{PnmDimensionsNotFound}
 use Rattle.imagesize_source.specs.Chain.{Said, Decided, Next, Chain, chain_at}
-use Rattle.imagesize_source.specs.Layout.{Layout}
+use Rattle.imagesize_source.specs.Layout.{Layout, accept}
 use Rattle.imagesize_source.specs.Layout.Layout.{«done»}
 use Rattle.imagesize_source.specs.Reading.{Reads}
-use Rattle.imagesize_texts.specs.declared.formats.pnm.Part.{Part}
-use Rattle.imagesize_texts.specs.declared.formats.pnm.Part.TheVariants.{Size, Passed}
 use Rattle.imagesize_texts.specs.Contents.{WordRead, number_text}
-use Rattle.imagesize_texts.specs.Texts.{found, passed_line, word}
+use Rattle.imagesize_texts.specs.Texts.{passed_line, word}
 
 -- the letter P and a digit from 1 to 6
 unfoldable pub is_pnm : List ℕ → Bool
@@ -45,7 +43,7 @@ pnm_comment place w = if w.ended_by == 0x0A then pnm_passed place w.taken else p
 
 -- the word behind the width is the height
 abbrev pub pnm_height : ℕ → WordRead → Layout (Said (Unit {0}) ImageSize)
-pnm_height place w = word (place + w.taken) (λ next. found (pnm_size (number_text w.text) (number_text (trim next.text)))
+pnm_height place w = word (place + w.taken) (λ next. accept (pnm_size (number_text w.text) (number_text (trim next.text)))
     (λ size. done (Decided size)))
 
 abbrev pub pnm_word : ℕ → WordRead → Layout (Said (Unit {0}) ImageSize)
@@ -61,8 +59,3 @@ pnm_words = record { first = 2; said = λ passed place. word place (pnm_word pla
 -- the first word that is neither in a comment nor blank is the width
 abbrev pub pnm : List ℕ → Reads ImageSize
 pnm d = chain_at pnm_words d
-
--- what a part at a place says
-abbrev pub part_said : ℕ → Part → Said (Unit {0}) ImageSize
-part_said place (Size size) = Decided size
-part_said place (Passed taken) = Next tt (place + taken)

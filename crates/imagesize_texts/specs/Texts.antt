@@ -1,31 +1,25 @@
 -- Texts as readings: lines of at most so many bytes, and words.
-use Rattle.std.specs.Prelude.{ℕ, List, length, Result, Ok, Err}
+use Rattle.std.specs.Prelude.{ℕ, List, length, Result}
 use Rattle.imagesize_source.specs.declared.error.ImageError.{ImageError}
 use Rattle.imagesize_source.specs.declared.text.Text.{Text}
 use Rattle.imagesize_source.specs.declared.text.Text.TheVariants.{Line, Word}
 use Rattle.imagesize_source.specs.Input.{span_at}
-use Rattle.imagesize_source.specs.Layout.{Layout, text}
-use Rattle.imagesize_source.specs.Layout.Layout.{refuse}
+use Rattle.imagesize_source.specs.Layout.{Layout, text, accept}
 use Rattle.imagesize_source.specs.Reading.{Reads, text_part}
 use Rattle.imagesize_texts.specs.declared.util.Word as declared
 use Rattle.imagesize_texts.specs.Contents.{WordRead, word_room, line_text, line_length, word_text}
 
--- what goes on from what was found; a refusal ends it
-abbrev pub found : {X Y : Type 0} → Result X ImageError → (X → Layout Y) → Layout Y
-found (Ok x) f = f x
-found (Err e) f = refuse e
-
 -- the text of a line of at most so many bytes, which a delimiter ends
-abbrev pub line : {X : Type 0} → ℕ → ℕ → ℕ → (List ℕ → Layout X) → Layout X
-line delimiter place most f = text (Line delimiter) place most (λ bs. found (line_text delimiter most bs) f)
+abbrev pub line_at : {X : Type 0} → ℕ → ℕ → ℕ → (List ℕ → Layout X) → Layout X
+line_at delimiter place most f = text (Line delimiter) place most (λ bs. accept (line_text delimiter most bs) f)
 
 -- how many bytes such a line takes, whether or not it is text
 abbrev pub passed_line : {X : Type 0} → ℕ → ℕ → ℕ → (ℕ → Layout X) → Layout X
-passed_line delimiter place most f = text (Line delimiter) place most (λ bs. found (line_length delimiter most bs) f)
+passed_line delimiter place most f = text (Line delimiter) place most (λ bs. accept (line_length delimiter most bs) f)
 
 -- a word, behind white space
 abbrev pub word : {X : Type 0} → ℕ → (WordRead → Layout X) → Layout X
-word place f = text Word place word_room (λ bs. found (word_text bs) f)
+word place f = text Word place word_room (λ bs. accept (word_text bs) f)
 
 -- what is made of a text that was read
 abbrev pub text_as : {X : Type 0} → List ℕ → Text → ℕ → ℕ → (List ℕ → Result X ImageError) → Reads X

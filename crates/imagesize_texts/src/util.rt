@@ -1,14 +1,16 @@
 //! Texts: lines up to a delimiter and words between white space, each of so many bytes at most.
-ghost use Rattle.std.specs.Prelude.{◌≡◌, ◌+◌, ◌<◌, ◌≤◌, length, IfOk};
+ghost use Rattle.std.specs.Prelude.{◌≡◌, ℕ, ◌+◌, ◌^◌, ◌<◌, ◌≤◌, codes, length, true, IfOk};
+ghost use Rattle.imagesize_source.specs.Halts.{RunsOrHalts, error_by, with_error};
 ghost use Rattle.imagesize_source.specs.Paying.{Paid};
-ghost use Rattle.imagesize_source.specs.Reading.{number_read, seen};
+ghost use Rattle.imagesize_source.specs.Reading.{number_read, map_answer};
 ghost use Rattle.imagesize_source.specs.State.{Runs};
 ghost use Rattle.imagesize_texts.specs.Contents.{ended_word, is_word_end, line_length, line_text, no_end, number_text, utf8, word_text};
 ghost use Rattle.imagesize_texts.specs.Texts.{length_read, line_read, read_word_of, word_read};
+ghost use Rattle.imagesize_source.specs.declared.error.ImageError.{ImageError};
 
+use imagesize_source::readings::read_u32;
 use imagesize_source::source::Source;
-use imagesize_source::util::{Endian, read_text, read_u32};
-use imagesize_source::{ImageError, ImageResult, Reason, Text};
+use imagesize_source::{Endian, Halt, Text};
 
 /// A word takes fewer bytes of an input than this.
 pub const WORD_ROOM: usize = 1024;
@@ -28,21 +30,24 @@ pub struct Word<'a> {
 ///
 /// # Errors
 ///
-/// `NoDelimiter` where none of these bytes is the delimiter, `EndOfInput` where the input ends before one,
+/// `NoDelimiter` where none of these bytes is the delimiter, `Ended` where the input ends before one,
 /// and `NotUtf8` where the bytes before it are no text.
+#[inline(always)]
 pub fn read_line_capped<'a, S: Source>(
     source: &mut S,
     place: u64,
     delimiter: u8,
     room: &'a mut [u8],
-) -> ImageResult<&'a str>
+) -> Result<&'a str, Halt>
+    requires { length room.old < 2 ^ 32 }
     ensures bound { IfOk result (λ text. length text.now < length room.old) }
     ensures pays { IfOk result (λ text. Paid (S.state source.old) (S.state source.new) place) }
-    ensures runs { Runs (S.state source.old) (S.state source.new) (seen (λ text. text.now) result)
+    ensures runs { Runs (S.state source.old) (S.state source.new)
+        (map_answer (λ text. text.now) (with_error (S.failure source.new) (S.state source.new).frame.budget result))
         (line_read (S.state source.old).held.input delimiter place (length room.old)) }
 {
     let most = room.len();
-    let count = read_text(source, place, Text::Line { delimiter }, room)?;
+    let count = source.read_text(place, Text::Line { delimiter }, room)?;
     line_text(&room[..count], delimiter, most)
 }
 
@@ -51,10 +56,12 @@ pub fn read_null_terminated_string<'a, S: Source>(
     source: &mut S,
     place: u64,
     room: &'a mut [u8],
-) -> ImageResult<&'a str>
+) -> Result<&'a str, Halt>
+    requires { length room.old < 2 ^ 32 }
     ensures bound { IfOk result (λ text. length text.now < length room.old) }
     ensures pays { IfOk result (λ text. Paid (S.state source.old) (S.state source.new) place) }
-    ensures runs { Runs (S.state source.old) (S.state source.new) (seen (λ text. text.now) result)
+    ensures runs { Runs (S.state source.old) (S.state source.new)
+        (map_answer (λ text. text.now) (with_error (S.failure source.new) (S.state source.new).frame.budget result))
         (line_read (S.state source.old).held.input 0 place (length room.old)) }
 {
     read_line_capped(source, place, 0, room)
@@ -67,13 +74,14 @@ pub fn pass_line_capped<S: Source>(
     place: u64,
     delimiter: u8,
     room: &mut [u8],
-) -> ImageResult<usize>
+) -> Result<usize, Halt>
+    requires { length room.old < 2 ^ 32 }
     ensures bound { IfOk result (λ n. n ≤ length room.old) }
-    ensures runs { Runs (S.state source.old) (S.state source.new) result
+    ensures runs { RunsOrHalts (S.state source.old) (S.state source.new) (S.failure source.new) result
         (length_read (S.state source.old).held.input delimiter place (length room.old)) }
 {
     let most = room.len();
-    let count = read_text(source, place, Text::Line { delimiter }, room)?;
+    let count = source.read_text(place, Text::Line { delimiter }, room)?;
     line_length(&room[..count], delimiter, most)
 }
 
@@ -82,19 +90,20 @@ pub fn pass_line_capped<S: Source>(
 ///
 /// # Errors
 ///
-/// `NoDelimiter` where 1024 bytes have no such end, `EndOfInput` where the input ends before one, and
+/// `NoDelimiter` where 1024 bytes have no such end, `Ended` where the input ends before one, and
 /// `NotUtf8` where the word is no text.
 pub fn read_word<'a, S: Source>(
     source: &mut S,
     place: u64,
     room: &'a mut [u8; WORD_ROOM],
-) -> ImageResult<Word<'a>>
+) -> Result<Word<'a>, Halt>
     ensures bound { IfOk result (λ word. (0 < word.taken) × (word.taken < 1024)) }
     ensures pays { IfOk result (λ word. Paid (S.state source.old) (S.state source.new) place) }
-    ensures runs { Runs (S.state source.old) (S.state source.new) (seen (λ word. read_word_of word) result)
+    ensures runs { Runs (S.state source.old) (S.state source.new)
+        (map_answer (λ word. read_word_of word) (with_error (S.failure source.new) (S.state source.new).frame.budget result))
         (word_read (S.state source.old).held.input place) }
 {
-    let count = read_text(source, place, Text::Word, room)?;
+    let count = source.read_text(place, Text::Word, room)?;
     word_text(&room[..count])
 }
 
@@ -106,9 +115,10 @@ pub fn pass_line_behind<S: Source>(
     distance: u64,
     delimiter: u8,
     room: &mut [u8],
-) -> ImageResult<usize>
+) -> Result<usize, Halt>
+    requires { length room.old < 2 ^ 32 }
     ensures bound { IfOk result (λ n. n ≤ length room.old) }
-    ensures runs { Runs (S.state source.old) (S.state source.new) result
+    ensures runs { RunsOrHalts (S.state source.old) (S.state source.new) (S.failure source.new) result
         (length_read (S.state source.old).held.input delimiter (place + distance) (length room.old)) }
 {
     pass_line_capped(source, place.saturating_add(distance), delimiter, room)
@@ -120,8 +130,9 @@ pub fn read_word_behind<'a, S: Source>(
     place: u64,
     distance: u64,
     room: &'a mut [u8; WORD_ROOM],
-) -> ImageResult<Word<'a>>
-    ensures { Runs (S.state source.old) (S.state source.new) (seen (λ word. read_word_of word) result)
+) -> Result<Word<'a>, Halt>
+    ensures { Runs (S.state source.old) (S.state source.new)
+        (map_answer (λ word. read_word_of word) (with_error (S.failure source.new) (S.state source.new).frame.budget result))
         (word_read (S.state source.old).held.input (place + distance)) }
 {
     read_word(source, place.saturating_add(distance), room)
@@ -133,28 +144,32 @@ pub fn read_u32_behind<S: Source>(
     place: u64,
     distance: u64,
     endian: Endian,
-) -> ImageResult<u32>
-    ensures { Runs (S.state source.old) (S.state source.new) result
+) -> Result<u32, Halt>
+    ensures { RunsOrHalts (S.state source.old) (S.state source.new) (S.failure source.new) result
         (number_read (S.state source.old).held.input endian (place + distance) 4) }
 {
     read_u32(source, place.saturating_add(distance), endian)
 }
 
 // The text of a line, without the delimiter that ends it, where there is room for so many bytes.
+#[inline(always)]
 #[tactic(auto, unfolding(crate::specs::Contents::line_text))]
-fn line_text(bytes: &[u8], delimiter: u8, most: usize) -> ImageResult<&str>
-    ensures { seen (λ text. text.now) result ≡ line_text delimiter most bytes.now }
+fn line_text(bytes: &[u8], delimiter: u8, most: usize) -> Result<&str, Halt>
+    requires { most < 2 ^ 32 }
+    ensures { (failure : ImageError) (budget : ℕ) →
+        map_answer (λ text. text.now) (with_error failure budget result) ≡ line_text delimiter most bytes.now }
 {
     match bytes {
-        [text @ .., last] if *last == delimiter => text_of(text),
+        [text @ .., last] if *last == delimiter => text_of_line(text),
         _ => Err(no_end(bytes.len(), most)),
     }
 }
 
 // How many bytes a line takes, where there is room for so many.
 #[tactic(auto, unfolding(crate::specs::Contents::line_length))]
-fn line_length(bytes: &[u8], delimiter: u8, most: usize) -> ImageResult<usize>
-    ensures { result ≡ line_length delimiter most bytes.now }
+fn line_length(bytes: &[u8], delimiter: u8, most: usize) -> Result<usize, Halt>
+    requires { most < 2 ^ 32 }
+    ensures { (failure : ImageError) (budget : ℕ) → with_error failure budget result ≡ line_length delimiter most bytes.now }
 {
     match bytes {
         [.., last] if *last == delimiter => Ok(bytes.len()),
@@ -164,20 +179,22 @@ fn line_length(bytes: &[u8], delimiter: u8, most: usize) -> ImageResult<usize>
 
 // The word that stands behind white space.
 #[tactic(auto, using(crate::proofs::Words::unspaced_is), unfolding(crate::specs::Contents::word_text))]
-fn word_text(bytes: &[u8]) -> ImageResult<Word<'_>>
-    ensures { seen (λ word. read_word_of word) result ≡ word_text bytes.now }
+fn word_text(bytes: &[u8]) -> Result<Word<'_>, Halt>
+    ensures { (failure : ImageError) (budget : ℕ) →
+        map_answer (λ word. read_word_of word) (with_error failure budget result) ≡ word_text bytes.now }
 {
     ended_word(bytes.trim_ascii_start(), bytes.len())
 }
 
 // The word that begins the bytes, of so many with the white space before them.
 #[tactic(auto, unfolding(crate::specs::Contents::ended_word))]
-fn ended_word(bytes: &[u8], taken: usize) -> ImageResult<Word<'_>>
-    ensures { seen (λ word. read_word_of word) result ≡ ended_word taken bytes.now }
+fn ended_word(bytes: &[u8], taken: usize) -> Result<Word<'_>, Halt>
+    ensures { (failure : ImageError) (budget : ℕ) →
+        map_answer (λ word. read_word_of word) (with_error failure budget result) ≡ ended_word taken bytes.now }
 {
     match bytes {
         [text @ .., last] if is_word_end(*last, taken) => Ok(Word {
-            text: text_of(text)?,
+            text: text_of_word(text)?,
             ended_by: *last,
             taken,
         }),
@@ -195,23 +212,60 @@ fn is_word_end(byte: u8, taken: usize) -> bool
 
 // Why a text of so many bytes has no end, where there is room for so many.
 #[inline]
-fn no_end(count: usize, most: usize) -> ImageError
-    ensures { result ≡ no_end most count }
+fn no_end(count: usize, most: usize) -> Halt
+    requires { most < 2 ^ 32 }
+    ensures { (failure : ImageError) (budget : ℕ) → error_by failure budget result ≡ no_end most count }
 {
     if count == most {
-        return ImageError::IoError(Reason::NoDelimiter { max_size: most });
+        return Halt::NoDelimiter {
+            max_size: most as u32,
+        };
     }
-    ImageError::IoError(Reason::EndOfInput)
+    Halt::Ended
+}
+
+// The bytes of a word as text. A `#` alone, of which an input can hold the most, needs no test.
+#[inline(always)]
+fn text_of_word(bytes: &[u8]) -> Result<&str, Halt>
+    ensures { (failure : ImageError) (budget : ℕ) →
+        map_answer (λ text. text.now) (with_error failure budget result) ≡ utf8 bytes.now }
+{
+    if is_hash(bytes) {
+        return Ok("#");
+    }
+    text_of(bytes)
+}
+
+/// Whether the bytes are a `#` alone.
+#[inline(always)]
+pub fn is_hash(bytes: &[u8]) -> bool
+    ensures { result ≡ true → bytes.now ≡ codes "#" }
+{
+    matches!(bytes, [b'#'])
+}
+
+// The bytes of a line as text. An empty line, of which an input can hold the most, needs no test.
+#[inline(always)]
+fn text_of_line(bytes: &[u8]) -> Result<&str, Halt>
+    ensures { (failure : ImageError) (budget : ℕ) →
+        map_answer (λ text. text.now) (with_error failure budget result) ≡ utf8 bytes.now }
+{
+    if bytes.is_empty() {
+        return Ok("");
+    }
+    text_of(bytes)
 }
 
 // The bytes as text.
+#[inline(always)]
 #[tactic(auto, using(crate::proofs::Words::is_text, crate::proofs::Words::no_text))]
-fn text_of(bytes: &[u8]) -> ImageResult<&str>
-    ensures { seen (λ text. text.now) result ≡ utf8 bytes.now }
+fn text_of(bytes: &[u8]) -> Result<&str, Halt>
+    ensures { (failure : ImageError) (budget : ℕ) →
+        map_answer (λ text. text.now) (with_error failure budget result) ≡ utf8 bytes.now }
 {
     match str::from_utf8(bytes) {
         Ok(text) => Ok(text),
-        Err(_) => Err(ImageError::IoError(Reason::NotUtf8)),
+        Err(_) => Err(Halt::NotUtf8),
     }
 }
 

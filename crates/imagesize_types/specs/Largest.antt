@@ -1,5 +1,5 @@
 -- The sizes of greatest area in a list.
-use Rattle.std.specs.Prelude.{ℕ, max, ◌==◌, nat_le, if◌then◌else◌, List, map, fold, filter, Option, None, Some}
+use Rattle.std.specs.Prelude.{ℕ, max, ◌==◌, nat_le, if◌then◌else◌, List, map, fold, filter, Option, None, Some, slice_get}
 use Rattle.std.specs.List.{last_or}
 use Rattle.imagesize_types.specs.Order.{area_of}
 use Rattle.imagesize_types.specs.declared.size.ImageSize.{ImageSize}
@@ -11,6 +11,10 @@ greatest_area sizes = fold max 0 (map area_of sizes)
 -- those that have it
 abbrev pub largest_of : List ImageSize → List ImageSize
 largest_of sizes = filter (λ size. area_of size == greatest_area sizes) sizes
+
+-- the first of them
+abbrev pub first_largest : List ImageSize → Option ImageSize
+first_largest sizes = slice_get (largest_of sizes) 0
 
 -- the last of them
 abbrev pub last_largest : List ImageSize → Option ImageSize

@@ -8,7 +8,7 @@ use Rattle.std.proofs.lemmas.List.{append-nil}
 use Rattle.std.proofs.lemmas.List.Sums.{sum_by-cons}
 use Rattle.imagesize.specs.Meaning.{meaning}
 use Rattle.imagesize.specs.Parted.{Wants, texts_of}
-use Rattle.imagesize_source.specs.Agreement.{covered, has_place}
+use Rattle.imagesize_source.specs.Agreement.{is_covered, has_place}
 use Rattle.imagesize_source.specs.Counts.{places}
 use Rattle.imagesize_source.specs.Input.{part}
 use Rattle.imagesize_source.specs.Known.{HasParts, bytes_of}
@@ -51,18 +51,18 @@ count_less p q a (suc n) at low high h gone has =
           omega (arith, count-cons p a (range_with_len (a + 1) n), count-cons q a (range_with_len (a + 1) n), one_fewer (p a) (q a) (h a), rest)
 
 -- one span more
-covered_behind : (spans : List Span) (w : Span) (place : ℕ) → covered (spans ++ w ∷ []) place ≡ covered spans place || has_place w place
+covered_behind : (spans : List Span) (w : Span) (place : ℕ) → is_covered (spans ++ w ∷ []) place ≡ is_covered spans place || has_place w place
 covered_behind [] w place =
     let Goal : Bool → Type 0 = λ b. b || false ≡ b in elim (has_place w place) as Goal [ true ↦ refl | false ↦ refl ]
 covered_behind (s ∷ spans) w place =
-    let Goal : Bool → Type 0 = λ b. b || covered (spans ++ w ∷ []) place ≡ (b || covered spans place) || has_place w place in
+    let Goal : Bool → Type 0 = λ b. b || is_covered (spans ++ w ∷ []) place ≡ (b || is_covered spans place) || has_place w place in
     elim (has_place s place) as Goal [ true ↦ refl | false ↦ covered_behind spans w place ]
 
 -- ---- what was fetched so far
 
 -- a place of the marks that no part has
 abbrev pub lacks : List Span → List Span → ℕ → Bool
-lacks marks spans place = covered marks place && not (covered spans place)
+lacks marks spans place = is_covered marks place && not (is_covered spans place)
 
 -- how many places of its marks the parts of an input lack
 unfoldable pub lacking : List ℕ → List Span → ℕ
@@ -84,8 +84,8 @@ begun d whole now spans bytes long short none also = record {
   content = ap (bytes_of d) none ∙ sym also;
   few = omega (
     arith,
-    count_fewer (lacks (meaning d 0).marks spans) (covered (meaning d 0).marks) (range_with_len 0 (length d))
-        (λ place. both_first (covered (meaning d 0).marks place) (not (covered spans place))),
+    count_fewer (lacks (meaning d 0).marks spans) (is_covered (meaning d 0).marks) (range_with_len 0 (length d))
+        (λ place. both_first (is_covered (meaning d 0).marks place) (not (is_covered spans place))),
   );
 }
   where
@@ -110,7 +110,7 @@ module _ (d : List ℕ) (whole : ℕ) (spans : List Span) (bytes : List ℕ) (be
       let has : has_place w w.start ≡ true = (let some = fits.0 in grind (arith, nat_tests)) in
       subst (λ s. count_by (lacks marks s) (range_with_len 0 (length d)) < count_by (lacks marks spans) (range_with_len 0 (length d))) (sym is)
       (count_less (lacks marks (spans ++ w ∷ [])) (lacks marks spans) 0 (length d) w.start (omega arith)
-      (omega (arith, fits.0, fits.1, f.as_long)) no_more (none has) (ap (λ b. covered marks w.start && not b) says.1 ∙ and_true says.0)) where
+      (omega (arith, fits.0, fits.1, f.as_long)) no_more (none has) (ap (λ b. is_covered marks w.start && not b) says.1 ∙ and_true says.0)) where
         marks : List Span
         marks = (meaning d 0).marks
 
@@ -120,8 +120,8 @@ module _ (d : List ℕ) (whole : ℕ) (spans : List Span) (bytes : List ℕ) (be
         with_more false b c is = is
 
         no_more : (place : ℕ) → lacks marks (spans ++ w ∷ []) place ≡ true → lacks marks spans place ≡ true
-        no_more place is = with_more (covered marks place) (covered spans place) (has_place w place)
-            (ap (λ b. covered marks place && not b) (sym (covered_behind spans w place)) ∙ is)
+        no_more place is = with_more (is_covered marks place) (is_covered spans place) (has_place w place)
+            (ap (λ b. is_covered marks place && not b) (sym (covered_behind spans w place)) ∙ is)
 
         covers : (a b : Bool) → a && not (b || true) ≡ false
         covers true true = refl
@@ -129,8 +129,8 @@ module _ (d : List ℕ) (whole : ℕ) (spans : List Span) (bytes : List ℕ) (be
         covers false b = refl
 
         none : has_place w w.start ≡ true → lacks marks (spans ++ w ∷ []) w.start ≡ false
-        none has = ap (λ b. covered marks w.start && not b) (covered_behind spans w w.start ∙ ap (λ b. covered spans w.start || b) has)
-            ∙ covers (covered marks w.start) (covered spans w.start)
+        none has = ap (λ b. is_covered marks w.start && not b) (covered_behind spans w w.start ∙ ap (λ b. is_covered spans w.start || b) has)
+            ∙ covers (is_covered marks w.start) (is_covered spans w.start)
 
         and_true : {b : Bool} → b ≡ true → b && true ≡ true
         and_true is = ap (λ b. b && true) is

@@ -6,7 +6,7 @@ use Rattle.std.proofs.lemmas.Bool.Decides.{nat_tests}
 use Rattle.std.proofs.lemmas.Grind.{flat_map-append}
 use Rattle.std.proofs.lemmas.List.{append_assoc, append_cancel_left, append-nil, ext_get_or, get_or-drop, get_or-take, length-drop, length-take, take-append-drop, take-take, take_more}
 use Rattle.std.proofs.Math.Seq.{drop-append_seam, drop-cons, take-append_seam}
-use Rattle.imagesize_source.specs.Agreement.{Agrees, covered, has_place}
+use Rattle.imagesize_source.specs.Agreement.{Agrees, is_covered, has_place}
 use Rattle.imagesize_source.specs.Input.{part}
 use Rattle.imagesize_source.specs.declared.span.Span.{Span}
 use Rattle.imagesize_source.specs.Known.{bytes_of}
@@ -60,13 +60,13 @@ same_at d e s place same has =
     (sym (part-at e s.start s.len i below) ∙ ap (λ bs. get_or bs i 0) same ∙ part-at d s.start s.len i below)
 
 same_byte : (d e : List ℕ) (spans : List Span) (place : ℕ) → length e ≡ length d → bytes_of e spans ≡ bytes_of d spans
-    → covered spans place ≡ true → slice_index e place ≡ slice_index d place
+    → is_covered spans place ≡ true → slice_index e place ≡ slice_index d place
 same_byte d e [] place long same here = absurd cc
 same_byte d e (s ∷ spans) place long same here =
     let lengths = as_long d e s.start s.len long in
     let front = fronts (part e s.start s.len) (part d s.start s.len) (bytes_of e spans) (bytes_of d spans) lengths same in
     let rest = ends (part e s.start s.len) (part d s.start s.len) (bytes_of e spans) (bytes_of d spans) lengths same in
-    let Goal : Bool → Type 0 = λ b. has_place s place ≡ b → b || covered spans place ≡ true → slice_index e place ≡ slice_index d place in
+    let Goal : Bool → Type 0 = λ b. has_place s place ≡ b → b || is_covered spans place ≡ true → slice_index e place ≡ slice_index d place in
     let cases : Goal (has_place s place) = elim (has_place s place) as Goal [
       | true ↦ λ has _. same_at d e s place front has
       | false ↦ λ _ later. same_byte d e spans place long rest later
@@ -86,12 +86,12 @@ same_part d e s long agrees =
     let small : i < s.len = omega (arith, below, length-part e s.start s.len) in
     part-at e s.start s.len i small ∙ agrees (s.start + i) (has_offset s i small) ∙ sym (part-at d s.start s.len i small))
 
-covered_first : (s : Span) (spans : List Span) (place : ℕ) → has_place s place ≡ true → covered (s ∷ spans) place ≡ true
-covered_first s spans place has = ap (λ b. b || covered spans place) has
+covered_first : (s : Span) (spans : List Span) (place : ℕ) → has_place s place ≡ true → is_covered (s ∷ spans) place ≡ true
+covered_first s spans place has = ap (λ b. b || is_covered spans place) has
 
-covered_later : (s : Span) (spans : List Span) (place : ℕ) → covered spans place ≡ true → covered (s ∷ spans) place ≡ true
+covered_later : (s : Span) (spans : List Span) (place : ℕ) → is_covered spans place ≡ true → is_covered (s ∷ spans) place ≡ true
 covered_later s spans place here =
-    let Goal : Bool → Type 0 = λ b. b || covered spans place ≡ true in
+    let Goal : Bool → Type 0 = λ b. b || is_covered spans place ≡ true in
     elim (has_place s place) as Goal [ true ↦ refl | false ↦ here ]
 
 pub bytes_by_agreement : (d e : List ℕ) (spans : List Span) → Agrees d e spans → bytes_of e spans ≡ bytes_of d spans

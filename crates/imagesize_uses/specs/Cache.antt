@@ -8,7 +8,7 @@ use Rattle.imagesize_uses.specs.declared.cache.Kept.{Kept}
 
 -- The input's length, its type, size and spans, and the bytes in these are kept. Each other input that agrees on the
 -- spans is the same.
-pub record Keeps {A : Type 0} (d : List ℕ) (kept : Kept A) : Type 0 where
+pub record IsKept {A : Type 0} (d : List ℕ) (kept : Kept A) : Type 0 where
   pub as_long : kept.length ≡ length d
   pub traces : Traces d kept.trace
   pub bytes : kept.bytes.items ≡ bytes_of d kept.trace.spans.items

@@ -1,5 +1,5 @@
 -- What a gate for uploads admits.
-use Rattle.std.specs.Prelude.{◌≡◌, ℕ, ◌+◌, ◌≤◌, nat_le, false, true, length, if◌then◌else◌, Option, None, Some, Result, Ok, Err, IfOk, option_map}
+use Rattle.std.specs.Prelude.{◌≡◌, ℕ, ◌+◌, ◌≤◌, nat_le, false, length, if◌then◌else◌, Option, None, Some, Result, Ok, Err, IfOk}
 use Rattle.imagesize.specs.Meaning.{meaning}
 use Rattle.imagesize_io.specs.Answers.{over_reader}
 use Rattle.imagesize_source.specs.Limits.{allowance}
@@ -13,9 +13,9 @@ use Rattle.imagesize_uses.specs.declared.gate.Rejection.{Rejection}
 use Rattle.imagesize_uses.specs.declared.gate.Rejection.TheVariants.{TooLarge, NoSize}
 
 -- an image of at most so many pixels is admitted, and no other
-abbrev pub verdict_of : ℕ → Result ImageSize ImageError → Result ImageSize Rejection
-verdict_of most (Ok size) = if nat_le (area_of size) most then Ok size else Err (TooLarge size)
-verdict_of most (Err e) = Err (NoSize e)
+abbrev pub gate_verdict : ℕ → Result ImageSize ImageError → Result ImageSize Rejection
+gate_verdict most (Ok size) = if nat_le (area_of size) most then Ok size else Err (TooLarge size)
+gate_verdict most (Err e) = Err (NoSize e)
 
 -- what holds of a size that is too large
 abbrev pub IfTooLarge : Result ImageSize Rejection → (ImageSize → Type 0) → Type 0
@@ -36,13 +36,9 @@ pub record AdmitsOf (t : Telling) (most : ℕ) (admission : Admission) : Type 0 
   pub image : IfOk admission.verdict (λ size. (over_reader t meaning).answer ≡ Ok size)
   pub too_large : IfTooLarge admission.verdict (λ size. (over_reader t meaning).answer ≡ Ok size)
   pub refused : IfNoSize admission.verdict (λ e. is_fault e ≡ false → (over_reader t meaning).answer ≡ Err e)
-  pub whole : t.can_fail ≡ false → admission.verdict ≡ verdict_of most (over_reader t meaning).answer
+  pub whole : t.can_fail ≡ false → admission.verdict ≡ gate_verdict most (over_reader t meaning).answer
   pub within : admission.taken ≤ length t.bytes + allowance
 
 abbrev pub Admits : Option Telling → ℕ → Admission → Type 0
 Admits None most admission = Unit {0}
 Admits (Some t) most admission = IsHonest t → AdmitsOf t most admission
-
--- what is told of a reader each of whose calls may also fail
-abbrev pub may_fail : Option Telling → Option Telling
-may_fail told = option_map {T = Telling} (λ t. record t { can_fail = true }) told

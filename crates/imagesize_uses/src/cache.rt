@@ -5,7 +5,7 @@ ghost use Rattle.imagesize.specs.Traced.{IsSame};
 ghost use Rattle.imagesize_source.specs.Agreement.{Agrees};
 ghost use Rattle.imagesize_source.specs.Input.{part};
 ghost use Rattle.imagesize_source.specs.Known.{bytes_of};
-ghost use Rattle.imagesize_uses.specs.Cache.{Keeps};
+ghost use Rattle.imagesize_uses.specs.Cache.{IsKept};
 
 use imagesize::{Span, Trace, blob_trace};
 use std::alloc::{AllocError, Allocator};
@@ -25,7 +25,7 @@ pub struct Kept<A: Allocator> {
 ///
 /// Errors: `AllocError` where memory for the spans or their bytes was refused.
 pub fn keep<A: Allocator + Copy>(alloc: A, data: &[u8]) -> Result<Kept<A>, AllocError>
-    ensures { IfOk result (Keeps «data».now) }
+    ensures { IfOk result (IsKept «data».now) }
 {
     let trace = blob_trace(alloc, data)?;
     let bytes = bytes_in(alloc, data, &trace.spans)?;
@@ -40,10 +40,10 @@ pub fn keep<A: Allocator + Copy>(alloc: A, data: &[u8]) -> Result<Kept<A>, Alloc
 #[tactic(auto, using(crate::proofs::Spans::agrees_by_bytes, crate::proofs::Spans::bytes_by_agreement))]
 pub fn still_holds<A: Allocator>(kept: &Kept<A>, data: &[u8]) -> bool
     // Where it holds, the other input has the type, the size and the spans of the one that is kept.
-    ensures same { (d : List ℕ) → Keeps d kept.now → IsTrue result → IsSame d «data».now }
+    ensures same { (d : List ℕ) → IsKept d kept.now → IsTrue result → IsSame d «data».now }
 
     // It holds for each input that agrees with that one on the spans.
-    ensures found { (d : List ℕ) → Keeps d kept.now → Agrees d «data».now (meaning d 0).marks → IsTrue result }
+    ensures found { (d : List ℕ) → IsKept d kept.now → Agrees d «data».now (meaning d 0).marks → IsTrue result }
 {
     data.len() == kept.length && has_bytes(data, &kept.trace.spans, &kept.bytes)
 }

@@ -1,8 +1,8 @@
 //! A gate for uploads: an image is admitted where it has few enough pixels.
 ghost use Rattle.std.specs.Prelude.{◌≡◌, ℕ, ◌*◌, ◌+◌, ◌-◌, ◌^◌, ◌<◌, ◌≤◌, IfOk, IsErr, Some, length, option_map, take};
 ghost use Rattle.imagesize_source.specs.Limits.{allowance};
-ghost use Rattle.imagesize_io.specs.Telling.{ReadTells, SeekTells, counted};
-ghost use Rattle.imagesize_uses.specs.Gate.{Admits, IfTooLarge, may_fail, verdict_of};
+ghost use Rattle.imagesize_io.specs.Telling.{ReadTells, SeekTells, counted, may_fail};
+ghost use Rattle.imagesize_uses.specs.Gate.{Admits, IfTooLarge, gate_verdict};
 
 use imagesize::{ImageError, ImageResult, ImageSize, Stop, Told, reader_probe};
 use imagesize_io::reader::ALLOWANCE;
@@ -47,7 +47,7 @@ pub fn admit<R: Told>(reader: &mut R, most_pixels: u64) -> Admission
 
 // What a gate says of a size, or of its refusal.
 fn judge(answer: ImageResult<ImageSize>, most_pixels: u64) -> Result<ImageSize, Rejection>
-    ensures { result ≡ verdict_of most_pixels answer }
+    ensures { result ≡ gate_verdict most_pixels answer }
 {
     match answer {
         Ok(size) if area(&size) <= most_pixels as u128 => Ok(size),

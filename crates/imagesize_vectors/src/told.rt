@@ -3,7 +3,7 @@ ghost use Rattle.std.specs.Prelude.{◌≡◌, ◌+◌, ◌^◌, ◌<◌, ◌≤
 ghost use Rattle.imagesize_io.specs.Answers.{RisesWithin};
 ghost use Rattle.std.specs.Io.Cursor.{cursor_inner};
 ghost use Rattle.imagesize.specs.Meaning.{meaning, size_of};
-ghost use Rattle.imagesize_source.specs.Reading.{stopped, faulted};
+ghost use Rattle.imagesize_source.specs.Reading.{is_stopped, is_faulted};
 ghost use Rattle.imagesize_source.specs.State.{total};
 
 #[cfg(test)]
@@ -19,8 +19,8 @@ use std::test::Fail;
 /// The size in pixels through a reader of which a call fails, or the fault of that failure; the refusals of the layouts
 /// are those of `blob_size`.
 pub fn size_or_fault(bytes: &[u8], left: u64, error: io::Error) -> ImageResult<ImageSize>
-    ensures size { stopped result ≡ false → (meaning bytes.now 0).answer ≡ result }
-    ensures fault { stopped result ≡ true → faulted result ≡ true }
+    ensures size { is_stopped result ≡ false → (meaning bytes.now 0).answer ≡ result }
+    ensures fault { is_stopped result ≡ true → is_faulted result ≡ true }
 {
     // The proof needs that the length is below 2^63.
     let _length = bytes.len();
@@ -80,7 +80,7 @@ pub fn counted_size(
     reader: &mut Counting<'_, Cursor<&[u8]>>,
 ) -> ImageResult<ImageSize>
     requires { length (cursor_inner reader.old.reader).now < 2 ^ 63 }
-    ensures size { stopped result ≡ false → (size_of kind (cursor_inner reader.old.reader).now).answer ≡ result }
+    ensures size { is_stopped result ≡ false → (size_of kind (cursor_inner reader.old.reader).now).answer ≡ result }
     ensures counts { RisesWithin (Some reader.old.count.now) (Some reader.new.count.now)
         (total (size_of kind (cursor_inner reader.old.reader).now).marks) }
 {

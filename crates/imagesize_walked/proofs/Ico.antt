@@ -1,25 +1,27 @@
 -- ICO: how a walk along its entries goes, how many bytes they are read from, and what it sees of an input.
-use Rattle.std.proofs.Common.{◌≡◌, ◌≢◌, ℕ, ◌+◌, ◌*◌, ◌<◌, ◌≤◌, max, Bool, true, false, cond, eqb, leb, List, [], ◌∷◌, ◌++◌, length, map, Option, Some, None, Result, Ok, Err, refl, sym, ap, ◌∙◌, subst, arith}
+use Rattle.std.proofs.Common.{◌≡◌, ◌≢◌, ℕ, ◌+◌, ◌*◌, ◌<◌, ◌≤◌, max, Bool, true, false, cond, eqb, leb, List, [], ◌∷◌, ◌++◌, length, map, Option, Some, None, Result, Ok, Err, refl, sym, ap, ◌∙◌, subst, arith, min}
 use Rattle.std.proofs.lemmas.Bool.Decides.{nat_tests}
 use Rattle.std.proofs.lemmas.List.{append-nil, length_push, map-append}
 use Rattle.std.proofs.lemmas.List.Elements.{filter-append}
 use Rattle.std.proofs.lemmas.List.Sums.{fold-append}
 use Rattle.std.specs.Prelude.{filter, fold, ok_or}
 use Rattle.std.specs.List.{last_or}
-use Rattle.imagesize_walked.specs.Ico.{ico, icon_entries, icon_entry, icon_answer, icon_size, begun_of, entries_begun}
+use Rattle.imagesize_walked.specs.Ico.{ico, icon_entries, icon_entry, icon_answer, icon_size, icons_begun}
 use Rattle.imagesize_types.specs.Largest.{greatest_area, last_largest, area_if_some, later_largest}
 use Rattle.imagesize_types.specs.Order.{area_of}
 use Rattle.imagesize_types.specs.declared.size.ImageSize.{ImageSize}
 use Rattle.imagesize_source.specs.declared.error.ImageError.{ImageError}
 use Rattle.imagesize_source.specs.declared.error.ImageError.TheVariants.{CorruptedImage}
-use Rattle.imagesize_source.specs.declared.util.Endian.TheVariants.{Little}
-use Rattle.imagesize_source.specs.Agreement.{Local}
-use Rattle.imagesize_source.specs.Chain.{Said, Decided, Next, Along, Advances, start, next_record, records, records_from, verdict, chain_at}
+use Rattle.imagesize_source.specs.declared.halt.Halt.TheVariants.{Corrupted}
+use Rattle.imagesize_source.specs.declared.endian.Endian.TheVariants.{Little}
+use Rattle.imagesize_source.specs.Agreement.{IsLocal}
+use Rattle.imagesize_source.specs.Chain.{Said, Decided, Next, Along, Advances, start, next_record, records, records_from, verdict, chain_at, count_behind}
 use Rattle.imagesize_source.specs.Counts.{AtMost}
+use Rattle.imagesize_source.specs.Halts.{RunsOrHalts}
 use Rattle.imagesize_source.specs.Input.{span_of}
-use Rattle.imagesize_source.specs.Layout.{Layout, over, if_there, refuse, done, whole}
-use Rattle.imagesize_source.specs.Reading.{onward, number_at, number_read}
-use Rattle.imagesize_source.specs.State.{State, Runs, Sound, total}
+use Rattle.imagesize_source.specs.Layout.{Layout, layout_reads, if_there, refuse, done, whole}
+use Rattle.imagesize_source.specs.Reading.{go_on, number_at, number_read}
+use Rattle.imagesize_source.specs.State.{State, Runs, IsSound, total}
 use Rattle.imagesize_source.proofs.Advances.{Tells, Begins, advances, tells}
 use Rattle.imagesize_source.proofs.Ahead.{Ahead, chain_ahead}
 use Rattle.imagesize_source.proofs.ChainLaws.{local_chain, chain_cost, chain_induction}
@@ -137,15 +139,15 @@ icon_start count a = walks_start (icon_entries count) (Found 0 None) a
 
 -- the record of an entry, where there are more
 more_said : {b end : State} {r : Result (Said ImageSize ImageSize) ImageError} (count i : ℕ) (sizes : List ImageSize) (place : ℕ)
-    → i < count → length sizes ≡ i → Runs b end r (over b.held.input (if_there place 2 (icon_entry sizes place)))
-    → Runs b end r (over b.held.input ((icon_entries count).said sizes place))
+    → i < count → length sizes ≡ i → Runs b end r (layout_reads b.held.input (if_there place 2 (icon_entry sizes place)))
+    → Runs b end r (layout_reads b.held.input ((icon_entries count).said sizes place))
 more_said {b} {end} {r} count i sizes place below many run =
     let more : eqb (length sizes) count ≡ false = grind (arith, nat_tests) in
-    subst (λ t. Runs b end r (over b.held.input t))
+    subst (λ t. Runs b end r (layout_reads b.held.input t))
     (sym (ap (λ test. cond test (icon_answer (last_largest sizes)) (if_there place 2 (icon_entry sizes place))) more)) run
 
 pub icon_on : {a b end : State} (count i : ℕ) (best : Option ImageSize) (bytes : List ℕ) → i < count → IconWalks count a b i best
-    → Runs b end (Ok (Some bytes)) (over b.held.input (if_there (6 + 16 * i) 2 done)) → IconWalks count a end (i + 1)
+    → Runs b end (Ok (Some bytes)) (layout_reads b.held.input (if_there (6 + 16 * i) 2 done)) → IconWalks count a end (i + 1)
     (later_largest best (icon_size bytes))
 icon_on {a} {b} {end} count i best bytes below w run =
     let place : ℕ = 6 + 16 * i in
@@ -162,7 +164,7 @@ icon_on {a} {b} {end} count i best bytes below w run =
     subst (λ p. Walks (icon_entries count) (Found (i + 1) (later_largest best (icon_size bytes))) a end p) at on
 
 pub icon_out : {a b end : State} (count i : ℕ) (best : Option ImageSize) (e : ImageError) → i < count → IconWalks count a b i best
-    → Runs {X = Option (List ℕ)} b end (Err e) (over b.held.input (if_there (6 + 16 * i) 2 done)) → Runs {X = ImageSize} a end (Err e)
+    → Runs {X = Option (List ℕ)} b end (Err e) (layout_reads b.held.input (if_there (6 + 16 * i) 2 done)) → Runs {X = ImageSize} a end (Err e)
     (chain_at (icon_entries count) a.held.input)
 icon_out count i best e below w run =
     walks_out (icon_entries count) (icon_advances count) (Found i best) w e
@@ -170,40 +172,40 @@ icon_out count i best e below w run =
     (icon_entry sizes (6 + 16 * i)) run))
 
 answers : (best : Option ImageSize) (sizes : List ImageSize) (d : List ℕ) → Largest best sizes
-    → over d (icon_answer (last_largest sizes)) ≡ over d (icon_answer best)
-answers best sizes d h = ap (λ o. over d (icon_answer o)) h.is
+    → layout_reads d (icon_answer (last_largest sizes)) ≡ layout_reads d (icon_answer best)
+answers best sizes d h = ap (λ o. layout_reads d (icon_answer o)) h.is
 
 -- the input ends before an entry
-pub icon_cut : {a b end : State} (count i : ℕ) (best : Option ImageSize) → i < count → IconWalks count a b i best
-    → Runs b end (Ok None) (over b.held.input (if_there (6 + 16 * i) 2 done)) → Runs a end (ok_or best CorruptedImage)
+pub icon_cut : {a b end : State} (failure : ImageError) (count i : ℕ) (best : Option ImageSize) → i < count → IconWalks count a b i best
+    → Runs b end (Ok None) (layout_reads b.held.input (if_there (6 + 16 * i) 2 done)) → RunsOrHalts a end failure (ok_or best Corrupted)
     (chain_at (icon_entries count) a.held.input)
-icon_cut count i None below w run =
+icon_cut failure count i None below w run =
     walks_out (icon_entries count) (icon_advances count) (Found i None) w CorruptedImage
     (λ sizes h. more_said count i sizes (6 + 16 * i) below h.many
     (runs_bind (Err CorruptedImage) (if_there (6 + 16 * i) 2 done) (icon_entry sizes (6 + 16 * i)) run
     (λ d. answers None sizes d h.largest) refl (record { budget = tt; memory = λ e. absurd cc })))
-icon_cut count i (Some size) below w run =
+icon_cut failure count i (Some size) below w run =
     walks_stop (icon_entries count) (icon_advances count) (Found i (Some size)) w size
     (λ sizes h. more_said count i sizes (6 + 16 * i) below h.many
     (runs_bind (Ok (Decided size)) (if_there (6 + 16 * i) 2 done) (icon_entry sizes (6 + 16 * i)) run
     (λ d. answers (Some size) sizes d h.largest) refl tt))
 
 end_said : (count : ℕ) (sizes : List ImageSize) (place : ℕ) (best : Option ImageSize) (d : List ℕ) → length sizes ≡ count
-    → Largest best sizes → over d ((icon_entries count).said sizes place) ≡ over d (icon_answer best)
+    → Largest best sizes → layout_reads d ((icon_entries count).said sizes place) ≡ layout_reads d (icon_answer best)
 end_said count sizes place best d many h =
     let all : eqb (length sizes) count ≡ true = grind (arith, nat_tests) in
-    ap (λ test. over d (cond test (icon_answer (last_largest sizes)) (if_there place 2 (icon_entry sizes place)))) all ∙ answers best
+    ap (λ test. layout_reads d (cond test (icon_answer (last_largest sizes)) (if_there place 2 (icon_entry sizes place)))) all ∙ answers best
     sizes d h
 
 -- all entries were read
-pub icon_done : {a b : State} (count i : ℕ) (best : Option ImageSize) → i ≡ count → Sound b → IconWalks count a b i best
-    → Runs a b (ok_or best CorruptedImage) (chain_at (icon_entries count) a.held.input)
-icon_done count i None at sound w =
+pub icon_done : {a b : State} (failure : ImageError) (count i : ℕ) (best : Option ImageSize) → i ≡ count → IsSound b → IconWalks count a b i best
+    → RunsOrHalts a b failure (ok_or best Corrupted) (chain_at (icon_entries count) a.held.input)
+icon_done failure count i None at sound w =
     walks_now (icon_entries count) (icon_advances count) (Found i None) w (Err CorruptedImage) sound refl
     (record { budget = tt; memory = λ e. absurd cc })
     (λ sizes d h. let says = end_said count sizes (6 + 16 * i) None d (h.many ∙ at) h.largest in
     (ap (λ r. verdict r.answer) says, ap (λ r. r.marks) says))
-icon_done count i (Some size) at sound w =
+icon_done failure count i (Some size) at sound w =
     walks_now (icon_entries count) (icon_advances count) (Found i (Some size)) w (Ok size) sound refl tt
     (λ sizes d h. let says = end_said count sizes (6 + 16 * i) (Some size) d (h.many ∙ at) h.largest in
     (ap (λ r. verdict r.answer) says, ap (λ r. r.marks) says))
@@ -214,7 +216,7 @@ ends_at : (count : ℕ) (d : List ℕ) (t : Along ImageSize) (size : ImageSize) 
 ends_at count d t size place is at =
     let all : eqb (length t.held) count ≡ true = grind (arith, nat_tests) in
     tells (λ _. ⊥) d (icon_answer (last_largest t.held)) size place (by_answer (Tells (λ _. ⊥)) (last_largest t.held) tt (λ size. tt))
-    (sym (ap (λ test. (over d (cond test (icon_answer (last_largest t.held)) (if_there t.place 2 (icon_entry t.held t.place)))).answer)
+    (sym (ap (λ test. (layout_reads d (cond test (icon_answer (last_largest t.held)) (if_there t.place 2 (icon_entry t.held t.place)))).answer)
     all) ∙ is)
 
 records_few : (count : ℕ) (d : List ℕ) → records (icon_entries count) d ≤ count + 1
@@ -240,13 +242,13 @@ entry_at_most count sizes place = by_count (AtMost 2) count sizes place (by_answ
 )
 
 -- what is seen of an input
-pub ico_local : Local false ico
+pub ico_local : IsLocal false ico
 ico_local = local_then (λ d. number_read d Little 4 2) (λ count d. chain_at (icon_entries count) d) (local_number Little 4 2)
     (λ count. local_chain (icon_entries count) (icon_advances count)
     (λ sizes place. without_texts false 2 ((icon_entries count).said sizes place) (entry_at_most count sizes place)))
 
-cost_by : (d : List ℕ) (r : Result ℕ ImageError) → total (onward (span_of d 4 2) r (λ count. chain_at (icon_entries count) d)).marks ≤ 4
-    + 2 * begun_of d r
+cost_by : (d : List ℕ) (r : Result ℕ ImageError) → total (go_on (span_of d 4 2) r (λ count. chain_at (icon_entries count) d)).marks ≤ 4
+    + 2 * count_behind r (λ count. min count (records (icon_entries count) d))
 cost_by d (Ok count) =
     let all = total-append (span_of d 4 2) (chain_at (icon_entries count) d).marks in
     let first = total-span_of d 4 2 in
@@ -255,11 +257,11 @@ cost_by d (Ok count) =
     omega arith
 cost_by d (Err e) = let first = total-span_of d 4 2 in omega arith
 
-pub ico_cost : (d : List ℕ) → total (ico d).marks ≤ 4 + 2 * entries_begun d
+pub ico_cost : (d : List ℕ) → total (ico d).marks ≤ 4 + 2 * icons_begun d
 ico_cost d = cost_by d (number_at d Little 4 2)
 
 -- the list may go on in bytes that follow
-pub ico_laws : RecordedLaws 12 18 20 false false ico entries_begun
+pub ico_laws : RecordedLaws 12 18 20 false false ico icons_begun
 ico_laws = record {
   local = ico_local;
   cost = λ d. omega (arith, ico_cost d);

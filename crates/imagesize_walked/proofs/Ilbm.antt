@@ -4,11 +4,11 @@ use Rattle.imagesize_walked.specs.Ilbm.{ilbm, ilbm_chunks, ilbm_chunk, ilbm_name
 use Rattle.imagesize_types.specs.declared.size.ImageSize.{ImageSize}
 use Rattle.imagesize_source.specs.declared.error.ImageError.{ImageError}
 use Rattle.imagesize_source.specs.declared.error.ImageError.TheVariants.{CorruptedImage}
-use Rattle.imagesize_source.specs.Agreement.{Local}
+use Rattle.imagesize_source.specs.Agreement.{IsLocal}
 use Rattle.imagesize_source.specs.Chain.{Said, Decided, Next, Advances, records}
 use Rattle.imagesize_source.specs.Counts.{AtMost}
 use Rattle.imagesize_source.specs.Extension.{Plain, Lasts}
-use Rattle.imagesize_source.specs.Layout.{Layout, over, refuse, done}
+use Rattle.imagesize_source.specs.Layout.{Layout, layout_reads, refuse, done}
 use Rattle.imagesize_source.specs.Reading.{end_of_input}
 use Rattle.imagesize_source.specs.State.{State, Runs, total}
 use Rattle.imagesize_source.proofs.Advances.{Tells, advances}
@@ -44,7 +44,7 @@ pub ilbm_cost : (d : List ℕ) → total (ilbm d).marks ≤ 12 * records ilbm_ch
 ilbm_cost d = chain_cost ilbm_chunks d (ilbm_advances d) 12 chunk_at_most
 
 -- what is seen of an input
-pub ilbm_local : Local false ilbm
+pub ilbm_local : IsLocal false ilbm
 ilbm_local = local_chain ilbm_chunks ilbm_advances
     (λ passed place. without_texts false 12 (ilbm_chunks.said passed place) (chunk_at_most passed place))
 
@@ -67,16 +67,16 @@ pub ilbm_start : (a : State) → IlbmWalks a a 12
 ilbm_start a = walks_start ilbm_chunks (λ passed. Unit {0}) a tt
 
 pub ilbm_on : {a b end : State} (place next : ℕ) → IlbmWalks a b place → Runs b end (Ok (Next tt next))
-    (over b.held.input (ilbm_chunk place)) → IlbmWalks a end next
+    (layout_reads b.held.input (ilbm_chunk place)) → IlbmWalks a end next
 ilbm_on place next w run = walks_on ilbm_chunks ilbm_advances (λ passed. Unit {0}) w (λ passed. Unit {0}) tt next (λ passed _. run)
     (λ passed _. tt)
 
 pub ilbm_stop : {a b end : State} (place : ℕ) (size : ImageSize) → IlbmWalks a b place → Runs b end (Ok (Decided size))
-    (over b.held.input (ilbm_chunk place)) → Runs a end (Ok size) (ilbm a.held.input)
+    (layout_reads b.held.input (ilbm_chunk place)) → Runs a end (Ok size) (ilbm a.held.input)
 ilbm_stop place size w run = walks_stop ilbm_chunks ilbm_advances (λ passed. Unit {0}) w size (λ passed _. run)
 
 pub ilbm_out : {a b end : State} (place : ℕ) (e : ImageError) → IlbmWalks a b place
-    → Runs b end (Err e) (over b.held.input (ilbm_chunk place)) → Runs a end (Err e) (ilbm a.held.input)
+    → Runs b end (Err e) (layout_reads b.held.input (ilbm_chunk place)) → Runs a end (Err e) (ilbm a.held.input)
 ilbm_out place e w run = walks_out ilbm_chunks ilbm_advances (λ passed. Unit {0}) w e (λ passed _. run)
 
 pub ilbm_past : {a b : State} (place : ℕ) → IlbmWalks a b place → 2 ^ 64 ≤ place → Runs a b (Err end_of_input) (ilbm a.held.input)

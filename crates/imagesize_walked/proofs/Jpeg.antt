@@ -3,18 +3,19 @@ use Rattle.std.proofs.Common.{false, zero-add, ◌≡◌, ℕ, ◌+◌, ◌-◌,
 use Rattle.std.proofs.lemmas.Bool.Decides.{nat_tests}
 use Rattle.std.proofs.lemmas.List.Sums.{sum_by-append}
 use Rattle.std.specs.Prelude.{count_by}
-use Rattle.imagesize_walked.specs.Jpeg.{jpeg, jpeg_segments, jpeg_segment, jpeg_marked, jpeg_frame, jpeg_other, is_own_frame, is_own_end, depth, started, ended, depth_behind}
+use Rattle.imagesize_walked.specs.Jpeg.{jpeg, jpeg_segments, jpeg_segment, jpeg_marked, jpeg_frame, jpeg_other, is_own_frame, is_own_end, depth, count_starts, count_ends}
+use Rattle.imagesize_walked.specs.Walks.{depth_behind}
 use Rattle.imagesize_types.specs.declared.size.ImageSize.{ImageSize}
 use Rattle.imagesize_source.specs.declared.error.ImageError.{ImageError}
 use Rattle.imagesize_source.specs.declared.error.ImageError.TheVariants.{CorruptedImage}
-use Rattle.imagesize_source.specs.Agreement.{Local}
+use Rattle.imagesize_source.specs.Agreement.{IsLocal}
 use Rattle.imagesize_source.specs.Chain.{Said, Decided, Next, Advances, records, start}
 use Rattle.imagesize_source.specs.Counts.{AtMost}
 use Rattle.imagesize_source.specs.Extension.{Plain, Lasts}
 use Rattle.imagesize_source.specs.Input.{span_of}
-use Rattle.imagesize_source.specs.declared.util.Endian.TheVariants.{Big}
-use Rattle.imagesize_source.specs.Layout.{Layout, over, refuse, done}
-use Rattle.imagesize_source.specs.Reading.{Reads, behind, bytes_at, number_at, end_of_input}
+use Rattle.imagesize_source.specs.declared.endian.Endian.TheVariants.{Big}
+use Rattle.imagesize_source.specs.Layout.{Layout, layout_reads, refuse, done}
+use Rattle.imagesize_source.specs.Reading.{Reads, put_behind, bytes_at, number_at, end_of_input}
 use Rattle.imagesize_source.specs.State.{State, Runs, total}
 use Rattle.imagesize_source.proofs.Advances.{Tells, advances, tells}
 use Rattle.imagesize_source.proofs.PastTheEnd.{bytes_beyond}
@@ -63,7 +64,7 @@ segment_at_most k place = (
 )
 
 -- what is seen of an input
-pub jpeg_local : Local false jpeg
+pub jpeg_local : IsLocal false jpeg
 jpeg_local = local_chain jpeg_segments jpeg_advances
     (λ markers place. without_texts false 6 (jpeg_segment (depth markers) place) (segment_at_most (depth markers) place))
 
@@ -74,7 +75,7 @@ jpeg_cost d = chain_cost jpeg_segments d (jpeg_advances d) 6 (λ markers place. 
 -- As many images were started and not ended, and none was ended that was not started.
 pub record Nested (k : ℕ) (markers : List ℕ) : Type 0 where
   pub is : depth markers ≡ k
-  pub balanced : ended markers ≤ started markers
+  pub balanced : count_ends markers ≤ count_starts markers
 
 counts_on : (p : ℕ → Bool) (markers : List ℕ) (marker : ℕ) → count_by p (markers ++ marker ∷ []) ≡ count_by p markers + cond (p marker) 1 0
 counts_on p markers marker = sum_by-append (λ m. cond (p m) 1 0) markers (marker ∷ []) ∙ ap (λ n. count_by p markers + n)
@@ -100,21 +101,21 @@ pub jpeg_start : (a : State) → JpegWalks a a 2 0
 jpeg_start a = walks_start jpeg_segments (Nested 0) a (record { is = refl; balanced = omega arith })
 
 segment_as : {b : State} {r : Result (Said ℕ ImageSize) ImageError} {end : State} (k place : ℕ)
-    → Runs b end r (over b.held.input (jpeg_segment k place)) → (markers : List ℕ) → Nested k markers
-    → Runs b end r (over b.held.input (jpeg_segment (depth markers) place))
-segment_as {b} {r} {end} k place run markers h = subst (λ n. Runs b end r (over b.held.input (jpeg_segment n place))) (sym h.is) run
+    → Runs b end r (layout_reads b.held.input (jpeg_segment k place)) → (markers : List ℕ) → Nested k markers
+    → Runs b end r (layout_reads b.held.input (jpeg_segment (depth markers) place))
+segment_as {b} {r} {end} k place run markers h = subst (λ n. Runs b end r (layout_reads b.held.input (jpeg_segment n place))) (sym h.is) run
 
 pub jpeg_on : {a b end : State} (place next k marker : ℕ) → (marker ≡ 0xD9 → 0 < k) → JpegWalks a b place k
-    → Runs b end (Ok (Next marker next)) (over b.held.input (jpeg_segment k place)) → JpegWalks a end next (depth_behind k marker)
+    → Runs b end (Ok (Next marker next)) (layout_reads b.held.input (jpeg_segment k place)) → JpegWalks a end next (depth_behind k marker)
 jpeg_on place next k marker inner w run = walks_on jpeg_segments jpeg_advances (Nested k) w (Nested (depth_behind k marker)) marker next
     (segment_as k place run) (λ markers h. nested_on k marker markers inner h)
 
 pub jpeg_stop : {a b end : State} (place k : ℕ) (size : ImageSize) → JpegWalks a b place k → Runs b end (Ok (Decided size))
-    (over b.held.input (jpeg_segment k place)) → Runs a end (Ok size) (jpeg a.held.input)
+    (layout_reads b.held.input (jpeg_segment k place)) → Runs a end (Ok size) (jpeg a.held.input)
 jpeg_stop place k size w run = walks_stop jpeg_segments jpeg_advances (Nested k) w size (segment_as k place run)
 
 pub jpeg_out : {a b end : State} (place k : ℕ) (e : ImageError) → JpegWalks a b place k
-    → Runs b end (Err e) (over b.held.input (jpeg_segment k place)) → Runs a end (Err e) (jpeg a.held.input)
+    → Runs b end (Err e) (layout_reads b.held.input (jpeg_segment k place)) → Runs a end (Err e) (jpeg a.held.input)
 jpeg_out place k e w run = walks_out jpeg_segments jpeg_advances (Nested k) w e (segment_as k place run)
 
 pub jpeg_past : {a b : State} (place k : ℕ) → JpegWalks a b place k → 2 ^ 64 ≤ place → Runs a b (Err end_of_input) (jpeg a.held.input)
@@ -135,11 +136,11 @@ leaves : (n place length first second next : ℕ) → place + 4 ≤ n → length
 leaves n place length first second next fits is none one = grind (arith, nat_tests)
 
 other_used : (d : List ℕ) (place marker : ℕ) → 2 ≤ length d - place → slice_index d place ≡ 0xFF
-    → Used d place (behind (span_of d place 2) (over d (jpeg_other place marker)))
+    → Used d place (put_behind (span_of d place 2) (layout_reads d (jpeg_other place marker)))
 unfolding Used
 other_used d place marker begun ff =
-    on_answer (λ w. Used d place (behind (span_of d place 2) w)) (span_of d (place + 2) 2) (number_at d Big (place + 2) 2)
-    (λ l. over d (done (Next marker (place + (2 + l)))))
+    on_answer (λ w. Used d place (put_behind (span_of d place 2) w)) (span_of d (place + 2) 2) (number_at d Big (place + 2) 2)
+    (λ l. layout_reads d (done (Next marker (place + (2 + l)))))
     (λ l got m next is.
     let at : place + (2 + l) ≡ next = cc in
     let fits = number_ok d Big (place + 2) 2 l got in
@@ -154,14 +155,14 @@ other_used d place marker begun ff =
     omega arith)
     (λ e got m next is. absurd cc)
 
-segment_used : (d : List ℕ) (k place : ℕ) → Used d place (over d (jpeg_segment k place))
+segment_used : (d : List ℕ) (k place : ℕ) → Used d place (layout_reads d (jpeg_segment k place))
 unfolding Used
 segment_used d k place = on_answer (Used d place) (span_of d place 2) (bytes_at d place 2) _
     (λ head got.
     let begun = bytes_ok d head place 2 got in
     let first : slice_index d place ≡ slice_index head 0 = sym (part_first d place 2 (omega arith)) ∙ ap (λ bs. slice_index bs 0)
     (bytes_is d head place 2 got) in
-    let P : Layout (Said ℕ ImageSize) → Type 0 = λ t. Used d place (behind (span_of d place 2) (over d t)) in
+    let P : Layout (Said ℕ ImageSize) → Type 0 = λ t. Used d place (put_behind (span_of d place 2) (layout_reads d t)) in
     on_test P (eqb (slice_index head 0) 0xFF) (jpeg_marked k place (slice_index head 1)) (refuse CorruptedImage)
     (λ is. let ff : slice_index head 0 ≡ 0xFF = grind (arith, nat_tests) in
     on_test P (is_own_frame k (slice_index head 1)) (jpeg_frame place) _
@@ -172,17 +173,17 @@ segment_used d k place = on_answer (Used d place) (span_of d place 2) (bytes_at 
     (λ _ m next says. absurd cc))
     (λ e got m next is. absurd cc)
 
-segment_allowed : (d : List ℕ) (k place : ℕ) → total (over d (jpeg_segment k place)).marks ≤ allowed d place
+segment_allowed : (d : List ℕ) (k place : ℕ) → total (layout_reads d (jpeg_segment k place)).marks ≤ allowed d place
 segment_allowed d k place = on_answer (λ w. total w.marks ≤ allowed d place) (span_of d place 2) (bytes_at d place 2) _
     (λ head got.
     let begun = bytes_ok d head place 2 got in
     let first : slice_index d place ≡ slice_index head 0 = sym (part_first d place 2 (omega arith)) ∙ ap (λ bs. slice_index bs 0)
     (bytes_is d head place 2 got) in
     let here = total-span_of d place 2 in
-    let P : Layout (Said ℕ ImageSize) → Type 0 = λ t. total (span_of d place 2 ++ (over d t).marks) ≤ allowed d place in
+    let P : Layout (Said ℕ ImageSize) → Type 0 = λ t. total (span_of d place 2 ++ (layout_reads d t).marks) ≤ allowed d place in
     on_test P (eqb (slice_index head 0) 0xFF) (jpeg_marked k place (slice_index head 1)) (refuse CorruptedImage)
     (λ is. let ff : slice_index head 0 ≡ 0xFF = grind (arith, nat_tests) in
-    let all = total-append (span_of d place 2) (over d (jpeg_marked k place (slice_index head 1))).marks in
+    let all = total-append (span_of d place 2) (layout_reads d (jpeg_marked k place (slice_index head 1))).marks in
     let rest = at_most d 4 (jpeg_marked k place (slice_index head 1)) (marked_at_most k place (slice_index head 1)) in
     let most : allowed d place ≡ (length d - place) + 6 = rw (first ∙ ff) refl in
     omega arith)

@@ -6,7 +6,7 @@ use Rattle.std.proofs.lemmas.List.{append-nil, length_push}
 use Rattle.std.proofs.lemmas.List.Elements.{filter-append}
 use Rattle.std.specs.Prelude.{filter, option_and_then}
 use Rattle.std.specs.List.{last_or}
-use Rattle.imagesize_walked.specs.Tiff.{accepted, begun_behind, begun_of, byte_order, completed, count_bytes, directory_at, entries_begun, entry_bytes, head_bytes, field_type_in, field_type_of, last_value, size_in, size_of_sides, stated_place, tag_in, tiff, tiff_directory, tiff_entries, tiff_entry, tiff_head, tiff_header, tiff_value, value_bytes, value_of, version_of, whole_value}
+use Rattle.imagesize_walked.specs.Tiff.{byte_order, completed, count_bytes, directory_at, tiff_begun, entry_bytes, head_bytes, field_type_in, field_type_of, last_value, size_in, size_if_known, stated_place, tag_in, tiff, tiff_directory, tiff_entries, tiff_entry, tiff_head, tiff_header, tiff_value, value_bytes, value_of, version_of, whole_value, directory_begun}
 use Rattle.imagesize_walked.specs.declared.formats.tiff.Entry.{Entry}
 use Rattle.imagesize_walked.specs.declared.formats.tiff.Header.{Header}
 use Rattle.imagesize_walked.specs.declared.formats.tiff.FieldType.{FieldType}
@@ -16,17 +16,17 @@ use Rattle.imagesize_types.specs.declared.size.ImageSize.{ImageSize}
 use Rattle.imagesize_source.specs.declared.error.ImageError.{ImageError}
 use Rattle.imagesize_source.specs.declared.error.ImageError.TheVariants.{IoError}
 use Rattle.imagesize_source.specs.declared.error.Reason.TheVariants.{InvalidIfdValueLength, NoDimensionsInIfd}
-use Rattle.imagesize_source.specs.declared.util.Endian.{Endian}
-use Rattle.imagesize_source.specs.Agreement.{Local}
-use Rattle.imagesize_source.specs.Chain.{Said, Decided, Next, Chain, Along, Advances, start, next_record, records, records_from, verdict, chain_at, chain_from}
+use Rattle.imagesize_source.specs.declared.endian.Endian.{Endian}
+use Rattle.imagesize_source.specs.Agreement.{IsLocal}
+use Rattle.imagesize_source.specs.Chain.{Said, Decided, Next, Chain, Along, Advances, start, next_record, records, records_from, verdict, chain_at, chain_from, count_behind}
 use Rattle.imagesize_source.specs.Counts.{AtMost}
 use Rattle.imagesize_source.specs.Extension.{Never, Plain}
 use Rattle.imagesize_source.specs.Input.{span_of}
-use Rattle.imagesize_source.specs.Layout.{Layout, over, bind, whole}
+use Rattle.imagesize_source.specs.Layout.{Layout, layout_reads, bind, whole, accept}
 use Rattle.imagesize_source.specs.Layout.Layout.{field, refuse, «done»}
 use Rattle.imagesize_source.specs.Numbers.{number}
-use Rattle.imagesize_source.specs.Reading.{and_then, onward, end_of_input, number_at, number_read, refuses, seen}
-use Rattle.imagesize_source.specs.State.{State, Runs, Sound, total}
+use Rattle.imagesize_source.specs.Reading.{and_then, go_on, end_of_input, number_at, number_read, refuses, map_answer}
+use Rattle.imagesize_source.specs.State.{State, Runs, IsSound, total}
 use Rattle.imagesize_source.proofs.Advances.{Tells, Begins, advances}
 use Rattle.imagesize_source.proofs.Ahead.{Ahead, chain_ahead}
 use Rattle.imagesize_source.proofs.PastTheEnd.{bytes_beyond, saturated_by}
@@ -44,19 +44,19 @@ use Rattle.imagesize_source.proofs.Walks.{Walks, walks_start, walks_on, walks_st
 
 -- what holds of a refusal and of what goes on
 by_accepted : {X Y Z : Type 0} (P : Layout Z → Type 0) (r : Result X ImageError) (f : X → Layout Y) (g : Y → Layout Z)
-    → ((e : ImageError) → P (refuse e)) → ((x : X) → P (bind (f x) g)) → P (bind (accepted r f) g)
+    → ((e : ImageError) → P (refuse e)) → ((x : X) → P (bind (f x) g)) → P (bind (accept r f) g)
 by_accepted P (Ok x) f g out on = on x
 by_accepted P (Err e) f g out on = out e
 
 -- and of a value that is cut, and of one that is whole
 by_whole : {Y Z : Type 0} (P : Layout Z → Type 0) (found : Option (List ℕ)) (f : List ℕ → Layout Y) (g : Y → Layout Z)
     → P (refuse (IoError InvalidIfdValueLength)) → ((value : List ℕ) → P (bind (f value) g))
-    → P (bind (bind (accepted (whole_value found) done) f) g)
+    → P (bind (bind (accept (whole_value found) done) f) g)
 by_whole P None f g cut on = cut
 by_whole P (Some value) f g cut on = on (take 4 value)
 
 accepted_at_most : {X Y : Type 0} (k : ℕ) (r : Result X ImageError) (f : X → Layout Y) → ((x : X) → AtMost k (f x))
-    → AtMost k (accepted r f)
+    → AtMost k (accept r f)
 accepted_at_most k (Ok x) f each = each x
 accepted_at_most k (Err e) f each = tt
 
@@ -82,7 +82,7 @@ by_field_type : (P : Layout (Said Entry ImageSize) → Type 0) (header : Header)
     → ((field_type : FieldType) → P
     (bind (bind (tiff_value header.version (place + head_bytes header.version))
     (λ value. done (entry_of header head field_type value))) (says header entries place)))
-    → P (bind (accepted (field_type_of header.version (field_type_in header.order head))
+    → P (bind (accept (field_type_of header.version (field_type_in header.order head))
     (λ field_type. bind (tiff_value header.version (place + head_bytes header.version))
     (λ value. done (entry_of header head field_type value)))) (says header entries place))
 by_field_type P header entries place head out on = by_accepted P (field_type_of header.version (field_type_in header.order head))
@@ -98,7 +98,7 @@ by_completed P (Some x) entry next stop on = stop x
 by_value : (P : Layout (Said Entry ImageSize) → Type 0) (header : Header) (entries : List Entry) (place : ℕ) (head : List ℕ)
     (field_type : FieldType) (value : List ℕ) → P (refuse (IoError InvalidIfdValueLength))
     → ((size : ImageSize) → P (done (Decided size))) → ((entry : Entry) → P (done (Next entry (place + entry_bytes header.version))))
-    → P (bind (bind (accepted (whole_value (whole (value_bytes header.version) value)) done)
+    → P (bind (bind (accept (whole_value (whole (value_bytes header.version) value)) done)
     (λ value. done (entry_of header head field_type value))) (says header entries place))
 by_value P header entries place head field_type value cut stop on =
     by_whole P (whole (value_bytes header.version) value) (λ value. done (entry_of header head field_type value))
@@ -170,8 +170,8 @@ known_on i width height wide high entries entry is_wide is_high h = record {
 }
 
 size_known : (i : ℕ) (width height : Option ℕ) (entries : List Entry) → Known i width height entries
-    → size_in entries ≡ size_of_sides width height
-size_known i width height entries h = ap (λ w. size_of_sides w (last_value 0x101 entries)) h.wide ∙ ap (size_of_sides width) h.high
+    → size_in entries ≡ size_if_known width height
+size_known i width height entries h = ap (λ w. size_if_known w (last_value 0x101 entries)) h.wide ∙ ap (size_if_known width) h.high
 
 -- where the entry of an index stands
 abbrev pub entry_at : Header → ℕ → ℕ
@@ -187,44 +187,57 @@ tiff_start header count a =
     subst (λ p. Walks (tiff_entries header count) (Known 0 None None) a a p) at
     (walks_start (tiff_entries header count) (Known 0 None None) a (record { many = refl; wide = refl; high = refl }))
 
+-- a place that moves from entry to entry, and is held at the greatest
+pub place_first : (header : Header) (place : ℕ) → place ≡ min (header.directory + count_bytes header.version) (2 ^ 64 - 1)
+    → place ≡ min (entry_at header 0) (2 ^ 64 - 1)
+place_first header place is = omega (arith, is)
+
+pub place_on : (header : Header) (i place behind_head next : ℕ) → place ≡ min (entry_at header i) (2 ^ 64 - 1)
+    → behind_head ≡ min (place + head_bytes header.version) (2 ^ 64 - 1)
+    → next ≡ min (behind_head + value_bytes header.version) (2 ^ 64 - 1) → next ≡ min (entry_at header (i + 1)) (2 ^ 64 - 1)
+place_on header i place behind_head next at head value =
+    let times = mul-add (entry_bytes header.version) i 1 in
+    let entry : entry_at header (i + 1) ≡ entry_at header i + (head_bytes header.version + value_bytes header.version) = omega (arith, times) in
+    omega (arith, at, head, value, entry)
+
 -- no input is so long that an entry stands beyond 64 bits
-entry_beyond : (d : List ℕ) (header : Header) (place : ℕ) → length d ≤ place → over d (tiff_entry header place) ≡ refuses end_of_input
+entry_beyond : (d : List ℕ) (header : Header) (place : ℕ) → length d ≤ place → layout_reads d (tiff_entry header place) ≡ refuses end_of_input
 unfolding tiff_entry tiff_head
 entry_beyond d header place h = bytes_beyond d place (head_bytes header.version)
-    (λ head. accepted (field_type_of header.version (field_type_in header.order (take 4 head)))
+    (λ head. accept (field_type_of header.version (field_type_in header.order (take 4 head)))
     (λ field_type. bind (tiff_value header.version (place + head_bytes header.version))
     (λ value. done (entry_of header (take 4 head) field_type value)))) h (head_some header.version)
 
 entry_saturated : {a b : State} {r : Result Entry ImageError} (header : Header) (place : ℕ)
-    → Runs a b r (over a.held.input (tiff_entry header (min place (2 ^ 64 - 1))))
-    → Runs a b r (over a.held.input (tiff_entry header place))
-entry_saturated header place h = saturated_by (λ p d. over d (tiff_entry header p)) (refuses end_of_input) place
+    → Runs a b r (layout_reads a.held.input (tiff_entry header (min place (2 ^ 64 - 1))))
+    → Runs a b r (layout_reads a.held.input (tiff_entry header place))
+entry_saturated header place h = saturated_by (λ p d. layout_reads d (tiff_entry header p)) (refuses end_of_input) place
     (λ d p far. entry_beyond d header p far) h
 
 -- the record of an entry, where there are more
 more_said : {b end : State} {r : Result (Said Entry ImageSize) ImageError} (header : Header) (count i : ℕ) (entries : List Entry)
-    (place : ℕ) → i < count → length entries ≡ i → Runs b end r (over b.held.input (record_behind header entries place))
-    → Runs b end r (over b.held.input ((tiff_entries header count).said entries place))
+    (place : ℕ) → i < count → length entries ≡ i → Runs b end r (layout_reads b.held.input (record_behind header entries place))
+    → Runs b end r (layout_reads b.held.input ((tiff_entries header count).said entries place))
 more_said {b} {end} {r} header count i entries place below many run =
     let more : eqb (length entries) count ≡ false = grind (arith, nat_tests) in
-    subst (λ t. Runs b end r (over b.held.input t))
+    subst (λ t. Runs b end r (layout_reads b.held.input t))
     (sym (ap (λ test. cond test (refuse (IoError NoDimensionsInIfd)) (record_behind header entries place)) more)) run
 
 -- at the entry of an index, whose place is held at the greatest
 module _ {a b : State} (header : Header) (count i : ℕ) (width height : Option ℕ) (below : i < count)
     (w : TiffWalks header count a b i width height) (place : ℕ) (at : place ≡ min (entry_at header i) (2 ^ 64 - 1)) where
   -- the record, by the entry that was read
-  entry_read : {end : State} {r : Result Entry ImageError} → Runs b end r (over b.held.input (tiff_entry header place))
-      → Runs b end r (over b.held.input (tiff_entry header (entry_at header i)))
+  entry_read : {end : State} {r : Result Entry ImageError} → Runs b end r (layout_reads b.held.input (tiff_entry header place))
+      → Runs b end r (layout_reads b.held.input (tiff_entry header (entry_at header i)))
   entry_read {end} {r} run = entry_saturated header (entry_at header i)
-      (subst (λ p. Runs b end r (over b.held.input (tiff_entry header p))) at run)
+      (subst (λ p. Runs b end r (layout_reads b.held.input (tiff_entry header p))) at run)
 
   -- what it says behind others
   entry_said : {end : State} (entry : Entry) (wide high : Option ℕ) (size : Option ImageSize) → wide ≡ cond (eqb entry.tag 0x100)
-      entry.value width → high ≡ cond (eqb entry.tag 0x101) entry.value height → size_of_sides wide high ≡ size
-      → Runs b end (Ok entry) (over b.held.input (tiff_entry header place)) → (entries : List Entry) → Known i width height entries
+      entry.value width → high ≡ cond (eqb entry.tag 0x101) entry.value height → size_if_known wide high ≡ size
+      → Runs b end (Ok entry) (layout_reads b.held.input (tiff_entry header place)) → (entries : List Entry) → Known i width height entries
       → Runs b end (Ok (completed size entry (entry_at header i + entry_bytes header.version)))
-      (over b.held.input ((tiff_entries header count).said entries (entry_at header i)))
+      (layout_reads b.held.input ((tiff_entries header count).said entries (entry_at header i)))
   entry_said entry wide high size is_wide is_high is run entries h =
       let next : ℕ = entry_at header i + entry_bytes header.version in
       let known : size_in (entries ++ entry ∷ []) ≡ size = size_known (i + 1) wide high (entries ++ entry ∷ [])
@@ -232,12 +245,12 @@ module _ {a b : State} (header : Header) (count i : ℕ) (width height : Option 
       more_said header count i entries (entry_at header i) below h.many
       (runs_bind (Ok (completed size entry next)) (tiff_entry header (entry_at header i)) (says header entries (entry_at header i))
       (entry_read run)
-      (λ d. ap (λ o. over d (done (completed o entry next))) known) refl tt)
+      (λ d. ap (λ o. layout_reads d (done (completed o entry next))) known) refl tt)
 
   -- the walk goes on where a side is still unknown
   pub tiff_on : {end : State} (entry : Entry) (wide high : Option ℕ) → wide ≡ cond (eqb entry.tag 0x100) entry.value width
-      → high ≡ cond (eqb entry.tag 0x101) entry.value height → size_of_sides wide high ≡ None
-      → Runs b end (Ok entry) (over b.held.input (tiff_entry header place)) → TiffWalks header count a end (i + 1) wide high
+      → high ≡ cond (eqb entry.tag 0x101) entry.value height → size_if_known wide high ≡ None
+      → Runs b end (Ok entry) (layout_reads b.held.input (tiff_entry header place)) → TiffWalks header count a end (i + 1) wide high
   tiff_on {end} entry wide high is_wide is_high is run =
       let on = walks_on (tiff_entries header count) (entries_advance header count) (Known i width height) w (Known (i + 1) wide high)
       entry (entry_at header i + entry_bytes header.version)
@@ -249,15 +262,15 @@ module _ {a b : State} (header : Header) (count i : ℕ) (width height : Option 
 
   -- and ends where both are known
   pub tiff_stop : {end : State} (entry : Entry) (wide high : Option ℕ) (size : ImageSize) → wide ≡ cond (eqb entry.tag 0x100) entry.value
-      width → high ≡ cond (eqb entry.tag 0x101) entry.value height → size_of_sides wide high ≡ Some size
-      → Runs b end (Ok entry) (over b.held.input (tiff_entry header place))
+      width → high ≡ cond (eqb entry.tag 0x101) entry.value height → size_if_known wide high ≡ Some size
+      → Runs b end (Ok entry) (layout_reads b.held.input (tiff_entry header place))
       → Runs a end (Ok size) (chain_at (tiff_entries header count) a.held.input)
   tiff_stop entry wide high size is_wide is_high is run =
       walks_stop (tiff_entries header count) (entries_advance header count) (Known i width height) w size
       (entry_said entry wide high (Some size) is_wide is_high is run)
 
   -- or where the entry is refused
-  pub tiff_out : {end : State} (e : ImageError) → Runs {X = Entry} b end (Err e) (over b.held.input (tiff_entry header place))
+  pub tiff_out : {end : State} (e : ImageError) → Runs {X = Entry} b end (Err e) (layout_reads b.held.input (tiff_entry header place))
       → Runs {X = ImageSize} a end (Err e) (chain_at (tiff_entries header count) a.held.input)
   tiff_out e run =
       walks_out (tiff_entries header count) (entries_advance header count) (Known i width height) w e
@@ -265,13 +278,13 @@ module _ {a b : State} (header : Header) (count i : ℕ) (width height : Option 
       (refused_bind (tiff_entry header (entry_at header i)) (says header entries (entry_at header i)) (entry_read run)))
 
 end_said : (header : Header) (count : ℕ) (entries : List Entry) (place : ℕ) (d : List ℕ) → length entries ≡ count
-    → over d ((tiff_entries header count).said entries place) ≡ over d (refuse (IoError NoDimensionsInIfd))
+    → layout_reads d ((tiff_entries header count).said entries place) ≡ layout_reads d (refuse (IoError NoDimensionsInIfd))
 end_said header count entries place d many =
     let all : eqb (length entries) count ≡ true = grind (arith, nat_tests) in
-    ap (λ test. over d (cond test (refuse (IoError NoDimensionsInIfd)) (record_behind header entries place))) all
+    ap (λ test. layout_reads d (cond test (refuse (IoError NoDimensionsInIfd)) (record_behind header entries place))) all
 
 -- all entries were read
-pub tiff_done : {a b : State} (header : Header) (count i : ℕ) (width height : Option ℕ) → i ≡ count → Sound b
+pub tiff_done : {a b : State} (header : Header) (count i : ℕ) (width height : Option ℕ) → i ≡ count → IsSound b
     → TiffWalks header count a b i width height → Runs a b (Err (IoError NoDimensionsInIfd))
     (chain_at (tiff_entries header count) a.held.input)
 tiff_done header count i width height at sound w =
@@ -338,7 +351,7 @@ directory_within d header =
 
 -- the header whose directory stands at a place
 abbrev placed : Endian → Version → ℕ → Layout Header
-placed order version place = accepted (directory_at order version place) done
+placed order version place = accept (directory_at order version place) done
 
 stated_at_most : (order : Endian) (version : Version) → AtMost 12 (stated_place order version)
 unfolding stated_place
@@ -356,7 +369,7 @@ unfolding tiff_header
 header_at_most = (
   omega arith,
   λ mark. accepted_at_most 14 (byte_order mark)
-      (λ order. field order 2 2 (λ number. accepted (version_of number) (λ version. bind (stated_place order version)
+      (λ order. field order 2 2 (λ number. accept (version_of number) (λ version. bind (stated_place order version)
       (placed order version))))
       (λ order. (
         omega arith,
@@ -370,7 +383,7 @@ header_at_most = (
 pub tiff_within : (d : List ℕ) → total (tiff d).marks ≤ length d + 16
 tiff_within d = omega (
   arith,
-  then_within (over d tiff_header) (tiff_directory d) 16 (length d) (at_most d 16 tiff_header header_at_most)
+  then_within (layout_reads d tiff_header) (tiff_directory d) 16 (length d) (at_most d 16 tiff_header header_at_most)
       (λ header _. directory_within d header),
 )
 
@@ -419,11 +432,10 @@ entries_cost header count d =
     (start c) in
     let most = all (omega arith) in omega arith
 
-directory_cost : (d : List ℕ) (header : Header) → total (tiff_directory d header).marks ≤ 8 + 20 * begun_of d header
-    (number_at d header.order header.directory (count_bytes header.version))
+directory_cost : (d : List ℕ) (header : Header) → total (tiff_directory d header).marks ≤ 8 + 20 * directory_begun d header
 directory_cost d header = cost_by (number_at d header.order header.directory (count_bytes header.version)) where
-  cost_by : (r : Result ℕ ImageError) → total (onward (span_of d header.directory (count_bytes header.version)) r
-      (λ count. chain_at (tiff_entries header count) d)).marks ≤ 8 + 20 * begun_of d header r
+  cost_by : (r : Result ℕ ImageError) → total (go_on (span_of d header.directory (count_bytes header.version)) r
+      (λ count. chain_at (tiff_entries header count) d)).marks ≤ 8 + 20 * count_behind r (λ count. min count (records (tiff_entries header count) d))
   cost_by (Ok count) =
       let all = total-append (span_of d header.directory (count_bytes header.version)) (chain_at (tiff_entries header count) d).marks in
       let first = total-span_of d header.directory (count_bytes header.version) in
@@ -434,12 +446,12 @@ directory_cost d header = cost_by (number_at d header.order header.directory (co
       omega arith
 
 -- outside of the entries, header and count are read from at most 24
-pub tiff_cost : (d : List ℕ) → total (tiff d).marks ≤ 24 + 20 * entries_begun d
-tiff_cost d = cost_by (over d tiff_header).answer where
-  cost_by : (r : Result Header ImageError) → total (onward (over d tiff_header).marks r (tiff_directory d)).marks ≤ 24
-      + 20 * begun_behind d r
+pub tiff_cost : (d : List ℕ) → total (tiff d).marks ≤ 24 + 20 * tiff_begun d
+tiff_cost d = cost_by (layout_reads d tiff_header).answer where
+  cost_by : (r : Result Header ImageError) → total (go_on (layout_reads d tiff_header).marks r (tiff_directory d)).marks ≤ 24
+      + 20 * count_behind r (directory_begun d)
   cost_by (Ok header) =
-      let all = total-append (over d tiff_header).marks (tiff_directory d header).marks in
+      let all = total-append (layout_reads d tiff_header).marks (tiff_directory d header).marks in
       let first = at_most d 16 tiff_header header_at_most in
       let rest = directory_cost d header in
       omega arith
@@ -447,10 +459,10 @@ tiff_cost d = cost_by (over d tiff_header).answer where
 
 -- a value that is cut is refused
 cut_never : {Y Z : Type 0} (k : ℕ) (value : List ℕ) (f : List ℕ → Layout Y) (g : Y → Layout Z) → length value < k
-    → Never (bind (bind (accepted (whole_value (whole k value)) done) f) g)
+    → Never (bind (bind (accept (whole_value (whole k value)) done) f) g)
 cut_never k value f g short =
     let none : whole k value ≡ None = grind (arith, nat_tests) in
-    subst (λ found. Never (bind (bind (accepted (whole_value found) done) f) g)) (sym none) tt
+    subst (λ found. Never (bind (bind (accept (whole_value found) done) f) g)) (sym none) tt
 
 record_plain : (header : Header) (entries : List Entry) (place : ℕ) → Plain (record_behind header entries place)
 unfolding tiff_entry tiff_head tiff_value
@@ -461,7 +473,7 @@ record_plain header entries place = λ head. by_field_type Plain header entries 
       by_value Plain header entries place (take 4 head) field_type value tt (λ size. tt) (λ entry. tt),
     ))
 
-accepted_plain : {X Y : Type 0} (r : Result X ImageError) (f : X → Layout Y) → ((x : X) → Plain (f x)) → Plain (accepted r f)
+accepted_plain : {X Y : Type 0} (r : Result X ImageError) (f : X → Layout Y) → ((x : X) → Plain (f x)) → Plain (accept r f)
 accepted_plain (Ok x) f each = each x
 accepted_plain (Err e) f each = tt
 
@@ -476,7 +488,7 @@ stated_plain order BigTiff = λ size. on_test (λ t. Plain (bind t (placed order
 header_plain : Plain tiff_header
 unfolding tiff_header
 header_plain = λ mark. accepted_plain (byte_order mark)
-    (λ order. field order 2 2 (λ number. accepted (version_of number) (λ version. bind (stated_place order version)
+    (λ order. field order 2 2 (λ number. accept (version_of number) (λ version. bind (stated_place order version)
     (placed order version))))
     (λ order number. accepted_plain (version_of number) (λ version. bind (stated_place order version) (placed order version))
     (λ version. stated_plain order version))
@@ -485,31 +497,31 @@ header_plain = λ mark. accepted_plain (byte_order mark)
 count_more : (d x : List ℕ) (order : Endian) (place k count : ℕ) → number_at d order place k ≡ Ok count
     → number_at (d ++ x) order place k ≡ Ok count
 unfolding number_at
-count_more d x order place k count is = ap (seen (number order)) (bytes_more d x place k (number_ok d order place k count is)) ∙ is
+count_more d x order place k count is = ap (map_answer (number order)) (bytes_more d x place k (number_ok d order place k count is)) ∙ is
 
 directory_lasts : (d x : List ℕ) (header : Header) (size : ImageSize) → (tiff_directory d header).answer ≡ Ok size
     → (tiff_directory (d ++ x) header).answer ≡ Ok size
 directory_lasts d x header size = by_count_read (number_at d header.order header.directory (count_bytes header.version)) refl where
   by_count_read : (r : Result ℕ ImageError) → number_at d header.order header.directory (count_bytes header.version) ≡ r
-      → (onward (span_of d header.directory (count_bytes header.version)) r (λ count. chain_at (tiff_entries header count) d)).answer
+      → (go_on (span_of d header.directory (count_bytes header.version)) r (λ count. chain_at (tiff_entries header count) d)).answer
       ≡ Ok size → (tiff_directory (d ++ x) header).answer ≡ Ok size
   by_count_read (Ok count) read is =
       let read_more = count_more d x header.order header.directory (count_bytes header.version) count read in
       let same = lasts_chain (tiff_entries header count) (entries_advance header count)
       (λ entries place. by_count Plain header count entries place tt (record_plain header entries place)) d x size is in
-      ap (λ r. (onward (span_of (d ++ x) header.directory (count_bytes header.version)) r (λ count. chain_at (tiff_entries header count)
+      ap (λ r. (go_on (span_of (d ++ x) header.directory (count_bytes header.version)) r (λ count. chain_at (tiff_entries header count)
       (d ++ x))).answer) read_more ∙ ap (λ w. w.answer) same ∙ is
   by_count_read (Err e) read is = absurd cc
 
 -- bytes that follow change no size
 pub tiff_lasts : (d x : List ℕ) (size : ImageSize) → (tiff d).answer ≡ Ok size → (tiff (d ++ x)).answer ≡ Ok size
-tiff_lasts d x size = by_header (over d tiff_header).answer refl where
-  by_header : (r : Result Header ImageError) → (over d tiff_header).answer ≡ r
-      → (onward (over d tiff_header).marks r (tiff_directory d)).answer ≡ Ok size → (tiff (d ++ x)).answer ≡ Ok size
+tiff_lasts d x size = by_header (layout_reads d tiff_header).answer refl where
+  by_header : (r : Result Header ImageError) → (layout_reads d tiff_header).answer ≡ r
+      → (go_on (layout_reads d tiff_header).marks r (tiff_directory d)).answer ≡ Ok size → (tiff (d ++ x)).answer ≡ Ok size
   by_header (Ok header) read is =
       let same = more d x tiff_header header header_plain read in
       ap (λ w. (and_then w (tiff_directory (d ++ x))).answer) same
-      ∙ ap (λ r. (onward (over d tiff_header).marks r (tiff_directory (d ++ x))).answer) read ∙ directory_lasts d x header size is
+      ∙ ap (λ r. (go_on (layout_reads d tiff_header).marks r (tiff_directory (d ++ x))).answer) read ∙ directory_lasts d x header size is
   by_header (Err e) read is = absurd cc
 
 -- an entry is of bytes alone
@@ -519,14 +531,14 @@ entry_of_bytes header count entries place =
     (λ _. without_texts false 20 (record_behind header entries place) (record_at_most header entries place))
 
 -- what is seen of an input
-pub tiff_local : Local false tiff
-tiff_local = local_then (λ d. over d tiff_header) (λ header d. tiff_directory d header)
+pub tiff_local : IsLocal false tiff
+tiff_local = local_then (λ d. layout_reads d tiff_header) (λ header d. tiff_directory d header)
     (local_layout tiff_header (without_texts false 16 tiff_header header_at_most))
     (λ header. local_then (λ d. number_read d header.order header.directory (count_bytes header.version))
     (λ count d. chain_at (tiff_entries header count) d) (local_number header.order header.directory (count_bytes header.version))
     (λ count. local_chain (tiff_entries header count) (entries_advance header count) (entry_of_bytes header count)))
 
-pub tiff_laws : RecordedLaws 12 36 20 true false tiff entries_begun
+pub tiff_laws : RecordedLaws 12 36 20 true false tiff tiff_begun
 tiff_laws = record {
   local = tiff_local;
   cost = λ d. omega (arith, tiff_cost d);

@@ -1,12 +1,11 @@
 -- Windows icons, by ICONDIR and ICONDIRENTRY of "Icons" (Win32).
-use Rattle.std.specs.Prelude.{ℕ, ◌+◌, ◌==◌, min, Bool, List, [], ◌∷◌, length, slice_index, if◌then◌else◌, Option, None, Some, Result, Ok, Err}
+use Rattle.std.specs.Prelude.{ℕ, ◌+◌, ◌==◌, min, Bool, List, [], ◌∷◌, length, slice_index, if◌then◌else◌, Option, None, Some}
 use Rattle.imagesize_types.specs.Head.{begins}
 use Rattle.imagesize_types.specs.Largest.{last_largest}
 use Rattle.imagesize_types.specs.declared.size.ImageSize.{ImageSize}
 use Rattle.imagesize_source.specs.declared.error.ImageError.TheVariants.{CorruptedImage}
-use Rattle.imagesize_source.specs.declared.error.ImageError.{ImageError}
-use Rattle.imagesize_source.specs.declared.util.Endian.TheVariants.{Little}
-use Rattle.imagesize_source.specs.Chain.{Said, Decided, Next, Chain, chain_at, records}
+use Rattle.imagesize_source.specs.declared.endian.Endian.TheVariants.{Little}
+use Rattle.imagesize_source.specs.Chain.{Said, Decided, Next, Chain, chain_at, records, count_behind}
 use Rattle.imagesize_source.specs.Layout.{Layout, if_there}
 use Rattle.imagesize_source.specs.Layout.Layout.{refuse, «done»}
 use Rattle.imagesize_source.specs.Reading.{Reads, and_then, number_read, number_at}
@@ -45,9 +44,5 @@ abbrev pub ico : List ℕ → Reads ImageSize
 ico d = and_then (number_read d Little 4 2) (λ count. chain_at (icon_entries count) d)
 
 -- how many entries are begun: the end of the list begins none
-abbrev pub begun_of : List ℕ → Result ℕ ImageError → ℕ
-begun_of d (Ok count) = min count (records (icon_entries count) d)
-begun_of d (Err e) = 0
-
-abbrev pub entries_begun : List ℕ → ℕ
-entries_begun d = begun_of d (number_at d Little 4 2)
+abbrev pub icons_begun : List ℕ → ℕ
+icons_begun d = count_behind (number_at d Little 4 2) (λ count. min count (records (icon_entries count) d))

@@ -1,11 +1,9 @@
 -- Interleaved bitmaps, by "EA IFF 85" and its supplement "ILBM".
 use Rattle.std.specs.Prelude.{ℕ, ◌+◌, ◌%◌, Bool, List, codes, drop, ◌||◌, ◌&&◌, if◌then◌else◌}
 use Rattle.imagesize_types.specs.Head.{begins, stands_at}
-use Rattle.imagesize_walked.specs.declared.formats.ilbm.Chunk.{Chunk}
-use Rattle.imagesize_walked.specs.declared.formats.ilbm.Chunk.TheVariants.{Header, Other}
 use Rattle.imagesize_types.specs.declared.size.ImageSize.{ImageSize}
 use Rattle.imagesize_source.specs.declared.error.ImageError.TheVariants.{CorruptedImage}
-use Rattle.imagesize_source.specs.declared.util.Endian.TheVariants.{Big}
+use Rattle.imagesize_source.specs.declared.endian.Endian.TheVariants.{Big}
 use Rattle.imagesize_source.specs.Chain.{Said, Decided, Next, Chain, chain_at}
 use Rattle.imagesize_source.specs.Layout.{Layout, bytes}
 use Rattle.imagesize_source.specs.Layout.Layout.{field, refuse, «done»}
@@ -53,8 +51,3 @@ ilbm_chunks = record { first = 12; said = λ passed place. ilbm_chunk place }
 -- the first bitmap header before the pixels
 abbrev pub ilbm : List ℕ → Reads ImageSize
 ilbm d = chain_at ilbm_chunks d
-
--- what a chunk at a place says
-abbrev pub chunk_said : ℕ → Chunk → Said (Unit {0}) ImageSize
-chunk_said place (Header size) = Decided size
-chunk_said place (Other length) = Next tt (place + chunk_bytes length)

@@ -1,13 +1,9 @@
 -- JPEG, by ITU-T T.81, annex B.
-use Rattle.std.specs.Prelude.{◌≡◌, ℕ, ◌+◌, ◌-◌, ◌<◌, Bool, ◌&&◌, ◌||◌, not, List, [], ◌∷◌, ◌==◌, nat_le, if◌then◌else◌, slice_index, count_by}
+use Rattle.std.specs.Prelude.{ℕ, ◌+◌, ◌-◌, Bool, ◌&&◌, ◌||◌, not, List, [], ◌∷◌, ◌==◌, nat_le, if◌then◌else◌, slice_index, count_by}
 use Rattle.imagesize_types.specs.Head.{begins}
-use Rattle.imagesize_walked.specs.declared.formats.jpeg.Role.{Role}
-use Rattle.imagesize_walked.specs.declared.formats.jpeg.Role.TheVariants as role
-use Rattle.imagesize_walked.specs.declared.formats.jpeg.Segment.{Segment}
-use Rattle.imagesize_walked.specs.declared.formats.jpeg.Segment.TheVariants.{Frame, Other}
 use Rattle.imagesize_types.specs.declared.size.ImageSize.{ImageSize}
 use Rattle.imagesize_source.specs.declared.error.ImageError.TheVariants.{CorruptedImage}
-use Rattle.imagesize_source.specs.declared.util.Endian.TheVariants.{Big}
+use Rattle.imagesize_source.specs.declared.endian.Endian.TheVariants.{Big}
 use Rattle.imagesize_source.specs.Chain.{Said, Decided, Next, Chain, chain_at}
 use Rattle.imagesize_source.specs.Layout.{Layout, bytes}
 use Rattle.imagesize_source.specs.Layout.Layout.{field, refuse, «done»}
@@ -23,16 +19,16 @@ abbrev pub is_frame : ℕ → Bool
 is_frame marker = nat_le 0xC0 marker && nat_le marker 0xCF && not (marker == 0xC4 || marker == 0xC8 || marker == 0xCC)
 
 -- how many images were started by segments with these markers (B.1.1.3, SOI)
-abbrev pub started : List ℕ → ℕ
-started markers = count_by (λ marker. marker == 0xD8) markers
+abbrev pub count_starts : List ℕ → ℕ
+count_starts markers = count_by (λ marker. marker == 0xD8) markers
 
 -- and how many were ended (B.1.1.3, EOI)
-abbrev pub ended : List ℕ → ℕ
-ended markers = count_by (λ marker. marker == 0xD9) markers
+abbrev pub count_ends : List ℕ → ℕ
+count_ends markers = count_by (λ marker. marker == 0xD9) markers
 
 -- how deep within the image, as that of a thumbnail, the segment behind such segments stands
 abbrev pub depth : List ℕ → ℕ
-depth markers = started markers - ended markers
+depth markers = count_starts markers - count_ends markers
 
 -- the header of a frame: behind its length and its precision the number of lines and the samples of a line (B.2.2)
 abbrev pub jpeg_frame : ℕ → Layout (Said ℕ ImageSize)
@@ -68,27 +64,3 @@ jpeg_segments = record { first = 2; said = λ markers place. jpeg_segment (depth
 -- the first frame that is of the image itself
 abbrev pub jpeg : List ℕ → Reads ImageSize
 jpeg d = chain_at jpeg_segments d
-
--- what a segment at a place says
-abbrev pub segment_said : ℕ → Segment → Said ℕ ImageSize
-segment_said place (Frame size) = Decided size
-segment_said place (Other marker behind length) = Next marker (place + (2 + length))
-
--- the depth behind a segment with this marker
-abbrev pub depth_behind : ℕ → ℕ → ℕ
-depth_behind depth marker = if marker == 0xD8 then depth + 1 else if marker == 0xD9 then depth - 1 else depth
-
--- the depth behind a segment that does not end the image; one that ends an inner image stands within it
-unfoldable pub LeadsTo : ℕ → ℕ → ℕ → Type 0
-LeadsTo depth marker behind = (behind ≡ depth_behind depth marker) × (marker ≡ 0xD9 → 0 < depth)
-
--- and behind a segment that is none of the image's own frames
-abbrev pub LeadsOn : ℕ → Segment → Type 0
-LeadsOn depth (Frame size) = Unit {0}
-LeadsOn depth (Other marker behind length) = LeadsTo depth marker behind
-
--- the same of what a marker says of its segment, before the segment is read
-abbrev pub RoleLeadsOn : ℕ → ℕ → Role → Type 0
-RoleLeadsOn depth marker role.Frame = Unit {0}
-RoleLeadsOn depth marker role.End = Unit {0}
-RoleLeadsOn depth marker (role.Other behind) = LeadsTo depth marker behind

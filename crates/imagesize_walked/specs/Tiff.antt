@@ -1,5 +1,5 @@
 -- TIFF, by "TIFF Revision 6.0" (section 2), and BigTIFF, by "The BigTIFF File Format".
-use Rattle.std.specs.Prelude.{ℕ, ◌+◌, ◌==◌, min, Bool, List, codes, [], ◌∷◌, ◌++◌, ◌||◌, length, take, drop, filter, if◌then◌else◌, Option, None, Some, option_and_then, Result, Ok, Err}
+use Rattle.std.specs.Prelude.{◌≡◌, ℕ, ◌+◌, ◌==◌, min, Bool, List, codes, [], ◌∷◌, ◌++◌, ◌||◌, length, take, drop, filter, if◌then◌else◌, Option, None, Some, option_and_then, Result, Ok, Err}
 use Rattle.std.specs.List.{last_or}
 use Rattle.imagesize_types.specs.Head.{begins}
 use Rattle.imagesize_types.specs.Table.{look_up}
@@ -13,10 +13,12 @@ use Rattle.imagesize_walked.specs.declared.formats.tiff.Version.TheVariants.{Tif
 use Rattle.imagesize_source.specs.declared.error.ImageError.{ImageError}
 use Rattle.imagesize_source.specs.declared.error.ImageError.TheVariants.{IoError}
 use Rattle.imagesize_source.specs.declared.error.Reason.TheVariants.{InvalidTiffHeader, BigTiffOffsetSize, InvalidBigTiffHeader, InvalidIfdOffset, IfdTypeForStandardTiff, InvalidIfdType, InvalidIfdValueLength, NoDimensionsInIfd}
-use Rattle.imagesize_source.specs.declared.util.Endian.{Endian}
-use Rattle.imagesize_source.specs.declared.util.Endian.TheVariants.{Little, Big}
-use Rattle.imagesize_source.specs.Chain.{Said, Decided, Next, Chain, chain_at, records}
-use Rattle.imagesize_source.specs.Layout.{Layout, over, bind, bytes, if_there}
+use Rattle.imagesize_source.specs.declared.halt.Halt.{Halt}
+use Rattle.imagesize_source.specs.declared.endian.Endian.{Endian}
+use Rattle.imagesize_source.specs.declared.endian.Endian.TheVariants.{Little, Big}
+use Rattle.imagesize_source.specs.Chain.{Said, Decided, Next, Chain, chain_at, records, count_behind}
+use Rattle.imagesize_source.specs.Halts.{error_by}
+use Rattle.imagesize_source.specs.Layout.{Layout, layout_reads, bind, bytes, if_there, accept}
 use Rattle.imagesize_source.specs.Layout.Layout.{field, refuse, «done»}
 use Rattle.imagesize_source.specs.Numbers.{number}
 use Rattle.imagesize_source.specs.Reading.{Reads, and_then, number_at, number_read}
@@ -26,10 +28,10 @@ unfoldable pub is_tiff : List ℕ → Bool
 is_tiff head = (begins (codes "II" ++ 42 ∷ 0 ∷ []) head || begins (codes "II" ++ 43 ∷ 0 ∷ []) head) ||
     (begins (codes "MM" ++ 0 ∷ 42 ∷ []) head || begins (codes "MM" ++ 0 ∷ 43 ∷ []) head)
 
--- what goes on where something is accepted
-abbrev pub accepted : {X Y : Type 0} → Result X ImageError → (X → Layout Y) → Layout Y
-accepted (Ok x) f = f x
-accepted (Err e) f = refuse e
+-- an answer, where a halt stands for its error whichever call failed and whatever the budget is
+abbrev pub StandsFor : {X : Type 0} → Result X Halt → Result X ImageError → Type 0
+StandsFor (Ok x) answer = Ok x ≡ answer
+StandsFor (Err why) answer = (failure : ImageError) (budget : ℕ) → Err (error_by failure budget why) ≡ answer
 
 -- the order of all numbers, by the first two bytes
 abbrev pub byte_order : List ℕ → Result Endian ImageError
@@ -55,9 +57,9 @@ directory_at order version place = if place == 0 then Err (IoError InvalidIfdOff
 -- the header ("Image File Header")
 unfoldable pub tiff_header : Layout Header
 tiff_header =
-    bytes 0 2 (λ mark. accepted (byte_order mark) (λ order.
-    field order 2 2 (λ number. accepted (version_of number) (λ version.
-    bind (stated_place order version) (λ place. accepted (directory_at order version place) done)))))
+    bytes 0 2 (λ mark. accept (byte_order mark) (λ order.
+    field order 2 2 (λ number. accept (version_of number) (λ version.
+    bind (stated_place order version) (λ place. accept (directory_at order version place) done)))))
 
 -- how many bytes the count of a directory's entries has ("Image File Directory")
 abbrev pub count_bytes : Version → ℕ
@@ -116,13 +118,13 @@ whole_value None = Err (IoError InvalidIfdValueLength)
 whole_value (Some value) = Ok (take 4 value)
 
 unfoldable pub tiff_value : Version → ℕ → Layout (List ℕ)
-tiff_value version place = if_there place (value_bytes version) (λ found. accepted (whole_value found) done)
+tiff_value version place = if_there place (value_bytes version) (λ found. accept (whole_value found) done)
 
 -- an entry: its field type is judged before its value is read
 unfoldable pub tiff_entry : Header → ℕ → Layout Entry
 tiff_entry header place =
     bind (tiff_head header.version place) (λ head.
-    accepted (field_type_of header.version (field_type_in header.order head)) (λ field_type.
+    accept (field_type_of header.version (field_type_in header.order head)) (λ field_type.
     bind (tiff_value header.version (place + head_bytes header.version)) (λ value.
     done (record { tag = tag_in header.order head; value = value_of header.order field_type value }))))
 
@@ -131,13 +133,13 @@ abbrev pub last_value : ℕ → List Entry → Option ℕ
 last_value tag entries = option_and_then (λ entry. entry.value) (last_or None (filter (λ entry. entry.tag == tag) entries))
 
 -- a size, where both sides are known
-abbrev pub size_of_sides : Option ℕ → Option ℕ → Option ImageSize
-size_of_sides (Some width) (Some height) = Some (record { width = width; height = height })
-size_of_sides _ _ = None
+abbrev pub size_if_known : Option ℕ → Option ℕ → Option ImageSize
+size_if_known (Some width) (Some height) = Some (record { width = width; height = height })
+size_if_known _ _ = None
 
 -- the size that entries give (section 3, ImageWidth and ImageLength)
 abbrev pub size_in : List Entry → Option ImageSize
-size_in entries = size_of_sides (last_value 0x100 entries) (last_value 0x101 entries)
+size_in entries = size_if_known (last_value 0x100 entries) (last_value 0x101 entries)
 
 -- an entry decides that completes the size
 abbrev pub completed : Option ImageSize → Entry → ℕ → Said Entry ImageSize
@@ -160,16 +162,12 @@ tiff_directory d header = and_then (number_read d header.order header.directory 
     (λ count. chain_at (tiff_entries header count) d)
 
 abbrev pub tiff : List ℕ → Reads ImageSize
-tiff d = and_then (over d tiff_header) (tiff_directory d)
+tiff d = and_then (layout_reads d tiff_header) (tiff_directory d)
 
 -- how many entries are begun: the end of the directory begins none
-abbrev pub begun_of : List ℕ → Header → Result ℕ ImageError → ℕ
-begun_of d header (Ok count) = min count (records (tiff_entries header count) d)
-begun_of d header (Err e) = 0
+abbrev pub directory_begun : List ℕ → Header → ℕ
+directory_begun d header = count_behind (number_at d header.order header.directory (count_bytes header.version))
+    (λ count. min count (records (tiff_entries header count) d))
 
-abbrev pub begun_behind : List ℕ → Result Header ImageError → ℕ
-begun_behind d (Ok header) = begun_of d header (number_at d header.order header.directory (count_bytes header.version))
-begun_behind d (Err e) = 0
-
-abbrev pub entries_begun : List ℕ → ℕ
-entries_begun d = begun_behind d (over d tiff_header).answer
+abbrev pub tiff_begun : List ℕ → ℕ
+tiff_begun d = count_behind (layout_reads d tiff_header).answer (directory_begun d)

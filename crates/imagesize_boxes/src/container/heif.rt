@@ -1,19 +1,21 @@
 //! HEIF and AVIF, by ISO/IEC 14496-12, sections 4.2 (boxes), 4.3 (`ftyp`) and 8.11.1 (`meta`), and ISO/IEC 23008-12
 //! (the brands, the properties and their list); the brands of AVIF by the AV1 Image File Format.
-ghost use Rattle.std.specs.Prelude.{◌≡◌, ◌+◌, ◌<◌, ◌≤◌, Some, codes, IfOk};
-ghost use Rattle.imagesize_boxes.specs.Heif.{Fits, box_size, brand_compression, compatible_compression, earlier_largest, extents_size, gathered_answer, gathered_with, heif, heif_compression, heif_in_iprp, heif_in_meta, is_general, is_heif, is_named, properties, property_at, property_bytes, property_said, search_for, searched_box, searched_said, skipped_bytes, turned};
+ghost use Rattle.std.specs.Prelude.{◌≡◌, ℕ, ◌+◌, ◌<◌, ◌≤◌, Some, codes, IfOk};
+ghost use Rattle.imagesize_boxes.specs.Heif.{box_size, brand_compression, compatible_compression, extents_size, heif, heif_compression, heif_in_iprp, heif_in_meta, is_general, is_heif, is_named, properties, property_at, property_bytes, search_for, searched_box, skipped_bytes, turn_by};
+ghost use Rattle.imagesize_boxes.specs.Walks.{searched_said, property_said, earlier_largest, gathered_with, gathered_answer, IsLeftFor};
 ghost use Rattle.imagesize_source.specs.Chain.{chain_at};
-ghost use Rattle.imagesize_source.specs.Layout.{over};
+ghost use Rattle.imagesize_source.specs.Halts.{RunsOrHalts, with_error};
+ghost use Rattle.imagesize_source.specs.Layout.{layout_reads};
 ghost use Rattle.imagesize_source.specs.Paying.{Nears};
-ghost use Rattle.imagesize_source.specs.Reading.{bytes_read, seen};
-ghost use Rattle.imagesize_source.specs.State.{Runs, Sound};
+ghost use Rattle.imagesize_source.specs.Reading.{bytes_read, map_answer};
+ghost use Rattle.imagesize_source.specs.State.{Runs, IsSound};
+ghost use Rattle.imagesize_source.specs.declared.error.ImageError.{ImageError};
 
-use imagesize_source::source::Source;
-use imagesize_source::util::{
-    Endian, place_behind, read_bytes, read_bytes_behind, read_if_there, read_if_there_behind,
-    read_u32,
+use imagesize_source::readings::{
+    place_behind, read_bytes, read_bytes_behind, read_if_there, read_if_there_behind, read_u32,
 };
-use imagesize_source::{ImageError, ImageResult, Reason};
+use imagesize_source::source::Source;
+use imagesize_source::{Endian, Halt};
 use imagesize_types::compression::Compression;
 use imagesize_types::size::{ImageSize, area};
 
@@ -32,10 +34,10 @@ pub fn detect_compression<S: Source>(
     source: &mut S,
     place: u64,
     head: &[u8; 12],
-) -> ImageResult<Compression>
-    requires { Sound (S.state source.old) }
-    ensures { Runs (S.state source.old) (S.state source.new) result
-        (over (S.state source.old).held.input (heif_compression place head.now)) }
+) -> Result<Compression, Halt>
+    requires { IsSound (S.state source.old) }
+    ensures { RunsOrHalts (S.state source.old) (S.state source.new) (S.failure source.new) result
+        (layout_reads (S.state source.old).held.input (heif_compression place head.now)) }
 {
     let brand = &head[8..];
     if !is_general(brand) {
@@ -82,8 +84,9 @@ fn brand_compression(brand: &[u8]) -> Compression
 /// The width and the height of the largest extents among the properties, of several the first, exchanged where the
 /// last rotation is a quarter or three quarters of a turn.
 #[tactic(auto, using(imagesize_source::proofs::Runs::steps))]
-pub fn size<S: Source>(source: &mut S) -> ImageResult<ImageSize>
-    ensures { Runs (S.state source.old) (S.state source.new) result (heif (S.state source.old).held.input) }
+pub fn size<S: Source>(source: &mut S) -> Result<ImageSize, Halt>
+    ensures { RunsOrHalts (S.state source.old) (S.state source.new) (S.failure source.new) result
+        (heif (S.state source.old).held.input) }
 {
     let first = read_u32(source, 0, Endian::Big)? as u64;
     let meta = search_from(source, first, b"meta")?;
@@ -93,8 +96,9 @@ pub fn size<S: Source>(source: &mut S) -> ImageResult<ImageSize>
 // The size by the box of metadata, which begins with its version and flags.
 #[inline(always)]
 #[tactic(auto, using(imagesize_source::proofs::Runs::steps))]
-fn size_in_meta<S: Source>(source: &mut S, meta: FoundBox) -> ImageResult<ImageSize>
-    ensures { Runs (S.state source.old) (S.state source.new) result (heif_in_meta meta (S.state source.old).held.input) }
+fn size_in_meta<S: Source>(source: &mut S, meta: FoundBox) -> Result<ImageSize, Halt>
+    ensures { RunsOrHalts (S.state source.old) (S.state source.new) (S.failure source.new) result
+        (heif_in_meta meta (S.state source.old).held.input) }
 {
     read_content::<S, 4>(source, meta.place)?;
     let iprp = search(source, meta.place, 12, b"iprp")?;
@@ -104,8 +108,9 @@ fn size_in_meta<S: Source>(source: &mut S, meta: FoundBox) -> ImageResult<ImageS
 // The size by the box of item properties.
 #[inline(always)]
 #[tactic(auto, using(imagesize_source::proofs::Runs::steps))]
-fn size_in_iprp<S: Source>(source: &mut S, iprp: FoundBox) -> ImageResult<ImageSize>
-    ensures { Runs (S.state source.old) (S.state source.new) result (heif_in_iprp iprp (S.state source.old).held.input) }
+fn size_in_iprp<S: Source>(source: &mut S, iprp: FoundBox) -> Result<ImageSize, Halt>
+    ensures { RunsOrHalts (S.state source.old) (S.state source.new) (S.failure source.new) result
+        (heif_in_iprp iprp (S.state source.old).held.input) }
 {
     let ipco = search(source, iprp.place, 8, b"ipco")?;
     largest(source, ipco)
@@ -134,16 +139,16 @@ fn search<S: Source>(
     place: u64,
     distance: u64,
     name: &[u8; 4],
-) -> ImageResult<FoundBox>
-    ensures { Runs (S.state source.old) (S.state source.new) result
+) -> Result<FoundBox, Halt>
+    ensures { RunsOrHalts (S.state source.old) (S.state source.new) (S.failure source.new) result
         (chain_at (search_for name.now (place + distance)) (S.state source.old).held.input) }
 {
     search_from(source, place.saturating_add(distance), name)
 }
 
 // The first box of a name, from a place on.
-fn search_from<S: Source>(source: &mut S, from: u64, name: &[u8; 4]) -> ImageResult<FoundBox>
-    ensures { Runs (S.state source.old) (S.state source.new) result
+fn search_from<S: Source>(source: &mut S, from: u64, name: &[u8; 4]) -> Result<FoundBox, Halt>
+    ensures { RunsOrHalts (S.state source.old) (S.state source.new) (S.failure source.new) result
         (chain_at (search_for name.now from) (S.state source.old).held.input) }
 {
     let mut place = from;
@@ -158,10 +163,11 @@ fn search_from<S: Source>(source: &mut S, from: u64, name: &[u8; 4]) -> ImageRes
 // The box at a place.
 #[inline(always)]
 #[tactic(auto, using(imagesize_source::proofs::Runs::steps))]
-fn read_box<S: Source>(source: &mut S, place: u64, name: &[u8; 4]) -> ImageResult<Searched>
+fn read_box<S: Source>(source: &mut S, place: u64, name: &[u8; 4]) -> Result<Searched, Halt>
     ensures nears { IfOk result (λ found. Nears (S.state source.old) (S.state source.new) place (searched_said place found)) }
-    ensures runs { Runs (S.state source.old) (S.state source.new) (seen (λ found. searched_said place found) result)
-        (over (S.state source.old).held.input (searched_box name.now place)) }
+    ensures runs { Runs (S.state source.old) (S.state source.new)
+        (map_answer (λ found. searched_said place found) (with_error (S.failure source.new) (S.state source.new).frame.budget result))
+        (layout_reads (S.state source.old).held.input (searched_box name.now place)) }
 {
     let head = read_bytes::<S, 8>(source, place)?;
     let size = box_size(&head);
@@ -169,7 +175,7 @@ fn read_box<S: Source>(source: &mut S, place: u64, name: &[u8; 4]) -> ImageResul
         return Ok(Searched::Found(FoundBox { place, size }));
     }
     if size < 8 {
-        return Err(ImageError::IoError(Reason::InvalidHeifBoxSize { size }));
+        return Err(Halt::InvalidHeifBoxSize { size: size as u8 });
     }
     Ok(Searched::Other { size })
 }
@@ -194,9 +200,9 @@ fn is_named(head: &[u8; 8], name: &[u8; 4]) -> bool
 
 // The first bytes of what a box holds, behind its size and its name.
 #[inline(always)]
-fn read_content<S: Source, const N: usize>(source: &mut S, place: u64) -> ImageResult<[u8; N]>
+fn read_content<S: Source, const N: usize>(source: &mut S, place: u64) -> Result<[u8; N], Halt>
     requires { 0 < N }
-    ensures { Runs (S.state source.old) (S.state source.new) result
+    ensures { RunsOrHalts (S.state source.old) (S.state source.new) (S.failure source.new) result
         (bytes_read (S.state source.old).held.input (place + 8) N) }
 {
     read_bytes_behind::<S, N>(source, place, 8)
@@ -227,16 +233,16 @@ struct Gathered {
 // The size by the properties in this box.
 #[inline(always)]
 #[tactic(auto, using(crate::proofs::Heif::list_saturated))]
-fn largest<S: Source>(source: &mut S, ipco: FoundBox) -> ImageResult<ImageSize>
-    ensures { Runs (S.state source.old) (S.state source.new) result
+fn largest<S: Source>(source: &mut S, ipco: FoundBox) -> Result<ImageSize, Halt>
+    ensures { RunsOrHalts (S.state source.old) (S.state source.new) (S.failure source.new) result
         (chain_at (properties ipco.size (ipco.place + 8)) (S.state source.old).held.input) }
 {
     largest_from(source, ipco.place.saturating_add(8), ipco.size)
 }
 
 // The size by the properties from a place on, in a box of so many bytes.
-fn largest_from<S: Source>(source: &mut S, from: u64, all: u32) -> ImageResult<ImageSize>
-    ensures { Runs (S.state source.old) (S.state source.new) result
+fn largest_from<S: Source>(source: &mut S, from: u64, all: u32) -> Result<ImageSize, Halt>
+    ensures { RunsOrHalts (S.state source.old) (S.state source.new) (S.failure source.new) result
         (chain_at (properties all from) (S.state source.old).held.input) }
 {
     let mut place = from;
@@ -260,11 +266,11 @@ fn largest_from<S: Source>(source: &mut S, from: u64, all: u32) -> ImageResult<I
 // The property at a place, or none where the list ends: so many bytes are left for the boxes that are passed.
 #[inline(always)]
 #[tactic(auto, using(imagesize_source::proofs::Runs::steps, imagesize_source::proofs::Runs::missed_before))]
-fn read_property<S: Source>(source: &mut S, place: u64, left: u32) -> ImageResult<Option<Property>>
+fn read_property<S: Source>(source: &mut S, place: u64, left: u32) -> Result<Option<Property>, Halt>
     ensures nears { IfOk result (λ found. Nears (S.state source.old) (S.state source.new) place (property_said place found)) }
-    ensures fits { IfOk result (λ found. Fits left found) }
-    ensures runs { Runs (S.state source.old) (S.state source.new) result
-        (over (S.state source.old).held.input (property_at left place)) }
+    ensures fits { IfOk result (λ found. IsLeftFor left found) }
+    ensures runs { RunsOrHalts (S.state source.old) (S.state source.new) (S.failure source.new) result
+        (layout_reads (S.state source.old).held.input (property_at left place)) }
 {
     let Some(head) = read_if_there::<S, 8>(source, place)? else {
         return Ok(None);
@@ -274,7 +280,7 @@ fn read_property<S: Source>(source: &mut S, place: u64, left: u32) -> ImageResul
         return if is_named(&head, b"mdat") {
             Ok(None)
         } else {
-            Err(ImageError::CorruptedImage)
+            Err(Halt::Corrupted)
         };
     }
     if is_named(&head, b"ispe") {
@@ -355,19 +361,19 @@ fn larger(best: Option<ImageSize>, size: ImageSize) -> ImageSize
 
 // What is answered at the end of the list.
 #[inline(always)]
-fn answer(gathered: Gathered) -> ImageResult<ImageSize>
-    ensures { result ≡ gathered_answer gathered }
+fn answer(gathered: Gathered) -> Result<ImageSize, Halt>
+    ensures { (failure : ImageError) (budget : ℕ) → with_error failure budget result ≡ gathered_answer gathered }
 {
     match gathered.best {
         Some(size) => Ok(turned(size, gathered.turn)),
-        None => Err(ImageError::IoError(Reason::NotEnoughData)),
+        None => Err(Halt::NotEnoughData),
     }
 }
 
 // A quarter and three quarters of a turn exchange width and height.
 #[inline(always)]
 fn turned(size: ImageSize, turn: Option<u8>) -> ImageSize
-    ensures { result ≡ turned turn size }
+    ensures { result ≡ turn_by turn size }
 {
     match turn {
         Some(1 | 3) => ImageSize {

@@ -2,8 +2,9 @@
 ghost use Rattle.std.specs.Prelude.{◌≡◌, ◌≤◌, ◌++◌, take, option_map};
 ghost use Rattle.imagesize_boxes.specs.Jxl.{is_jxl, jxl, jxl_chain, jxl_codestream, jxl_start};
 ghost use Rattle.imagesize_source.specs.Chain.{chain_at};
-ghost use Rattle.imagesize_source.specs.Layout.{over};
-ghost use Rattle.imagesize_source.specs.Reading.{seen};
+ghost use Rattle.imagesize_source.specs.Halts.{RunsOrHalts, with_error};
+ghost use Rattle.imagesize_source.specs.Layout.{layout_reads};
+ghost use Rattle.imagesize_source.specs.Reading.{map_answer};
 ghost use Rattle.imagesize_source.specs.State.{Runs};
 
 mod bits;
@@ -12,9 +13,9 @@ mod front;
 mod header;
 
 use front::Front;
-use imagesize_source::ImageResult;
+use imagesize_source::Halt;
+use imagesize_source::readings::read_bytes;
 use imagesize_source::source::Source;
-use imagesize_source::util::{read_bytes, read_part};
 use imagesize_types::size::ImageSize;
 
 /// Whether a codestream or a signature box stands first.
@@ -35,11 +36,12 @@ pub fn matches(head: &[u8; 12]) -> bool
 /// The width and the height in pixels, by the header of the codestream, as the image is shown: where its orientation
 /// says so, they are exchanged.
 ///
-/// `CorruptedImage` where a box ends above 2^64-1, or the header is not there whole; `InvalidJxlBoxSize` of a box that is
-/// smaller than its head; `InvalidJxlSignature` of a codestream that does not begin with its signature; `EndOfInput` where
+/// `Corrupted` where a box ends above 2^64-1, or the header is not there whole; `InvalidJxlBoxSize` of a box that is
+/// smaller than its head; `InvalidJxlSignature` of a codestream that does not begin with its signature; `Ended` where
 /// the input ends before its first two bytes, or before a box's head or long size, and of a part too short for its index.
-pub fn size<S: Source>(source: &mut S) -> ImageResult<ImageSize>
-    ensures { Runs (S.state source.old) (S.state source.new) result (jxl (S.state source.old).held.input) }
+pub fn size<S: Source>(source: &mut S) -> Result<ImageSize, Halt>
+    ensures { RunsOrHalts (S.state source.old) (S.state source.new) (S.failure source.new) result
+        (jxl (S.state source.old).held.input) }
 {
     let front = read_codestream(source)?;
     header::codestream_size(&front.bytes, front.len)
@@ -47,8 +49,9 @@ pub fn size<S: Source>(source: &mut S) -> ImageResult<ImageSize>
 
 // The first bytes of the codestream, which stands alone or in boxes.
 #[tactic(auto, using(imagesize_source::proofs::Runs::steps))]
-fn read_codestream<S: Source>(source: &mut S) -> ImageResult<Front>
-    ensures { Runs (S.state source.old) (S.state source.new) (seen (λ front. take front.len front.bytes) result)
+fn read_codestream<S: Source>(source: &mut S) -> Result<Front, Halt>
+    ensures { Runs (S.state source.old) (S.state source.new)
+        (map_answer (λ front. take front.len front.bytes) (with_error (S.failure source.new) (S.state source.new).frame.budget result))
         (jxl_codestream (S.state source.old).held.input) }
 {
     match read_start(source)? {
@@ -59,8 +62,9 @@ fn read_codestream<S: Source>(source: &mut S) -> ImageResult<Front>
 
 // Those of a codestream in boxes.
 #[tactic(auto, using(imagesize_source::proofs::Runs::steps))]
-fn read_boxes<S: Source>(source: &mut S) -> ImageResult<Front>
-    ensures { Runs (S.state source.old) (S.state source.new) (seen (λ front. take front.len front.bytes) result)
+fn read_boxes<S: Source>(source: &mut S) -> Result<Front, Halt>
+    ensures { Runs (S.state source.old) (S.state source.new)
+        (map_answer (λ front. take front.len front.bytes) (with_error (S.failure source.new) (S.state source.new).frame.budget result))
         (chain_at jxl_chain (S.state source.old).held.input) }
 {
     let codestream = boxes::read_codestream(source)?;
@@ -69,17 +73,18 @@ fn read_boxes<S: Source>(source: &mut S) -> ImageResult<Front>
 
 // Those of a codestream that stands alone; none where boxes stand.
 #[tactic(auto, using(imagesize_source::proofs::Runs::steps))]
-fn read_start<S: Source>(source: &mut S) -> ImageResult<Option<Front>>
+fn read_start<S: Source>(source: &mut S) -> Result<Option<Front>, Halt>
     ensures { Runs (S.state source.old) (S.state source.new)
-        (seen (λ found. option_map (λ front. take front.len front.bytes) found) result)
-        (over (S.state source.old).held.input jxl_start) }
+        (map_answer (λ found. option_map (λ front. take front.len front.bytes) found)
+        (with_error (S.failure source.new) (S.state source.new).frame.budget result))
+        (layout_reads (S.state source.old).held.input jxl_start) }
 {
     let start = read_bytes::<S, 2>(source, 0)?;
     if !header::has_signature(&start) {
         return Ok(None);
     }
     let mut room = [0u8; 14];
-    let there = read_part(source, 2, &mut room)?;
+    let there = source.read_at(2, &mut room)?;
     Ok(Some(joined(start, room, there)))
 }
 

@@ -3,16 +3,14 @@ ghost use Rattle.std.specs.Prelude.{◌≡◌, ◌≤◌, length, drop};
 ghost use Rattle.imagesize_fixed.specs.Atc.{atc, atc_compression, atc_data_types, is_atc};
 ghost use Rattle.imagesize_types.specs.Table.{look_up};
 ghost use Rattle.imagesize_source.specs.Numbers.{number};
-ghost use Rattle.imagesize_source.specs.declared.util.Endian.TheVariants as endian;
+ghost use Rattle.imagesize_source.specs.declared.endian.Endian.TheVariants as endian;
 ghost use Rattle.imagesize_source.specs.Halts.{RunsOrHalts};
-ghost use Rattle.imagesize_source.specs.Layout.{over};
-ghost use Rattle.imagesize_source.specs.State.{Runs};
+ghost use Rattle.imagesize_source.specs.Layout.{layout_reads};
 
 use crate::container::{dds, pkm, pvrtc};
-use imagesize_source::ImageResult;
-use imagesize_source::halt::{Halt, read_bytes};
+use imagesize_source::Halt;
+use imagesize_source::readings::{read_bytes, read_if_there};
 use imagesize_source::source::Source;
-use imagesize_source::util::read_if_there;
 use imagesize_types::compression::AtcCompression;
 use imagesize_types::size::ImageSize;
 
@@ -38,9 +36,9 @@ fn is_atc(header: &[u8]) -> bool
 
 /// How the pixels are stored, by the data type where it is there.
 #[tactic(auto, using(imagesize_source::proofs::Runs::steps), unfolding(crate::specs::Atc::atc_compression))]
-pub fn detect_compression<S: Source>(source: &mut S) -> ImageResult<AtcCompression>
-    ensures { Runs (S.state source.old) (S.state source.new) result
-        (over (S.state source.old).held.input atc_compression) }
+pub fn detect_compression<S: Source>(source: &mut S) -> Result<AtcCompression, Halt>
+    ensures { RunsOrHalts (S.state source.old) (S.state source.new) (S.failure source.new) result
+        (layout_reads (S.state source.old).held.input atc_compression) }
 {
     let Some(header) = read_if_there::<S, 8>(source, 0)? else {
         return Ok(AtcCompression::Unknown);
@@ -76,7 +74,7 @@ fn compression(data_type: u16) -> AtcCompression
 #[tactic(auto, using(imagesize_source::proofs::Runs::steps))]
 pub fn size<S: Source>(source: &mut S) -> Result<ImageSize, Halt>
     ensures { RunsOrHalts (S.state source.old) (S.state source.new) (S.failure source.new) result
-        (over (S.state source.old).held.input atc) }
+        (layout_reads (S.state source.old).held.input atc) }
 {
     let tag = read_bytes::<S, 4>(source, 0)?;
     if dds::is_dds(&tag) {

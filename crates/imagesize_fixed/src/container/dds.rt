@@ -4,14 +4,12 @@ ghost use Rattle.std.specs.Prelude.{◌≡◌};
 ghost use Rattle.imagesize_fixed.specs.Dds.{dds, dds_bit_counts, dds_codes, dds_compression, dds_number_of, dxgi_formats, is_dds};
 ghost use Rattle.imagesize_types.specs.Table.{look_up, look_up_text};
 ghost use Rattle.imagesize_source.specs.Halts.{RunsOrHalts};
-ghost use Rattle.imagesize_source.specs.Layout.{if_there, over};
+ghost use Rattle.imagesize_source.specs.Layout.{if_there, layout_reads};
 ghost use Rattle.imagesize_source.specs.Layout.Layout.{«done»};
-ghost use Rattle.imagesize_source.specs.State.{Runs};
 
-use imagesize_source::ImageResult;
-use imagesize_source::halt::{Halt, read_u32};
+use imagesize_source::readings::{read_if_there, read_u32};
 use imagesize_source::source::Source;
-use imagesize_source::util::{Endian, read_if_there};
+use imagesize_source::{Endian, Halt};
 use imagesize_types::compression::DdsCompression;
 use imagesize_types::size::ImageSize;
 
@@ -34,9 +32,9 @@ pub(super) fn is_dds(header: &[u8]) -> bool
 
 /// How the pixels are stored, by the four-character code where it is there.
 #[tactic(auto, using(imagesize_source::proofs::Runs::steps, imagesize_source::proofs::Runs::missed_before), unfolding(crate::specs::Dds::dds_compression))]
-pub fn detect_compression<S: Source>(source: &mut S) -> ImageResult<DdsCompression>
-    ensures { Runs (S.state source.old) (S.state source.new) result
-        (over (S.state source.old).held.input dds_compression) }
+pub fn detect_compression<S: Source>(source: &mut S) -> Result<DdsCompression, Halt>
+    ensures { RunsOrHalts (S.state source.old) (S.state source.new) (S.failure source.new) result
+        (layout_reads (S.state source.old).held.input dds_compression) }
 {
     let Some(code) = read_if_there::<S, 4>(source, 84)? else {
         return Ok(DdsCompression::Unknown);
@@ -52,9 +50,9 @@ pub fn detect_compression<S: Source>(source: &mut S) -> ImageResult<DdsCompressi
 
 // How the pixels are stored, by the format of the extended header where it is there.
 #[tactic(auto, using(imagesize_source::proofs::Runs::steps, imagesize_source::proofs::Numbers::little_4))]
-fn extended_compression<S: Source>(source: &mut S) -> ImageResult<DdsCompression>
-    ensures { Runs (S.state source.old) (S.state source.new) result
-        (over (S.state source.old).held.input (if_there 128 4 (λ bs. done (dds_number_of dxgi_formats bs)))) }
+fn extended_compression<S: Source>(source: &mut S) -> Result<DdsCompression, Halt>
+    ensures { RunsOrHalts (S.state source.old) (S.state source.new) (S.failure source.new) result
+        (layout_reads (S.state source.old).held.input (if_there 128 4 (λ bs. done (dds_number_of dxgi_formats bs)))) }
 {
     match read_if_there::<S, 4>(source, 128)? {
         Some(format) => Ok(format_compression(u32::from_le_bytes(format))),
@@ -64,9 +62,9 @@ fn extended_compression<S: Source>(source: &mut S) -> ImageResult<DdsCompression
 
 // How the pixels are stored, by the bits of a pixel where they are there.
 #[tactic(auto, using(imagesize_source::proofs::Runs::steps, imagesize_source::proofs::Numbers::little_4))]
-fn plain_compression<S: Source>(source: &mut S) -> ImageResult<DdsCompression>
-    ensures { Runs (S.state source.old) (S.state source.new) result
-        (over (S.state source.old).held.input (if_there 88 4 (λ bs. done (dds_number_of dds_bit_counts bs)))) }
+fn plain_compression<S: Source>(source: &mut S) -> Result<DdsCompression, Halt>
+    ensures { RunsOrHalts (S.state source.old) (S.state source.new) (S.failure source.new) result
+        (layout_reads (S.state source.old).held.input (if_there 88 4 (λ bs. done (dds_number_of dds_bit_counts bs)))) }
 {
     match read_if_there::<S, 4>(source, 88)? {
         Some(bits) => Ok(bits_compression(u32::from_le_bytes(bits))),
@@ -117,7 +115,7 @@ fn bits_compression(bits: u32) -> DdsCompression
 #[tactic(auto, using(imagesize_source::proofs::Runs::steps))]
 pub fn size<S: Source>(source: &mut S) -> Result<ImageSize, Halt>
     ensures { RunsOrHalts (S.state source.old) (S.state source.new) (S.failure source.new) result
-        (over (S.state source.old).held.input dds) }
+        (layout_reads (S.state source.old).held.input dds) }
 {
     let height = read_u32(source, 12, Endian::Little)? as usize;
     let width = read_u32(source, 16, Endian::Little)? as usize;

@@ -3,14 +3,12 @@ ghost use Rattle.std.specs.Prelude.{◌≡◌};
 ghost use Rattle.imagesize_fixed.specs.Pvrtc.{is_pvr3, is_pvrtc, pvr2, pvr3, pvrtc, pvrtc_compression, pvrtc_format_of, pvrtc_formats};
 ghost use Rattle.imagesize_types.specs.Table.{look_up};
 ghost use Rattle.imagesize_source.specs.Halts.{RunsOrHalts};
-ghost use Rattle.imagesize_source.specs.Layout.{if_there, over};
+ghost use Rattle.imagesize_source.specs.Layout.{if_there, layout_reads};
 ghost use Rattle.imagesize_source.specs.Layout.Layout.{«done»};
-ghost use Rattle.imagesize_source.specs.State.{Runs};
 
-use imagesize_source::ImageResult;
-use imagesize_source::halt::{Halt, read_bytes, read_u32};
+use imagesize_source::readings::{read_bytes, read_if_there, read_u32};
 use imagesize_source::source::Source;
-use imagesize_source::util::{Endian, read_if_there};
+use imagesize_source::{Endian, Halt};
 use imagesize_types::compression::PvrtcCompression;
 use imagesize_types::size::ImageSize;
 
@@ -33,9 +31,9 @@ fn is_version_3(header: &[u8]) -> bool
 
 /// How the pixels are stored, which the newer header tells.
 #[tactic(auto, using(imagesize_source::proofs::Runs::steps, imagesize_source::proofs::Runs::missed_before), unfolding(crate::specs::Pvrtc::pvrtc_compression))]
-pub fn detect_compression<S: Source>(source: &mut S) -> ImageResult<PvrtcCompression>
-    ensures { Runs (S.state source.old) (S.state source.new) result
-        (over (S.state source.old).held.input pvrtc_compression) }
+pub fn detect_compression<S: Source>(source: &mut S) -> Result<PvrtcCompression, Halt>
+    ensures { RunsOrHalts (S.state source.old) (S.state source.new) (S.failure source.new) result
+        (layout_reads (S.state source.old).held.input pvrtc_compression) }
 {
     let Some(tag) = read_if_there::<S, 4>(source, 0)? else {
         return Ok(PvrtcCompression::Unknown);
@@ -48,9 +46,9 @@ pub fn detect_compression<S: Source>(source: &mut S) -> ImageResult<PvrtcCompres
 
 // How the pixels are stored, by the format where it is there.
 #[tactic(auto, using(imagesize_source::proofs::Runs::steps, imagesize_source::proofs::Numbers::little_8))]
-fn format<S: Source>(source: &mut S) -> ImageResult<PvrtcCompression>
-    ensures { Runs (S.state source.old) (S.state source.new) result
-        (over (S.state source.old).held.input (if_there 8 8 (λ bs. done (pvrtc_format_of bs)))) }
+fn format<S: Source>(source: &mut S) -> Result<PvrtcCompression, Halt>
+    ensures { RunsOrHalts (S.state source.old) (S.state source.new) (S.failure source.new) result
+        (layout_reads (S.state source.old).held.input (if_there 8 8 (λ bs. done (pvrtc_format_of bs)))) }
 {
     match read_if_there::<S, 8>(source, 8)? {
         Some(format) => Ok(format_compression(u64::from_le_bytes(format))),
@@ -81,7 +79,7 @@ fn format_compression(format: u64) -> PvrtcCompression
 #[tactic(auto, using(imagesize_source::proofs::Runs::steps))]
 pub fn size<S: Source>(source: &mut S) -> Result<ImageSize, Halt>
     ensures { RunsOrHalts (S.state source.old) (S.state source.new) (S.failure source.new) result
-        (over (S.state source.old).held.input pvrtc) }
+        (layout_reads (S.state source.old).held.input pvrtc) }
 {
     let tag = read_bytes::<S, 4>(source, 0)?;
     if is_version_3(&tag) {
@@ -95,7 +93,7 @@ pub fn size<S: Source>(source: &mut S) -> Result<ImageSize, Halt>
 #[tactic(auto, using(imagesize_source::proofs::Runs::steps))]
 fn newer_size<S: Source>(source: &mut S) -> Result<ImageSize, Halt>
     ensures { RunsOrHalts (S.state source.old) (S.state source.new) (S.failure source.new) result
-        (over (S.state source.old).held.input pvr3) }
+        (layout_reads (S.state source.old).held.input pvr3) }
 {
     let height = read_u32(source, 24, Endian::Little)? as usize;
     let width = read_u32(source, 28, Endian::Little)? as usize;
@@ -107,7 +105,7 @@ fn newer_size<S: Source>(source: &mut S) -> Result<ImageSize, Halt>
 #[tactic(auto, using(imagesize_source::proofs::Runs::steps))]
 pub(super) fn older_size<S: Source>(source: &mut S) -> Result<ImageSize, Halt>
     ensures { RunsOrHalts (S.state source.old) (S.state source.new) (S.failure source.new) result
-        (over (S.state source.old).held.input pvr2) }
+        (layout_reads (S.state source.old).held.input pvr2) }
 {
     let height = read_u32(source, 4, Endian::Little)? as usize;
     let width = read_u32(source, 8, Endian::Little)? as usize;

@@ -2,11 +2,11 @@
 ghost use Rattle.std.specs.Prelude.{◌≡◌};
 ghost use Rattle.imagesize_fixed.specs.Aseprite.{is_aseprite, aseprite};
 ghost use Rattle.imagesize_source.specs.Halts.{RunsOrHalts};
-ghost use Rattle.imagesize_source.specs.Layout.{over};
+ghost use Rattle.imagesize_source.specs.Layout.{layout_reads};
 
-use imagesize_source::halt::{Halt, read_u16};
+use imagesize_source::readings::read_u16;
 use imagesize_source::source::Source;
-use imagesize_source::util::Endian;
+use imagesize_source::{Endian, Halt};
 use imagesize_types::size::ImageSize;
 
 /// Whether the magic number 0xA5E0 stands behind the length of the file.
@@ -23,7 +23,7 @@ pub fn matches(head: &[u8; 12]) -> bool
 #[tactic(auto, using(imagesize_source::proofs::Runs::steps))]
 pub fn size<S: Source>(source: &mut S) -> Result<ImageSize, Halt>
     ensures { RunsOrHalts (S.state source.old) (S.state source.new) (S.failure source.new) result
-        (over (S.state source.old).held.input aseprite) }
+        (layout_reads (S.state source.old).held.input aseprite) }
 {
     let width = read_u16(source, 8, Endian::Little)? as usize;
     let height = read_u16(source, 10, Endian::Little)? as usize;

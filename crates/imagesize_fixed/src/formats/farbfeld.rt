@@ -2,11 +2,11 @@
 ghost use Rattle.std.specs.Prelude.{◌≡◌};
 ghost use Rattle.imagesize_fixed.specs.Farbfeld.{is_farbfeld, farbfeld};
 ghost use Rattle.imagesize_source.specs.Halts.{RunsOrHalts};
-ghost use Rattle.imagesize_source.specs.Layout.{over};
+ghost use Rattle.imagesize_source.specs.Layout.{layout_reads};
 
-use imagesize_source::halt::{Halt, read_u32};
+use imagesize_source::readings::read_u32;
 use imagesize_source::source::Source;
-use imagesize_source::util::Endian;
+use imagesize_source::{Endian, Halt};
 use imagesize_types::size::ImageSize;
 
 /// Whether the magic value stands first.
@@ -23,7 +23,7 @@ pub fn matches(head: &[u8; 12]) -> bool
 #[tactic(auto, using(imagesize_source::proofs::Runs::steps))]
 pub fn size<S: Source>(source: &mut S) -> Result<ImageSize, Halt>
     ensures { RunsOrHalts (S.state source.old) (S.state source.new) (S.failure source.new) result
-        (over (S.state source.old).held.input farbfeld) }
+        (layout_reads (S.state source.old).held.input farbfeld) }
 {
     let width = read_u32(source, 8, Endian::Big)? as usize;
     let height = read_u32(source, 12, Endian::Big)? as usize;

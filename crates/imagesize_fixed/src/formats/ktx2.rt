@@ -2,11 +2,11 @@
 ghost use Rattle.std.specs.Prelude.{◌≡◌};
 ghost use Rattle.imagesize_fixed.specs.Ktx2.{is_ktx2, ktx2};
 ghost use Rattle.imagesize_source.specs.Halts.{RunsOrHalts};
-ghost use Rattle.imagesize_source.specs.Layout.{over};
+ghost use Rattle.imagesize_source.specs.Layout.{layout_reads};
 
-use imagesize_source::halt::{Halt, read_u32};
+use imagesize_source::readings::read_u32;
 use imagesize_source::source::Source;
-use imagesize_source::util::Endian;
+use imagesize_source::{Endian, Halt};
 use imagesize_types::size::ImageSize;
 
 /// Whether the identifier stands first.
@@ -28,7 +28,7 @@ pub fn matches(head: &[u8; 12]) -> bool
 #[tactic(auto, using(imagesize_source::proofs::Runs::steps))]
 pub fn size<S: Source>(source: &mut S) -> Result<ImageSize, Halt>
     ensures { RunsOrHalts (S.state source.old) (S.state source.new) (S.failure source.new) result
-        (over (S.state source.old).held.input ktx2) }
+        (layout_reads (S.state source.old).held.input ktx2) }
 {
     let width = read_u32(source, 20, Endian::Little)? as usize;
     let height = read_u32(source, 24, Endian::Little)? as usize;

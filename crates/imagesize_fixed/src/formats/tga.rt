@@ -2,19 +2,18 @@
 ghost use Rattle.std.specs.Prelude.{◌≡◌, length};
 ghost use Rattle.imagesize_fixed.specs.Tga.{is_map_sound, is_pixel_sound, is_tga, is_tga_footer, lacks_its_map, may_be_tga, tga, tga_by_header};
 ghost use Rattle.imagesize_source.specs.Halts.{RunsOrHalts};
-ghost use Rattle.imagesize_source.specs.Layout.{over};
-ghost use Rattle.imagesize_source.specs.State.{Runs, Sound};
+ghost use Rattle.imagesize_source.specs.Layout.{layout_reads};
+ghost use Rattle.imagesize_source.specs.State.{IsSound};
 
-use imagesize_source::ImageResult;
-use imagesize_source::halt::{Halt, read_u16};
+use imagesize_source::readings::{read_bytes, read_u8, read_u16};
 use imagesize_source::source::Source;
-use imagesize_source::util::{Endian, read_bytes, read_u8};
+use imagesize_source::{Endian, Halt};
 use imagesize_types::size::ImageSize;
 
 /// Whether the footer has the signature, or the header alone can be that of a TGA.
-pub fn matches<S: Source>(source: &mut S, head: &[u8; 12]) -> ImageResult<bool>
-    ensures { Runs (S.state source.old) (S.state source.new) result
-        (over (S.state source.old).held.input (is_tga (length (S.state source.old).held.input) head.now)) }
+pub fn matches<S: Source>(source: &mut S, head: &[u8; 12]) -> Result<bool, Halt>
+    ensures { RunsOrHalts (S.state source.old) (S.state source.new) (S.failure source.new) result
+        (layout_reads (S.state source.old).held.input (is_tga (length (S.state source.old).held.input) head.now)) }
 {
     let length = source.told();
     matches_by_length(source, head, length)
@@ -22,10 +21,10 @@ pub fn matches<S: Source>(source: &mut S, head: &[u8; 12]) -> ImageResult<bool>
 
 // Whether an input of this length, with this head, is a TGA.
 #[tactic(auto, using(imagesize_source::proofs::Runs::steps), unfolding(crate::specs::Tga::is_tga))]
-fn matches_by_length<S: Source>(source: &mut S, head: &[u8; 12], length: u64) -> ImageResult<bool>
-    requires { Sound (S.state source.old) }
-    ensures { Runs (S.state source.old) (S.state source.new) result
-        (over (S.state source.old).held.input (is_tga length head.now)) }
+fn matches_by_length<S: Source>(source: &mut S, head: &[u8; 12], length: u64) -> Result<bool, Halt>
+    requires { IsSound (S.state source.old) }
+    ensures { RunsOrHalts (S.state source.old) (S.state source.new) (S.failure source.new) result
+        (layout_reads (S.state source.old).held.input (is_tga length head.now)) }
 {
     if !may_be_tga(head) || length < 18 {
         return Ok(false);
@@ -42,9 +41,9 @@ fn matches_by_length<S: Source>(source: &mut S, head: &[u8; 12], length: u64) ->
 
 // Whether the fields of the colour map and of the pixels agree with each other.
 #[tactic(auto, using(imagesize_source::proofs::Runs::steps))]
-fn has_sound_header<S: Source>(source: &mut S, head: &[u8; 12]) -> ImageResult<bool>
-    ensures { Runs (S.state source.old) (S.state source.new) result
-        (over (S.state source.old).held.input (tga_by_header head.now)) }
+fn has_sound_header<S: Source>(source: &mut S, head: &[u8; 12]) -> Result<bool, Halt>
+    ensures { RunsOrHalts (S.state source.old) (S.state source.new) (S.failure source.new) result
+        (layout_reads (S.state source.old).held.input (tga_by_header head.now)) }
 {
     let map = read_bytes::<S, 4>(source, 3)?;
     let map_bits = read_u8(source, 7)?;
@@ -113,7 +112,7 @@ fn is_pixel_sound(bits: u8, descriptor: u8) -> bool
 #[tactic(auto, using(imagesize_source::proofs::Runs::steps))]
 pub fn size<S: Source>(source: &mut S) -> Result<ImageSize, Halt>
     ensures { RunsOrHalts (S.state source.old) (S.state source.new) (S.failure source.new) result
-        (over (S.state source.old).held.input tga) }
+        (layout_reads (S.state source.old).held.input tga) }
 {
     let width = read_u16(source, 12, Endian::Little)? as usize;
     let height = read_u16(source, 14, Endian::Little)? as usize;

@@ -2,11 +2,11 @@
 ghost use Rattle.std.specs.Prelude.{◌≡◌, ◌%◌, ◌^◌};
 ghost use Rattle.imagesize_fixed.specs.Webp.{is_webp, webp, lossy_webp, lossless_webp, extended_webp};
 ghost use Rattle.imagesize_source.specs.Halts.{RunsOrHalts};
-ghost use Rattle.imagesize_source.specs.Layout.{over};
+ghost use Rattle.imagesize_source.specs.Layout.{layout_reads};
 
-use imagesize_source::halt::{Halt, read_bytes, read_u16, read_u24, read_u32};
+use imagesize_source::readings::{read_bytes, read_u16, read_u24, read_u32};
 use imagesize_source::source::Source;
-use imagesize_source::util::Endian;
+use imagesize_source::{Endian, Halt};
 use imagesize_types::size::ImageSize;
 
 /// Whether a RIFF form of the type `WEBP` stands first.
@@ -26,7 +26,7 @@ pub fn matches(head: &[u8; 12]) -> bool
 #[tactic(auto, using(imagesize_source::proofs::Runs::steps))]
 pub fn size<S: Source>(source: &mut S) -> Result<ImageSize, Halt>
     ensures { RunsOrHalts (S.state source.old) (S.state source.new) (S.failure source.new) result
-        (over (S.state source.old).held.input webp) }
+        (layout_reads (S.state source.old).held.input webp) }
 {
     let [_, _, _, form] = read_bytes::<S, 4>(source, 12)?;
     match form {
@@ -42,7 +42,7 @@ pub fn size<S: Source>(source: &mut S) -> Result<ImageSize, Halt>
 #[tactic(auto, using(imagesize_source::proofs::Runs::steps))]
 fn lossy_size<S: Source>(source: &mut S) -> Result<ImageSize, Halt>
     ensures { RunsOrHalts (S.state source.old) (S.state source.new) (S.failure source.new) result
-        (over (S.state source.old).held.input lossy_webp) }
+        (layout_reads (S.state source.old).held.input lossy_webp) }
 {
     let width = low_14_bits(read_u16(source, 26, Endian::Little)? as u32);
     let height = low_14_bits(read_u16(source, 28, Endian::Little)? as u32);
@@ -54,7 +54,7 @@ fn lossy_size<S: Source>(source: &mut S) -> Result<ImageSize, Halt>
 #[tactic(auto, using(imagesize_source::proofs::Runs::steps))]
 fn lossless_size<S: Source>(source: &mut S) -> Result<ImageSize, Halt>
     ensures { RunsOrHalts (S.state source.old) (S.state source.new) (S.failure source.new) result
-        (over (S.state source.old).held.input lossless_webp) }
+        (layout_reads (S.state source.old).held.input lossless_webp) }
 {
     let dimensions = read_u32(source, 21, Endian::Little)?;
     let width = low_14_bits(dimensions) + 1;
@@ -67,7 +67,7 @@ fn lossless_size<S: Source>(source: &mut S) -> Result<ImageSize, Halt>
 #[tactic(auto, using(imagesize_source::proofs::Runs::steps))]
 fn extended_size<S: Source>(source: &mut S) -> Result<ImageSize, Halt>
     ensures { RunsOrHalts (S.state source.old) (S.state source.new) (S.failure source.new) result
-        (over (S.state source.old).held.input extended_webp) }
+        (layout_reads (S.state source.old).held.input extended_webp) }
 {
     let width = read_u24(source, 24, Endian::Little)? as usize + 1;
     let height = read_u24(source, 27, Endian::Little)? as usize + 1;

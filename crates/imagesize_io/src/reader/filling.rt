@@ -2,7 +2,7 @@
 ghost use Rattle.std.specs.Prelude.{◌≡◌, max, ◌+◌, ◌^◌, ◌<◌, ◌≤◌, length, IfOk, IfErr, OnOk, true, false};
 ghost use Rattle.imagesize_source.specs.Limits.{most_retries};
 ghost use Rattle.imagesize_io.specs.Telling.{counted};
-ghost use Rattle.imagesize_io.specs.Standing.{steady, stand, GivesSome, StopsBy, Keeps, Tries, Fills, ReadsOnce, since, named, given_or, GoesTo, ReadsFrom};
+ghost use Rattle.imagesize_io.specs.Standing.{steady, stand, GivesSome, StopsBy, KeepsCounts, Tries, Fills, ReadsOnce, drift, with_kept_error, given_or, GoesTo, ReadsFrom};
 ghost use Rattle.imagesize_io.specs.StopOf.{ending_of, fault_after, halted};
 
 use crate::progress::Progress;
@@ -80,7 +80,7 @@ fn read_counted<R: Told>(
     requires fits { progress.old.taken + length room.old ≤ progress.old.budget }
     requires stands { progress.old.place ≡ place }
     ensures reads { ReadsOnce progress.old progress.new (R.telling reader.old) (R.telling reader.new)
-        (R.count reader.old) (R.count reader.new) room.new (named progress.new result) }
+        (R.count reader.old) (R.count reader.new) room.new (with_kept_error progress.new result) }
     ensures failed { IfErr result (λ halt. halt ≡ Halt.Failed) }
 {
     let count = read_retrying(reader, &mut progress.retries, &mut progress.fault, room)?;
@@ -103,7 +103,7 @@ fn read_some<R: Told>(
     room: &mut [u8],
 ) -> Result<usize, Halt>
     ensures { ReadsOnce progress.old progress.new (R.telling reader.old) (R.telling reader.new)
-        (R.count reader.old) (R.count reader.new) room.new (named progress.new result) }
+        (R.count reader.old) (R.count reader.new) room.new (with_kept_error progress.new result) }
 {
     let place = progress.place;
     let left = progress.budget - progress.taken;
@@ -126,7 +126,7 @@ fn fill<R: Told>(
 ) -> Result<usize, Halt>
     requires { progress.old.place ≡ place }
     ensures { Fills progress.old progress.new (stand (R.telling reader.old) progress.old) (stand (R.telling reader.new) progress.new)
-        (R.count reader.old) (R.count reader.new) room.new (named progress.new result) }
+        (R.count reader.old) (R.count reader.new) room.new (with_kept_error progress.new result) }
 {
     if room.len() as u64 > progress.budget - progress.taken {
         return fill_behind(reader, progress, room);
@@ -148,7 +148,7 @@ fn fill_behind<R: Told>(
 ) -> Result<usize, Halt>
     requires { progress.old.place < 2 ^ 64 }
     ensures { Fills progress.old progress.new (stand (R.telling reader.old) progress.old) (stand (R.telling reader.new) progress.new)
-        (R.count reader.old) (R.count reader.new) room.new (named progress.new result) }
+        (R.count reader.old) (R.count reader.new) room.new (with_kept_error progress.new result) }
 {
     let count = fill_rest(reader, progress, room)?;
     Ok(count)
@@ -164,7 +164,7 @@ fn fill_rest<R: Told>(
 ) -> Result<usize, Halt>
     requires { progress.old.place < 2 ^ 64 }
     ensures { Fills progress.old progress.new (stand (R.telling reader.old) progress.old) (stand (R.telling reader.new) progress.new)
-        (R.count reader.old) (R.count reader.new) room.new (named progress.new result) }
+        (R.count reader.old) (R.count reader.new) room.new (with_kept_error progress.new result) }
 {
     let mut filled = 0;
     while filled < room.len() {
@@ -182,15 +182,15 @@ fn fill_rest<R: Told>(
 #[inline(always)]
 fn go_to<R: Told>(reader: &mut R, progress: &mut Progress, place: u64) -> Result<bool, Halt>
     ensures stand { GoesTo (stand (R.telling reader.old) progress.old)
-        (stand (R.telling reader.new) progress.new) place progress.new.place (named progress.new result) }
+        (stand (R.telling reader.new) progress.new) place progress.new.place (with_kept_error progress.new result) }
     ensures asked { IfOk result (λ there. there ≡ true → progress.new.place ≡ place) }
     ensures short { IfOk result (λ there. there ≡ true → place ≤ max progress.old.told progress.old.place) }
     ensures far { IfOk result (λ there. there ≡ false → progress.old.told < place) }
     ensures stays { progress.old.place ≡ place → (result ≡ Ok true) × (reader.new ≡ reader.old) }
-    ensures since { since (R.count reader.new) progress.new.taken ≡ since (R.count reader.old) progress.old.taken }
+    ensures since { drift (R.count reader.new) progress.new.taken ≡ drift (R.count reader.old) progress.old.taken }
     ensures taken { progress.new.taken ≡ progress.old.taken }
-    ensures keeps { Keeps progress.old progress.new }
-    ensures stops { IfErr (named progress.new result) (StopsBy progress.new) }
+    ensures keeps { KeepsCounts progress.old progress.new }
+    ensures stops { IfErr (with_kept_error progress.new result) (StopsBy progress.new) }
 {
     if progress.place == place {
         return Ok(true);
@@ -215,7 +215,7 @@ pub(super) fn read_from<R: Told>(
     room: &mut [u8],
 ) -> Result<usize, Halt>
     ensures { ReadsFrom progress.old progress.new (stand (R.telling reader.old) progress.old) (stand (R.telling reader.new) progress.new)
-        (R.count reader.old) (R.count reader.new) place room.new (named progress.new result) }
+        (R.count reader.old) (R.count reader.new) place room.new (with_kept_error progress.new result) }
 {
     if !go_to(reader, progress, place)? {
         return Ok(0);

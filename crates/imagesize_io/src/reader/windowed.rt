@@ -1,7 +1,7 @@
 //! A reading through the window: what it has is not read again, and what follows it is kept.
 ghost use Rattle.std.specs.Prelude.{◌≡◌, ◌+◌, ◌-◌, ◌^◌, ◌<◌, ◌≤◌, ◌≢◌, min, IfOk};
 ghost use Rattle.imagesize_io.specs.ReaderState.{ReadsAt};
-ghost use Rattle.imagesize_io.specs.Standing.{stand, named, ReadsFrom};
+ghost use Rattle.imagesize_io.specs.Standing.{stand, with_kept_error, ReadsFrom};
 
 use super::Ledger;
 use super::filling::read_from;
@@ -21,7 +21,7 @@ fn read_windowed<R: Told>(
     requires { place ≤ ledger.old.progress.told }
     ensures present { IfOk result (λ n. ledger.new.present ≡ min (place + n) (2 ^ 64 - 1)) }
     ensures reads { ReadsAt ledger.old ledger.new (R.telling reader.old) (R.telling reader.new) (R.count reader.old) (R.count reader.new)
-        place room.new (named ledger.new.progress result) }
+        place room.new (with_kept_error ledger.new.progress result) }
 {
     if place < ledger.window.len() as u64 || room.is_empty() {
         let count = read_within(reader, ledger, place, room)?;
@@ -43,7 +43,7 @@ fn read_within<R: Told>(
     room: &mut [u8],
 ) -> Result<usize, Halt>
     ensures { ReadsAt ledger.old ledger.new (R.telling reader.old) (R.telling reader.new) (R.count reader.old) (R.count reader.new)
-        place room.new (named ledger.new.progress result) }
+        place room.new (with_kept_error ledger.new.progress result) }
 {
     let copied = copy_kept(&ledger.window, place, room);
     if copied == room.len() {
@@ -65,7 +65,7 @@ fn read_across<R: Told>(
     room: &mut [u8],
 ) -> Result<usize, Halt>
     ensures { ReadsFrom progress.old progress.new (stand (R.telling reader.old) progress.old) (stand (R.telling reader.new) progress.new)
-        (R.count reader.old) (R.count reader.new) place room.new (named progress.new result) }
+        (R.count reader.old) (R.count reader.new) place room.new (with_kept_error progress.new result) }
 {
     read_from(reader, progress, place, room)
 }
@@ -83,7 +83,7 @@ pub(super) fn read_on<R: Told>(
     ensures present { place ≤ ledger.old.progress.told → IfOk result (λ n. ledger.new.present ≡ min (place + n) (2 ^ 64 - 1)) }
     ensures goes_on { place ≡ ledger.old.present → IfOk result (λ n. ledger.new.present ≡ min (place + n) (2 ^ 64 - 1)) }
     ensures reads { ReadsAt ledger.old ledger.new (R.telling reader.old) (R.telling reader.new) (R.count reader.old) (R.count reader.new)
-        place room.new (named ledger.new.progress result) }
+        place room.new (with_kept_error ledger.new.progress result) }
 {
     if ledger.progress.told < place {
         return read_beyond(reader, ledger, place, room);
@@ -103,7 +103,7 @@ fn read_beyond<R: Told>(
     ensures ends { place ≢ ledger.old.present → (result ≡ Ok 0) × (reader.new ≡ reader.old) × (ledger.new.present ≡ ledger.old.present) }
     ensures goes_on { place ≡ ledger.old.present → IfOk result (λ n. ledger.new.present ≡ min (place + n) (2 ^ 64 - 1)) }
     ensures reads { ReadsAt ledger.old ledger.new (R.telling reader.old) (R.telling reader.new) (R.count reader.old) (R.count reader.new)
-        place room.new (named ledger.new.progress result) }
+        place room.new (with_kept_error ledger.new.progress result) }
 {
     let count = read_above(reader, ledger, place, room)?;
     Ok(count)
@@ -124,7 +124,7 @@ fn read_above<R: Told>(
         × (ledger.new.present ≡ ledger.old.present) }
     ensures goes_on { place ≡ ledger.old.present → IfOk result (λ n. ledger.new.present ≡ min (place + n) (2 ^ 64 - 1)) }
     ensures reads { ReadsAt ledger.old ledger.new (R.telling reader.old) (R.telling reader.new) (R.count reader.old) (R.count reader.new)
-        place room.new (named ledger.new.progress result) }
+        place room.new (with_kept_error ledger.new.progress result) }
 {
     if place != ledger.present {
         return Ok(0);

@@ -1,7 +1,7 @@
 ghost use Rattle.std.specs.Prelude.{◌≡◌, ◌++◌, IfOk, IsSomeAnd, Some, is_ok};
 ghost use Rattle.std.specs.Result.{result_ok};
 ghost use Rattle.imagesize.specs.Meaning.{kind_of, meaning};
-ghost use Rattle.imagesize_probe.specs.Line.{line, ReportsSpans};
+ghost use Rattle.imagesize_probe.specs.Line.{answer_line, ReportsSpans};
 
 use super::{report, report_spans};
 use imagesize::{Stop, Told};
@@ -12,7 +12,7 @@ use std::test::Fail;
 // Reports on the bytes of a slice, from its first one on.
 fn report_bytes(name: &str, bytes: &[u8], written: &mut Vec<u8>) -> io::Result<bool>
     ensures line { IfOk result (λ sized. IsSomeAnd
-        (line name.now (result_ok (kind_of bytes.now 0).answer) (meaning bytes.now 0).answer)
+        (answer_line name.now (result_ok (kind_of bytes.now 0).answer) (meaning bytes.now 0).answer)
         (λ text. written.new.items ≡ written.old.items ++ text)) }
     ensures sized { IfOk result (λ sized. sized ≡ is_ok (meaning bytes.now 0).answer) }
 {

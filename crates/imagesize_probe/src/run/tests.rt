@@ -1,7 +1,7 @@
 ghost use Rattle.std.specs.Prelude.{◌≡◌, ◌++◌, IfOk, IfErr, None, Some, Ok, IfSome, false, length, map};
 ghost use Rattle.std.specs.String.{string_bytes};
 ghost use Rattle.imagesize_probe.specs.Run.{lines_of, is_any_refused, names_in, wants_spans};
-ghost use Rattle.imagesize_probe.specs.Status.{status_of};
+ghost use Rattle.imagesize_probe.specs.Status.{exit_status};
 ghost use Rattle.imagesize_source.specs.declared.error.ImageError.TheVariants.{IoError};
 ghost use Rattle.imagesize_source.specs.declared.error.Reason.TheVariants.{Memory};
 
@@ -153,7 +153,7 @@ fn run_same(
     ensures { IfOk result (λ status. wants_spans (map string_bytes names.now) ≡ false
         → IfSome (lines_of (λ _. Ok bytes.now) (names_in (map string_bytes names.now)))
         (λ text. output.new.items ≡ output.old.items ++ text)
-        × (status ≡ status_of (length (names_in (map string_bytes names.now)))
+        × (status ≡ exit_status (length (names_in (map string_bytes names.now)))
         (is_any_refused (λ _. Ok bytes.now) (names_in (map string_bytes names.now))))) }
 {
     run(alloc, names, &mut Same { alloc, bytes }, output, errors)

@@ -5,15 +5,15 @@ ghost use Rattle.imagesize_source.specs.Agreement.{has_place};
 ghost use Rattle.imagesize_source.specs.Input.{part, span_at};
 ghost use Rattle.imagesize_source.specs.Halts.{with_error};
 ghost use Rattle.imagesize_source.specs.Known.{AllKnown, Lacks, filled, known, parts_state, within};
-ghost use Rattle.imagesize_source.specs.Reading.{part_read, seen};
+ghost use Rattle.imagesize_source.specs.Reading.{part_read, map_answer};
 ghost use Rattle.imagesize_source.specs.State.{Runs};
 ghost use Rattle.imagesize_source.specs.Text.{is_ended};
 ghost use Rattle.imagesize_source.specs.declared.error.ImageError.TheVariants as error;
 ghost use Rattle.imagesize_source.specs.declared.error.Reason.TheVariants as reason;
 
 use super::Source;
-use super::lent::log::SpanLog;
-use super::slice::part_of;
+use super::log::SpanLog;
+use crate::part::part_of;
 use crate::text::{is_closed, text_length};
 use crate::{Halt, ImageError, Reason, Span, Text};
 use std::io::{self, ErrorKind};
@@ -69,6 +69,19 @@ impl<'a> PartsSource<'a> {
             log: SpanLog::new(),
             fault: io::Error::from(ErrorKind::Other),
         }
+    }
+
+    /// Forgets what the readings so far saw and missed, so that others begin anew. The parts stay as they are.
+    #[inline(always)]
+    pub fn forget(&mut self)
+        ensures spans { self.new.spans.now ≡ self.old.spans.now }
+        ensures bytes { self.new.bytes.now ≡ self.old.bytes.now }
+        ensures told { self.new.told ≡ self.old.told }
+        ensures seen { self.new.log.spans ≡ [] }
+        ensures missed { self.new.missed ≡ None }
+    {
+        self.log = SpanLog::new();
+        self.missed = None;
     }
 
     // Records the places of a reading.
@@ -132,7 +145,7 @@ impl<'a> PartsSource<'a> {
         ensures there { IfOk result (λ n. n ≤ self.old.told - place) }
         ensures runs { Runs (parts_state self.old.told self.old.spans.now self.old.bytes.now self.old.log.spans self.old.missed)
             (parts_state self.new.told self.new.spans.now self.new.bytes.now self.new.log.spans self.new.missed)
-            (seen (λ n. take n room.new) (with_error (error.IoError (reason.Fault self.new.fault)) 0 result))
+            (map_answer (λ n. take n room.new) (with_error (error.IoError (reason.Fault self.new.fault)) 0 result))
             (part_read (filled self.old.told self.old.spans.now self.old.bytes.now) place (length room.new)) }
     {
         let wanted = there(self.told, place, room.len());

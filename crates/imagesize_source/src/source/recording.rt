@@ -1,27 +1,94 @@
 //! The bytes of a slice as a source that records which of them its readings saw. It takes nothing, and no reading of
 //! it fails but for want of memory.
-ghost use Rattle.std.specs.Prelude.{◌≡◌, ◌++◌, ◌<◌, IfErr, OnErr, OnOk};
+ghost use Rattle.std.specs.Prelude.{◌≡◌, ◌-◌, ◌^◌, ◌<◌, ◌≤◌, [], ◌++◌, true, min, length, IfErr, OnErr, OnOk};
+ghost use Rattle.imagesize_source.specs.Buffer.{Holds};
 ghost use Rattle.imagesize_source.specs.Input.{span_at};
-ghost use Rattle.imagesize_source.specs.State.{recording_state};
+ghost use Rattle.imagesize_source.specs.State.{recording_state, total};
 ghost use Rattle.imagesize_source.specs.declared.error.ImageError.TheVariants as error;
 ghost use Rattle.imagesize_source.specs.declared.error.Reason.TheVariants as reason;
 
+pub mod buffer;
+
+use self::buffer::SpanBuffer;
 use super::Source;
-use super::slice::{copy_part, text_at};
+use super::log::SpanLog;
+use crate::part::{copy_part, text_at};
 use crate::{Halt, ImageError, Reason, Span, Text};
 use std::alloc::Allocator;
 
-/// A slice that is read by place, and the spans of the readings so far, in their order.
+/// A slice that is read by place, and the spans of the readings so far, in their order. A reading that saw no byte has no
+/// span.
 #[derive(Drop)]
-pub struct RecordingSource<'a, A: Allocator> {
+pub struct RecordingSource<'a, B: SpanBuffer> {
     /// The bytes that are read.
     pub bytes: &'a [u8],
-    /// The part of them that each reading saw; a reading that saw none has no span.
-    pub spans: Vec<Span, A>,
+    /// What the spans are put into.
+    pub buffer: B,
+    /// How many spans there are.
+    pub count: usize,
+    /// All of them.
+    pub log: SpanLog,
+    ghost written: { Holds (B.shown buffer) (B.places buffer) log.spans },
+    ghost counted: { count ≡ min (length log.spans) (2 ^ 64 - 1) },
+    ghost seen: { length log.spans ≤ total log.spans },
 }
 
-impl<A: Allocator> Source for RecordingSource<'_, A> {
-    ghost state = { λ s. recording_state s.bytes.now s.spans.items };
+impl<'a, A: Allocator> RecordingSource<'a, Vec<Span, A>> {
+    /// The source of a slice's bytes that puts spans into memory. It has none so far.
+    pub fn in_memory(alloc: A, bytes: &'a [u8]) -> Self
+        ensures bytes { result.bytes.now ≡ bytes.now }
+        ensures spans { result.log.spans ≡ [] }
+    {
+        RecordingSource {
+            bytes,
+            buffer: Vec::new(alloc),
+            count: 0,
+            log: SpanLog::new(),
+        }
+    }
+}
+
+impl<'a, 'b> RecordingSource<'a, &'b mut [Span]> {
+    /// The source of a slice's bytes that puts spans into a room that is lent. It has none so far.
+    pub fn in_room(bytes: &'a [u8], room: &'b mut [Span]) -> Self
+        ensures bytes { result.bytes.now ≡ bytes.now }
+        ensures same_reference { result.buffer.ghost_name ≡ room.entry.ghost_name }
+        ensures room { result.buffer.now ≡ room.old }
+        ensures spans { result.log.spans ≡ [] }
+    {
+        RecordingSource {
+            bytes,
+            buffer: room,
+            count: 0,
+            log: SpanLog::new(),
+        }
+    }
+}
+
+impl<B: SpanBuffer> RecordingSource<'_, B> {
+    // Records so many bytes from a place on; no byte has no span.
+    #[tactic(auto, unfolding(crate::specs::Input::span_at))]
+    fn record(&mut self, start: u64, count: usize) -> Result<(), Halt>
+        ensures same_home { B.home self.new.buffer ≡ B.home self.old.buffer }
+        ensures bytes { self.new.bytes.now ≡ self.old.bytes.now }
+        ensures recorded { OnOk result (self.new.log.spans ≡ self.old.log.spans ++ span_at start count) }
+        ensures unchanged { OnErr result (self.new.log.spans ≡ self.old.log.spans) }
+        ensures refused { IfErr result (λ halt. (halt ≡ Halt.Failed) × (B.allocates ≡ true) × (0 < count)) }
+    {
+        if count == 0 {
+            return Ok(());
+        }
+        let len = count as u64;
+        let span = Span { start, len };
+        self.buffer.put(self.count, span)?;
+        self.count = self.count.saturating_add(1);
+        self.log = SpanLog::with(&self.log, &span);
+        Ok(())
+    }
+}
+
+impl<B: SpanBuffer> Source for RecordingSource<'_, B> {
+    ghost state = { λ s. recording_state s.bytes.now s.log.spans B.allocates (B.home s.buffer) };
 
     ghost failure = { λ _. error.IoError reason.Memory };
 
@@ -41,7 +108,7 @@ impl<A: Allocator> Source for RecordingSource<'_, A> {
         // The proof needs that the length is below 2^63.
         let _length = self.bytes.len();
         let count = copy_part(self.bytes, place, room);
-        record(&mut self.spans, place, count)?;
+        self.record(place, count)?;
         Ok(count)
     }
 
@@ -49,25 +116,8 @@ impl<A: Allocator> Source for RecordingSource<'_, A> {
         // The proof needs that the length is below 2^63.
         let _length = self.bytes.len();
         let found = text_at(self.bytes, place, text, room.len());
-        record(&mut self.spans, place, found.len())?;
+        self.record(place, found.len())?;
         room[..found.len()].copy_from_slice(found);
         Ok(found.len())
-    }
-}
-
-// Adds the span of so many bytes from a place on; no byte has no span.
-#[tactic(auto, unfolding(crate::specs::Input::span_at))]
-fn record<A: Allocator>(spans: &mut Vec<Span, A>, start: u64, count: usize) -> Result<(), Halt>
-    ensures recorded { OnOk result (spans.new.items ≡ spans.old.items ++ span_at start count) }
-    ensures unchanged { OnErr result (spans.new.items ≡ spans.old.items) }
-    ensures refused { IfErr result (λ halt. (halt ≡ Halt.Failed) × (0 < count)) }
-{
-    if count == 0 {
-        return Ok(());
-    }
-    let len = count as u64;
-    match spans.push(Span { start, len }) {
-        Ok(()) => Ok(()),
-        Err(_) => Err(Halt::Failed),
     }
 }

@@ -1,17 +1,19 @@
 //! OpenEXR, by "OpenEXR File Layout": its attributes up to the first data window that is not reversed.
 ghost use Rattle.std.specs.Prelude.{◌≡◌, ◌+◌, ◌<◌, ◌≤◌, length, IfOk};
 ghost use Rattle.imagesize_source.specs.Chain.{chain_at};
-ghost use Rattle.imagesize_source.specs.Layout.{over};
+ghost use Rattle.imagesize_source.specs.Halts.{RunsOrHalts, with_error};
+ghost use Rattle.imagesize_source.specs.Layout.{layout_reads};
 ghost use Rattle.imagesize_source.specs.Paying.{Nears, Paid};
-ghost use Rattle.imagesize_source.specs.Reading.{seen};
+ghost use Rattle.imagesize_source.specs.Reading.{map_answer};
 ghost use Rattle.imagesize_source.specs.State.{Runs};
-ghost use Rattle.imagesize_texts.specs.Exr.{attribute_said, box_size, exr, exr_attribute, exr_attributes, is_box, is_data_window, is_exr, name_room, side, signed_at, window_size};
+ghost use Rattle.imagesize_texts.specs.Exr.{size_within, exr, exr_attribute, exr_attributes, is_box, is_data_window, is_exr, name_room, window_side, signed_at, window_size};
+ghost use Rattle.imagesize_texts.specs.Walks.{attribute_said};
 ghost use Rattle.imagesize_texts.specs.Texts.{line_read};
 
 use crate::util::{read_null_terminated_string, read_u32_behind};
+use imagesize_source::readings::{place_behind, read_bytes_behind, read_u32};
 use imagesize_source::source::Source;
-use imagesize_source::util::{Endian, place_behind, read_bytes_behind, read_u32};
-use imagesize_source::{ImageError, ImageResult, Reason};
+use imagesize_source::{Endian, Halt};
 use imagesize_types::size::ImageSize;
 
 /// Whether the magic number stands first.
@@ -25,8 +27,9 @@ pub fn matches(head: &[u8; 12]) -> bool
 
 /// The sides of the first data window that is not reversed.
 #[tactic(auto, using(imagesize_source::proofs::Runs::steps))]
-pub fn size<S: Source>(source: &mut S) -> ImageResult<ImageSize>
-    ensures { Runs (S.state source.old) (S.state source.new) result (exr (S.state source.old).held.input) }
+pub fn size<S: Source>(source: &mut S) -> Result<ImageSize, Halt>
+    ensures { RunsOrHalts (S.state source.old) (S.state source.new) (S.failure source.new) result
+        (exr (S.state source.old).held.input) }
 {
     let version = read_u32(source, 4, Endian::Little)?;
     find_window(source, name_room(version))
@@ -44,15 +47,16 @@ fn name_room(version: u32) -> usize
 }
 
 // The size by the attributes, whose names may have so many bytes.
-fn find_window<S: Source>(source: &mut S, names: usize) -> ImageResult<ImageSize>
+fn find_window<S: Source>(source: &mut S, names: usize) -> Result<ImageSize, Halt>
     requires some { 0 < names }
     requires few { names ≤ 256 }
-    ensures { Runs (S.state source.old) (S.state source.new) result
+    ensures { RunsOrHalts (S.state source.old) (S.state source.new) (S.failure source.new) result
         (chain_at (exr_attributes names) (S.state source.old).held.input) }
 {
+    let mut room = [0u8; 256];
     let mut place: u64 = 8;
     loop {
-        match read_attribute(source, place, names)? {
+        match read_attribute(source, place, names, &mut room)? {
             Attribute::Window(size) => return Ok(size),
             Attribute::Other { taken } => place = place_behind(place, taken)?,
         }
@@ -67,22 +71,27 @@ enum Attribute {
     Other { taken: u64 },
 }
 
-// The attribute at a place.
+// The attribute at a place, whose names are read into the room.
 #[tactic(auto, using(imagesize_source::proofs::Runs::steps, imagesize_source::proofs::Runs::missed_before))]
-fn read_attribute<S: Source>(source: &mut S, place: u64, names: usize) -> ImageResult<Attribute>
+fn read_attribute<S: Source>(
+    source: &mut S,
+    place: u64,
+    names: usize,
+    room: &mut [u8; 256],
+) -> Result<Attribute, Halt>
     requires { names ≤ 256 }
     ensures nears { IfOk result (λ found. Nears (S.state source.old) (S.state source.new) place (attribute_said place found)) }
-    ensures runs { Runs (S.state source.old) (S.state source.new) (seen (λ found. attribute_said place found) result)
-        (over (S.state source.old).held.input (exr_attribute names place)) }
+    ensures runs { Runs (S.state source.old) (S.state source.new)
+        (map_answer (λ found. attribute_said place found) (with_error (S.failure source.new) (S.state source.new).frame.budget result))
+        (layout_reads (S.state source.old).held.input (exr_attribute names place)) }
 {
-    let mut room = [0u8; 256];
-    let name = read_name(source, place, names, &mut room)?;
+    let name = read_name(source, place, names, room)?;
     if name.is_empty() {
-        return Err(ImageError::IoError(Reason::DataWindowNotFound));
+        return Err(Halt::DataWindowNotFound);
     }
     let is_window = is_data_window(name);
     let typed = name.len() as u64 + 1;
-    let type_name = read_name_behind(source, place, typed, names, &mut room)?;
+    let type_name = read_name_behind(source, place, typed, names, room)?;
     let is_window = is_window && is_box(type_name);
     let sized = typed + (type_name.len() as u64 + 1);
     let size = read_u32_behind(source, place, sized, Endian::Little)?;
@@ -105,11 +114,12 @@ fn read_name<'a, S: Source>(
     place: u64,
     names: usize,
     room: &'a mut [u8; 256],
-) -> ImageResult<&'a str>
+) -> Result<&'a str, Halt>
     requires { names ≤ 256 }
     ensures bound { IfOk result (λ text. length text.now < names) }
     ensures pays { IfOk result (λ text. Paid (S.state source.old) (S.state source.new) place) }
-    ensures runs { Runs (S.state source.old) (S.state source.new) (seen (λ text. text.now) result)
+    ensures runs { Runs (S.state source.old) (S.state source.new)
+        (map_answer (λ text. text.now) (with_error (S.failure source.new) (S.state source.new).frame.budget result))
         (line_read (S.state source.old).held.input 0 place names) }
 {
     read_null_terminated_string(source, place, &mut room[..names])
@@ -122,10 +132,11 @@ fn read_name_behind<'a, S: Source>(
     distance: u64,
     names: usize,
     room: &'a mut [u8; 256],
-) -> ImageResult<&'a str>
+) -> Result<&'a str, Halt>
     requires { names ≤ 256 }
     ensures bound { IfOk result (λ text. length text.now < names) }
-    ensures runs { Runs (S.state source.old) (S.state source.new) (seen (λ text. text.now) result)
+    ensures runs { Runs (S.state source.old) (S.state source.new)
+        (map_answer (λ text. text.now) (with_error (S.failure source.new) (S.state source.new).frame.budget result))
         (line_read (S.state source.old).held.input 0 (place + distance) names) }
 {
     read_name(source, place.saturating_add(distance), names, room)
@@ -177,9 +188,9 @@ fn signed_at(bytes: &[u8; 16], place: usize) -> i32
 }
 
 // How many there are from a number to another that is no less, with both.
-#[tactic(auto, unfolding(crate::specs::Exr::side))]
+#[tactic(auto, unfolding(crate::specs::Exr::window_side))]
 fn side(low: i32, high: i32) -> Option<usize>
-    ensures { result ≡ side low high }
+    ensures { result ≡ window_side low high }
 {
     if low > high {
         return None;
@@ -190,7 +201,7 @@ fn side(low: i32, high: i32) -> Option<usize>
 // The size of a box of these sides.
 #[inline]
 fn box_size(width: Option<usize>, height: Option<usize>) -> Option<ImageSize>
-    ensures { result ≡ box_size width height }
+    ensures { result ≡ size_within width height }
 {
     match (width, height) {
         (Some(width), Some(height)) => Some(ImageSize { width, height }),

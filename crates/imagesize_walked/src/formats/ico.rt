@@ -2,15 +2,16 @@
 ghost use Rattle.std.specs.Prelude.{◌≡◌, ◌+◌, ◌*◌, Some, ok_or};
 ghost use Rattle.imagesize_walked.specs.Ico.{ico, icon_entries, icon_side, icon_size, is_ico};
 ghost use Rattle.imagesize_types.specs.Largest.{later_largest};
-ghost use Rattle.imagesize_source.specs.declared.error.ImageError.TheVariants as error;
+ghost use Rattle.imagesize_source.specs.declared.halt.Halt.TheVariants as halt;
 ghost use Rattle.imagesize_source.specs.Chain.{chain_at};
-ghost use Rattle.imagesize_source.specs.Layout.{if_there, over};
+ghost use Rattle.imagesize_source.specs.Halts.{RunsOrHalts};
+ghost use Rattle.imagesize_source.specs.Layout.{if_there, layout_reads};
 ghost use Rattle.imagesize_source.specs.Layout.Layout.{«done»};
-ghost use Rattle.imagesize_source.specs.State.{Runs, Sound};
+ghost use Rattle.imagesize_source.specs.State.{IsSound};
 
+use imagesize_source::readings::{read_if_there, read_u16};
 use imagesize_source::source::Source;
-use imagesize_source::util::{Endian, read_if_there, read_u16};
-use imagesize_source::{ImageError, ImageResult};
+use imagesize_source::{Endian, Halt};
 use imagesize_types::size::{ImageSize, area};
 
 /// Whether a directory of icons stands first.
@@ -24,17 +25,17 @@ pub fn matches(head: &[u8; 12]) -> bool
 
 /// The width and the height of the image of greatest area, and of several the last.
 #[tactic(auto, using(imagesize_source::proofs::Runs::steps))]
-pub fn size<S: Source>(source: &mut S) -> ImageResult<ImageSize>
-    ensures { Runs (S.state source.old) (S.state source.new) result (ico (S.state source.old).held.input) }
+pub fn size<S: Source>(source: &mut S) -> Result<ImageSize, Halt>
+    ensures { RunsOrHalts (S.state source.old) (S.state source.new) (S.failure source.new) result (ico (S.state source.old).held.input) }
 {
     let count = read_u16(source, 4, Endian::Little)?;
     largest(source, count)
 }
 
 // The largest of so many images, of which those count whose entries are there.
-fn largest<S: Source>(source: &mut S, count: u16) -> ImageResult<ImageSize>
-    requires { Sound (S.state source.old) }
-    ensures { Runs (S.state source.old) (S.state source.new) result
+fn largest<S: Source>(source: &mut S, count: u16) -> Result<ImageSize, Halt>
+    requires { IsSound (S.state source.old) }
+    ensures { RunsOrHalts (S.state source.old) (S.state source.new) (S.failure source.new) result
         (chain_at (icon_entries count) (S.state source.old).held.input) }
 {
     let mut best: Option<ImageSize> = None;
@@ -49,18 +50,18 @@ fn largest<S: Source>(source: &mut S, count: u16) -> ImageResult<ImageSize>
 
 // The first two bytes of an entry, or none where the input ends before the second.
 #[inline]
-fn read_entry<S: Source>(source: &mut S, index: u16) -> ImageResult<Option<[u8; 2]>>
-    ensures { Runs (S.state source.old) (S.state source.new) result
-        (over (S.state source.old).held.input (if_there (6 + 16 * index) 2 done)) }
+fn read_entry<S: Source>(source: &mut S, index: u16) -> Result<Option<[u8; 2]>, Halt>
+    ensures { RunsOrHalts (S.state source.old) (S.state source.new) (S.failure source.new) result
+        (layout_reads (S.state source.old).held.input (if_there (6 + 16 * index) 2 done)) }
 {
     read_if_there::<S, 2>(source, 6 + 16 * index as u64)
 }
 
 // What is answered at the end of the list.
-fn answer(best: Option<ImageSize>) -> ImageResult<ImageSize>
-    ensures { result ≡ ok_or best error.CorruptedImage }
+fn answer(best: Option<ImageSize>) -> Result<ImageSize, Halt>
+    ensures { result ≡ ok_or best halt.Corrupted }
 {
-    best.ok_or(ImageError::CorruptedImage)
+    best.ok_or(Halt::Corrupted)
 }
 
 // The one of greater area, and of two that are alike the second.

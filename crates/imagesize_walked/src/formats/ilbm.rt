@@ -1,15 +1,16 @@
 //! Interleaved bitmaps, by "EA IFF 85" (forms and chunks) and its supplement "ILBM" (the bitmap header).
 ghost use Rattle.std.specs.Prelude.{◌≡◌, IfOk};
-ghost use Rattle.imagesize_walked.specs.Ilbm.{chunk_bytes, chunk_length, chunk_said, ilbm, ilbm_chunk, is_bitmap_header, is_body, is_ilbm};
+ghost use Rattle.imagesize_walked.specs.Ilbm.{chunk_bytes, chunk_length, ilbm, ilbm_chunk, is_bitmap_header, is_body, is_ilbm};
+ghost use Rattle.imagesize_walked.specs.Walks.{chunk_said};
 ghost use Rattle.imagesize_source.specs.Halts.{RunsOrHalts, with_error};
-ghost use Rattle.imagesize_source.specs.Layout.{over};
+ghost use Rattle.imagesize_source.specs.Layout.{layout_reads};
 ghost use Rattle.imagesize_source.specs.Paying.{Nears};
-ghost use Rattle.imagesize_source.specs.Reading.{seen};
+ghost use Rattle.imagesize_source.specs.Reading.{map_answer};
 ghost use Rattle.imagesize_source.specs.State.{Runs};
 
-use imagesize_source::halt::{Halt, place_behind, read_bytes, read_u16_behind};
+use imagesize_source::readings::{place_behind, read_bytes, read_u16_behind};
 use imagesize_source::source::Source;
-use imagesize_source::util::Endian;
+use imagesize_source::{Endian, Halt};
 use imagesize_types::size::ImageSize;
 
 /// Whether a form of the type `ILBM` or `PBM ` stands first.
@@ -49,8 +50,8 @@ enum Chunk {
 fn read_chunk<S: Source>(source: &mut S, place: u64) -> Result<Chunk, Halt>
     ensures nears { IfOk result (λ found. Nears (S.state source.old) (S.state source.new) place (chunk_said place found)) }
     ensures runs { Runs (S.state source.old) (S.state source.new)
-        (seen (λ found. chunk_said place found) (with_error (S.failure source.new) (S.state source.new).frame.budget result))
-        (over (S.state source.old).held.input (ilbm_chunk place)) }
+        (map_answer (λ found. chunk_said place found) (with_error (S.failure source.new) (S.state source.new).frame.budget result))
+        (layout_reads (S.state source.old).held.input (ilbm_chunk place)) }
 {
     let head = read_bytes::<S, 8>(source, place)?;
     if is_bitmap_header(&head) {

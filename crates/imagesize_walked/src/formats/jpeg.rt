@@ -1,15 +1,16 @@
 //! JPEG, by ITU-T T.81, annex B: its segments up to the first frame that is of the image itself.
 ghost use Rattle.std.specs.Prelude.{◌≡◌, ◌↔◌, ◌<◌, ◌+◌, ◌^◌, IfOk, IsTrue};
-ghost use Rattle.imagesize_walked.specs.Jpeg.{LeadsOn, RoleLeadsOn, depth_behind, is_frame, is_jpeg, is_own_end, is_own_frame, jpeg, jpeg_segment, segment_said};
+ghost use Rattle.imagesize_walked.specs.Jpeg.{is_frame, is_jpeg, is_own_end, is_own_frame, jpeg, jpeg_segment};
+ghost use Rattle.imagesize_walked.specs.Walks.{segment_said, depth_behind, LeadsOn, RoleLeadsOn};
 ghost use Rattle.imagesize_source.specs.Halts.{RunsOrHalts, with_error};
-ghost use Rattle.imagesize_source.specs.Layout.{over};
+ghost use Rattle.imagesize_source.specs.Layout.{layout_reads};
 ghost use Rattle.imagesize_source.specs.Paying.{Nears};
-ghost use Rattle.imagesize_source.specs.Reading.{seen};
+ghost use Rattle.imagesize_source.specs.Reading.{map_answer};
 ghost use Rattle.imagesize_source.specs.State.{Runs};
 
-use imagesize_source::halt::{Halt, place_behind, read_bytes, read_u16_behind};
+use imagesize_source::readings::{place_behind, read_bytes, read_u16_behind};
 use imagesize_source::source::Source;
-use imagesize_source::util::Endian;
+use imagesize_source::{Endian, Halt};
 use imagesize_types::size::ImageSize;
 
 /// Whether the start of the image stands first, and another marker behind it.
@@ -64,7 +65,7 @@ enum Role {
 
 // What a marker is that stands so deep within the image. Most are none of those from C0 to D9.
 #[inline(always)]
-#[tactic(auto, unfolding(crate::specs::Jpeg::LeadsTo))]
+#[tactic(auto, unfolding(crate::specs::Walks::LeadsTo))]
 fn role_of(depth: u64, marker: u8) -> Role
     requires { depth + 1 < 2 ^ 64 }
     ensures frame { (result ≡ Role.Frame) ↔ IsTrue (is_own_frame depth marker) }
@@ -93,8 +94,8 @@ fn read_segment<S: Source>(source: &mut S, place: u64, depth: u64) -> Result<Seg
     ensures nears { IfOk result (λ found. Nears (S.state source.old) (S.state source.new) place (segment_said place found)) }
     ensures other { IfOk result (LeadsOn depth) }
     ensures runs { Runs (S.state source.old) (S.state source.new)
-        (seen (λ found. segment_said place found) (with_error (S.failure source.new) (S.state source.new).frame.budget result))
-        (over (S.state source.old).held.input (jpeg_segment depth place)) }
+        (map_answer (λ found. segment_said place found) (with_error (S.failure source.new) (S.state source.new).frame.budget result))
+        (layout_reads (S.state source.old).held.input (jpeg_segment depth place)) }
 {
     let [first, marker] = read_bytes::<S, 2>(source, place)?;
     if first != 0xFF {

@@ -1,17 +1,17 @@
 //! TIFF, by "TIFF Revision 6.0" (section 2), and BigTIFF, by "The BigTIFF File Format".
-ghost use Rattle.std.specs.Prelude.{◌≡◌, ◌+◌, ◌*◌, ◌-◌, ◌^◌, ◌≤◌, ◌==◌, if◌then◌else◌, min, take};
-ghost use Rattle.imagesize_walked.specs.Tiff.{byte_order, count_bytes, directory_at, entry_bytes, head_bytes, is_tiff, field_type_in, field_type_of, size_of_sides, stated_place, tag_in, tiff, tiff_entries, tiff_entry, tiff_head, tiff_header, tiff_value, value_of, version_of, whole_value};
+ghost use Rattle.std.specs.Prelude.{◌≡◌, ◌+◌, ◌≤◌, ◌==◌, if◌then◌else◌, take, length};
+ghost use Rattle.imagesize_walked.specs.Tiff.{StandsFor, byte_order, count_bytes, directory_at, head_bytes, is_tiff, field_type_in, field_type_of, size_if_known, stated_place, tag_in, tiff, tiff_entries, tiff_entry, tiff_head, tiff_header, tiff_value, value_bytes, value_of, version_of};
 ghost use Rattle.imagesize_source.specs.Chain.{chain_at};
-ghost use Rattle.imagesize_source.specs.Layout.{over};
-ghost use Rattle.imagesize_source.specs.Numbers.{number};
+ghost use Rattle.imagesize_source.specs.Halts.{RunsOrHalts};
+ghost use Rattle.imagesize_source.specs.Layout.{layout_reads};
 ghost use Rattle.imagesize_source.specs.Reading.{number_read};
-ghost use Rattle.imagesize_source.specs.State.{Runs, Sound};
+ghost use Rattle.imagesize_source.specs.State.{IsSound};
 
-use imagesize_source::source::Source;
-use imagesize_source::util::{
-    Endian, read_bytes, read_if_there_behind, read_u16, read_u32, read_u64,
+use imagesize_source::readings::{
+    read_bytes, read_exact_at, read_u16, read_u32, read_u64, read_whole_behind,
 };
-use imagesize_source::{ImageError, ImageResult, Reason};
+use imagesize_source::source::Source;
+use imagesize_source::{Endian, Halt};
 use imagesize_types::size::ImageSize;
 
 /// Whether the order of the bytes stands first, and the version behind it.
@@ -28,8 +28,8 @@ pub fn matches(head: &[u8; 12]) -> bool
 
 /// The width and the height, by the first entry of the first directory behind which both are known.
 #[tactic(auto, using(imagesize_source::proofs::Runs::steps))]
-pub fn size<S: Source>(source: &mut S) -> ImageResult<ImageSize>
-    ensures { Runs (S.state source.old) (S.state source.new) result (tiff (S.state source.old).held.input) }
+pub fn size<S: Source>(source: &mut S) -> Result<ImageSize, Halt>
+    ensures { RunsOrHalts (S.state source.old) (S.state source.new) (S.failure source.new) result (tiff (S.state source.old).held.input) }
 {
     let header = read_header(source)?;
     let count = read_count(source, &header)?;
@@ -53,9 +53,9 @@ struct Header {
 
 // The header.
 #[tactic(auto, using(imagesize_source::proofs::Runs::steps, imagesize_source::proofs::Layouts::binding), unfolding(crate::specs::Tiff::tiff_header))]
-fn read_header<S: Source>(source: &mut S) -> ImageResult<Header>
-    ensures { Runs (S.state source.old) (S.state source.new) result
-        (over (S.state source.old).held.input tiff_header) }
+fn read_header<S: Source>(source: &mut S) -> Result<Header, Halt>
+    ensures { RunsOrHalts (S.state source.old) (S.state source.new) (S.failure source.new) result
+        (layout_reads (S.state source.old).held.input tiff_header) }
 {
     let mark = read_bytes::<S, 2>(source, 0)?;
     let order = byte_order(mark)?;
@@ -67,35 +67,35 @@ fn read_header<S: Source>(source: &mut S) -> ImageResult<Header>
 
 // The order of all numbers, by the first two bytes.
 #[inline(always)]
-fn byte_order(mark: [u8; 2]) -> ImageResult<Endian>
-    ensures { result ≡ byte_order mark }
+fn byte_order(mark: [u8; 2]) -> Result<Endian, Halt>
+    ensures { StandsFor result (byte_order mark) }
 {
     match mark {
         [b'I', b'I'] => Ok(Endian::Little),
         [b'M', b'M'] => Ok(Endian::Big),
-        _ => Err(ImageError::IoError(Reason::InvalidTiffHeader)),
+        _ => Err(Halt::InvalidTiffHeader),
     }
 }
 
 // The format, by the number behind the order.
 #[inline(always)]
-fn version_of(number: u16) -> ImageResult<Version>
-    ensures { result ≡ version_of number }
+fn version_of(number: u16) -> Result<Version, Halt>
+    ensures { StandsFor result (version_of number) }
 {
     match number {
         42 => Ok(Version::Tiff),
         43 => Ok(Version::BigTiff),
-        _ => Err(ImageError::IoError(Reason::InvalidTiffHeader)),
+        _ => Err(Halt::InvalidTiffHeader),
     }
 }
 
 // The header whose directory stands at a place, which is never 0.
 #[inline(always)]
-fn directory_at(order: Endian, version: Version, place: u64) -> ImageResult<Header>
-    ensures { result ≡ directory_at order version place }
+fn directory_at(order: Endian, version: Version, place: u64) -> Result<Header, Halt>
+    ensures { StandsFor result (directory_at order version place) }
 {
     if place == 0 {
-        return Err(ImageError::IoError(Reason::InvalidIfdOffset));
+        return Err(Halt::InvalidIfdOffset);
     }
     Ok(Header {
         order,
@@ -106,9 +106,9 @@ fn directory_at(order: Endian, version: Version, place: u64) -> ImageResult<Head
 
 // The place of the first directory, as it is stated.
 #[tactic(auto, using(imagesize_source::proofs::Runs::steps), unfolding(crate::specs::Tiff::stated_place))]
-fn read_place<S: Source>(source: &mut S, order: Endian, version: Version) -> ImageResult<u64>
-    ensures { Runs (S.state source.old) (S.state source.new) result
-        (over (S.state source.old).held.input (stated_place order version)) }
+fn read_place<S: Source>(source: &mut S, order: Endian, version: Version) -> Result<u64, Halt>
+    ensures { RunsOrHalts (S.state source.old) (S.state source.new) (S.failure source.new) result
+        (layout_reads (S.state source.old).held.input (stated_place order version)) }
 {
     match version {
         Version::Tiff => {
@@ -121,15 +121,15 @@ fn read_place<S: Source>(source: &mut S, order: Endian, version: Version) -> Ima
 
 // The same of BigTIFF, behind the size of a place and two bytes that are zero.
 #[tactic(auto, using(imagesize_source::proofs::Runs::steps), unfolding(crate::specs::Tiff::stated_place))]
-fn read_big_place<S: Source>(source: &mut S, order: Endian) -> ImageResult<u64>
-    ensures { Runs (S.state source.old) (S.state source.new) result
-        (over (S.state source.old).held.input (stated_place order Version.BigTiff)) }
+fn read_big_place<S: Source>(source: &mut S, order: Endian) -> Result<u64, Halt>
+    ensures { RunsOrHalts (S.state source.old) (S.state source.new) (S.failure source.new) result
+        (layout_reads (S.state source.old).held.input (stated_place order Version.BigTiff)) }
 {
     if read_u16(source, 4, order)? != 8 {
-        return Err(ImageError::IoError(Reason::BigTiffOffsetSize));
+        return Err(Halt::BigTiffOffsetSize);
     }
     if read_u16(source, 6, order)? != 0 {
-        return Err(ImageError::IoError(Reason::InvalidBigTiffHeader));
+        return Err(Halt::InvalidBigTiffHeader);
     }
     let place = read_u64(source, 8, order)?;
     Ok(place)
@@ -137,8 +137,8 @@ fn read_big_place<S: Source>(source: &mut S, order: Endian) -> ImageResult<u64>
 
 // How many entries the directory says that it has.
 #[tactic(auto, using(imagesize_source::proofs::Runs::steps))]
-fn read_count<S: Source>(source: &mut S, header: &Header) -> ImageResult<u64>
-    ensures { Runs (S.state source.old) (S.state source.new) result
+fn read_count<S: Source>(source: &mut S, header: &Header) -> Result<u64, Halt>
+    ensures { RunsOrHalts (S.state source.old) (S.state source.new) (S.failure source.new) result
         (number_read (S.state source.old).held.input header.now.order header.now.directory (count_bytes header.now.version)) }
 {
     match header.version {
@@ -151,31 +151,46 @@ fn read_count<S: Source>(source: &mut S, header: &Header) -> ImageResult<u64>
 }
 
 // The size by the first so many entries of the directory.
-fn find_size<S: Source>(source: &mut S, header: &Header, count: u64) -> ImageResult<ImageSize>
-    requires { Sound (S.state source.old) }
-    ensures { Runs (S.state source.old) (S.state source.new) result
+fn find_size<S: Source>(source: &mut S, header: &Header, count: u64) -> Result<ImageSize, Halt>
+    requires { IsSound (S.state source.old) }
+    ensures { RunsOrHalts (S.state source.old) (S.state source.new) (S.failure source.new) result
         (chain_at (tiff_entries header.now count) (S.state source.old).held.input) }
 {
+    match header.version {
+        Version::Tiff => find_size_of::<S, 8, 4>(source, header, count),
+        Version::BigTiff => find_size_of::<S, 12, 8>(source, header, count),
+    }
+}
+
+// The same, by how many bytes the head and the value of an entry have. A place above 2^64 - 1 is behind the end of every
+// input.
+#[inline(always)]
+fn find_size_of<S: Source, const HEAD: usize, const VALUE: usize>(
+    source: &mut S,
+    header: &Header,
+    count: u64,
+) -> Result<ImageSize, Halt>
+    requires sound { IsSound (S.state source.old) }
+    requires head { HEAD ≡ head_bytes header.now.version }
+    requires value { VALUE ≡ value_bytes header.now.version }
+    ensures { RunsOrHalts (S.state source.old) (S.state source.new) (S.failure source.new) result
+        (chain_at (tiff_entries header.now count) (S.state source.old).held.input) }
+{
+    let mut place = header.directory.saturating_add(count_bytes(header.version));
     let mut width: Option<u32> = None;
     let mut height: Option<u32> = None;
-    for index in 0..count {
-        let entry = read_entry(source, header, entry_place(header, index))?;
+    for _ in 0..count {
+        let entry = read_entry::<S, HEAD, VALUE>(source, header, place)?;
         width = side_behind(0x100, width, &entry);
         height = side_behind(0x101, height, &entry);
         if let Some(size) = size_of_sides(width, height) {
             return Ok(size);
         }
+        place = place
+            .saturating_add(HEAD as u64)
+            .saturating_add(VALUE as u64);
     }
-    Err(ImageError::IoError(Reason::NoDimensionsInIfd))
-}
-
-// Where an entry stands. A place above 2^64 - 1 is behind the end of every input.
-#[inline(always)]
-fn entry_place(header: &Header, index: u64) -> u64
-    ensures { result ≡ min (header.now.directory + count_bytes header.now.version + entry_bytes header.now.version * index) (2 ^ 64 - 1) }
-{
-    let first = header.directory.saturating_add(count_bytes(header.version));
-    first.saturating_add(index.saturating_mul(entry_bytes(header.version)))
+    Err(Halt::NoDimensionsInIfd)
 }
 
 #[inline(always)]
@@ -185,16 +200,6 @@ fn count_bytes(version: Version) -> u64
     match version {
         Version::Tiff => 2,
         Version::BigTiff => 8,
-    }
-}
-
-#[inline(always)]
-fn entry_bytes(version: Version) -> u64
-    ensures { result ≡ entry_bytes version }
-{
-    match version {
-        Version::Tiff => 12,
-        Version::BigTiff => 20,
     }
 }
 
@@ -216,7 +221,7 @@ fn side_behind(tag: u16, side: Option<u32>, entry: &Entry) -> Option<u32>
 // The size, where both sides are known.
 #[inline(always)]
 fn size_of_sides(width: Option<u32>, height: Option<u32>) -> Option<ImageSize>
-    ensures { result ≡ size_of_sides width height }
+    ensures { result ≡ size_if_known width height }
 {
     match (width, height) {
         (Some(width), Some(height)) => Some(ImageSize {
@@ -227,76 +232,70 @@ fn size_of_sides(width: Option<u32>, height: Option<u32>) -> Option<ImageSize>
     }
 }
 
-// The entry at a place. Its field type is judged before its value is read.
+// The entry at a place, by how many bytes its head and its value have. Its field type is judged before its value is
+// read.
 #[inline(always)]
 #[tactic(auto, using(imagesize_source::proofs::Runs::steps, imagesize_source::proofs::Layouts::binding), unfolding(crate::specs::Tiff::tiff_entry))]
-fn read_entry<S: Source>(source: &mut S, header: &Header, place: u64) -> ImageResult<Entry>
-    ensures { Runs (S.state source.old) (S.state source.new) result
-        (over (S.state source.old).held.input (tiff_entry header.now place)) }
+fn read_entry<S: Source, const HEAD: usize, const VALUE: usize>(
+    source: &mut S,
+    header: &Header,
+    place: u64,
+) -> Result<Entry, Halt>
+    requires head { HEAD ≡ head_bytes header.now.version }
+    requires value { VALUE ≡ value_bytes header.now.version }
+    ensures { RunsOrHalts (S.state source.old) (S.state source.new) (S.failure source.new) result
+        (layout_reads (S.state source.old).held.input (tiff_entry header.now place)) }
 {
-    let head = read_head(source, header.version, place)?;
+    let head = read_head::<S, HEAD>(source, header.version, place)?;
     let field_type = field_type_of(header.version, field_type_in(header.order, head))?;
-    let value = read_value(source, header.version, place)?;
+    let value = read_value::<S, VALUE>(source, header.version, place, HEAD as u64)?;
     Ok(Entry {
         tag: tag_in(header.order, head),
         value: value_of(header.order, field_type, value),
     })
 }
 
-// The first four bytes of an entry's head, which is read whole.
+// The head of an entry, of whose bytes the first four count.
 #[inline(always)]
 #[tactic(auto, using(imagesize_source::proofs::Runs::steps), unfolding(crate::specs::Tiff::tiff_head))]
-fn read_head<S: Source>(source: &mut S, version: Version, place: u64) -> ImageResult<[u8; 4]>
-    ensures { Runs (S.state source.old) (S.state source.new) result
-        (over (S.state source.old).held.input (tiff_head version place)) }
+fn read_head<S: Source, const HEAD: usize>(
+    source: &mut S,
+    version: Version,
+    place: u64,
+) -> Result<[u8; 4], Halt>
+    requires { HEAD ≡ head_bytes version }
+    ensures { RunsOrHalts (S.state source.old) (S.state source.new) (S.failure source.new) result
+        (layout_reads (S.state source.old).held.input (tiff_head version place)) }
 {
-    match version {
-        Version::Tiff => {
-            let head = read_bytes::<S, 8>(source, place)?;
-            Ok(first_four(head))
-        }
-        Version::BigTiff => {
-            let head = read_bytes::<S, 12>(source, place)?;
-            Ok(first_four(head))
-        }
-    }
+    let mut head = [0u8; HEAD];
+    read_exact_at(source, place, &mut head)?;
+    Ok(first_four(&head))
 }
 
-// The first four bytes of the value of the entry at a place, which is read whole.
+// The value of an entry, of whose bytes the first four count: the end of the input must not cut it.
 #[inline(always)]
 #[tactic(auto, using(imagesize_source::proofs::Runs::steps), unfolding(crate::specs::Tiff::tiff_value))]
-fn read_value<S: Source>(source: &mut S, version: Version, place: u64) -> ImageResult<[u8; 4]>
-    ensures { Runs (S.state source.old) (S.state source.new) result
-        (over (S.state source.old).held.input (tiff_value version (place + head_bytes version))) }
+fn read_value<S: Source, const VALUE: usize>(
+    source: &mut S,
+    version: Version,
+    place: u64,
+    distance: u64,
+) -> Result<[u8; 4], Halt>
+    requires { VALUE ≡ value_bytes version }
+    ensures { RunsOrHalts (S.state source.old) (S.state source.new) (S.failure source.new) result
+        (layout_reads (S.state source.old).held.input (tiff_value version (place + distance))) }
 {
-    match version {
-        Version::Tiff => {
-            let value = whole_value(read_if_there_behind::<S, 4>(source, place, 8)?)?;
-            Ok(value)
-        }
-        Version::BigTiff => {
-            let value = whole_value(read_if_there_behind::<S, 8>(source, place, 12)?)?;
-            Ok(value)
-        }
+    let mut value = [0u8; VALUE];
+    if !read_whole_behind(source, place, distance, &mut value)? {
+        return Err(Halt::InvalidIfdValueLength);
     }
-}
-
-// The first four bytes of a value that the end of the input does not cut.
-#[inline(always)]
-fn whole_value<const N: usize>(found: Option<[u8; N]>) -> ImageResult<[u8; 4]>
-    requires { 4 ≤ N }
-    ensures { result ≡ whole_value found.entry }
-{
-    match found {
-        Some(value) => Ok(first_four(value)),
-        None => Err(ImageError::IoError(Reason::InvalidIfdValueLength)),
-    }
+    Ok(first_four(&value))
 }
 
 #[inline(always)]
-fn first_four<const N: usize>(bytes: [u8; N]) -> [u8; 4]
-    requires { 4 ≤ N }
-    ensures { result ≡ take 4 bytes.entry }
+fn first_four(bytes: &[u8]) -> [u8; 4]
+    requires { 4 ≤ length bytes.now }
+    ensures { result ≡ take 4 bytes.now }
 {
     [bytes[0], bytes[1], bytes[2], bytes[3]]
 }
@@ -306,7 +305,7 @@ fn tag_in(order: Endian, head: [u8; 4]) -> u16
     ensures { result ≡ tag_in order head }
 {
     let [first, second, _, _] = head;
-    number_of_two(order, [first, second])
+    order.u16([first, second])
 }
 
 #[inline(always)]
@@ -314,7 +313,7 @@ fn field_type_in(order: Endian, head: [u8; 4]) -> u16
     ensures { result ≡ field_type_in order head }
 {
     let [_, _, first, second] = head;
-    number_of_two(order, [first, second])
+    order.u16([first, second])
 }
 
 // What an entry's value is, by its field type.
@@ -330,16 +329,16 @@ enum FieldType {
 
 // What the value of a field type is. Three field types are those of BigTIFF alone.
 #[inline(always)]
-fn field_type_of(version: Version, field_type: u16) -> ImageResult<FieldType>
-    ensures { result ≡ field_type_of version field_type }
+fn field_type_of(version: Version, field_type: u16) -> Result<FieldType, Halt>
+    ensures { StandsFor result (field_type_of version field_type) }
 {
     match (field_type, version) {
         (3 | 8, _) => Ok(FieldType::Short),
         (4 | 9 | 11 | 13, _) => Ok(FieldType::Long),
         (1 | 2 | 5 | 6 | 7 | 10 | 12, _) => Ok(FieldType::Other),
         (16..=18, Version::BigTiff) => Ok(FieldType::Other),
-        (16..=18, Version::Tiff) => Err(ImageError::IoError(Reason::IfdTypeForStandardTiff)),
-        _ => Err(ImageError::IoError(Reason::InvalidIfdType)),
+        (16..=18, Version::Tiff) => Err(Halt::IfdTypeForStandardTiff),
+        _ => Err(Halt::InvalidIfdType),
     }
 }
 
@@ -350,30 +349,8 @@ fn value_of(order: Endian, field_type: FieldType, value: [u8; 4]) -> Option<u32>
 {
     let [first, second, _, _] = value;
     match field_type {
-        FieldType::Short => Some(number_of_two(order, [first, second]) as u32),
-        FieldType::Long => Some(number_of_four(order, value)),
+        FieldType::Short => Some(order.u16([first, second]) as u32),
+        FieldType::Long => Some(order.u32(value)),
         FieldType::Other => None,
-    }
-}
-
-#[inline(always)]
-#[tactic(auto, using(imagesize_source::proofs::Numbers::little_2, imagesize_source::proofs::Numbers::big_2))]
-fn number_of_two(order: Endian, bytes: [u8; 2]) -> u16
-    ensures { result ≡ number order bytes }
-{
-    match order {
-        Endian::Little => u16::from_le_bytes(bytes),
-        Endian::Big => u16::from_be_bytes(bytes),
-    }
-}
-
-#[inline(always)]
-#[tactic(auto, using(imagesize_source::proofs::Numbers::little_4, imagesize_source::proofs::Numbers::big_4))]
-fn number_of_four(order: Endian, bytes: [u8; 4]) -> u32
-    ensures { result ≡ number order bytes }
-{
-    match order {
-        Endian::Little => u32::from_le_bytes(bytes),
-        Endian::Big => u32::from_be_bytes(bytes),
     }
 }

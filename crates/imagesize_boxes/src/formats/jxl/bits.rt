@@ -1,11 +1,11 @@
 //! Bits of bytes, the lowest of a byte first, by ISO/IEC 18181-1, annex B.
-ghost use Rattle.std.specs.Prelude.{◌≡◌, ℕ, ◌+◌, ◌*◌, ◌%◌, ◌^◌, ◌<◌, ◌≤◌};
+ghost use Rattle.std.specs.Prelude.{◌≡◌, ℕ, ◌+◌, ◌*◌, ◌%◌, ◌^◌, ◌<◌, ◌≤◌, ok_or};
 ghost use Rattle.imagesize_boxes.specs.Fields.{field_in};
-ghost use Rattle.imagesize_source.specs.declared.util.Endian.TheVariants as endian;
+ghost use Rattle.imagesize_source.specs.declared.error.ImageError.TheVariants as error;
+ghost use Rattle.imagesize_source.specs.declared.endian.Endian.TheVariants as endian;
 ghost use Rattle.imagesize_source.specs.Numbers.{number};
 
 use super::front::MOST;
-use imagesize_source::{ImageError, ImageResult};
 
 // At most 128 bits, as the lowest of a number.
 #[derive(Clone, Copy)]
@@ -30,20 +30,20 @@ impl Bits {
         }
     }
 
-    // The number of so many bits from one on.
+    // The number of so many bits from one on, where all are there.
     #[inline(always)]
-    pub(super) fn field(&self, from: u32, count: u32) -> ImageResult<u32>
+    pub(super) fn field(&self, from: u32, count: u32) -> Option<u32>
         requires some { 0 < count }
         requires few { count ≤ 30 }
         requires near { from ≤ 1000 }
-        ensures { result ≡ field_in self.now.number self.now.count from count }
+        ensures { ok_or result error.CorruptedImage ≡ field_in self.now.number self.now.count from count }
     {
         if from + count > self.count {
-            return Err(ImageError::CorruptedImage);
+            return None;
         }
         let behind = lowest_64(self.number >> from);
         let mask = (1u64 << count) - 1;
-        Ok((behind & mask) as u32)
+        Some((behind & mask) as u32)
     }
 }
 

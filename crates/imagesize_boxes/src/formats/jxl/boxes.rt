@@ -1,28 +1,32 @@
 //! The boxes of JPEG XL, by ISO/IEC 18181-2, and the bytes of a codestream in them.
-ghost use Rattle.std.specs.Prelude.{◌≡◌, ◌+◌, ◌<◌, ◌≤◌, ◌++◌, length, drop, take, codes, IfOk};
-ghost use Rattle.imagesize_boxes.specs.Jxl.{FitsBehind, IsFurther, IsHead, box_checked, box_content, box_head, box_room, box_said, codestream_box, jxl_box, jxl_chain, partial_box, partial_said, piece_at, said_behind};
+ghost use Rattle.std.specs.Prelude.{◌≡◌, ℕ, ◌+◌, ◌<◌, ◌≤◌, ◌++◌, length, drop, take, codes, IfOk};
+ghost use Rattle.imagesize_boxes.specs.Jxl.{box_checked, box_content, box_head, box_room, codestream_box, jxl_box, jxl_chain, partial_box, partial_said, piece_at, said_behind};
+ghost use Rattle.imagesize_boxes.specs.Walks.{box_said, IsFurther, FitsBehind, IsHead};
 ghost use Rattle.imagesize_types.specs.Head.{begins};
 ghost use Rattle.imagesize_source.specs.Chain.{Decided, chain_at};
-ghost use Rattle.imagesize_source.specs.Layout.{over};
+ghost use Rattle.imagesize_source.specs.Halts.{RunsOrHalts, with_error};
+ghost use Rattle.imagesize_source.specs.Layout.{layout_reads};
 ghost use Rattle.imagesize_source.specs.Layout.Layout.{«done»};
 ghost use Rattle.imagesize_source.specs.Numbers.{number};
 ghost use Rattle.imagesize_source.specs.Paying.{Nears, ahead_of};
-ghost use Rattle.imagesize_source.specs.Reading.{number_read, part_read, seen};
-ghost use Rattle.imagesize_source.specs.State.{Runs, Sound};
-ghost use Rattle.imagesize_source.specs.declared.util.Endian.TheVariants as endian;
+ghost use Rattle.imagesize_source.specs.Reading.{number_read, part_read, map_answer};
+ghost use Rattle.imagesize_source.specs.State.{Runs, IsSound};
+ghost use Rattle.imagesize_source.specs.declared.error.ImageError.{ImageError};
+ghost use Rattle.imagesize_source.specs.declared.endian.Endian.TheVariants as endian;
 
 use super::front::MOST;
 use arrayvec::ArrayVec;
+use imagesize_source::readings::{read_bytes, read_bytes_behind, read_u64};
 use imagesize_source::source::Source;
-use imagesize_source::util::{Endian, read_bytes, read_bytes_behind, read_part, read_u64};
-use imagesize_source::{ImageError, ImageResult, Reason};
+use imagesize_source::{Endian, Halt};
 
 /// The first bytes of a codestream, or a piece of them.
 pub(super) type Codestream = ArrayVec<u8, MOST>;
 
 // The first bytes of the codestream in the boxes behind the signature box.
-pub(super) fn read_codestream<S: Source>(source: &mut S) -> ImageResult<Codestream>
-    ensures { Runs (S.state source.old) (S.state source.new) (seen (λ bytes. bytes.items) result)
+pub(super) fn read_codestream<S: Source>(source: &mut S) -> Result<Codestream, Halt>
+    ensures { Runs (S.state source.old) (S.state source.new)
+        (map_answer (λ bytes. bytes.items) (with_error (S.failure source.new) (S.state source.new).frame.budget result))
         (chain_at jxl_chain (S.state source.old).held.input) }
 {
     let mut codestream = Codestream::new();
@@ -59,12 +63,13 @@ struct BoxHead {
 
 // The box at a place, behind boxes with these bytes of the codestream.
 #[tactic(auto, using(imagesize_source::proofs::Runs::steps, imagesize_source::proofs::Layouts::binding))]
-fn read_box<S: Source>(source: &mut S, place: u64, held: &Codestream) -> ImageResult<Found>
+fn read_box<S: Source>(source: &mut S, place: u64, held: &Codestream) -> Result<Found, Halt>
     requires { length held.now.items ≤ 16 }
     ensures nears { IfOk result (λ found. Nears (S.state source.old) (S.state source.new) place (box_said found)) }
     ensures fits { IfOk result (λ found. FitsBehind held.now.items found) }
-    ensures runs { Runs (S.state source.old) (S.state source.new) (seen (λ found. box_said found) result)
-        (over (S.state source.old).held.input (jxl_box held.now.items place)) }
+    ensures runs { Runs (S.state source.old) (S.state source.new)
+        (map_answer (λ found. box_said found) (with_error (S.failure source.new) (S.state source.new).frame.budget result))
+        (layout_reads (S.state source.old).held.input (jxl_box held.now.items place)) }
 {
     let head = read_head(source, place)?;
     read_content(source, place, &head, held)
@@ -72,11 +77,11 @@ fn read_box<S: Source>(source: &mut S, place: u64, held: &Codestream) -> ImageRe
 
 // The head of the box at a place.
 #[tactic(auto, using(imagesize_source::proofs::Runs::steps), unfolding(crate::specs::Jxl::box_head))]
-fn read_head<S: Source>(source: &mut S, place: u64) -> ImageResult<BoxHead>
+fn read_head<S: Source>(source: &mut S, place: u64) -> Result<BoxHead, Halt>
     ensures nears { IfOk result (λ head. ahead_of (S.state source.new) (place + 1) < ahead_of (S.state source.old) place) }
     ensures is { IfOk result (λ head. IsHead place head) }
-    ensures runs { Runs (S.state source.old) (S.state source.new) result
-        (over (S.state source.old).held.input (box_head place)) }
+    ensures runs { RunsOrHalts (S.state source.old) (S.state source.new) (S.failure source.new) result
+        (layout_reads (S.state source.old).held.input (box_head place)) }
 {
     let head = read_bytes::<S, 8>(source, place)?;
     let tag = tag(&head);
@@ -121,25 +126,29 @@ fn tag(head: &[u8; 8]) -> [u8; 4]
 }
 
 // The size of eight bytes behind the first eight of a box.
-fn read_long_size<S: Source>(source: &mut S, place: u64) -> ImageResult<u64>
-    ensures { Runs (S.state source.old) (S.state source.new) result
+fn read_long_size<S: Source>(source: &mut S, place: u64) -> Result<u64, Halt>
+    ensures { RunsOrHalts (S.state source.old) (S.state source.new) (S.failure source.new) result
         (number_read (S.state source.old).held.input endian.Big (place + 8) 8) }
 {
     read_u64(source, place.saturating_add(8), Endian::Big)
 }
 
 // The head, where the box ends at 2^64-1 at the latest and not before its head does.
-fn checked(place: u64, head: BoxHead) -> ImageResult<BoxHead>
+#[tactic(auto, using(std::proofs::lemmas::Nat::be_bytes_4))]
+fn checked(place: u64, head: BoxHead) -> Result<BoxHead, Halt>
     requires { head.length ≤ 16 }
     ensures is { IfOk result (λ found. IsHead place found) }
-    ensures answer { result ≡ box_checked place head }
+    ensures answer { (failure : ImageError) (budget : ℕ) → with_error failure budget result ≡ box_checked place head }
 {
     if place.checked_add(head.size).is_none() {
-        return Err(ImageError::CorruptedImage);
+        return Err(Halt::Corrupted);
     }
     if head.size != 0 && head.size < head.length {
         let BoxHead { tag, size, .. } = head;
-        return Err(ImageError::IoError(Reason::InvalidJxlBoxSize { tag, size }));
+        return Err(Halt::InvalidJxlBoxSize {
+            size: size as u8,
+            tag: u32::from_be_bytes(tag),
+        });
     }
     Ok(head)
 }
@@ -151,14 +160,15 @@ fn read_content<S: Source>(
     place: u64,
     head: &BoxHead,
     held: &Codestream,
-) -> ImageResult<Found>
-    requires sound { Sound (S.state source.old) }
+) -> Result<Found, Halt>
+    requires sound { IsSound (S.state source.old) }
     requires is { IsHead place head.now }
     requires room { length held.now.items ≤ 16 }
     ensures further { IfOk result (λ found. IsFurther place found) }
     ensures fits { IfOk result (λ found. FitsBehind held.now.items found) }
-    ensures runs { Runs (S.state source.old) (S.state source.new) (seen (λ found. box_said found) result)
-        (over (S.state source.old).held.input (box_content held.now.items place head.now)) }
+    ensures runs { Runs (S.state source.old) (S.state source.new)
+        (map_answer (λ found. box_said found) (with_error (S.failure source.new) (S.state source.new).frame.budget result))
+        (layout_reads (S.state source.old).held.input (box_content held.now.items place head.now)) }
 {
     if is_codestream_box(head) {
         return Ok(Found::Whole(read_whole(source, place, head)?));
@@ -197,11 +207,12 @@ fn room(head: &BoxHead) -> u64
 
 // The first bytes of the codestream, in the one box that has it whole.
 #[tactic(auto, using(imagesize_source::proofs::Runs::steps, imagesize_source::proofs::Layouts::binding))]
-fn read_whole<S: Source>(source: &mut S, place: u64, head: &BoxHead) -> ImageResult<Codestream>
-    requires sound { Sound (S.state source.old) }
+fn read_whole<S: Source>(source: &mut S, place: u64, head: &BoxHead) -> Result<Codestream, Halt>
+    requires sound { IsSound (S.state source.old) }
     requires is { IsHead place head.now }
-    ensures { Runs (S.state source.old) (S.state source.new) (seen (λ codestream. Decided codestream.items) result)
-        (over (S.state source.old).held.input (codestream_box place head.now)) }
+    ensures { Runs (S.state source.old) (S.state source.new)
+        (map_answer (λ codestream. Decided codestream.items) (with_error (S.failure source.new) (S.state source.new).frame.budget result))
+        (layout_reads (S.state source.old).held.input (codestream_box place head.now)) }
 {
     let most = room(head).min(MOST as u64) as usize;
     read_piece(source, place, head.length, most)
@@ -214,18 +225,19 @@ fn read_partial<S: Source>(
     place: u64,
     head: &BoxHead,
     held: &Codestream,
-) -> ImageResult<Found>
-    requires sound { Sound (S.state source.old) }
+) -> Result<Found, Halt>
+    requires sound { IsSound (S.state source.old) }
     requires is { IsHead place head.now }
     requires room { length held.now.items ≤ 16 }
     ensures further { IfOk result (λ found. IsFurther place found) }
     ensures fits { IfOk result (λ found. FitsBehind held.now.items found) }
-    ensures runs { Runs (S.state source.old) (S.state source.new) (seen (λ found. box_said found) result)
-        (over (S.state source.old).held.input (partial_box held.now.items place head.now)) }
+    ensures runs { Runs (S.state source.old) (S.state source.new)
+        (map_answer (λ found. box_said found) (with_error (S.failure source.new) (S.state source.new).frame.budget result))
+        (layout_reads (S.state source.old).held.input (partial_box held.now.items place head.now)) }
 {
     let room = room(head);
     if room < 4 {
-        return Err(ImageError::IoError(Reason::EndOfInput));
+        return Err(Halt::Ended);
     }
     let index = read_bytes_behind::<S, 4>(source, place, head.length)?;
     let most = (room - 4).min(held.remaining_capacity() as u64) as usize;
@@ -239,12 +251,13 @@ fn read_piece<S: Source>(
     place: u64,
     distance: u64,
     most: usize,
-) -> ImageResult<Codestream>
-    requires sound { Sound (S.state source.old) }
+) -> Result<Codestream, Halt>
+    requires sound { IsSound (S.state source.old) }
     requires few { most ≤ 16 }
     ensures few { IfOk result (λ bytes. length bytes.items ≤ most) }
-    ensures runs { Runs (S.state source.old) (S.state source.new) (seen (λ bytes. bytes.items) result)
-        (over (S.state source.old).held.input (piece_at (place + distance) most)) }
+    ensures runs { Runs (S.state source.old) (S.state source.new)
+        (map_answer (λ bytes. bytes.items) (with_error (S.failure source.new) (S.state source.new).frame.budget result))
+        (layout_reads (S.state source.old).held.input (piece_at (place + distance) most)) }
 {
     if most == 0 {
         return Ok(Codestream::new());
@@ -261,12 +274,13 @@ fn read_there<S: Source>(
     place: u64,
     distance: u64,
     room: &mut [u8],
-) -> ImageResult<usize>
+) -> Result<usize, Halt>
     ensures bound { IfOk result (λ n. n ≤ length room.new) }
-    ensures runs { Runs (S.state source.old) (S.state source.new) (seen (λ n. take n room.new) result)
+    ensures runs { Runs (S.state source.old) (S.state source.new)
+        (map_answer (λ n. take n room.new) (with_error (S.failure source.new) (S.state source.new).frame.budget result))
         (part_read (S.state source.old).held.input (place + distance) (length room.new)) }
 {
-    read_part(source, place.saturating_add(distance), room)
+    source.read_at(place.saturating_add(distance), room)
 }
 
 // These bytes as a piece.

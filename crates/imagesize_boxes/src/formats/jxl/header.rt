@@ -1,11 +1,15 @@
 //! The header of a JPEG XL codestream, by ISO/IEC 18181-1, annex D: the size and the orientation of the image.
-ghost use Rattle.std.specs.Prelude.{◌≡◌, ◌+◌, ◌*◌, ◌^◌, ◌<◌, ◌≤◌, length, take, IfOk};
+ghost use Rattle.std.specs.Prelude.{◌≡◌, ℕ, ◌+◌, ◌*◌, ◌^◌, ◌<◌, ◌≤◌, length, take, IfSome, ok_or};
 ghost use Rattle.imagesize_boxes.specs.Fields.{found_in};
-ghost use Rattle.imagesize_boxes.specs.Jxl.{exchanged, has_signature, jxl_header, jxl_size, side, side_bits, size_of_sides, width_by, width_side};
+ghost use Rattle.imagesize_boxes.specs.Jxl.{exchanged, has_signature, jxl_header, jxl_size, side_fields, side_bits, width_by, width_side};
+ghost use Rattle.imagesize_source.specs.Halts.{with_error};
+ghost use Rattle.imagesize_source.specs.declared.error.ImageError.{ImageError};
+ghost use Rattle.imagesize_types.specs.Sides.{exchange_if};
+ghost use Rattle.imagesize_source.specs.declared.error.ImageError.TheVariants as error;
 
 use super::bits::Bits;
 use super::front::MOST;
-use imagesize_source::{ImageError, ImageResult, Reason};
+use imagesize_source::Halt;
 use imagesize_types::size::ImageSize;
 
 // A width or a height, and the bit behind it.
@@ -17,17 +21,17 @@ pub(super) struct Side {
 
 // The size by the first bytes of a codestream, so many of these.
 #[inline(always)]
-pub(super) fn codestream_size(bytes: &[u8; MOST], len: usize) -> ImageResult<ImageSize>
+pub(super) fn codestream_size(bytes: &[u8; MOST], len: usize) -> Result<ImageSize, Halt>
     requires { len ≤ 16 }
-    ensures { result ≡ jxl_size (take len bytes.now) }
+    ensures { (failure : ImageError) (budget : ℕ) → with_error failure budget result ≡ jxl_size (take len bytes.now) }
 {
     if len < 2 {
-        return Err(ImageError::CorruptedImage);
+        return Err(Halt::Corrupted);
     }
     if !has_signature(bytes) {
-        return Err(ImageError::IoError(Reason::InvalidJxlSignature));
+        return Err(Halt::InvalidJxlSignature);
     }
-    header_size(&Bits::of(bytes, len))
+    header_size(&Bits::of(bytes, len)).ok_or(Halt::Corrupted)
 }
 
 // Whether the signature of a codestream stands first.
@@ -39,37 +43,37 @@ pub(super) fn has_signature(bytes: &[u8]) -> bool
     matches!(bytes, [0xFF, 0x0A, ..])
 }
 
-// The size as an image is shown.
+// The size as an image is shown, or none where the header is not there whole.
 #[inline(always)]
 #[tactic(auto, using(crate::proofs::Fields::fields))]
-fn header_size(bits: &Bits) -> ImageResult<ImageSize>
-    ensures { result ≡ found_in bits.now.number bits.now.count jxl_header }
+fn header_size(bits: &Bits) -> Option<ImageSize>
+    ensures { ok_or result error.CorruptedImage ≡ found_in bits.now.number bits.now.count jxl_header }
 {
     let small = bits.field(16, 1)? == 1;
     let height = read_side(bits, small, 17)?;
     let width = read_width(bits, small, &height)?;
     let exchanged = read_exchanged(bits, width.end)?;
-    Ok(size_of_sides(exchanged, width.length, height.length))
+    Some(size_of_sides(exchanged, width.length, height.length))
 }
 
-// A side whose field begins at a bit.
+// A side whose field begins at a bit, where it is there whole.
 #[inline(always)]
-fn read_side(bits: &Bits, small: bool, from: u32) -> ImageResult<Side>
+fn read_side(bits: &Bits, small: bool, from: u32) -> Option<Side>
     requires { from ≤ 100 }
-    ensures found { result ≡ found_in bits.now.number bits.now.count (side small from) }
-    ensures length { IfOk result (λ side. side.length ≤ 2 ^ 30) }
-    ensures end { IfOk result (λ side. side.end ≤ from + 32) }
+    ensures found { ok_or result error.CorruptedImage ≡ found_in bits.now.number bits.now.count (side_fields small from) }
+    ensures length { IfSome result (λ side_fields. side_fields.length ≤ 2 ^ 30) }
+    ensures end { IfSome result (λ side_fields. side_fields.end ≤ from + 32) }
 {
     if small {
         let units = bits.field(from, 5)?;
-        return Ok(Side {
+        return Some(Side {
             length: (units as u64 + 1) * 8,
             end: from + 5,
         });
     }
     let count = side_bits(bits.field(from, 2)?);
     let less_one = bits.field(from + 2, count)?;
-    Ok(Side {
+    Some(Side {
         length: less_one as u64 + 1,
         end: from + 2 + count,
     })
@@ -92,18 +96,18 @@ fn side_bits(selector: u32) -> u32
 
 // The width, by its ratio to the height or as a side of its own.
 #[inline(always)]
-fn read_width(bits: &Bits, small: bool, height: &Side) -> ImageResult<Side>
+fn read_width(bits: &Bits, small: bool, height: &Side) -> Option<Side>
     requires length { height.now.length ≤ 2 ^ 30 }
     requires end { height.now.end ≤ 60 }
-    ensures found { result ≡ found_in bits.now.number bits.now.count (width_side small height.now) }
-    ensures length { IfOk result (λ side. side.length < 2 ^ 35) }
-    ensures end { IfOk result (λ side. side.end ≤ 100) }
+    ensures found { ok_or result error.CorruptedImage ≡ found_in bits.now.number bits.now.count (width_side small height.now) }
+    ensures length { IfSome result (λ side_fields. side_fields.length < 2 ^ 35) }
+    ensures end { IfSome result (λ side_fields. side_fields.end ≤ 100) }
 {
     let ratio = bits.field(height.end, 3)?;
     if ratio == 0 {
         return read_side(bits, small, height.end + 3);
     }
-    Ok(Side {
+    Some(Side {
         length: width_by(ratio, height.length),
         end: height.end + 3,
     })
@@ -129,20 +133,20 @@ fn width_by(ratio: u32, height: u64) -> u64
 
 // Whether the orientation exchanges width and height.
 #[inline(always)]
-fn read_exchanged(bits: &Bits, from: u32) -> ImageResult<bool>
+fn read_exchanged(bits: &Bits, from: u32) -> Option<bool>
     requires { from ≤ 100 }
-    ensures { result ≡ found_in bits.now.number bits.now.count (exchanged from) }
+    ensures { ok_or result error.CorruptedImage ≡ found_in bits.now.number bits.now.count (exchanged from) }
 {
     if bits.field(from, 1)? == 1 || bits.field(from + 1, 1)? == 0 {
-        return Ok(false);
+        return Some(false);
     }
-    Ok(bits.field(from + 2, 3)? >= 4)
+    Some(bits.field(from + 2, 3)? >= 4)
 }
 
 // The size of an image of these sides, which are exchanged or not.
 #[inline(always)]
 fn size_of_sides(exchanged: bool, width: u64, height: u64) -> ImageSize
-    ensures { result ≡ size_of_sides exchanged width height }
+    ensures { result ≡ exchange_if exchanged (record { width = width; height = height }) }
 {
     let (width, height) = (width as usize, height as usize);
     if exchanged {

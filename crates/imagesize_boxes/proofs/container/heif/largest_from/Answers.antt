@@ -1,5 +1,6 @@
 use Rattle.std.proofs.Common.{ℕ, ◌+◌, ◌<◌, arith, rules}
-use Rattle.imagesize_boxes.specs.Heif.{gathered_with, property_bytes}
+use Rattle.imagesize_boxes.specs.Heif.{property_bytes}
+use Rattle.imagesize_boxes.specs.Walks.{gathered_with}
 use Rattle.imagesize_boxes.proofs.Heif.{list_start, list_on, list_out, list_end, list_past}
 use Rattle.imagesize_boxes.proofs.container.heif.largest_from.Goals as goal
 
@@ -16,7 +17,8 @@ pub returns-in_default : goal.returns-in_default
 returns-in_default g c =
     let h = list_end c.args.all c.args.from c.loop-property.place c.loop-property.gathered c.loop-property.invariant.walks
     (rw c.in_default.is at c.in_ok-property.ensures.runs) in
-    rw c.answer.ensures h
+    rw (c.answer.ensures (g.S.Source.failure c.read_property.new.source)
+    (g.S.Source.state c.read_property.new.source).frame.budget) h
 
 pub loop-property-preserved : goal.loop-property-preserved
 loop-property-preserved g c =
@@ -37,4 +39,8 @@ returns-in-None g c =
     let behind : c.args.from < next = omega (arith, c.loop-property.invariant.ahead, nears.0) in
     let h = list_past c.args.all c.args.from next (gathered_with c.loop-property.gathered c.in-Some.property) behind on
     (omega (arith, c.property_bytes.ensures, c.in-None.ensures)) in
-    rw (c.answer-in-None.ensures, c.gather-gathered.ensures) h
+    rw (
+      c.answer-in-None.ensures (g.S.Source.failure c.read_property.new.source)
+          (g.S.Source.state c.read_property.new.source).frame.budget,
+      c.gather-gathered.ensures,
+    ) h

@@ -1,6 +1,6 @@
 use Rattle.std.proofs.Common.{◌≡◌, ℕ, Result, Err, ◌+◌, refl, ap, arith, rules}
 use Rattle.imagesize_source.specs.declared.halt.Halt.{Halt}
-use Rattle.imagesize_io.specs.Standing.{named}
+use Rattle.imagesize_io.specs.Standing.{with_kept_error}
 use Rattle.imagesize_io.proofs.Windows.{none_in, straight, straight_stopped, told_by, same_frame, ended_by}
 use Rattle.imagesize_io.proofs.reader.windowed.read_windowed.Goals as goal
 
@@ -15,7 +15,7 @@ returns-in_err-count-2-clause-reads g c =
       bound = search rules;
       pays = search rules;
       keeps = search rules;
-      runs = λ home. straight_stopped {now = new.place} _ (named new c.from_residual-in_err-count-2.result) (record {
+      runs = λ home. straight_stopped {now = new.place} _ (with_kept_error new c.from_residual-in_err-count-2.result) (record {
         told = told_by (g.R.Told.count c.args.reader.now) home (g.R.Told.telling c.args.reader.now) old;
         told_after = told_by (g.R.Told.count c.read_from.new.reader) home (g.R.Told.telling c.read_from.new.reader) new;
         frame = same_frame (g.R.Told.count c.args.reader.now) (g.R.Told.count c.read_from.new.reader) home old new read.keeps read.since;
@@ -28,7 +28,7 @@ returns-in_err-count-2-clause-reads g c =
         within = rw here read.within;
         stops = read.stops.stops;
         ended = ended_by (g.R.Told.count c.read_from.new.reader) home new _ _ _ read.stops;
-      }) (ap (named new) is);
+      }) (ap (with_kept_error new) is);
     }
 
 pub returns-clause-reads : goal.returns-clause-reads

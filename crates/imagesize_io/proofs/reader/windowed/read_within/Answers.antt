@@ -1,6 +1,6 @@
 use Rattle.std.proofs.Common.{◌≡◌, ℕ, Result, Err, ◌+◌, refl, ap, ◌∙◌, arith, rules}
 use Rattle.imagesize_source.specs.declared.halt.Halt.{Halt}
-use Rattle.imagesize_io.specs.Standing.{named}
+use Rattle.imagesize_io.specs.Standing.{with_kept_error}
 use Rattle.imagesize_io.specs.ReaderState.{kept_window}
 use Rattle.imagesize_io.proofs.Filling.{put_there}
 use Rattle.imagesize_io.proofs.Windows.{in_window, behind_window, behind_stopped, told_by, same_frame, ended_by}
@@ -30,7 +30,7 @@ returns-in_err-count g c =
       bound = search rules;
       pays = search rules;
       keeps = search rules;
-      runs = λ home. behind_stopped _ (named new c.from_residual.result) (record {
+      runs = λ home. behind_stopped _ (with_kept_error new c.from_residual.result) (record {
         told = told_by (g.R.Told.count c.args.reader.now) home (g.R.Told.telling c.args.reader.now) old;
         told_after = told_by (g.R.Told.count c.read_across.new.reader) home (g.R.Told.telling c.read_across.new.reader) new;
         frame = same_frame (g.R.Told.count c.args.reader.now) (g.R.Told.count c.read_across.new.reader) home old new read.keeps
@@ -44,7 +44,7 @@ returns-in_err-count g c =
         within = read.within;
         stops = read.stops.stops;
         ended = ended_by (g.R.Told.count c.read_across.new.reader) home new _ _ _ read.stops;
-      }) (ap (named new) is);
+      }) (ap (with_kept_error new) is);
     }
 
 pub returns : goal.returns

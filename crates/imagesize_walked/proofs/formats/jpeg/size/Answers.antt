@@ -1,6 +1,6 @@
 use Rattle.std.proofs.Common.{◌+◌, arith, rules}
 use Rattle.imagesize_walked.proofs.Jpeg.{jpeg_start, jpeg_on, jpeg_stop, jpeg_out, jpeg_past, depth_rises}
-use Rattle.imagesize_walked.specs.Jpeg.{LeadsTo}
+use Rattle.imagesize_walked.specs.Walks.{LeadsTo}
 use Rattle.imagesize_walked.proofs.formats.jpeg.size.Goals as goal
 
 pub loop-size-init : goal.loop-size-init

@@ -1,0 +1,68 @@
+-- What the walks of the code hold and say, of one box or property at a place.
+use Rattle.std.specs.Prelude.{ℕ, ◌+◌, ◌-◌, ◌^◌, ◌<◌, ◌≤◌, nat_lt, List, length, if◌then◌else◌, Option, None, Some, unwrap_or, ok_or, option_map, Result}
+use Rattle.imagesize_boxes.specs.Heif.{no_pixels, property_bytes, skipped_bytes, turn_by}
+use Rattle.imagesize_boxes.specs.declared.container.heif.FoundBox.{FoundBox}
+use Rattle.imagesize_boxes.specs.declared.container.heif.Gathered.{Gathered}
+use Rattle.imagesize_boxes.specs.declared.container.heif.Property.{Property}
+use Rattle.imagesize_boxes.specs.declared.container.heif.Property.TheVariants.{Extents, Rotation, Skipped}
+use Rattle.imagesize_boxes.specs.declared.container.heif.Searched.{Searched}
+use Rattle.imagesize_boxes.specs.declared.container.heif.Searched.TheVariants as searched
+use Rattle.imagesize_boxes.specs.declared.formats.jxl.boxes.BoxHead.{BoxHead}
+use Rattle.imagesize_boxes.specs.declared.formats.jxl.boxes.Found.{Found}
+use Rattle.imagesize_boxes.specs.declared.formats.jxl.boxes.Found.TheVariants.{Whole, Passed}
+use Rattle.imagesize_source.specs.Chain.{Said, Decided, Next}
+use Rattle.imagesize_source.specs.declared.error.ImageError.{ImageError}
+use Rattle.imagesize_source.specs.declared.error.ImageError.TheVariants.{IoError}
+use Rattle.imagesize_source.specs.declared.error.Reason.TheVariants.{NotEnoughData}
+use Rattle.imagesize_types.specs.Largest.{area_if_some}
+use Rattle.imagesize_types.specs.Order.{area_of}
+use Rattle.imagesize_types.specs.declared.size.ImageSize.{ImageSize}
+
+-- what a box of a HEIF says to a search, and a property to the list
+abbrev pub searched_said : ℕ → Searched → Said (Unit {0}) FoundBox
+searched_said place (searched.Found found) = Decided found
+searched_said place (searched.Other size) = Next tt (place + size)
+
+abbrev pub property_said : ℕ → Option Property → Said Property (Unit {0})
+property_said place None = Decided tt
+property_said place (Some property) = Next property (place + property_bytes property)
+
+-- a box that is passed is smaller than the bytes that are left
+abbrev pub IsLeftFor : ℕ → Option Property → Type 0
+IsLeftFor left None = Unit {0}
+IsLeftFor left (Some property) = skipped_bytes property ≤ left
+
+-- the second, unless the first is as large
+abbrev pub earlier_largest : Option ImageSize → ImageSize → ImageSize
+earlier_largest first second = if nat_lt (area_if_some first) (area_of second) then second else unwrap_or first no_pixels
+
+-- what the properties so far amount to, with one more
+abbrev pub gathered_with : Gathered → Property → Gathered
+gathered_with g (Extents size) = record g { best = Some (earlier_largest g.best size) }
+gathered_with g (Rotation turn) = record g { turn = Some turn }
+gathered_with g (Skipped size) = record g { left = g.left - size }
+
+-- and what they answer at the end of the list
+abbrev pub gathered_answer : Gathered → Result ImageSize ImageError
+gathered_answer g = ok_or (option_map (turn_by g.turn) g.best) (IoError NotEnoughData)
+
+-- what a box of a JPEG XL says
+abbrev pub box_said : Found → Said (List ℕ) (List ℕ)
+box_said (Whole front) = Decided front.items
+box_said (Passed piece next) = Next piece.items next
+
+-- the next box stands behind the place
+abbrev pub IsFurther : ℕ → Found → Type 0
+IsFurther place (Whole front) = Unit {0}
+IsFurther place (Passed piece next) = place < next
+
+-- there is room for the piece behind these bytes
+abbrev pub FitsBehind : List ℕ → Found → Type 0
+FitsBehind held (Whole front) = Unit {0}
+FitsBehind held (Passed piece next) = length held + length piece.items ≤ 16
+
+-- Such a head was checked.
+pub record IsHead (place : ℕ) (head : BoxHead) : Type 0 where
+  pub within : place + head.size < 2 ^ 64
+  pub whole : 0 < head.size → head.length ≤ head.size
+  pub short : head.length ≤ 16

@@ -1,0 +1,230 @@
+-- A text out of the bytes that a reader holds: it is what byte by byte would be read.
+use Rattle.std.proofs.Common.{◌≡◌, ℕ, ◌+◌, ◌-◌, ◌^◌, ◌≤◌, ◌<◌, min, Bool, true, false, cond, leb, eqb, ◌||◌, not, List, [], ◌∷◌, ◌++◌, length, take, slice_index, slice_set, Option, Some, None, Ok, IfSome, ap, ◌∙◌, sym, subst, refl, arith, append_assoc}
+use Rattle.std.proofs.lemmas.Bool.Decides.{nat_tests}
+use Rattle.std.proofs.lemmas.List.{length-take, take_more, take_more_set}
+use Rattle.std.proofs.Math.Seq.{take-take}
+use Rattle.std.specs.Char.{is_ascii_whitespace}
+use Rattle.imagesize_source.specs.declared.text.Text.{Text}
+use Rattle.imagesize_source.specs.Input.{part, span_at}
+use Rattle.imagesize_source.specs.Reading.{part_read, text_part, text_read}
+use Rattle.imagesize_source.specs.State.{State, Runs, state_after}
+use Rattle.imagesize_source.specs.Text.{ends, text_front}
+use Rattle.imagesize_source.proofs.Agreement.{whole_span}
+use Rattle.imagesize_source.proofs.Counts.{total-span_at, total-span_of}
+use Rattle.imagesize_source.proofs.Runs.{part_is, part_length}
+use Rattle.imagesize_io.specs.declared.progress.Progress.{Progress}
+use Rattle.imagesize_io.specs.declared.reader.Ledger.{Ledger}
+use Rattle.imagesize_io.specs.declared.told.Stop.{Stop}
+use Rattle.imagesize_io.specs.Held.{IsWhole}
+use Rattle.imagesize_io.specs.ReaderState.{ReadsAt, kept_window}
+use Rattle.imagesize_io.specs.Standing.{Standing, onto, steady, in_step, stand_of, stand, drift, GivesSome, GivesFrom, KeepsCounts}
+use Rattle.imagesize_io.specs.Telling.{Telling, ReadTells, counted}
+use Rattle.imagesize_io.proofs.Filling.{part-add}
+use Rattle.imagesize_io.proofs.TextReads.{text_rest, rest_start, rest_ends, rest_goes_on, rest_some}
+use Rattle.imagesize_io.proofs.Windows.{none_in, straight, told_by, same_frame}
+
+-- so many bytes of a text were copied, and none of them ends it
+pub record Copied (t : Text) (begun : Bool) (index : ℕ) (bytes room : List ℕ) : Type 0 where
+  pub same : take index room ≡ take index bytes
+  pub front : (more : List ℕ) → text_front t (take index bytes ++ more) ≡ take index bytes ++ text_rest t begun more
+
+pub copied_none : (t : Text) (bytes room : List ℕ) → Copied t false 0 bytes room
+copied_none t bytes room = record { same = refl; front = λ more. rest_start t more }
+
+module _ {t : Text} {begun : Bool} {index : ℕ} {bytes room : List ℕ} (h : Copied t begun index bytes room) (here : index < length bytes)
+    (fits : index < length room) where
+  -- one byte more
+  pub copied_same : take (index + 1) (slice_set room index (slice_index bytes index)) ≡ take (index + 1) bytes
+  copied_same = take_more_set room index (slice_index bytes index) fits
+      ∙ ap (λ bs. bs ++ slice_index bytes index ∷ []) h.same ∙ sym (take_more bytes index 0 here)
+
+  front_next : (more : List ℕ) → text_front t (take (index + 1) bytes ++ more) ≡ take index bytes ++ text_rest t begun
+      (slice_index bytes index ∷ more)
+  front_next more = ap (λ bs. text_front t (bs ++ more)) (take_more bytes index 0 here)
+      ∙ ap (text_front t) (append_assoc (take index bytes) (slice_index bytes index ∷ []) more)
+      ∙ h.front (slice_index bytes index ∷ more)
+
+  -- that does not end it
+  pub copied_more : (is_end white : Bool) → is_end ≡ ends t begun (slice_index bytes index) → is_end ≡ false
+      → white ≡ is_ascii_whitespace (slice_index bytes index)
+      → Copied t (begun || not white) (index + 1) bytes (slice_set room index (slice_index bytes index))
+  copied_more is_end white end_is goes_on white_is = record {
+    same = copied_same;
+    front = λ more. front_next more
+        ∙ ap (λ bs. take index bytes ++ bs) (rest_goes_on t begun (slice_index bytes index) more (sym end_is ∙ goes_on))
+        ∙ ap (λ w. take index bytes ++ slice_index bytes index ∷ text_rest t (begun || not w) more) (sym white_is)
+        ∙ sym (append_assoc (take index bytes) (slice_index bytes index ∷ []) (text_rest t (begun || not white) more))
+        ∙ ap (λ bs. bs ++ text_rest t (begun || not white) more) (sym (take_more bytes index 0 here));
+  }
+
+  -- that ends it
+  pub copied_whole : (is_end : Bool) → is_end ≡ ends t begun (slice_index bytes index) → is_end ≡ true
+      → IsWhole t (take (index + 1) (slice_set room index (slice_index bytes index)))
+  copied_whole is_end end_is ends_here = subst (IsWhole t) (sym copied_same)
+      (λ more. front_next more
+      ∙ ap (λ bs. take index bytes ++ bs) (rest_ends t begun (slice_index bytes index) more (sym end_is ∙ ends_here))
+      ∙ sym (take_more bytes index 0 here))
+
+-- a whole text has a byte
+whole_some : (t : Text) (bs : List ℕ) → IsWhole t bs → 0 < length bs
+whole_some t bs whole = by_length bs refl where
+  by_length : (cs : List ℕ) → bs ≡ cs → 0 < length bs
+  by_length [] is =
+      let one : text_front t (0 ∷ []) ≡ [] = sym (ap (λ cs. text_front t (cs ++ 0 ∷ [])) is) ∙ whole (0 ∷ []) ∙ is in
+      absurd (omega (arith, rest_some t false 0 [], ap length (sym (rest_start t (0 ∷ [])) ∙ one)))
+  by_length (c ∷ cs) is = omega (arith, ap length is)
+
+-- what a reader gave as a read, with its interruptions hidden
+steady_if : (b : Bool) (s : Standing) (room : List ℕ) (n : ℕ) → take n room ≡ part s.bytes s.place n → n ≤ length s.bytes - s.place
+    → (0 < length room → s.place < length s.bytes → 0 < n) → GivesSome (cond b (Some s) None) (cond b (Some (onto s n)) None) room (Ok n)
+steady_if true s room n gave few some = (refl, gave, few, some)
+steady_if false s room n gave few some = tt
+
+steady_gives : (telling telling' : Option Telling) (retries : ℕ) (room : List ℕ) (n : ℕ) → ReadTells telling telling' room (Ok n)
+    → GivesSome (steady telling retries) (steady telling' retries) room (Ok n)
+steady_gives None telling' retries room n gave = tt
+steady_gives (Some t) telling' retries room n gave =
+    subst (λ u. GivesSome (steady (Some t) retries) (steady u retries) room (Ok n)) (sym gave.0)
+    (steady_if (t.can_fail || leb (t.interruptions + retries) 64) (record { bytes = t.bytes; place = t.place; can_fail = t.can_fail })
+    room n gave.1 gave.2 gave.3)
+
+stands_if : (told place place' n : ℕ) (s : Standing) (room : List ℕ) (b : Bool) → in_step told place s ≡ b → 0 < n
+    → take n room ≡ part s.bytes s.place n → n ≤ length s.bytes - s.place → n ≤ length room → place' ≡ min (place + n) (2 ^ 64 - 1)
+    → GivesFrom (cond b (Some s) None) (stand_of told place' (Some (onto s n))) place place' (take n room) (Ok n)
+stands_if told place place' n s room false step some gave few fits now = tt
+stands_if told place place' n s room true step some gave few fits now =
+    let at : place ≡ s.place = grind (arith, nat_tests) in
+    let long : told ≡ length s.bytes = grind (arith, nat_tests) in
+    let short : length s.bytes < 2 ^ 63 = grind (arith, nat_tests) in
+    let there : place' ≡ s.place + n = omega (arith, now, at, few, short, some) in
+    let step' : in_step told place' (onto s n) ≡ true = grind (arith, nat_tests, there, long, short) in (
+      ap (λ b. cond b (Some (onto s n)) None) step' ∙ ap (λ p. Some (record s { place = p })) (sym there),
+      take-take n n room (omega arith) ∙ gave ∙ ap (λ p. part s.bytes p n) (sym at),
+      omega (arith, length-take n room, fits, few, at),
+    )
+
+stands_gives : (told place place' n : ℕ) (st st' : Option Standing) (room : List ℕ) → GivesSome st st' room (Ok n) → 0 < n → n ≤ length room
+    → place' ≡ min (place + n) (2 ^ 64 - 1)
+    → GivesFrom (stand_of told place st) (stand_of told place' st') place place' (take n room) (Ok n)
+stands_gives told place place' n None st' room gave some fits now = tt
+stands_gives told place place' n (Some s) st' room gave some fits now =
+    subst (λ u. GivesFrom (stand_of told place (Some s)) (stand_of told place' u) place place' (take n room) (Ok n)) (sym gave.0)
+    (stands_if told place place' n s room (in_step told place s) refl some gave.1 gave.2 fits now)
+
+within_given : (st st' : Option Standing) (place now n taken taken' : ℕ) (room : List ℕ) → GivesFrom st st' place now room (Ok n)
+    → taken' ≡ taken + n → IfSome st (λ s. taken' ≤ taken + min (length room) (length s.bytes - place))
+within_given None st' place now n taken taken' room gave took = tt
+within_given (Some s) st' place now n taken taken' room gave took = omega (arith, gave.2, took)
+
+since_given : (count count' : Option ℕ) (taken taken' n : ℕ) → count' ≡ counted {E = Stop} count (Ok n) → taken' ≡ taken + n
+    → drift count' taken' ≡ drift count taken
+since_given None count' taken taken' n is took = rw is refl
+since_given (Some c) count' taken taken' n is took =
+    let above : c + n - taken' ≡ c - taken = omega (arith, took) in
+    let below : taken' - (c + n) ≡ taken - c = omega (arith, took) in
+    rw (is, above, below) refl
+
+not_kept : (w bytes : List ℕ) (place : ℕ) → length w < place → w ≡ kept_window w place bytes
+not_kept w bytes place far =
+    let off : eqb place (length w) ≡ false = grind (arith, nat_tests) in
+    rw off refl
+
+-- A text that the reader held is a reading of as many bytes from where it stands.
+pub held_reads : {old new : Ledger} {telling telling' : Option Telling} {count count' : Option ℕ} {place n : ℕ} (room : List ℕ) (t : Text)
+    → ReadTells telling telling' room (Ok n) → count' ≡ counted {E = Stop} count (Ok n) → n ≤ length room → IsWhole t (take n room)
+    → old.progress.place ≡ place → place ≤ old.progress.told → length old.window.items < place → length old.window.items ≤ 32
+    → new.window ≡ old.window → new.progress.told ≡ old.progress.told → new.progress.budget ≡ old.progress.budget
+    → new.progress.retries ≡ old.progress.retries → new.progress.taken ≡ old.progress.taken + n
+    → new.progress.place ≡ min (place + n) (2 ^ 64 - 1) → ReadsAt old new telling telling' count count' place (take n room) (Ok n)
+held_reads {old} {new} {telling} {telling'} {count} {count'} {place} {n} room t gave counts fits whole at near far small same told budget retries taken now =
+    let p : Progress = old.progress in
+    let q : Progress = new.progress in
+    let long : length (take n room) ≡ n = omega (arith, length-take n room, fits) in
+    let some = whole_some t (take n room) whole in
+    let many : 0 < n = omega (arith, some, long) in
+    let since = since_given count count' p.taken q.taken n counts taken in
+    let keeps : KeepsCounts p q = record {
+      told = told;
+      budget = budget;
+      taken = omega (arith, taken);
+      retries = omega (arith, retries);
+      limit = λ few. omega (arith, few, retries);
+    } in
+    let first = stands_gives p.told p.place q.place n (steady telling p.retries) (steady telling' p.retries) room
+    (steady_gives telling telling' p.retries room n gave) many fits (now ∙ ap (λ k. min (k + n) (2 ^ 64 - 1)) (sym at)) in
+    let gives : GivesFrom (stand telling p) (stand telling' q) place q.place (take n room) (Ok n) =
+    subst (λ k. GivesFrom (stand telling p) (stand telling' q) k q.place (take n room) (Ok n)) at
+    (subst (λ r. GivesFrom (stand telling p) (stand_of q.told q.place (steady telling' r)) p.place q.place (take n room) (Ok n)) (sym retries)
+    (subst (λ k. GivesFrom (stand telling p) (stand_of k q.place (steady telling' p.retries)) p.place q.place (take n room) (Ok n)) (sym told)
+    first)) in
+    let here : place + 0 ≡ place = omega arith in
+    record {
+      bound = omega (arith, long);
+      pays = λ some beyond. absurd (omega (arith, near, beyond));
+      keeps = keeps;
+      runs = λ home. straight {now = q.place} (record {
+        told = told_by count home telling p;
+        told_after = told_by count' home telling' q;
+        counts = refl;
+        frame = same_frame count count' home p q keeps since;
+        small = small;
+        count = omega (arith, far);
+        front = none_in old.window.items (take n room) place (length (take n room)) (omega (arith, far));
+        kept = refl;
+        short = some;
+        gives = subst (λ k. GivesFrom (stand telling p) (stand telling' q) k q.place (take n room) (Ok n)) (sym here) gives;
+        enough = omega (arith, long);
+        long = omega arith;
+        took = taken;
+        window = ap (λ w. w.items) same ∙ not_kept old.window.items (take n (take n room)) (place + 0) (omega (arith, far));
+        within = rw here (within_given (stand telling p) (stand telling' q) place q.place n p.taken q.taken (take n room) gives taken);
+      });
+    }
+
+-- and what byte by byte would be read
+pub held_text : {a c : State} (t : Text) (place n : ℕ) (room : List ℕ) → IsWhole t (take n room) → n ≤ length room
+    → Runs a c (Ok (take n (take n room))) (part_read a.held.input place (length (take n room)))
+    → Runs a c (Ok (take n room)) (text_read a.held.input t place (length room))
+unfolding text_part
+held_text {a} {c} t place n room whole fits runs =
+    let once : take n (take n room) ≡ take n room = take-take n n room (omega arith) in
+    let long : length (take n room) ≡ n = omega (arith, length-take n room, fits) in
+    let run : Runs a c (Ok (take n room)) (part_read a.held.input place n) =
+    subst (λ k. Runs a c (Ok (take n room)) (part_read a.held.input place k)) long
+    (subst (λ bs. Runs a c (Ok bs) (part_read a.held.input place (length (take n room)))) once runs) in
+    record {
+      sound = run.sound;
+      sound_after = run.sound_after;
+      frame = run.frame;
+      taken = run.taken;
+      within = λ honest. omega (
+        arith,
+        run.within honest,
+        total-span_of a.held.input place n,
+        total-span_at place
+            (length (text_part a.held.input t place (length room))),
+        is_long run honest,
+      );
+      answer = λ honest goes_on. ap Ok (is_text run honest);
+      state = λ honest goes_on. run.state honest goes_on ∙ ap (state_after a) (whole_span a.held.input place n (there run honest))
+          ∙ ap (λ k. state_after a (span_at place k)) (sym (is_long run honest));
+      fault = λ honest faults. absurd cc;
+      misses = λ honest faults. absurd cc;
+      ended = tt;
+    } where
+      read : Runs a c (Ok (take n room)) (part_read a.held.input place n) → a.held.honest ≡ true → part a.held.input place n ≡ take n room
+      read run honest = part_is (run.answer honest refl)
+
+      there : Runs a c (Ok (take n room)) (part_read a.held.input place n) → a.held.honest ≡ true → n ≤ length a.held.input - place
+      there run honest = omega (arith, part_length a.held.input place n, ap length (read run honest), length-take n room, fits)
+
+      is_text : Runs a c (Ok (take n room)) (part_read a.held.input place n) → a.held.honest ≡ true → text_part a.held.input t place (length room) ≡ take n room
+      is_text run honest =
+          let split : n + (length room - n) ≡ length room = omega (arith, fits) in
+          ap (λ k. text_front t (part a.held.input place k)) (sym split)
+          ∙ ap (text_front t) (sym (part-add a.held.input place n (length room - n)))
+          ∙ ap (λ bs. text_front t (bs ++ part a.held.input (place + n) (length room - n))) (read run honest)
+          ∙ whole (part a.held.input (place + n) (length room - n))
+
+      is_long : Runs a c (Ok (take n room)) (part_read a.held.input place n) → a.held.honest ≡ true → length (text_part a.held.input t place (length room)) ≡ n
+      is_long run honest = ap length (is_text run honest) ∙ omega (arith, length-take n room, fits)

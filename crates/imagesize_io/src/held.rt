@@ -1,0 +1,28 @@
+//! Texts out of the bytes that a reader holds.
+ghost use Rattle.std.specs.Prelude.{◌≡◌, ◌≤◌, IfSome, length, take};
+ghost use Rattle.imagesize_io.specs.Held.{IsWhole};
+
+use imagesize_source::Text;
+use imagesize_source::text::is_end;
+
+/// Copies the text at the front of the bytes into the room, and answers how many bytes that is. It answers nothing where
+/// the bytes or the room end before the text does.
+#[inline(always)]
+pub(crate) fn copy_text(text: Text, bytes: &[u8], room: &mut [u8]) -> Option<usize>
+    ensures bound { IfSome result (λ n. n ≤ length room.new) }
+    ensures whole { IfSome result (λ n. IsWhole text (take n room.new)) }
+    ensures there { IfSome result (λ n. n ≤ length bytes.now) }
+    ensures copied { IfSome result (λ n. take n room.new ≡ take n bytes.now) }
+{
+    let most = bytes.len().min(room.len());
+    let mut begun = false;
+    for index in 0..most {
+        let byte = bytes[index];
+        room[index] = byte;
+        if is_end(text, begun, byte) {
+            return Some(index + 1);
+        }
+        begun |= !byte.is_ascii_whitespace();
+    }
+    None
+}

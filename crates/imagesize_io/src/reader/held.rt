@@ -1,0 +1,55 @@
+//! A text out of what the reader holds: it takes the bytes that it would take byte by byte.
+ghost use Rattle.std.specs.Prelude.{◌≡◌, ◌+◌, ◌^◌, ◌<◌, ◌≤◌, true, IfSome, None, Ok, length, take};
+ghost use Rattle.imagesize_source.specs.Limits.{most_held};
+ghost use Rattle.imagesize_io.specs.Held.{IsWhole};
+ghost use Rattle.imagesize_io.specs.ReaderState.{ReadsAt};
+
+use super::Ledger;
+use crate::Told;
+use imagesize_source::Text;
+
+/// The text at a place out of what the reader holds, if the reader stands there and holds all of it. Nothing is
+/// read else, and the text has to be read byte by byte.
+#[inline(always)]
+pub(super) fn read_held<R: Told>(
+    reader: &mut R,
+    ledger: &mut Ledger,
+    place: u64,
+    text: Text,
+    room: &mut [u8],
+) -> Option<usize>
+    ensures bound { IfSome result (λ n. n ≤ length room.new) }
+    ensures whole { IfSome result (λ n. IsWhole text (take n room.new)) }
+    ensures none { result ≡ None → (R.telling reader.new ≡ R.telling reader.old) × (R.count reader.new ≡ R.count reader.old)
+        × (ledger.new ≡ ledger.old) }
+    ensures reads { IfSome result (λ n. ReadsAt ledger.old ledger.new (R.telling reader.old) (R.telling reader.new)
+        (R.count reader.old) (R.count reader.new) place (take n room.new) (Ok n)) }
+{
+    if !pays_there(ledger, place, room.len() as u64) {
+        return None;
+    }
+    let count = reader.read_held(text, room)?;
+    ledger.progress.taken += count as u64;
+    ledger.progress.place = place.saturating_add(count as u64);
+    ledger.present = ledger.progress.place;
+    Some(count)
+}
+
+// Whether the reader stands at a place, and the budget pays for so many bytes there. The place is within the told
+// length, and behind the window, which takes in none of what follows.
+#[inline(always)]
+fn pays_there(ledger: &Ledger, place: u64, most: u64) -> bool
+    ensures stands { result ≡ true → ledger.now.progress.place ≡ place }
+    ensures told { result ≡ true → place ≤ ledger.now.progress.told }
+    ensures behind { result ≡ true → length ledger.now.window.items < place }
+    ensures small { length ledger.now.window.items ≤ most_held }
+    ensures pays { result ≡ true → ledger.now.progress.taken + most ≤ ledger.now.progress.budget }
+    ensures fits { result ≡ true → ledger.now.progress.taken + most < 2 ^ 64 }
+{
+    let window = ledger.window.len() as u64;
+    let progress = &ledger.progress;
+    place == progress.place
+        && place <= progress.told
+        && place > window
+        && most <= progress.budget - progress.taken
+}

@@ -1,8 +1,0 @@
-use Rattle.std.proofs.Common.{arith}
-use Rattle.imagesize_source.proofs.Lendings.{lent_reads}
-use Rattle.imagesize_source.proofs.source.lent.LentSourceSource.read_at.Goals as goal
-
-pub returns-clause-runs : goal.returns-clause-runs
-returns-clause-runs c =
-    lent_reads _ _ _ _ _ _ _ _ _ _ (omega arith) c.record.ensures.bytes c.record.ensures.same_reference c.copy_part-count.ensures.count
-    c.copy_part-count.ensures.copied c.copy_part-count.auto.room c.record.ensures.recorded

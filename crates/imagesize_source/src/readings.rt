@@ -1,0 +1,202 @@
+//! Readings by place: bytes, and numbers of both byte orders.
+ghost use Rattle.std.specs.Prelude.{◌≡◌, ◌+◌, ◌^◌, ◌<◌, ◌≤◌, true, length, IfOk, IfErr, IfSome};
+ghost use Rattle.imagesize_source.specs.Halts.{RunsOrHalts, with_error};
+ghost use Rattle.imagesize_source.specs.Layout.{layout_reads, if_there, some_where};
+ghost use Rattle.imagesize_source.specs.Layout.Layout.{«done»};
+ghost use Rattle.imagesize_source.specs.Paying.{Paid};
+ghost use Rattle.imagesize_source.specs.Reading.{bytes_read, number_read, map_answer};
+ghost use Rattle.imagesize_source.specs.State.{Runs};
+ghost use Rattle.imagesize_source.specs.declared.endian.Endian.TheVariants as endian;
+
+use crate::source::Source;
+use crate::{Endian, Halt};
+
+/// Fills the buffer with the bytes from a place on.
+#[inline(always)]
+pub fn read_exact_at<S: Source>(source: &mut S, place: u64, room: &mut [u8]) -> Result<(), Halt>
+    ensures pays { IfOk result (λ _. 0 < length room.new → Paid (S.state source.old) (S.state source.new) place) }
+    ensures runs { Runs (S.state source.old) (S.state source.new)
+        (map_answer (λ _. room.new) (with_error (S.failure source.new) (S.state source.new).frame.budget result))
+        (bytes_read (S.state source.old).held.input place (length room.new)) }
+{
+    let count = source.read_at(place, room)?;
+    if count < room.len() {
+        return Err(Halt::Ended);
+    }
+    Ok(())
+}
+
+/// The `N` bytes from a place on.
+#[inline(always)]
+pub fn read_bytes<S: Source, const N: usize>(source: &mut S, place: u64) -> Result<[u8; N], Halt>
+    ensures pays { IfOk result (λ bytes. 0 < N → Paid (S.state source.old) (S.state source.new) place) }
+    ensures runs { RunsOrHalts (S.state source.old) (S.state source.new) (S.failure source.new) result
+        (bytes_read (S.state source.old).held.input place N) }
+{
+    let mut room = [0u8; N];
+    read_exact_at(source, place, &mut room)?;
+    Ok(room)
+}
+
+/// The `N` bytes at a distance behind a place. A place above 2^64 - 1 is behind the end of every input.
+#[inline(always)]
+pub fn read_bytes_behind<S: Source, const N: usize>(
+    source: &mut S,
+    place: u64,
+    distance: u64,
+) -> Result<[u8; N], Halt>
+    requires { 0 < N }
+    ensures { RunsOrHalts (S.state source.old) (S.state source.new) (S.failure source.new) result
+        (bytes_read (S.state source.old).held.input (place + distance) N) }
+{
+    read_bytes::<S, N>(source, place.saturating_add(distance))
+}
+
+/// Fills the buffer with the bytes from a place on, and returns whether the input has all of them.
+#[inline(always)]
+pub fn read_whole_at<S: Source>(source: &mut S, place: u64, room: &mut [u8]) -> Result<bool, Halt>
+    ensures pays { IfOk result (λ all. all ≡ true → 0 < length room.new → Paid (S.state source.old) (S.state source.new) place) }
+    ensures runs { Runs (S.state source.old) (S.state source.new)
+        (map_answer (some_where room.new) (with_error (S.failure source.new) (S.state source.new).frame.budget result))
+        (layout_reads (S.state source.old).held.input (if_there place (length room.new) done)) }
+{
+    let count = source.read_at(place, room)?;
+    Ok(count == room.len())
+}
+
+/// The same at a distance behind a place. A place above 2^64 - 1 is behind the end of every input.
+#[inline(always)]
+pub fn read_whole_behind<S: Source>(
+    source: &mut S,
+    place: u64,
+    distance: u64,
+    room: &mut [u8],
+) -> Result<bool, Halt>
+    ensures { Runs (S.state source.old) (S.state source.new)
+        (map_answer (some_where room.new) (with_error (S.failure source.new) (S.state source.new).frame.budget result))
+        (layout_reads (S.state source.old).held.input (if_there (place + distance) (length room.new) done)) }
+{
+    read_whole_at(source, place.saturating_add(distance), room)
+}
+
+/// The `N` bytes from a place on, or none where the input ends before the last of them.
+#[inline(always)]
+pub fn read_if_there<S: Source, const N: usize>(
+    source: &mut S,
+    place: u64,
+) -> Result<Option<[u8; N]>, Halt>
+    ensures pays { IfOk result (λ found. IfSome found (λ bytes. 0 < N → Paid (S.state source.old) (S.state source.new) place)) }
+    ensures runs { RunsOrHalts (S.state source.old) (S.state source.new) (S.failure source.new) result
+        (layout_reads (S.state source.old).held.input (if_there place N done)) }
+{
+    let mut room = [0u8; N];
+    if read_whole_at(source, place, &mut room)? {
+        return Ok(Some(room));
+    }
+    Ok(None)
+}
+
+/// The `N` bytes at a distance behind a place, or none where the input ends before the last of them. A place above
+/// 2^64 - 1 is behind the end of every input.
+#[inline(always)]
+pub fn read_if_there_behind<S: Source, const N: usize>(
+    source: &mut S,
+    place: u64,
+    distance: u64,
+) -> Result<Option<[u8; N]>, Halt>
+    ensures { RunsOrHalts (S.state source.old) (S.state source.new) (S.failure source.new) result
+        (layout_reads (S.state source.old).held.input (if_there (place + distance) N done)) }
+{
+    read_if_there::<S, N>(source, place.saturating_add(distance))
+}
+
+/// The byte at a place, as a number.
+#[inline(always)]
+#[tactic(auto, using(crate::proofs::Runs::number_there, crate::proofs::Runs::number_missing, crate::proofs::Numbers::little_1))]
+pub fn read_u8<S: Source>(source: &mut S, place: u64) -> Result<u8, Halt>
+    ensures { RunsOrHalts (S.state source.old) (S.state source.new) (S.failure source.new) result
+        (number_read (S.state source.old).held.input endian.Little place 1) }
+{
+    let [byte] = read_bytes::<S, 1>(source, place)?;
+    Ok(byte)
+}
+
+/// The number of the two bytes from a place on.
+#[inline(always)]
+#[tactic(auto, using(crate::proofs::Runs::number_there, crate::proofs::Runs::number_missing))]
+pub fn read_u16<S: Source>(source: &mut S, place: u64, endian: Endian) -> Result<u16, Halt>
+    ensures { RunsOrHalts (S.state source.old) (S.state source.new) (S.failure source.new) result
+        (number_read (S.state source.old).held.input endian place 2) }
+{
+    let bytes = read_bytes::<S, 2>(source, place)?;
+    Ok(endian.u16(bytes))
+}
+
+/// The number of the three bytes from a place on.
+#[inline(always)]
+#[tactic(auto, using(crate::proofs::Runs::number_there, crate::proofs::Runs::number_missing))]
+pub fn read_u24<S: Source>(source: &mut S, place: u64, endian: Endian) -> Result<u32, Halt>
+    ensures { RunsOrHalts (S.state source.old) (S.state source.new) (S.failure source.new) result
+        (number_read (S.state source.old).held.input endian place 3) }
+{
+    let bytes = read_bytes::<S, 3>(source, place)?;
+    Ok(endian.u24(bytes))
+}
+
+/// The number of the four bytes from a place on.
+#[inline(always)]
+#[tactic(auto, using(crate::proofs::Runs::number_there, crate::proofs::Runs::number_missing))]
+pub fn read_u32<S: Source>(source: &mut S, place: u64, endian: Endian) -> Result<u32, Halt>
+    ensures { RunsOrHalts (S.state source.old) (S.state source.new) (S.failure source.new) result
+        (number_read (S.state source.old).held.input endian place 4) }
+{
+    let bytes = read_bytes::<S, 4>(source, place)?;
+    Ok(endian.u32(bytes))
+}
+
+/// The number of the eight bytes from a place on.
+#[inline(always)]
+#[tactic(auto, using(crate::proofs::Runs::number_there, crate::proofs::Runs::number_missing))]
+pub fn read_u64<S: Source>(source: &mut S, place: u64, endian: Endian) -> Result<u64, Halt>
+    ensures { RunsOrHalts (S.state source.old) (S.state source.new) (S.failure source.new) result
+        (number_read (S.state source.old).held.input endian place 8) }
+{
+    let bytes = read_bytes::<S, 8>(source, place)?;
+    Ok(endian.u64(bytes))
+}
+
+/// The place at a distance behind another. One above 2^64 - 1 is behind the end of every input.
+#[inline(always)]
+pub fn place_behind(place: u64, distance: u64) -> Result<u64, Halt>
+    ensures next { IfOk result (λ next. (next ≡ place + distance) × (next < 2 ^ 64)) }
+    ensures beyond { IfErr result (λ halt. (halt ≡ Halt.Ended) × (2 ^ 64 ≤ place + distance)) }
+{
+    let next = place.wrapping_add(distance);
+    if next < place {
+        return Err(Halt::Ended);
+    }
+    Ok(next)
+}
+
+/// The number of the two bytes at a distance behind a place. A place above 2^64 - 1 is behind the end of
+/// every input.
+#[inline(always)]
+#[tactic(auto, using(crate::proofs::PastTheEnd::number_refused))]
+pub fn read_u16_behind<S: Source>(
+    source: &mut S,
+    place: u64,
+    distance: u64,
+    endian: Endian,
+) -> Result<u16, Halt>
+    ensures { RunsOrHalts (S.state source.old) (S.state source.new) (S.failure source.new) result
+        (number_read (S.state source.old).held.input endian (place + distance) 2) }
+{
+    match place_behind(place, distance) {
+        Ok(next) => read_u16(source, next, endian),
+        Err(halt) => {
+            // The proof needs that the input is not so long.
+            let _told = source.told();
+            Err(halt)
+        }
+    }
+}
