@@ -40,7 +40,8 @@ pub(super) fn read_text<R: Told>(
     read_by_bytes(source, place, text, room)
 }
 
-// Reads the text byte by byte.
+// Reads the text byte by byte. A call of its own, since few texts are.
+#[inline(never)]
 fn read_by_bytes<R: Told>(
     source: &mut ReaderSource<'_, R>,
     place: u64,
