@@ -66,7 +66,7 @@ module _ {t : Text} {begun : Bool} {index : ℕ} {bytes room : List ℕ} (h : Co
       ∙ sym (take_more bytes index 0 here))
 
 -- a whole text has a byte
-whole_some : (t : Text) (bs : List ℕ) → IsWhole t bs → 0 < length bs
+pub whole_some : (t : Text) (bs : List ℕ) → IsWhole t bs → 0 < length bs
 whole_some t bs whole = by_length bs refl where
   by_length : (cs : List ℕ) → bs ≡ cs → 0 < length bs
   by_length [] is =
