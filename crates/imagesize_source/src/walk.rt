@@ -1,12 +1,12 @@
 //! A walk along a chain: its records, read one behind another.
-ghost use Rattle.std.specs.Prelude.{◌≡◌, ℕ, ◌≤◌, ◌++◌, ◌∷◌, List, [], length, IfOk};
-ghost use Rattle.imagesize_source.specs.Chain.{Advances, Chain, Said, chain_at};
+ghost use Rattle.std.specs.Prelude.{◌≡◌, ℕ, List, [], IfOk};
+ghost use Rattle.imagesize_source.specs.Chain.{Said, chain_at};
 ghost use Rattle.imagesize_source.specs.Halts.{RunsOrHalts, with_error};
 ghost use Rattle.imagesize_source.specs.Layout.{Layout, layout_reads};
 ghost use Rattle.imagesize_source.specs.Paying.{Nears};
-ghost use Rattle.imagesize_source.specs.Reading.{end_of_input, map_answer, refuses};
+ghost use Rattle.imagesize_source.specs.Reading.{map_answer};
 ghost use Rattle.imagesize_source.specs.State.{Runs};
-ghost use Rattle.imagesize_source.specs.Walk.{Leads, said_at};
+ghost use Rattle.imagesize_source.specs.Walk.{CanFollow, KeepsOn, chain_of, said_at};
 
 use crate::Halt;
 use crate::readings::place_behind;
@@ -40,24 +40,18 @@ pub trait Records {
         requires { (held : List Self.Held) × keeps self.now held place }
         ensures same { said self.new ≡ said self.old }
         ensures nears { IfOk result (λ found. Nears (S.state source.old) (S.state source.new) place (said_at place found)) }
-        ensures keeps { (held : List Self.Held) → keeps self.old held place → IfOk result (λ found. Leads (keeps self.new) held (said_at place found)) }
+        ensures keeps { (held : List Self.Held) → keeps self.old held place → IfOk result (λ found. KeepsOn (keeps self.new) held (said_at place found)) }
         ensures runs { (held : List Self.Held) → keeps self.old held place → Runs (S.state source.old) (S.state source.new)
             (map_answer (said_at place) (with_error (S.failure source.new) (S.state source.new).frame.budget result))
             (layout_reads (S.state source.old).held.input (said self.old held place)) };
-
-    /// Each record stands behind the one before.
-    ghost advances: { (records : Self) (first : ℕ) (d : List ℕ) → Advances (record { first = first; said = said records }) d };
-
-    /// Behind the end of the input none is read.
-    ghost beyond: { (records : Self) (held : List Self.Held) (place : ℕ) (d : List ℕ) → length d ≤ place
-        → layout_reads d (said records held place) ≡ refuses end_of_input };
 }
 
 /// The answer of the chain of these records, the first of which stands at this place.
 pub fn walk<S: Source, R: Records + Drop>(mut records: R, source: &mut S, first: u64) -> Result<R::Answer, Halt>
-    requires { R.keeps records [] first }
+    requires follows { CanFollow (chain_of first (R.said records)) }
+    requires keeps { R.keeps records [] first }
     ensures { RunsOrHalts (S.state source.old) (S.state source.new) (S.failure source.new) result
-        (chain_at (record { first = first; said = R.said records }) (S.state source.old).held.input) }
+        (chain_at (chain_of first (R.said records)) (S.state source.old).held.input) }
 {
     let mut place = first;
     loop {
