@@ -2,18 +2,10 @@
 use Rattle.std.specs.Prelude.{◌≡◌, ℕ, ◌+◌, ◌-◌, ◌<◌, ◌==◌, if◌then◌else◌}
 use Rattle.imagesize_source.specs.Chain.{Said, Decided, Next}
 use Rattle.imagesize_types.specs.declared.size.ImageSize.{ImageSize}
-use Rattle.imagesize_walked.specs.Ilbm.{chunk_bytes}
-use Rattle.imagesize_walked.specs.declared.formats.ilbm.Chunk.{Chunk}
-use Rattle.imagesize_walked.specs.declared.formats.ilbm.Chunk.TheVariants as chunk
 use Rattle.imagesize_walked.specs.declared.formats.jpeg.Role.{Role}
 use Rattle.imagesize_walked.specs.declared.formats.jpeg.Role.TheVariants as role
 use Rattle.imagesize_walked.specs.declared.formats.jpeg.Segment.{Segment}
 use Rattle.imagesize_walked.specs.declared.formats.jpeg.Segment.TheVariants as segment
-
--- what a chunk of an ILBM says
-abbrev pub chunk_said : ℕ → Chunk → Said (Unit {0}) ImageSize
-chunk_said place (chunk.Header size) = Decided size
-chunk_said place (chunk.Other length) = Next tt (place + chunk_bytes length)
 
 -- what a segment of a JPEG says
 abbrev pub segment_said : ℕ → Segment → Said ℕ ImageSize
