@@ -19,6 +19,7 @@ use Rattle.imagesize_source.specs.Layout.{Layout, layout_reads, bytes, done, ref
 use Rattle.imagesize_source.specs.Numbers.{number}
 use Rattle.imagesize_source.specs.Reading.{go_on, number_at, number_read, end_of_input}
 use Rattle.imagesize_source.specs.State.{total}
+use Rattle.imagesize_source.specs.Walk.{CanFollow}
 use Rattle.imagesize_source.proofs.Advances.{Tells, advances}
 use Rattle.imagesize_source.proofs.Ahead.{Ahead, chain_ahead}
 use Rattle.imagesize_source.proofs.ChainLaws.{local_chain, lasts_chain, chain_cost_from}
