@@ -12,22 +12,34 @@ use Rattle.imagesize_io.proofs.Windows.{behind_window, behind_stopped, ended_by,
 use borrow.Rule.Slice.PartMut.{put_mid}
 
 -- what a reading copied out of the window, and how much the reader is asked for behind it
-pub record Copies (window front room more : List ℕ) (place copied : ℕ) : Type 0 where
+pub record Copies (window room old more : List ℕ) (place copied : ℕ) : Type 0 where
   pub small : length window ≤ 32
-  pub count : copied ≡ min (length room) (length window - place)
-  pub front : front ≡ part window place (length room) ++ drop copied room
-  pub kept : length front ≡ length room
-  pub short : copied < length front
-  pub long : length more ≡ length front - copied
+  pub count : copied ≡ min (length old) (length window - place)
+  pub front : room ≡ part window place (length old) ++ drop copied old
+  pub kept : length room ≡ length old
+  pub short : copied < length room
+  pub long : length more ≡ length room - copied
+
+-- of a reading behind the window nothing is copied
+none_copied : {window more : List ℕ} {place : ℕ} → length window ≤ 32 → length window ≤ place → 0 < length more
+    → Copies window more more more place 0
+none_copied {window} {more} {place} small behind some = record {
+  small = small;
+  count = omega (arith, behind);
+  front = none_in window more place (length more) behind;
+  kept = refl;
+  short = some;
+  long = omega arith;
+}
 
 module _ {old new : Ledger} {telling telling' : Option Telling} {count count' : Option ℕ} where
   -- What follows the window came from the reader.
-  pub reads_behind : {place copied n : ℕ} {front room more : List ℕ} → Copies old.window.items front room more place copied
+  pub reads_behind : {place copied n : ℕ} {room before more : List ℕ} → Copies old.window.items room before more place copied
       → ReadsFrom old.progress new.progress (stand telling old.progress) (stand telling' new.progress) count count' (place + copied) more
       (Ok n) → new.window.items ≡ kept_window old.window.items (place + copied) (take n more) → new.progress.taken ≤ old.progress.budget
-      → ReadsAt old new telling telling' count count' place (put_mid copied (length front - copied) front more) (Ok (copied + n))
-  reads_behind {place} {copied} {n} {front} {room} {more} copy read window limit = record {
-    bound = omega (arith, length-put front more copied (omega (arith, copy.short)) copy.long, read.bound, copy.long, copy.short);
+      → ReadsAt old new telling telling' count count' place (put_mid copied (length room - copied) room more) (Ok (copied + n))
+  reads_behind {place} {copied} {n} {room} {before} {more} copy read window limit = record {
+    bound = omega (arith, length-put room more copied (omega (arith, copy.short)) copy.long, read.bound, copy.long, copy.short);
     pays = λ some far. (
       read.pays (omega (arith, far)) (omega (arith, some, far, copy.count, copy.small)),
       limit,
@@ -53,19 +65,19 @@ module _ {old new : Ledger} {telling telling' : Option Telling} {count count' : 
   }
 
   -- The reader was stopped.
-  pub stops_behind : {place copied : ℕ} {front room more : List ℕ} {halt : Halt} {r : Result ℕ Halt}
-      → Copies old.window.items front room more place copied
+  pub stops_behind : {place copied : ℕ} {room before more : List ℕ} {halt : Halt} {r : Result ℕ Halt}
+      → Copies old.window.items room before more place copied
       → ReadsFrom old.progress new.progress (stand telling old.progress) (stand telling' new.progress) count count' (place + copied) more
       (with_kept_error new.progress (Err halt)) → new.window.items ≡ old.window.items → r ≡ Err halt
-      → ReadsAt old new telling telling' count count' place (put_mid copied (length front - copied) front more)
+      → ReadsAt old new telling telling' count count' place (put_mid copied (length room - copied) room more)
       (with_kept_error new.progress r)
-  stops_behind {place} {copied} {front} {room} {more} {halt} {r} copy read same is =
-      subst (λ q. ReadsAt old new telling telling' count count' place (put_mid copied (length front - copied) front more)
+  stops_behind {place} {copied} {room} {before} {more} {halt} {r} copy read same is =
+      subst (λ q. ReadsAt old new telling telling' count count' place (put_mid copied (length room - copied) room more)
       (with_kept_error new.progress q)) (sym is) (record {
         bound = tt;
         pays = tt;
         keeps = read.keeps;
-        runs = λ home. behind_stopped _ (with_kept_error new.progress (Err halt)) (record {
+        runs = λ home. behind_stopped (λ n. take n (put_mid copied (length room - copied) room more)) (with_kept_error new.progress (Err halt)) (record {
           told = told_by count home telling old.progress;
           told_after = told_by count' home telling' new.progress;
           frame = same_frame count count' home old.progress new.progress read.keeps read.since;
@@ -80,18 +92,6 @@ module _ {old new : Ledger} {telling telling' : Option Telling} {count count' : 
           ended = ended_by count' home new.progress _ _ _ read.stops;
         }) refl;
       })
-
-  -- of a reading behind the window nothing is copied
-  none_copied : {place : ℕ} {more : List ℕ} → length old.window.items ≤ 32 → length old.window.items ≤ place → 0 < length more
-      → Copies old.window.items more more more place 0
-  none_copied {place} {more} small behind some = record {
-    small = small;
-    count = omega (arith, behind);
-    front = none_in old.window.items more place (length more) behind;
-    kept = refl;
-    short = some;
-    long = omega arith;
-  }
 
   -- a reading behind the window
   pub reads_past : {place n : ℕ} {more : List ℕ} → length old.window.items ≤ 32 → length old.window.items ≤ place → 0 < length more

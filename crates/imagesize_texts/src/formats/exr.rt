@@ -1,11 +1,12 @@
 //! OpenEXR, by "OpenEXR File Layout": its attributes up to the first data window that is not reversed.
 ghost use Rattle.std.specs.Prelude.{◌≡◌, ◌+◌, ◌<◌, ◌≤◌, length, IfOk};
+ghost use Rattle.imagesize_source.specs.Chain.{chain_at};
 ghost use Rattle.imagesize_source.specs.Halts.{RunsOrHalts, with_error};
 ghost use Rattle.imagesize_source.specs.Layout.{layout_reads};
 ghost use Rattle.imagesize_source.specs.Paying.{Paid};
 ghost use Rattle.imagesize_source.specs.Reading.{map_answer};
 ghost use Rattle.imagesize_source.specs.State.{Runs};
-ghost use Rattle.imagesize_texts.specs.Exr.{size_within, exr, exr_attribute, is_box, is_data_window, is_exr, name_room, window_side, signed_at, window_size};
+ghost use Rattle.imagesize_texts.specs.Exr.{size_within, exr, exr_attribute, exr_attributes, is_box, is_data_window, is_exr, name_room, window_side, signed_at, window_size};
 ghost use Rattle.imagesize_texts.specs.Texts.{line_read};
 
 use crate::util::{read_null_terminated_string, read_u32_behind};
@@ -25,17 +26,13 @@ pub fn matches(head: &[u8; 12]) -> bool
 }
 
 /// The sides of the first data window that is not reversed.
-#[tactic(auto, using(imagesize_source::proofs::Runs::steps, crate::proofs::Exr::exr_follows))]
+#[tactic(auto, using(imagesize_source::proofs::Runs::steps))]
 pub fn size<S: Source>(source: &mut S) -> Result<ImageSize, Halt>
     ensures { RunsOrHalts (S.state source.old) (S.state source.new) (S.failure source.new) result
         (exr (S.state source.old).held.input) }
 {
     let version = read_u32(source, 4, Endian::Little)?;
-    let attributes = Attributes {
-        names: name_room(version),
-        room: [0; 256],
-    };
-    walk(attributes, source, 8)
+    find_window(source, name_room(version))
 }
 
 // How many bytes a name may have, with the zero that ends it.
@@ -47,6 +44,21 @@ fn name_room(version: u32) -> usize
     ensures few { result ≤ 256 }
 {
     if version & 0x400 == 0 { 32 } else { 256 }
+}
+
+// The size by the attributes, whose names may have so many bytes.
+#[tactic(auto, using(crate::proofs::Exr::exr_follows))]
+fn find_window<S: Source>(source: &mut S, names: usize) -> Result<ImageSize, Halt>
+    requires some { 0 < names }
+    requires few { names ≤ 256 }
+    ensures { RunsOrHalts (S.state source.old) (S.state source.new) (S.failure source.new) result
+        (chain_at (exr_attributes names) (S.state source.old).held.input) }
+{
+    let attributes = Attributes {
+        names,
+        room: [0; 256],
+    };
+    walk(attributes, source, 8)
 }
 
 // The attributes, whose names may have so many bytes and are read into the room.

@@ -1,4 +1,4 @@
-use Rattle.std.proofs.Common.{arith, refl}
+use Rattle.std.proofs.Common.{arith, refl, rules}
 use Rattle.imagesize_io.proofs.Windows.{behind_end, told_by}
 use Rattle.imagesize_io.proofs.reader.windowed.read_above.Goals as goal
 
