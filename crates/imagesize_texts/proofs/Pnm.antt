@@ -1,13 +1,12 @@
 -- PNM: how a walk along its words goes, how many bytes they are read from, and what it sees of an input.
-use Rattle.std.proofs.Common.{◌≡◌, ℕ, ◌+◌, ◌^◌, ◌<◌, ◌≤◌, eqb, List, ◌++◌, length, Option, None, true, Ok, Err, ap, ◌∙◌, arith}
+use Rattle.std.proofs.Common.{◌≡◌, ℕ, ◌+◌, ◌<◌, ◌≤◌, eqb, List, ◌++◌, length, Option, None, true, Ok, Err, ap, ◌∙◌, arith}
 use Rattle.std.specs.Str.{trim}
 use Rattle.imagesize_types.specs.declared.size.ImageSize.{ImageSize}
 use Rattle.imagesize_source.specs.declared.error.ImageError.{ImageError}
 use Rattle.imagesize_source.specs.Agreement.{IsLocal}
-use Rattle.imagesize_source.specs.Chain.{Said, Decided, Next, Advances}
+use Rattle.imagesize_source.specs.Chain.{Said, Decided, Advances}
 use Rattle.imagesize_source.specs.Extension.{Plain, Lasts}
-use Rattle.imagesize_source.specs.Layout.{Layout, layout_reads, done, accept}
-use Rattle.imagesize_source.specs.Reading.{end_of_input}
+use Rattle.imagesize_source.specs.Layout.{Layout, done, accept}
 use Rattle.imagesize_source.specs.State.{total}
 use Rattle.imagesize_source.specs.Walk.{CanFollow}
 use Rattle.imagesize_source.proofs.Advances.{Tells, advances}
@@ -19,7 +18,7 @@ use Rattle.imagesize_source.proofs.Tests.{on_test}
 use Rattle.imagesize_source.proofs.Way.{TextsLaws}
 use Rattle.imagesize_texts.specs.Contents.{WordRead, number_text}
 use Rattle.imagesize_texts.specs.Pnm.{pnm, pnm_words, pnm_word, pnm_comment, pnm_passed, pnm_height, pnm_size, is_comment, is_blank}
-use Rattle.imagesize_texts.specs.Texts.{passed_line, word}
+use Rattle.imagesize_texts.specs.Texts.{passed_line}
 use Rattle.imagesize_texts.proofs.Texts.{found_by, passed_onto, passed_plain, passed_tells, word_onto, word_plain, word_tells, word_begins, word_beyond}
 
 -- what holds of each way that a word can go

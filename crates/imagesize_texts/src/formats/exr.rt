@@ -47,7 +47,6 @@ fn name_room(version: u32) -> usize
 }
 
 // The size by the attributes, whose names may have so many bytes.
-#[tactic(auto, using(crate::proofs::Exr::exr_follows))]
 fn find_window<S: Source>(source: &mut S, names: usize) -> Result<ImageSize, Halt>
     requires some { 0 < names }
     requires few { names ≤ 256 }
