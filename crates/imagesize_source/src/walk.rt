@@ -36,7 +36,11 @@ pub trait Records {
     ghost keeps: { Self → List Self.Held → ℕ → Type 0 };
 
     /// The record at a place.
-    fn read_record<S: Source>(&mut self, source: &mut S, place: u64) -> Result<Found<Self::Held, Self::Answer>, Halt>
+    fn read_record<S: Source>(
+        &mut self,
+        source: &mut S,
+        place: u64,
+    ) -> Result<Found<Self::Held, Self::Answer>, Halt>
         requires { (held : List Self.Held) × keeps self.now held place }
         ensures same { said self.new ≡ said self.old }
         ensures nears { IfOk result (λ found. Nears (S.state source.old) (S.state source.new) place (said_at place found)) }
@@ -47,7 +51,11 @@ pub trait Records {
 }
 
 /// The answer of the chain of these records, the first of which stands at this place.
-pub fn walk<S: Source, R: Records + Drop>(mut records: R, source: &mut S, first: u64) -> Result<R::Answer, Halt>
+pub fn walk<S: Source, R: Records + Drop>(
+    mut records: R,
+    source: &mut S,
+    first: u64,
+) -> Result<R::Answer, Halt>
     requires follows { CanFollow (chain_of first (R.said records)) }
     requires keeps { R.keeps records [] first }
     ensures { RunsOrHalts (S.state source.old) (S.state source.new) (S.failure source.new) result

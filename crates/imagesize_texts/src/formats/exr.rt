@@ -69,6 +69,7 @@ struct Attributes {
 
 impl Records for Attributes {
     type Held = ();
+
     type Answer = ImageSize;
 
     ghost said = { λ attributes passed place. exr_attribute attributes.names place };
@@ -77,7 +78,11 @@ impl Records for Attributes {
 
     // The attribute at a place.
     #[tactic(auto, using(imagesize_source::proofs::Runs::steps, imagesize_source::proofs::Runs::missed_before))]
-    fn read_record<S: Source>(&mut self, source: &mut S, place: u64) -> Result<Found<(), ImageSize>, Halt> {
+    fn read_record<S: Source>(
+        &mut self,
+        source: &mut S,
+        place: u64,
+    ) -> Result<Found<(), ImageSize>, Halt> {
         let names = self.names;
         let name = read_name(source, place, names, &mut self.room)?;
         if name.is_empty() {

@@ -76,6 +76,7 @@ struct Lines {
 
 impl Records for Lines {
     type Held = ();
+
     type Answer = ImageSize;
 
     ghost said = { λ _ passed place. line_at 0x0A place 256 (hdr_line place) };
@@ -84,7 +85,11 @@ impl Records for Lines {
 
     // The line at a place.
     #[tactic(auto, using(imagesize_source::proofs::Runs::steps))]
-    fn read_record<S: Source>(&mut self, source: &mut S, place: u64) -> Result<Found<(), ImageSize>, Halt> {
+    fn read_record<S: Source>(
+        &mut self,
+        source: &mut S,
+        place: u64,
+    ) -> Result<Found<(), ImageSize>, Halt> {
         let line = read_line_capped(source, place, b'\n', &mut self.room)?;
         if is_resolution(line) {
             let Some((height, width)) = lengths(line) else {

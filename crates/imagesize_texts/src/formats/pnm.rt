@@ -41,6 +41,7 @@ struct Words {
 
 impl Records for Words {
     type Held = ();
+
     type Answer = ImageSize;
 
     ghost said = { λ _ passed place. word place (pnm_word place) };
@@ -49,7 +50,11 @@ impl Records for Words {
 
     // The word at a place: with the height, where it is the width, and where it begins a comment with the rest of that.
     #[tactic(auto, using(imagesize_source::proofs::Runs::steps, imagesize_source::proofs::Runs::missed_before))]
-    fn read_record<S: Source>(&mut self, source: &mut S, place: u64) -> Result<Found<(), ImageSize>, Halt> {
+    fn read_record<S: Source>(
+        &mut self,
+        source: &mut S,
+        place: u64,
+    ) -> Result<Found<(), ImageSize>, Halt> {
         let word = read_word(source, place, &mut self.room)?;
         let taken = word.taken as u64;
         if is_comment(word.text) {

@@ -34,6 +34,7 @@ struct Chunks;
 
 impl Records for Chunks {
     type Held = ();
+
     type Answer = ImageSize;
 
     ghost said = { λ _ passed place. ilbm_chunk place };
@@ -42,7 +43,11 @@ impl Records for Chunks {
 
     // The chunk at a place.
     #[tactic(auto, using(imagesize_source::proofs::Runs::steps))]
-    fn read_record<S: Source>(&mut self, source: &mut S, place: u64) -> Result<Found<(), ImageSize>, Halt> {
+    fn read_record<S: Source>(
+        &mut self,
+        source: &mut S,
+        place: u64,
+    ) -> Result<Found<(), ImageSize>, Halt> {
         let head = read_bytes::<S, 8>(source, place)?;
         if is_bitmap_header(&head) {
             let width = read_u16_behind(source, place, 8, Endian::Big)? as usize;

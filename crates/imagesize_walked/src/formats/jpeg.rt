@@ -40,6 +40,7 @@ struct Segments {
 
 impl Records for Segments {
     type Held = u8;
+
     type Answer = ImageSize;
 
     ghost said = { λ _ markers place. jpeg_segment (depth markers) place };
@@ -49,7 +50,11 @@ impl Records for Segments {
     // The segment at a place.
     #[inline]
     #[tactic(auto, using(crate::proofs::Jpeg::stands_on, crate::proofs::Jpeg::segment_as, crate::proofs::Jpeg::shallow))]
-    fn read_record<S: Source>(&mut self, source: &mut S, place: u64) -> Result<Found<u8, ImageSize>, Halt> {
+    fn read_record<S: Source>(
+        &mut self,
+        source: &mut S,
+        place: u64,
+    ) -> Result<Found<u8, ImageSize>, Halt> {
         self.read_segment(source, place)
     }
 }
@@ -92,7 +97,11 @@ impl Segments {
     // The segment at a place.
     #[inline]
     #[tactic(auto, using(imagesize_source::proofs::Runs::steps))]
-    fn read_segment<S: Source>(&mut self, source: &mut S, place: u64) -> Result<Found<u8, ImageSize>, Halt>
+    fn read_segment<S: Source>(
+        &mut self,
+        source: &mut S,
+        place: u64,
+    ) -> Result<Found<u8, ImageSize>, Halt>
         requires { self.now.depth + 1 < 2 ^ 64 }
         ensures nears { IfOk result (λ found. Nears (S.state source.old) (S.state source.new) place (said_at place found)) }
         ensures depth { IfOk result (λ found. LeadsOn self.old.depth self.new.depth (said_at place found)) }

@@ -8,13 +8,13 @@ returns-then-place-ledger g c =
     record {
       reads =
           record {
-        bound = omega arith;
-        pays = λ some far. omega (arith, some);
-        keeps = record { told = refl; budget = refl; taken = omega arith; retries = omega arith; limit = λ few. few };
-        runs = λ home.
-            let told = told_by (g.R.Told.count c.args.reader.now) home (g.R.Told.telling c.args.reader.now) old in
-            behind_end _ _ _ _ _ told c.requires;
-      };
+            bound = omega arith;
+            pays = λ some far. omega (arith, some);
+            keeps = record { told = refl; budget = refl; taken = omega arith; retries = omega arith; limit = λ few. few };
+            runs = λ home.
+                let told = told_by (g.R.Told.count c.args.reader.now) home (g.R.Told.telling c.args.reader.now) old in
+                behind_end _ _ _ _ _ told c.requires;
+          };
       present = λ told. absurd (omega (arith, c.requires, told));
       goes_on = λ on. search (rules, on);
       ends = search rules;
