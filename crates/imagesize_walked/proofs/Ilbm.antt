@@ -1,15 +1,13 @@
 -- ILBM: how a walk along its chunks goes, how many bytes they are read from, and what it sees of an input.
-use Rattle.std.proofs.Common.{false, ℕ, ◌+◌, ◌*◌, ◌^◌, ◌<◌, ◌≤◌, true, List, length, Ok, Err, ap, ◌∙◌, arith}
-use Rattle.imagesize_walked.specs.Ilbm.{ilbm, ilbm_chunks, ilbm_chunk, ilbm_named, bitmap_header, chunk_bytes, chunk_length, is_bitmap_header, is_body}
+use Rattle.std.proofs.Common.{false, ℕ, ◌+◌, ◌*◌, ◌<◌, ◌≤◌, true, List, length, ap, ◌∙◌, arith}
+use Rattle.imagesize_walked.specs.Ilbm.{ilbm, ilbm_chunks, ilbm_named, bitmap_header, chunk_bytes, chunk_length, is_bitmap_header, is_body}
 use Rattle.imagesize_types.specs.declared.size.ImageSize.{ImageSize}
-use Rattle.imagesize_source.specs.declared.error.ImageError.{ImageError}
 use Rattle.imagesize_source.specs.declared.error.ImageError.TheVariants.{CorruptedImage}
 use Rattle.imagesize_source.specs.Agreement.{IsLocal}
-use Rattle.imagesize_source.specs.Chain.{Said, Decided, Next, Advances, records}
+use Rattle.imagesize_source.specs.Chain.{Said, Next, Advances, records}
 use Rattle.imagesize_source.specs.Counts.{AtMost}
 use Rattle.imagesize_source.specs.Extension.{Plain, Lasts}
-use Rattle.imagesize_source.specs.Layout.{Layout, layout_reads, refuse, done}
-use Rattle.imagesize_source.specs.Reading.{end_of_input}
+use Rattle.imagesize_source.specs.Layout.{Layout, refuse, done}
 use Rattle.imagesize_source.specs.State.{total}
 use Rattle.imagesize_source.specs.Walk.{CanFollow}
 use Rattle.imagesize_source.proofs.Advances.{Tells, advances}
