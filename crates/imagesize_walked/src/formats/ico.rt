@@ -4,13 +4,12 @@ ghost use Rattle.imagesize_walked.specs.Ico.{ico, icon_entries, icon_side, icon_
 ghost use Rattle.imagesize_types.specs.Largest.{later_largest};
 ghost use Rattle.imagesize_source.specs.declared.halt.Halt.TheVariants as halt;
 ghost use Rattle.imagesize_source.specs.Chain.{chain_at};
-ghost use Rattle.imagesize_source.specs.Halts.{RunsOrHalts, with_error};
-ghost use Rattle.imagesize_source.specs.Layout.{if_there, layout_reads, some_where};
+ghost use Rattle.imagesize_source.specs.Halts.{RunsOrHalts};
+ghost use Rattle.imagesize_source.specs.Layout.{if_there, layout_reads};
 ghost use Rattle.imagesize_source.specs.Layout.Layout.{«done»};
-ghost use Rattle.imagesize_source.specs.Reading.{map_answer};
-ghost use Rattle.imagesize_source.specs.State.{IsSound, Runs};
+ghost use Rattle.imagesize_source.specs.State.{IsSound};
 
-use imagesize_source::readings::{read_u16, read_whole_at};
+use imagesize_source::readings::{read_if_there, read_u16};
 use imagesize_source::source::Source;
 use imagesize_source::{Endian, Halt};
 use imagesize_types::size::{ImageSize, area};
@@ -40,24 +39,22 @@ fn largest<S: Source>(source: &mut S, count: u16) -> Result<ImageSize, Halt>
         (chain_at (icon_entries count) (S.state source.old).held.input) }
 {
     let mut best: Option<ImageSize> = None;
-    let mut sides = [0u8; 2];
     for index in 0..count {
-        if !read_sides(source, index, &mut sides)? {
+        let Some(bytes) = read_entry(source, index)? else {
             return answer(best);
-        }
-        best = Some(larger(best, icon_size(&sides)));
+        };
+        best = Some(larger(best, icon_size(bytes)));
     }
     answer(best)
 }
 
-// Reads the first two bytes of an entry, and returns whether the input has both.
+// The first two bytes of an entry, or none where the input ends before the second.
 #[inline]
-fn read_sides<S: Source>(source: &mut S, index: u16, sides: &mut [u8; 2]) -> Result<bool, Halt>
-    ensures { Runs (S.state source.old) (S.state source.new)
-        (map_answer (some_where sides.new) (with_error (S.failure source.new) (S.state source.new).frame.budget result))
+fn read_entry<S: Source>(source: &mut S, index: u16) -> Result<Option<[u8; 2]>, Halt>
+    ensures { RunsOrHalts (S.state source.old) (S.state source.new) (S.failure source.new) result
         (layout_reads (S.state source.old).held.input (if_there (6 + 16 * index) 2 done)) }
 {
-    read_whole_at(source, 6 + 16 * index as u64, sides)
+    read_if_there::<S, 2>(source, 6 + 16 * index as u64)
 }
 
 // What is answered at the end of the list.
@@ -78,12 +75,13 @@ fn larger(best: Option<ImageSize>, size: ImageSize) -> ImageSize
 }
 
 // The size that an entry begins with.
-fn icon_size(sides: &[u8; 2]) -> ImageSize
-    ensures { result ≡ icon_size sides.now }
+fn icon_size(bytes: [u8; 2]) -> ImageSize
+    ensures { result ≡ icon_size bytes }
 {
+    let [width, height] = bytes;
     ImageSize {
-        width: icon_side(sides[0]),
-        height: icon_side(sides[1]),
+        width: icon_side(width),
+        height: icon_side(height),
     }
 }
 
