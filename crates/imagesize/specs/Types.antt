@@ -39,7 +39,7 @@ use Rattle.imagesize_types.specs.declared.size.ImageSize.{ImageSize}
 -- What is said of a type: its place in the list, counted from 0; its name; and how its size is told.
 -- Of a size behind records `outside` is read outside of them and `in_record` in each, and `outside` is all of one at fixed
 -- places, with the type in both. Where it `lasts`, bytes that follow leave it as it is.
-pub record TypeRow : Type 0 where
+pub record TypeFacts : Type 0 where
   pub rank : ℕ
   pub name : List ℕ
   pub way : Way ImageSize
@@ -47,9 +47,9 @@ pub record TypeRow : Type 0 where
   pub in_record : ℕ
   pub lasts : Bool
 
--- a row, written in this order
-abbrev pub row : ℕ → List ℕ → Way ImageSize → ℕ → ℕ → Bool → TypeRow
-row rank name way outside in_record lasts = record {
+-- what is said of a type, written in this order
+abbrev pub facts : ℕ → List ℕ → Way ImageSize → ℕ → ℕ → Bool → TypeFacts
+facts rank name way outside in_record lasts = record {
   rank = rank;
   name = name;
   way = way;
@@ -59,32 +59,32 @@ row rank name way outside in_record lasts = record {
 }
 
 -- The table. The sizes that bytes that follow may change are those whose list or footer these may belong to.
-abbrev pub row_of : ImageType → TypeRow
-row_of Aseprite = row 0 (codes "Aseprite") (Fixed aseprite) 41 20 true
-row_of Astc = row 1 (codes "Astc") (Fixed astc) 41 20 true
-row_of (Atc _) = row 2 (codes "Atc") (Fixed atc) 40 20 true
-row_of Bmp = row 3 (codes "Bmp") (Fixed bmp) 41 20 true
-row_of (Dds _) = row 4 (codes "Dds") (Fixed dds) 28 20 true
-row_of (Eac _) = row 5 (codes "Eac") (Fixed pkm) 41 20 true
-row_of (Etc2 _) = row 6 (codes "Etc2") (Fixed pkm) 41 20 true
-row_of Exr = row 7 (codes "Exr") (Recorded 540 exr attributes_begun) 16 530 true
-row_of Farbfeld = row 8 (codes "Farbfeld") (Fixed farbfeld) 41 20 true
-row_of Gif = row 9 (codes "Gif") (Fixed gif) 41 20 true
-row_of Hdr = row 10 (codes "Hdr") (Texts hdr) 41 20 true
-row_of (Heif _) = row 11 (codes "Heif") (Recorded 20 heif heif_boxes) 32 20 false
-row_of Ico = row 12 (codes "Ico") (Recorded 20 ico icons_begun) 18 20 false
-row_of Ilbm = row 13 (codes "Ilbm") (Recorded 20 ilbm (records ilbm_chunks)) 18 20 true
-row_of Jpeg = row 14 (codes "Jpeg") (Recorded 20 jpeg (records jpeg_segments)) 18 20 true
-row_of Jxl = row 15 (codes "Jxl") (Recorded 20 jxl jxl_boxes) 45 20 true
-row_of Ktx2 = row 16 (codes "Ktx2") (Fixed ktx2) 41 20 true
-row_of Pnm = row 17 (codes "Pnm") (Texts pnm) 41 20 true
-row_of (Pvrtc _) = row 18 (codes "Pvrtc") (Fixed pvrtc) 36 20 true
-row_of Psd = row 19 (codes "Psd") (Fixed psd) 41 20 true
-row_of Qoi = row 20 (codes "Qoi") (Fixed qoi) 41 20 true
-row_of Tga = row 21 (codes "Tga") (Fixed tga) 41 20 false
-row_of Tiff = row 22 (codes "Tiff") (Recorded 20 tiff tiff_begun) 36 20 true
-row_of Vtf = row 23 (codes "Vtf") (Fixed vtf) 41 20 true
-row_of Webp = row 24 (codes "Webp") (Fixed webp) 41 20 true
+abbrev pub facts_of : ImageType → TypeFacts
+facts_of Aseprite = facts 0 (codes "Aseprite") (Fixed aseprite) 41 20 true
+facts_of Astc = facts 1 (codes "Astc") (Fixed astc) 41 20 true
+facts_of (Atc _) = facts 2 (codes "Atc") (Fixed atc) 40 20 true
+facts_of Bmp = facts 3 (codes "Bmp") (Fixed bmp) 41 20 true
+facts_of (Dds _) = facts 4 (codes "Dds") (Fixed dds) 28 20 true
+facts_of (Eac _) = facts 5 (codes "Eac") (Fixed pkm) 41 20 true
+facts_of (Etc2 _) = facts 6 (codes "Etc2") (Fixed pkm) 41 20 true
+facts_of Exr = facts 7 (codes "Exr") (Recorded 540 exr attributes_begun) 16 530 true
+facts_of Farbfeld = facts 8 (codes "Farbfeld") (Fixed farbfeld) 41 20 true
+facts_of Gif = facts 9 (codes "Gif") (Fixed gif) 41 20 true
+facts_of Hdr = facts 10 (codes "Hdr") (Texts hdr) 41 20 true
+facts_of (Heif _) = facts 11 (codes "Heif") (Recorded 20 heif heif_boxes) 32 20 false
+facts_of Ico = facts 12 (codes "Ico") (Recorded 20 ico icons_begun) 18 20 false
+facts_of Ilbm = facts 13 (codes "Ilbm") (Recorded 20 ilbm (records ilbm_chunks)) 18 20 true
+facts_of Jpeg = facts 14 (codes "Jpeg") (Recorded 20 jpeg (records jpeg_segments)) 18 20 true
+facts_of Jxl = facts 15 (codes "Jxl") (Recorded 20 jxl jxl_boxes) 45 20 true
+facts_of Ktx2 = facts 16 (codes "Ktx2") (Fixed ktx2) 41 20 true
+facts_of Pnm = facts 17 (codes "Pnm") (Texts pnm) 41 20 true
+facts_of (Pvrtc _) = facts 18 (codes "Pvrtc") (Fixed pvrtc) 36 20 true
+facts_of Psd = facts 19 (codes "Psd") (Fixed psd) 41 20 true
+facts_of Qoi = facts 20 (codes "Qoi") (Fixed qoi) 41 20 true
+facts_of Tga = facts 21 (codes "Tga") (Fixed tga) 41 20 false
+facts_of Tiff = facts 22 (codes "Tiff") (Recorded 20 tiff tiff_begun) 36 20 true
+facts_of Vtf = facts 23 (codes "Vtf") (Fixed vtf) 41 20 true
+facts_of Webp = facts 24 (codes "Webp") (Fixed webp) 41 20 true
 
 -- the types in their order, each with each way to store it that it has
 abbrev pub types : List ImageType
@@ -129,24 +129,24 @@ rows =
 
 -- the place of a type in its list
 abbrev pub type_rank : ImageType → ℕ
-type_rank type = (row_of type).rank
+type_rank type = (facts_of type).rank
 
 -- the name of a type
 abbrev pub type_name_of : ImageType → List ℕ
-type_name_of type = (row_of type).name
+type_name_of type = (facts_of type).name
 
 -- how the size of each type is told
 abbrev pub way_of : ImageType → Way ImageSize
-way_of type = (row_of type).way
+way_of type = (facts_of type).way
 
 -- what a size behind records is read from outside of them, and one at fixed places in all, with the type in both
 abbrev pub outside : ImageType → ℕ
-outside type = (row_of type).outside
+outside type = (facts_of type).outside
 
 -- what it is read from in each record
 abbrev pub in_record : ImageType → ℕ
-in_record type = (row_of type).in_record
+in_record type = (facts_of type).in_record
 
 -- bytes that follow change no size of this type
 abbrev pub lasts : ImageType → Bool
-lasts type = (row_of type).lasts
+lasts type = (facts_of type).lasts
