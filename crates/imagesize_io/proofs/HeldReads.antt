@@ -17,11 +17,11 @@ use Rattle.imagesize_io.specs.declared.reader.Ledger.{Ledger}
 use Rattle.imagesize_io.specs.declared.told.Stop.{Stop}
 use Rattle.imagesize_io.specs.Held.{IsWhole}
 use Rattle.imagesize_io.specs.ReaderState.{ReadsAt, kept_window}
-use Rattle.imagesize_io.specs.Standing.{Standing, onto, steady, in_step, stand_of, stand, drift, GivesSome, GivesFrom, KeepsCounts}
+use Rattle.imagesize_io.specs.Standing.{Standing, onto, steady, in_step, stand_of, stand, drift, GivesSome, GivesFrom, KeepsCounts, ReadsFrom}
 use Rattle.imagesize_io.specs.Telling.{Telling, ReadTells, counted}
 use Rattle.imagesize_io.proofs.Filling.{part-add}
 use Rattle.imagesize_io.proofs.TextReads.{text_rest, rest_start, rest_ends, rest_goes_on, rest_some}
-use Rattle.imagesize_io.proofs.Windows.{none_in, straight, told_by, same_frame}
+use Rattle.imagesize_io.proofs.Layers.{reads_past}
 
 -- so many bytes of a text were copied, and none of them ends it
 pub record Copied (t : Text) (begun : Bool) (index : ℕ) (bytes room : List ℕ) : Type 0 where
@@ -66,7 +66,7 @@ module _ {t : Text} {begun : Bool} {index : ℕ} {bytes room : List ℕ} (h : Co
       ∙ sym (take_more bytes index 0 here))
 
 -- a whole text has a byte
-whole_some : (t : Text) (bs : List ℕ) → IsWhole t bs → 0 < length bs
+pub whole_some : (t : Text) (bs : List ℕ) → IsWhole t bs → 0 < length bs
 whole_some t bs whole = by_length bs refl where
   by_length : (cs : List ℕ) → bs ≡ cs → 0 < length bs
   by_length [] is =
@@ -135,8 +135,9 @@ pub held_reads : {old new : Ledger} {telling telling' : Option Telling} {count c
     → old.progress.place ≡ place → place ≤ old.progress.told → length old.window.items < place → length old.window.items ≤ 32
     → new.window ≡ old.window → new.progress.told ≡ old.progress.told → new.progress.budget ≡ old.progress.budget
     → new.progress.retries ≡ old.progress.retries → new.progress.taken ≡ old.progress.taken + n
-    → new.progress.place ≡ min (place + n) (2 ^ 64 - 1) → ReadsAt old new telling telling' count count' place (take n room) (Ok n)
-held_reads {old} {new} {telling} {telling'} {count} {count'} {place} {n} room t gave counts fits whole at near far small same told budget retries taken now =
+    → new.progress.place ≡ min (place + n) (2 ^ 64 - 1) → new.progress.taken ≤ old.progress.budget
+    → ReadsAt old new telling telling' count count' place (take n room) (Ok n)
+held_reads {old} {new} {telling} {telling'} {count} {count'} {place} {n} room t gave counts fits whole at near far small same told budget retries taken now limit =
     let p : Progress = old.progress in
     let q : Progress = new.progress in
     let long : length (take n room) ≡ n = omega (arith, length-take n room, fits) in
@@ -157,29 +158,19 @@ held_reads {old} {new} {telling} {telling'} {count} {count'} {place} {n} room t 
     (subst (λ r. GivesFrom (stand telling p) (stand_of q.told q.place (steady telling' r)) p.place q.place (take n room) (Ok n)) (sym retries)
     (subst (λ k. GivesFrom (stand telling p) (stand_of k q.place (steady telling' p.retries)) p.place q.place (take n room) (Ok n)) (sym told)
     first)) in
-    let here : place + 0 ≡ place = omega arith in
-    record {
+    let read : ReadsFrom p q (stand telling p) (stand telling' q) count count' place (take n room) (Ok n) = record {
       bound = omega (arith, long);
-      pays = λ some beyond. absurd (omega (arith, near, beyond));
+      stand = gives;
+      stands = λ told. now;
+      taken = taken;
+      within = within_given (stand telling p) (stand telling' q) place q.place n p.taken q.taken (take n room) gives taken;
+      pays = λ beyond some. absurd (omega (arith, near, beyond));
+      since = since;
       keeps = keeps;
-      runs = λ home. straight {now = q.place} (record {
-        told = told_by count home telling p;
-        told_after = told_by count' home telling' q;
-        counts = refl;
-        frame = same_frame count count' home p q keeps since;
-        small = small;
-        count = omega (arith, far);
-        front = none_in old.window.items (take n room) place (length (take n room)) (omega (arith, far));
-        kept = refl;
-        short = some;
-        gives = subst (λ k. GivesFrom (stand telling p) (stand telling' q) k q.place (take n room) (Ok n)) (sym here) gives;
-        enough = omega (arith, long);
-        long = omega arith;
-        took = taken;
-        window = ap (λ w. w.items) same ∙ not_kept old.window.items (take n (take n room)) (place + 0) (omega (arith, far));
-        within = rw here (within_given (stand telling p) (stand telling' q) place q.place n p.taken q.taken (take n room) gives taken);
-      });
-    }
+      stops = tt;
+    } in
+    reads_past small (omega (arith, far)) (omega (arith, long, many)) read
+    (ap (λ w. w.items) same ∙ not_kept old.window.items (take n (take n room)) place far) limit
 
 -- and what byte by byte would be read
 pub held_text : {a c : State} (t : Text) (place n : ℕ) (room : List ℕ) → IsWhole t (take n room) → n ≤ length room

@@ -1,6 +1,7 @@
 mod Cursors
 pub mod Filling
 pub mod HeldReads
+pub mod Layers
 pub mod Openings
 pub mod Standings
 pub mod TextReads

@@ -409,27 +409,8 @@ pub none_in : (w more : List ℕ) (place k : ℕ) → length w ≤ place → mor
 unfolding part
 none_in w more place k far = ap (λ l. l ++ more) (sym (ap (take k) (drop_all place w far) ∙ take-nil k))
 
-put_whole : (more : List ℕ) → put_mid 0 (length more - 0) more more ≡ more
+pub put_whole : (more : List ℕ) → put_mid 0 (length more - 0) more more ≡ more
 put_whole more = ap (λ l. more ++ l) (drop_all (length more - 0) more (omega arith)) ∙ append-nil more
-
--- a reading of which the window has nothing
-pub straight : {f f' : Frame} {st st' : Option Standing} {w w' more : List ℕ} {taken taken' place now n : ℕ}
-    → Behind f f' st st' w w' more more more taken taken' place now 0 n → Runs (state_at f st w taken) (state_at f' st' w' taken')
-    (Ok (take n more)) (part_read (held_at st w).input place (length more))
-straight {f} {f'} {st} {st'} {w} {w'} {more} {taken} {taken'} {place} {now} {n} h =
-    let sum : 0 + n ≡ n = omega arith in
-    subst (λ l. Runs (state_at f st w taken) (state_at f' st' w' taken') (Ok (take n l))
-    (part_read (held_at st w).input place (length l))) (put_whole more)
-    (subst (λ m. Runs (state_at f st w taken) (state_at f' st' w' taken') (Ok (take m (put_mid 0 (length more - 0) more more)))
-    (part_read (held_at st w).input place (length (put_mid 0 (length more - 0) more more)))) sum (behind_window h))
-
--- and one that was stopped
-pub straight_stopped : {f f' : Frame} {st st' : Option Standing} {w w' more : List ℕ} {taken taken' place now : ℕ} {e : ImageError}
-    (value : ℕ → List ℕ) (r : Result ℕ ImageError) → Halted f f' st st' w w' more more more taken taken' place now 0 e → r ≡ Err e
-    → Runs (state_at f st w taken) (state_at f' st' w' taken') (map_answer value r) (part_read (held_at st w).input place (length more))
-straight_stopped {f} {f'} {st} {st'} {w} {w'} {more} {taken} {taken'} {place} value r h is =
-    subst (λ l. Runs (state_at f st w taken) (state_at f' st' w' taken') (map_answer value r)
-    (part_read (held_at st w).input place (length l))) (put_whole more) (behind_stopped value r h is)
 
 told_if : (f : Frame) (telling : Option Telling) (p : Progress) (st : Option Standing) → f.told ≡ p.told → stand telling p ≡ st
     → ToldBy f st

@@ -1,13 +1,15 @@
 -- A reader as a source: what it tells, the numbers beside it, and a window of its first bytes.
-use Rattle.std.specs.Prelude.{◌≡◌, ℕ, ◌+◌, ◌^◌, ◌-◌, min, ◌==◌, true, false, List, [], ◌++◌, length, take, drop, nat_le, if◌then◌else◌, Option, None, Some, Result, Ok, Err, IfOk, max, ◌<◌, ◌≤◌}
+use Rattle.std.specs.Prelude.{◌≡◌, ◌≢◌, ℕ, ◌+◌, ◌^◌, ◌-◌, min, ◌==◌, true, false, List, [], ◌++◌, length, take, drop, nat_le, if◌then◌else◌, Option, None, Some, Result, Ok, Err, IfOk, max, ◌<◌, ◌≤◌}
 use Rattle.imagesize_source.specs.declared.error.ImageError.{ImageError}
+use Rattle.imagesize_source.specs.declared.halt.Halt.{Halt}
+use Rattle.imagesize_source.specs.declared.text.Text.{Text}
 use Rattle.imagesize_io.specs.declared.reader.Opened.{Opened}
 use Rattle.imagesize_io.specs.declared.progress.Progress.{Progress}
 use Rattle.imagesize_source.specs.Limits.{allowance, most_held}
 use Rattle.imagesize_io.specs.declared.reader.Ledger.{Ledger}
-use Rattle.imagesize_source.specs.Reading.{part_read, map_answer}
+use Rattle.imagesize_source.specs.Reading.{part_read, text_read, map_answer}
 use Rattle.imagesize_io.specs.Telling.{Telling, at_place}
-use Rattle.imagesize_io.specs.Standing.{Standing, KeepsCounts, steady, stand_of, stand, drift}
+use Rattle.imagesize_io.specs.Standing.{Standing, KeepsCounts, steady, stand_of, stand, drift, with_kept_error}
 use Rattle.imagesize_source.specs.State.{State, Frame, Held, Runs}
 
 -- no claim
@@ -79,3 +81,22 @@ pub record ReadsAt (old new : Ledger) (telling telling' : Option Telling) (count
   pub runs : (home : ℕ) → Runs (reader_state telling count home old.progress old.window.items)
       (reader_state telling' count' home new.progress new.window.items) (map_answer (λ n. take n room) r)
       (part_read (held_at (stand telling old.progress) old.window.items).input place (length room))
+
+-- What a reading of a source did. Above the told length it goes on only from the end of the last reading: elsewhere it sees
+-- the end of the input, and makes no call of the reader.
+pub record ReadsOn {R : Type 0} (reader reader' : R) (old new : Ledger) (telling telling' : Option Telling) (count count' : Option ℕ)
+    (place : ℕ) (room : List ℕ) (r : Result ℕ Halt) : Type 0 where
+  pub reads : ReadsAt old new telling telling' count count' place room (with_kept_error new.progress r)
+  pub present : place ≤ old.progress.told → IfOk r (λ n. new.present ≡ min (place + n) (2 ^ 64 - 1))
+  pub goes_on : place ≡ old.present → IfOk r (λ n. new.present ≡ min (place + n) (2 ^ 64 - 1))
+  pub ends : old.progress.told < place → place ≢ old.present → (r ≡ Ok 0) × (reader' ≡ reader) × (new.present ≡ old.present)
+
+-- what a reading of a text from a place on did, over every reader
+pub record ReadsText (old new : Ledger) (telling telling' : Option Telling) (count count' : Option ℕ) (text : Text) (place : ℕ)
+    (room : List ℕ) (r : Result ℕ Halt) : Type 0 where
+  pub bound : IfOk r (λ n. n ≤ length room)
+  pub pays : IfOk r (λ n. 0 < n → max old.progress.told most_held < place → old.progress.taken < new.progress.taken)
+  pub runs : (home : ℕ) → Runs (reader_state telling count home old.progress old.window.items)
+      (reader_state telling' count' home new.progress new.window.items)
+      (map_answer (λ n. take n room) (with_kept_error new.progress r))
+      (text_read (held_at (stand telling old.progress) old.window.items).input text place (length room))

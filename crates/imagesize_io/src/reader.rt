@@ -87,7 +87,7 @@ impl<R: Told> Source for ReaderSource<'_, R> {
     }
 
     fn read_text(&mut self, place: u64, text: Text, room: &mut [u8]) -> Result<usize, Halt> {
-        text::read_text(self, place, text, room)
+        text::read_text(self.reader, &mut self.ledger, place, text, room)
     }
 }
 

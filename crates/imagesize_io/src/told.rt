@@ -6,12 +6,14 @@ ghost use Rattle.std.specs.Io.KnownBytes.{ReadConsumes};
 ghost use Rattle.std.specs.Io.Seek.{SeekMoves, IsAtOffset};
 ghost use Rattle.std.specs.declared.io.Error.{Error};
 ghost use Rattle.imagesize_io.specs.Held.{IsWhole};
+ghost use Rattle.imagesize_io.specs.Kept.{HeldOf};
 ghost use Rattle.imagesize_io.specs.Telling.{Telling, ReadTells, SeekTells, counted};
 ghost use Rattle.imagesize_io.specs.StopOf.{stop_of};
 
+use crate::held::copy_text;
 use imagesize_source::Text;
 use imagesize_source::part::copy_part;
-use std::io::{self, BufReader, Cursor, ErrorKind, Read, Seek, SeekFrom};
+use std::io::{self, BufRead, BufReader, Cursor, ErrorKind, Read, Seek, SeekFrom};
 
 /// Why a read gave nothing.
 #[derive(Debug, Drop)]
@@ -88,6 +90,16 @@ impl Told for Cursor<&[u8]> {
     }
 
     #[inline(always)]
+    fn read_held(&mut self, text: Text, room: &mut [u8]) -> Option<usize> {
+        let bytes = *self.get_ref();
+        let place = self.position();
+        let start = bytes.len().min(place as usize);
+        let count = copy_text(text, &bytes[start..], room)?;
+        self.set_position(place + count as u64);
+        Some(count)
+    }
+
+    #[inline(always)]
     fn seek_told(&mut self, to: SeekFrom) -> io::Result<u64> {
         // The proof needs that the place and the length are below 2^64.
         let place = self.position();
@@ -119,6 +131,22 @@ impl<R: Read + Seek + Drop> Told for BufReader<R> {
     {
         let count = self.read(room)?;
         Ok(count)
+    }
+
+    #[inline(always)]
+    fn read_held(&mut self, text: Text, room: &mut [u8]) -> Option<usize>
+        ensures bound { IfSome result (λ n. n ≤ length room.new) }
+        ensures whole { IfSome result (λ n. IsWhole text (take n room.new)) }
+        ensures told { IfSome result (λ n. ReadTells None None room.new (Ok n)) }
+        ensures counts { IfSome result (λ n. ◌≡◌ {A = Option ℕ} None (counted {E = Stop} None (Ok n))) }
+        ensures none { result ≡ None → (◌≡◌ {A = Option Telling} None None) × (◌≡◌ {A = Option ℕ} None None) }
+        // What it gives is in the buffer, and the reader below is not called.
+        ensures stays { result ≡ None → self.new ≡ self.old }
+        ensures held { IfSome result (HeldOf self.old self.new room.new) }
+    {
+        let count = copy_text(text, self.buffer(), room)?;
+        self.consume(count);
+        Some(count)
     }
 
     fn seek_told(&mut self, to: SeekFrom) -> io::Result<u64>

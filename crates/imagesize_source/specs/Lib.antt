@@ -14,4 +14,5 @@ pub mod Reading
 pub mod Reason
 pub mod State
 pub mod Text
+pub mod Walk
 pub mod Way

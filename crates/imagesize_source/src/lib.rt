@@ -9,6 +9,7 @@ pub mod readings;
 pub mod source;
 pub mod span;
 pub mod text;
+pub mod walk;
 
 pub use endian::Endian;
 pub use error::{ImageError, ImageResult, Reason};

@@ -1,5 +1,5 @@
 -- EXR: how a walk along its attributes goes, how many bytes they are read from, and what it sees of an input.
-use Rattle.std.proofs.Common.{◌≡◌, ℕ, suc, ◌+◌, ◌-◌, ◌*◌, ◌^◌, ◌<◌, ◌≤◌, Bool, cond, eqb, List, [], ◌∷◌, ◌++◌, length, take, Option, Some, None, Result, Ok, Err, true, false, refl, sym, ap, ◌∙◌, arith, slice_index_or}
+use Rattle.std.proofs.Common.{◌≡◌, ℕ, suc, ◌+◌, ◌-◌, ◌*◌, ◌<◌, ◌≤◌, Bool, cond, eqb, List, [], ◌∷◌, ◌++◌, length, take, Option, Some, None, Result, Ok, Err, true, false, refl, sym, ap, ◌∙◌, arith, slice_index_or}
 use Rattle.std.proofs.Math.Seq.{drop-cons}
 use Rattle.std.proofs.lemmas.Bool.Decides.{nat_tests}
 use Rattle.std.specs.Prelude.{◌&&◌}
@@ -17,8 +17,9 @@ use Rattle.imagesize_source.specs.Extension.{Plain, Lasts}
 use Rattle.imagesize_source.specs.Input.{span_of}
 use Rattle.imagesize_source.specs.Layout.{Layout, layout_reads, bytes, done, refuse}
 use Rattle.imagesize_source.specs.Numbers.{number}
-use Rattle.imagesize_source.specs.Reading.{go_on, number_at, number_read, end_of_input}
-use Rattle.imagesize_source.specs.State.{State, Runs, total}
+use Rattle.imagesize_source.specs.Reading.{go_on, number_at, number_read}
+use Rattle.imagesize_source.specs.State.{total}
+use Rattle.imagesize_source.specs.Walk.{CanFollow}
 use Rattle.imagesize_source.proofs.Advances.{Tells, advances}
 use Rattle.imagesize_source.proofs.Ahead.{Ahead, chain_ahead}
 use Rattle.imagesize_source.proofs.ChainLaws.{local_chain, lasts_chain, chain_cost_from}
@@ -28,7 +29,6 @@ use Rattle.imagesize_source.proofs.Numbers.{little_4}
 use Rattle.imagesize_source.proofs.Runs.{total-append}
 use Rattle.imagesize_source.proofs.Spends.{said_to}
 use Rattle.imagesize_source.proofs.Tests.{on_test}
-use Rattle.imagesize_source.proofs.Walks.{Walks, walks_start, walks_on, walks_stop, walks_out, walks_past}
 use Rattle.imagesize_source.proofs.Way.{RecordedLaws}
 use Rattle.imagesize_texts.specs.Exr.{exr, exr_attributes, exr_attribute, exr_named, exr_typed, exr_value, exr_window, name_room, window_size, is_data_window, is_box, signed_at, attributes_begun}
 use Rattle.imagesize_texts.specs.Texts.{line_at}
@@ -197,27 +197,9 @@ exr_laws = record {
   lasts = λ _. exr_lasts;
 }
 
--- how far a walk has come
-abbrev pub ExrWalks : ℕ → State → State → ℕ → Type 0
-ExrWalks room a b place = Walks (exr_attributes room) (λ passed. Unit {0}) a b place
-
-pub exr_start : (room : ℕ) (a : State) → ExrWalks room a a 8
-exr_start room a = walks_start (exr_attributes room) (λ passed. Unit {0}) a tt
-
-pub exr_on : {a b end : State} (room place next : ℕ) → ExrWalks room a b place → Runs b end (Ok (Next tt next))
-    (layout_reads b.held.input (exr_attribute room place)) → ExrWalks room a end next
-exr_on room place next w run = walks_on (exr_attributes room) (attribute_advances room) (λ passed. Unit {0}) w (λ passed. Unit {0}) tt
-    next (λ passed _. run) (λ passed _. tt)
-
-pub exr_stop : {a b end : State} (room place : ℕ) (size : ImageSize) → ExrWalks room a b place → Runs b end (Ok (Decided size))
-    (layout_reads b.held.input (exr_attribute room place)) → Runs a end (Ok size) (chain_at (exr_attributes room) a.held.input)
-exr_stop room place size w run = walks_stop (exr_attributes room) (attribute_advances room) (λ passed. Unit {0}) w size (λ passed _. run)
-
-pub exr_out : {a b end : State} (room place : ℕ) (e : ImageError) → ExrWalks room a b place
-    → Runs b end (Err e) (layout_reads b.held.input (exr_attribute room place)) → Runs a end (Err e) (chain_at (exr_attributes room) a.held.input)
-exr_out room place e w run = walks_out (exr_attributes room) (attribute_advances room) (λ passed. Unit {0}) w e (λ passed _. run)
-
-pub exr_past : {a b : State} (room place : ℕ) → 0 < room → ExrWalks room a b place → 2 ^ 64 ≤ place → Runs a b (Err end_of_input)
-    (chain_at (exr_attributes room) a.held.input)
-exr_past room place some w far = walks_past (exr_attributes room) (attribute_advances room) (λ passed. Unit {0}) w (omega arith)
-    (omega arith) (λ passed d _ h. line_beyond d 0 place room (exr_named room place) h some)
+-- a walk can follow the attributes
+pub exr_follows : (room : ℕ) → 0 < room → CanFollow (exr_attributes room)
+exr_follows room some = record {
+  advances = attribute_advances room;
+  beyond = λ passed place d h. line_beyond d 0 place room (exr_named room place) h some;
+}

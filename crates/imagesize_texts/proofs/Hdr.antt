@@ -1,5 +1,5 @@
 -- HDR: how a walk along its lines goes, how many bytes they are read from, and what it sees of an input.
-use Rattle.std.proofs.Common.{◌≡◌, ◌≢◌, ℕ, ◌+◌, ◌^◌, ◌<◌, ◌≤◌, List, [], ◌∷◌, ◌++◌, length, Some, None, true, Ok, Err, refl, ap, ◌∙◌, arith}
+use Rattle.std.proofs.Common.{◌≡◌, ◌≢◌, ℕ, ◌+◌, ◌<◌, ◌≤◌, List, [], ◌∷◌, ◌++◌, length, Some, None, true, Ok, refl, ap, ◌∙◌, arith}
 use Rattle.std.proofs.lemmas.Bool.Decides.{nat_tests}
 use Rattle.imagesize_types.specs.declared.size.ImageSize.{ImageSize}
 use Rattle.imagesize_source.specs.declared.error.ImageError.{ImageError}
@@ -9,8 +9,8 @@ use Rattle.imagesize_source.specs.Agreement.{IsLocal}
 use Rattle.imagesize_source.specs.Chain.{Said, Decided, Next, Advances, chain_at}
 use Rattle.imagesize_source.specs.Extension.{Plain, Lasts}
 use Rattle.imagesize_source.specs.Layout.{Layout, layout_reads, done, refuse, accept}
-use Rattle.imagesize_source.specs.Reading.{end_of_input}
-use Rattle.imagesize_source.specs.State.{State, Runs, total}
+use Rattle.imagesize_source.specs.State.{total}
+use Rattle.imagesize_source.specs.Walk.{CanFollow}
 use Rattle.imagesize_source.proofs.Advances.{Tells, advances}
 use Rattle.imagesize_source.proofs.Ahead.{Ahead}
 use Rattle.imagesize_source.proofs.ChainLaws.{local_chain, lasts_chain}
@@ -18,10 +18,8 @@ use Rattle.imagesize_source.proofs.Agreement.{local_then, local_layout, with_tex
 use Rattle.imagesize_source.proofs.Extension.{more}
 use Rattle.imagesize_source.proofs.Spends.{Onto, said_to, spends, spends_then, chain_onto}
 use Rattle.imagesize_source.proofs.Tests.{on_test}
-use Rattle.imagesize_source.proofs.Walks.{Walks, walks_start, walks_on, walks_stop, walks_out, walks_past}
 use Rattle.imagesize_source.proofs.Way.{TextsLaws}
 use Rattle.imagesize_texts.specs.Hdr.{hdr, hdr_identifier, identified, hdr_lines, hdr_line, is_identifier, is_resolution, resolution, second_and_fourth}
-use Rattle.imagesize_texts.specs.Texts.{line_at}
 use Rattle.imagesize_texts.proofs.Texts.{found_by, line_onto, line_plain, line_tells, line_begins, line_beyond, lasts_then}
 
 -- what holds of each line
@@ -73,31 +71,12 @@ hdr_within d =
 pub hdr_laws : TextsLaws 12 true true hdr
 hdr_laws = record { local = hdr_local; within = λ d. omega (arith, hdr_within d); lasts = λ _. hdr_lasts }
 
--- how far a walk has come
-abbrev pub HdrWalks : ℕ → State → State → ℕ → Type 0
-HdrWalks first a b place = Walks (hdr_lines first) (λ passed. Unit {0}) a b place
-
-pub hdr_start : (first : ℕ) (a : State) → HdrWalks first a a first
-hdr_start first a = walks_start (hdr_lines first) (λ passed. Unit {0}) a tt
-
-pub hdr_on : {a b end : State} (first place next : ℕ) → HdrWalks first a b place → Runs b end (Ok (Next tt next))
-    (layout_reads b.held.input (line_at 0x0A place 256 (hdr_line place))) → HdrWalks first a end next
-hdr_on first place next w run = walks_on (hdr_lines first) (hdr_advances first) (λ passed. Unit {0}) w (λ passed. Unit {0}) tt next
-    (λ passed _. run) (λ passed _. tt)
-
-pub hdr_stop : {a b end : State} (first place : ℕ) (size : ImageSize) → HdrWalks first a b place → Runs b end (Ok (Decided size))
-    (layout_reads b.held.input (line_at 0x0A place 256 (hdr_line place))) → Runs a end (Ok size) (chain_at (hdr_lines first) a.held.input)
-hdr_stop first place size w run = walks_stop (hdr_lines first) (hdr_advances first) (λ passed. Unit {0}) w size (λ passed _. run)
-
-pub hdr_out : {a b end : State} (first place : ℕ) (e : ImageError) → HdrWalks first a b place
-    → Runs b end (Err e) (layout_reads b.held.input (line_at 0x0A place 256 (hdr_line place)))
-    → Runs a end (Err e) (chain_at (hdr_lines first) a.held.input)
-hdr_out first place e w run = walks_out (hdr_lines first) (hdr_advances first) (λ passed. Unit {0}) w e (λ passed _. run)
-
-pub hdr_past : {a b : State} (first place : ℕ) → first < 2 ^ 64 → HdrWalks first a b place → 2 ^ 64 ≤ place → Runs a b (Err end_of_input)
-    (chain_at (hdr_lines first) a.held.input)
-hdr_past first place small w far = walks_past (hdr_lines first) (hdr_advances first) (λ passed. Unit {0}) w (omega arith) (omega arith)
-    (λ passed d _ h. line_beyond d 0x0A place 256 (hdr_line place) h (omega arith))
+-- a walk can follow the lines
+pub hdr_follows : (first : ℕ) → CanFollow (hdr_lines first)
+hdr_follows first = record {
+  advances = hdr_advances first;
+  beyond = λ passed place d h. line_beyond d 0x0A place 256 (hdr_line place) h (omega arith);
+}
 
 -- of another number of words than four none are the second and the fourth
 pub other_words : (ws : List (List ℕ)) → length ws ≢ 4 → second_and_fourth ws ≡ None

@@ -1,25 +1,24 @@
 -- PNM: how a walk along its words goes, how many bytes they are read from, and what it sees of an input.
-use Rattle.std.proofs.Common.{◌≡◌, ℕ, ◌+◌, ◌^◌, ◌<◌, ◌≤◌, eqb, List, ◌++◌, length, Option, None, true, Ok, Err, ap, ◌∙◌, arith}
+use Rattle.std.proofs.Common.{◌≡◌, ℕ, ◌+◌, ◌<◌, ◌≤◌, eqb, List, ◌++◌, length, Option, None, true, Ok, Err, ap, ◌∙◌, arith}
 use Rattle.std.specs.Str.{trim}
 use Rattle.imagesize_types.specs.declared.size.ImageSize.{ImageSize}
 use Rattle.imagesize_source.specs.declared.error.ImageError.{ImageError}
 use Rattle.imagesize_source.specs.Agreement.{IsLocal}
-use Rattle.imagesize_source.specs.Chain.{Said, Decided, Next, Advances}
+use Rattle.imagesize_source.specs.Chain.{Said, Decided, Advances}
 use Rattle.imagesize_source.specs.Extension.{Plain, Lasts}
-use Rattle.imagesize_source.specs.Layout.{Layout, layout_reads, done, accept}
-use Rattle.imagesize_source.specs.Reading.{end_of_input}
-use Rattle.imagesize_source.specs.State.{State, Runs, total}
+use Rattle.imagesize_source.specs.Layout.{Layout, done, accept}
+use Rattle.imagesize_source.specs.State.{total}
+use Rattle.imagesize_source.specs.Walk.{CanFollow}
 use Rattle.imagesize_source.proofs.Advances.{Tells, advances}
 use Rattle.imagesize_source.proofs.Ahead.{Ahead, chain_ahead}
 use Rattle.imagesize_source.proofs.Agreement.{with_texts}
 use Rattle.imagesize_source.proofs.ChainLaws.{local_chain, lasts_chain}
 use Rattle.imagesize_source.proofs.Spends.{said_to}
 use Rattle.imagesize_source.proofs.Tests.{on_test}
-use Rattle.imagesize_source.proofs.Walks.{Walks, walks_start, walks_on, walks_stop, walks_out, walks_past}
 use Rattle.imagesize_source.proofs.Way.{TextsLaws}
 use Rattle.imagesize_texts.specs.Contents.{WordRead, number_text}
 use Rattle.imagesize_texts.specs.Pnm.{pnm, pnm_words, pnm_word, pnm_comment, pnm_passed, pnm_height, pnm_size, is_comment, is_blank}
-use Rattle.imagesize_texts.specs.Texts.{passed_line, word}
+use Rattle.imagesize_texts.specs.Texts.{passed_line}
 use Rattle.imagesize_texts.proofs.Texts.{found_by, passed_onto, passed_plain, passed_tells, word_onto, word_plain, word_tells, word_begins, word_beyond}
 
 -- what holds of each way that a word can go
@@ -81,26 +80,9 @@ pnm_within d =
 pub pnm_laws : TextsLaws 12 true true pnm
 pnm_laws = record { local = pnm_local; within = λ d. omega (arith, pnm_within d); lasts = λ _. pnm_lasts }
 
--- how far a walk has come
-abbrev pub PnmWalks : State → State → ℕ → Type 0
-PnmWalks a b place = Walks pnm_words (λ passed. Unit {0}) a b place
-
-pub pnm_start : (a : State) → PnmWalks a a 2
-pnm_start a = walks_start pnm_words (λ passed. Unit {0}) a tt
-
-pub pnm_on : {a b end : State} (place next : ℕ) → PnmWalks a b place → Runs b end (Ok (Next tt next))
-    (layout_reads b.held.input (word place (pnm_word place))) → PnmWalks a end next
-pnm_on place next w run = walks_on pnm_words pnm_advances (λ passed. Unit {0}) w (λ passed. Unit {0}) tt next (λ passed _. run)
-    (λ passed _. tt)
-
-pub pnm_stop : {a b end : State} (place : ℕ) (size : ImageSize) → PnmWalks a b place → Runs b end (Ok (Decided size))
-    (layout_reads b.held.input (word place (pnm_word place))) → Runs a end (Ok size) (pnm a.held.input)
-pnm_stop place size w run = walks_stop pnm_words pnm_advances (λ passed. Unit {0}) w size (λ passed _. run)
-
-pub pnm_out : {a b end : State} (place : ℕ) (e : ImageError) → PnmWalks a b place
-    → Runs b end (Err e) (layout_reads b.held.input (word place (pnm_word place))) → Runs a end (Err e) (pnm a.held.input)
-pnm_out place e w run = walks_out pnm_words pnm_advances (λ passed. Unit {0}) w e (λ passed _. run)
-
-pub pnm_past : {a b : State} (place : ℕ) → PnmWalks a b place → 2 ^ 64 ≤ place → Runs a b (Err end_of_input) (pnm a.held.input)
-pnm_past place w far = walks_past pnm_words pnm_advances (λ passed. Unit {0}) w (omega arith) (omega arith)
-    (λ passed d _ h. word_beyond d place (pnm_word place) h)
+-- a walk can follow the words
+pub pnm_follows : CanFollow pnm_words
+pnm_follows = record {
+  advances = pnm_advances;
+  beyond = λ passed place d h. word_beyond d place (pnm_word place) h;
+}

@@ -52,6 +52,7 @@ pub fn read_line_capped<'a, S: Source>(
 }
 
 /// The text from a place on up to a byte 0, as `read_line_capped`.
+#[inline]
 pub fn read_null_terminated_string<'a, S: Source>(
     source: &mut S,
     place: u64,
@@ -69,6 +70,7 @@ pub fn read_null_terminated_string<'a, S: Source>(
 
 /// How many bytes there are from a place on up to a delimiter, and with it, as `read_line_capped`, but for a
 /// line that need not be text.
+#[inline]
 pub fn pass_line_capped<S: Source>(
     source: &mut S,
     place: u64,
@@ -92,6 +94,7 @@ pub fn pass_line_capped<S: Source>(
 ///
 /// `NoDelimiter` where 1024 bytes have no such end, `Ended` where the input ends before one, and
 /// `NotUtf8` where the word is no text.
+#[inline]
 pub fn read_word<'a, S: Source>(
     source: &mut S,
     place: u64,
@@ -109,6 +112,7 @@ pub fn read_word<'a, S: Source>(
 
 /// How many bytes the line at a distance behind a place takes, as `pass_line_capped`. A place above 2^64 - 1 is behind
 /// the end of every input.
+#[inline]
 pub fn pass_line_behind<S: Source>(
     source: &mut S,
     place: u64,
@@ -125,6 +129,7 @@ pub fn pass_line_behind<S: Source>(
 }
 
 /// The word at a distance behind a place. A place above 2^64 - 1 is behind the end of every input.
+#[inline]
 pub fn read_word_behind<'a, S: Source>(
     source: &mut S,
     place: u64,
@@ -139,6 +144,7 @@ pub fn read_word_behind<'a, S: Source>(
 }
 
 /// The number of the four bytes at a distance behind a place. A place above 2^64 - 1 is behind the end of every input.
+#[inline]
 pub fn read_u32_behind<S: Source>(
     source: &mut S,
     place: u64,
@@ -166,6 +172,7 @@ fn line_text(bytes: &[u8], delimiter: u8, most: usize) -> Result<&str, Halt>
 }
 
 // How many bytes a line takes, where there is room for so many.
+#[inline]
 #[tactic(auto, unfolding(crate::specs::Contents::line_length))]
 fn line_length(bytes: &[u8], delimiter: u8, most: usize) -> Result<usize, Halt>
     requires { most < 2 ^ 32 }
@@ -178,6 +185,7 @@ fn line_length(bytes: &[u8], delimiter: u8, most: usize) -> Result<usize, Halt>
 }
 
 // The word that stands behind white space.
+#[inline]
 #[tactic(auto, using(crate::proofs::Words::unspaced_is), unfolding(crate::specs::Contents::word_text))]
 fn word_text(bytes: &[u8]) -> Result<Word<'_>, Halt>
     ensures { (failure : ImageError) (budget : ℕ) →
@@ -187,6 +195,7 @@ fn word_text(bytes: &[u8]) -> Result<Word<'_>, Halt>
 }
 
 // The word that begins the bytes, of so many with the white space before them.
+#[inline]
 #[tactic(auto, unfolding(crate::specs::Contents::ended_word))]
 fn ended_word(bytes: &[u8], taken: usize) -> Result<Word<'_>, Halt>
     ensures { (failure : ImageError) (budget : ℕ) →

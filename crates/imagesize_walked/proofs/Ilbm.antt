@@ -1,16 +1,15 @@
 -- ILBM: how a walk along its chunks goes, how many bytes they are read from, and what it sees of an input.
-use Rattle.std.proofs.Common.{false, ℕ, ◌+◌, ◌*◌, ◌^◌, ◌<◌, ◌≤◌, true, List, length, Ok, Err, ap, ◌∙◌, arith}
-use Rattle.imagesize_walked.specs.Ilbm.{ilbm, ilbm_chunks, ilbm_chunk, ilbm_named, bitmap_header, chunk_bytes, chunk_length, is_bitmap_header, is_body}
+use Rattle.std.proofs.Common.{false, ℕ, ◌+◌, ◌*◌, ◌<◌, ◌≤◌, true, List, length, ap, ◌∙◌, arith}
+use Rattle.imagesize_walked.specs.Ilbm.{ilbm, ilbm_chunks, ilbm_named, bitmap_header, chunk_bytes, chunk_length, is_bitmap_header, is_body}
 use Rattle.imagesize_types.specs.declared.size.ImageSize.{ImageSize}
-use Rattle.imagesize_source.specs.declared.error.ImageError.{ImageError}
 use Rattle.imagesize_source.specs.declared.error.ImageError.TheVariants.{CorruptedImage}
 use Rattle.imagesize_source.specs.Agreement.{IsLocal}
-use Rattle.imagesize_source.specs.Chain.{Said, Decided, Next, Advances, records}
+use Rattle.imagesize_source.specs.Chain.{Said, Next, Advances, records}
 use Rattle.imagesize_source.specs.Counts.{AtMost}
 use Rattle.imagesize_source.specs.Extension.{Plain, Lasts}
-use Rattle.imagesize_source.specs.Layout.{Layout, layout_reads, refuse, done}
-use Rattle.imagesize_source.specs.Reading.{end_of_input}
-use Rattle.imagesize_source.specs.State.{State, Runs, total}
+use Rattle.imagesize_source.specs.Layout.{Layout, refuse, done}
+use Rattle.imagesize_source.specs.State.{total}
+use Rattle.imagesize_source.specs.Walk.{CanFollow}
 use Rattle.imagesize_source.proofs.Advances.{Tells, advances}
 use Rattle.imagesize_source.proofs.Ahead.{Ahead, chain_ahead}
 use Rattle.imagesize_source.proofs.PastTheEnd.{bytes_beyond}
@@ -18,7 +17,6 @@ use Rattle.imagesize_source.proofs.Agreement.{without_texts}
 use Rattle.imagesize_source.proofs.ChainLaws.{local_chain, lasts_chain, chain_cost}
 use Rattle.imagesize_source.proofs.Tests.{on_test}
 use Rattle.imagesize_source.proofs.Way.{RecordedLaws}
-use Rattle.imagesize_source.proofs.Walks.{Walks, walks_start, walks_on, walks_stop, walks_out, walks_past}
 
 -- what holds of each chunk, by its name
 by_name : (P : Layout (Said (Unit {0}) ImageSize) → Type 0) (place : ℕ) (head : List ℕ) → P (refuse CorruptedImage)
@@ -59,29 +57,12 @@ ilbm_within d =
     )) in
     omega arith
 
--- how far a walk has come
-abbrev pub IlbmWalks : State → State → ℕ → Type 0
-IlbmWalks a b place = Walks ilbm_chunks (λ passed. Unit {0}) a b place
-
-pub ilbm_start : (a : State) → IlbmWalks a a 12
-ilbm_start a = walks_start ilbm_chunks (λ passed. Unit {0}) a tt
-
-pub ilbm_on : {a b end : State} (place next : ℕ) → IlbmWalks a b place → Runs b end (Ok (Next tt next))
-    (layout_reads b.held.input (ilbm_chunk place)) → IlbmWalks a end next
-ilbm_on place next w run = walks_on ilbm_chunks ilbm_advances (λ passed. Unit {0}) w (λ passed. Unit {0}) tt next (λ passed _. run)
-    (λ passed _. tt)
-
-pub ilbm_stop : {a b end : State} (place : ℕ) (size : ImageSize) → IlbmWalks a b place → Runs b end (Ok (Decided size))
-    (layout_reads b.held.input (ilbm_chunk place)) → Runs a end (Ok size) (ilbm a.held.input)
-ilbm_stop place size w run = walks_stop ilbm_chunks ilbm_advances (λ passed. Unit {0}) w size (λ passed _. run)
-
-pub ilbm_out : {a b end : State} (place : ℕ) (e : ImageError) → IlbmWalks a b place
-    → Runs b end (Err e) (layout_reads b.held.input (ilbm_chunk place)) → Runs a end (Err e) (ilbm a.held.input)
-ilbm_out place e w run = walks_out ilbm_chunks ilbm_advances (λ passed. Unit {0}) w e (λ passed _. run)
-
-pub ilbm_past : {a b : State} (place : ℕ) → IlbmWalks a b place → 2 ^ 64 ≤ place → Runs a b (Err end_of_input) (ilbm a.held.input)
-ilbm_past place w far = walks_past ilbm_chunks ilbm_advances (λ passed. Unit {0}) w (omega arith) (omega arith)
-    (λ passed d _ h. bytes_beyond d place 8 (λ head. ilbm_named place head) h (omega arith))
+-- a walk can follow the chunks
+pub ilbm_follows : CanFollow ilbm_chunks
+ilbm_follows = record {
+  advances = ilbm_advances;
+  beyond = λ passed place d h. bytes_beyond d place 8 (λ head. ilbm_named place head) h (omega arith);
+}
 
 pub ilbm_laws : RecordedLaws 12 18 20 true false ilbm (records ilbm_chunks)
 ilbm_laws = record {

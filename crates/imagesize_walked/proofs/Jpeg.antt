@@ -1,10 +1,10 @@
 -- JPEG: how a walk along its segments goes, how many bytes they are read from, and what it sees of an input.
-use Rattle.std.proofs.Common.{false, zero-add, ◌≡◌, ℕ, ◌+◌, ◌-◌, ◌*◌, ◌^◌, ◌<◌, ◌≤◌, Bool, true, cond, eqb, List, [], ◌∷◌, ◌++◌, length, Result, Ok, Err, refl, sym, ap, ◌∙◌, subst, arith, slice_index}
+use Rattle.std.proofs.Common.{false, zero-add, ◌≡◌, ℕ, ◌+◌, ◌-◌, ◌*◌, ◌^◌, ◌<◌, ◌≤◌, Bool, true, cond, eqb, List, [], ◌∷◌, ◌++◌, length, Result, Ok, Err, IfOk, refl, sym, ap, ◌∙◌, subst, arith, slice_index}
 use Rattle.std.proofs.lemmas.Bool.Decides.{nat_tests}
 use Rattle.std.proofs.lemmas.List.Sums.{sum_by-append}
 use Rattle.std.specs.Prelude.{count_by}
-use Rattle.imagesize_walked.specs.Jpeg.{jpeg, jpeg_segments, jpeg_segment, jpeg_marked, jpeg_frame, jpeg_other, is_own_frame, is_own_end, depth, count_starts, count_ends}
-use Rattle.imagesize_walked.specs.Walks.{depth_behind}
+use Rattle.imagesize_walked.specs.Jpeg.{jpeg, jpeg_segments, jpeg_segment, jpeg_marked, jpeg_frame, jpeg_other, is_own_frame, is_own_end, depth}
+use Rattle.imagesize_walked.specs.Walks.{depth_behind, LeadsTo, LeadsOn, Nested, Stands}
 use Rattle.imagesize_types.specs.declared.size.ImageSize.{ImageSize}
 use Rattle.imagesize_source.specs.declared.error.ImageError.{ImageError}
 use Rattle.imagesize_source.specs.declared.error.ImageError.TheVariants.{CorruptedImage}
@@ -15,8 +15,12 @@ use Rattle.imagesize_source.specs.Extension.{Plain, Lasts}
 use Rattle.imagesize_source.specs.Input.{span_of}
 use Rattle.imagesize_source.specs.declared.endian.Endian.TheVariants.{Big}
 use Rattle.imagesize_source.specs.Layout.{Layout, layout_reads, refuse, done}
-use Rattle.imagesize_source.specs.Reading.{Reads, put_behind, bytes_at, number_at, end_of_input}
+use Rattle.imagesize_source.specs.Reading.{Reads, put_behind, bytes_at, number_at}
+use Rattle.imagesize_source.specs.Paying.{Nears}
 use Rattle.imagesize_source.specs.State.{State, Runs, total}
+use Rattle.imagesize_source.specs.Walk.{CanFollow, KeepsOn, said_at}
+use Rattle.imagesize_source.specs.declared.halt.Halt.{Halt}
+use Rattle.imagesize_source.specs.declared.walk.Found.{Found}
 use Rattle.imagesize_source.proofs.Advances.{Tells, advances, tells}
 use Rattle.imagesize_source.proofs.PastTheEnd.{bytes_beyond}
 use Rattle.imagesize_source.proofs.Agreement.{without_texts}
@@ -27,7 +31,6 @@ use Rattle.imagesize_source.proofs.Extension.{bytes_ok, number_ok}
 use Rattle.imagesize_source.proofs.Runs.{total-append}
 use Rattle.imagesize_source.proofs.Tests.{on_test}
 use Rattle.imagesize_source.proofs.Way.{RecordedLaws}
-use Rattle.imagesize_source.proofs.Walks.{Walks, walks_start, walks_on, walks_stop, walks_out, walks_past}
 
 -- what holds of each way that a segment can go
 by_head : (P : Layout (Said ℕ ImageSize) → Type 0) (k place : ℕ) (head : List ℕ) → P (refuse CorruptedImage) → P (jpeg_frame place)
@@ -72,11 +75,6 @@ jpeg_local = local_chain jpeg_segments jpeg_advances
 pub jpeg_cost : (d : List ℕ) → total (jpeg d).marks ≤ 6 * records jpeg_segments d
 jpeg_cost d = chain_cost jpeg_segments d (jpeg_advances d) 6 (λ markers place. segment_at_most (depth markers) place)
 
--- As many images were started and not ended, and none was ended that was not started.
-pub record Nested (k : ℕ) (markers : List ℕ) : Type 0 where
-  pub is : depth markers ≡ k
-  pub balanced : count_ends markers ≤ count_starts markers
-
 counts_on : (p : ℕ → Bool) (markers : List ℕ) (marker : ℕ) → count_by p (markers ++ marker ∷ []) ≡ count_by p markers + cond (p marker) 1 0
 counts_on p markers marker = sum_by-append (λ m. cond (p m) 1 0) markers (marker ∷ []) ∙ ap (λ n. count_by p markers + n)
     (zero-add (cond (p marker) 1 0))
@@ -93,35 +91,46 @@ nested_on k marker markers inner h =
 pub depth_rises : (k marker : ℕ) → depth_behind k marker ≤ k + 1
 depth_rises k marker = grind (arith, nat_tests)
 
--- how far a walk has come
-abbrev pub JpegWalks : State → State → ℕ → ℕ → Type 0
-JpegWalks a b place k = Walks jpeg_segments (Nested k) a b place
+-- the first segment stands in the image itself
+pub stands_first : Stands 0 [] 2
+stands_first = record { nested = record { is = refl; balanced = omega arith }; shallow = omega arith }
 
-pub jpeg_start : (a : State) → JpegWalks a a 2 0
-jpeg_start a = walks_start jpeg_segments (Nested 0) a (record { is = refl; balanced = omega arith })
+-- and a place of 64 bits stands no deeper than a number of 64 bits
+pub shallow : (k place : ℕ) → (markers : List ℕ) × Stands k markers place → place < 2 ^ 64 → k + 1 < 2 ^ 64
+shallow k place h small = let less = h.1.shallow in omega arith
 
-segment_as : {b : State} {r : Result (Said ℕ ImageSize) ImageError} {end : State} (k place : ℕ)
-    → Runs b end r (layout_reads b.held.input (jpeg_segment k place)) → (markers : List ℕ) → Nested k markers
-    → Runs b end r (layout_reads b.held.input (jpeg_segment (depth markers) place))
-segment_as {b} {r} {end} k place run markers h = subst (λ n. Runs b end r (layout_reads b.held.input (jpeg_segment n place))) (sym h.is) run
+-- behind a segment the next one stands as deep as that leads
+stands_next : (k behind place : ℕ) (markers : List ℕ) (said : Said ℕ ImageSize) (a b : State) → Stands k markers place
+    → LeadsOn k behind said → Nears a b place said → KeepsOn (Stands behind) markers said
+unfolding LeadsTo
+stands_next k behind place markers (Decided size) a b h leads nears = tt
+stands_next k behind place markers (Next marker next) a b h leads nears =
+    let rises = depth_rises k marker in let less = h.shallow in let on = nears.0 in let is = leads.0 in
+    record {
+      nested = subst (λ n. Nested n (markers ++ marker ∷ [])) (sym leads.0) (nested_on k marker markers leads.1 h.nested);
+      shallow = omega arith;
+    }
 
-pub jpeg_on : {a b end : State} (place next k marker : ℕ) → (marker ≡ 0xD9 → 0 < k) → JpegWalks a b place k
-    → Runs b end (Ok (Next marker next)) (layout_reads b.held.input (jpeg_segment k place)) → JpegWalks a end next (depth_behind k marker)
-jpeg_on place next k marker inner w run = walks_on jpeg_segments jpeg_advances (Nested k) w (Nested (depth_behind k marker)) marker next
-    (segment_as k place run) (λ markers h. nested_on k marker markers inner h)
+pub stands_on : (k behind place : ℕ) (markers : List ℕ) (r : Result (Found ℕ ImageSize) Halt) (a b : State) → Stands k markers place
+    → IfOk r (λ found. LeadsOn k behind (said_at place found)) → IfOk r (λ found. Nears a b place (said_at place found))
+    → IfOk r (λ found. KeepsOn (Stands behind) markers (said_at place found))
+stands_on k behind place markers (Ok found) a b h leads nears = stands_next k behind place markers (said_at place found) a b h leads nears
+stands_on k behind place markers (Err why) a b h leads nears = tt
 
-pub jpeg_stop : {a b end : State} (place k : ℕ) (size : ImageSize) → JpegWalks a b place k → Runs b end (Ok (Decided size))
-    (layout_reads b.held.input (jpeg_segment k place)) → Runs a end (Ok size) (jpeg a.held.input)
-jpeg_stop place k size w run = walks_stop jpeg_segments jpeg_advances (Nested k) w size (segment_as k place run)
+-- it is the segment behind these markers
+pub segment_as : {a b : State} {r : Result (Said ℕ ImageSize) ImageError} (k place : ℕ)
+    → Runs a b r (layout_reads a.held.input (jpeg_segment k place)) → (markers : List ℕ) → Stands k markers place
+    → Runs a b r (layout_reads a.held.input (jpeg_segment (depth markers) place))
+segment_as {a} {b} {r} k place run markers h =
+    subst (λ n. Runs a b r (layout_reads a.held.input (jpeg_segment n place))) (sym h.nested.is) run
 
-pub jpeg_out : {a b end : State} (place k : ℕ) (e : ImageError) → JpegWalks a b place k
-    → Runs b end (Err e) (layout_reads b.held.input (jpeg_segment k place)) → Runs a end (Err e) (jpeg a.held.input)
-jpeg_out place k e w run = walks_out jpeg_segments jpeg_advances (Nested k) w e (segment_as k place run)
-
-pub jpeg_past : {a b : State} (place k : ℕ) → JpegWalks a b place k → 2 ^ 64 ≤ place → Runs a b (Err end_of_input) (jpeg a.held.input)
-jpeg_past place k w far = walks_past jpeg_segments jpeg_advances (Nested k) w (omega arith) (omega arith)
-    (λ markers d _ h. bytes_beyond d place 2 (λ head. cond (eqb (slice_index head 0) 0xFF)
-    (jpeg_marked (depth markers) place (slice_index head 1)) (refuse CorruptedImage)) h (omega arith))
+-- a walk can follow the segments
+pub jpeg_follows : CanFollow jpeg_segments
+jpeg_follows = record {
+  advances = jpeg_advances;
+  beyond = λ markers place d h. bytes_beyond d place 2 (λ head. cond (eqb (slice_index head 0) 0xFF)
+      (jpeg_marked (depth markers) place (slice_index head 1)) (refuse CorruptedImage)) h (omega arith);
+}
 
 -- What may be read from a place on: the bytes there, and 6 more where a segment can begin. A length below 2
 -- leads to one of its own bytes, which is not FF.

@@ -1,24 +1,10 @@
 -- What the walks of the code hold and say, of one record at a place.
-use Rattle.std.specs.Prelude.{◌≡◌, ℕ, ◌+◌, ◌-◌, ◌<◌, ◌==◌, if◌then◌else◌}
+use Rattle.std.specs.Prelude.{◌≡◌, ℕ, ◌+◌, ◌-◌, ◌<◌, ◌≤◌, ◌==◌, List, if◌then◌else◌}
 use Rattle.imagesize_source.specs.Chain.{Said, Decided, Next}
 use Rattle.imagesize_types.specs.declared.size.ImageSize.{ImageSize}
-use Rattle.imagesize_walked.specs.Ilbm.{chunk_bytes}
-use Rattle.imagesize_walked.specs.declared.formats.ilbm.Chunk.{Chunk}
-use Rattle.imagesize_walked.specs.declared.formats.ilbm.Chunk.TheVariants as chunk
+use Rattle.imagesize_walked.specs.Jpeg.{depth, count_starts, count_ends}
 use Rattle.imagesize_walked.specs.declared.formats.jpeg.Role.{Role}
 use Rattle.imagesize_walked.specs.declared.formats.jpeg.Role.TheVariants as role
-use Rattle.imagesize_walked.specs.declared.formats.jpeg.Segment.{Segment}
-use Rattle.imagesize_walked.specs.declared.formats.jpeg.Segment.TheVariants as segment
-
--- what a chunk of an ILBM says
-abbrev pub chunk_said : ℕ → Chunk → Said (Unit {0}) ImageSize
-chunk_said place (chunk.Header size) = Decided size
-chunk_said place (chunk.Other length) = Next tt (place + chunk_bytes length)
-
--- what a segment of a JPEG says
-abbrev pub segment_said : ℕ → Segment → Said ℕ ImageSize
-segment_said place (segment.Frame size) = Decided size
-segment_said place (segment.Other marker behind length) = Next marker (place + (2 + length))
 
 -- the depth behind a segment with this marker
 abbrev pub depth_behind : ℕ → ℕ → ℕ
@@ -29,9 +15,19 @@ unfoldable pub LeadsTo : ℕ → ℕ → ℕ → Type 0
 LeadsTo depth marker behind = (behind ≡ depth_behind depth marker) × (marker ≡ 0xD9 → 0 < depth)
 
 -- and behind a segment that is none of the image's own frames
-abbrev pub LeadsOn : ℕ → Segment → Type 0
-LeadsOn depth (segment.Frame size) = Unit {0}
-LeadsOn depth (segment.Other marker behind length) = LeadsTo depth marker behind
+abbrev pub LeadsOn : ℕ → ℕ → Said ℕ ImageSize → Type 0
+LeadsOn depth behind (Decided size) = Unit {0}
+LeadsOn depth behind (Next marker next) = LeadsTo depth marker behind
+
+-- As many images were started and not ended, and none was ended that was not started.
+pub record Nested (k : ℕ) (markers : List ℕ) : Type 0 where
+  pub is : depth markers ≡ k
+  pub balanced : count_ends markers ≤ count_starts markers
+
+-- so behind these segments, each of which is no less than a byte
+pub record Stands (k : ℕ) (markers : List ℕ) (place : ℕ) : Type 0 where
+  pub nested : Nested k markers
+  pub shallow : k < place
 
 -- the same of what a marker says of its segment, before the segment is read
 abbrev pub RoleLeadsOn : ℕ → ℕ → Role → Type 0

@@ -12,7 +12,7 @@ ghost use Rattle.imagesize_source.specs.State.{Runs, IsSound};
 ghost use Rattle.imagesize_source.specs.declared.error.ImageError.{ImageError};
 
 use imagesize_source::readings::{
-    place_behind, read_bytes, read_bytes_behind, read_if_there, read_if_there_behind, read_u32,
+    place_behind, read_bytes, read_bytes_behind, read_if_there, read_u32, read_whole_behind,
 };
 use imagesize_source::source::Source;
 use imagesize_source::{Endian, Halt};
@@ -44,10 +44,11 @@ pub fn detect_compression<S: Source>(
         return Ok(brand_compression(brand));
     }
     // the version and the first two compatible brands
-    match read_if_there_behind::<S, 12>(source, place, 12)? {
-        Some(brands) => Ok(compatible_compression(&brands)),
-        None => Ok(Compression::Unknown),
+    let mut brands = [0u8; 12];
+    if !read_whole_behind(source, place, 12, &mut brands)? {
+        return Ok(Compression::Unknown);
     }
+    Ok(compatible_compression(&brands))
 }
 
 fn compatible_compression(brands: &[u8; 12]) -> Compression

@@ -9,7 +9,7 @@ ghost use Rattle.imagesize_source.specs.Layout.{layout_reads};
 
 use crate::container::{dds, pkm, pvrtc};
 use imagesize_source::Halt;
-use imagesize_source::readings::{read_bytes, read_if_there};
+use imagesize_source::readings::{read_exact_at, read_whole_at};
 use imagesize_source::source::Source;
 use imagesize_types::compression::AtcCompression;
 use imagesize_types::size::ImageSize;
@@ -40,9 +40,10 @@ pub fn detect_compression<S: Source>(source: &mut S) -> Result<AtcCompression, H
     ensures { RunsOrHalts (S.state source.old) (S.state source.new) (S.failure source.new) result
         (layout_reads (S.state source.old).held.input atc_compression) }
 {
-    let Some(header) = read_if_there::<S, 8>(source, 0)? else {
+    let mut header = [0u8; 8];
+    if !read_whole_at(source, 0, &mut header)? {
         return Ok(AtcCompression::Unknown);
-    };
+    }
     if !pkm::is_pkm(&header) {
         return Ok(AtcCompression::Unknown);
     }
@@ -76,11 +77,13 @@ pub fn size<S: Source>(source: &mut S) -> Result<ImageSize, Halt>
     ensures { RunsOrHalts (S.state source.old) (S.state source.new) (S.failure source.new) result
         (layout_reads (S.state source.old).held.input atc) }
 {
-    let tag = read_bytes::<S, 4>(source, 0)?;
+    let mut tag = [0u8; 4];
+    read_exact_at(source, 0, &mut tag)?;
     if dds::is_dds(&tag) {
         return dds::size(source);
     }
-    let header = read_bytes::<S, 8>(source, 0)?;
+    let mut header = [0u8; 8];
+    read_exact_at(source, 0, &mut header)?;
     if is_atc(&header) {
         return pkm::size(source);
     }

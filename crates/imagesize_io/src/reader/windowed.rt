@@ -1,6 +1,6 @@
 //! A reading through the window: what it has is not read again, and what follows it is kept.
-ghost use Rattle.std.specs.Prelude.{◌≡◌, ◌+◌, ◌-◌, ◌^◌, ◌<◌, ◌≤◌, ◌≢◌, min, IfOk};
-ghost use Rattle.imagesize_io.specs.ReaderState.{ReadsAt};
+ghost use Rattle.std.specs.Prelude.{◌<◌, ◌≤◌};
+ghost use Rattle.imagesize_io.specs.ReaderState.{ReadsAt, ReadsOn};
 ghost use Rattle.imagesize_io.specs.Standing.{stand, with_kept_error, ReadsFrom};
 
 use super::Ledger;
@@ -19,9 +19,8 @@ fn read_windowed<R: Told>(
     room: &mut [u8],
 ) -> Result<usize, Halt>
     requires { place ≤ ledger.old.progress.told }
-    ensures present { IfOk result (λ n. ledger.new.present ≡ min (place + n) (2 ^ 64 - 1)) }
-    ensures reads { ReadsAt ledger.old ledger.new (R.telling reader.old) (R.telling reader.new) (R.count reader.old) (R.count reader.new)
-        place room.new (with_kept_error ledger.new.progress result) }
+    ensures { ReadsOn reader.old reader.new ledger.old ledger.new (R.telling reader.old) (R.telling reader.new)
+        (R.count reader.old) (R.count reader.new) place room.new result }
 {
     if place < ledger.window.len() as u64 || room.is_empty() {
         let count = read_within(reader, ledger, place, room)?;
@@ -78,12 +77,8 @@ pub(super) fn read_on<R: Told>(
     place: u64,
     room: &mut [u8],
 ) -> Result<usize, Halt>
-    ensures ends { ledger.old.progress.told < place → place ≢ ledger.old.present → (result ≡ Ok 0) × (reader.new ≡ reader.old)
-        × (ledger.new.present ≡ ledger.old.present) }
-    ensures present { place ≤ ledger.old.progress.told → IfOk result (λ n. ledger.new.present ≡ min (place + n) (2 ^ 64 - 1)) }
-    ensures goes_on { place ≡ ledger.old.present → IfOk result (λ n. ledger.new.present ≡ min (place + n) (2 ^ 64 - 1)) }
-    ensures reads { ReadsAt ledger.old ledger.new (R.telling reader.old) (R.telling reader.new) (R.count reader.old) (R.count reader.new)
-        place room.new (with_kept_error ledger.new.progress result) }
+    ensures { ReadsOn reader.old reader.new ledger.old ledger.new (R.telling reader.old) (R.telling reader.new)
+        (R.count reader.old) (R.count reader.new) place room.new result }
 {
     if ledger.progress.told < place {
         return read_beyond(reader, ledger, place, room);
@@ -100,10 +95,8 @@ fn read_beyond<R: Told>(
     room: &mut [u8],
 ) -> Result<usize, Halt>
     requires { ledger.old.progress.told < place }
-    ensures ends { place ≢ ledger.old.present → (result ≡ Ok 0) × (reader.new ≡ reader.old) × (ledger.new.present ≡ ledger.old.present) }
-    ensures goes_on { place ≡ ledger.old.present → IfOk result (λ n. ledger.new.present ≡ min (place + n) (2 ^ 64 - 1)) }
-    ensures reads { ReadsAt ledger.old ledger.new (R.telling reader.old) (R.telling reader.new) (R.count reader.old) (R.count reader.new)
-        place room.new (with_kept_error ledger.new.progress result) }
+    ensures { ReadsOn reader.old reader.new ledger.old ledger.new (R.telling reader.old) (R.telling reader.new)
+        (R.count reader.old) (R.count reader.new) place room.new result }
 {
     let count = read_above(reader, ledger, place, room)?;
     Ok(count)
@@ -120,11 +113,8 @@ fn read_above<R: Told>(
     room: &mut [u8],
 ) -> Result<usize, Halt>
     requires { ledger.old.progress.told < place }
-    ensures ends { place ≢ ledger.old.present → (result ≡ Ok 0) × (reader.new ≡ reader.old)
-        × (ledger.new.present ≡ ledger.old.present) }
-    ensures goes_on { place ≡ ledger.old.present → IfOk result (λ n. ledger.new.present ≡ min (place + n) (2 ^ 64 - 1)) }
-    ensures reads { ReadsAt ledger.old ledger.new (R.telling reader.old) (R.telling reader.new) (R.count reader.old) (R.count reader.new)
-        place room.new (with_kept_error ledger.new.progress result) }
+    ensures { ReadsOn reader.old reader.new ledger.old ledger.new (R.telling reader.old) (R.telling reader.new)
+        (R.count reader.old) (R.count reader.new) place room.new result }
 {
     if place != ledger.present {
         return Ok(0);

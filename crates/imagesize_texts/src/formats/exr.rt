@@ -3,16 +3,16 @@ ghost use Rattle.std.specs.Prelude.{◌≡◌, ◌+◌, ◌<◌, ◌≤◌, leng
 ghost use Rattle.imagesize_source.specs.Chain.{chain_at};
 ghost use Rattle.imagesize_source.specs.Halts.{RunsOrHalts, with_error};
 ghost use Rattle.imagesize_source.specs.Layout.{layout_reads};
-ghost use Rattle.imagesize_source.specs.Paying.{Nears, Paid};
+ghost use Rattle.imagesize_source.specs.Paying.{Paid};
 ghost use Rattle.imagesize_source.specs.Reading.{map_answer};
 ghost use Rattle.imagesize_source.specs.State.{Runs};
 ghost use Rattle.imagesize_texts.specs.Exr.{size_within, exr, exr_attribute, exr_attributes, is_box, is_data_window, is_exr, name_room, window_side, signed_at, window_size};
-ghost use Rattle.imagesize_texts.specs.Walks.{attribute_said};
 ghost use Rattle.imagesize_texts.specs.Texts.{line_read};
 
 use crate::util::{read_null_terminated_string, read_u32_behind};
-use imagesize_source::readings::{place_behind, read_bytes_behind, read_u32};
+use imagesize_source::readings::{read_bytes_behind, read_u32};
 use imagesize_source::source::Source;
+use imagesize_source::walk::{Found, Records, walk};
 use imagesize_source::{Endian, Halt};
 use imagesize_types::size::ImageSize;
 
@@ -53,59 +53,63 @@ fn find_window<S: Source>(source: &mut S, names: usize) -> Result<ImageSize, Hal
     ensures { RunsOrHalts (S.state source.old) (S.state source.new) (S.failure source.new) result
         (chain_at (exr_attributes names) (S.state source.old).held.input) }
 {
-    let mut room = [0u8; 256];
-    let mut place: u64 = 8;
-    loop {
-        match read_attribute(source, place, names, &mut room)? {
-            Attribute::Window(size) => return Ok(size),
-            Attribute::Other { taken } => place = place_behind(place, taken)?,
-        }
-    }
+    let attributes = Attributes {
+        names,
+        room: [0; 256],
+    };
+    walk(attributes, source, 8)
 }
 
-// What an attribute says.
-enum Attribute {
-    // The size, by the data window.
-    Window(ImageSize),
-    // Nothing of the size. It takes so many bytes.
-    Other { taken: u64 },
-}
-
-// The attribute at a place, whose names are read into the room.
-#[tactic(auto, using(imagesize_source::proofs::Runs::steps, imagesize_source::proofs::Runs::missed_before))]
-fn read_attribute<S: Source>(
-    source: &mut S,
-    place: u64,
+// The attributes, whose names may have so many bytes and are read into the room.
+#[derive(Drop)]
+struct Attributes {
     names: usize,
-    room: &mut [u8; 256],
-) -> Result<Attribute, Halt>
-    requires { names ≤ 256 }
-    ensures nears { IfOk result (λ found. Nears (S.state source.old) (S.state source.new) place (attribute_said place found)) }
-    ensures runs { Runs (S.state source.old) (S.state source.new)
-        (map_answer (λ found. attribute_said place found) (with_error (S.failure source.new) (S.state source.new).frame.budget result))
-        (layout_reads (S.state source.old).held.input (exr_attribute names place)) }
-{
-    let name = read_name(source, place, names, room)?;
-    if name.is_empty() {
-        return Err(Halt::DataWindowNotFound);
+    room: [u8; 256],
+}
+
+impl Records for Attributes {
+    type Held = ();
+
+    type Answer = ImageSize;
+
+    ghost said = { λ attributes passed place. exr_attribute attributes.names place };
+
+    ghost keeps = { λ attributes passed place. attributes.names ≤ 256 };
+
+    // The attribute at a place.
+    #[tactic(auto, using(imagesize_source::proofs::Runs::steps, imagesize_source::proofs::Runs::missed_before))]
+    fn read_record<S: Source>(
+        &mut self,
+        source: &mut S,
+        place: u64,
+    ) -> Result<Found<(), ImageSize>, Halt> {
+        let names = self.names;
+        let name = read_name(source, place, names, &mut self.room)?;
+        if name.is_empty() {
+            return Err(Halt::DataWindowNotFound);
+        }
+        let is_window = is_data_window(name);
+        let typed = name.len() as u64 + 1;
+        let type_name = read_name_behind(source, place, typed, names, &mut self.room)?;
+        let is_window = is_window && is_box(type_name);
+        let sized = typed + (type_name.len() as u64 + 1);
+        let size = read_u32_behind(source, place, sized, Endian::Little)?;
+        let taken = sized + 4;
+        if !is_window {
+            return Ok(Found::Other {
+                held: (),
+                length: taken + size as u64,
+            });
+        }
+        let window = read_bytes_behind::<S, 16>(source, place, taken)?;
+        Ok(match window_size(&window) {
+            Some(size) => Found::Answer(size),
+            None => Found::Other {
+                held: (),
+                length: taken + 16,
+            },
+        })
     }
-    let is_window = is_data_window(name);
-    let typed = name.len() as u64 + 1;
-    let type_name = read_name_behind(source, place, typed, names, room)?;
-    let is_window = is_window && is_box(type_name);
-    let sized = typed + (type_name.len() as u64 + 1);
-    let size = read_u32_behind(source, place, sized, Endian::Little)?;
-    let taken = sized + 4;
-    if !is_window {
-        return Ok(Attribute::Other {
-            taken: taken + size as u64,
-        });
-    }
-    let window = read_bytes_behind::<S, 16>(source, place, taken)?;
-    Ok(match window_size(&window) {
-        Some(size) => Attribute::Window(size),
-        None => Attribute::Other { taken: taken + 16 },
-    })
 }
 
 // The name at a place, which may have so many bytes.

@@ -1,21 +1,16 @@
 //! Radiance RGBE, by "Picture File Format" of the Radiance reference manual.
-ghost use Rattle.std.specs.Prelude.{◌≡◌, ℕ, IfOk, option_map};
-ghost use Rattle.imagesize_source.specs.Chain.{chain_at};
+ghost use Rattle.std.specs.Prelude.{◌≡◌, ℕ, option_map};
 ghost use Rattle.imagesize_source.specs.Halts.{RunsOrHalts, with_error};
 ghost use Rattle.imagesize_source.specs.Layout.{layout_reads};
-ghost use Rattle.imagesize_source.specs.Paying.{Nears};
-ghost use Rattle.imagesize_source.specs.Reading.{map_answer};
-ghost use Rattle.imagesize_source.specs.State.{Runs};
 ghost use Rattle.imagesize_texts.specs.Contents.{words};
-ghost use Rattle.imagesize_texts.specs.Hdr.{hdr, hdr_identifier, hdr_line, hdr_lines, hdr_size, is_hdr, is_identifier, is_resolution, second_and_fourth};
-ghost use Rattle.imagesize_texts.specs.Walks.{line_said};
+ghost use Rattle.imagesize_texts.specs.Hdr.{hdr, hdr_identifier, hdr_line, hdr_size, is_hdr, is_identifier, is_resolution, second_and_fourth};
 ghost use Rattle.imagesize_texts.specs.Texts.{line_at};
 ghost use Rattle.imagesize_source.specs.declared.error.ImageError.{ImageError};
 
 use crate::util::{number, read_line_capped};
 use imagesize_source::Halt;
-use imagesize_source::readings::place_behind;
 use imagesize_source::source::Source;
+use imagesize_source::walk::{Found, Records, walk};
 use imagesize_types::size::ImageSize;
 
 // A line behind the first takes no more bytes of an input than this.
@@ -47,13 +42,16 @@ pub fn matches(head: &[u8; 12]) -> bool
 }
 
 /// The height and the width, which are the second and the fourth word of the first line that begins with an axis.
-#[tactic(auto, using(imagesize_source::proofs::Runs::steps))]
+#[tactic(auto, using(imagesize_source::proofs::Runs::steps, crate::proofs::Hdr::hdr_follows))]
 pub fn size<S: Source>(source: &mut S) -> Result<ImageSize, Halt>
     ensures { RunsOrHalts (S.state source.old) (S.state source.new) (S.failure source.new) result
         (hdr (S.state source.old).held.input) }
 {
     let first = read_identifier(source)?;
-    find_resolution(source, first)
+    let lines = Lines {
+        room: [0; LINE_ROOM],
+    };
+    walk(lines, source, first)
 }
 
 // How many bytes the first line takes, which has to be the identifier.
@@ -70,52 +68,41 @@ fn read_identifier<S: Source>(source: &mut S) -> Result<u64, Halt>
     Ok(line.len() as u64 + 1)
 }
 
-// The size by the lines from a place on.
-fn find_resolution<S: Source>(source: &mut S, first: u64) -> Result<ImageSize, Halt>
-    ensures { RunsOrHalts (S.state source.old) (S.state source.new) (S.failure source.new) result
-        (chain_at (hdr_lines first) (S.state source.old).held.input) }
-{
-    let mut room = [0u8; LINE_ROOM];
-    let mut place = first;
-    loop {
-        match read_part(source, place, &mut room)? {
-            Part::Size(size) => return Ok(size),
-            Part::Passed { taken } => place = place_behind(place, taken)?,
+// The lines behind the first, which are read into the room.
+#[derive(Drop)]
+struct Lines {
+    room: [u8; LINE_ROOM],
+}
+
+impl Records for Lines {
+    type Held = ();
+
+    type Answer = ImageSize;
+
+    ghost said = { λ _ passed place. line_at 0x0A place 256 (hdr_line place) };
+
+    ghost keeps = { λ _ passed place. Unit {0} };
+
+    // The line at a place.
+    #[tactic(auto, using(imagesize_source::proofs::Runs::steps))]
+    fn read_record<S: Source>(
+        &mut self,
+        source: &mut S,
+        place: u64,
+    ) -> Result<Found<(), ImageSize>, Halt> {
+        let line = read_line_capped(source, place, b'\n', &mut self.room)?;
+        if is_resolution(line) {
+            let Some((height, width)) = lengths(line) else {
+                return Err(Halt::InvalidHdrDimensionsLine);
+            };
+            let size = hdr_size(number(height), number(width))?;
+            return Ok(Found::Answer(size));
         }
+        Ok(Found::Other {
+            held: (),
+            length: line.len() as u64 + 1,
+        })
     }
-}
-
-// What a line says.
-enum Part {
-    // The size, by the resolution.
-    Size(ImageSize),
-    // Nothing of the size. It takes so many bytes.
-    Passed { taken: u64 },
-}
-
-// The line at a place, read into the room.
-#[tactic(auto, using(imagesize_source::proofs::Runs::steps))]
-fn read_part<S: Source>(
-    source: &mut S,
-    place: u64,
-    room: &mut [u8; LINE_ROOM],
-) -> Result<Part, Halt>
-    ensures nears { IfOk result (λ part. Nears (S.state source.old) (S.state source.new) place (line_said place part)) }
-    ensures runs { Runs (S.state source.old) (S.state source.new)
-        (map_answer (λ part. line_said place part) (with_error (S.failure source.new) (S.state source.new).frame.budget result))
-        (layout_reads (S.state source.old).held.input (line_at 0x0A place 256 (hdr_line place))) }
-{
-    let line = read_line_capped(source, place, b'\n', room)?;
-    if is_resolution(line) {
-        let Some((height, width)) = lengths(line) else {
-            return Err(Halt::InvalidHdrDimensionsLine);
-        };
-        let size = hdr_size(number(height), number(width))?;
-        return Ok(Part::Size(size));
-    }
-    Ok(Part::Passed {
-        taken: line.len() as u64 + 1,
-    })
 }
 
 // Whether a line begins with an identifier of the format.

@@ -1,15 +1,11 @@
 //! Interleaved bitmaps, by "EA IFF 85" (forms and chunks) and its supplement "ILBM" (the bitmap header).
-ghost use Rattle.std.specs.Prelude.{◌≡◌, IfOk};
+ghost use Rattle.std.specs.Prelude.{◌≡◌};
 ghost use Rattle.imagesize_walked.specs.Ilbm.{chunk_bytes, chunk_length, ilbm, ilbm_chunk, is_bitmap_header, is_body, is_ilbm};
-ghost use Rattle.imagesize_walked.specs.Walks.{chunk_said};
-ghost use Rattle.imagesize_source.specs.Halts.{RunsOrHalts, with_error};
-ghost use Rattle.imagesize_source.specs.Layout.{layout_reads};
-ghost use Rattle.imagesize_source.specs.Paying.{Nears};
-ghost use Rattle.imagesize_source.specs.Reading.{map_answer};
-ghost use Rattle.imagesize_source.specs.State.{Runs};
+ghost use Rattle.imagesize_source.specs.Halts.{RunsOrHalts};
 
-use imagesize_source::readings::{place_behind, read_bytes, read_u16_behind};
+use imagesize_source::readings::{read_bytes, read_u16_behind};
 use imagesize_source::source::Source;
+use imagesize_source::walk::{Found, Records, walk};
 use imagesize_source::{Endian, Halt};
 use imagesize_types::size::ImageSize;
 
@@ -25,46 +21,47 @@ pub fn matches(head: &[u8; 12]) -> bool
 }
 
 /// The width and the height of the first bitmap header that stands before the pixels.
+#[tactic(auto, using(crate::proofs::Ilbm::ilbm_follows))]
 pub fn size<S: Source>(source: &mut S) -> Result<ImageSize, Halt>
     ensures { RunsOrHalts (S.state source.old) (S.state source.new) (S.failure source.new) result (ilbm (S.state source.old).held.input) }
 {
-    let mut place: u64 = 12;
-    loop {
-        match read_chunk(source, place)? {
-            Chunk::Header(size) => return Ok(size),
-            Chunk::Other { length } => place = place_behind(place, chunk_bytes(length))?,
+    walk(Chunks, source, 12)
+}
+
+// The chunks behind the form's type.
+#[derive(Clone, Copy)]
+struct Chunks;
+
+impl Records for Chunks {
+    type Held = ();
+
+    type Answer = ImageSize;
+
+    ghost said = { λ _ passed place. ilbm_chunk place };
+
+    ghost keeps = { λ _ passed place. Unit {0} };
+
+    // The chunk at a place.
+    #[tactic(auto, using(imagesize_source::proofs::Runs::steps))]
+    fn read_record<S: Source>(
+        &mut self,
+        source: &mut S,
+        place: u64,
+    ) -> Result<Found<(), ImageSize>, Halt> {
+        let head = read_bytes::<S, 8>(source, place)?;
+        if is_bitmap_header(&head) {
+            let width = read_u16_behind(source, place, 8, Endian::Big)? as usize;
+            let height = read_u16_behind(source, place, 10, Endian::Big)? as usize;
+            return Ok(Found::Answer(ImageSize { width, height }));
         }
+        if is_body(&head) {
+            return Err(Halt::Corrupted);
+        }
+        Ok(Found::Other {
+            held: (),
+            length: chunk_bytes(chunk_length(&head)),
+        })
     }
-}
-
-// What a chunk says.
-enum Chunk {
-    // The size, by the bitmap header.
-    Header(ImageSize),
-    // Nothing of the size. Its data is so long.
-    Other { length: u32 },
-}
-
-// The chunk at a place.
-#[tactic(auto, using(imagesize_source::proofs::Runs::steps))]
-fn read_chunk<S: Source>(source: &mut S, place: u64) -> Result<Chunk, Halt>
-    ensures nears { IfOk result (λ found. Nears (S.state source.old) (S.state source.new) place (chunk_said place found)) }
-    ensures runs { Runs (S.state source.old) (S.state source.new)
-        (map_answer (λ found. chunk_said place found) (with_error (S.failure source.new) (S.state source.new).frame.budget result))
-        (layout_reads (S.state source.old).held.input (ilbm_chunk place)) }
-{
-    let head = read_bytes::<S, 8>(source, place)?;
-    if is_bitmap_header(&head) {
-        let width = read_u16_behind(source, place, 8, Endian::Big)? as usize;
-        let height = read_u16_behind(source, place, 10, Endian::Big)? as usize;
-        return Ok(Chunk::Header(ImageSize { width, height }));
-    }
-    if is_body(&head) {
-        return Err(Halt::Corrupted);
-    }
-    Ok(Chunk::Other {
-        length: chunk_length(&head),
-    })
 }
 
 #[inline(always)]

@@ -1,15 +1,17 @@
 //! JPEG, by ITU-T T.81, annex B: its segments up to the first frame that is of the image itself.
 ghost use Rattle.std.specs.Prelude.{◌≡◌, ◌↔◌, ◌<◌, ◌+◌, ◌^◌, IfOk, IsTrue};
-ghost use Rattle.imagesize_walked.specs.Jpeg.{is_frame, is_jpeg, is_own_end, is_own_frame, jpeg, jpeg_segment};
-ghost use Rattle.imagesize_walked.specs.Walks.{segment_said, depth_behind, LeadsOn, RoleLeadsOn};
+ghost use Rattle.imagesize_walked.specs.Jpeg.{depth, is_frame, is_jpeg, is_own_end, is_own_frame, jpeg, jpeg_segment};
+ghost use Rattle.imagesize_walked.specs.Walks.{depth_behind, LeadsOn, RoleLeadsOn, Stands};
+ghost use Rattle.imagesize_source.specs.Walk.{said_at};
 ghost use Rattle.imagesize_source.specs.Halts.{RunsOrHalts, with_error};
 ghost use Rattle.imagesize_source.specs.Layout.{layout_reads};
 ghost use Rattle.imagesize_source.specs.Paying.{Nears};
 ghost use Rattle.imagesize_source.specs.Reading.{map_answer};
 ghost use Rattle.imagesize_source.specs.State.{Runs};
 
-use imagesize_source::readings::{place_behind, read_bytes, read_u16_behind};
+use imagesize_source::readings::{read_bytes, read_u16_behind};
 use imagesize_source::source::Source;
+use imagesize_source::walk::{Found, Records, walk};
 use imagesize_source::{Endian, Halt};
 use imagesize_types::size::ImageSize;
 
@@ -23,33 +25,38 @@ pub fn matches(head: &[u8; 12]) -> bool
 }
 
 /// The lines, and the samples of a line, of the first frame that is not that of an image within the image.
+#[tactic(auto, using(crate::proofs::Jpeg::jpeg_follows, crate::proofs::Jpeg::stands_first))]
 pub fn size<S: Source>(source: &mut S) -> Result<ImageSize, Halt>
     ensures { RunsOrHalts (S.state source.old) (S.state source.new) (S.failure source.new) result (jpeg (S.state source.old).held.input) }
 {
-    let mut place: u64 = 2;
-    let mut depth: u64 = 0;
-    loop {
-        match read_segment(source, place, depth)? {
-            Segment::Frame(size) => return Ok(size),
-            Segment::Other {
-                depth: behind,
-                length,
-                ..
-            } => {
-                depth = behind;
-                place = place_behind(place, 2 + length as u64)?;
-            }
-        }
-    }
+    walk(Segments { depth: 0 }, source, 2)
 }
 
-// What a segment says.
-#[derive(Drop)]
-enum Segment {
-    // The size, by the frame of the image itself.
-    Frame(ImageSize),
-    // Nothing of the size. The next segment stands so deep, and so many bytes behind the marker.
-    Other { marker: u8, depth: u64, length: u32 },
+// The segments behind the start of the image. The next one stands so deep within it.
+#[derive(Clone, Copy)]
+struct Segments {
+    depth: u64,
+}
+
+impl Records for Segments {
+    type Held = u8;
+
+    type Answer = ImageSize;
+
+    ghost said = { λ _ markers place. jpeg_segment (depth markers) place };
+
+    ghost keeps = { λ segments markers place. Stands segments.depth markers place };
+
+    // The segment at a place.
+    #[inline]
+    #[tactic(auto, using(crate::proofs::Jpeg::stands_on, crate::proofs::Jpeg::segment_as, crate::proofs::Jpeg::shallow))]
+    fn read_record<S: Source>(
+        &mut self,
+        source: &mut S,
+        place: u64,
+    ) -> Result<Found<u8, ImageSize>, Halt> {
+        self.read_segment(source, place)
+    }
 }
 
 // What a marker is to the image itself.
@@ -86,35 +93,41 @@ fn role_of(depth: u64, marker: u8) -> Role
     }
 }
 
-// The segment at a place, which stands so deep within the image.
-#[inline]
-#[tactic(auto, using(imagesize_source::proofs::Runs::steps))]
-fn read_segment<S: Source>(source: &mut S, place: u64, depth: u64) -> Result<Segment, Halt>
-    requires { depth + 1 < 2 ^ 64 }
-    ensures nears { IfOk result (λ found. Nears (S.state source.old) (S.state source.new) place (segment_said place found)) }
-    ensures other { IfOk result (LeadsOn depth) }
-    ensures runs { Runs (S.state source.old) (S.state source.new)
-        (map_answer (λ found. segment_said place found) (with_error (S.failure source.new) (S.state source.new).frame.budget result))
-        (layout_reads (S.state source.old).held.input (jpeg_segment depth place)) }
-{
-    let [first, marker] = read_bytes::<S, 2>(source, place)?;
-    if first != 0xFF {
-        return Err(Halt::Corrupted);
-    }
-    match role_of(depth, marker) {
-        Role::Frame => {
-            let height = read_u16_behind(source, place, 5, Endian::Big)? as usize;
-            let width = read_u16_behind(source, place, 7, Endian::Big)? as usize;
-            Ok(Segment::Frame(ImageSize { width, height }))
+impl Segments {
+    // The segment at a place.
+    #[inline]
+    #[tactic(auto, using(imagesize_source::proofs::Runs::steps))]
+    fn read_segment<S: Source>(
+        &mut self,
+        source: &mut S,
+        place: u64,
+    ) -> Result<Found<u8, ImageSize>, Halt>
+        requires { self.now.depth + 1 < 2 ^ 64 }
+        ensures nears { IfOk result (λ found. Nears (S.state source.old) (S.state source.new) place (said_at place found)) }
+        ensures depth { IfOk result (λ found. LeadsOn self.old.depth self.new.depth (said_at place found)) }
+        ensures runs { Runs (S.state source.old) (S.state source.new)
+            (map_answer (said_at place) (with_error (S.failure source.new) (S.state source.new).frame.budget result))
+            (layout_reads (S.state source.old).held.input (jpeg_segment self.old.depth place)) }
+    {
+        let [first, marker] = read_bytes::<S, 2>(source, place)?;
+        if first != 0xFF {
+            return Err(Halt::Corrupted);
         }
-        Role::End => Err(Halt::Corrupted),
-        Role::Other { depth } => {
-            let length = read_u16_behind(source, place, 2, Endian::Big)? as u32;
-            Ok(Segment::Other {
-                marker,
-                depth,
-                length,
-            })
+        match role_of(self.depth, marker) {
+            Role::Frame => {
+                let height = read_u16_behind(source, place, 5, Endian::Big)? as usize;
+                let width = read_u16_behind(source, place, 7, Endian::Big)? as usize;
+                Ok(Found::Answer(ImageSize { width, height }))
+            }
+            Role::End => Err(Halt::Corrupted),
+            Role::Other { depth } => {
+                let length = read_u16_behind(source, place, 2, Endian::Big)? as u64;
+                self.depth = depth;
+                Ok(Found::Other {
+                    held: marker,
+                    length: 2 + length,
+                })
+            }
         }
     }
 }

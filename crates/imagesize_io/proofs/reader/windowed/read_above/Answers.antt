@@ -1,15 +1,21 @@
-use Rattle.std.proofs.Common.{arith, refl}
+use Rattle.std.proofs.Common.{arith, refl, rules}
 use Rattle.imagesize_io.proofs.Windows.{behind_end, told_by}
 use Rattle.imagesize_io.proofs.reader.windowed.read_above.Goals as goal
 
-pub returns-then-place-ledger-clause-reads : goal.returns-then-place-ledger-clause-reads
-returns-then-place-ledger-clause-reads g c =
+pub returns-then-place-ledger : goal.returns-then-place-ledger
+returns-then-place-ledger g c =
     let old = c.args.ledger.now.progress in
     record {
-      bound = omega arith;
-      pays = λ some far. omega (arith, some);
-      keeps = record { told = refl; budget = refl; taken = omega arith; retries = omega arith; limit = λ few. few };
-      runs = λ home.
-          let told = told_by (g.R.Told.count c.args.reader.now) home (g.R.Told.telling c.args.reader.now) old in
-          behind_end _ _ _ _ _ told c.requires;
+      reads =
+          record {
+            bound = omega arith;
+            pays = λ some far. omega (arith, some);
+            keeps = record { told = refl; budget = refl; taken = omega arith; retries = omega arith; limit = λ few. few };
+            runs = λ home.
+                let told = told_by (g.R.Told.count c.args.reader.now) home (g.R.Told.telling c.args.reader.now) old in
+                behind_end _ _ _ _ _ told c.requires;
+          };
+      present = λ told. absurd (omega (arith, c.requires, told));
+      goes_on = λ on. search (rules, on);
+      ends = search rules;
     }
