@@ -1,6 +1,5 @@
 -- What known parts tell of each input that has them.
-use Rattle.std.proofs.Common.{◌≡◌, ℕ, ◌^◌, ◌+◌, ◌-◌, ◌<◌, ◌≤◌, Bool, true, false, ◌||◌, ◌&&◌, ◌⊎◌, cond, leb, List, [], ◌∷◌, ◌++◌, Option, None, Some, Result, Ok, Err, inl, inr, refl, sym, ap, ◌∙◌, subst, arith, append_assoc}
-use Rattle.std.proofs.lemmas.List.{append-nil}
+use Rattle.std.proofs.Common.{◌≡◌, ℕ, ◌^◌, ◌+◌, ◌-◌, ◌<◌, ◌≤◌, Bool, true, false, ◌||◌, ◌&&◌, ◌⊎◌, cond, leb, List, [], ◌∷◌, ◌++◌, Option, None, Some, Result, Ok, Err, inl, inr, refl, sym, ap, ◌∙◌, subst, arith}
 use Rattle.std.specs.List.{list_any}
 use Rattle.std.specs.Prelude.{option_map}
 use Rattle.std.proofs.lemmas.Bool.{cases_lt}
@@ -22,10 +21,10 @@ use Rattle.imagesize_source.specs.Agreement.{Agrees, IsLocal, Parting, is_covere
 use Rattle.imagesize_source.specs.Input.{span_at}
 use Rattle.imagesize_source.specs.Known.{AllKnown, HasParts, Lacks, filled, parts_state, sure_of}
 use Rattle.imagesize_source.specs.Reading.{Reads, is_faulted, is_stop, go_on, spent, is_stopped}
-use Rattle.imagesize_source.specs.State.{State, Runs, state_after}
+use Rattle.imagesize_source.specs.State.{State, Runs}
 use Rattle.imagesize_source.proofs.Agreement.{covered-left, covered-one, covered-right, same_by_local}
 use Rattle.imagesize_source.proofs.Runs.{marks_onward}
-use Rattle.imagesize_source.proofs.Known.{known_agrees, known_same, length-filled, unknown_free}
+use Rattle.imagesize_source.proofs.Known.{known_agrees, known_same, length-filled, past-parts, unknown_free}
 
 -- ---- one list of spans, cut at two of them
 
@@ -105,14 +104,6 @@ pub record Called {X : Type 0} (f : List ℕ → Reads X) (n : ℕ) (spans : Lis
   pub runs : Runs (parts_state n spans bytes [] None) (parts_state n spans bytes log missed) r (f (filled n spans bytes))
   pub seen : AllKnown n spans bytes log
   pub lacks : ForSome missed (Lacks n spans bytes)
-
--- the spans of readings are recorded behind those before
-past-parts : (n : ℕ) (spans : List Span) (bytes : List ℕ) (log : List Span) (missed : Option Missing) (more : List Span)
-    → state_after (parts_state n spans bytes log missed) more ≡ parts_state n spans bytes (log ++ more) missed
-unfolding state_after
-past-parts n spans bytes log missed [] = ap (λ s. parts_state n spans bytes s missed) (sym (append-nil log))
-past-parts n spans bytes log missed (s ∷ more) = past-parts n spans bytes (log ++ s ∷ []) missed more
-    ∙ ap (λ t. parts_state n spans bytes t missed) (append_assoc log (s ∷ []) more)
 
 logged : (a b : State) (s t : List Span) → a ≡ b → a.recorded ≡ Some s → b.recorded ≡ Some t → s ≡ t
 logged a b s t e here there = let same : ◌≡◌ {A = Option (List Span)} (Some s) (Some t) = sym here ∙ ap (λ (x : State). x.recorded) e ∙ there in (cc)

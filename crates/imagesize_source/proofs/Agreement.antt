@@ -1,6 +1,6 @@
 -- A layout sees an input by its readings alone.
 use Rattle.std.proofs.Common.{◌≡◌, ℕ, zero, suc, ◌+◌, ◌-◌, ◌<◌, ◌≤◌, min, Bool, true, false, ◌||◌, ◌⊎◌, inl, inr, eqb, get_or, slice_index, append_assoc, List, [], ◌∷◌, ◌++◌, length, take, drop, Result, Ok, Err, refl, sym, ap, ◌∙◌, subst, arith}
-use Rattle.std.proofs.lemmas.List.{length-take, take-take, length-drop, get_or-take, get_or-drop, ext_get_or}
+use Rattle.std.proofs.lemmas.List.{append-nil, length-take, take-take, length-drop, get_or-take, get_or-drop, ext_get_or}
 use Rattle.std.proofs.Math.Seq.{take-append_seam}
 use Rattle.std.proofs.lemmas.Bool.Decides.{nat_tests}
 use Rattle.imagesize_source.specs.declared.error.ImageError.{ImageError}
@@ -351,42 +351,28 @@ alike_reading d e (TextOf t k) place is long = elim (alike_text d e t place k is
   | inr parts ↦ inr parts
 ]
 
--- readings behind others, and before others
-parting_behind : {texts : Bool} {d e : List ℕ} {s t : List Span} (before : List Span) → Parting texts d e s t
-    → Parting texts d e (before ++ s) (before ++ t)
-parting_behind before x = record {
+-- readings behind others and before others part where they part alone
+parting_among : {texts : Bool} {d e : List ℕ} {s t all whole : List Span} (before more others : List Span) → all ≡ before ++ (s ++ more)
+    → whole ≡ before ++ (t ++ others) → Parting texts d e s t → Parting texts d e all whole
+parting_among before more others is also x = record {
   seen = before ++ x.seen;
-  mark = x.mark;
-  other = x.other;
-  rest = x.rest;
-  others = x.others;
-  here = ap (λ s. before ++ s) x.here ∙ sym (append_assoc before x.seen (x.mark ∷ x.rest));
-  there = ap (λ s. before ++ s) x.there ∙ sym (append_assoc before x.seen (x.other ∷ x.others));
-  start = x.start;
-  same = x.same;
-  place = x.place;
-  within = x.within;
-  also = x.also;
-  differs = x.differs;
-}
-
-parting_before : {texts : Bool} {d e : List ℕ} {s t : List Span} (all whole more others : List Span) → all ≡ s ++ more
-    → whole ≡ t ++ others → Parting texts d e s t → Parting texts d e all whole
-parting_before all whole more others is also x = record {
-  seen = x.seen;
   mark = x.mark;
   other = x.other;
   rest = x.rest ++ more;
   others = x.others ++ others;
-  here = is ∙ ap (λ s. s ++ more) x.here ∙ append_assoc x.seen (x.mark ∷ x.rest) more;
-  there = also ∙ ap (λ s. s ++ others) x.there ∙ append_assoc x.seen (x.other ∷ x.others) others;
+  here = is ∙ ap (λ s. before ++ (s ++ more)) x.here ∙ set_apart before x.seen x.rest more x.mark;
+  there = also ∙ ap (λ s. before ++ (s ++ others)) x.there ∙ set_apart before x.seen x.others others x.other;
   start = x.start;
   same = x.same;
   place = x.place;
   within = x.within;
   also = x.also;
   differs = x.differs;
-}
+} where
+  set_apart : (before seen rest more : List Span) (mark : Span)
+      → before ++ ((seen ++ mark ∷ rest) ++ more) ≡ (before ++ seen) ++ mark ∷ (rest ++ more)
+  set_apart before seen rest more mark =
+      ap (λ s. before ++ s) (append_assoc seen (mark ∷ rest) more) ∙ sym (append_assoc before seen (mark ∷ (rest ++ more)))
 
 -- where no texts are read, none are among readings with them
 pub alike_more : {X : Type 0} (texts : Bool) (d e : List ℕ) (p q : Reads X) → Alike false d e p q → Alike texts d e p q
@@ -407,13 +393,16 @@ alike_more texts d e p q (inr x) = inr (record {
   differs = x.differs;
 })
 
+before_none : (before s : List Span) → before ++ s ≡ before ++ (s ++ [])
+before_none before s = ap (λ t. before ++ t) (sym (append-nil s))
+
 -- what goes on from answers that are alike, where it is alike behind each
 pub alike_then : {texts : Bool} {X Y : Type 0} (d e : List ℕ) (p q : Reads X) (f g : X → Reads Y) → Alike texts d e p q
     → ((x : X) → p.answer ≡ Ok x → q.answer ≡ Ok x → Alike texts d e (f x) (g x)) → Alike texts d e (and_then p f) (and_then q g)
 alike_then d e p q f g (inr parts) rest =
     let here = marks_onward p.marks p.answer f in
     let there = marks_onward q.marks q.answer g in
-    inr (parting_before (and_then p f).marks (and_then q g).marks here.0 there.0 here.1 there.1 parts)
+    inr (parting_among [] here.0 there.0 here.1 there.1 parts)
 alike_then {texts} {X} {Y} d e p q f g (inl same) rest =
     subst (λ w. Alike texts d e (and_then p f) (and_then w g)) (sym same) (by_answer p.answer refl)
   where
@@ -421,7 +410,7 @@ alike_then {texts} {X} {Y} d e p q f g (inl same) rest =
     by_answer (Err x) is = inl refl
     by_answer (Ok x) is = elim (rest x is (ap (λ w. w.answer) same ∙ is)) [
       | inl rest_same ↦ inl (ap (put_behind p.marks) rest_same)
-      | inr parts ↦ inr (parting_behind p.marks parts)
+      | inr parts ↦ inr (parting_among p.marks [] [] (before_none p.marks _) (before_none p.marks _) parts)
     ]
 
 -- a layout is local

@@ -158,7 +158,8 @@ unknown_free d n spans bytes place has below none = by_test (is_covered spans pl
 
 -- ---- readings
 
-past-parts : (n : ℕ) (spans : List Span) (bytes : List ℕ) (log : List Span) (missed : Option Missing) (more : List Span)
+-- the spans of readings are recorded behind those before
+pub past-parts : (n : ℕ) (spans : List Span) (bytes : List ℕ) (log : List Span) (missed : Option Missing) (more : List Span)
     → state_after (parts_state n spans bytes log missed) more ≡ parts_state n spans bytes (log ++ more) missed
 unfolding state_after
 past-parts n spans bytes log missed [] = ap (λ s. parts_state n spans bytes s missed) (sym (append-nil log))
@@ -372,17 +373,12 @@ state_is n m spans others bytes content log more missed also told is_spans is_by
     ∙ ap (parts_state n spans bytes log) is_missed
 
 -- a room whose front was written
-pub room_long : (front old : List ℕ) (wanted : ℕ) → length front ≡ length (take wanted old) → wanted ≤ length old
-    → length (front ++ drop wanted old) ≡ length old
-room_long front old wanted long fits =
-    length-append front (drop wanted old) ∙ omega (arith, long, length-take wanted old, length-drop wanted old, fits)
-
-pub room_front : (front old : List ℕ) (wanted found : ℕ) → found ≤ length front → take found (front ++ drop wanted old) ≡ take found front
-room_front front old wanted found few = take-append-le found front (drop wanted old) few
-
-pub cut_is : (bs : List ℕ) (found wanted : ℕ) (cut ended : Bool) → length bs ≡ found → cut ≡ (leb (suc (length bs)) wanted && not ended)
-    → leb (suc found) wanted && not ended ≡ cut
-cut_is bs found wanted cut ended long is = ap (λ k. leb (suc k) wanted && not ended) (sym long) ∙ sym is
+-- whether the bytes that were found are cut, by how many they are
+pub cut_is : (room : List ℕ) (found wanted place told : ℕ) (cut ended : Bool) → wanted ≡ min (length room) (told - place)
+    → found ≤ wanted → cut ≡ (leb (suc (length (take found room))) wanted && not ended) → leb (suc found) wanted && not ended ≡ cut
+cut_is room found wanted place told cut ended long few is =
+    let same : length (take found room) ≡ found = length-take found room ∙ omega (arith, long, few) in
+    ap (λ k. leb (suc k) wanted && not ended) (sym same) ∙ sym is
 
 -- ---- what gathers them
 

@@ -96,20 +96,6 @@ pub fn read_if_there<S: Source, const N: usize>(
     Ok(None)
 }
 
-/// The `N` bytes at a distance behind a place, or none where the input ends before the last of them. A place above
-/// 2^64 - 1 is behind the end of every input.
-#[inline(always)]
-pub fn read_if_there_behind<S: Source, const N: usize>(
-    source: &mut S,
-    place: u64,
-    distance: u64,
-) -> Result<Option<[u8; N]>, Halt>
-    ensures { RunsOrHalts (S.state source.old) (S.state source.new) (S.failure source.new) result
-        (layout_reads (S.state source.old).held.input (if_there (place + distance) N done)) }
-{
-    read_if_there::<S, N>(source, place.saturating_add(distance))
-}
-
 /// The byte at a place, as a number.
 #[inline(always)]
 #[tactic(auto, using(crate::proofs::Runs::number_there, crate::proofs::Runs::number_missing, crate::proofs::Numbers::little_1))]

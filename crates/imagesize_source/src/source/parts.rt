@@ -137,6 +137,27 @@ impl<'a> PartsSource<'a> {
         Halt::Failed
     }
 
+    // Copies what is known of a reading into its room, as far as no byte is missing. It answers how many bytes that
+    // is, and how many of the room's bytes the input has.
+    #[inline(always)]
+    fn fill_known(&self, place: u64, room: &mut [u8]) -> (usize, usize)
+        ensures wanted { result.1 ≡ min (length room.new) (self.now.told - place) }
+        ensures within { result.0 ≤ result.1 }
+        ensures copied { take result.0 room.new ≡ part (filled self.now.told self.now.spans.now self.now.bytes.now) place result.0 }
+        ensures known { (i : ℕ) → i < result.0 → is_some (known self.now.told self.now.spans.now self.now.bytes.now (place + i)) ≡ true }
+        ensures missing { result.0 < result.1 → is_some (known self.now.told self.now.spans.now self.now.bytes.now (place + result.0)) ≡ false }
+    {
+        let wanted = there(self.told, place, room.len());
+        let found = gather(
+            self.spans,
+            self.bytes,
+            self.told,
+            place,
+            &mut room[..wanted],
+        );
+        (found, wanted)
+    }
+
     // A reading that the front has not whole.
     #[cold]
     #[inline(never)]
@@ -148,14 +169,7 @@ impl<'a> PartsSource<'a> {
             (map_answer (λ n. take n room.new) (with_error (error.IoError (reason.Fault self.new.fault)) 0 result))
             (part_read (filled self.old.told self.old.spans.now self.old.bytes.now) place (length room.new)) }
     {
-        let wanted = there(self.told, place, room.len());
-        let found = gather(
-            self.spans,
-            self.bytes,
-            self.told,
-            place,
-            &mut room[..wanted],
-        );
+        let (found, wanted) = self.fill_known(place, room);
         if found < wanted {
             let missing = wanted - found;
             return Err(self.miss(place, found, missing, missing));
@@ -193,14 +207,7 @@ impl Source for PartsSource<'_> {
     }
 
     fn read_text(&mut self, place: u64, text: Text, room: &mut [u8]) -> Result<usize, Halt> {
-        let wanted = there(self.told, place, room.len());
-        let found = gather(
-            self.spans,
-            self.bytes,
-            self.told,
-            place,
-            &mut room[..wanted],
-        );
+        let (found, wanted) = self.fill_known(place, room);
         if is_cut(text, &room[..found], wanted) {
             return Err(self.miss(place, found, 1, wanted - found));
         }
