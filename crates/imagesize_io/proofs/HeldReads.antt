@@ -5,12 +5,12 @@ use Rattle.std.proofs.lemmas.List.{length-take, take_more, take_more_set}
 use Rattle.std.proofs.Math.Seq.{take-take}
 use Rattle.std.specs.Char.{is_ascii_whitespace}
 use Rattle.imagesize_source.specs.declared.text.Text.{Text}
-use Rattle.imagesize_source.specs.Input.{part, span_at}
+use Rattle.imagesize_source.specs.Input.{part}
 use Rattle.imagesize_source.specs.Reading.{part_read, text_part, text_read}
 use Rattle.imagesize_source.specs.State.{State, Runs, state_after}
 use Rattle.imagesize_source.specs.Text.{ends, text_front}
 use Rattle.imagesize_source.proofs.Agreement.{whole_span}
-use Rattle.imagesize_source.proofs.Counts.{total-span_at, total-span_of}
+use Rattle.imagesize_source.proofs.Counts.{total-span_of}
 use Rattle.imagesize_source.proofs.Runs.{part_is, part_length}
 use Rattle.imagesize_io.specs.declared.progress.Progress.{Progress}
 use Rattle.imagesize_io.specs.declared.reader.Ledger.{Ledger}
@@ -20,7 +20,7 @@ use Rattle.imagesize_io.specs.ReaderState.{ReadsAt, kept_window}
 use Rattle.imagesize_io.specs.Standing.{Standing, onto, steady, in_step, stand_of, stand, drift, GivesSome, GivesFrom, KeepsCounts, ReadsFrom}
 use Rattle.imagesize_io.specs.Telling.{Telling, ReadTells, counted}
 use Rattle.imagesize_io.proofs.Filling.{part-add}
-use Rattle.imagesize_io.proofs.TextReads.{text_rest, rest_start, rest_ends, rest_goes_on, rest_some}
+use Rattle.imagesize_io.proofs.TextReads.{took_text, text_rest, rest_start, rest_ends, rest_goes_on, rest_some}
 use Rattle.imagesize_io.proofs.Layers.{reads_past}
 
 -- so many bytes of a text were copied, and none of them ends it
@@ -183,26 +183,14 @@ held_text {a} {c} t place n room whole fits runs =
     let run : Runs a c (Ok (take n room)) (part_read a.held.input place n) =
     subst (λ k. Runs a c (Ok (take n room)) (part_read a.held.input place k)) long
     (subst (λ bs. Runs a c (Ok bs) (part_read a.held.input place (length (take n room)))) once runs) in
-    record {
-      sound = run.sound;
-      sound_after = run.sound_after;
+    took_text t (length room) (record {
+      long = long;
+      sound = run.sound_after;
       frame = run.frame;
       taken = run.taken;
-      within = λ honest. omega (
-        arith,
-        run.within honest,
-        total-span_of a.held.input place n,
-        total-span_at place
-            (length (text_part a.held.input t place (length room))),
-        is_long run honest,
-      );
-      answer = λ honest goes_on. ap Ok (is_text run honest);
-      state = λ honest goes_on. run.state honest goes_on ∙ ap (state_after a) (whole_span a.held.input place n (there run honest))
-          ∙ ap (λ k. state_after a (span_at place k)) (sym (is_long run honest));
-      fault = λ honest faults. absurd cc;
-      misses = λ honest faults. absurd cc;
-      ended = tt;
-    } where
+      within = λ honest. omega (arith, run.within honest, total-span_of a.held.input place n);
+      state = λ honest. run.state honest refl ∙ ap (state_after a) (whole_span a.held.input place n (there run honest));
+    }) run.sound (is_text run) where
       read : Runs a c (Ok (take n room)) (part_read a.held.input place n) → a.held.honest ≡ true → part a.held.input place n ≡ take n room
       read run honest = part_is (run.answer honest refl)
 
@@ -216,6 +204,3 @@ held_text {a} {c} t place n room whole fits runs =
           ∙ ap (text_front t) (sym (part-add a.held.input place n (length room - n)))
           ∙ ap (λ bs. text_front t (bs ++ part a.held.input (place + n) (length room - n))) (read run honest)
           ∙ whole (part a.held.input (place + n) (length room - n))
-
-      is_long : Runs a c (Ok (take n room)) (part_read a.held.input place n) → a.held.honest ≡ true → length (text_part a.held.input t place (length room)) ≡ n
-      is_long run honest = ap length (is_text run honest) ∙ omega (arith, length-take n room, fits)

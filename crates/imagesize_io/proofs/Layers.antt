@@ -1,5 +1,5 @@
 -- What a layer of a reader's source did, by what the layer below it did.
-use Rattle.std.proofs.Common.{◌≡◌, ℕ, ◌+◌, ◌-◌, ◌<◌, ◌≤◌, min, List, ◌++◌, length, take, drop, Option, Result, Ok, Err, refl, sym, subst, arith}
+use Rattle.std.proofs.Common.{◌≡◌, ◌≢◌, ℕ, ◌+◌, ◌-◌, ◌<◌, ◌≤◌, min, List, ◌++◌, length, take, drop, Option, Result, Ok, Err, refl, sym, subst, arith}
 use Rattle.imagesize_source.specs.declared.halt.Halt.{Halt}
 use Rattle.imagesize_source.specs.Input.{part}
 use Rattle.imagesize_io.specs.declared.reader.Ledger.{Ledger}
@@ -18,6 +18,19 @@ pub record Copies (window room old more : List ℕ) (place copied : ℕ) : Type 
   pub kept : length room ≡ length old
   pub short : copied < length room
   pub long : length more ≡ length room - copied
+
+-- a reading of which not all was copied
+pub some_copied : {window room old more : List ℕ} {place copied : ℕ} → length window ≤ 32 → copied ≡ min (length old) (length window - place)
+    → room ≡ part window place (length old) ++ drop copied old → length room ≡ length old → copied ≢ length room
+    → length more ≡ length room - copied → Copies window room old more place copied
+some_copied small count front kept other long = record {
+  small = small;
+  count = count;
+  front = front;
+  kept = kept;
+  short = omega (arith, count, kept, other);
+  long = long;
+}
 
 -- of a reading behind the window nothing is copied
 none_copied : {window more : List ℕ} {place : ℕ} → length window ≤ 32 → length window ≤ place → 0 < length more

@@ -131,16 +131,43 @@ part_none : (d : List ℕ) (place : ℕ) → part d place 0 ≡ []
 unfolding part
 part_none d place = refl
 
+-- Readings gave so many bytes. Where the source is honest, it has taken no more than those, and the state is the one past them.
+pub record Took (a b : State) (place count : ℕ) (got : List ℕ) : Type 0 where
+  pub long : length got ≡ count
+  pub sound : IsSound b
+  pub frame : b.frame ≡ a.frame
+  pub taken : a.taken ≤ b.taken
+  pub within : a.held.honest ≡ true → b.taken ≤ a.taken + count
+  pub state : a.held.honest ≡ true → b ≡ state_after a (span_at place count)
+
+-- what they gave is the text
+pub took_text : {a b : State} {place count : ℕ} {got : List ℕ} (t : Text) (k : ℕ) → Took a b place count got → IsSound a
+    → (a.held.honest ≡ true → text_part a.held.input t place k ≡ got) → Runs a b (Ok got) (text_read a.held.input t place k)
+took_text {a} {b} {place} {count} {got} t k took sound is = record {
+  sound = sound;
+  sound_after = took.sound;
+  frame = took.frame;
+  taken = took.taken;
+  within = λ honest. omega (
+    arith,
+    took.within honest,
+    total-span_at place (length (text_part a.held.input t place k)),
+    long honest,
+  );
+  answer = λ honest goes_on. ap Ok (is honest);
+  state = λ honest goes_on. took.state honest ∙ ap (λ n. state_after a (span_at place n)) (sym (long honest));
+  fault = λ honest faults. absurd cc;
+  misses = λ honest faults. absurd cc;
+  ended = tt;
+} where
+  long : a.held.honest ≡ true → length (text_part a.held.input t place k) ≡ count
+  long honest = ap length (is honest) ∙ took.long
+
 -- Of a text so many bytes were read, and what is left of it is known where the source is honest.
 pub record Taking (a b : State) (t : Text) (place count : ℕ) (begun : Bool) (k : ℕ) (got : List ℕ) : Type 0 where
   pub fits : count ≤ k
-  pub long : length got ≡ count
-  pub frame : b.frame ≡ a.frame
-  pub taken : a.taken ≤ b.taken
+  pub took : Took a b place count got
   pub pays : 0 < count → max a.frame.told 32 < place → a.taken < b.taken
-  pub sound : IsSound b
-  pub within : a.held.honest ≡ true → b.taken ≤ a.taken + count
-  pub state : a.held.honest ≡ true → b ≡ state_after a (span_at place count)
   pub left : a.held.honest ≡ true → text_part a.held.input t place k ≡ got ++ text_rest t begun
       (part a.held.input (place + count) (k - count))
 
@@ -149,13 +176,15 @@ pub taking_none : (a : State) (t : Text) (place k : ℕ) → IsSound a → Takin
 unfolding state_after span_at text_part
 taking_none a t place k sound = record {
   fits = omega arith;
-  long = refl;
-  frame = refl;
-  taken = omega arith;
+  took = record {
+    long = refl;
+    sound = sound;
+    frame = refl;
+    taken = omega arith;
+    within = λ honest. omega arith;
+    state = λ honest. refl;
+  };
   pays = λ some far. absurd (omega (arith, some));
-  sound = sound;
-  within = λ honest. omega arith;
-  state = λ honest. refl;
   left = λ honest.
       let here : place ≡ place + 0 = omega arith in
       let all : k ≡ k - 0 = omega arith in
@@ -166,7 +195,7 @@ taking_none a t place k sound = record {
 
 module _ {a b : State} {t : Text} {place count k : ℕ} {begun : Bool} {got : List ℕ} (h : Taking a b t place count begun k got) where
   same_held : a.held.honest ≡ true → b.held ≡ a.held
-  same_held honest = ap (λ s. s.held) (h.state honest) ∙ past-held a (span_at place count)
+  same_held honest = ap (λ s. s.held) (h.took.state honest) ∙ past-held a (span_at place count)
 
   same_honest : a.held.honest ≡ true → b.held.honest ≡ true
   same_honest honest = ap (λ x. x.honest) (same_held honest) ∙ honest
@@ -182,7 +211,7 @@ module _ {a b : State} {t : Text} {place count k : ℕ} {begun : Bool} {got : Li
     ap length (h.left honest),
     length-append got
         (text_rest t begun (part a.held.input (place + count) (k - count))),
-    h.long,
+    h.took.long,
   )
 
   -- what is left of it is nothing
@@ -201,29 +230,14 @@ module _ {a b : State} {t : Text} {place count k : ℕ} {begun : Bool} {got : Li
     -- a text ends where the input does
     pub taking_ends : Runs b c (Ok []) (part_read b.held.input next 1) → IsSound a → Runs a c (Ok got) (text_read a.held.input t place k)
     unfolding state_after
-    taking_ends run sound = record {
-      sound = sound;
-      sound_after = run.sound_after;
-      frame = run.frame ∙ h.frame;
-      taken = omega (arith, h.taken, run.taken);
-      within = λ honest. omega (
-        arith,
-        h.within honest,
-        run.within (same_honest honest),
-        ap total (no_mark honest),
-        total-span_at place
-            (length (text_part a.held.input t place k)),
-        ap length (ends_now honest),
-        h.long,
-      );
-      answer = λ honest goes_on. ap Ok (ends_now honest);
-      state = λ honest goes_on.
-          run.state (same_honest honest) refl ∙ ap (state_after b) (no_mark honest) ∙ h.state honest
-          ∙ ap (λ n. state_after a (span_at place n)) (sym (ap length (ends_now honest) ∙ h.long));
-      fault = λ honest faults. absurd cc;
-      misses = λ honest faults. absurd cc;
-      ended = tt;
-    } where
+    taking_ends run sound = took_text t k (record {
+      long = h.took.long;
+      sound = run.sound_after;
+      frame = run.frame ∙ h.took.frame;
+      taken = omega (arith, h.took.taken, run.taken);
+      within = λ honest. omega (arith, h.took.within honest, run.within (same_honest honest), ap total (no_mark honest));
+      state = λ honest. run.state (same_honest honest) refl ∙ ap (state_after b) (no_mark honest) ∙ h.took.state honest;
+    }) sound ends_now where
       ends_now : a.held.honest ≡ true → text_part a.held.input t place k ≡ got
       ends_now honest = all_read honest (no_part a.held.input (place + count) (k - count) (omega (arith, end_there run honest, next_is)))
 
@@ -236,11 +250,11 @@ module _ {a b : State} {t : Text} {place count k : ℕ} {begun : Bool} {got : Li
     taking_stopped {e} more run sound untold = record {
       sound = sound;
       sound_after = run.sound_after;
-      frame = run.frame ∙ h.frame;
-      taken = omega (arith, h.taken, run.taken);
+      frame = run.frame ∙ h.took.frame;
+      taken = omega (arith, h.took.taken, run.taken);
       within = λ honest. omega (
         arith,
-        h.within honest,
+        h.took.within honest,
         run.within (same_honest honest),
         few honest,
         total-span_at place
@@ -260,7 +274,7 @@ module _ {a b : State} {t : Text} {place count k : ℕ} {begun : Bool} {got : Li
       few honest = elim (cases_lt next (length a.held.input)) [
         | inl there ↦ (
             let short : length a.held.input < 2 ^ 63 = subst (λ d. length d < 2 ^ 63) (same_input honest)
-            (h.sound (same_honest honest)).1 in
+            (h.took.sound (same_honest honest)).1 in
             let some = one_more (part a.held.input (place + count) (k - count))
             (omega (arith, part_length a.held.input (place + count) (k - count), there, next_is, short, more)) in
             omega (arith, some, text_long honest, total-span_of b.held.input next 1))
@@ -274,7 +288,7 @@ module _ {a b : State} {t : Text} {place count k : ℕ} {begun : Bool} {got : Li
       -- a byte that is there stands at its own place
       next_place : a.held.honest ≡ true → next ≡ place + count
       next_place honest =
-          let short : length a.held.input < 2 ^ 63 = subst (λ d. length d < 2 ^ 63) (same_input honest) (h.sound (same_honest honest)).1 in
+          let short : length a.held.input < 2 ^ 63 = subst (λ d. length d < 2 ^ 63) (same_input honest) (h.took.sound (same_honest honest)).1 in
           omega (arith, part_length a.held.input next 1, ap length (byte_read honest), next_is, short)
 
       rest_read : a.held.honest ≡ true → part a.held.input (place + count) (k - count) ≡ byte ∷ part a.held.input (place + (count + 1))
@@ -298,24 +312,30 @@ module _ {a b : State} {t : Text} {place count k : ℕ} {begun : Bool} {got : Li
           run.state (same_honest honest) refl
           ∙ ap (state_after b) (whole_span b.held.input next 1 there)
           ∙ ap (λ p. state_after b (span_at p 1)) (next_place honest)
-          ∙ ap (λ s. state_after s (span_at (place + count) 1)) (h.state honest)
+          ∙ ap (λ s. state_after s (span_at (place + count) 1)) (h.took.state honest)
           ∙ span_joins a place count only
+
+      -- with that byte
+      took_byte : CountsOnly a → Took a c place (count + 1) (got ++ byte ∷ [])
+      took_byte only = record {
+        long = omega (arith, length-append got (byte ∷ []), h.took.long);
+        sound = run.sound_after;
+        frame = run.frame ∙ h.took.frame;
+        taken = omega (arith, h.took.taken, run.taken);
+        within = λ honest. omega (arith, h.took.within honest, run.within (same_honest honest), total-span_of b.held.input next 1);
+        state = joined only;
+      }
 
       -- a byte that does not end it
       pub taking_more : CountsOnly a → place ≤ next → Paid b c next → ends t begun byte ≡ false → Taking a c t place (count + 1)
           (begun || not (is_ascii_whitespace byte)) k (got ++ byte ∷ [])
       taking_more only behind paid goes_on = record {
         fits = omega (arith, more);
-        long = omega (arith, length-append got (byte ∷ []), h.long);
-        frame = run.frame ∙ h.frame;
-        taken = omega (arith, h.taken, run.taken);
+        took = took_byte only;
         pays = λ some far.
-            let same : b.frame.told ≡ a.frame.told = ap (λ f. f.told) h.frame in
+            let same : b.frame.told ≡ a.frame.told = ap (λ f. f.told) h.took.frame in
             let rises = (paid (omega (arith, far, behind, same))).0 in
-            omega (arith, h.taken, rises);
-        sound = run.sound_after;
-        within = λ honest. omega (arith, h.within honest, run.within (same_honest honest), total-span_of b.held.input next 1);
-        state = joined only;
+            omega (arith, h.took.taken, rises);
         left = λ honest.
             let rest : List ℕ = part a.held.input (place + (count + 1)) (k - (count + 1)) in
             h.left honest
@@ -327,58 +347,16 @@ module _ {a b : State} {t : Text} {place count k : ℕ} {begun : Bool} {got : Li
       -- the one that does
       pub taking_done : CountsOnly a → ends t begun byte ≡ true → IsSound a → Runs a c (Ok (got ++ byte ∷ []))
           (text_read a.held.input t place k)
-      taking_done only is_end sound = record {
-        sound = sound;
-        sound_after = run.sound_after;
-        frame = run.frame ∙ h.frame;
-        taken = omega (arith, h.taken, run.taken);
-        within = λ honest. omega (
-          arith,
-          h.within honest,
-          run.within (same_honest honest),
-          total-span_of b.held.input next 1,
-          total-span_at place (length (text_part a.held.input t place k)),
-          long_now honest,
-        );
-        answer = λ honest goes_on. ap Ok (done_now honest);
-        state = λ honest goes_on. joined only honest ∙ ap (λ n. state_after a (span_at place n)) (sym (long_now honest));
-        fault = λ honest faults. absurd cc;
-        misses = λ honest faults. absurd cc;
-        ended = tt;
-      } where
-        done_now : a.held.honest ≡ true → text_part a.held.input t place k ≡ got ++ byte ∷ []
-        done_now honest =
-            h.left honest
-            ∙ ap (λ bs. got ++ text_rest t begun bs) (rest_read honest)
-            ∙ ap (λ bs. got ++ bs) (rest_ends t begun byte (part a.held.input (place + (count + 1)) (k - (count + 1))) is_end)
-
-        long_now : a.held.honest ≡ true → length (text_part a.held.input t place k) ≡ count + 1
-        long_now honest = omega (arith, ap length (done_now honest), length-append got (byte ∷ []), h.long)
+      taking_done only is_end sound = took_text t k (took_byte only) sound (λ honest.
+          h.left honest
+          ∙ ap (λ bs. got ++ text_rest t begun bs) (rest_read honest)
+          ∙ ap (λ bs. got ++ bs) (rest_ends t begun byte (part a.held.input (place + (count + 1)) (k - (count + 1))) is_end))
 
   -- there is no more room
   pub taking_full : k ≤ count → IsSound a → Runs a b (Ok got) (text_read a.held.input t place k)
-  taking_full full sound = record {
-    sound = sound;
-    sound_after = h.sound;
-    frame = h.frame;
-    taken = h.taken;
-    within = λ honest. omega (
-      arith,
-      h.within honest,
-      total-span_at place (length (text_part a.held.input t place k)),
-      ap length (full_now honest),
-      h.long,
-    );
-    answer = λ honest goes_on. ap Ok (full_now honest);
-    state = λ honest goes_on. h.state honest ∙ ap (λ n. state_after a (span_at place n)) (sym (ap length (full_now honest) ∙ h.long));
-    fault = λ honest faults. absurd cc;
-    misses = λ honest faults. absurd cc;
-    ended = tt;
-  } where
-    full_now : a.held.honest ≡ true → text_part a.held.input t place k ≡ got
-    full_now honest =
-        let none : k - count ≡ 0 = omega (arith, full) in
-        all_read honest (ap (part a.held.input (place + count)) none ∙ part_none a.held.input (place + count))
+  taking_full full sound = took_text t k h.took sound (λ honest.
+      let none : k - count ≡ 0 = omega (arith, full) in
+      all_read honest (ap (part a.held.input (place + count)) none ∙ part_none a.held.input (place + count)))
 
 -- a room in which one byte more was put
 one_byte : (count : ℕ) (room more behind : List ℕ) → count ≤ length room → length more ≡ 1

@@ -1,5 +1,5 @@
 //! A buffered reader that keeps its place.
-ghost use Rattle.std.specs.Prelude.{◌≡◌, ℕ, ◌+◌, ◌-◌, ◌≤◌, drop, length, take, Option, Some, None, Ok, pos, IfOk, IfErr, IfSome};
+ghost use Rattle.std.specs.Prelude.{◌≡◌, ℕ, ◌+◌, ◌-◌, ◌≤◌, drop, length, take, Some, None, Ok, pos, IfOk, IfErr, IfSome};
 ghost use Rattle.std.specs.Io.Buffered.{reader_buffer, reader_inner, reader_position, reader_remaining};
 ghost use Rattle.std.specs.Io.KnownBytes.{ReadConsumes};
 ghost use Rattle.std.specs.Io.Seek.{SeekMoves};
@@ -7,7 +7,6 @@ ghost use Rattle.std.specs.declared.io.Error.{Error};
 ghost use Rattle.imagesize_io.specs.Held.{IsWhole};
 ghost use Rattle.imagesize_io.specs.Kept.{place_after, read_place, sought_place, HeldOf, IsAt, IsBack, LeavesBuffer};
 ghost use Rattle.imagesize_io.specs.StopOf.{stop_of};
-ghost use Rattle.imagesize_io.specs.Telling.{Telling, ReadTells, SeekTells, counted};
 
 use crate::held::copy_text;
 use crate::{Stop, Told};
@@ -46,8 +45,6 @@ impl<R: Read + Seek + Drop> Told for KeptReader<R> {
 
     fn read_told(&mut self, room: &mut [u8]) -> Result<usize, Stop>
         ensures bound { IfOk result (λ n. n ≤ length room.new) }
-        ensures told { ReadTells None None room.new result }
-        ensures counts { ◌≡◌ {A = Option ℕ} None (counted None result) }
         ensures stops { IfErr result (λ stop. (e : Error) × (stop ≡ stop_of e)) }
         ensures reads { ReadConsumes (reader_remaining R.remaining self.old.reader)
             (reader_remaining R.remaining self.new.reader) result room.new }
@@ -64,9 +61,6 @@ impl<R: Read + Seek + Drop> Told for KeptReader<R> {
     fn read_held(&mut self, text: Text, room: &mut [u8]) -> Option<usize>
         ensures bound { IfSome result (λ n. n ≤ length room.new) }
         ensures whole { IfSome result (λ n. IsWhole text (take n room.new)) }
-        ensures told { IfSome result (λ n. ReadTells None None room.new (Ok n)) }
-        ensures counts { IfSome result (λ n. ◌≡◌ {A = Option ℕ} None (counted {E = Stop} None (Ok n))) }
-        ensures none { result ≡ None → (◌≡◌ {A = Option Telling} None None) × (◌≡◌ {A = Option ℕ} None None) }
         // What it gives is in the buffer, and the reader below is not called.
         ensures stays { result ≡ None → (self.new.reader ≡ self.old.reader) × (self.new.place ≡ self.old.place) }
         ensures held { IfSome result (HeldOf self.old.reader self.new.reader room.new) }
@@ -79,8 +73,6 @@ impl<R: Read + Seek + Drop> Told for KeptReader<R> {
     }
 
     fn seek_told(&mut self, to: SeekFrom) -> io::Result<u64>
-        ensures told { SeekTells None None to result }
-        ensures counts { ◌≡◌ {A = Option ℕ} None None }
         ensures place { self.new.place ≡ sought_place result }
 
         // Where it stands already, and ahead in the buffer, the reader below is not called.

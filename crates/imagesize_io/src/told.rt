@@ -124,8 +124,6 @@ impl<R: Read + Seek + Drop> Told for BufReader<R> {
 
     fn read_told(&mut self, room: &mut [u8]) -> Result<usize, Stop>
         ensures bound { IfOk result (λ n. n ≤ length room.new) }
-        ensures told { ReadTells None None room.new result }
-        ensures counts { ◌≡◌ {A = Option ℕ} None (counted None result) }
         ensures stops { IfErr result (λ stop. (e : Error) × (stop ≡ stop_of e)) }
         ensures reads { ReadConsumes (reader_remaining R.remaining self.old) (reader_remaining R.remaining self.new) result room.new }
     {
@@ -137,9 +135,6 @@ impl<R: Read + Seek + Drop> Told for BufReader<R> {
     fn read_held(&mut self, text: Text, room: &mut [u8]) -> Option<usize>
         ensures bound { IfSome result (λ n. n ≤ length room.new) }
         ensures whole { IfSome result (λ n. IsWhole text (take n room.new)) }
-        ensures told { IfSome result (λ n. ReadTells None None room.new (Ok n)) }
-        ensures counts { IfSome result (λ n. ◌≡◌ {A = Option ℕ} None (counted {E = Stop} None (Ok n))) }
-        ensures none { result ≡ None → (◌≡◌ {A = Option Telling} None None) × (◌≡◌ {A = Option ℕ} None None) }
         // What it gives is in the buffer, and the reader below is not called.
         ensures stays { result ≡ None → self.new ≡ self.old }
         ensures held { IfSome result (HeldOf self.old self.new room.new) }
@@ -150,8 +145,6 @@ impl<R: Read + Seek + Drop> Told for BufReader<R> {
     }
 
     fn seek_told(&mut self, to: SeekFrom) -> io::Result<u64>
-        ensures told { SeekTells None None to result }
-        ensures counts { ◌≡◌ {A = Option ℕ} None None }
         ensures seeks { SeekMoves (reader_position R.stream_position self.old) (reader_position R.stream_position self.new)
             (R.stream_bytes (reader_inner self.old)) to result }
     {

@@ -366,8 +366,6 @@ impl Told for Endless<'_> {
 
     fn read_told(&mut self, room: &mut [u8]) -> Result<usize, Stop>
         ensures bound { IfOk result (λ n. n ≤ length room.new) }
-        ensures told { ReadTells None None room.new result }
-        ensures counts { ◌≡◌ {A = Option ℕ} None (counted None result) }
         ensures fills { result ≡ Ok (length room.new) }
     {
         for byte in room.iter_mut() {
@@ -378,8 +376,6 @@ impl Told for Endless<'_> {
     }
 
     fn seek_told(&mut self, to: SeekFrom) -> io::Result<u64>
-        ensures told { SeekTells None None to result }
-        ensures counts { ◌≡◌ {A = Option ℕ} None None }
         ensures goes { (place : ℕ) → to ≡ SeekFrom.Start place → (result ≡ Ok place) × (self.new.place ≡ place) }
         ensures stands { to ≡ SeekFrom.Current (pos zero) → (result ≡ Ok self.old.place) × (self.new.place ≡ self.old.place) }
     {

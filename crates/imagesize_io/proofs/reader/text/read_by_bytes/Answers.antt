@@ -64,13 +64,13 @@ returns-then-is_end g c =
     let ledger = c.args.ledger.now in
     let read = c.in_ok-read_on.ensures.reads in
     let so_far = c.loop-count.invariant 0 in
-    let told = ap (λ f. f.told) so_far.frame in
+    let told = ap (λ f. f.told) so_far.took.frame in
     record {
       bound = search (rules, so_far.fits);
       pays = λ some far.
           let paid = read.pays (omega (arith, c.if-branch-eq0.false))
           (omega (arith, far, told, c.saturating_add-next.ensures, c.ranges.place.fits)) in
-          omega (arith, paid.0, so_far.taken);
+          omega (arith, paid.0, so_far.took.taken);
       runs = λ home. text_ends c.loop-count.room (c.loop-count.invariant home) c.saturating_add-next.result c.in_ok-read_on.field-0
           (c.loop-count.count + 1 - c.loop-count.count) c.read_on.new.room
           (omega (arith, c.saturating_add-next.ensures)) c.loop-count-test.true (omega arith) (one_long c.loop-count.count c.loop-count.room

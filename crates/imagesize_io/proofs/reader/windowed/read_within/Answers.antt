@@ -2,7 +2,7 @@ use Rattle.std.proofs.Common.{◌≡◌, ℕ, Result, Err, ◌+◌, ap, ◌∙�
 use Rattle.imagesize_source.specs.declared.halt.Halt.{Halt}
 use Rattle.imagesize_io.specs.ReaderState.{kept_window}
 use Rattle.imagesize_io.proofs.Filling.{put_there}
-use Rattle.imagesize_io.proofs.Layers.{reads_behind, stops_behind}
+use Rattle.imagesize_io.proofs.Layers.{some_copied, reads_behind, stops_behind}
 use Rattle.imagesize_io.proofs.Windows.{in_window, told_by}
 use Rattle.imagesize_io.proofs.reader.windowed.read_within.Goals as goal
 
@@ -23,26 +23,15 @@ pub returns-in_err-count : goal.returns-in_err-count
 returns-in_err-count g c =
     let copy = c.copy_kept-copied in
     let is : ◌≡◌ {A = Result ℕ Halt} c.from_residual.result (Err c.in_err-count.field-0.0) = search rules in
-    stops_behind (record {
-      small = copy.ensures.small;
-      count = copy.ensures.count;
-      front = copy.ensures.copied;
-      kept = copy.auto.room;
-      short = omega (arith, copy.ensures.count, copy.auto.room, c.if-copied-room.false);
-      long = search rules;
-    }) c.in_err-count.ensures refl is
+    stops_behind (some_copied copy.ensures.small copy.ensures.count copy.ensures.copied copy.auto.room c.if-copied-room.false
+    (search rules)) c.in_err-count.ensures refl is
 
 pub returns : goal.returns
 returns g c =
     let copy = c.copy_kept-copied in
     let read = c.in_ok-count.ensures in
-    reads_behind (record {
-      small = copy.ensures.small;
-      count = copy.ensures.count;
-      front = copy.ensures.copied;
-      kept = copy.auto.room;
-      short = omega (arith, copy.ensures.count, copy.auto.room, c.if-copied-room.false);
-      long = search rules;
-    }) read (c.keep.ensures ∙ ap (kept_window c.args.ledger.now.window.items (c.args.place + copy.result))
+    reads_behind (some_copied copy.ensures.small copy.ensures.count copy.ensures.copied copy.auto.room c.if-copied-room.false
+    (search rules)) read
+    (c.keep.ensures ∙ ap (kept_window c.args.ledger.now.window.items (c.args.place + copy.result))
     (put_there copy.new.room c.read_across.new.room copy.result c.in_ok-count.count
     (omega (arith, copy.ensures.count, copy.auto.room)) read.bound)) (search rules)
