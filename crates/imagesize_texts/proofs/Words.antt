@@ -11,8 +11,6 @@ use Rattle.std.specs.Char.{is_ascii_whitespace, is_whitespace, is_not_whitespace
 use Rattle.std.specs.List.{prefix_len, slice_split, onto_first}
 use Rattle.std.specs.Result.{result_ok}
 use Rattle.std.specs.Str.{IsUtf8, is_utf8, chars, encode_utf8_all, all_ascii_digits, NoCharPasses, NonePass, EmptyOrStartsWithPassing, IsTrimAsciiStart, trim_start, trim_end}
-use Rattle.std.specs.Str.Iter.{split_whitespace_rest, split_whitespace_steps}
-use Rattle.std.specs.Borrow.{Bor}
 use Rattle.std.specs.Str.Parse.{ParsesUnsigned, IsNumeral, digits_value, without_leading_plus}
 use Rattle.imagesize_source.specs.declared.error.ImageError.TheVariants.{IoError}
 use Rattle.imagesize_source.specs.declared.error.Reason.TheVariants.{NotUtf8}
@@ -184,23 +182,25 @@ pub record Taken (text : List ℕ) (ws : List (List ℕ)) (rest : List ℕ) : Ty
   pub is : words text ≡ ws ++ words rest
   pub utf : IsUtf8 rest
 
-pub taken_start : (text rest : List ℕ) → IsUtf8 text → rest ≡ text → Taken text [] rest
-taken_start text rest utf is = record { is = ap words (sym is); utf = subst IsUtf8 (sym is) utf }
+pub taken_start : {text rest : List ℕ} → IsUtf8 text → rest ≡ text → Taken text [] rest
+taken_start utf is = record { is = ap words (sym is); utf = subst IsUtf8 (sym is) utf }
+
+-- a word comes off the front of some bytes, as a call of `next` says, and leaves others
+abbrev pub TakesWord : (bytes word rest : List ℕ) → Type 0
+TakesWord bytes word rest = (gap : List ℕ) × (bytes ≡ gap ++ (word ++ rest)) × (0 < length word) × NoCharPasses is_not_whitespace gap
+    × NoCharPasses is_whitespace word × ((more : List ℕ) × EmptyOrStartsWithPassing is_whitespace rest more)
 
 -- one more is
-pub taken_next : {text : List ℕ} {ws : List (List ℕ)} (s t : _) (x : Bor (List ℕ)) → Taken text ws (split_whitespace_rest s)
-    → split_whitespace_steps s (Some x) t → Taken text (ws ++ x.now ∷ []) (split_whitespace_rest t)
-taken_next {text} {ws} s t x taken step =
-    let next = word_first (split_whitespace_rest s) step.0 x.now (split_whitespace_rest t) step.5.0 taken.utf step.1 step.2 step.3 step.4
-    step.5.1 in
+pub taken_next : {text : List ℕ} {ws : List (List ℕ)} {bytes word rest : List ℕ} → Taken text ws bytes → TakesWord bytes word rest
+    → Taken text (ws ++ word ∷ []) rest
+taken_next {text} {ws} {bytes} {word} {rest} taken step =
+    let next = word_first bytes step.0 word rest step.5.0 taken.utf step.1 step.2 step.3 step.4 step.5.1 in
     record {
-      is = taken.is ∙ ap (λ more. ws ++ more) next.0 ∙ sym (append_assoc ws (x.now ∷ []) (words (split_whitespace_rest t)));
-      utf =
-          next.1;
+      is = taken.is ∙ ap (λ more. ws ++ more) next.0 ∙ sym (append_assoc ws (word ∷ []) (words rest));
+      utf = next.1;
     }
 
 -- or none is left
-pub taken_end : {text : List ℕ} {ws : List (List ℕ)} (s t : _) → Taken text ws (split_whitespace_rest s)
-    → split_whitespace_steps s None t → words text ≡ ws
-taken_end {text} {ws} s t taken step = taken.is ∙ ap (λ more. ws ++ more) (word_none (split_whitespace_rest s) taken.utf step.1)
-    ∙ append-nil ws
+pub taken_end : {text : List ℕ} {ws : List (List ℕ)} {rest : List ℕ} → Taken text ws rest → NoCharPasses is_not_whitespace rest
+    → words text ≡ ws
+taken_end {text} {ws} {rest} taken none = taken.is ∙ ap (λ more. ws ++ more) (word_none rest taken.utf none) ∙ append-nil ws
