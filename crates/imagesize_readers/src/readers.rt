@@ -175,43 +175,37 @@ impl<R: Told> Told for Interrupted<R> {
 /// A cursor of which every second read is interrupted, until the last interruption.
 #[derive(Drop)]
 pub struct Halting<'a> {
-    /// The cursor.
-    pub cursor: Cursor<&'a [u8]>,
-    /// How many reads are still interrupted.
-    pub left: u64,
-    /// What interrupts them.
-    pub error: io::Error,
+    /// The cursor, and what interrupts its reads.
+    pub reader: Interrupted<Cursor<&'a [u8]>>,
     /// Whether the next read is interrupted.
     pub halts: bool,
 }
 
 impl Told for Halting<'_> {
-    ghost telling = { λ r. halting_telling (cursor_inner r.cursor).now (cursor_position r.cursor) r.left };
+    ghost telling = { λ r. halting_telling (cursor_inner r.reader.reader).now (cursor_position r.reader.reader) r.reader.left };
 
     ghost count = { λ _. None };
 
     fn read_told(&mut self, room: &mut [u8]) -> Result<usize, Stop>
         ensures bound { IfOk result (λ n. n ≤ length room.new) }
-        ensures told { ReadTells (halting_telling (cursor_inner self.old.cursor).now (cursor_position self.old.cursor) self.old.left)
-            (halting_telling (cursor_inner self.new.cursor).now (cursor_position self.new.cursor) self.new.left) room.new result }
+        ensures told { ReadTells
+            (halting_telling (cursor_inner self.old.reader.reader).now (cursor_position self.old.reader.reader) self.old.reader.left)
+            (halting_telling (cursor_inner self.new.reader.reader).now (cursor_position self.new.reader.reader) self.new.reader.left)
+            room.new result }
         ensures counts { ◌≡◌ {A = Option ℕ} None (counted None result) }
-        ensures interrupts { 0 < self.old.left → self.old.halts ≡ true → result ≡ Err (Stop.Interrupted self.old.error) }
-        ensures turns { 0 < self.old.left → self.new.halts ≡ not self.old.halts }
+        ensures interrupts { 0 < self.old.reader.left → self.old.halts ≡ true → result ≡ Err (Stop.Interrupted self.old.reader.error) }
+        ensures turns { 0 < self.old.reader.left → self.new.halts ≡ not self.old.halts }
     {
-        if self.left == 0 {
-            return self.cursor.read_told(room);
-        }
         let halts = self.halts;
         self.halts = !halts;
         if halts {
-            self.left -= 1;
-            return Err(Stop::Interrupted(self.error));
+            return self.reader.read_told(room);
         }
-        self.cursor.read_told(room)
+        self.reader.reader.read_told(room)
     }
 
     fn seek_told(&mut self, to: SeekFrom) -> io::Result<u64> {
-        self.cursor.seek_told(to)
+        self.reader.seek_told(to)
     }
 }
 

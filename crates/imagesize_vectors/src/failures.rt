@@ -44,9 +44,11 @@ fn interrupted_reads_take_no_byte(rt: HostRuntime) {
 // A reader of one byte a read, of which every second read is interrupted.
 fn halting(bytes: &[u8], left: u64, error: io::Error) -> Cutting<'static, Halting<'_>> {
     Cutting::one_byte(Halting {
-        cursor: Cursor::new(bytes),
-        left,
-        error,
+        reader: Interrupted {
+            reader: Cursor::new(bytes),
+            left,
+            error,
+        },
         halts: true,
     })
 }

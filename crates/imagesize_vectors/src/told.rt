@@ -39,9 +39,11 @@ pub fn size_in_pieces(bytes: &[u8], left: u64, error: io::Error) -> ImageResult<
 {
     let _length = bytes.len();
     reader_size(Cutting::one_byte(Halting {
-        cursor: Cursor::new(bytes),
-        left,
-        error,
+        reader: Interrupted {
+            reader: Cursor::new(bytes),
+            left,
+            error,
+        },
         halts: true,
     }))
 }
