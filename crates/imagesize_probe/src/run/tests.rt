@@ -142,6 +142,22 @@ fn strings(alloc: Global, texts: &[&str]) -> Result<Vec<String>, AllocError> {
     Ok(all)
 }
 
+// What the program ends with, of these arguments over the files of the shelf.
+fn run_on_shelf<W: Write, E: Write>(
+    alloc: Global,
+    arguments: &[String],
+    output: &mut W,
+    errors: &mut E,
+) -> io::Result<u8> {
+    run(
+        alloc,
+        arguments,
+        &mut Shelf { alloc, asked: 0 },
+        output,
+        errors,
+    )
+}
+
 // The lines of names behind each of which these bytes are, and the status.
 fn run_same(
     alloc: Global,
@@ -187,11 +203,10 @@ fn each_name_has_a_line_in_its_turn(rt: HostRuntime) -> Result<(), Fail> {
         ),
     ] {
         let names = strings(alloc, names)?;
-        let mut shelf = Shelf { alloc, asked: 0 };
         let mut output = Vec::new(alloc);
         let mut errors = Vec::new(alloc);
         assert_eq!(rt;
-            run(alloc, &names, &mut shelf, &mut output, &mut errors)?,
+            run_on_shelf(alloc, &names, &mut output, &mut errors)?,
             status,
             "{lines}"
         );
@@ -206,16 +221,7 @@ fn the_usage_is_written_where_none_is_named(rt: HostRuntime) -> Result<(), Fail>
     let alloc = rt.alloc();
     let mut output = Vec::new(alloc);
     let mut errors = Vec::new(alloc);
-    assert_eq!(rt;
-        run(
-            alloc,
-            &[],
-            &mut Shelf { alloc, asked: 0 },
-            &mut output,
-            &mut errors
-        )?,
-        2
-    );
+    assert_eq!(rt; run_on_shelf(alloc, &[], &mut output, &mut errors)?, 2);
     assert!(rt; output.is_empty());
     assert_eq!(rt;
         errors.as_slice(),
@@ -225,16 +231,7 @@ fn the_usage_is_written_where_none_is_named(rt: HostRuntime) -> Result<(), Fail>
         written: 0,
         sent: 0,
     };
-    assert_eq!(rt;
-        run(
-            alloc,
-            &[],
-            &mut Shelf { alloc, asked: 0 },
-            &mut output,
-            &mut full
-        )?,
-        2
-    );
+    assert_eq!(rt; run_on_shelf(alloc, &[], &mut output, &mut full)?, 2);
     Ok(())
 }
 
@@ -273,16 +270,7 @@ fn each_line_is_sent_before_the_next_file(rt: HostRuntime) -> Result<(), Fail> {
         sent: 9,
     };
     let mut errors = Vec::new(alloc);
-    assert_eq!(rt;
-        run(
-            alloc,
-            &names,
-            &mut Shelf { alloc, asked: 0 },
-            &mut output,
-            &mut errors
-        )?,
-        1
-    );
+    assert_eq!(rt; run_on_shelf(alloc, &names, &mut output, &mut errors)?, 1);
     assert_eq!(rt; output.sent, 7);
     Ok(())
 }
@@ -340,9 +328,8 @@ fn the_option_is_known_as_the_first_argument(rt: HostRuntime) -> Result<(), Fail
         let arguments = strings(alloc, arguments)?;
         let mut output = Vec::new(alloc);
         let mut errors = Vec::new(alloc);
-        let mut shelf = Shelf { alloc, asked: 0 };
         assert_eq!(rt;
-            run(alloc, &arguments, &mut shelf, &mut output, &mut errors)?,
+            run_on_shelf(alloc, &arguments, &mut output, &mut errors)?,
             status,
             "{lines}"
         );
@@ -368,9 +355,8 @@ fn files_are_read_whole_up_to_a_length(rt: HostRuntime) -> Result<(), Fail> {
         let arguments = strings(alloc, &["--spans", name])?;
         let mut output = Vec::new(alloc);
         let mut errors = Vec::new(alloc);
-        let mut shelf = Shelf { alloc, asked: 0 };
         assert_eq!(rt;
-            run(alloc, &arguments, &mut shelf, &mut output, &mut errors)?,
+            run_on_shelf(alloc, &arguments, &mut output, &mut errors)?,
             1
         );
         assert_eq!(rt; output.as_slice(), lines.as_bytes());
