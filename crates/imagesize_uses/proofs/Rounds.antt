@@ -93,24 +93,23 @@ begun d whole now spans bytes long short none also = record {
     both_first true c is = refl
     both_first false c is = is
 
--- what is wanted of the parts, as the call has them
-pub asked : (d : List ℕ) (whole : ℕ) (spans others : List Span) (bytes content : List ℕ) (before now : ℕ) (w : Span)
-    → Fetching d whole spans bytes before now → others ≡ spans → content ≡ bytes
-    → (HasParts d whole others content → whole < 2 ^ 63 → Wants (texts_of d) (meaning d 0).marks others w) → Wants (texts_of d) (meaning d 0).marks spans w
-asked d whole spans others bytes content before now w f same also says =
-    let has : HasParts d whole others content = record { as_long = sym f.as_long; bytes = ap (bytes_of d) same ∙ f.content ∙ sym also } in
-    subst (λ s. Wants (texts_of d) (meaning d 0).marks s w) same (says has f.short)
+-- a fetch of what is wanted of the parts, as the call has them, leaves fewer places that are lacking
+module _ {d : List ℕ} {whole : ℕ} {spans others : List Span} {bytes content : List ℕ} {before now : ℕ} (w : Span)
+    (f : Fetching d whole spans bytes before now) (same : others ≡ spans) (also : content ≡ bytes)
+    (says : HasParts d whole others content → whole < 2 ^ 63 → Wants (texts_of d) (meaning d 0).marks others w)
+    (fits : (0 < w.len) × (w.start + w.len ≤ whole)) where
+  wants : Wants (texts_of d) (meaning d 0).marks spans w
+  wants =
+      let has : HasParts d whole others content = record { as_long = sym f.as_long; bytes = ap (bytes_of d) same ∙ f.content ∙ sym also } in
+      subst (λ s. Wants (texts_of d) (meaning d 0).marks s w) same (says has f.short)
 
--- a fetch of what is wanted leaves fewer places that are lacking
-module _ (d : List ℕ) (whole : ℕ) (spans : List Span) (bytes : List ℕ) (before now : ℕ) (w : Span) (f : Fetching d whole spans bytes before now)
-    (says : Wants (texts_of d) (meaning d 0).marks spans w) (fits : (0 < w.len) × (w.start + w.len ≤ whole)) where
-  pub smaller : (more : List Span) → more ≡ spans ++ w ∷ [] → lacking d more < lacking d spans
+  pub smaller : {more : List Span} → more ≡ spans ++ w ∷ [] → lacking d more < lacking d spans
   unfolding lacking
-  smaller more is =
+  smaller {more} is =
       let has : has_place w w.start ≡ true = (let some = fits.0 in grind (arith, nat_tests)) in
       subst (λ s. count_by (lacks marks s) (range_with_len 0 (length d)) < count_by (lacks marks spans) (range_with_len 0 (length d))) (sym is)
       (count_less (lacks marks (spans ++ w ∷ [])) (lacks marks spans) 0 (length d) w.start (omega arith)
-      (omega (arith, fits.0, fits.1, f.as_long)) no_more (none has) (ap (λ b. is_covered marks w.start && not b) says.1 ∙ and_true says.0)) where
+      (omega (arith, fits.0, fits.1, f.as_long)) no_more (none has) (ap (λ b. is_covered marks w.start && not b) wants.1 ∙ and_true wants.0)) where
         marks : List Span
         marks = (meaning d 0).marks
 
@@ -135,17 +134,17 @@ module _ (d : List ℕ) (whole : ℕ) (spans : List Span) (bytes : List ℕ) (be
         and_true : {b : Bool} → b ≡ true → b && true ≡ true
         and_true is = ap (λ b. b && true) is
 
-  pub fetched : (more : List Span) (got : List ℕ) (later : ℕ) → more ≡ spans ++ w ∷ [] → got ≡ bytes ++ part d w.start w.len
+  pub fetched : {more : List Span} {got : List ℕ} {later : ℕ} → more ≡ spans ++ w ∷ [] → got ≡ bytes ++ part d w.start w.len
       → later ≤ now + 1 → Fetching d whole more got before later
-  fetched more got later is adds counts = record {
+  fetched {more} {got} {later} is adds counts = record {
     as_long = f.as_long;
     short = f.short;
     content = ap (bytes_of d) is ∙ flat_map-append (λ s. part d s.start s.len) spans (w ∷ [])
         ∙ ap (λ bs. bytes_of d spans ++ bs) (append-nil (part d w.start w.len))
         ∙ ap (λ bs. bs ++ part d w.start w.len) f.content ∙ sym adds;
-    few = omega (arith, f.few, counts, smaller more is);
+    few = omega (arith, f.few, counts, smaller is);
   }
 
   -- there was a place to fetch
-  pub few_by : (later : ℕ) → later ≤ now + 1 → later ≤ before + places (length d) (meaning d 0).marks
-  few_by later counts = omega (arith, f.few, counts, smaller (spans ++ w ∷ []) refl)
+  pub few_by : {later : ℕ} → later ≤ now + 1 → later ≤ before + places (length d) (meaning d 0).marks
+  few_by {later} counts = omega (arith, f.few, counts, smaller refl)
