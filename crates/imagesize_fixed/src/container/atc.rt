@@ -35,6 +35,7 @@ fn is_atc(header: &[u8]) -> bool
 }
 
 /// How the pixels are stored, by the data type where it is there.
+#[inline(always)]
 #[tactic(auto, using(imagesize_source::proofs::Runs::steps), unfolding(crate::specs::Atc::atc_compression))]
 pub fn detect_compression<S: Source>(source: &mut S) -> Result<AtcCompression, Halt>
     ensures { RunsOrHalts (S.state source.old) (S.state source.new) (S.failure source.new) result

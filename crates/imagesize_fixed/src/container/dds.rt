@@ -31,6 +31,7 @@ pub(super) fn is_dds(header: &[u8]) -> bool
 }
 
 /// How the pixels are stored, by the four-character code where it is there.
+#[inline(always)]
 #[tactic(auto, using(imagesize_source::proofs::Runs::steps, imagesize_source::proofs::Runs::missed_before), unfolding(crate::specs::Dds::dds_compression))]
 pub fn detect_compression<S: Source>(source: &mut S) -> Result<DdsCompression, Halt>
     ensures { RunsOrHalts (S.state source.old) (S.state source.new) (S.failure source.new) result

@@ -30,6 +30,7 @@ fn is_version_3(header: &[u8]) -> bool
 }
 
 /// How the pixels are stored, which the newer header tells.
+#[inline(always)]
 #[tactic(auto, using(imagesize_source::proofs::Runs::steps, imagesize_source::proofs::Runs::missed_before), unfolding(crate::specs::Pvrtc::pvrtc_compression))]
 pub fn detect_compression<S: Source>(source: &mut S) -> Result<PvrtcCompression, Halt>
     ensures { RunsOrHalts (S.state source.old) (S.state source.new) (S.failure source.new) result
@@ -45,6 +46,7 @@ pub fn detect_compression<S: Source>(source: &mut S) -> Result<PvrtcCompression,
 }
 
 // How the pixels are stored, by the format where it is there.
+#[inline(always)]
 #[tactic(auto, using(imagesize_source::proofs::Runs::steps, imagesize_source::proofs::Numbers::little_8))]
 fn format<S: Source>(source: &mut S) -> Result<PvrtcCompression, Halt>
     ensures { RunsOrHalts (S.state source.old) (S.state source.new) (S.failure source.new) result
