@@ -34,3 +34,8 @@ abbrev pub RoleLeadsOn : ℕ → ℕ → Role → Type 0
 RoleLeadsOn depth marker role.Frame = Unit {0}
 RoleLeadsOn depth marker role.End = Unit {0}
 RoleLeadsOn depth marker (role.Other behind) = LeadsTo depth marker behind
+
+-- no side of an icon is above 256 pixels
+pub record IsIcon (size : ImageSize) : Type 0 where
+  pub wide : size.width ≤ 256
+  pub high : size.height ≤ 256

@@ -1,7 +1,10 @@
 //! Windows icons, by `ICONDIR` and `ICONDIRENTRY` of "Icons" (Win32).
-ghost use Rattle.std.specs.Prelude.{◌≡◌, ◌+◌, ◌*◌, Some, ok_or};
+ghost use Rattle.std.specs.Prelude.{◌≡◌, ◌≤◌, ◌+◌, ◌*◌, Some, ok_or};
+ghost use Rattle.std.specs.Option.{ForSome};
 ghost use Rattle.imagesize_walked.specs.Ico.{ico, icon_entries, icon_side, icon_size, is_ico};
+ghost use Rattle.imagesize_walked.specs.Walks.{IsIcon};
 ghost use Rattle.imagesize_types.specs.Largest.{later_largest};
+ghost use Rattle.imagesize_types.specs.Order.{area_of};
 ghost use Rattle.imagesize_source.specs.declared.halt.Halt.TheVariants as halt;
 ghost use Rattle.imagesize_source.specs.Chain.{chain_at};
 ghost use Rattle.imagesize_source.specs.Halts.{RunsOrHalts};
@@ -12,7 +15,7 @@ ghost use Rattle.imagesize_source.specs.State.{IsSound};
 use imagesize_source::readings::{read_if_there, read_u16};
 use imagesize_source::source::Source;
 use imagesize_source::{Endian, Halt};
-use imagesize_types::size::{ImageSize, area};
+use imagesize_types::size::ImageSize;
 
 /// Whether a directory of icons stands first.
 #[inline(always)]
@@ -66,7 +69,10 @@ fn answer(best: Option<ImageSize>) -> Result<ImageSize, Halt>
 
 // The one of greater area, and of two that are alike the second.
 fn larger(best: Option<ImageSize>, size: ImageSize) -> ImageSize
-    ensures { Some result ≡ later_largest best size }
+    requires best { ForSome best IsIcon }
+    requires is { IsIcon size }
+    ensures icon { IsIcon result }
+    ensures later { Some result ≡ later_largest best size }
 {
     match best {
         Some(best) if area(&best) > area(&size) => best,
@@ -74,9 +80,18 @@ fn larger(best: Option<ImageSize>, size: ImageSize) -> ImageSize
     }
 }
 
+// How many pixels an icon has.
+fn area(size: &ImageSize) -> usize
+    requires { IsIcon size.now }
+    ensures { result ≡ area_of size.now }
+{
+    size.width * size.height
+}
+
 // The size that an entry begins with.
 fn icon_size(bytes: [u8; 2]) -> ImageSize
-    ensures { result ≡ icon_size bytes }
+    ensures icon { IsIcon result }
+    ensures is { result ≡ icon_size bytes }
 {
     let [width, height] = bytes;
     ImageSize {
@@ -87,7 +102,8 @@ fn icon_size(bytes: [u8; 2]) -> ImageSize
 
 // A width or a height, of which 0 stands for 256.
 fn icon_side(byte: u8) -> usize
-    ensures { result ≡ icon_side byte }
+    ensures most { result ≤ 256 }
+    ensures is { result ≡ icon_side byte }
 {
     if byte == 0 { 256 } else { byte as usize }
 }

@@ -3,7 +3,7 @@ use Rattle.imagesize_walked.proofs.Ico.{icon_start, icon_on, icon_out, icon_cut,
 use Rattle.imagesize_walked.proofs.formats.ico.largest.Goals as goal
 
 pub loop-index-init : goal.loop-index-init
-loop-index-init g c = record { walks = icon_start c.args.count _; sound = c.requires }
+loop-index-init g c = record { walks = icon_start c.args.count _; icon = search rules; sound = c.requires }
 
 pub returns-in_err-bytes : goal.returns-in_err-bytes
 returns-in_err-bytes g c =
@@ -21,7 +21,11 @@ pub loop-index-preserved : goal.loop-index-preserved
 loop-index-preserved g c =
     let h = icon_on c.args.count c.loop-index.index c.loop-index.best _ c.loop-index-test.true c.loop-index.invariant.walks
     (rw c.in-Some.is at c.in_ok-bytes.ensures) in
-    record { walks = search (rules, h, c.icon_size.ensures, c.larger.ensures); sound = c.in_ok-bytes.ensures.sound_after }
+    record {
+      walks = search (rules, h, c.icon_size.ensures.is, c.larger.ensures.later);
+      icon = search (rules, c.larger.ensures.icon);
+      sound = c.in_ok-bytes.ensures.sound_after;
+    }
 
 pub returns : goal.returns
 returns g c =
