@@ -23,7 +23,7 @@ use Rattle.imagesize_source.specs.State.{State, Runs, IsSound, state_after}
 use Rattle.imagesize_source.specs.Text.{is_ended, text_front}
 use Rattle.imagesize_source.proofs.Agreement.{span-some}
 use Rattle.imagesize_source.proofs.Runs.{part_length}
-use Rattle.imagesize_source.proofs.Texts.{front_all, front_any, front_first, front_length, front_more, front_take}
+use Rattle.imagesize_source.proofs.Texts.{found, front_all, front_any, front_first, front_length, front_more, front_take, not_found}
 
 -- the bytes of a part are those of the input
 part-at : (d : List ℕ) (place k i : ℕ) → i < k → get_or (part d place k) i 0 ≡ slice_index d (place + i)
@@ -649,26 +649,13 @@ pub word_is_ended : (bs : List ℕ) (start : ℕ) → position (λ b. not (is_as
     → is_some (position is_ascii_whitespace (take (length bs - start) (drop start bs))) ≡ is_ended Word bs
 unfolding is_ended
 word_is_ended bs start begins =
-    let at : position_or_len (λ b. not (is_ascii_whitespace b)) bs ≡ start = found_at (λ b. not (is_ascii_whitespace b)) bs start begins in
+    let at : position_or_len (λ b. not (is_ascii_whitespace b)) bs ≡ start = (found (λ b. not (is_ascii_whitespace b)) bs start begins).0 in
     ap (λ xs. is_some (position is_ascii_whitespace xs)) (take_all (length bs - start) (drop start bs) (omega (arith, length-drop start bs)))
     ∙ sym (any_found is_ascii_whitespace (drop start bs))
     ∙ ap (λ k. list_any is_ascii_whitespace (drop k bs)) (sym at)
-  where
-    found_at : (p : ℕ → Bool) (bs : List ℕ) (i : ℕ) → position p bs ≡ Some i → position_or_len p bs ≡ i
-    found_at p bs i is = by_test (leb (suc (position_or_len p bs)) (length bs)) is where
-      by_test : (test : Bool) → cond test (Some (position_or_len p bs)) None ≡ Some i → position_or_len p bs ≡ i
-      by_test true same = cc
-      by_test false same = absurd cc
 
 pub blank_not_ended : (bs : List ℕ) → position (λ b. not (is_ascii_whitespace b)) bs ≡ None → is_ended Word bs ≡ false
 unfolding is_ended
 blank_not_ended bs none =
-    let far : length bs ≤ position_or_len (λ b. not (is_ascii_whitespace b)) bs = beyond (λ b. not (is_ascii_whitespace b)) bs none in
+    let far : length bs ≤ position_or_len (λ b. not (is_ascii_whitespace b)) bs = not_found (λ b. not (is_ascii_whitespace b)) bs none in
     ap (list_any is_ascii_whitespace) (drop_all (position_or_len (λ b. not (is_ascii_whitespace b)) bs) bs far)
-  where
-    beyond : (p : ℕ → Bool) (bs : List ℕ) → position p bs ≡ None → length bs ≤ position_or_len p bs
-    beyond p bs is = by_test (leb (suc (position_or_len p bs)) (length bs)) refl is where
-      by_test : (test : Bool) → leb (suc (position_or_len p bs)) (length bs) ≡ test → cond test (Some (position_or_len p bs)) None ≡ None
-          → length bs ≤ position_or_len p bs
-      by_test true below same = absurd cc
-      by_test false below same = grind (arith, nat_tests)

@@ -194,14 +194,14 @@ pub front_length : (t : Text) (bs : List ℕ) → length (text_front t bs) ≤ l
 front_length t bs = let split = front_first t bs in omega (arith, ap length split.1, length-append (text_front t bs) split.0)
 
 -- where a position is found, or none is
-found : (p : ℕ → Bool) (bs : List ℕ) (i : ℕ) → position p bs ≡ Some i → (position_or_len p bs ≡ i) × (i < length bs)
+pub found : (p : ℕ → Bool) (bs : List ℕ) (i : ℕ) → position p bs ≡ Some i → (position_or_len p bs ≡ i) × (i < length bs)
 found p bs i is = by_test (leb (suc (position_or_len p bs)) (length bs)) refl is where
   by_test : (test : Bool) → leb (suc (position_or_len p bs)) (length bs) ≡ test → cond test (Some (position_or_len p bs)) None ≡ Some i
       → (position_or_len p bs ≡ i) × (i < length bs)
   by_test true below same = let at : position_or_len p bs ≡ i = cc in (at, grind (arith, nat_tests))
   by_test false beyond same = absurd cc
 
-not_found : (p : ℕ → Bool) (bs : List ℕ) → position p bs ≡ None → length bs ≤ position_or_len p bs
+pub not_found : (p : ℕ → Bool) (bs : List ℕ) → position p bs ≡ None → length bs ≤ position_or_len p bs
 not_found p bs is = by_test (leb (suc (position_or_len p bs)) (length bs)) refl is where
   by_test : (test : Bool) → leb (suc (position_or_len p bs)) (length bs) ≡ test → cond test (Some (position_or_len p bs)) None ≡ None
       → length bs ≤ position_or_len p bs
