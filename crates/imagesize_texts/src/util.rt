@@ -94,7 +94,7 @@ pub fn pass_line_capped<S: Source>(
 ///
 /// `NoDelimiter` where 1024 bytes have no such end, `Ended` where the input ends before one, and
 /// `NotUtf8` where the word is no text.
-#[inline]
+#[inline(always)]
 pub fn read_word<'a, S: Source>(
     source: &mut S,
     place: u64,
