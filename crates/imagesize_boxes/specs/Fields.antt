@@ -1,5 +1,5 @@
 -- Fields of bits, and what is found by them.
-use Rattle.std.specs.Prelude.{ℕ, zero, suc, ◌+◌, ◌*◌, ◌/◌, ◌%◌, ◌^◌, List, [], ◌∷◌, length, take, drop, nat_le, if◌then◌else◌, Result, Ok, Err, flat_map}
+use Rattle.std.specs.Prelude.{ℕ, zero, suc, ◌+◌, ◌*◌, ◌/◌, ◌%◌, List, [], ◌∷◌, length, take, drop, nat_le, if◌then◌else◌, Result, Ok, Err, flat_map}
 use Rattle.imagesize_source.specs.declared.error.ImageError.{ImageError}
 use Rattle.imagesize_source.specs.declared.error.ImageError.TheVariants.{CorruptedImage}
 
@@ -40,11 +40,3 @@ found_by field (bits from count f) = with_found (field from count) (λ n. found_
 abbrev pub after : {X Y : Type 0} → Fields X → (X → Fields Y) → Fields Y
 after (found x) g = g x
 after (bits from count f) g = bits from count (λ n. after (f n) g)
-
--- a field of a number, of whose lowest bits so many are there
-abbrev pub field_in : ℕ → ℕ → ℕ → ℕ → Result ℕ ImageError
-field_in number there from count = if nat_le (from + count) there then Ok (number / 2 ^ from % 2 ^ count) else Err CorruptedImage
-
--- what is found in such a number
-abbrev pub found_in : {X : Type 0} → ℕ → ℕ → Fields X → Result X ImageError
-found_in number there fields = found_by (field_in number there) fields

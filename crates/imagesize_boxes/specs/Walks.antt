@@ -1,5 +1,6 @@
--- What the walks of the code hold and say, of one box or property at a place.
-use Rattle.std.specs.Prelude.{ℕ, ◌+◌, ◌-◌, ◌^◌, ◌<◌, ◌≤◌, nat_lt, List, length, if◌then◌else◌, Option, None, Some, unwrap_or, ok_or, option_map, Result}
+-- What the code holds and says of one box or property at a place, and of a number's bits.
+use Rattle.std.specs.Prelude.{ℕ, ◌+◌, ◌-◌, ◌/◌, ◌%◌, ◌^◌, ◌<◌, ◌≤◌, nat_le, nat_lt, List, length, if◌then◌else◌, Option, None, Some, unwrap_or, ok_or, option_map, Result, Ok, Err}
+use Rattle.imagesize_boxes.specs.Fields.{Fields, found_by}
 use Rattle.imagesize_boxes.specs.Heif.{no_pixels, property_bytes, skipped_bytes, turn_by}
 use Rattle.imagesize_boxes.specs.declared.container.heif.FoundBox.{FoundBox}
 use Rattle.imagesize_boxes.specs.declared.container.heif.Gathered.{Gathered}
@@ -12,7 +13,7 @@ use Rattle.imagesize_boxes.specs.declared.formats.jxl.boxes.Found.{Found}
 use Rattle.imagesize_boxes.specs.declared.formats.jxl.boxes.Found.TheVariants.{Whole, Passed}
 use Rattle.imagesize_source.specs.Chain.{Said, Decided, Next}
 use Rattle.imagesize_source.specs.declared.error.ImageError.{ImageError}
-use Rattle.imagesize_source.specs.declared.error.ImageError.TheVariants.{IoError}
+use Rattle.imagesize_source.specs.declared.error.ImageError.TheVariants.{CorruptedImage, IoError}
 use Rattle.imagesize_source.specs.declared.error.Reason.TheVariants.{NotEnoughData}
 use Rattle.imagesize_types.specs.Largest.{area_if_some}
 use Rattle.imagesize_types.specs.Order.{area_of}
@@ -66,3 +67,11 @@ pub record IsHead (place : ℕ) (head : BoxHead) : Type 0 where
   pub within : place + head.size < 2 ^ 64
   pub whole : 0 < head.size → head.length ≤ head.size
   pub short : head.length ≤ 16
+
+-- a field of a number, of whose lowest bits so many are there
+abbrev pub field_in : ℕ → ℕ → ℕ → ℕ → Result ℕ ImageError
+field_in number there from count = if nat_le (from + count) there then Ok (number / 2 ^ from % 2 ^ count) else Err CorruptedImage
+
+-- what is found in such a number
+abbrev pub found_in : {X : Type 0} → ℕ → ℕ → Fields X → Result X ImageError
+found_in number there fields = found_by (field_in number there) fields
