@@ -2,9 +2,9 @@
 use Rattle.std.proofs.Common.{ℕ, ◌+◌, ◌≤◌, List, length, Result, Ok, Err, arith}
 use Rattle.imagesize.proofs.Detection.{kind_cost, kind_at_most}
 use Rattle.imagesize.proofs.Ways.{laws_of}
-use Rattle.imagesize.specs.Counts.{cost, most_bytes, most_as, stated, stated_as}
+use Rattle.imagesize.specs.Counts.{cost, most_bytes, most_as, stated_bytes, stated_as}
 use Rattle.imagesize.specs.Meaning.{kind_of, meaning, size_of}
-use Rattle.imagesize.specs.Types.{in_record, lasts, outside, way_of}
+use Rattle.imagesize.specs.Types.{in_record, lasts, outside_records, way_of}
 use Rattle.imagesize.specs.Parted.{has_texts}
 use Rattle.imagesize.specs.declared.types.ImageType.{ImageType}
 use Rattle.imagesize.specs.declared.types.ImageType.TheVariants.{Aseprite}
@@ -17,13 +17,13 @@ use Rattle.imagesize_source.specs.declared.error.ImageError.{ImageError}
 use Rattle.imagesize_source.specs.declared.span.Span.{Span}
 
 -- a type is read from no more than it is with what stands outside of the records; one type is named, so that each is tried
-kind_outside : (type : ImageType) → kind_cost type ≤ outside type
+kind_outside : (type : ImageType) → kind_cost type ≤ outside_records type
 kind_outside Aseprite = omega arith
 kind_outside _ = omega arith
 
 -- with its type, a size is read from at most the bytes of its format
 size_most : (type : ImageType) (d : List ℕ) → kind_cost type + total (size_of type d).marks ≤ most_as (Ok type) d
-size_most type d = cost_way (kind_cost type) (outside type) (in_record type) (lasts type) (has_texts type) (way_of type)
+size_most type d = cost_way (kind_cost type) (outside_records type) (in_record type) (lasts type) (has_texts type) (way_of type)
     (kind_outside type)
     (laws_of type) d
 
@@ -54,5 +54,5 @@ most_stated (Ok Aseprite) d = omega arith
 most_stated (Ok _) d = omega arith
 most_stated (Err e) d = omega arith
 
-pub cost_stated : (d : List ℕ) (place : ℕ) → cost d place ≤ stated d place
+pub cost_stated : (d : List ℕ) (place : ℕ) → cost d place ≤ stated_bytes d place
 cost_stated d place = omega (arith, cost_most d place, most_stated (kind_of d place).answer d)

@@ -3,7 +3,7 @@ use Rattle.std.proofs.Common.{◌≡◌, ℕ, ◌+◌, ◌-◌, ◌^◌, ◌≤�
 use Rattle.std.specs.Prelude.{option_map}
 use Rattle.imagesize.specs.Probed.{SpentAll}
 use Rattle.imagesize_io.proofs.Openings.{stop_cases, some_spent}
-use Rattle.imagesize_source.specs.Reading.{Reads, is_memory, is_stop, spent, is_stopped}
+use Rattle.imagesize_source.specs.Reading.{Reads, is_memory, is_stop, budget_spent, is_stopped}
 use Rattle.imagesize_io.specs.Standing.{drift}
 use Rattle.imagesize_source.specs.State.{State, Runs}
 use Rattle.imagesize_source.specs.declared.error.ImageError.{ImageError}
@@ -32,7 +32,7 @@ stops_for_memory {b = b} (Err e) reads honest sure uncounted memory h = unless (
   | inl faults ↦ let no : true ≡ false = sym (h.fault honest faults) ∙ sure in (cc)
   | inr other ↦ elim other [
     | inl all ↦
-        let counts = (some_spent (spent e) all.0 (λ n. (b.frame.counts ≡ true) × (n ≡ b.frame.budget) × (n ≡ b.taken)) all.1
+        let counts = (some_spent (budget_spent e) all.0 (λ n. (b.frame.counts ≡ true) × (n ≡ b.frame.budget) × (n ≡ b.taken)) all.1
         h.ended.budget).0 in
         let no : true ≡ false = sym counts ∙ ap (λ f. f.counts) h.frame ∙ uncounted in (cc)
     | inr refused ↦ let no : true ≡ false = sym refused ∙ memory in (cc)
@@ -51,20 +51,20 @@ some_budget (Some k) budget taken n counts enough same is = (is.2 ∙ sym same, 
 
 -- a budget that was spent is what was taken, and at least 64
 pub budget_taken : {X : Type 0} {a b : State} (told n : ℕ) (r : Result X ImageError) (reads : Reads X) → a.frame.budget ≡ min (told + 64)
-    (2 ^ 64 - 1) → Runs a b r reads → n ≡ b.taken → IfErr r (λ e. IfSome (spent e) (λ k. (k ≡ n) × (64 ≤ k)))
+    (2 ^ 64 - 1) → Runs a b r reads → n ≡ b.taken → IfErr r (λ e. IfSome (budget_spent e) (λ k. (k ≡ n) × (64 ≤ k)))
 budget_taken told n (Ok x) reads start h took = tt
 budget_taken {b = b} told n (Err e) reads start h took =
     let budget : b.frame.budget ≡ min (told + 64) (2 ^ 64 - 1) = ap (λ f. f.budget) h.frame ∙ start in
-    some_budget (spent e) b.frame.budget b.taken n b.frame.counts (omega (arith, budget)) took h.ended.budget
+    some_budget (budget_spent e) b.frame.budget b.taken n b.frame.counts (omega (arith, budget)) took h.ended.budget
 
 least : (named : Option ℕ) (taken : ℕ) → IfSome named (λ k. (k ≡ taken) × (64 ≤ k)) → IfSome named (λ k. 64 ≤ k)
 least None taken is = tt
 least (Some k) taken is = is.1
 
 pub budget_least : {X : Type 0} {a b : State} (told : ℕ) (r : Result X ImageError) (reads : Reads X) → a.frame.budget ≡ min (told + 64)
-    (2 ^ 64 - 1) → Runs a b r reads → IfErr r (λ e. IfSome (spent e) (λ k. 64 ≤ k))
+    (2 ^ 64 - 1) → Runs a b r reads → IfErr r (λ e. IfSome (budget_spent e) (λ k. 64 ≤ k))
 budget_least told (Ok x) reads start h = tt
-budget_least {b = b} told (Err e) reads start h = least (spent e) b.taken (budget_taken told b.taken (Err e) reads start h refl)
+budget_least {b = b} told (Err e) reads start h = least (budget_spent e) b.taken (budget_taken told b.taken (Err e) reads start h refl)
 
 parts : (p q : ℕ × ℕ) → p ≡ q → (p.0 ≡ q.0) × (p.1 ≡ q.1)
 parts p q same = (ap (λ (x : ℕ × ℕ). x.0) same, ap (λ (x : ℕ × ℕ). x.1) same)
@@ -85,9 +85,9 @@ all_spent (Some n) before after taken up is = (is.1, up ∙ ap (λ k. option_map
 -- a named count rose by all of it
 pub budget_counted : {X : Type 0} {a b : State} (told : ℕ) (before after : Option ℕ) (r : Result X ImageError) (reads : Reads X)
     → a.frame.budget ≡ min (told + 64) (2 ^ 64 - 1) → a.frame.since ≡ drift before 0 → Runs a b r reads
-    → b.frame.since ≡ drift after b.taken → IfErr r (λ e. IfSome (spent e) (SpentAll before after))
+    → b.frame.since ≡ drift after b.taken → IfErr r (λ e. IfSome (budget_spent e) (SpentAll before after))
 budget_counted told before after (Ok x) reads start counts h counted = tt
 budget_counted {b = b} told before after (Err e) reads start counts h counted =
-    all_spent (spent e) before after b.taken
+    all_spent (budget_spent e) before after b.taken
     (rose before after b.taken (sym counted ∙ ap (λ f. f.since) h.frame ∙ counts))
     (budget_taken told b.taken (Err e) reads start h refl)

@@ -1,7 +1,7 @@
 -- What a recording slice shows of an answer.
 use Rattle.std.proofs.Common.{◌≡◌, ℕ, ◌+◌, ◌≤◌, Bool, true, false, List, [], ◌++◌, length, take, Result, Ok, Err, IfErr, IfOk, IsTrue, refl, sym, ap, ◌∙◌, arith}
 use Rattle.std.proofs.lemmas.List.{take_all}
-use Rattle.imagesize.specs.Counts.{lasts_as, stated}
+use Rattle.imagesize.specs.Counts.{lasts_as, stated_bytes}
 use Rattle.imagesize.specs.Meaning.{kind_of, meaning, size_of}
 use Rattle.imagesize.specs.Probed.{FindsKind}
 use Rattle.imagesize.specs.Traced.{IsSame, Traces, lacks_memory}
@@ -62,7 +62,7 @@ traced d after spans t h finds held memory =
 -- the spans are together at most as long as is stated
 pub spans_stated : (d after : List ℕ) (items spans : List Span) (r : Result ImageSize ImageError) → Runs (recording_state d [] true 0)
     (recording_state after spans true 0) r (meaning d 0) → items ≡ take (length spans) spans → lacks_memory r ≡ false
-    → total items ≤ stated d 0
+    → total items ≤ stated_bytes d 0
 spans_stated d after items spans r h held memory =
     rw (all_held items spans held ∙ marked d after spans r h memory) (cost_stated d 0)
 

@@ -7,7 +7,7 @@ use Rattle.std.specs.Option.{ForSome}
 use Rattle.std.specs.Result.{result_ok}
 use Rattle.std.proofs.lemmas.Bool.Decides.{nat_tests}
 use Rattle.imagesize.specs.Meaning.{kind_of, meaning, size_of}
-use Rattle.imagesize.specs.Parted.{Cover, Fits, IsProbed, Says, SaysOf, Tells, Wants, has_texts, texts_as, texts_of, told, wanted_of, with_type}
+use Rattle.imagesize.specs.Parted.{Cover, Fits, IsProbed, Says, SaysOf, Tells, Wants, has_texts, texts_as, texts_of, found_or_wanted, wanted_of, with_type}
 use Rattle.imagesize.specs.declared.parts.PartsAnswer.{PartsAnswer}
 use Rattle.imagesize.specs.declared.parts.PartsAnswer.TheVariants.{Found, Wanted}
 use Rattle.imagesize.specs.declared.types.ImageType.{ImageType}
@@ -19,12 +19,12 @@ use Rattle.imagesize_source.specs.declared.source.parts.Missing.{Missing}
 use Rattle.imagesize_source.specs.declared.span.Span.{Span}
 use Rattle.imagesize_source.specs.Agreement.{Agrees, IsLocal, Parting, is_covered, has_place, has_whole}
 use Rattle.imagesize_source.specs.Input.{span_at}
-use Rattle.imagesize_source.specs.Known.{AllKnown, HasParts, Lacks, filled, parts_state, sure_of}
-use Rattle.imagesize_source.specs.Reading.{Reads, is_faulted, is_stop, go_on, spent, is_stopped}
+use Rattle.imagesize_source.specs.Known.{AllKnown, HasParts, Lacks, filled_input, parts_state, sure_of}
+use Rattle.imagesize_source.specs.Reading.{Reads, is_faulted, is_stop, go_on, budget_spent, is_stopped}
 use Rattle.imagesize_source.specs.State.{State, Runs}
 use Rattle.imagesize_source.proofs.Agreement.{covered-left, covered-one, covered-right, same_by_local}
 use Rattle.imagesize_source.proofs.Runs.{marks_onward}
-use Rattle.imagesize_source.proofs.Known.{known_agrees, known_same, length-filled, past-parts, unknown_free}
+use Rattle.imagesize_source.proofs.Known.{known_agrees, known_same, length-filled_input, past-parts, unknown_free}
 
 -- ---- one list of spans, cut at two of them
 
@@ -88,7 +88,7 @@ only_fault {b = b} (Err e) reads uncounted none h no_fault = unless (is_stop e) 
   | inl faults ↦ let no : true ≡ false = sym faults ∙ no_fault in (cc)
   | inr other ↦ elim other [
     | inl all ↦
-        let counts = (some_spent (spent e) all.0 (λ n. (b.frame.counts ≡ true) × (n ≡ b.frame.budget) × (n ≡ b.taken)) all.1
+        let counts = (some_spent (budget_spent e) all.0 (λ n. (b.frame.counts ≡ true) × (n ≡ b.frame.budget) × (n ≡ b.taken)) all.1
         h.ended.budget).0 in
         let no : true ≡ false = sym counts ∙ ap (λ f. f.counts) h.frame ∙ uncounted in (cc)
     | inr refused ↦ let no : true ≡ false = sym refused ∙ no_memory (Err e) reads none h in (cc)
@@ -101,7 +101,7 @@ only_fault {b = b} (Err e) reads uncounted none h no_fault = unless (is_stop e) 
 -- The readings f on known parts: what they saw and missed, and their answer.
 pub record Called {X : Type 0} (f : List ℕ → Reads X) (n : ℕ) (spans : List Span) (bytes : List ℕ) (log : List Span) (missed : Option Missing)
     (r : Result X ImageError) : Type 0 where
-  pub runs : Runs (parts_state n spans bytes [] None) (parts_state n spans bytes log missed) r (f (filled n spans bytes))
+  pub runs : Runs (parts_state n spans bytes [] None) (parts_state n spans bytes log missed) r (f (filled_input n spans bytes))
   pub seen : AllKnown n spans bytes log
   pub lacks : ForSome missed (Lacks n spans bytes)
 
@@ -120,14 +120,14 @@ module _ {X : Type 0} (texts : Bool) (f : List ℕ → Reads X) (is_local : IsLo
     (has : HasParts d n spans bytes) (short : n < 2 ^ 63) where
   -- where nothing is missed, it agrees with what was read
   agreed : (log : List Span) (missed : Option Missing) (r : Result X ImageError) → Called f n spans bytes log missed r → is_faulted r ≡ false
-      → Agrees (filled n spans bytes) d (f (filled n spans bytes)).marks
+      → Agrees (filled_input n spans bytes) d (f (filled_input n spans bytes)).marks
   agreed log missed r call no_fault =
       let honest = is_short n short in
-      let on = only_fault r (f (filled n spans bytes)) refl refl call.runs no_fault in
-      let marked : log ≡ (f (filled n spans bytes)).marks = logged (parts_state n spans bytes log missed)
-      (parts_state n spans bytes ([] ++ (f (filled n spans bytes)).marks) None) log (f (filled n spans bytes)).marks
-      (call.runs.state honest on ∙ past-parts n spans bytes [] None (f (filled n spans bytes)).marks) refl refl in
-      known_agrees d n spans bytes (f (filled n spans bytes)).marks has
+      let on = only_fault r (f (filled_input n spans bytes)) refl refl call.runs no_fault in
+      let marked : log ≡ (f (filled_input n spans bytes)).marks = logged (parts_state n spans bytes log missed)
+      (parts_state n spans bytes ([] ++ (f (filled_input n spans bytes)).marks) None) log (f (filled_input n spans bytes)).marks
+      (call.runs.state honest on ∙ past-parts n spans bytes [] None (f (filled_input n spans bytes)).marks) refl refl in
+      known_agrees d n spans bytes (f (filled_input n spans bytes)).marks has
       (subst (λ l. AllKnown n spans bytes l) marked call.seen)
 
   -- and the answer is its own
@@ -135,17 +135,17 @@ module _ {X : Type 0} (texts : Bool) (f : List ℕ → Reads X) (is_local : IsLo
       → r ≡ (f d).answer
   right log missed r call no_fault =
       let honest = is_short n short in
-      let on = only_fault r (f (filled n spans bytes)) refl refl call.runs no_fault in
-      let all : f d ≡ f (filled n spans bytes) = same_by_local f is_local (filled n spans bytes) d (agreed log missed r call no_fault) in
+      let on = only_fault r (f (filled_input n spans bytes)) refl refl call.runs no_fault in
+      let all : f d ≡ f (filled_input n spans bytes) = same_by_local f is_local (filled_input n spans bytes) d (agreed log missed r call no_fault) in
       sym (call.runs.answer honest on) ∙ ap (λ w. w.answer) (sym all)
 
   -- what is missed lies in one of its marks, and whole where no texts are read
   wanted_mark : (log : List Span) (s : Span) (made : List Span) (mark : Span) (rest : List Span) → AllKnown n spans bytes log → 0 < s.len
-      → log ≡ made ++ span_at mark.start (s.start - mark.start) → (f (filled n spans bytes)).marks ≡ made ++ mark ∷ rest
+      → log ≡ made ++ span_at mark.start (s.start - mark.start) → (f (filled_input n spans bytes)).marks ≡ made ++ mark ∷ rest
       → mark.start ≤ s.start → s.start + s.len ≤ mark.start + mark.len
       → (is_covered (f d).marks s.start ≡ true) × (texts ≡ false → has_whole (f d).marks s ≡ true)
   wanted_mark log s made mark rest seen some is_log all from fits =
-      elim (is_local (filled n spans bytes) d (has.as_long ∙ sym (length-filled n spans bytes))) [
+      elim (is_local (filled_input n spans bytes) d (has.as_long ∙ sym (length-filled_input n spans bytes))) [
         | inl same ↦ both (subst (Among mark) (sym (ap (λ w. w.marks) same ∙ all)) (middle made mark rest))
         | inr parts ↦ by_cut parts (later_cut made parts.seen rest parts.rest mark parts.mark (sym all ∙ parts.here))
       ]
@@ -163,11 +163,11 @@ module _ {X : Type 0} (texts : Bool) (f : List ℕ → Reads X) (is_local : IsLo
           let begins = from in let ends = fits in let has_one = some in
           (begun mark among (grind (arith, nat_tests)), λ _. whole among)
 
-      not_seen : (parts : Parting texts (filled n spans bytes) d (f (filled n spans bytes)).marks (f d).marks) → is_covered log parts.place ≡ true → ⊥
+      not_seen : (parts : Parting texts (filled_input n spans bytes) d (f (filled_input n spans bytes)).marks (f d).marks) → is_covered log parts.place ≡ true → ⊥
       not_seen parts here = parts.differs (known_same d n spans bytes parts.place has (seen parts.place here))
 
       -- the inputs part behind what was seen
-      later : (parts : Parting texts (filled n spans bytes) d (f (filled n spans bytes)).marks (f d).marks) → mark ≡ parts.mark → (parts.place < s.start) ⊎ (s.start ≤ parts.place) → s.start ≤ parts.place
+      later : (parts : Parting texts (filled_input n spans bytes) d (f (filled_input n spans bytes)).marks (f d).marks) → mark ≡ parts.mark → (parts.place < s.start) ⊎ (s.start ≤ parts.place) → s.start ≤ parts.place
       later parts at (inr more) = more
       later parts at (inl less) =
           let has_it : has_place mark parts.place ≡ true = ap (λ x. has_place x parts.place) at ∙ parts.within in
@@ -179,7 +179,7 @@ module _ {X : Type 0} (texts : Bool) (f : List ℕ → Reads X) (is_local : IsLo
           (covered-one mark.start (s.start - mark.start) (parts.place - mark.start) (omega (arith, less, above))) in
           absurd (not_seen parts (subst (λ l. is_covered l parts.place ≡ true) (sym is_log) (covered-right made part parts.place seen_it)))
 
-      at_parting : (parts : Parting texts (filled n spans bytes) d (f (filled n spans bytes)).marks (f d).marks) → mark ≡ parts.mark → (is_covered (f d).marks s.start ≡ true) × (texts ≡ false → has_whole (f d).marks s ≡ true)
+      at_parting : (parts : Parting texts (filled_input n spans bytes) d (f (filled_input n spans bytes)).marks (f d).marks) → mark ≡ parts.mark → (is_covered (f d).marks s.start ≡ true) × (texts ≡ false → has_whole (f d).marks s ≡ true)
       at_parting parts at =
           let there : Among parts.other (f d).marks = subst (Among parts.other) (sym parts.there) (middle parts.seen parts.other parts.others) in
           let starts : parts.other.start ≡ mark.start = parts.start ∙ ap (λ x. x.start) (sym at) in
@@ -189,7 +189,7 @@ module _ {X : Type 0} (texts : Bool) (f : List ℕ → Reads X) (is_local : IsLo
             λ none. whole (subst (λ x. Among x (f d).marks) (parts.same none ∙ sym at) there),
           )
 
-      by_cut : (parts : Parting texts (filled n spans bytes) d (f (filled n spans bytes)).marks (f d).marks)
+      by_cut : (parts : Parting texts (filled_input n spans bytes) d (f (filled_input n spans bytes)).marks (f d).marks)
           → Among parts.mark made ⊎ ((mark ≡ parts.mark) ⊎ ((more : List Span) → Among mark (parts.seen ++ more))) → (is_covered (f d).marks s.start ≡ true) × (texts ≡ false → has_whole (f d).marks s ≡ true)
       by_cut parts (inl before) = absurd (not_seen parts (subst (λ l. is_covered l parts.place ≡ true) (sym is_log)
           (covered-left made (span_at mark.start (s.start - mark.start)) parts.place
@@ -212,22 +212,22 @@ module _ {X : Type 0} (texts : Bool) (f : List ℕ → Reads X) (is_local : IsLo
   -- a failure misses something
   says_wanted : {T : Type 0} (IsSo : T → Type 0) (found : T) (log : List Span) (missed : Option Missing) (r : Result X ImageError)
       → Called f n spans bytes log missed r → is_faulted r ≡ true
-      → Says texts IsSo (f d).marks spans (told found (option_map (wanted_of texts) missed))
+      → Says texts IsSo (f d).marks spans (found_or_wanted found (option_map (wanted_of texts) missed))
   says_wanted IsSo found log None r call faults = absurd (call.runs.misses (is_short n short) faults).told
   says_wanted IsSo found log (Some m) r call faults = wants log m r call faults
 
   -- by the code's test
   pub says : {T : Type 0} (IsSo : T → Type 0) (found : T) (log : List Span) (missed : Option Missing) (r : Result X ImageError)
       → Called f n spans bytes log missed r → (is_faulted r ≡ false → IsSo found)
-      → Says texts IsSo (f d).marks spans (told found (option_map (wanted_of texts) (cond (is_faulted r) missed None)))
+      → Says texts IsSo (f d).marks spans (found_or_wanted found (option_map (wanted_of texts) (cond (is_faulted r) missed None)))
   says IsSo found log missed r call is_so = by_test (is_faulted r) refl where
     by_test : (test : Bool) → is_faulted r ≡ test
-        → Says texts IsSo (f d).marks spans (told found (option_map (wanted_of texts) (cond test missed None)))
+        → Says texts IsSo (f d).marks spans (found_or_wanted found (option_map (wanted_of texts) (cond test missed None)))
     by_test true faults = says_wanted IsSo found log missed r call faults
     by_test false no_fault = is_so no_fault
 
   pub says_of : (log : List Span) (missed : Option Missing) (r : Result X ImageError) → Called f n spans bytes log missed r
-      → SaysOf texts (f d) spans (told r (option_map (wanted_of texts) (cond (is_faulted r) missed None)))
+      → SaysOf texts (f d) spans (found_or_wanted r (option_map (wanted_of texts) (cond (is_faulted r) missed None)))
   says_of log missed r call = says (λ answer. answer ≡ (f d).answer) r log missed r call (right log missed r call)
 
 -- ---- the type beside a size
@@ -277,7 +277,7 @@ tells texts IsSo marks spans (Found found) says cover = tt
 tells texts IsSo marks spans (Wanted w) says cover = let no : true ≡ false = sym (cover w.start says.0) ∙ says.1 in cc
 
 pub fits : {T : Type 0} (texts : Bool) (n : ℕ) (spans : List Span) (bytes : List ℕ) (missed : Option Missing) (found : T) (test : Bool)
-    → ForSome missed (Lacks n spans bytes) → Fits n (told found (option_map (wanted_of texts) (cond test missed None)))
+    → ForSome missed (Lacks n spans bytes) → Fits n (found_or_wanted found (option_map (wanted_of texts) (cond test missed None)))
 fits texts n spans bytes None found true lacks = tt
 fits true n spans bytes (Some m) found true lacks =
     let is = lacks m refl in (let some = is.0 in let few = is.1 in omega arith, is.2)
@@ -302,18 +302,18 @@ both_are s t xs ys e = let is : ◌≡◌ {A = List Span × List ℕ} (s, xs) (t
 
 pub called : {X : Type 0} (f : List ℕ → Reads X) (n m k : ℕ) (spans others given : List Span) (bytes content their : List ℕ)
     (first log : List Span) (before missed : Option Missing) (r : Result X ImageError) → k ≡ n → given ≡ spans → their ≡ bytes → first ≡ []
-    → before ≡ None → Runs (parts_state k given their first before) (parts_state m others content log missed) r (f (filled k given their))
+    → before ≡ None → Runs (parts_state k given their first before) (parts_state m others content log missed) r (f (filled_input k given their))
     → AllKnown m others content log → ForSome missed (Lacks m others content) → Called f n spans bytes log missed r
 called f n m k spans others given bytes content their first log before missed r told is_spans is_bytes none unmissed runs seen lacks =
     let parts = both_are others given content their (ap (λ a. a.parts) runs.frame) in
-    let one = moved (λ x y z. Runs (parts_state k given their first before) (parts_state x y z log missed) r (f (filled k given their))
+    let one = moved (λ x y z. Runs (parts_state k given their first before) (parts_state x y z log missed) r (f (filled_input k given their))
     × AllKnown x y z log × ForSome missed (Lacks x y z)) k m given others their content (ap (λ a. a.told) runs.frame) parts.0 parts.1
     (runs, seen, lacks) in
-    let two = moved (λ x y z. Runs (parts_state x y z first before) (parts_state x y z log missed) r (f (filled x y z))
+    let two = moved (λ x y z. Runs (parts_state x y z first before) (parts_state x y z log missed) r (f (filled_input x y z))
     × AllKnown x y z log × ForSome missed (Lacks x y z)) n k spans given bytes their told is_spans is_bytes (one.0, one.1, one.2) in
     record {
-      runs = subst (λ l. Runs (parts_state n spans bytes l None) (parts_state n spans bytes log missed) r (f (filled n spans bytes))) none
-          (subst (λ m. Runs (parts_state n spans bytes first m) (parts_state n spans bytes log missed) r (f (filled n spans bytes)))
+      runs = subst (λ l. Runs (parts_state n spans bytes l None) (parts_state n spans bytes log missed) r (f (filled_input n spans bytes))) none
+          (subst (λ m. Runs (parts_state n spans bytes first m) (parts_state n spans bytes log missed) r (f (filled_input n spans bytes)))
           unmissed two.0);
       seen = two.1;
       lacks = two.2;

@@ -1,7 +1,7 @@
 -- How many bytes a type and its size are read from, and what bytes that follow leave.
 use Rattle.std.specs.Prelude.{ℕ, Bool, false, List, Result, Ok, Err}
 use Rattle.imagesize.specs.Meaning.{kind_of, meaning}
-use Rattle.imagesize.specs.Types.{in_record, lasts, outside, way_of}
+use Rattle.imagesize.specs.Types.{in_record, lasts, outside_records, way_of}
 use Rattle.imagesize.specs.declared.types.ImageType.{ImageType}
 use Rattle.imagesize_source.specs.Limits.{stated_fixed}
 use Rattle.imagesize_source.specs.State.{total}
@@ -18,12 +18,12 @@ abbrev pub stated_as : Result ImageType ImageError → List ℕ → ℕ
 stated_as (Ok type) d = stated_by (way_of type) d
 stated_as (Err _) d = stated_fixed
 
-abbrev pub stated : List ℕ → ℕ → ℕ
-stated d place = stated_as (kind_of d place).answer d
+abbrev pub stated_bytes : List ℕ → ℕ → ℕ
+stated_bytes d place = stated_as (kind_of d place).answer d
 
 -- the most that is read by the format: 37 bytes where none is found
 abbrev pub most_as : Result ImageType ImageError → List ℕ → ℕ
-most_as (Ok type) d = most_by (outside type) (in_record type) (way_of type) d
+most_as (Ok type) d = most_by (outside_records type) (in_record type) (way_of type) d
 most_as (Err _) d = 37
 
 abbrev pub most_bytes : List ℕ → ℕ → ℕ

@@ -64,9 +64,9 @@ abbrev pub Cover : List Span → List Span → Type 0
 Cover spans marks = (place : ℕ) → is_covered marks place ≡ true → is_covered spans place ≡ true
 
 -- what is found, where nothing is wanted
-abbrev pub told : {T : Type 0} → T → Option Span → PartsAnswer T
-told found None = Found found
-told found (Some w) = Wanted w
+abbrev pub found_or_wanted : {T : Type 0} → T → Option Span → PartsAnswer T
+found_or_wanted found None = Found found
+found_or_wanted found (Some w) = Wanted w
 
 -- what is wanted of what is missed: where texts are read all that is asked for, and else what is surely read
 abbrev pub wanted_of : Bool → Missing → Span

@@ -1,7 +1,7 @@
 -- What `reader_probe` answers.
 use Rattle.std.specs.Prelude.{◌≡◌, ℕ, ◌+◌, ◌≤◌, true, false, length, Option, None, Some, Result, Ok, IfSome, option_map}
 use Rattle.std.specs.Result.{result_ok}
-use Rattle.imagesize.specs.Counts.{stated}
+use Rattle.imagesize.specs.Counts.{stated_bytes}
 use Rattle.imagesize.specs.Meaning.{kind_of, meaning}
 use Rattle.imagesize.specs.Short.{EndsAs}
 use Rattle.imagesize_types.specs.declared.size.ImageSize.{ImageSize}
@@ -27,7 +27,7 @@ pub record ProbesOf (t : Telling) (probed : Probed) : Type 0 where
   pub takes : TakesAs t (over_reader t meaning) probed.answer probed.taken
   pub right : IfSome probed.kind (λ type. (over_reader t kind_of).answer ≡ Ok type)
   pub whole : is_stopped probed.answer ≡ false → probed.kind ≡ result_ok (over_reader t kind_of).answer
-  pub stated : probed.taken ≤ stated t.bytes t.place
+  pub stated : probed.taken ≤ stated_bytes t.bytes t.place
   pub within : probed.taken ≤ length t.bytes + allowance
   pub short : EndsAs t probed.answer
 

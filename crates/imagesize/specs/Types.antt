@@ -140,8 +140,8 @@ abbrev pub way_of : ImageType → Way ImageSize
 way_of type = (facts_of type).way
 
 -- what a size behind records is read from outside of them, and one at fixed places in all, with the type in both
-abbrev pub outside : ImageType → ℕ
-outside type = (facts_of type).outside
+abbrev pub outside_records : ImageType → ℕ
+outside_records type = (facts_of type).outside
 
 -- what it is read from in each record
 abbrev pub in_record : ImageType → ℕ

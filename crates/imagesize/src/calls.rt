@@ -2,12 +2,12 @@
 ghost use Rattle.std.specs.Prelude.{◌≡◌, ℕ, ◌+◌, ◌<◌, ◌≤◌, List, length, ◌++◌, IsTrue, IfOk, IfErr, IfSome, IsSome, Some, true, false, Option, Ok, Err, option_map};
 ghost use Rattle.imagesize_io.specs.Answers.{Answers, CountsWithin};
 ghost use Rattle.imagesize_source.specs.Limits.{allowance};
-ghost use Rattle.imagesize_source.specs.Reading.{end_of_input, is_memory, spent, is_stopped};
+ghost use Rattle.imagesize_source.specs.Reading.{end_of_input, is_memory, budget_spent, is_stopped};
 ghost use Rattle.imagesize_source.specs.State.{Runs};
 ghost use Rattle.imagesize_io.specs.ReaderState.{Opens};
 ghost use Rattle.imagesize_io.specs.Telling.{Telling};
 ghost use Rattle.imagesize_source.specs.Agreement.{Agrees};
-ghost use Rattle.imagesize.specs.Counts.{cost, lasts_as, most_bytes, stated};
+ghost use Rattle.imagesize.specs.Counts.{cost, lasts_as, most_bytes, stated_bytes};
 ghost use Rattle.imagesize.specs.Meaning.{kind_of, meaning, size_of};
 ghost use Rattle.imagesize.specs.Probed.{FindsKind, Probes, SpentAll};
 ghost use Rattle.imagesize.specs.Short.{Ends};
@@ -76,7 +76,7 @@ pub fn blob_size(data: &[u8]) -> ImageResult<ImageSize>
 
     // At every place, a refused type and a size at fixed places are read from at most 41 bytes; a size behind records
     // from at most 64, and 20 for each record that is begun.
-    ensures stated { (place : ℕ) → cost «data».now place ≤ stated «data».now place }
+    ensures stated { (place : ℕ) → cost «data».now place ≤ stated_bytes «data».now place }
 
     // Each format has its own count: what stands outside of its records, and so much for each that is begun, and of
     // all formats but those at fixed places at most 28 bytes more than there are.
@@ -137,7 +137,7 @@ pub fn reader_type<R: Told>(mut reader: R) -> ImageResult<ImageType>
     ensures memory { IfErr result (λ e. is_memory e ≡ false) }
 
     // The budget that is spent is the length that was told, and 64.
-    ensures spent { IfErr result (λ e. IfSome (spent e) (λ budget. allowance ≤ budget)) }
+    ensures spent { IfErr result (λ e. IfSome (budget_spent e) (λ budget. allowance ≤ budget)) }
 {
     let opened = open(&mut reader, Origin::Place)?;
     type_opened(&mut reader, opened)
@@ -161,7 +161,7 @@ pub fn reader_size<R: Told>(mut reader: R) -> ImageResult<ImageSize>
     ensures memory { IfErr result (λ e. is_memory e ≡ false) }
 
     // The budget that is spent is the length that was told, and 64.
-    ensures spent { IfErr result (λ e. IfSome (spent e) (λ budget. allowance ≤ budget)) }
+    ensures spent { IfErr result (λ e. IfSome (budget_spent e) (λ budget. allowance ≤ budget)) }
 {
     reader_probe(&mut reader).answer
 }
@@ -184,7 +184,7 @@ pub fn reader_probe<R: Told>(reader: &mut R) -> Probed
     // Over every reader, also one that tells nothing or lies:
     ensures typed { IfOk result.answer (λ _. IsSome result.kind) }
     ensures counts { R.count reader.new ≡ option_map (λ c. c + result.taken) (R.count reader.old) }
-    ensures spent { IfErr result.answer (λ e. IfSome (spent e) (λ budget. (budget ≡ result.taken) × (allowance ≤ budget))) }
+    ensures spent { IfErr result.answer (λ e. IfSome (budget_spent e) (λ budget. (budget ≡ result.taken) × (allowance ≤ budget))) }
     ensures memory { IfErr result.answer (λ e. is_memory e ≡ false) }
 {
     match open(reader, Origin::Place) {
@@ -216,7 +216,7 @@ impl ImageType {
         ensures counts { CountsWithin (R.telling reader.old) (R.count reader.old) (R.count reader.new) (λ d place. size_of self.now d) }
 
         // Over every reader, also one that tells nothing or lies:
-        ensures spent { IfErr result (λ e. IfSome (spent e) (λ budget. SpentAll (R.count reader.old) (R.count reader.new) budget)) }
+        ensures spent { IfErr result (λ e. IfSome (budget_spent e) (λ budget. SpentAll (R.count reader.old) (R.count reader.new) budget)) }
         ensures memory { IfErr result (λ e. is_memory e ≡ false) }
     {
         let opened = open(reader, Origin::Start)?;
@@ -231,7 +231,7 @@ fn type_opened<R: Told>(reader: &mut R, opened: Opened) -> ImageResult<ImageType
         → Answers telling kind_of result }
     ensures short { (telling : Option Telling) → Opens telling (R.telling reader.old) (Ok opened) → Ends telling result }
     ensures memory { IfErr result (λ e. is_memory e ≡ false) }
-    ensures spent { IfErr result (λ e. IfSome (spent e) (λ budget. allowance ≤ budget)) }
+    ensures spent { IfErr result (λ e. IfSome (budget_spent e) (λ budget. allowance ≤ budget)) }
 {
     detect(&mut ReaderSource::new(reader, opened.told), opened.place)
 }
@@ -242,7 +242,7 @@ fn size_opened<R: Told>(kind: ImageType, reader: &mut R, opened: Opened) -> Imag
         → Answers telling (λ d place. size_of kind d) result }
     ensures counts { (telling : Option Telling) → Opens telling (R.telling reader.old) (Ok opened)
         → CountsWithin telling (R.count reader.old) (R.count reader.new) (λ d place. size_of kind d) }
-    ensures spent { IfErr result (λ e. IfSome (spent e) (λ budget. SpentAll (R.count reader.old) (R.count reader.new) budget)) }
+    ensures spent { IfErr result (λ e. IfSome (budget_spent e) (λ budget. SpentAll (R.count reader.old) (R.count reader.new) budget)) }
     ensures memory { IfErr result (λ e. is_memory e ≡ false) }
 {
     let mut source = ReaderSource::new(reader, opened.told);
@@ -256,7 +256,7 @@ fn probe_opened<R: Told>(reader: &mut R, opened: Opened) -> Probed
     ensures probes { (telling : Option Telling) → Opens telling (R.telling reader.old) (Ok opened) → Probes telling result }
     ensures typed { IfOk result.answer (λ _. IsSome result.kind) }
     ensures counts { R.count reader.new ≡ option_map (λ c. c + result.taken) (R.count reader.old) }
-    ensures spent { IfErr result.answer (λ e. IfSome (spent e) (λ budget. (budget ≡ result.taken) × (allowance ≤ budget))) }
+    ensures spent { IfErr result.answer (λ e. IfSome (budget_spent e) (λ budget. (budget ≡ result.taken) × (allowance ≤ budget))) }
     ensures memory { IfErr result.answer (λ e. is_memory e ≡ false) }
 {
     let mut source = ReaderSource::new(reader, opened.told);

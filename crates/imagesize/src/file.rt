@@ -1,7 +1,7 @@
 //! The size of the image in a file.
 ghost use Rattle.std.specs.Prelude.{◌≤◌, IfErr, IfSome};
 ghost use Rattle.imagesize_source.specs.Limits.{allowance};
-ghost use Rattle.imagesize_source.specs.Reading.{spent};
+ghost use Rattle.imagesize_source.specs.Reading.{budget_spent};
 
 use crate::{ImageError, ImageResult, Reason, reader_size};
 use imagesize_io::KeptReader;
@@ -25,7 +25,7 @@ use std::rt::Files;
 /// ```
 pub fn size<F: Files, P: AsPath + Drop>(rt: &F, alloc: Global, path: P) -> ImageResult<ImageSize>
     // The budget that is spent is the length that was told, and 64.
-    ensures spent { IfErr result (λ e. IfSome (spent e) (λ budget. allowance ≤ budget)) }
+    ensures spent { IfErr result (λ e. IfSome (budget_spent e) (λ budget. allowance ≤ budget)) }
 {
     let file = fs::open(rt, path)?;
     match BufReader::new(alloc, file) {

@@ -1,7 +1,7 @@
 //! Types and sizes by parts of an input, of which the caller has no more so far.
 ghost use Rattle.std.specs.Prelude.{◌≡◌, ℕ, ◌^◌, ◌<◌, false, List, None, if◌then◌else◌, option_map};
 ghost use Rattle.imagesize.specs.Meaning.{kind_of, meaning, size_of};
-ghost use Rattle.imagesize.specs.Parted.{Cover, Fits, IsProbed, Says, SaysOf, Tells, has_texts, texts_of, told, wanted_of, with_type};
+ghost use Rattle.imagesize.specs.Parted.{Cover, Fits, IsProbed, Says, SaysOf, Tells, has_texts, texts_of, found_or_wanted, wanted_of, with_type};
 ghost use Rattle.imagesize_source.specs.Known.{HasParts};
 ghost use Rattle.imagesize_source.specs.Reading.{is_faulted};
 
@@ -143,7 +143,7 @@ fn type_of(source: &mut PartsSource<'_>) -> PartsAnswer<ImageResult<ImageType>>
     source.forget();
     let found = detect(source, 0);
     let wanted = wanted(&found, source.missed);
-    told(found, wanted, false)
+    found_or_wanted(found, wanted, false)
 }
 
 // The size, read as this type, by readings that begin anew.
@@ -157,13 +157,13 @@ fn size_as(source: &mut PartsSource<'_>, image: ImageType) -> PartsAnswer<ImageR
     let found = size(source, image);
     let wanted = wanted(&found, source.missed);
     let texts = has_texts(&image);
-    told(found, wanted, texts)
+    found_or_wanted(found, wanted, texts)
 }
 
 // What was found, where nothing is missed.
 #[inline(always)]
-fn told<T: Drop>(found: T, missed: Option<Missing>, texts: bool) -> PartsAnswer<T>
-    ensures { result ≡ told found (option_map (wanted_of texts) missed) }
+fn found_or_wanted<T: Drop>(found: T, missed: Option<Missing>, texts: bool) -> PartsAnswer<T>
+    ensures { result ≡ found_or_wanted found (option_map (wanted_of texts) missed) }
 {
     match missed {
         Some(missing) => PartsAnswer::Wanted(wanted_of(missing, texts)),

@@ -1,6 +1,6 @@
 //! The bytes that an answer rests on.
 ghost use Rattle.std.specs.Prelude.{◌≡◌, ℕ, ◌+◌, ◌≤◌, ◌++◌, IfOk, IsOk, IsTrue, List, Ok, length};
-ghost use Rattle.imagesize.specs.Counts.{lasts_as, stated};
+ghost use Rattle.imagesize.specs.Counts.{lasts_as, stated_bytes};
 ghost use Rattle.imagesize.specs.Meaning.{kind_of, meaning};
 ghost use Rattle.imagesize.specs.Traced.{IsSame, Traces, lacks_memory};
 ghost use Rattle.imagesize_source.specs.Limits.{allowance};
@@ -45,7 +45,7 @@ pub fn blob_trace<A: Allocator>(alloc: A, data: &[u8]) -> Result<Trace<A>, Alloc
     ensures local { (e : List ℕ) → Agrees «data».now e (meaning «data».now 0).marks → IsSame «data».now e }
 
     // The spans are together at most as long as is stated, and as there are bytes and 64 more.
-    ensures stated { IfOk result (λ t. total t.spans.items ≤ stated «data».now 0) }
+    ensures stated { IfOk result (λ t. total t.spans.items ≤ stated_bytes «data».now 0) }
     ensures within { IfOk result (λ t. total t.spans.items ≤ length «data».now + allowance) }
 
     // Bytes that follow change no size, but those of HEIF, of icons and of TGA.

@@ -11,7 +11,7 @@ use Rattle.imagesize_source.specs.declared.error.ImageError.{ImageError}
 use Rattle.imagesize_source.specs.declared.error.ImageError.TheVariants.{CorruptedImage}
 use Rattle.imagesize_source.specs.declared.endian.Endian.TheVariants.{Little}
 use Rattle.imagesize_source.specs.Numbers.{number, little}
-use Rattle.imagesize_boxes.specs.Fields.{low_bits, bits_of, binary, field_at, Fields, found, bits, with_found, found_by, after}
+use Rattle.imagesize_boxes.specs.Fields.{low_bits, bits_of, binary, field_at, Fields, found, bits, with_found, found_by, bind_fields}
 use Rattle.imagesize_boxes.specs.Walks.{field_in}
 
 -- the mask of so many bits leaves these of a number
@@ -60,11 +60,11 @@ found_alike f g (bits from count h) same = rw (same from count) (alike (g from c
     (λ n. found_alike f g (h n) same))
 
 -- what goes on is found behind what it goes on from
-pub found-after : {X Y : Type 0} (field : ℕ → ℕ → Result ℕ ImageError) (t : Fields X) (g : X → Fields Y) → found_by field (after t g)
+pub found-after : {X Y : Type 0} (field : ℕ → ℕ → Result ℕ ImageError) (t : Fields X) (g : X → Fields Y) → found_by field (bind_fields t g)
     ≡ with_found (found_by field t) (λ x. found_by field (g x))
 found-after field (found x) g = refl
 found-after field (bits from count f) g =
-    alike (field from count) (λ n. found_by field (after (f n) g)) (λ n. with_found (found_by field (f n)) (λ x. found_by field (g x)))
+    alike (field from count) (λ n. found_by field (bind_fields (f n) g)) (λ n. with_found (found_by field (f n)) (λ x. found_by field (g x)))
     (λ n. found-after field (f n) g)
     ∙ found_twice (field from count) (λ n. found_by field (f n)) (λ x. found_by field (g x))
 

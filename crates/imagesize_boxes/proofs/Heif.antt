@@ -11,7 +11,7 @@ use Rattle.std.specs.Int.{w32, from_be_bytes}
 use Rattle.std.specs.List.{find, last_or, sum_by}
 use Rattle.std.specs.Option.{option_or}
 use Rattle.std.specs.Prelude.{codes, flat_map, fold, nat_lt, nat_le, unwrap_or, ok_or, option_map, IfErr, slice_get, filter}
-use Rattle.imagesize_boxes.specs.Heif.{heif_compression, is_general, is_named, box_size, box_searched, search_for, searched_box, extents_size, property_named, property_found, property_at, property_bytes, extents_of, rotations_of, skipped_bytes, no_pixels, largest_or_none, largest_extents, turn_by, heif_answer, listed, properties, heif, heif_in_meta, heif_in_iprp, boxes_in_iprp, boxes_in_meta, heif_boxes}
+use Rattle.imagesize_boxes.specs.Heif.{heif_compression, is_general, is_named, box_size, box_searched, search_for, searched_box, extents_size, property_named, property_found, property_at, property_bytes, extents_of, rotations_of, skipped_bytes, no_pixels, largest_or_none, largest_extents, turn_by, heif_answer, property_or_answer, properties, heif, heif_in_meta, heif_in_iprp, boxes_in_iprp, boxes_in_meta, heif_boxes}
 use Rattle.imagesize_boxes.specs.Walks.{earlier_largest, gathered_with, gathered_answer}
 use Rattle.imagesize_boxes.specs.declared.container.heif.FoundBox.{FoundBox}
 use Rattle.imagesize_boxes.specs.declared.container.heif.Gathered.{Gathered}
@@ -149,9 +149,9 @@ by_listed : (P : Layout (Said Property ImageSize) → Type 0) (held : List Prope
     → P (bytes (place + 8) 12 (λ content. done (Next (Extents (extents_size content)) (place + 20))))
     → P (bytes (place + 8) 1 (λ content. done (Next (Rotation (slice_index content 0)) (place + 9))))
     → ((size : ℕ) → 8 ≤ size → P (done (Next (Skipped size) (place + size))))
-    → P (bind (property_found left place found) (listed held place))
+    → P (bind (property_found left place found) (property_or_answer held place))
 by_listed P held left place found refused decided extents rotation skipped =
-    by_found (λ t. P (bind t (listed held place))) left place found
+    by_found (λ t. P (bind t (property_or_answer held place))) left place found
     (by_answer P (largest_extents (flat_map extents_of held)) (last_or None (flat_map rotations_of held))
     (refused (IoError NotEnoughData)) decided)
     (refused CorruptedImage) extents rotation skipped
@@ -311,10 +311,10 @@ list_start all first a = walks_start (properties all first) (Amounts all (record
     })
 
 list_said : {b end : State} {r : Result (Said Property ImageSize) ImageError} (all : ℕ) (g : Gathered) (place : ℕ) (held : List Property)
-    → Amounts all g held → Runs b end r (layout_reads b.held.input (bind (property_at g.left place) (listed held place)))
-    → Runs b end r (layout_reads b.held.input (bind (property_at (all - sum_by skipped_bytes held) place) (listed held place)))
+    → Amounts all g held → Runs b end r (layout_reads b.held.input (bind (property_at g.left place) (property_or_answer held place)))
+    → Runs b end r (layout_reads b.held.input (bind (property_at (all - sum_by skipped_bytes held) place) (property_or_answer held place)))
 list_said {b} {end} {r} all g place held h run =
-    subst (λ n. Runs b end r (layout_reads b.held.input (bind (property_at n place) (listed held place)))) (sym h.left) run
+    subst (λ n. Runs b end r (layout_reads b.held.input (bind (property_at n place) (property_or_answer held place)))) (sym h.left) run
 
 pub list_on : {a b end : State} (all first place : ℕ) (g : Gathered) (property : Property) → ListWalks all first a b place g
     → Runs b end (Ok (Some property)) (layout_reads b.held.input (property_at g.left place)) → ListWalks all first a end
@@ -323,7 +323,7 @@ list_on all first place g property w run =
     walks_on (properties all first) (properties_advance all first) (Amounts all g) w (Amounts all (gathered_with g property)) property
     (place + property_bytes property)
     (λ held h. list_said all g place held h (runs_bind (Ok (Next property (place + property_bytes property))) (property_at g.left place)
-    (listed held place) run (λ d. refl) refl tt))
+    (property_or_answer held place) run (λ d. refl) refl tt))
     (λ held h. amounts_on all g held property h)
 
 pub list_out : {a b end : State} (all first place : ℕ) (g : Gathered) (e : ImageError) → ListWalks all first a b place g
@@ -331,10 +331,10 @@ pub list_out : {a b end : State} (all first place : ℕ) (g : Gathered) (e : Ima
     (chain_at (properties all first) a.held.input)
 list_out all first place g e w run =
     walks_out (properties all first) (properties_advance all first) (Amounts all g) w e
-    (λ held h. list_said all g place held h (refused_bind (property_at g.left place) (listed held place) run))
+    (λ held h. list_said all g place held h (refused_bind (property_at g.left place) (property_or_answer held place) run))
 
 -- what is answered by what the properties amount to
-answers : (all : ℕ) (g : Gathered) (held : List Property) (place : ℕ) (d : List ℕ) → Amounts all g held → layout_reads d (listed held place None)
+answers : (all : ℕ) (g : Gathered) (held : List Property) (place : ℕ) (d : List ℕ) → Amounts all g held → layout_reads d (property_or_answer held place None)
     ≡ layout_reads d (heif_answer g.best g.turn)
 answers all g held place d h = ap (λ o. layout_reads d (heif_answer o (last_or None (flat_map rotations_of held)))) h.best.is
     ∙ ap (λ t. layout_reads d (heif_answer g.best t)) h.turn
@@ -346,13 +346,13 @@ list_end_by : {a b end : State} (all first place : ℕ) (g : Gathered) (best : O
 list_end_by all first place g None is w run =
     walks_out (properties all first) (properties_advance all first) (Amounts all g) w (IoError NotEnoughData)
     (λ held h. list_said all g place held h
-    (runs_bind (Err (IoError NotEnoughData)) (property_at g.left place) (listed held place) run
+    (runs_bind (Err (IoError NotEnoughData)) (property_at g.left place) (property_or_answer held place) run
     (λ d. answers all g held place d h ∙ ap (λ o. layout_reads d (heif_answer o g.turn)) is) refl
     (record { budget = tt; memory = λ e. absurd cc })))
 list_end_by all first place g (Some size) is w run =
     walks_stop (properties all first) (properties_advance all first) (Amounts all g) w (turn_by g.turn size)
     (λ held h. list_said all g place held h
-    (runs_bind (Ok (Decided (turn_by g.turn size))) (property_at g.left place) (listed held place) run
+    (runs_bind (Ok (Decided (turn_by g.turn size))) (property_at g.left place) (property_or_answer held place) run
     (λ d. answers all g held place d h ∙ ap (λ o. layout_reads d (heif_answer o g.turn)) is) refl tt))
 
 pub list_end : {a b end : State} (all first place : ℕ) (g : Gathered) → ListWalks all first a b place g
@@ -362,7 +362,7 @@ list_end all first place g w run = list_end_by all first place g g.best refl w r
 
 -- at a place beyond the input it ends too
 none_listed : (d : List ℕ) (held : List Property) (left place : ℕ) → length d ≤ place
-    → layout_reads d (bind (property_at left place) (listed held place)) ≡ layout_reads d (listed held place None)
+    → layout_reads d (bind (property_at left place) (property_or_answer held place)) ≡ layout_reads d (property_or_answer held place None)
 none_listed d held left place far = rw (no_part d place 8 far, no_span d place 8 far) refl
 
 answer_ended : (b : State) (best : Option ImageSize) (turn : Option ℕ)

@@ -10,7 +10,7 @@ use Rattle.imagesize_source.specs.Agreement.{IsLocal}
 use Rattle.imagesize_source.specs.Chain.{Said, Decided, Next, Along, start, next_record, records_from, chain_from, chain_at, count_behind}
 use Rattle.imagesize_source.specs.Counts.{AtMost, CostsBy}
 use Rattle.imagesize_source.specs.Input.{part, span_of}
-use Rattle.imagesize_source.specs.Layout.{layout_reads, there}
+use Rattle.imagesize_source.specs.Layout.{layout_reads, bytes_there}
 use Rattle.imagesize_source.specs.Layout.Layout.{«done»}
 use Rattle.imagesize_source.specs.Numbers.{number}
 use Rattle.imagesize_source.specs.Reading.{Reads, go_on, gives, put_behind, bytes_at, number_at}
@@ -72,7 +72,7 @@ box_ahead held place = (
 start_few : AtMost 16 jxl_start
 start_few = (
   omega arith,
-  λ front. on_test (AtMost 14) (has_signature front) (there 2 14 (λ more. done (Some (front ++ more))))
+  λ front. on_test (AtMost 14) (has_signature front) (bytes_there 2 14 (λ more. done (Some (front ++ more))))
       (done None) (λ _. (omega arith, λ more. tt)) (λ _. tt),
 )
 
@@ -84,7 +84,7 @@ start_bound None = 2
 start_costs : CostsBy start_bound 16 0 jxl_start
 start_costs = (
   omega arith,
-  λ front. on_test (CostsBy start_bound 16 2) (has_signature front) (there 2 14 (λ more. done (Some (front ++ more))))
+  λ front. on_test (CostsBy start_bound 16 2) (has_signature front) (bytes_there 2 14 (λ more. done (Some (front ++ more))))
       (done None) (λ _ more. omega arith) (λ _. omega arith),
 )
 

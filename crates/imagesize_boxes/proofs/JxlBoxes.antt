@@ -14,7 +14,7 @@ use Rattle.imagesize_types.specs.Head.{begins}
 use Rattle.imagesize_types.specs.declared.size.ImageSize.{ImageSize}
 use Rattle.imagesize_source.specs.Chain.{Said, Decided, Next, Advances, chain_at}
 use Rattle.imagesize_source.specs.Halts.{with_error}
-use Rattle.imagesize_source.specs.Layout.{Layout, layout_reads, bind, bytes, there, accept}
+use Rattle.imagesize_source.specs.Layout.{Layout, layout_reads, bind, bytes, bytes_there, accept}
 use Rattle.imagesize_source.specs.Layout.Layout.{field, refuse, done}
 use Rattle.imagesize_source.specs.Reading.{end_of_input, is_fault}
 use Rattle.imagesize_source.specs.State.{State, Runs, EndedBy, IsSound}
@@ -86,11 +86,11 @@ by_head P place front f long short =
     (accept (box_checked place (record { tag = drop 4 front; size = number Big (take 4 front); length = 8 })) done)
     (λ _. long) (λ _. short)
 
-pub by_piece : (P : Says → Type 0) (place k : ℕ) (f : List ℕ → Says) → (k ≡ 0 → P (f [])) → (0 < k → P (there place k f))
+pub by_piece : (P : Says → Type 0) (place k : ℕ) (f : List ℕ → Says) → (k ≡ 0 → P (f [])) → (0 < k → P (bytes_there place k f))
     → P (bind (piece_at place k) f)
 unfolding piece_at
 by_piece P place k f none some =
-    on_test (λ t. P (bind t f)) (eqb k 0) (done []) (there place k (λ piece. done piece)) (λ is. none (grind (arith, nat_tests)))
+    on_test (λ t. P (bind t f)) (eqb k 0) (done []) (bytes_there place k (λ piece. done piece)) (λ is. none (grind (arith, nat_tests)))
     (λ is. some (grind (arith, nat_tests)))
 
 pub by_end : (P : Said (List ℕ) (List ℕ) → Type 0) (held : List ℕ) (place : ℕ) (head : BoxHead) (piece : List ℕ)

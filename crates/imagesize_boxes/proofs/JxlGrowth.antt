@@ -13,7 +13,7 @@ use Rattle.imagesize_source.specs.declared.endian.Endian.{Endian}
 use Rattle.imagesize_source.specs.declared.endian.Endian.TheVariants.{Big}
 use Rattle.imagesize_source.specs.Chain.{Said, Decided, Next, Along, next_record, verdict, chain_from, start}
 use Rattle.imagesize_source.specs.Input.{part, span_of}
-use Rattle.imagesize_source.specs.Layout.{Layout, layout_reads, bind, bytes, there, accept}
+use Rattle.imagesize_source.specs.Layout.{Layout, layout_reads, bind, bytes, bytes_there, accept}
 use Rattle.imagesize_source.specs.Layout.Layout.{field, done}
 use Rattle.imagesize_source.specs.Numbers.{number}
 use Rattle.imagesize_source.specs.Reading.{Reads, go_on, gives, bytes_at, number_at, map_answer, end_of_input}
@@ -250,9 +250,9 @@ StartsAs (Some front) t = (more : List ℕ) × (t ≡ Some (front ++ more))
 
 start_grows : (d x : List ℕ) → Grows StartsAs (layout_reads d jxl_start) (layout_reads (d ++ x) jxl_start)
 start_grows d x =
-    grows_bytes StartsAs d x 0 2 (λ start. cond (has_signature start) (there 2 14 (λ more. done (Some (start ++ more)))) (done None))
+    grows_bytes StartsAs d x 0 2 (λ start. cond (has_signature start) (bytes_there 2 14 (λ more. done (Some (start ++ more)))) (done None))
     (λ start. on_test (λ t. Grows StartsAs (layout_reads d t) (layout_reads (d ++ x) t)) (has_signature start)
-    (there 2 14 (λ more. done (Some (start ++ more)))) (done None)
+    (bytes_there 2 14 (λ more. done (Some (start ++ more)))) (done None)
     (λ _. let grown = part_grows d x 2 14 in
     grows_given StartsAs (Some (start ++ part d 2 14)) (Some (start ++ part (d ++ x) 2 14))
     (grown.0, ap Some (ap (λ more. start ++ more) grown.1 ∙ sym (append_assoc start (part d 2 14) grown.0))))

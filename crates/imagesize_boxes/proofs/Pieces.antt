@@ -5,7 +5,7 @@ use Rattle.std.proofs.lemmas.List.{append-nil}
 use Rattle.imagesize_source.specs.declared.error.ImageError.{ImageError}
 use Rattle.imagesize_source.specs.Input.{part, span_of}
 use Rattle.imagesize_source.specs.Reading.{part_read}
-use Rattle.imagesize_source.specs.Layout.{layout_reads, there}
+use Rattle.imagesize_source.specs.Layout.{layout_reads, bytes_there}
 use Rattle.imagesize_source.specs.Layout.Layout.{«done»}
 use Rattle.imagesize_source.specs.State.{State, Runs, IsSound}
 use Rattle.imagesize_source.proofs.Reached.{reads_nothing}
@@ -22,7 +22,7 @@ pub piece_some : {a b : State} {r : Result (List ℕ) ImageError} (place k n : �
 unfolding piece_at
 piece_some {a} {b} {r} place k n some long h =
     let test : eqb k 0 ≡ false = grind (arith, nat_tests) in
-    let reads : layout_reads a.held.input (cond (eqb k 0) (done []) (there place k (λ piece. done piece))) ≡ part_read a.held.input place k =
+    let reads : layout_reads a.held.input (cond (eqb k 0) (done []) (bytes_there place k (λ piece. done piece))) ≡ part_read a.held.input place k =
     rw test (ap (λ marks. record { answer = Ok (part a.held.input place k); marks = marks }) (append-nil (span_of a.held.input place k)))
     in
     subst (λ w. Runs a b r w) (sym reads) (subst (λ m. Runs a b r (part_read a.held.input place m)) long h)

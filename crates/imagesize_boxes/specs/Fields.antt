@@ -37,6 +37,6 @@ found_by field (found x) = Ok x
 found_by field (bits from count f) = with_found (field from count) (λ n. found_by field (f n))
 
 -- fields, and those that go on from what they found
-abbrev pub after : {X Y : Type 0} → Fields X → (X → Fields Y) → Fields Y
-after (found x) g = g x
-after (bits from count f) g = bits from count (λ n. after (f n) g)
+abbrev pub bind_fields : {X Y : Type 0} → Fields X → (X → Fields Y) → Fields Y
+bind_fields (found x) g = g x
+bind_fields (bits from count f) g = bits from count (λ n. bind_fields (f n) g)

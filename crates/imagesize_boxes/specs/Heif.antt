@@ -142,13 +142,13 @@ heif_answer None turn = refuse (IoError NotEnoughData)
 heif_answer (Some size) turn = done (Decided (turn_by turn size))
 
 -- a property, or by those before it the answer
-abbrev pub listed : List Property → ℕ → Option Property → Layout (Said Property ImageSize)
-listed held place None = heif_answer (largest_extents (flat_map extents_of held)) (last_or None (flat_map rotations_of held))
-listed held place (Some property) = done (Next property (place + property_bytes property))
+abbrev pub property_or_answer : List Property → ℕ → Option Property → Layout (Said Property ImageSize)
+property_or_answer held place None = heif_answer (largest_extents (flat_map extents_of held)) (last_or None (flat_map rotations_of held))
+property_or_answer held place (Some property) = done (Next property (place + property_bytes property))
 
 -- the properties from a place on, in a box of so many bytes (ISO/IEC 23008-12, 9.3)
 abbrev pub properties : ℕ → ℕ → Chain Property ImageSize
-properties all place = record { first = place; said = λ held q. bind (property_at (all - sum_by skipped_bytes held) q) (listed held q) }
+properties all place = record { first = place; said = λ held q. bind (property_at (all - sum_by skipped_bytes held) q) (property_or_answer held q) }
 
 -- In `iprp` stands `ipco`, which holds the properties (ISO/IEC 23008-12, 9.3).
 abbrev pub heif_in_iprp : FoundBox → List ℕ → Reads ImageSize

@@ -1,11 +1,11 @@
 -- JPEG XL, by ISO/IEC 18181-1 (the codestream) and 18181-2 (the boxes around it).
 use Rattle.std.specs.Prelude.{min, take, drop, slice_index, Option, None, Some, ℕ, ◌+◌, ◌-◌, ◌*◌, ◌/◌, ◌^◌, ◌==◌, Bool, false, List, codes, [], ◌∷◌, ◌++◌, ◌||◌, ◌&&◌, not, length, nat_le, nat_lt, if◌then◌else◌, Result, Ok, Err}
 use Rattle.std.specs.List.{concat}
-use Rattle.imagesize_boxes.specs.Fields.{Fields, found, bits, after, found_by, field_at, bits_of}
+use Rattle.imagesize_boxes.specs.Fields.{Fields, found, bits, bind_fields, found_by, field_at, bits_of}
 use Rattle.imagesize_boxes.specs.declared.formats.jxl.boxes.BoxHead.{BoxHead}
 use Rattle.imagesize_boxes.specs.declared.formats.jxl.header.Side.{Side}
 use Rattle.imagesize_source.specs.Chain.{Said, Decided, Next, Chain, chain_at, records, count_behind}
-use Rattle.imagesize_source.specs.Layout.{Layout, layout_reads, bind, bytes, there, accept}
+use Rattle.imagesize_source.specs.Layout.{Layout, layout_reads, bind, bytes, bytes_there, accept}
 use Rattle.imagesize_source.specs.Layout.Layout.{field, refuse, done}
 use Rattle.imagesize_source.specs.Numbers.{number}
 use Rattle.imagesize_source.specs.Reading.{Reads, gives, and_then, end_of_input}
@@ -61,17 +61,17 @@ width_side small height = bits height.end 3 (λ ratio.
 
 -- behind the size (ImageMetadata): all is default, or there are extra fields and the first is the orientation.
 -- Those from the fifth on exchange width and height.
-abbrev pub exchanged : ℕ → Fields Bool
-exchanged from = bits from 1 (λ all_default.
+abbrev pub exchanges_sides : ℕ → Fields Bool
+exchanges_sides from = bits from 1 (λ all_default.
     if all_default == 1 then found false
     else bits (from + 1) 1 (λ extra. if extra == 0 then found false else bits (from + 2) 3 (λ orientation. found (nat_le 4 orientation))))
 
 -- whether the image is small, its height, its width and its orientation, behind the signature
 abbrev pub jxl_header : Fields ImageSize
 jxl_header = bits 16 1 (λ small.
-    after (side_fields (small == 1) 17) (λ height.
-    after (width_side (small == 1) height) (λ width.
-    after (exchanged width.end) (λ exchanged. found (exchange_if exchanged (record { width = width.length; height = height.length }))))))
+    bind_fields (side_fields (small == 1) 17) (λ height.
+    bind_fields (width_side (small == 1) height) (λ width.
+    bind_fields (exchanges_sides width.end) (λ exchanged. found (exchange_if exchanged (record { width = width.length; height = height.length }))))))
 
 -- the size by the first bytes of a codestream
 unfoldable pub jxl_size : List ℕ → Result ImageSize ImageError
@@ -84,7 +84,7 @@ jxl_size front =
 
 -- what is there of so many bytes; of none there is no reading
 unfoldable pub piece_at : ℕ → ℕ → Layout (List ℕ)
-piece_at place count = if count == 0 then done [] else there place count (λ piece. done piece)
+piece_at place count = if count == 0 then done [] else bytes_there place count (λ piece. done piece)
 
 -- a box ends at 2^64-1 at the latest, and not before its head does; an open one has the size 0
 abbrev pub box_checked : ℕ → BoxHead → Result BoxHead ImageError
@@ -141,7 +141,7 @@ jxl_chain = record { first = 12; said = λ pieces place. jxl_box (concat pieces)
 
 -- the first bytes of a codestream that stands alone; none where boxes stand
 abbrev pub jxl_start : Layout (Option (List ℕ))
-jxl_start = bytes 0 2 (λ start. if has_signature start then there 2 14 (λ more. done (Some (start ++ more))) else done None)
+jxl_start = bytes 0 2 (λ start. if has_signature start then bytes_there 2 14 (λ more. done (Some (start ++ more))) else done None)
 
 -- the first bytes of the codestream: those, or the pieces in the boxes joined
 abbrev pub codestream : List ℕ → Option (List ℕ) → Reads (List ℕ)

@@ -1,3 +1,3 @@
 pub mod Families
 pub mod Statuses
-pub mod Numbers
+pub mod TypeNumbers

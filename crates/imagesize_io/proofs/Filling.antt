@@ -7,14 +7,14 @@ use borrow.Rule.Slice.PartMut.{put_mid}
 use Rattle.imagesize_io.specs.declared.progress.Progress.{Progress}
 use Rattle.imagesize_source.specs.Input.{part}
 use Rattle.imagesize_io.proofs.Standings.{keeps_both}
-use Rattle.imagesize_io.specs.Standing.{Standing, onto, stand, GivesSome, GivesAll, ReadsOnce, Fills, KeepsCounts, drift}
+use Rattle.imagesize_io.specs.Standing.{Standing, advance_standing, stand, GivesSome, GivesAll, ReadsOnce, Fills, KeepsCounts, drift}
 use Rattle.imagesize_io.specs.Telling.{Telling}
 
 -- so many bytes of the room are the next of the bytes that the reader stood at first
 abbrev pub Filled : Option Standing → Option Standing → ℕ → List ℕ → Type 0
 Filled None now filled room = Unit {0}
 Filled (Some s) now filled room =
-    (now ≡ Some (onto s filled)) × (take filled room ≡ part s.bytes s.place filled) × (filled ≤ length s.bytes - s.place)
+    (now ≡ Some (advance_standing s filled)) × (take filled room ≡ part s.bytes s.place filled) × (filled ≤ length s.bytes - s.place)
 
 -- the reads so far
 pub record Filling (first now : Option Standing) (count count' : Option ℕ) (old new : Progress) (filled : ℕ) (room : List ℕ) : Type 0 where
@@ -77,7 +77,7 @@ reached_more : (first now next : Option Standing) (room more : List ℕ) (filled
     (put_mid filled (length room - filled) room more)
 reached_more None now next room more filled n fits enough reached gave = tt
 reached_more (Some s) now next room more filled n fits enough reached gave =
-    let gives : GivesSome (Some (onto s filled)) next more (Ok n) = subst (λ w. GivesSome w next more (Ok n)) reached.0 gave in (
+    let gives : GivesSome (Some (advance_standing s filled)) next more (Ok n) = subst (λ w. GivesSome w next more (Ok n)) reached.0 gave in (
       gives.0 ∙ ap (λ p. Some (record s { place = p })) (omega arith),
       take_more room more filled n fits enough ∙ ap (λ l. l ++ take n more) reached.1 ∙ ap (λ l. part s.bytes s.place filled ++ l)
           gives.1 ∙ part-add s.bytes s.place filled n,
@@ -106,9 +106,9 @@ ends : (first now next : Option Standing) (room more : List ℕ) (filled : ℕ) 
 ends None now next room more filled fits reached left long gave = tt
 ends (Some s) now next room more filled fits reached left long gave =
     let all = reached_more (Some s) now next room more filled 0 fits (omega arith) reached gave in
-    let at_end : GivesSome (Some (onto s filled)) next more (Ok 0) = subst (λ w. GivesSome w next more (Ok 0)) reached.0 gave in
+    let at_end : GivesSome (Some (advance_standing s filled)) next more (Ok 0) = subst (λ w. GivesSome w next more (Ok 0)) reached.0 gave in
     let same : filled + 0 ≡ filled = omega arith in (
-      all.0 ∙ ap (λ k. Some (onto s k)) same,
+      all.0 ∙ ap (λ k. Some (advance_standing s k)) same,
       ap (λ k. take k (put_mid filled (length room - filled) room more)) (sym same) ∙ all.1 ∙ ap (part s.bytes s.place) same,
       rw (length-put room more filled fits long) (grind (arith, at_end.3, reached.2)),
     )
@@ -159,7 +159,7 @@ pub gave_rest : (first now last : Option Standing) (room more : List ℕ) (n k :
     → GivesAll first last (put_mid n (length room - n) room more) (Ok (n + k))
 gave_rest None now last room more n k gave fits rest enough long = tt
 gave_rest (Some s) now last room more n k gave fits rest enough long =
-    let gives : GivesAll (Some (onto s n)) last more (Ok k) = subst (λ w. GivesAll w last more (Ok k)) gave.0 rest in (
+    let gives : GivesAll (Some (advance_standing s n)) last more (Ok k) = subst (λ w. GivesAll w last more (Ok k)) gave.0 rest in (
       gives.0 ∙ ap (λ p. Some (record s { place = p })) (omega arith),
       take_more room more n k fits enough ∙ ap (λ l. l ++ take k more) gave.1 ∙ ap (λ l. part s.bytes s.place n ++ l) gives.1 ∙ part-add
           s.bytes s.place n k,
@@ -171,6 +171,6 @@ pub within_rest : (first now : Option Standing) (room : List ℕ) (n m long take
     → IfSome first (λ s. taken' ≤ taken + min long (length s.bytes - s.place))
 within_rest None now room n m long taken mid taken' gave took fits left within = tt
 within_rest (Some s) now room n m long taken mid taken' gave took fits left within =
-    let after : IfSome (Some (onto s n)) (λ s. taken' ≤ mid + min m (length s.bytes - s.place)) =
+    let after : IfSome (Some (advance_standing s n)) (λ s. taken' ≤ mid + min m (length s.bytes - s.place)) =
     subst (λ w. IfSome w (λ s. taken' ≤ mid + min m (length s.bytes - s.place))) gave.0 within in
     omega (arith, after, gave.2)

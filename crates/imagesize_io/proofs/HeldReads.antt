@@ -17,8 +17,8 @@ use Rattle.imagesize_io.specs.declared.reader.Ledger.{Ledger}
 use Rattle.imagesize_io.specs.declared.told.Stop.{Stop}
 use Rattle.imagesize_io.specs.Held.{IsWhole}
 use Rattle.imagesize_io.specs.ReaderState.{ReadsAt, kept_window}
-use Rattle.imagesize_io.specs.Standing.{Standing, onto, steady, in_step, stand_of, stand, drift, GivesSome, GivesFrom, KeepsCounts, ReadsFrom}
-use Rattle.imagesize_io.specs.Telling.{Telling, ReadTells, counted}
+use Rattle.imagesize_io.specs.Standing.{Standing, advance_standing, steady, in_step, stand_of, stand, drift, GivesSome, GivesFrom, KeepsCounts, ReadsFrom}
+use Rattle.imagesize_io.specs.Telling.{Telling, ReadTells, count_after}
 use Rattle.imagesize_io.proofs.Filling.{part-add}
 use Rattle.imagesize_io.proofs.TextReads.{took_text, text_rest, rest_start, rest_ends, rest_goes_on, rest_some}
 use Rattle.imagesize_io.proofs.Layers.{reads_past}
@@ -76,7 +76,7 @@ whole_some t bs whole = by_length bs refl where
 
 -- what a reader gave as a read, with its interruptions hidden
 steady_if : (b : Bool) (s : Standing) (room : List ℕ) (n : ℕ) → take n room ≡ part s.bytes s.place n → n ≤ length s.bytes - s.place
-    → (0 < length room → s.place < length s.bytes → 0 < n) → GivesSome (cond b (Some s) None) (cond b (Some (onto s n)) None) room (Ok n)
+    → (0 < length room → s.place < length s.bytes → 0 < n) → GivesSome (cond b (Some s) None) (cond b (Some (advance_standing s n)) None) room (Ok n)
 steady_if true s room n gave few some = (refl, gave, few, some)
 steady_if false s room n gave few some = tt
 
@@ -90,15 +90,15 @@ steady_gives (Some t) telling' retries room n gave =
 
 stands_if : (told place place' n : ℕ) (s : Standing) (room : List ℕ) (b : Bool) → in_step told place s ≡ b → 0 < n
     → take n room ≡ part s.bytes s.place n → n ≤ length s.bytes - s.place → n ≤ length room → place' ≡ min (place + n) (2 ^ 64 - 1)
-    → GivesFrom (cond b (Some s) None) (stand_of told place' (Some (onto s n))) place place' (take n room) (Ok n)
+    → GivesFrom (cond b (Some s) None) (stand_of told place' (Some (advance_standing s n))) place place' (take n room) (Ok n)
 stands_if told place place' n s room false step some gave few fits now = tt
 stands_if told place place' n s room true step some gave few fits now =
     let at : place ≡ s.place = grind (arith, nat_tests) in
     let long : told ≡ length s.bytes = grind (arith, nat_tests) in
     let short : length s.bytes < 2 ^ 63 = grind (arith, nat_tests) in
     let there : place' ≡ s.place + n = omega (arith, now, at, few, short, some) in
-    let step' : in_step told place' (onto s n) ≡ true = grind (arith, nat_tests, there, long, short) in (
-      ap (λ b. cond b (Some (onto s n)) None) step' ∙ ap (λ p. Some (record s { place = p })) (sym there),
+    let step' : in_step told place' (advance_standing s n) ≡ true = grind (arith, nat_tests, there, long, short) in (
+      ap (λ b. cond b (Some (advance_standing s n)) None) step' ∙ ap (λ p. Some (record s { place = p })) (sym there),
       take-take n n room (omega arith) ∙ gave ∙ ap (λ p. part s.bytes p n) (sym at),
       omega (arith, length-take n room, fits, few, at),
     )
@@ -116,7 +116,7 @@ within_given : (st st' : Option Standing) (place now n taken taken' : ℕ) (room
 within_given None st' place now n taken taken' room gave took = tt
 within_given (Some s) st' place now n taken taken' room gave took = omega (arith, gave.2, took)
 
-since_given : (count count' : Option ℕ) (taken taken' n : ℕ) → count' ≡ counted {E = Stop} count (Ok n) → taken' ≡ taken + n
+since_given : (count count' : Option ℕ) (taken taken' n : ℕ) → count' ≡ count_after {E = Stop} count (Ok n) → taken' ≡ taken + n
     → drift count' taken' ≡ drift count taken
 since_given None count' taken taken' n is took = rw is refl
 since_given (Some c) count' taken taken' n is took =
@@ -131,7 +131,7 @@ not_kept w bytes place far =
 
 -- A text that the reader held is a reading of as many bytes from where it stands.
 pub held_reads : {old new : Ledger} {telling telling' : Option Telling} {count count' : Option ℕ} {place n : ℕ} (room : List ℕ) (t : Text)
-    → ReadTells telling telling' room (Ok n) → count' ≡ counted {E = Stop} count (Ok n) → n ≤ length room → IsWhole t (take n room)
+    → ReadTells telling telling' room (Ok n) → count' ≡ count_after {E = Stop} count (Ok n) → n ≤ length room → IsWhole t (take n room)
     → old.progress.place ≡ place → place ≤ old.progress.told → length old.window.items < place → length old.window.items ≤ 32
     → new.window ≡ old.window → new.progress.told ≡ old.progress.told → new.progress.budget ≡ old.progress.budget
     → new.progress.retries ≡ old.progress.retries → new.progress.taken ≡ old.progress.taken + n

@@ -6,7 +6,7 @@ use Rattle.imagesize_source.specs.declared.error.ImageError.TheVariants.{NotSupp
 use Rattle.imagesize_source.specs.declared.error.Reason.TheVariants.{Fault, BudgetSpent, Memory}
 use Rattle.imagesize_io.specs.declared.reader.Opened.{Opened}
 use Rattle.imagesize_io.specs.Answers.{AnswersAs, TakesAs, Answers, Takes, over_reader}
-use Rattle.imagesize_source.specs.Reading.{Reads, is_fault, is_stop, is_memory, spent}
+use Rattle.imagesize_source.specs.Reading.{Reads, is_fault, is_stop, is_memory, budget_spent}
 use Rattle.imagesize_io.specs.ReaderState.{start_state, Opens}
 use Rattle.imagesize_source.specs.State.{State, Held, Runs, state_after, total}
 use Rattle.imagesize_io.specs.Telling.{Telling, IsHonest, at_place}
@@ -47,7 +47,7 @@ start_holds t count home honest =
     rw (waits, short, same, none) refl
 
 -- a stop is a failure, a spent budget or refused memory
-pub stop_cases : (e : ImageError) → is_stop e ≡ true → (is_fault e ≡ true) ⊎ (((n : ℕ) × (spent e ≡ Some n)) ⊎ (is_memory e ≡ true))
+pub stop_cases : (e : ImageError) → is_stop e ≡ true → (is_fault e ≡ true) ⊎ (((n : ℕ) × (budget_spent e ≡ Some n)) ⊎ (is_memory e ≡ true))
 stop_cases NotSupported stops = absurd cc
 stop_cases CorruptedImage stops = absurd cc
 stop_cases (IoError (Fault f)) stops = inl refl
@@ -75,7 +75,7 @@ fault_only {X} t a b e reads starts h small stops =
       | inl faults ↦ (faults, sym (ap (λ k. k.can_fail) starts.held) ∙ h.fault honest faults)
       | inr other ↦ elim other [
         | inl spent_all ↦
-            let named = some_spent (spent e) spent_all.0 (λ n. (b.frame.counts ≡ true) × (n ≡ b.frame.budget) × (n ≡ b.taken))
+            let named = some_spent (budget_spent e) spent_all.0 (λ n. (b.frame.counts ≡ true) × (n ≡ b.frame.budget) × (n ≡ b.taken))
             spent_all.1 h.ended.budget in
             absurd (omega (arith, named.1, named.2, ap (λ f. f.budget) h.frame, starts.budget, starts.taken, h.within honest, small))
         | inr refused ↦

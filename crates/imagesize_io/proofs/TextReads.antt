@@ -19,7 +19,7 @@ use Rattle.imagesize_io.specs.declared.progress.Progress.{Progress}
 use Rattle.imagesize_io.specs.ReaderState.{reader_frame, reader_state}
 use Rattle.imagesize_io.specs.Standing.{stand}
 use Rattle.imagesize_io.specs.Telling.{Telling}
-use Rattle.imagesize_source.specs.Text.{delimits, through, text_front, ends}
+use Rattle.imagesize_source.specs.Text.{delimits, front_through, text_front, ends}
 use Rattle.imagesize_source.proofs.Counts.{total-span_at, total-span_of, total_there}
 use Rattle.imagesize_source.proofs.Layouts.{no_part, no_span}
 use Rattle.imagesize_source.proofs.Agreement.{whole_span}
@@ -29,8 +29,8 @@ use Rattle.imagesize_source.proofs.Texts.{line_front, no_front, through-cons, wo
 
 -- what is left of a text behind some of its bytes, of which one was no white space or none was
 abbrev pub text_rest : Text → Bool → List ℕ → List ℕ
-text_rest (Line delimiter) begun bs = through (delimits (Line delimiter)) bs
-text_rest Word true bs = through is_ascii_whitespace bs
+text_rest (Line delimiter) begun bs = front_through (delimits (Line delimiter)) bs
+text_rest Word true bs = front_through is_ascii_whitespace bs
 text_rest Word false bs = text_front Word bs
 
 pub rest_start : (t : Text) (bs : List ℕ) → text_front t bs ≡ text_rest t false bs
@@ -44,19 +44,19 @@ rest_none Word false = no_front
 
 pub rest_ends : (t : Text) (begun : Bool) (b : ℕ) (bs : List ℕ) → ends t begun b ≡ true → text_rest t begun (b ∷ bs) ≡ b ∷ []
 rest_ends (Line delimiter) begun b bs is = through-cons (delimits (Line delimiter)) b bs ∙ ap (λ test. cond test (b ∷ [])
-    (b ∷ through (delimits (Line delimiter)) bs)) is
+    (b ∷ front_through (delimits (Line delimiter)) bs)) is
 rest_ends Word true b bs is = through-cons is_ascii_whitespace b bs ∙ ap (λ test. cond test (b ∷ [])
-    (b ∷ through is_ascii_whitespace bs)) is
+    (b ∷ front_through is_ascii_whitespace bs)) is
 rest_ends Word false b bs is = absurd cc
 
 pub rest_goes_on : (t : Text) (begun : Bool) (b : ℕ) (bs : List ℕ) → ends t begun b ≡ false → text_rest t begun (b ∷ bs) ≡ b ∷ text_rest t
     (begun || not (is_ascii_whitespace b)) bs
 rest_goes_on (Line delimiter) begun b bs is = through-cons (delimits (Line delimiter)) b bs ∙ ap (λ test. cond test (b ∷ [])
-    (b ∷ through (delimits (Line delimiter)) bs)) is
+    (b ∷ front_through (delimits (Line delimiter)) bs)) is
 rest_goes_on Word true b bs is = through-cons is_ascii_whitespace b bs ∙ ap (λ test. cond test (b ∷ [])
-    (b ∷ through is_ascii_whitespace bs)) is
+    (b ∷ front_through is_ascii_whitespace bs)) is
 rest_goes_on Word false b bs is =
-    let Goal : Bool → Type 0 = λ white. cond white (b ∷ text_front Word bs) (b ∷ through is_ascii_whitespace bs) ≡ b ∷ text_rest Word
+    let Goal : Bool → Type 0 = λ white. cond white (b ∷ text_front Word bs) (b ∷ front_through is_ascii_whitespace bs) ≡ b ∷ text_rest Word
     (not white) bs in
     let cases : Goal (is_ascii_whitespace b) = elim (is_ascii_whitespace b) as Goal [ true ↦ refl | false ↦ refl ] in
     word_front b bs ∙ cases

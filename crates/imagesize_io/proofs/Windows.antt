@@ -10,8 +10,8 @@ use Rattle.imagesize_io.specs.Telling.{Telling}
 use Rattle.imagesize_source.proofs.Layouts.{no_part}
 use Rattle.imagesize_io.proofs.Standings.{told_at}
 use Rattle.imagesize_source.specs.Input.{part, span_at, span_of}
-use Rattle.imagesize_source.specs.Reading.{part_read, map_answer, is_fault, is_stop, spent}
-use Rattle.imagesize_io.specs.ReaderState.{held_at, unclaimed, overlaid, kept_window, state_at, reader_frame}
+use Rattle.imagesize_source.specs.Reading.{part_read, map_answer, is_fault, is_stop, budget_spent}
+use Rattle.imagesize_io.specs.ReaderState.{held_at, no_claim, with_window, kept_window, state_at, reader_frame}
 use Rattle.imagesize_io.specs.Standing.{Standing, GivesFrom, stand, drift, KeepsCounts, StopsBy}
 use borrow.Rule.Slice.PartMut.{put_mid}
 use Rattle.imagesize_io.proofs.Filling.{part-add, take_more, length-put}
@@ -23,10 +23,10 @@ abbrev pub ToldBy : Frame → Option Standing → Type 0
 ToldBy f None = Unit {0}
 ToldBy f (Some s) = (f.told ≡ length s.bytes) × (length s.bytes < 2 ^ 63)
 
-length-overlaid : (w d : List ℕ) → length w ≤ length d → length (overlaid w d) ≡ length d
-length-overlaid w d fits = simp (length-append, length-drop) (omega arith)
+length-with_window : (w d : List ℕ) → length w ≤ length d → length (with_window w d) ≡ length d
+length-with_window w d fits = simp (length-append, length-drop) (omega arith)
 
-honest_if : (b : Bool) (h : Held) → (cond b h unclaimed).honest ≡ true → b ≡ true
+honest_if : (b : Bool) (h : Held) → (cond b h no_claim).honest ≡ true → b ≡ true
 honest_if true h e = refl
 honest_if false h e = absurd cc
 
@@ -35,7 +35,7 @@ leb_is a b e = grind (arith, nat_tests)
 
 -- what an honest source holds
 holds : (s : Standing) (w : List ℕ) → (held_at (Some s) w).honest ≡ true → (length w ≤ length s.bytes)
-    × (held_at (Some s) w ≡ record { honest = true; input = overlaid w s.bytes; can_fail = s.can_fail })
+    × (held_at (Some s) w ≡ record { honest = true; input = with_window w s.bytes; can_fail = s.can_fail })
 holds s w honest =
     let fits = honest_if (leb (length w) (length s.bytes)) _ honest in
     (leb_is (length w) (length s.bytes) fits, rw fits refl)
@@ -44,7 +44,7 @@ pub sound_at : (f : Frame) (st : Option Standing) (w : List ℕ) (taken : ℕ) �
 sound_at f None w taken told honest = absurd cc
 sound_at f (Some s) w taken told honest =
     let h = holds s w honest in
-    rw h.1 (told.0 ∙ sym (length-overlaid w s.bytes h.0), rw (length-overlaid w s.bytes h.0) told.1)
+    rw h.1 (told.0 ∙ sym (length-with_window w s.bytes h.0), rw (length-with_window w s.bytes h.0) told.1)
 
 -- the state after a reading, whether or not it has a span
 abbrev pub read_on : State → ℕ → ℕ → State
@@ -73,7 +73,7 @@ unfolding part
 part-min d place k n is = sym (take_min k (drop place d)) ∙ ap (λ i. take i (drop place d)) (ap (min k) (length-drop place d) ∙ sym is)
 
 -- a part of the window is one of the whole
-part-window : (w d : List ℕ) (place k : ℕ) → k ≤ length w - place → part (overlaid w d) place k ≡ part w place k
+part-window : (w d : List ℕ) (place k : ℕ) → k ≤ length w - place → part (with_window w d) place k ≡ part w place k
 unfolding part
 part-window w d place zero fits = refl
 part-window w d place (suc k) fits =
@@ -81,22 +81,22 @@ part-window w d place (suc k) fits =
     ∙ take-append-le (suc k) (drop place w) (drop (length w) d) (rw (length-drop place w) (omega arith))
 
 -- and a part behind the window one of the bytes behind the reader
-part-behind : (w d : List ℕ) (place k : ℕ) → length w ≤ place → part (overlaid w d) place k ≡ part d place k
+part-behind : (w d : List ℕ) (place k : ℕ) → length w ≤ place → part (with_window w d) place k ≡ part d place k
 unfolding part
 part-behind w d place k far =
     let split : length w + (place - length w) ≡ place = omega arith in
-    ap (λ p. take k (drop p (overlaid w d))) (sym split)
+    ap (λ p. take k (drop p (with_window w d))) (sym split)
     ∙ ap (take k) (drop-append-add w (drop (length w) d) (place - length w) ∙ drop-drop (place - length w) (length w) d)
     ∙ ap (λ p. take k (drop p d)) split
 
 -- a part that begins in the window and goes on behind it
-part-across : (w d : List ℕ) (place k copied : ℕ) → copied ≡ min k (length w - place) → copied < k → part (overlaid w d) place k
+part-across : (w d : List ℕ) (place k copied : ℕ) → copied ≡ min k (length w - place) → copied < k → part (with_window w d) place k
     ≡ part w place k ++ part d (place + copied) (k - copied)
 part-across w d place k copied is short =
     let whole : copied + (k - copied) ≡ k = omega arith in
-    ap (part (overlaid w d) place) (sym whole)
-    ∙ sym (part-add (overlaid w d) place copied (k - copied))
-    ∙ ap (λ l. l ++ part (overlaid w d) (place + copied) (k - copied))
+    ap (part (with_window w d) place) (sym whole)
+    ∙ sym (part-add (with_window w d) place copied (k - copied))
+    ∙ ap (λ l. l ++ part (with_window w d) (place + copied) (k - copied))
     (part-window w d place copied (omega arith) ∙ sym (part-min w place k copied is))
     ∙ ap (λ l. part w place k ++ l) (part-behind w d (place + copied) (k - copied) (omega arith))
 
@@ -109,9 +109,9 @@ rejoined j n l =
     ap (λ k. take j (take n l) ++ drop k l) long ∙ ap (λ u. u ++ drop i l) front ∙ take-append-drop i l
 
 -- a window that takes in the bytes that follow it
-overlaid-kept : (w d : List ℕ) (j n : ℕ) → n ≤ length d - length w → overlaid (w ++ take j (part d (length w) n)) d ≡ overlaid w d
+with_window-kept : (w d : List ℕ) (j n : ℕ) → n ≤ length d - length w → with_window (w ++ take j (part d (length w) n)) d ≡ with_window w d
 unfolding part
-overlaid-kept w d j n fits =
+with_window-kept w d j n fits =
     let u = take j (take n (drop (length w) d)) in
     append_assoc w u (drop (length (w ++ u)) d)
     ∙ ap (λ k. w ++ (u ++ drop k d)) (length-append w u)
@@ -122,7 +122,7 @@ length-kept : (w d : List ℕ) (j n : ℕ) → n ≤ length d - length w → len
 unfolding part
 length-kept w d j n fits = simp (length-append, length-take, length-drop) (omega arith)
 
-input_is : (s : Standing) (w : List ℕ) → (held_at (Some s) w).honest ≡ true → (held_at (Some s) w).input ≡ overlaid w s.bytes
+input_is : (s : Standing) (w : List ℕ) → (held_at (Some s) w).honest ≡ true → (held_at (Some s) w).input ≡ with_window w s.bytes
 input_is s w honest = ap (λ h. h.input) (holds s w honest).1
 
 -- a reading that lies in the window changes nothing
@@ -148,7 +148,7 @@ unfolding span_of
 in_window_state f None w taken place k counts fits honest = absurd cc
 in_window_state f (Some s) w taken place k counts fits honest =
     let a = state_at f (Some s) w taken in
-    let long : length (held_at (Some s) w).input ≡ length s.bytes = ap length (input_is s w honest) ∙ length-overlaid w s.bytes
+    let long : length (held_at (Some s) w).input ≡ length s.bytes = ap length (input_is s w honest) ∙ length-with_window w s.bytes
     (holds s w honest).0 in
     let within : length w ≤ length s.bytes = (holds s w honest).0 in
     let all : min k (length (held_at (Some s) w).input - place) ≡ k = omega (arith, long, within) in
@@ -178,7 +178,7 @@ in_window f st w room old taken place n told counts count copied all kept = reco
 behind_answer : (s : Standing) (st' : Option Standing) (w room old more : List ℕ) (place now copied n : ℕ) → copied ≡ min (length old)
     (length w - place) → room ≡ part w place (length old) ++ drop copied old → length room ≡ length old → copied < length room
     → GivesFrom (Some s) st' (place + copied) now more (Ok n) → n ≤ length more → length more ≡ length room - copied
-    → part (overlaid w s.bytes) place (length room) ≡ take (copied + n) (put_mid copied (length room - copied) room more)
+    → part (with_window w s.bytes) place (length room) ≡ take (copied + n) (put_mid copied (length room - copied) room more)
 behind_answer s st' w room old more place now copied n count front kept short gives enough long =
     part-across w s.bytes place (length room) copied (count ∙ ap (λ k. min k (length w - place)) (sym kept)) short
     ∙ ap (λ l. l ++ part s.bytes (place + copied) (length room - copied)) (sym (front_is w room old place copied count front kept))
@@ -187,8 +187,8 @@ behind_answer s st' w room old more place now copied n count front kept short gi
     ∙ sym (take_more room more copied n (omega arith) enough)
 
 -- its window
-behind_held : (s : Standing) (w w' : List ℕ) (now : ℕ) → length w ≤ length s.bytes → length w' ≤ length s.bytes → overlaid w' s.bytes
-    ≡ overlaid w s.bytes → held_at (Some (record s { place = now })) w' ≡ held_at (Some s) w
+behind_held : (s : Standing) (w w' : List ℕ) (now : ℕ) → length w ≤ length s.bytes → length w' ≤ length s.bytes → with_window w' s.bytes
+    ≡ with_window w s.bytes → held_at (Some (record s { place = now })) w' ≡ held_at (Some s) w
 behind_held s w w' now fits fits' same =
     let yes : leb (length w) (length s.bytes) ≡ true = grind (arith, nat_tests) in
     let yes' : leb (length w') (length s.bytes) ≡ true = grind (arith, nat_tests) in
@@ -203,7 +203,7 @@ leb-false a b h = grind (arith, nat_tests)
 -- what is known of the window after bytes came
 record Grown (w w' : List ℕ) (d : List ℕ) (place m : ℕ) : Type 0 where
   fits : length w' ≤ length d
-  same : overlaid w' d ≡ overlaid w d
+  same : with_window w' d ≡ with_window w d
   front : length w' ≡ front_after (length w) place m
 
 grows_to : (front place copied n : ℕ) → place + copied ≡ front → front ≤ 32 → front + min (32 - front) n ≡ front_after front place
@@ -231,7 +231,7 @@ grown_if w d more place k copied n true at small fits count short gave n_fits =
     (32 - length w) n room in
     record {
       fits = omega (arith, long, room, fits);
-      same = ap (λ v. overlaid v d) bytes ∙ overlaid-kept w d (32 - length w) n room;
+      same = ap (λ v. with_window v d) bytes ∙ with_window-kept w d (32 - length w) n room;
       front = long ∙ grows_to (length w) place copied n here small;
     }
 grown_if w d more place k copied n false at small fits count short gave n_fits = record {
@@ -255,7 +255,7 @@ behind_state : (f f' : Frame) (s : Standing) (w w' : List ℕ) (taken taken' pla
 unfolding span_of
 behind_state f f' s w w' taken taken' place now k copied n counts frame fits grown honest count rest short took =
     let a = state_at f (Some s) w taken in
-    let long : length (held_at (Some s) w).input ≡ length s.bytes = ap length (input_is s w honest) ∙ length-overlaid w s.bytes fits in
+    let long : length (held_at (Some s) w).input ≡ length s.bytes = ap length (input_is s w honest) ∙ length-with_window w s.bytes fits in
     let all : min k (length (held_at (Some s) w).input - place) ≡ copied + n = omega (arith, long, count, rest) in
     let held : held_at (Some (record s { place = now })) w' ≡ held_at (Some s) w = behind_held s w w' now fits grown.fits grown.same in
     let paid : taken' ≡ taken + new_bytes (length w) place (copied + n) = omega (arith, took, count) in
@@ -326,7 +326,7 @@ within_claim : (st : Option Standing) (w : List ℕ) (taken taken' place copied 
 within_claim None w taken taken' place copied k rest count left within honest = absurd cc
 within_claim (Some s) w taken taken' place copied k rest count left within honest =
     let fits = (holds s w honest).0 in
-    let long : length (held_at (Some s) w).input ≡ length s.bytes = ap length (input_is s w honest) ∙ length-overlaid w s.bytes fits in
+    let long : length (held_at (Some s) w).input ≡ length s.bytes = ap length (input_is s w honest) ∙ length-with_window w s.bytes fits in
     let all : total (span_of (held_at (Some s) w).input place k) ≡ min k (length s.bytes - place) = total-span (held_at (Some s) w).input
     place k ∙ ap (λ n. min k (n - place)) long in
     omega (arith, all, within, count, left)
@@ -441,7 +441,7 @@ paid_by f taken (Some n) counts named = (counts, named.0, named.1)
 pub ended_by : (count : Option ℕ) (home : ℕ) (p : Progress) (st : Option Standing) (w : List ℕ) (e : ImageError) → StopsBy p e
     → EndedBy (state_at (reader_frame count home p) st w p.taken) e
 ended_by count home p st w e stops = record {
-  budget = paid_by (reader_frame count home p) p.taken (spent e) refl stops.budget;
+  budget = paid_by (reader_frame count home p) p.taken (budget_spent e) refl stops.budget;
   memory = λ refused. absurd cc;
 }
 
@@ -449,7 +449,7 @@ end_answer : (f : Frame) (st : Option Standing) (w : List ℕ) (place k : ℕ) �
     → part (held_at st w).input place k ≡ []
 end_answer f None w place k told far honest = absurd cc
 end_answer f (Some s) w place k told far honest =
-    let long : length (held_at (Some s) w).input ≡ length s.bytes = ap length (input_is s w honest) ∙ length-overlaid w s.bytes
+    let long : length (held_at (Some s) w).input ≡ length s.bytes = ap length (input_is s w honest) ∙ length-with_window w s.bytes
     (holds s w honest).0 in
     no_part (held_at (Some s) w).input place k (omega (arith, long, told.0, far))
 
@@ -458,7 +458,7 @@ end_state : (f : Frame) (st : Option Standing) (w : List ℕ) (taken place k : �
 unfolding span_of span_at state_after
 end_state f None w taken place k told far honest = absurd cc
 end_state f (Some s) w taken place k told far honest =
-    let long : length (held_at (Some s) w).input ≡ length s.bytes = ap length (input_is s w honest) ∙ length-overlaid w s.bytes
+    let long : length (held_at (Some s) w).input ≡ length s.bytes = ap length (input_is s w honest) ∙ length-with_window w s.bytes
     (holds s w honest).0 in
     let none : min k (length (held_at (Some s) w).input - place) ≡ 0 = omega (arith, long, told.0, far) in
     sym (ap (λ n. state_after (state_at f (Some s) w taken) (span_at place n)) none)

@@ -13,19 +13,19 @@ use Rattle.imagesize_io.specs.Standing.{Standing, KeepsCounts, steady, stand_of,
 use Rattle.imagesize_source.specs.State.{State, Frame, Held, Runs}
 
 -- no claim
-abbrev pub unclaimed : Held
-unclaimed = record { honest = false; input = []; can_fail = false }
+abbrev pub no_claim : Held
+no_claim = record { honest = false; input = []; can_fail = false }
 
 -- the window's bytes in front of those behind the reader
-abbrev pub overlaid : List ℕ → List ℕ → List ℕ
-overlaid window d = window ++ drop (length window) d
+abbrev pub with_window : List ℕ → List ℕ → List ℕ
+with_window window d = window ++ drop (length window) d
 
 -- What is claimed: the bytes behind the reader, the first of them as the window has them.
 abbrev pub held_at : Option Standing → List ℕ → Held
-held_at None window = unclaimed
+held_at None window = no_claim
 held_at (Some s) window =
     if nat_le (length window) (length s.bytes)
-    then record { honest = true; input = overlaid window s.bytes; can_fail = s.can_fail } else unclaimed
+    then record { honest = true; input = with_window window s.bytes; can_fail = s.can_fail } else no_claim
 
 -- what never changes of a reader as a source, with the name of its borrow
 abbrev pub reader_frame : Option ℕ → ℕ → Progress → Frame

@@ -8,8 +8,8 @@ use Rattle.std.specs.declared.io.Error.{Error}
 use Rattle.imagesize_source.specs.Halts.{error_by, with_error}
 use Rattle.imagesize_io.specs.StopOf.{fault_of}
 use Rattle.imagesize_source.specs.Input.{part}
-use Rattle.imagesize_source.specs.Reading.{is_fault, is_memory, is_stop, spent}
-use Rattle.imagesize_io.specs.Telling.{Telling, given}
+use Rattle.imagesize_source.specs.Reading.{is_fault, is_memory, is_stop, budget_spent}
+use Rattle.imagesize_io.specs.Telling.{Telling, bytes_given}
 
 -- the bytes behind a reader, where it stands, and whether a call may fail
 pub record Standing : Type 0 where
@@ -18,8 +18,8 @@ pub record Standing : Type 0 where
   pub can_fail : Bool
 
 -- n bytes further on
-abbrev pub onto : Standing → ℕ → Standing
-onto s n = record s { place = s.place + n }
+abbrev pub advance_standing : Standing → ℕ → Standing
+advance_standing s n = record s { place = s.place + n }
 
 -- Interruptions hidden, of which so many were tried again: a reader that cannot fail has at most as many as are tried again.
 abbrev pub steady : Option Telling → ℕ → Option Standing
@@ -45,7 +45,7 @@ stand telling p = stand_of p.told p.place (steady telling p.retries)
 abbrev pub GivesSome : Option Standing → Option Standing → List ℕ → Result ℕ ImageError → Type 0
 GivesSome None new room r = ⊤
 GivesSome (Some s) new room (Ok n) =
-    (new ≡ Some (onto s n)) × (take n room ≡ part s.bytes s.place n) × (n ≤ length s.bytes - s.place)
+    (new ≡ Some (advance_standing s n)) × (take n room ≡ part s.bytes s.place n) × (n ≤ length s.bytes - s.place)
     × (0 < length room → s.place < length s.bytes → 0 < n)
 GivesSome (Some s) new room (Err e) = is_fault e ≡ true → s.can_fail ≡ true
 
@@ -53,7 +53,7 @@ GivesSome (Some s) new room (Err e) = is_fault e ≡ true → s.can_fail ≡ tru
 abbrev pub GivesAll : Option Standing → Option Standing → List ℕ → Result ℕ ImageError → Type 0
 GivesAll None new room r = ⊤
 GivesAll (Some s) new room (Ok n) =
-    (new ≡ Some (onto s n)) × (take n room ≡ part s.bytes s.place n) × (n ≡ min (length room) (length s.bytes - s.place))
+    (new ≡ Some (advance_standing s n)) × (take n room ≡ part s.bytes s.place n) × (n ≡ min (length room) (length s.bytes - s.place))
 GivesAll (Some s) new room (Err e) = is_fault e ≡ true → s.can_fail ≡ true
 
 -- what a seek did from where a reader stands: it stands at the place now, or the place is behind its bytes
@@ -96,7 +96,7 @@ drift count taken = option_map (λ c. (c - taken, taken - c)) count
 pub record StopsBy (p : Progress) (e : ImageError) : Type 0 where
   pub stops : is_stop e ≡ true
   pub memory : is_memory e ≡ false
-  pub budget : IfSome (spent e) (λ n. (n ≡ p.budget) × (n ≡ p.taken))
+  pub budget : IfSome (budget_spent e) (λ n. (n ≡ p.budget) × (n ≡ p.taken))
 
 -- What a call leaves of the numbers beside the reader. Tries are never forgotten, and never more than `most_retries`.
 pub record KeepsCounts (old new : Progress) : Type 0 where
@@ -111,7 +111,7 @@ pub record ReadsOnce (old new : Progress) (telling telling' : Option Telling) (c
     (r : Result ℕ ImageError) : Type 0 where
   pub bound : IfOk r (λ n. n ≤ length room)
   pub stand : GivesSome (stand telling old) (stand telling' new) room r
-  pub taken : new.taken ≡ old.taken + given r
+  pub taken : new.taken ≡ old.taken + bytes_given r
   pub place : IfOk r (λ n. new.place ≡ min (old.place + n) (2 ^ 64 - 1))
   pub since : drift count' new.taken ≡ drift count old.taken
   pub tries : OnOk r (Tries telling old.retries telling' new.retries)

@@ -36,6 +36,6 @@ fault_after before (Ok x) = before
 fault_after before (Err e) = e
 
 -- a call that failed halts the reading, and no other does
-abbrev pub halted : {X : Type 0} → Result X Error → Result X Halt
-halted (Ok x) = Ok x
-halted (Err e) = Err Failed
+abbrev pub halt_if_failed : {X : Type 0} → Result X Error → Result X Halt
+halt_if_failed (Ok x) = Ok x
+halt_if_failed (Err e) = Err Failed

@@ -20,16 +20,16 @@ abbrev pub may_fail : Option Telling → Option Telling
 may_fail told = option_map {T = Telling} (λ t. record t { can_fail = true }) told
 
 -- n bytes further on
-abbrev pub moved : Telling → ℕ → Telling
-moved t n = record t { place = t.place + n }
+abbrev pub advance_telling : Telling → ℕ → Telling
+advance_telling t n = record t { place = t.place + n }
 
 -- at a place
 abbrev pub at_place : Telling → ℕ → Telling
 at_place t place = record t { place = place }
 
 -- after one more interruption
-abbrev pub interrupted : Telling → Telling
-interrupted t = record t { interruptions = t.interruptions - 1 }
+abbrev pub interrupt_telling : Telling → Telling
+interrupt_telling t = record t { interruptions = t.interruptions - 1 }
 
 -- after a failed call, which only a reader that can fail makes, nothing is known of the place
 abbrev pub Fails : Telling → Option Telling → Type 0
@@ -39,9 +39,9 @@ Fails t new = (t.can_fail ≡ true) × IsSomeAnd new (λ u. (u.bytes ≡ t.bytes
 -- least one where there is one and there is room; or it gave nothing, and an interruption leaves the place.
 abbrev pub ReadGives : Telling → Option Telling → List ℕ → Result ℕ Stop → Type 0
 ReadGives t new room (Ok n) =
-    (new ≡ Some (moved t n)) × (take n room ≡ part t.bytes t.place n) × (n ≤ length t.bytes - t.place)
+    (new ≡ Some (advance_telling t n)) × (take n room ≡ part t.bytes t.place n) × (n ≤ length t.bytes - t.place)
     × (0 < length room → t.place < length t.bytes → 0 < n)
-ReadGives t new room (Err (Interrupted e)) = (new ≡ Some (interrupted t)) × (t.can_fail ≡ false → 0 < t.interruptions)
+ReadGives t new room (Err (Interrupted e)) = (new ≡ Some (interrupt_telling t)) × (t.can_fail ≡ false → 0 < t.interruptions)
 ReadGives t new room (Err (Fault e)) = Fails t new
 
 -- the same of a reader that may tell nothing
@@ -71,13 +71,13 @@ SeekTells None new to r = new ≡ None
 SeekTells (Some t) new to r = SeekGives t new (seek_target t to) r
 
 -- how many bytes a read gave
-abbrev pub given : {E : Type 0} → Result ℕ E → ℕ
-given (Ok n) = n
-given (Err _) = 0
+abbrev pub bytes_given : {E : Type 0} → Result ℕ E → ℕ
+bytes_given (Ok n) = n
+bytes_given (Err _) = 0
 
 -- a named count rises by the bytes that a read gave
-abbrev pub counted : {E : Type 0} → Option ℕ → Result ℕ E → Option ℕ
-counted count r = option_map (λ c. c + given r) count
+abbrev pub count_after : {E : Type 0} → Option ℕ → Result ℕ E → Option ℕ
+count_after count r = option_map (λ c. c + bytes_given r) count
 
 -- An honest reader: its bytes are fewer than 2^63, and where none of its calls fails, at most as many of its
 -- reads are interrupted as a call tries again.

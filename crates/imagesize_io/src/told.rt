@@ -7,7 +7,7 @@ ghost use Rattle.std.specs.Io.Seek.{SeekMoves, IsAtOffset};
 ghost use Rattle.std.specs.declared.io.Error.{Error};
 ghost use Rattle.imagesize_io.specs.Held.{IsWhole};
 ghost use Rattle.imagesize_io.specs.Kept.{HeldOf};
-ghost use Rattle.imagesize_io.specs.Telling.{Telling, ReadTells, SeekTells, counted};
+ghost use Rattle.imagesize_io.specs.Telling.{Telling, ReadTells, SeekTells, count_after};
 ghost use Rattle.imagesize_io.specs.StopOf.{stop_of};
 
 use crate::held::copy_text;
@@ -48,7 +48,7 @@ pub trait Told: Drop {
     fn read_told(&mut self, room: &mut [u8]) -> Result<usize, Stop>
         ensures bound { IfOk result (λ n. n ≤ length room.new) }
         ensures told { ReadTells (telling self.old) (telling self.new) room.new result }
-        ensures counts { count self.new ≡ counted (count self.old) result };
+        ensures counts { count self.new ≡ count_after (count self.old) result };
 
     /// Reads the text at the place where it stands, where it holds all of that, and answers how many bytes it gave. It
     /// may answer nothing, and has then given nothing.
@@ -57,7 +57,7 @@ pub trait Told: Drop {
         ensures bound { IfSome result (λ n. n ≤ length _room.new) }
         ensures whole { IfSome result (λ n. IsWhole _text (take n _room.new)) }
         ensures told { IfSome result (λ n. ReadTells (telling self.old) (telling self.new) _room.new (Ok n)) }
-        ensures counts { IfSome result (λ n. count self.new ≡ counted {E = Stop} (count self.old) (Ok n)) }
+        ensures counts { IfSome result (λ n. count self.new ≡ count_after {E = Stop} (count self.old) (Ok n)) }
         ensures none { result ≡ None → (telling self.new ≡ telling self.old) × (count self.new ≡ count self.old) }
     {
         None

@@ -6,12 +6,12 @@ use Rattle.std.specs.Io.KnownBytes.{Appends, Keeps}
 use Rattle.std.specs.declared.io.Error.{Error}
 use Rattle.imagesize_source.specs.declared.error.ImageError.{ImageError}
 use Rattle.imagesize_probe.specs.Line.{ReportsSpans}
-use Rattle.imagesize_probe.specs.Run.{Files, WritesEach, RunsWith, WritesEach, WritesLine, WritesLines, WritesOne, WritesSpans, Loads, ReportsWhole, SpansBehind, line_behind, joined, lines_of, is_any_refused, names_in, wants_spans}
+use Rattle.imagesize_probe.specs.Run.{Files, WritesEach, RunsWith, WritesEach, WritesLine, WritesLines, WritesOne, WritesSpans, Loads, ReportsWhole, SpansBehind, line_behind, join_lines, lines_of, is_any_refused, names_in, wants_spans}
 use Rattle.imagesize_probe.specs.Status.{exit_status}
 
 -- a line was written and sent on, and then others
 wrote_both : (first second a b c d : Option (List ℕ)) → IfSome first (Appends a b) → Keeps b c → IfSome second (Appends c d) →
-    IfSome (joined first second) (Appends a d)
+    IfSome (join_lines first second) (Appends a d)
 wrote_both None second a b c d _ _ _ = tt
 wrote_both (Some first) None a b c d _ _ _ = tt
 wrote_both (Some first) (Some second) None b c d _ _ _ = tt

@@ -46,14 +46,14 @@ is_sized (Ok bytes) = is_ok (meaning bytes 0).answer
 is_sized (Err e) = false
 
 -- one line behind another, where both are stated
-abbrev pub joined : Option (List ℕ) → Option (List ℕ) → Option (List ℕ)
-joined None after = None
-joined (Some text) after = option_map (λ more. text ++ more) after
+abbrev pub join_lines : Option (List ℕ) → Option (List ℕ) → Option (List ℕ)
+join_lines None after = None
+join_lines (Some text) after = option_map (λ more. text ++ more) after
 
 -- the lines of names, in their order
 abbrev pub lines_of : Files → List (List ℕ) → Option (List ℕ)
 lines_of files [] = Some []
-lines_of files (name ∷ names) = joined (line_behind name (files name)) (lines_of files names)
+lines_of files (name ∷ names) = join_lines (line_behind name (files name)) (lines_of files names)
 
 -- whether one of the names is refused
 abbrev pub is_any_refused : Files → List (List ℕ) → Bool

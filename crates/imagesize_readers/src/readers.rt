@@ -1,7 +1,7 @@
 //! Readers that do what few files do.
 ghost use Rattle.std.specs.Prelude.{◌≡◌, ◌≢◌, ℕ, pos, zero, ◌+◌, ◌-◌, ◌%◌, ◌^◌, ◌<◌, ◌≤◌, min, length, slice_get, Option, None, Some, Ok, Err, IfOk, IfErr, IsErr, true, false, not};
 ghost use Rattle.std.specs.Io.Cursor.{cursor_inner, cursor_position};
-ghost use Rattle.imagesize_io.specs.Telling.{ReadTells, SeekTells, counted, may_fail};
+ghost use Rattle.imagesize_io.specs.Telling.{ReadTells, SeekTells, count_after, may_fail};
 ghost use Rattle.imagesize_readers.specs.Readers.{interrupted_more, halting_telling, StandsAt, StandsAtEnd, failure_at, left_after};
 
 use imagesize_io::{Stop, Told};
@@ -40,7 +40,7 @@ impl<R: Told> Told for Cutting<'_, R> {
     fn read_told(&mut self, room: &mut [u8]) -> Result<usize, Stop>
         ensures bound { IfOk result (λ n. n ≤ length room.new) }
         ensures told { ReadTells (R.telling self.old.reader) (R.telling self.new.reader) room.new result }
-        ensures counts { R.count self.new.reader ≡ counted (R.count self.old.reader) result }
+        ensures counts { R.count self.new.reader ≡ count_after (R.count self.old.reader) result }
         ensures cuts { (most : ℕ) → slice_get self.old.lengths.now self.old.next ≡ Some most → 0 < most
             → IfOk result (λ n. n ≤ most) }
         ensures one { slice_get self.old.lengths.now self.old.next ≡ None → IfOk result (λ n. n ≤ 1) }
@@ -80,7 +80,7 @@ impl<R: Told> Told for Counting<'_, R> {
     fn read_told(&mut self, room: &mut [u8]) -> Result<usize, Stop>
         ensures bound { IfOk result (λ n. n ≤ length room.new) }
         ensures told { ReadTells (may_fail (R.telling self.old.reader)) (may_fail (R.telling self.new.reader)) room.new result }
-        ensures counts { ◌≡◌ {A = Option ℕ} (Some self.new.count.now) (counted (Some self.old.count.now) result) }
+        ensures counts { ◌≡◌ {A = Option ℕ} (Some self.new.count.now) (count_after (Some self.old.count.now) result) }
         ensures gives { self.old.count.now + length room.old < 2 ^ 64
             → ReadTells (R.telling self.old.reader) (R.telling self.new.reader) room.new result }
     {
@@ -120,7 +120,7 @@ impl<R: Told> Told for Calls<'_, R> {
     fn read_told(&mut self, room: &mut [u8]) -> Result<usize, Stop>
         ensures bound { IfOk result (λ n. n ≤ length room.new) }
         ensures told { ReadTells (R.telling self.old.reader) (R.telling self.new.reader) room.new result }
-        ensures counts { R.count self.new.reader ≡ counted (R.count self.old.reader) result }
+        ensures counts { R.count self.new.reader ≡ count_after (R.count self.old.reader) result }
         ensures made { self.new.made.now ≡ (min (self.old.made.now.0 + 1) u32.MAX, self.old.made.now.1) }
     {
         self.made.0 = self.made.0.saturating_add(1);
@@ -157,7 +157,7 @@ impl<R: Told> Told for Interrupted<R> {
         ensures bound { IfOk result (λ n. n ≤ length room.new) }
         ensures told { ReadTells (interrupted_more self.old.left (R.telling self.old.reader))
             (interrupted_more self.new.left (R.telling self.new.reader)) room.new result }
-        ensures counts { R.count self.new.reader ≡ counted (R.count self.old.reader) result }
+        ensures counts { R.count self.new.reader ≡ count_after (R.count self.old.reader) result }
         ensures interrupts { 0 < self.old.left → result ≡ Err (Stop.Interrupted self.old.error) }
     {
         if self.left > 0 {
@@ -192,7 +192,7 @@ impl Told for Halting<'_> {
             (halting_telling (cursor_inner self.old.reader.reader).now (cursor_position self.old.reader.reader) self.old.reader.left)
             (halting_telling (cursor_inner self.new.reader.reader).now (cursor_position self.new.reader.reader) self.new.reader.left)
             room.new result }
-        ensures counts { ◌≡◌ {A = Option ℕ} None (counted None result) }
+        ensures counts { ◌≡◌ {A = Option ℕ} None (count_after None result) }
         ensures interrupts { 0 < self.old.reader.left → self.old.halts ≡ true → result ≡ Err (Stop.Interrupted self.old.reader.error) }
         ensures turns { 0 < self.old.reader.left → self.new.halts ≡ not self.old.halts }
     {
@@ -248,7 +248,7 @@ impl<R: Told> Told for Failing<R> {
     fn read_told(&mut self, room: &mut [u8]) -> Result<usize, Stop>
         ensures bound { IfOk result (λ n. n ≤ length room.new) }
         ensures told { ReadTells (may_fail (R.telling self.old.reader)) (may_fail (R.telling self.new.reader)) room.new result }
-        ensures counts { R.count self.new.reader ≡ counted (R.count self.old.reader) result }
+        ensures counts { R.count self.new.reader ≡ count_after (R.count self.old.reader) result }
         ensures fails { self.old.left ≡ Some 0 → result ≡ Err (Stop.Fault self.old.error) }
         ensures gives { failure_at self.old.left self.old.error ≡ Ok tt
             → ReadTells (R.telling self.old.reader) (R.telling self.new.reader) room.new result }
@@ -292,7 +292,7 @@ impl<R: Told> Told for Claiming<R> {
     fn read_told(&mut self, room: &mut [u8]) -> Result<usize, Stop>
         ensures bound { IfOk result (λ n. n ≤ length room.new) }
         ensures told { ReadTells None None room.new result }
-        ensures counts { R.count self.new.reader ≡ counted (R.count self.old.reader) result }
+        ensures counts { R.count self.new.reader ≡ count_after (R.count self.old.reader) result }
         ensures gives { ReadTells (R.telling self.old.reader) (R.telling self.new.reader) room.new result }
     {
         self.reader.read_told(room)

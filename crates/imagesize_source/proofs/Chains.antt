@@ -6,7 +6,7 @@ use Rattle.std.specs.Prelude.{option_and_then, unwrap_or, flat_map}
 use Rattle.std.specs.List.{position_or_len, range_with_len}
 use Rattle.std.specs.Option.{option_map_or}
 use Rattle.imagesize_source.specs.declared.error.ImageError.{ImageError}
-use Rattle.imagesize_source.specs.Chain.{Said, Decided, Next, Chain, Along, next_record, leads, verdict, trail, verdict_of, marks_of, deciding, records_from, chain_from, Advances}
+use Rattle.imagesize_source.specs.Chain.{Said, Decided, Next, Chain, Along, next_record, leads, verdict, trail, verdict_of, marks_of, deciding_record, records_from, chain_from, Advances}
 use Rattle.imagesize_source.specs.Reading.{Reads, put_behind, go_on, and_then, gives, end_of_input}
 
 -- a list of numbers one higher
@@ -84,19 +84,19 @@ module _ {C X : Type 0} (c : Chain C X) (d : List ℕ) where
   found_within zero u adv h up some = absurd (omega arith)
   found_within (suc n) u adv h up some = found n u adv (omega arith)
 
-  deciding-is : (t : Along C) → deciding c d t ≡ position_or_len (λ i. is_some (verdict_of c d t i)) (range_with_len 0 (suc (length d)))
-  unfolding deciding
+  deciding-is : (t : Along C) → deciding_record c d t ≡ position_or_len (λ i. is_some (verdict_of c d t i)) (range_with_len 0 (suc (length d)))
+  unfolding deciding_record
   deciding-is t = ap (λ n. position_or_len (λ i. is_some (verdict_of c d t i)) (range_with_len 0 n)) (add-one (length d))
 
   -- the number of records is at most one more than the bytes
   pub records_few : (t : Along C) → Advances c d → records_from c d t ≤ length d + 1
   records_few t adv = let here = found (length d) t adv (omega arith) in let is = deciding-is t in omega arith
 
-  deciding_stop : (t : Along C) → is_some (verdict (next_record c d t).answer) ≡ true → deciding c d t ≡ 0
+  deciding_stop : (t : Along C) → is_some (verdict (next_record c d t).answer) ≡ true → deciding_record c d t ≡ 0
   deciding_stop t h = deciding-is t ∙ position_here (λ i. is_some (verdict_of c d t i)) 0 (length d) h
 
   deciding_next : (t u : Along C) → Advances c d → leads t.held (next_record c d t).answer ≡ Some u
-      → is_some (verdict (next_record c d t).answer) ≡ false → t.place < u.place → t.place < length d → deciding c d t ≡ deciding c d u + 1
+      → is_some (verdict (next_record c d t).answer) ≡ false → t.place < u.place → t.place < length d → deciding_record c d t ≡ deciding_record c d u + 1
   deciding_next t u adv led h up below =
       let here = position_there (λ i. is_some (verdict_of c d t i)) 0 (length d) h in
       let on = position_shift (λ i. is_some (verdict_of c d t i)) (λ i. is_some (verdict_of c d u i)) 0 (length d)
@@ -119,8 +119,8 @@ module _ {C X : Type 0} (c : Chain C X) (d : List ℕ) where
       let led : leads t.held (next_record c d t).answer ≡ Some u = ap (leads t.held) is in
       let one = deciding_next t u adv led (ap (λ r. is_some (verdict r)) is) (adv t v place is).0 (adv t v place is).1 in
       same_reads (chain_from c d t) (put_behind (next_record c d t).marks (chain_from c d u))
-      (ap (λ o. unwrap_or o (Err end_of_input)) (ap (verdict_of c d t) one ∙ verdict_next t u (deciding c d u) led))
-      (marks_first t (deciding c d t) ∙ ap (λ m. (next_record c d t).marks ++ m)
+      (ap (λ o. unwrap_or o (Err end_of_input)) (ap (verdict_of c d t) one ∙ verdict_next t u (deciding_record c d u) led))
+      (marks_first t (deciding_record c d t) ∙ ap (λ m. (next_record c d t).marks ++ m)
       (ap (λ n. flat_map (marks_of c d t) (range_with_len 1 n)) one ∙ flat_map_shift (marks_of c d t) (marks_of c d u) 0
       (records_from c d u) (λ i. marks_next t u i led)))
 

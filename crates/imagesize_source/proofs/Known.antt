@@ -17,7 +17,7 @@ use Rattle.imagesize_source.specs.declared.text.Text.{Text}
 use Rattle.imagesize_source.specs.declared.text.Text.TheVariants.{Line, Word}
 use Rattle.imagesize_source.specs.Agreement.{Agrees, is_covered, has_place}
 use Rattle.imagesize_source.specs.Input.{part, span_at, span_of}
-use Rattle.imagesize_source.specs.Known.{AllKnown, HasParts, byte_of, bytes_of, filled, known, parts_state, reaches, within}
+use Rattle.imagesize_source.specs.Known.{AllKnown, HasParts, byte_of, bytes_of, filled_input, byte_in_parts, parts_state, reaches, length_within}
 use Rattle.imagesize_source.specs.Reading.{Reads, part_read, text_part, text_read}
 use Rattle.imagesize_source.specs.State.{State, Runs, IsSound, state_after}
 use Rattle.imagesize_source.specs.Text.{is_ended, text_front}
@@ -30,25 +30,25 @@ part-at : (d : List ℕ) (place k i : ℕ) → i < k → get_or (part d place k)
 unfolding part
 part-at d place k i below = get_or-take k (drop place d) i 0 below ∙ get_or-drop place d i 0
 
-pub length-filled : (n : ℕ) (spans : List Span) (bytes : List ℕ) → length (filled n spans bytes) ≡ n
-unfolding filled
-length-filled n spans bytes = length-map-range_with_len (λ place. unwrap_or (known n spans bytes place) 0) 0 n
+pub length-filled_input : (n : ℕ) (spans : List Span) (bytes : List ℕ) → length (filled_input n spans bytes) ≡ n
+unfolding filled_input
+length-filled_input n spans bytes = length-map-range_with_len (λ place. unwrap_or (byte_in_parts n spans bytes place) 0) 0 n
 
 pub filled_at : (n : ℕ) (spans : List Span) (bytes : List ℕ) (place : ℕ) → place < n
-    → slice_index (filled n spans bytes) place ≡ unwrap_or (known n spans bytes place) 0
-unfolding filled
+    → slice_index (filled_input n spans bytes) place ≡ unwrap_or (byte_in_parts n spans bytes place) 0
+unfolding filled_input
 filled_at n spans bytes place below =
-    get_or-map-range_with_len (λ p. unwrap_or (known n spans bytes p) 0) 0 n place place 0 below (omega arith)
+    get_or-map-range_with_len (λ p. unwrap_or (byte_in_parts n spans bytes p) 0) 0 n place place 0 below (omega arith)
 
 -- a place that is known lies before the end
 reaches_below : (n : ℕ) (s : Span) (place : ℕ) → reaches n s place ≡ true → place < n
 reaches_below n s place is = grind (arith, nat_tests)
 
-pub known_below : (n : ℕ) (spans : List Span) (bytes : List ℕ) (place : ℕ) → is_some (known n spans bytes place) ≡ true → place < n
+pub known_below : (n : ℕ) (spans : List Span) (bytes : List ℕ) (place : ℕ) → is_some (byte_in_parts n spans bytes place) ≡ true → place < n
 known_below n [] bytes place is = absurd cc
-known_below n (s ∷ spans) bytes place is = by_test (reaches n s place) refl (known_below n spans (drop (within n s) bytes) place) is where
-  by_test : (test : Bool) → reaches n s place ≡ test → (is_some (known n spans (drop (within n s) bytes) place) ≡ true → place < n)
-      → is_some (cond test (byte_of bytes (place - s.start)) (known n spans (drop (within n s) bytes) place)) ≡ true → place < n
+known_below n (s ∷ spans) bytes place is = by_test (reaches n s place) refl (known_below n spans (drop (length_within n s) bytes) place) is where
+  by_test : (test : Bool) → reaches n s place ≡ test → (is_some (byte_in_parts n spans (drop (length_within n s) bytes) place) ≡ true → place < n)
+      → is_some (cond test (byte_of bytes (place - s.start)) (byte_in_parts n spans (drop (length_within n s) bytes) place)) ≡ true → place < n
   by_test true has later is = reaches_below n s place has
   by_test false has later is = later is
 
@@ -58,7 +58,7 @@ front_byte [] ys i below = absurd (omega (arith, below))
 front_byte (x ∷ xs) ys zero below = refl
 front_byte (x ∷ xs) ys (suc i) below = front_byte xs ys i (omega (arith, below))
 
-offset : (n : ℕ) (s : Span) (place : ℕ) → reaches n s place ≡ true → (s.start + (place - s.start) ≡ place) × (place - s.start < within n s)
+offset : (n : ℕ) (s : Span) (place : ℕ) → reaches n s place ≡ true → (s.start + (place - s.start) ≡ place) × (place - s.start < length_within n s)
 offset n s place is = (grind (arith, nat_tests), grind (arith, nat_tests))
 
 byte_some : (bytes : List ℕ) (i b : ℕ) → byte_of bytes i ≡ Some b → get_or bytes i 0 ≡ b
@@ -69,16 +69,16 @@ byte_some bytes i b is = by_test (leb (suc i) (length bytes)) is where
 
 -- an input that has the parts has each byte that is known
 pub has_known : (d : List ℕ) (spans : List Span) (bytes : List ℕ) (place b : ℕ) → bytes_of d spans ≡ bytes
-    → known (length d) spans bytes place ≡ Some b → slice_index d place ≡ b
+    → byte_in_parts (length d) spans bytes place ≡ Some b → slice_index d place ≡ b
 has_known d [] bytes place b parts is = absurd cc
-has_known d (s ∷ spans) bytes place b parts is = by_test (reaches (length d) s place) refl (has_known d spans (drop (within (length d) s) bytes) place b) is where
+has_known d (s ∷ spans) bytes place b parts is = by_test (reaches (length d) s place) refl (has_known d spans (drop (length_within (length d) s) bytes) place b) is where
   first : List ℕ
   first = part d s.start s.len
 
   by_test : (test : Bool) → reaches (length d) s place ≡ test
-      → (bytes_of d spans ≡ drop (within (length d) s) bytes → known (length d) spans (drop (within (length d) s) bytes) place ≡ Some b
+      → (bytes_of d spans ≡ drop (length_within (length d) s) bytes → byte_in_parts (length d) spans (drop (length_within (length d) s) bytes) place ≡ Some b
       → slice_index d place ≡ b)
-      → cond test (byte_of bytes (place - s.start)) (known (length d) spans (drop (within (length d) s) bytes) place) ≡ Some b
+      → cond test (byte_of bytes (place - s.start)) (byte_in_parts (length d) spans (drop (length_within (length d) s) bytes) place) ≡ Some b
       → slice_index d place ≡ b
   by_test true has later is =
       let at = offset (length d) s place has in
@@ -88,17 +88,17 @@ has_known d (s ∷ spans) bytes place b parts is = by_test (reaches (length d) s
       ∙ sym (front_byte first (bytes_of d spans) (place - s.start) below)
       ∙ ap (λ bs. get_or bs (place - s.start) 0) parts ∙ byte_some bytes (place - s.start) b is
   by_test false has later is =
-      let rest : bytes_of d spans ≡ drop (within (length d) s) bytes =
+      let rest : bytes_of d spans ≡ drop (length_within (length d) s) bytes =
       sym (drop-append_seam first (bytes_of d spans)) ∙ ap (λ k. drop k (first ++ bytes_of d spans)) (part_length d s.start s.len)
-      ∙ ap (drop (within (length d) s)) parts in
+      ∙ ap (drop (length_within (length d) s)) parts in
       later rest is
 
 -- and each place of its parts is known
 pub covered_known : (d : List ℕ) (spans : List Span) (bytes : List ℕ) (place : ℕ) → bytes_of d spans ≡ bytes → place < length d
-    → is_covered spans place ≡ true → is_some (known (length d) spans bytes place) ≡ true
+    → is_covered spans place ≡ true → is_some (byte_in_parts (length d) spans bytes place) ≡ true
 covered_known d [] bytes place parts below is = absurd cc
 covered_known d (s ∷ spans) bytes place parts below is = by_test (reaches (length d) s place) refl
-    (λ rest. covered_known d spans (drop (within (length d) s) bytes) place rest below) where
+    (λ rest. covered_known d spans (drop (length_within (length d) s) bytes) place rest below) where
       first : List ℕ
       first = part d s.start s.len
 
@@ -110,9 +110,9 @@ covered_known d (s ∷ spans) bytes place parts below is = by_test (reaches (len
       later false has misses is = is
 
       by_test : (test : Bool) → reaches (length d) s place ≡ test
-          → (bytes_of d spans ≡ drop (within (length d) s) bytes → is_covered spans place ≡ true
-          → is_some (known (length d) spans (drop (within (length d) s) bytes) place) ≡ true)
-          → is_some (cond test (byte_of bytes (place - s.start)) (known (length d) spans (drop (within (length d) s) bytes) place)) ≡ true
+          → (bytes_of d spans ≡ drop (length_within (length d) s) bytes → is_covered spans place ≡ true
+          → is_some (byte_in_parts (length d) spans (drop (length_within (length d) s) bytes) place) ≡ true)
+          → is_some (cond test (byte_of bytes (place - s.start)) (byte_in_parts (length d) spans (drop (length_within (length d) s) bytes) place)) ≡ true
       by_test true has on =
           let at = offset (length d) s place has in
           let long : length bytes ≡ length first + length (bytes_of d spans) = ap length (sym parts) ∙ length-append first (bytes_of d spans) in
@@ -120,9 +120,9 @@ covered_known d (s ∷ spans) bytes place parts below is = by_test (reaches (len
           (let below : place - s.start < length bytes = omega (arith, at.1, long, part_length d s.start s.len) in grind (arith, nat_tests)) in
           ap (λ (test : Bool). is_some (cond test (Some (get_or bytes (place - s.start) 0)) None)) there
       by_test false has on =
-          let rest : bytes_of d spans ≡ drop (within (length d) s) bytes =
+          let rest : bytes_of d spans ≡ drop (length_within (length d) s) bytes =
           sym (drop-append_seam first (bytes_of d spans)) ∙ ap (λ k. drop k (first ++ bytes_of d spans)) (part_length d s.start s.len)
-          ∙ ap (drop (within (length d) s)) parts in
+          ∙ ap (drop (length_within (length d) s)) parts in
           on rest
           (later (has_place s place) refl (not_first has) is)
 
@@ -132,28 +132,28 @@ some_of (Some b) is = (b, refl)
 
 -- an input that has the parts agrees with the filled one where the parts have it
 pub known_same : (d : List ℕ) (n : ℕ) (spans : List Span) (bytes : List ℕ) (place : ℕ) → HasParts d n spans bytes
-    → is_some (known n spans bytes place) ≡ true → slice_index d place ≡ slice_index (filled n spans bytes) place
+    → is_some (byte_in_parts n spans bytes place) ≡ true → slice_index d place ≡ slice_index (filled_input n spans bytes) place
 known_same d n spans bytes place has is =
-    let b = some_of (known n spans bytes place) is in
-    has_known d spans bytes place b.0 has.bytes (ap (λ m. known m spans bytes place) has.as_long ∙ b.1)
+    let b = some_of (byte_in_parts n spans bytes place) is in
+    has_known d spans bytes place b.0 has.bytes (ap (λ m. byte_in_parts m spans bytes place) has.as_long ∙ b.1)
     ∙ sym (filled_at n spans bytes place (known_below n spans bytes place is) ∙ ap (λ o. unwrap_or o 0) b.1)
 
 pub known_agrees : (d : List ℕ) (n : ℕ) (spans : List Span) (bytes : List ℕ) (marks : List Span) → HasParts d n spans bytes
-    → AllKnown n spans bytes marks → Agrees (filled n spans bytes) d marks
+    → AllKnown n spans bytes marks → Agrees (filled_input n spans bytes) d marks
 known_agrees d n spans bytes marks has all = record {
-  as_long = has.as_long ∙ sym (length-filled n spans bytes);
+  as_long = has.as_long ∙ sym (length-filled_input n spans bytes);
   same_byte = λ place here. known_same d n spans bytes place has (all place here);
 }
 
 -- no part has a place that is not known
 pub unknown_free : (d : List ℕ) (n : ℕ) (spans : List Span) (bytes : List ℕ) (place : ℕ) → HasParts d n spans bytes → place < n
-    → is_some (known n spans bytes place) ≡ false → is_covered spans place ≡ false
+    → is_some (byte_in_parts n spans bytes place) ≡ false → is_covered spans place ≡ false
 unknown_free d n spans bytes place has below none = by_test (is_covered spans place) refl where
   by_test : (test : Bool) → is_covered spans place ≡ test → test ≡ false
   by_test false is = refl
   by_test true is =
       let some = covered_known d spans bytes place has.bytes (omega (arith, below, has.as_long)) is in
-      let no : is_some (known n spans bytes place) ≡ true = ap (λ m. is_some (known m spans bytes place)) (sym has.as_long) ∙ some in
+      let no : is_some (byte_in_parts n spans bytes place) ≡ true = ap (λ m. is_some (byte_in_parts m spans bytes place)) (sym has.as_long) ∙ some in
       absurd (let both : false ≡ true = sym none ∙ no in cc)
 
 -- ---- readings
@@ -169,7 +169,7 @@ past-parts n spans bytes log missed (s ∷ more) = past-parts n spans bytes (log
 pub parts_sound : (n : ℕ) (spans : List Span) (bytes : List ℕ) (log : List Span) (missed : Option Missing)
     → IsSound (parts_state n spans bytes log missed)
 parts_sound n spans bytes log missed = λ honest.
-    let long = length-filled n spans bytes in (sym long, grind (arith, nat_tests))
+    let long = length-filled_input n spans bytes in (sym long, grind (arith, nat_tests))
 
 -- all bytes of a part, where these are so many
 part_whole : (d : List ℕ) (place k m : ℕ) → m ≡ min k (length d - place) → part d place k ≡ part d place m
@@ -256,22 +256,22 @@ module _ (n : ℕ) (spans : List Span) (bytes : List ℕ) (log : List Span) (mis
       })
 
   -- how long a reading of k bytes is
-  wanted_is : (place k wanted : ℕ) → wanted ≡ min k (n - place) → wanted ≡ min k (length (filled n spans bytes) - place)
-  wanted_is place k wanted is = is ∙ ap (λ m. min k (m - place)) (sym (length-filled n spans bytes))
+  wanted_is : (place k wanted : ℕ) → wanted ≡ min k (n - place) → wanted ≡ min k (length (filled_input n spans bytes) - place)
+  wanted_is place k wanted is = is ∙ ap (λ m. min k (m - place)) (sym (length-filled_input n spans bytes))
 
-  span_is : (place k wanted : ℕ) → wanted ≡ min k (n - place) → span_of (filled n spans bytes) place k ≡ span_at place wanted
+  span_is : (place k wanted : ℕ) → wanted ≡ min k (n - place) → span_of (filled_input n spans bytes) place k ≡ span_at place wanted
   unfolding span_of
   span_is place k wanted is = ap (span_at place) (sym (wanted_is place k wanted is))
 
   pub parts_read : (b : State) (room : List ℕ) (place wanted found : ℕ) → wanted ≡ min (length room) (n - place) → found ≤ wanted
-      → wanted ≤ found → take found room ≡ part (filled n spans bytes) place found
+      → wanted ≤ found → take found room ≡ part (filled_input n spans bytes) place found
       → b ≡ parts_state n spans bytes (log ++ span_at place found) missed
-      → Runs (parts_state n spans bytes log missed) b (Ok (take found room)) (part_read (filled n spans bytes) place (length room))
+      → Runs (parts_state n spans bytes log missed) b (Ok (take found room)) (part_read (filled_input n spans bytes) place (length room))
   parts_read b room place wanted found long fits all copied after =
       let same : found ≡ wanted = omega (arith, fits, all) in
-      answers (part_read (filled n spans bytes) place (length room)) b (take found room)
+      answers (part_read (filled_input n spans bytes) place (length room)) b (take found room)
       (after ∙ ap (λ s. parts_state n spans bytes (log ++ s) missed) (sym (span_is place (length room) found (same ∙ long))))
-      (ap Ok (part_whole (filled n spans bytes) place (length room) found (wanted_is place (length room) found (same ∙ long)) ∙ sym copied))
+      (ap Ok (part_whole (filled_input n spans bytes) place (length room) found (wanted_is place (length room) found (same ∙ long)) ∙ sym copied))
 
   -- what was found is what lies before the missing byte
   found_before : (place found : ℕ) (w : Missing) → w.start ≡ place + found → found ≡ w.start - place
@@ -279,45 +279,45 @@ module _ (n : ℕ) (spans : List Span) (bytes : List ℕ) (log : List Span) (mis
 
   pub parts_missing : (b : State) (f : Error) (k place wanted found : ℕ) (w : Missing) → wanted ≡ min k (n - place) → found < wanted
       → w.start ≡ place + found → w.sure ≡ wanted - found → b ≡ parts_state n spans bytes (log ++ span_at place found) (Some w)
-      → Runs {X = List ℕ} (parts_state n spans bytes log missed) b (Err (IoError (Fault f))) (part_read (filled n spans bytes) place k)
+      → Runs {X = List ℕ} (parts_state n spans bytes log missed) b (Err (IoError (Fault f))) (part_read (filled_input n spans bytes) place k)
   parts_missing b f k place wanted found w long short at sure after =
-      fails (part_read (filled n spans bytes) place k) b f w place wanted
+      fails (part_read (filled_input n spans bytes) place k) b f w place wanted
       (after ∙ ap (λ i. parts_state n spans bytes (log ++ span_at place i) (Some w)) (found_before place found w at))
       (span_is place k wanted long) (omega (arith, short)) (omega (arith, at)) (omega (arith, at, sure, short))
 
   -- the text that a reading has, by its bytes so far
   whole_text : (place k wanted found : ℕ) → wanted ≡ min k (n - place) → found ≤ wanted
-      → part (filled n spans bytes) place k ≡ part (filled n spans bytes) place found
-      ++ drop found (part (filled n spans bytes) place wanted)
+      → part (filled_input n spans bytes) place k ≡ part (filled_input n spans bytes) place found
+      ++ drop found (part (filled_input n spans bytes) place wanted)
   whole_text place k wanted found long fits =
-      part_whole (filled n spans bytes) place k wanted (wanted_is place k wanted long)
-      ∙ sym (take-append-drop found (part (filled n spans bytes) place wanted))
-      ∙ ap (λ bs. bs ++ drop found (part (filled n spans bytes) place wanted)) (part_front (filled n spans bytes) place found wanted fits)
+      part_whole (filled_input n spans bytes) place k wanted (wanted_is place k wanted long)
+      ∙ sym (take-append-drop found (part (filled_input n spans bytes) place wanted))
+      ∙ ap (λ bs. bs ++ drop found (part (filled_input n spans bytes) place wanted)) (part_front (filled_input n spans bytes) place found wanted fits)
 
-  part_long : (place k wanted : ℕ) → wanted ≡ min k (n - place) → length (part (filled n spans bytes) place wanted) ≡ wanted
-  part_long place k wanted long = part_length (filled n spans bytes) place wanted ∙ omega (arith, long, length-filled n spans bytes)
+  part_long : (place k wanted : ℕ) → wanted ≡ min k (n - place) → length (part (filled_input n spans bytes) place wanted) ≡ wanted
+  part_long place k wanted long = part_length (filled_input n spans bytes) place wanted ∙ omega (arith, long, length-filled_input n spans bytes)
 
   text_is : (t : Text) (place k wanted found : ℕ) → wanted ≡ min k (n - place) → found ≤ wanted
-      → leb (suc found) wanted && not (is_ended t (part (filled n spans bytes) place found)) ≡ false
-      → text_part (filled n spans bytes) t place k ≡ text_front t (part (filled n spans bytes) place found)
+      → leb (suc found) wanted && not (is_ended t (part (filled_input n spans bytes) place found)) ≡ false
+      → text_part (filled_input n spans bytes) t place k ≡ text_front t (part (filled_input n spans bytes) place found)
   unfolding text_part
-  text_is t place k wanted found long fits uncut = by_end (is_ended t (part (filled n spans bytes) place found)) refl where
-    by_end : (is : Bool) → is_ended t (part (filled n spans bytes) place found) ≡ is
-        → text_front t (part (filled n spans bytes) place k) ≡ text_front t (part (filled n spans bytes) place found)
+  text_is t place k wanted found long fits uncut = by_end (is_ended t (part (filled_input n spans bytes) place found)) refl where
+    by_end : (is : Bool) → is_ended t (part (filled_input n spans bytes) place found) ≡ is
+        → text_front t (part (filled_input n spans bytes) place k) ≡ text_front t (part (filled_input n spans bytes) place found)
     by_end true is = ap (text_front t) (whole_text place k wanted found long fits)
-        ∙ front_more t (part (filled n spans bytes) place found) (drop found (part (filled n spans bytes) place wanted)) is
+        ∙ front_more t (part (filled_input n spans bytes) place found) (drop found (part (filled_input n spans bytes) place wanted)) is
     by_end false is =
         let test : leb (suc found) wanted && true ≡ false = ap (λ b. leb (suc found) wanted && not b) (sym is) ∙ uncut in
         let all : found ≡ wanted = grind (arith, nat_tests) in
-        ap (text_front t) (part_whole (filled n spans bytes) place k found (all ∙ wanted_is place k wanted long))
+        ap (text_front t) (part_whole (filled_input n spans bytes) place k found (all ∙ wanted_is place k wanted long))
 
   pub parts_text : (b : State) (t : Text) (room : List ℕ) (place wanted found count : ℕ) → wanted ≡ min (length room) (n - place)
-      → found ≤ wanted → take found room ≡ part (filled n spans bytes) place found
+      → found ≤ wanted → take found room ≡ part (filled_input n spans bytes) place found
       → leb (suc found) wanted && not (is_ended t (take found room)) ≡ false → count ≡ length (text_front t (take found room))
       → b ≡ parts_state n spans bytes (log ++ span_at place count) missed
-      → Runs (parts_state n spans bytes log missed) b (Ok (take count room)) (text_read (filled n spans bytes) t place (length room))
+      → Runs (parts_state n spans bytes log missed) b (Ok (take count room)) (text_read (filled_input n spans bytes) t place (length room))
   parts_text b t room place wanted found count long fits copied uncut counts after =
-      let d : List ℕ = filled n spans bytes in
+      let d : List ℕ = filled_input n spans bytes in
       let is : text_part d t place (length room) ≡ text_front t (take found room) =
       text_is t place (length room) wanted found long fits (ap (λ bs. leb (suc found) wanted && not (is_ended t bs)) (sym copied) ∙ uncut)
       ∙ ap (text_front t) (sym copied) in
@@ -329,17 +329,17 @@ module _ (n : ℕ) (spans : List Span) (bytes : List ℕ) (log : List Span) (mis
       (ap Ok (is ∙ sym got))
 
   pub parts_text_missing : (b : State) (f : Error) (t : Text) (room : List ℕ) (place k wanted found : ℕ) (w : Missing)
-      → wanted ≡ min k (n - place) → found ≤ wanted → take found room ≡ part (filled n spans bytes) place found
+      → wanted ≡ min k (n - place) → found ≤ wanted → take found room ≡ part (filled_input n spans bytes) place found
       → leb (suc found) wanted && not (is_ended t (take found room)) ≡ true → w.start ≡ place + found
       → w.sure ≡ 1 → b ≡ parts_state n spans bytes (log ++ span_at place found) (Some w)
-      → Runs {X = List ℕ} (parts_state n spans bytes log missed) b (Err (IoError (Fault f))) (text_read (filled n spans bytes) t place k)
+      → Runs {X = List ℕ} (parts_state n spans bytes log missed) b (Err (IoError (Fault f))) (text_read (filled_input n spans bytes) t place k)
   unfolding text_part
   parts_text_missing b f t room place k wanted found w long fits copied cut at sure after =
-      let d : List ℕ = filled n spans bytes in
+      let d : List ℕ = filled_input n spans bytes in
       let bs : List ℕ = part d place found in
       let short : found < wanted = cut_short (is_ended t (take found room)) cut in
       let still : is_ended t bs ≡ false = ap (is_ended t) (sym copied) ∙ cut_open (leb (suc found) wanted) (is_ended t (take found room)) cut in
-      let long_bs : length bs ≡ found = part_length d place found ∙ omega (arith, long, short, length-filled n spans bytes) in
+      let long_bs : length bs ≡ found = part_length d place found ∙ omega (arith, long, short, length-filled_input n spans bytes) in
       let more : 0 < length (drop found (part d place wanted)) =
       omega (arith, length-drop found (part d place wanted), part_long place k wanted long, short) in
       let behind : found < length (text_front t (part d place k)) =
@@ -392,22 +392,22 @@ unfolding part
 part_more d place i n = take-add i n (drop place d) ∙ ap (λ xs. take i (drop place d) ++ take n xs) (drop-drop i place d)
 
 -- the byte at a place of the filled input, where it is known
-known_byte : (n : ℕ) (spans : List Span) (bytes : List ℕ) (place b : ℕ) → known n spans bytes place ≡ Some b
-    → slice_index (filled n spans bytes) place ≡ b
+known_byte : (n : ℕ) (spans : List Span) (bytes : List ℕ) (place b : ℕ) → byte_in_parts n spans bytes place ≡ Some b
+    → slice_index (filled_input n spans bytes) place ≡ b
 known_byte n spans bytes place b is =
     filled_at n spans bytes place (known_below n spans bytes place (ap is_some is)) ∙ ap (λ o. unwrap_or o 0) is
 
 -- known bytes are a part of the filled input
 run_part : (n : ℕ) (spans : List Span) (bytes run : List ℕ) (place count : ℕ) → count ≤ length run → place + count ≤ n
-    → ((i : ℕ) → i < length run → known n spans bytes (place + i) ≡ Some (get_or run i 0))
-    → take count run ≡ part (filled n spans bytes) place count
+    → ((i : ℕ) → i < length run → byte_in_parts n spans bytes (place + i) ≡ Some (get_or run i 0))
+    → take count run ≡ part (filled_input n spans bytes) place count
 run_part n spans bytes run place count few fits is =
-    ext_get_or 0 (take count run) (part (filled n spans bytes) place count)
-    (length-take count run ∙ omega (arith, few, fits, part_length (filled n spans bytes) place count, length-filled n spans bytes))
+    ext_get_or 0 (take count run) (part (filled_input n spans bytes) place count)
+    (length-take count run ∙ omega (arith, few, fits, part_length (filled_input n spans bytes) place count, length-filled_input n spans bytes))
     (λ i below.
     let small : i < count = omega (arith, below, length-take count run) in
     get_or-take count run i 0 small ∙ sym (known_byte n spans bytes (place + i) (get_or run i 0) (is i (omega (arith, small, few))))
-    ∙ sym (part-at (filled n spans bytes) place count i small))
+    ∙ sym (part-at (filled_input n spans bytes) place count i small))
 
 -- the front of a room behind which a run was put
 put_front : (run room : List ℕ) (index count : ℕ) → index ≤ length room → count ≤ length run
@@ -419,32 +419,32 @@ put_front run room index count within few =
     ∙ take-append_seam (take index room ++ take count run) (drop (index + count) room)
 
 pub gathered_run : (n : ℕ) (spans : List Span) (bytes run room new : List ℕ) (place index count : ℕ)
-    → take index room ≡ part (filled n spans bytes) place index → index ≤ length room → count ≤ length run → place + index + count ≤ n
+    → take index room ≡ part (filled_input n spans bytes) place index → index ≤ length room → count ≤ length run → place + index + count ≤ n
     → new ≡ take index room ++ take count run ++ drop (index + count) room
-    → ((i : ℕ) → i < length run → known n spans bytes (place + index + i) ≡ Some (get_or run i 0))
-    → take (index + count) new ≡ part (filled n spans bytes) place (index + count)
+    → ((i : ℕ) → i < length run → byte_in_parts n spans bytes (place + index + i) ≡ Some (get_or run i 0))
+    → take (index + count) new ≡ part (filled_input n spans bytes) place (index + count)
 gathered_run n spans bytes run room new place index count so_far within few fits is_new is =
     ap (take (index + count)) is_new ∙ put_front run room index count within few ∙ ap (λ xs. xs ++ take count run) so_far
-    ∙ ap (λ xs. part (filled n spans bytes) place index ++ xs) (run_part n spans bytes run (place + index) count few fits is)
-    ∙ sym (part_more (filled n spans bytes) place index count)
+    ∙ ap (λ xs. part (filled_input n spans bytes) place index ++ xs) (run_part n spans bytes run (place + index) count few fits is)
+    ∙ sym (part_more (filled_input n spans bytes) place index count)
 
 pub known_run : (n : ℕ) (spans : List Span) (bytes run : List ℕ) (place index count : ℕ)
-    → ((i : ℕ) → i < index → is_some (known n spans bytes (place + i)) ≡ true) → count ≤ length run
-    → ((i : ℕ) → i < length run → known n spans bytes (place + index + i) ≡ Some (get_or run i 0))
-    → (i : ℕ) → i < index + count → is_some (known n spans bytes (place + i)) ≡ true
+    → ((i : ℕ) → i < index → is_some (byte_in_parts n spans bytes (place + i)) ≡ true) → count ≤ length run
+    → ((i : ℕ) → i < length run → byte_in_parts n spans bytes (place + index + i) ≡ Some (get_or run i 0))
+    → (i : ℕ) → i < index + count → is_some (byte_in_parts n spans bytes (place + i)) ≡ true
 known_run n spans bytes run place index count so_far few is i below = elim (cases_lt i index) [
   | inl less ↦ so_far i less
   | inr more ↦ (
       let same : place + index + (i - index) ≡ place + i = omega (arith, more) in
       let one = is (i - index) (omega (arith, below, more, few)) in
-      ap (λ p. is_some (known n spans bytes p)) (sym same) ∙ ap is_some one
+      ap (λ p. is_some (byte_in_parts n spans bytes p)) (sym same) ∙ ap is_some one
       )
 ]
 
 -- ---- what stands in the front alone, whose bytes are those from place 0 on
 
 module _ (n : ℕ) (spans : List Span) (bytes front : List ℕ)
-    (is : (i : ℕ) → i < length front → known n spans bytes i ≡ Some (get_or front i 0)) where
+    (is : (i : ℕ) → i < length front → byte_in_parts n spans bytes i ≡ Some (get_or front i 0)) where
   front_long : length front ≤ n
   front_long = by_length (length front) refl where
     by_length : (k : ℕ) → length front ≡ k → length front ≤ n
@@ -455,12 +455,12 @@ module _ (n : ℕ) (spans : List Span) (bytes front : List ℕ)
   pub front_fits : (place count : ℕ) → place + count ≤ length front → count ≡ min count (n - place)
   front_fits place count fits = omega (arith, fits, front_long)
 
-  pub front_seen : (place count : ℕ) → place + count ≤ length front → (i : ℕ) → i < count → is_some (known n spans bytes (place + i)) ≡ true
+  pub front_seen : (place count : ℕ) → place + count ≤ length front → (i : ℕ) → i < count → is_some (byte_in_parts n spans bytes (place + i)) ≡ true
   front_seen place count fits i below = ap is_some (is (place + i) (omega (arith, fits, below)))
 
   -- and is a part of the filled input
   pub front_part : (found : List ℕ) (place count : ℕ) → place + count ≤ length front → found ≡ part front place count → length found ≡ count
-      → take count found ≡ part (filled n spans bytes) place count
+      → take count found ≡ part (filled_input n spans bytes) place count
   front_part found place count fits at long =
       run_part n spans bytes found place count (omega (arith, long)) (omega (arith, fits, front_long))
       (λ i below. is (place + i) (omega (arith, fits, below, long))
@@ -470,27 +470,27 @@ module _ (n : ℕ) (spans : List Span) (bytes front : List ℕ)
 
 -- what is known from one part on
 known_turn : (n : ℕ) (spans : List Span) (k : ℕ) (other : Span) (rest : List ℕ) (place : ℕ) → k < length spans
-    → known n (drop k spans) rest place ≡ known n (get_or spans k other ∷ drop (k + 1) spans) rest place
+    → byte_in_parts n (drop k spans) rest place ≡ byte_in_parts n (get_or spans k other ∷ drop (k + 1) spans) rest place
 known_turn n spans k other rest place within =
     let next : suc k ≡ k + 1 = omega arith in
-    ap (λ ss. known n ss rest place) (drop-cons spans k other within) ∙ ap (λ j. known n (get_or spans k other ∷ drop j spans) rest place) next
+    ap (λ ss. byte_in_parts n ss rest place) (drop-cons spans k other within) ∙ ap (λ j. byte_in_parts n (get_or spans k other ∷ drop j spans) rest place) next
 
 -- a part that has not the place is left behind
 known_later : (n : ℕ) (spans : List Span) (k : ℕ) (other : Span) (rest : List ℕ) (place : ℕ) → k < length spans
     → reaches n (get_or spans k other) place ≡ false
-    → known n (drop k spans) rest place ≡ known n (drop (k + 1) spans) (drop (within n (get_or spans k other)) rest) place
+    → byte_in_parts n (drop k spans) rest place ≡ byte_in_parts n (drop (k + 1) spans) (drop (length_within n (get_or spans k other)) rest) place
 known_later n spans k other rest place here misses =
     known_turn n spans k other rest place here
     ∙ ap (λ (b : Bool). cond b (byte_of rest (place - (get_or spans k other).start))
-    (known n (drop (k + 1) spans) (drop (within n (get_or spans k other)) rest) place)) misses
+    (byte_in_parts n (drop (k + 1) spans) (drop (length_within n (get_or spans k other)) rest) place)) misses
 
 -- and one that has it gives its byte
 known_here : (n : ℕ) (spans : List Span) (k : ℕ) (other : Span) (rest : List ℕ) (place : ℕ) → k < length spans
-    → reaches n (get_or spans k other) place ≡ true → known n (drop k spans) rest place ≡ byte_of rest (place - (get_or spans k other).start)
+    → reaches n (get_or spans k other) place ≡ true → byte_in_parts n (drop k spans) rest place ≡ byte_of rest (place - (get_or spans k other).start)
 known_here n spans k other rest place here has =
     known_turn n spans k other rest place here
     ∙ ap (λ (b : Bool). cond b (byte_of rest (place - (get_or spans k other).start))
-    (known n (drop (k + 1) spans) (drop (within n (get_or spans k other)) rest) place)) has
+    (byte_in_parts n (drop (k + 1) spans) (drop (length_within n (get_or spans k other)) rest) place)) has
 
 -- the bytes of a part of some bytes
 pub front_known : (rest : List ℕ) (offset most i : ℕ) → i < length (part rest offset most)
@@ -511,7 +511,7 @@ front_none rest offset most some none =
 -- the parts before one have none of so many places from one on
 abbrev pub NoneBefore : ℕ → List Span → ℕ → List ℕ → List ℕ → ℕ → ℕ → Type 0
 NoneBefore n spans k bytes rest place most =
-    (0 < most) × ((i : ℕ) → i < most → known n spans bytes (place + i) ≡ known n (drop k spans) rest (place + i))
+    (0 < most) × ((i : ℕ) → i < most → byte_in_parts n spans bytes (place + i) ≡ byte_in_parts n (drop k spans) rest (place + i))
 
 -- a place that a part has not, and those behind it up to where the part begins
 misses_more : (start len place most left i : ℕ) → (leb start place && leb (suc (place - start)) len) ≡ false
@@ -535,7 +535,7 @@ left_some place start most left is some = by_test (leb (suc place) start) refl i
   by_test false late few = omega (arith, few, some)
 
 pub none_more : (n : ℕ) (spans : List Span) (k : ℕ) (other : Span) (bytes rest after : List ℕ) (place most left len : ℕ) → k < length spans
-    → NoneBefore n spans k bytes rest place most → len ≡ within n (get_or spans k other)
+    → NoneBefore n spans k bytes rest place most → len ≡ length_within n (get_or spans k other)
     → (leb (get_or spans k other).start place && leb (suc (place - (get_or spans k other).start)) len) ≡ false
     → left ≡ cond (leb (suc place) (get_or spans k other).start) (min most ((get_or spans k other).start - place)) most
     → after ≡ drop len rest → NoneBefore n spans (k + 1) bytes after place left
@@ -546,14 +546,14 @@ none_more n spans k other bytes rest after place most left len here so_far is_le
       let no : reaches n (get_or spans k other) (place + i) ≡ false =
       ap (λ l. leb (get_or spans k other).start (place + i) && leb (suc (place + i - (get_or spans k other).start)) l) (sym is_len) ∙ more.0 in
       so_far.1 i more.1 ∙ known_later n spans k other rest (place + i) here no
-      ∙ ap (λ bs. known n (drop (k + 1) spans) bs (place + i)) (ap (λ l. drop l rest) (sym is_len) ∙ sym is_after),
+      ∙ ap (λ bs. byte_in_parts n (drop (k + 1) spans) bs (place + i)) (ap (λ l. drop l rest) (sym is_len) ∙ sym is_after),
 )
 
 module _ (n : ℕ) (spans : List Span) (k : ℕ) (other : Span) (bytes rest run : List ℕ) (place most len : ℕ) (here : k < length spans)
-    (so_far : NoneBefore n spans k bytes rest place most) (is_len : len ≡ within n (get_or spans k other))
+    (so_far : NoneBefore n spans k bytes rest place most) (is_len : len ≡ length_within n (get_or spans k other))
     (has : (leb (get_or spans k other).start place && leb (suc (place - (get_or spans k other).start)) len) ≡ true)
     (runs : run ≡ part rest (place - (get_or spans k other).start) (min most (len - (place - (get_or spans k other).start)))) where
-  pub found_run : (i : ℕ) → i < length run → known n spans bytes (place + i) ≡ Some (get_or run i 0)
+  pub found_run : (i : ℕ) → i < length run → byte_in_parts n spans bytes (place + i) ≡ Some (get_or run i 0)
   found_run i below =
       let start : ℕ = (get_or spans k other).start in
       let m : ℕ = min most (len - (place - start)) in
@@ -568,7 +568,7 @@ module _ (n : ℕ) (spans : List Span) (k : ℕ) (other : Span) (bytes rest run 
       so_far.1 i (omega (arith, small)) ∙ known_here n spans k other rest (place + i) here yes ∙ ap (byte_of rest) same
       ∙ front_known rest (place - start) m i within_run ∙ ap (λ r. Some (get_or r i 0)) (sym runs)
 
-  pub found_none : length run ≡ 0 → is_some (known n spans bytes place) ≡ false
+  pub found_none : length run ≡ 0 → is_some (byte_in_parts n spans bytes place) ≡ false
   found_none none =
       let start : ℕ = (get_or spans k other).start in
       let m : ℕ = min most (len - (place - start)) in
@@ -576,17 +576,17 @@ module _ (n : ℕ) (spans : List Span) (k : ℕ) (other : Span) (bytes rest run 
       let fits : place - start < len = grind (arith, nat_tests) in
       let yes : reaches n (get_or spans k other) place ≡ true = ap (λ l. leb start place && leb (suc (place - start)) l) (sym is_len) ∙ has in
       let at : place + 0 ≡ place = omega arith in
-      let first = subst (λ p. known n spans bytes p ≡ known n (drop k spans) rest p) at (so_far.1 0 so_far.0) in
+      let first = subst (λ p. byte_in_parts n spans bytes p ≡ byte_in_parts n (drop k spans) rest p) at (so_far.1 0 so_far.0) in
       let some : 0 < m = omega (arith, so_far.0, fits) in
       ap is_some (first ∙ known_here n spans k other rest place here yes)
       ∙ front_none rest (place - start) m some (ap length (sym runs) ∙ none)
 
 pub none_at_all : (n : ℕ) (spans : List Span) (k : ℕ) (bytes rest : List ℕ) (place most : ℕ) → length spans ≤ k
-    → NoneBefore n spans k bytes rest place most → is_some (known n spans bytes place) ≡ false
+    → NoneBefore n spans k bytes rest place most → is_some (byte_in_parts n spans bytes place) ≡ false
 none_at_all n spans k bytes rest place most far so_far =
     let at : place + 0 ≡ place = omega arith in
-    let first = subst (λ p. known n spans bytes p ≡ known n (drop k spans) rest p) at (so_far.1 0 so_far.0) in
-    ap is_some (first ∙ ap (λ ss. known n ss rest place) (drop_all k spans far))
+    let first = subst (λ p. byte_in_parts n spans bytes p ≡ byte_in_parts n (drop k spans) rest p) at (so_far.1 0 so_far.0) in
+    ap is_some (first ∙ ap (λ ss. byte_in_parts n ss rest place) (drop_all k spans far))
 
 -- what stands behind so many bytes, by the slice that the code takes
 pub slice_behind : (bs : List ℕ) (k : ℕ) → take (length bs - min k (length bs)) (drop (min k (length bs)) bs) ≡ drop k bs
@@ -600,16 +600,16 @@ slice_behind bs k = take_all (length bs - min k (length bs)) (drop (min k (lengt
 -- ---- the places that are known
 
 pub span_known : (n : ℕ) (spans : List Span) (bytes : List ℕ) (start count : ℕ) (s : Span)
-    → ((i : ℕ) → i < count → is_some (known n spans bytes (start + i)) ≡ true) → s.start ≡ start → s.len ≡ count
-    → (place : ℕ) → has_place s place ≡ true → is_some (known n spans bytes place) ≡ true
+    → ((i : ℕ) → i < count → is_some (byte_in_parts n spans bytes (start + i)) ≡ true) → s.start ≡ start → s.len ≡ count
+    → (place : ℕ) → has_place s place ≡ true → is_some (byte_in_parts n spans bytes place) ≡ true
 span_known n spans bytes start count s so at long place has =
     let above : s.start ≤ place = grind (arith, nat_tests) in
     let below : place < s.start + s.len = grind (arith, nat_tests) in
     let same : start + (place - start) ≡ place = omega (arith, above, at) in
-    subst (λ p. is_some (known n spans bytes p) ≡ true) same (so (place - start) (omega (arith, above, below, at, long)))
+    subst (λ p. is_some (byte_in_parts n spans bytes p) ≡ true) same (so (place - start) (omega (arith, above, below, at, long)))
 
 pub pushed_known : (n : ℕ) (spans : List Span) (bytes : List ℕ) (log more : List Span) (s : Span) → AllKnown n spans bytes log
-    → ((place : ℕ) → has_place s place ≡ true → is_some (known n spans bytes place) ≡ true) → more ≡ log ++ s ∷ [] → AllKnown n spans bytes more
+    → ((place : ℕ) → has_place s place ≡ true → is_some (byte_in_parts n spans bytes place) ≡ true) → more ≡ log ++ s ∷ [] → AllKnown n spans bytes more
 pushed_known n spans bytes log more s all also is place here = by_part (is_covered log place) refl (has_place s place) refl where
   split : (xs : List Span) → is_covered (xs ++ s ∷ []) place ≡ is_covered xs place || (has_place s place || false)
   split [] = refl
@@ -618,7 +618,7 @@ pushed_known n spans bytes log more s all also is place here = by_part (is_cover
       elim (has_place x place) as Goal [ true ↦ refl | false ↦ split xs ]
 
   by_part : (first : Bool) → is_covered log place ≡ first → (last : Bool) → has_place s place ≡ last
-      → is_some (known n spans bytes place) ≡ true
+      → is_some (byte_in_parts n spans bytes place) ≡ true
   by_part true is_first last is_last = all place is_first
   by_part false is_first true is_last = also place is_last
   by_part false is_first false is_last =

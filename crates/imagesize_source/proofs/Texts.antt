@@ -7,65 +7,65 @@ use Rattle.std.specs.Char.{is_ascii_whitespace}
 use Rattle.std.specs.List.{list_any, position, position_or_len}
 use Rattle.imagesize_source.specs.declared.text.Text.{Text}
 use Rattle.imagesize_source.specs.declared.text.Text.TheVariants.{Line, Word}
-use Rattle.imagesize_source.specs.Text.{skipped, delimits, through, text_front, is_ended}
+use Rattle.imagesize_source.specs.Text.{space_before, delimits, front_through, text_front, is_ended}
 
 -- one more byte than so many
 take-more : {b : ℕ} (n : ℕ) (bs : List ℕ) → take (1 + n + 1) (b ∷ bs) ≡ b ∷ take (n + 1) bs
 take-more {b} n bs = let same : 1 + n + 1 ≡ suc (n + 1) = omega arith in ap (λ k. take k (b ∷ bs)) same
 
 -- a byte that passes is the last, and one that does not goes before the rest
-pub through-cons : (p : ℕ → Bool) (b : ℕ) (bs : List ℕ) → through p (b ∷ bs) ≡ cond (p b) (b ∷ []) (b ∷ through p bs)
+pub through-cons : (p : ℕ → Bool) (b : ℕ) (bs : List ℕ) → front_through p (b ∷ bs) ≡ cond (p b) (b ∷ []) (b ∷ front_through p bs)
 through-cons p b bs =
-    let Goal : Bool → Type 0 = λ is. take (cond (not is) (1 + position_or_len p bs) 0 + 1) (b ∷ bs) ≡ cond is (b ∷ []) (b ∷ through p bs)
+    let Goal : Bool → Type 0 = λ is. take (cond (not is) (1 + position_or_len p bs) 0 + 1) (b ∷ bs) ≡ cond is (b ∷ []) (b ∷ front_through p bs)
     in
     elim (p b) as Goal [ true ↦ refl | false ↦ take-more (position_or_len p bs) bs ]
 
 -- what follows a byte that passes is not looked at
-through_more : (p : ℕ → Bool) (bs more : List ℕ) → list_any p bs ≡ true → through p (bs ++ more) ≡ through p bs
+through_more : (p : ℕ → Bool) (bs more : List ℕ) → list_any p bs ≡ true → front_through p (bs ++ more) ≡ front_through p bs
 through_more p [] more some = absurd cc
 through_more p (b ∷ bs) more some =
-    let Goal : Bool → Type 0 = λ is. is || list_any p bs ≡ true → cond is (b ∷ []) (b ∷ through p (bs ++ more)) ≡ cond is (b ∷ [])
-    (b ∷ through p bs) in
+    let Goal : Bool → Type 0 = λ is. is || list_any p bs ≡ true → cond is (b ∷ []) (b ∷ front_through p (bs ++ more)) ≡ cond is (b ∷ [])
+    (b ∷ front_through p bs) in
     let cases : Goal (p b) = elim (p b) as Goal [ true ↦ λ _. refl | false ↦ λ h. ap (λ xs. b ∷ xs) (through_more p bs more h) ] in
     through-cons p b (bs ++ more) ∙ cases some ∙ sym (through-cons p b bs)
 
 -- where none passes, all are before the end
-through_all : (p : ℕ → Bool) (bs : List ℕ) → list_any p bs ≡ false → through p bs ≡ bs
+through_all : (p : ℕ → Bool) (bs : List ℕ) → list_any p bs ≡ false → front_through p bs ≡ bs
 through_all p [] none = refl
 through_all p (b ∷ bs) none =
-    let Goal : Bool → Type 0 = λ is. is || list_any p bs ≡ false → cond is (b ∷ []) (b ∷ through p bs) ≡ b ∷ bs in
+    let Goal : Bool → Type 0 = λ is. is || list_any p bs ≡ false → cond is (b ∷ []) (b ∷ front_through p bs) ≡ b ∷ bs in
     let cases : Goal (p b) = elim (p b) as Goal [ true ↦ λ h. absurd cc | false ↦ λ h. ap (λ xs. b ∷ xs) (through_all p bs h) ] in
     through-cons p b bs ∙ cases none
 
 -- the byte that passes is among them
-through_any : (p : ℕ → Bool) (bs : List ℕ) → list_any p (through p bs) ≡ list_any p bs
+through_any : (p : ℕ → Bool) (bs : List ℕ) → list_any p (front_through p bs) ≡ list_any p bs
 through_any p [] = refl
 through_any p (b ∷ bs) =
-    let Goal : Bool → Type 0 = λ is. p b ≡ is → list_any p (cond is (b ∷ []) (b ∷ through p bs)) ≡ is || list_any p bs in
+    let Goal : Bool → Type 0 = λ is. p b ≡ is → list_any p (cond is (b ∷ []) (b ∷ front_through p bs)) ≡ is || list_any p bs in
     let cases : Goal (p b) = elim (p b) as Goal [ true ↦ λ is. rw is refl | false ↦ λ is. rw is (through_any p bs) ] in
     ap (list_any p) (through-cons p b bs) ∙ cases refl
 
 -- a line is no white space and its bytes
-pub line_front : (delimiter : ℕ) (bs : List ℕ) → text_front (Line delimiter) bs ≡ through (delimits (Line delimiter)) bs
+pub line_front : (delimiter : ℕ) (bs : List ℕ) → text_front (Line delimiter) bs ≡ front_through (delimits (Line delimiter)) bs
 unfolding text_front
 line_front delimiter bs = refl
 
 -- what stands at a place, as a text whose bytes begin there
 cut_at : (p : ℕ → Bool) (n : ℕ) (bs : List ℕ) → List ℕ
-cut_at p n bs = take n bs ++ through p (drop n bs)
+cut_at p n bs = take n bs ++ front_through p (drop n bs)
 
 skip-cons : (p : ℕ → Bool) (b : ℕ) (bs : List ℕ) → cut_at p (position_or_len (λ x. not (p x)) (b ∷ bs)) (b ∷ bs) ≡ cond (p b)
-    (b ∷ cut_at p (position_or_len (λ x. not (p x)) bs) bs) (b ∷ through p bs)
+    (b ∷ cut_at p (position_or_len (λ x. not (p x)) bs) bs) (b ∷ front_through p bs)
 unfolding cut_at
 skip-cons p b bs =
     let n : ℕ = position_or_len (λ x. not (p x)) bs in
     let one : 1 + n ≡ suc n = omega arith in
     let Goal : Bool → Type 0 = λ is. p b ≡ is → cut_at p (cond (not (not is)) (1 + n) 0) (b ∷ bs) ≡ cond is (b ∷ cut_at p n bs)
-    (b ∷ through p bs) in
+    (b ∷ front_through p bs) in
     let cases : Goal (p b) = elim (p b) as Goal [
       | true ↦ λ is. ap (λ k. cut_at p k (b ∷ bs)) one
       | false ↦ λ is. through-cons p b bs
-          ∙ ap (λ test. cond test (b ∷ []) (b ∷ through p bs)) is
+          ∙ ap (λ test. cond test (b ∷ []) (b ∷ front_through p bs)) is
     ] in
     cases refl
 
@@ -85,7 +85,7 @@ any-cons p b bs =
 
 -- a byte of white space goes before a word, and any other begins it
 pub word_front : (b : ℕ) (bs : List ℕ) → text_front Word (b ∷ bs) ≡ cond (is_ascii_whitespace b) (b ∷ text_front Word bs)
-    (b ∷ through is_ascii_whitespace bs)
+    (b ∷ front_through is_ascii_whitespace bs)
 unfolding text_front cut_at
 word_front b bs = skip-cons is_ascii_whitespace b bs
 
@@ -107,8 +107,8 @@ word_more : (bs more : List ℕ) → is_ended Word bs ≡ true → text_front Wo
 word_more [] more some = absurd (let no = no_end in cc)
 word_more (b ∷ bs) more some =
     let Goal : Bool → Type 0 = λ is. cond is (is_ended Word bs) (list_any is_ascii_whitespace bs) ≡ true
-    → cond is (b ∷ text_front Word (bs ++ more)) (b ∷ through is_ascii_whitespace (bs ++ more)) ≡ cond is (b ∷ text_front Word bs)
-    (b ∷ through is_ascii_whitespace bs) in
+    → cond is (b ∷ text_front Word (bs ++ more)) (b ∷ front_through is_ascii_whitespace (bs ++ more)) ≡ cond is (b ∷ text_front Word bs)
+    (b ∷ front_through is_ascii_whitespace bs) in
     let cases : Goal (is_ascii_whitespace b) = elim (is_ascii_whitespace b) as Goal [
       | true ↦ λ h. ap (λ xs. b ∷ xs) (word_more bs more h)
       | false ↦ λ h. ap (λ xs. b ∷ xs) (through_more is_ascii_whitespace bs more h)
@@ -125,7 +125,7 @@ word_all : (bs : List ℕ) → is_ended Word bs ≡ false → text_front Word bs
 word_all [] none = no_front
 word_all (b ∷ bs) none =
     let Goal : Bool → Type 0 = λ is. cond is (is_ended Word bs) (list_any is_ascii_whitespace bs) ≡ false
-    → cond is (b ∷ text_front Word bs) (b ∷ through is_ascii_whitespace bs) ≡ b ∷ bs in
+    → cond is (b ∷ text_front Word bs) (b ∷ front_through is_ascii_whitespace bs) ≡ b ∷ bs in
     let cases : Goal (is_ascii_whitespace b) = elim (is_ascii_whitespace b) as Goal [
       | true ↦ λ h. ap (λ xs. b ∷ xs) (word_all bs h)
       | false ↦ λ h. ap (λ xs. b ∷ xs) (through_all is_ascii_whitespace bs h)
@@ -142,14 +142,14 @@ word_any : (bs : List ℕ) → is_ended Word (text_front Word bs) ≡ is_ended W
 word_any [] = ap (is_ended Word) no_front
 word_any (b ∷ bs) =
     let Goal : Bool → Type 0 = λ is. is_ascii_whitespace b ≡ is
-    → is_ended Word (cond is (b ∷ text_front Word bs) (b ∷ through is_ascii_whitespace bs)) ≡ cond is (is_ended Word bs)
+    → is_ended Word (cond is (b ∷ text_front Word bs) (b ∷ front_through is_ascii_whitespace bs)) ≡ cond is (is_ended Word bs)
     (list_any is_ascii_whitespace bs) in
     let cases : Goal (is_ascii_whitespace b) = elim (is_ascii_whitespace b) as Goal [
       | true ↦ λ is. word_ended b (text_front Word bs) ∙ ap (λ test. cond test (is_ended Word (text_front Word bs))
           (list_any is_ascii_whitespace (text_front Word bs))) is ∙ word_any bs
-      | false ↦ λ is. word_ended b (through is_ascii_whitespace bs)
-          ∙ ap (λ test. cond test (is_ended Word (through is_ascii_whitespace bs))
-          (list_any is_ascii_whitespace (through is_ascii_whitespace bs))) is ∙ through_any is_ascii_whitespace bs
+      | false ↦ λ is. word_ended b (front_through is_ascii_whitespace bs)
+          ∙ ap (λ test. cond test (is_ended Word (front_through is_ascii_whitespace bs))
+          (list_any is_ascii_whitespace (front_through is_ascii_whitespace bs))) is ∙ through_any is_ascii_whitespace bs
     ] in
     ap (is_ended Word) (word_front b bs) ∙ cases refl ∙ sym (word_ended b bs)
 
@@ -162,7 +162,7 @@ front_any Word bs = word_any bs
 pub front_first : (t : Text) (bs : List ℕ) → (rest : List ℕ) × (text_front t bs ++ rest ≡ bs)
 unfolding text_front
 front_first t bs =
-    let n : ℕ = skipped t bs in
+    let n : ℕ = space_before t bs in
     let k : ℕ = position_or_len (delimits t) (drop n bs) + 1 in (
       drop k (drop n bs),
       append_assoc (take n bs) (take k (drop n bs)) (drop k (drop n bs)) ∙ ap (λ xs. take n bs ++ xs)
@@ -215,7 +215,7 @@ unfolding text_front
 word_length bs start begins =
     let at = found (λ b. not (is_ascii_whitespace b)) bs start begins in
     let n : ℕ = position_or_len is_ascii_whitespace (drop start bs) + 1 in
-    ap (λ k. length (take k bs ++ through is_ascii_whitespace (drop k bs))) at.0
+    ap (λ k. length (take k bs ++ front_through is_ascii_whitespace (drop k bs))) at.0
     ∙ length-append (take start bs) (take n (drop start bs))
     ∙ omega (arith, length-take start bs, length-take n (drop start bs), length-drop start bs, at.1)
 

@@ -55,17 +55,17 @@ abbrev pub marks_of : {C X : Type 0} → Chain C X → List ℕ → Along C → 
 marks_of c d t i = option_map_or (λ u. (next_record c d u).marks) (trail c d t i) []
 
 -- the deciding record: the least that has a verdict
-unfoldable pub deciding : {C X : Type 0} → Chain C X → List ℕ → Along C → ℕ
-deciding c d t = position_or_len (λ i. is_some (verdict_of c d t i)) (range_with_len 0 (length d + 1))
+unfoldable pub deciding_record : {C X : Type 0} → Chain C X → List ℕ → Along C → ℕ
+deciding_record c d t = position_or_len (λ i. is_some (verdict_of c d t i)) (range_with_len 0 (length d + 1))
 
 -- how many records are begun
 abbrev pub records_from : {C X : Type 0} → Chain C X → List ℕ → Along C → ℕ
-records_from c d t = deciding c d t + 1
+records_from c d t = deciding_record c d t + 1
 
 -- the verdict of the deciding record, with the marks of the records up to it
 unfoldable pub chain_from : {C X : Type 0} → Chain C X → List ℕ → Along C → Reads X
 chain_from c d t = record {
-  answer = unwrap_or (verdict_of c d t (deciding c d t)) (Err end_of_input);
+  answer = unwrap_or (verdict_of c d t (deciding_record c d t)) (Err end_of_input);
   marks = flat_map (marks_of c d t) (range_with_len 0 (records_from c d t));
 }
 

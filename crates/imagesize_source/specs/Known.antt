@@ -9,25 +9,25 @@ use Rattle.imagesize_source.specs.Input.{part}
 use Rattle.imagesize_source.specs.State.{State}
 
 -- how many bytes of a span an input of n bytes has
-abbrev pub within : ℕ → Span → ℕ
-within n s = min s.len (n - s.start)
+abbrev pub length_within : ℕ → Span → ℕ
+length_within n s = min s.len (n - s.start)
 
 -- the span has the place, in an input of n bytes
 abbrev pub reaches : ℕ → Span → ℕ → Bool
-reaches n s place = nat_le s.start place && nat_lt (place - s.start) (within n s)
+reaches n s place = nat_le s.start place && nat_lt (place - s.start) (length_within n s)
 
 abbrev pub byte_of : List ℕ → ℕ → Option ℕ
 byte_of bytes i = if nat_lt i (length bytes) then Some (slice_index bytes i) else None
 
 -- the byte at a place that parts have, whose bytes stand one behind another: that of the first that has the place
-abbrev pub known : ℕ → List Span → List ℕ → ℕ → Option ℕ
-known n [] bytes place = None
-known n (s ∷ spans) bytes place =
-    if reaches n s place then byte_of bytes (place - s.start) else known n spans (drop (within n s) bytes) place
+abbrev pub byte_in_parts : ℕ → List Span → List ℕ → ℕ → Option ℕ
+byte_in_parts n [] bytes place = None
+byte_in_parts n (s ∷ spans) bytes place =
+    if reaches n s place then byte_of bytes (place - s.start) else byte_in_parts n spans (drop (length_within n s) bytes) place
 
 -- an input that has these parts, and 0 at every other place
-unfoldable pub filled : ℕ → List Span → List ℕ → List ℕ
-filled n spans bytes = map (λ place. unwrap_or (known n spans bytes place) 0) (range_with_len 0 n)
+unfoldable pub filled_input : ℕ → List Span → List ℕ → List ℕ
+filled_input n spans bytes = map (λ place. unwrap_or (byte_in_parts n spans bytes place) 0) (range_with_len 0 n)
 
 -- the bytes of an input in these spans, span behind span
 abbrev pub bytes_of : List ℕ → List Span → List ℕ
@@ -40,11 +40,11 @@ pub record HasParts (d : List ℕ) (n : ℕ) (spans : List Span) (content : List
 
 -- the parts have each place of these spans
 abbrev pub AllKnown : ℕ → List Span → List ℕ → List Span → Type 0
-AllKnown n spans bytes seen = (place : ℕ) → is_covered seen place ≡ true → is_some (known n spans bytes place) ≡ true
+AllKnown n spans bytes seen = (place : ℕ) → is_covered seen place ≡ true → is_some (byte_in_parts n spans bytes place) ≡ true
 
 -- what is missed lies within the input, and its first byte is not known
 abbrev pub Lacks : ℕ → List Span → List ℕ → Missing → Type 0
-Lacks n spans bytes m = (0 < m.sure) × (m.sure ≤ m.most) × (m.start + m.most ≤ n) × (is_some (known n spans bytes m.start) ≡ false)
+Lacks n spans bytes m = (0 < m.sure) × (m.sure ≤ m.most) × (m.start + m.most ≤ n) × (is_some (byte_in_parts n spans bytes m.start) ≡ false)
 
 -- what is surely read of it
 abbrev pub sure_of : Missing → Span
@@ -54,7 +54,7 @@ sure_of m = record { start = m.start; len = m.sure }
 abbrev pub parts_state : ℕ → List Span → List ℕ → List Span → Option Missing → State
 parts_state n spans bytes seen missed = record {
   frame = record { told = n; budget = 0; counts = false; records = false; home = 0; since = None; parts = Some (spans, bytes) };
-  held = record { honest = nat_lt n (2 ^ 63); input = filled n spans bytes; can_fail = true };
+  held = record { honest = nat_lt n (2 ^ 63); input = filled_input n spans bytes; can_fail = true };
   front = 0;
   taken = 0;
   recorded = Some seen;

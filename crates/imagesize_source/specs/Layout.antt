@@ -17,8 +17,8 @@ abbrev pub bytes : {X : Type 0} → ℕ → ℕ → (List ℕ → Layout X) → 
 bytes place k f = reading (AllOf k) place f
 
 -- what is there of k bytes
-abbrev pub there : {X : Type 0} → ℕ → ℕ → (List ℕ → Layout X) → Layout X
-there place k f = reading (PartOf k) place f
+abbrev pub bytes_there : {X : Type 0} → ℕ → ℕ → (List ℕ → Layout X) → Layout X
+bytes_there place k f = reading (PartOf k) place f
 
 -- a text of at most k bytes
 abbrev pub text : {X : Type 0} → Text → ℕ → ℕ → (List ℕ → Layout X) → Layout X
@@ -49,7 +49,7 @@ whole k bs = if nat_le k (length bs) then Some bs else None
 
 -- k bytes, or none where the input ends before the last of them
 abbrev pub if_there : {X : Type 0} → ℕ → ℕ → (Option (List ℕ) → Layout X) → Layout X
-if_there place k f = there place k (λ bs. f (whole k bs))
+if_there place k f = bytes_there place k (λ bs. f (whole k bs))
 
 -- bytes, or none where this is false
 abbrev pub some_where : List ℕ → Bool → Option (List ℕ)

@@ -109,11 +109,11 @@ is_memory (IoError Memory) = true
 is_memory (IoError _) = false
 
 -- the budget that was spent
-abbrev pub spent : ImageError → Option ℕ
-spent NotSupported = None
-spent CorruptedImage = None
-spent (IoError (BudgetSpent n)) = Some n
-spent (IoError _) = None
+abbrev pub budget_spent : ImageError → Option ℕ
+budget_spent NotSupported = None
+budget_spent CorruptedImage = None
+budget_spent (IoError (BudgetSpent n)) = Some n
+budget_spent (IoError _) = None
 
 abbrev pub is_stop : ImageError → Bool
 is_stop e = is_fault e || is_spent e || is_memory e

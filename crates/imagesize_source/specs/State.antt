@@ -4,7 +4,7 @@ use Rattle.imagesize_source.specs.Input.{span_at}
 use Rattle.imagesize_source.specs.Limits.{most_held}
 use Rattle.imagesize_source.specs.declared.error.ImageError.{ImageError}
 use Rattle.imagesize_source.specs.declared.span.Span.{Span}
-use Rattle.imagesize_source.specs.Reading.{Reads, is_stopped, is_faulted, is_memory, spent}
+use Rattle.imagesize_source.specs.Reading.{Reads, is_stopped, is_faulted, is_memory, budget_spent}
 
 -- What never changes: the told length and the budget, whether bytes taken are counted and memory is taken for spans,
 -- the name of the borrow behind the source, by how much what the reader itself counts is above what was taken,
@@ -67,7 +67,7 @@ IsSound a = a.held.honest ≡ true → (a.frame.told ≡ length a.held.input) ×
 -- A spent budget is only answered by a source that counts, and names the bytes taken; refused memory only
 -- by one that takes it for spans, and over an input that has a byte.
 pub record EndedBy (b : State) (e : ImageError) : Type 0 where
-  pub budget : IfSome (spent e) (λ n. (b.frame.counts ≡ true) × (n ≡ b.frame.budget) × (n ≡ b.taken))
+  pub budget : IfSome (budget_spent e) (λ n. (b.frame.counts ≡ true) × (n ≡ b.frame.budget) × (n ≡ b.taken))
   pub memory : is_memory e ≡ true → (b.frame.records ≡ true) × (0 < length b.held.input)
 
 -- A failed call made the first of these spans' readings, saw the next one's bytes up to what it missed, which lies whole

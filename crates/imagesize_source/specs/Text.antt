@@ -6,9 +6,9 @@ use Rattle.imagesize_source.specs.declared.text.Text.{Text}
 use Rattle.imagesize_source.specs.declared.text.Text.TheVariants.{Line, Word}
 
 -- how many bytes of white space stand before a text: those before the first other byte of a word, none of a line
-abbrev pub skipped : Text → List ℕ → ℕ
-skipped (Line delimiter) bs = 0
-skipped Word bs = position_or_len (λ b. not (is_ascii_whitespace b)) bs
+abbrev pub space_before : Text → List ℕ → ℕ
+space_before (Line delimiter) bs = 0
+space_before Word bs = position_or_len (λ b. not (is_ascii_whitespace b)) bs
 
 -- which bytes end it
 abbrev pub delimits : Text → ℕ → Bool
@@ -16,16 +16,16 @@ delimits (Line delimiter) b = b == delimiter
 delimits Word b = is_ascii_whitespace b
 
 -- the bytes up to the first that passes, with it, or all where none does
-abbrev pub through : (ℕ → Bool) → List ℕ → List ℕ
-through p bs = take (position_or_len p bs + 1) bs
+abbrev pub front_through : (ℕ → Bool) → List ℕ → List ℕ
+front_through p bs = take (position_or_len p bs + 1) bs
 
 -- the text at the front of some bytes: the white space before it, its own bytes, and the one that ends it
 unfoldable pub text_front : Text → List ℕ → List ℕ
-text_front t bs = take (skipped t bs) bs ++ through (delimits t) (drop (skipped t bs) bs)
+text_front t bs = take (space_before t bs) bs ++ front_through (delimits t) (drop (space_before t bs) bs)
 
 -- one of the bytes ends it
 unfoldable pub is_ended : Text → List ℕ → Bool
-is_ended t bs = list_any (delimits t) (drop (skipped t bs) bs)
+is_ended t bs = list_any (delimits t) (drop (space_before t bs) bs)
 
 -- whether a byte ends it, where another byte than white space came before or none did
 abbrev pub ends : Text → Bool → ℕ → Bool

@@ -2,7 +2,7 @@
 ghost use Rattle.std.specs.Prelude.{◌≡◌, ◌≤◌, ◌==◌, not, length};
 ghost use Rattle.std.specs.List.{position};
 ghost use Rattle.std.specs.Char.{is_ascii_whitespace};
-ghost use Rattle.imagesize_source.specs.Text.{ends, is_ended, through, text_front};
+ghost use Rattle.imagesize_source.specs.Text.{ends, is_ended, front_through, text_front};
 
 /// A text, by what ends it. Where nothing ends it, it goes on to the end of the input or of the buffer.
 #[derive(Clone, Copy, Debug, PartialEq, Eq)]
@@ -28,7 +28,7 @@ pub(crate) fn text_length(text: Text, bytes: &[u8]) -> usize
 
 // How many bytes there are up to the delimiter, with it.
 fn line_length(delimiter: u8, bytes: &[u8]) -> usize
-    ensures { result ≡ length (through (λ b. b == delimiter) bytes.now) }
+    ensures { result ≡ length (front_through (λ b. b == delimiter) bytes.now) }
 {
     match first_delimiter(delimiter, bytes) {
         Some(index) => index + 1,

@@ -19,7 +19,7 @@ use Rattle.imagesize_source.proofs.Extension.{more}
 use Rattle.imagesize_source.proofs.Spends.{Onto, said_to, spends, spends_then, chain_onto}
 use Rattle.imagesize_source.proofs.Tests.{on_test}
 use Rattle.imagesize_source.proofs.Way.{TextsLaws}
-use Rattle.imagesize_texts.specs.Hdr.{hdr, hdr_identifier, identified, hdr_lines, hdr_line, is_identifier, is_resolution, resolution, second_and_fourth}
+use Rattle.imagesize_texts.specs.Hdr.{hdr, hdr_identifier, check_identifier, hdr_lines, hdr_line, is_identifier, is_resolution, resolution, second_and_fourth}
 use Rattle.imagesize_texts.proofs.Texts.{found_by, line_onto, line_plain, line_tells, line_begins, line_beyond, lasts_then}
 
 -- what holds of each line
@@ -32,7 +32,7 @@ by_line P place text decided refused passed =
 
 -- and of the first
 by_identifier : (P : Layout ℕ → Type 0) (text : List ℕ) → P (done (length text + 1)) → P (refuse (IoError InvalidHdrIdentifier))
-    → P (identified text)
+    → P (check_identifier text)
 by_identifier P text is none = on_test P (is_identifier text) (done (length text + 1)) (refuse (IoError InvalidHdrIdentifier)) (λ _. is)
     (λ _. none)
 
@@ -49,7 +49,7 @@ hdr_local = local_then (λ d. layout_reads d hdr_identifier) (λ first d. chain_
 -- bytes behind an HDR change no answer that was given, nor its marks
 pub hdr_keeps : Lasts hdr
 hdr_keeps = lasts_then (λ d. layout_reads d hdr_identifier) (λ first d. chain_at (hdr_lines first) d)
-    (λ d x first is. more d x hdr_identifier first (line_plain 0x0A 0 11 identified (λ text. by_identifier Plain text tt tt)) is)
+    (λ d x first is. more d x hdr_identifier first (line_plain 0x0A 0 11 check_identifier (λ text. by_identifier Plain text tt tt)) is)
     (λ first. lasts_chain (hdr_lines first) (hdr_advances first) (λ passed place. line_plain 0x0A place 256 (hdr_line place)
     (λ text. by_line Plain place text (λ size. tt) (λ e. tt) tt)))
 
@@ -61,7 +61,7 @@ pub hdr_within : (d : List ℕ) → total (hdr d).marks ≤ length d
 hdr_within d =
     let all = spends_then (length d) 0 (λ first. first) (λ _. None) (layout_reads d hdr_identifier) (λ first. chain_at (hdr_lines first) d)
     (spends d (λ first. Some first) 0 hdr_identifier
-    (line_onto 0x0A 0 11 identified (λ first. Some first) 0 (omega arith)
+    (line_onto 0x0A 0 11 check_identifier (λ first. Some first) 0 (omega arith)
     (λ text. by_identifier (Onto (λ first. Some first) (0 + (length text + 1))) text (omega arith) tt)))
     (λ first _. chain_onto (hdr_lines first) d (λ _. None) (hdr_advances first d)
     (λ passed place. line_onto 0x0A place 256 (hdr_line place) (said_to (λ _. None)) place (omega arith)

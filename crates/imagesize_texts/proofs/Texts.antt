@@ -20,9 +20,9 @@ use Rattle.imagesize_source.specs.Halts.{with_error}
 use Rattle.imagesize_source.specs.Input.{span_at, span_of}
 use Rattle.imagesize_source.specs.Layout.{Layout, layout_reads, accept}
 use Rattle.imagesize_source.specs.Layout.Layout.{refuse, «done», field}
-use Rattle.imagesize_source.specs.Reading.{Reads, gives, and_then, go_on, number_at, number_read, refuses, put_behind, text_part, text_read, is_stop, map_answer, is_fault, is_memory, spent, is_stopped, is_faulted, end_of_input}
+use Rattle.imagesize_source.specs.Reading.{Reads, gives, and_then, go_on, number_at, number_read, refuses, put_behind, text_part, text_read, is_stop, map_answer, is_fault, is_memory, budget_spent, is_stopped, is_faulted, end_of_input}
 use Rattle.imagesize_source.specs.State.{State, Runs, EndedBy, total}
-use Rattle.imagesize_source.specs.Text.{is_ended, skipped}
+use Rattle.imagesize_source.specs.Text.{is_ended, space_before}
 use Rattle.imagesize_source.proofs.Advances.{Tells, Begins}
 use Rattle.imagesize_source.proofs.Counts.{text_length, total-span_at}
 use Rattle.imagesize_source.proofs.PastTheEnd.{saturated_by}
@@ -30,14 +30,14 @@ use Rattle.imagesize_source.proofs.Extension.{more}
 use Rattle.imagesize_source.proofs.Runs.{answered, part_is, part_length, total-append}
 use Rattle.imagesize_source.proofs.Spends.{Onto}
 use Rattle.imagesize_source.proofs.Tests.{on_test}
-use Rattle.imagesize_texts.specs.Contents.{WordRead, word_room, last_byte, before_last, last_passes, no_end, utf8, line_text, line_length, word_text, ended_word, word_of, word_at, is_word_end, unspaced}
+use Rattle.imagesize_texts.specs.Contents.{WordRead, word_room, last_byte, before_last, last_passes, no_end, utf8, line_text, line_length, word_text, ended_word, word_of, word_at, is_word_end, behind_space}
 use Rattle.imagesize_texts.specs.Texts.{line_at, passed_line, word, text_as, line_read, length_read, word_read}
 
 -- a refusal by what was read, and none that ends a call at once
 pub record Harmless (e : ImageError) : Type 0 where
   pub goes_on : is_stop e ≡ false
   pub no_fault : is_fault e ≡ false
-  pub none_spent : spent e ≡ None
+  pub none_spent : budget_spent e ≡ None
   pub memory : is_memory e ≡ false
 
 -- an answer, or such a refusal
@@ -110,9 +110,9 @@ seen_judged f (Err e) h = h
 
 word_judged : (bs : List ℕ) → Judged (word_text bs)
 unfolding word_text ended_word
-word_judged bs = on_test Judged (last_passes (λ b. is_word_end b (length bs)) (unspaced bs)) (word_of (length bs) (unspaced bs))
+word_judged bs = on_test Judged (last_passes (λ b. is_word_end b (length bs)) (behind_space bs)) (word_of (length bs) (behind_space bs))
     (Err (no_end word_room (length bs)))
-    (λ _. seen_judged (word_at (length bs) (unspaced bs)) (utf8 (before_last (unspaced bs))) (utf8_judged (before_last (unspaced bs))))
+    (λ _. seen_judged (word_at (length bs) (behind_space bs)) (utf8 (before_last (behind_space bs))) (utf8_judged (before_last (behind_space bs))))
     (λ _. no_end_harmless word_room (length bs))
 
 -- the three readings of texts, of which each is judged
@@ -187,22 +187,22 @@ seen_ok : {X Y : Type 0} (f : X → Y) (r : Result X ImageError) (y : Y) → map
 seen_ok f (Ok x) y is = (x, cc)
 seen_ok f (Err e) y is = absurd cc
 
-unspaced_le : (bs : List ℕ) → length (unspaced bs) ≤ length bs
-unspaced_le [] = omega arith
-unspaced_le (b ∷ bs) = on_test (λ rest. length rest ≤ length (b ∷ bs)) (is_ascii_whitespace b) (unspaced bs) (b ∷ bs)
-    (λ _. omega (arith, unspaced_le bs)) (λ _. omega arith)
+behind_space_le : (bs : List ℕ) → length (behind_space bs) ≤ length bs
+behind_space_le [] = omega arith
+behind_space_le (b ∷ bs) = on_test (λ rest. length rest ≤ length (b ∷ bs)) (is_ascii_whitespace b) (behind_space bs) (b ∷ bs)
+    (λ _. omega (arith, behind_space_le bs)) (λ _. omega arith)
 
 -- a word takes the bytes that were read, of which there are some, and white space ends it
 pub word_ok : (bs : List ℕ) (w : WordRead) → word_text bs ≡ Ok w → (length bs ≡ w.taken) × (0 < length bs)
-    × (last_passes (λ b. is_word_end b (length bs)) (unspaced bs) ≡ true)
+    × (last_passes (λ b. is_word_end b (length bs)) (behind_space bs) ≡ true)
 unfolding word_text ended_word
 word_ok bs w = on_test (λ r. r ≡ Ok w → (length bs ≡ w.taken) × (0 < length bs) × (last_passes (λ b. is_word_end b (length bs))
-    (unspaced bs) ≡ true)) (last_passes (λ b. is_word_end b (length bs)) (unspaced bs)) (word_of (length bs) (unspaced bs))
+    (behind_space bs) ≡ true)) (last_passes (λ b. is_word_end b (length bs)) (behind_space bs)) (word_of (length bs) (behind_space bs))
     (Err (no_end word_room (length bs)))
     (λ ends is.
-    let text = seen_ok (word_at (length bs) (unspaced bs)) (utf8 (before_last (unspaced bs))) w is in
-    let some = passes_some (λ b. is_word_end b (length bs)) (unspaced bs) ends in
-    (sym (ap (λ w. w.taken) text.1), omega (arith, some, unspaced_le bs), ends))
+    let text = seen_ok (word_at (length bs) (behind_space bs)) (utf8 (before_last (behind_space bs))) w is in
+    let some = passes_some (λ b. is_word_end b (length bs)) (behind_space bs) ends in
+    (sym (ap (λ w. w.taken) text.1), omega (arith, some, behind_space_le bs), ends))
     (λ _ is. absurd cc)
 
 below_room : (last count : ℕ) → is_word_end last count ≡ true → count < word_room
@@ -250,8 +250,8 @@ pub word_bound : {A : Type 0} (v : A → WordRead) (room : List ℕ) (n : ℕ) (
     → IfOk r (λ w. (0 < (v w).taken) × ((v w).taken < word_room))
 word_bound v room n (Ok x) is =
     let ok = word_ok (take n room) (v x) (sym (is end_of_input 0)) in
-    let ends = passes_last (λ b. is_word_end b (length (take n room))) (unspaced (take n room)) ok.2 in
-    let few = below_room (last_byte (unspaced (take n room))) (length (take n room)) ends in
+    let ends = passes_last (λ b. is_word_end b (length (take n room))) (behind_space (take n room)) ok.2 in
+    let few = below_room (last_byte (behind_space (take n room))) (length (take n room)) ends in
     (omega (arith, ok.0, ok.1), omega (arith, ok.0, few))
 word_bound v room n (Err why) is = tt
 
@@ -271,20 +271,20 @@ line_ended : (delimiter most : ℕ) (bs : List ℕ) → last_passes (λ b. eqb b
 unfolding is_ended
 line_ended delimiter most bs is = any_last (λ b. eqb b delimiter) bs is
 
-skipped_unspaced : (bs : List ℕ) → drop (skipped Word bs) bs ≡ unspaced bs
-skipped_unspaced [] = refl
-skipped_unspaced (b ∷ bs) =
-    let one : 1 + skipped Word bs ≡ suc (skipped Word bs) = omega arith in
-    let Goal : Bool → Type 0 = λ is. drop (cond (not (not is)) (1 + skipped Word bs) 0) (b ∷ bs) ≡ cond is (unspaced bs) (b ∷ bs) in
-    elim (is_ascii_whitespace b) as Goal [ true ↦ ap (λ n. drop n (b ∷ bs)) one ∙ skipped_unspaced bs | false ↦ refl ]
+drop_space : (bs : List ℕ) → drop (space_before Word bs) bs ≡ behind_space bs
+drop_space [] = refl
+drop_space (b ∷ bs) =
+    let one : 1 + space_before Word bs ≡ suc (space_before Word bs) = omega arith in
+    let Goal : Bool → Type 0 = λ is. drop (cond (not (not is)) (1 + space_before Word bs) 0) (b ∷ bs) ≡ cond is (behind_space bs) (b ∷ bs) in
+    elim (is_ascii_whitespace b) as Goal [ true ↦ ap (λ n. drop n (b ∷ bs)) one ∙ drop_space bs | false ↦ refl ]
 
 any_white : (count : ℕ) (bs : List ℕ) → last_passes (λ b. is_word_end b count) bs ≡ true → list_any is_ascii_whitespace bs ≡ true
 any_white count bs is = any_at is_ascii_whitespace bs (length bs - 1) (omega (arith, passes_some (λ b. is_word_end b count) bs is))
     (first_of (is_ascii_whitespace (last_byte bs)) (ltb count word_room) (passes_last (λ b. is_word_end b count) bs is))
 
-word_ended : (bs : List ℕ) → last_passes (λ b. is_word_end b (length bs)) (unspaced bs) ≡ true → is_ended Word bs ≡ true
+word_ended : (bs : List ℕ) → last_passes (λ b. is_word_end b (length bs)) (behind_space bs) ≡ true → is_ended Word bs ≡ true
 unfolding is_ended
-word_ended bs is = ap (list_any is_ascii_whitespace) (skipped_unspaced bs) ∙ any_white (length bs) (unspaced bs) is
+word_ended bs is = ap (list_any is_ascii_whitespace) (drop_space bs) ∙ any_white (length bs) (behind_space bs) is
 
 -- what holds of what goes on and of a refusal
 pub found_by : {X Y : Type 0} (P : Layout Y → Type 0) (r : Result X ImageError) (f : X → Layout Y) → ((x : X) → r ≡ Ok x → P (f x))

@@ -16,7 +16,7 @@ use Rattle.imagesize_source.specs.declared.error.ImageError.TheVariants.{IoError
 use Rattle.imagesize_source.specs.declared.error.Reason.TheVariants.{NotUtf8}
 use Rattle.imagesize_source.proofs.Tests.{on_test}
 use Rattle.imagesize_texts.specs.Pnm.{is_comment}
-use Rattle.imagesize_texts.specs.Contents.{utf8, unspaced, is_number, number_text, char_words, words}
+use Rattle.imagesize_texts.specs.Contents.{utf8, behind_space, is_number, number_text, char_words, words}
 
 -- bytes that are text
 pub is_text : (bs : List ℕ) → IsUtf8 bs → utf8 bs ≡ Ok bs
@@ -54,15 +54,15 @@ pub hash_comment : (text : List ℕ) → text ≡ 0x23 ∷ [] → is_comment tex
 hash_comment text is = ap is_comment is ∙ comment_hash
 
 -- the white space before a word, as std trims it
-unspaced-prefix : (bs : List ℕ) → drop (prefix_len is_ascii_whitespace bs) bs ≡ unspaced bs
-unspaced-prefix [] = refl
-unspaced-prefix (b ∷ bs) =
+behind_space-prefix : (bs : List ℕ) → drop (prefix_len is_ascii_whitespace bs) bs ≡ behind_space bs
+behind_space-prefix [] = refl
+behind_space-prefix (b ∷ bs) =
     let one : 1 + prefix_len is_ascii_whitespace bs ≡ suc (prefix_len is_ascii_whitespace bs) = omega arith in
-    let Goal : Bool → Type 0 = λ is. drop (cond is (1 + prefix_len is_ascii_whitespace bs) 0) (b ∷ bs) ≡ cond is (unspaced bs) (b ∷ bs) in
-    elim (is_ascii_whitespace b) as Goal [ true ↦ ap (λ n. drop n (b ∷ bs)) one ∙ unspaced-prefix bs | false ↦ refl ]
+    let Goal : Bool → Type 0 = λ is. drop (cond is (1 + prefix_len is_ascii_whitespace bs) 0) (b ∷ bs) ≡ cond is (behind_space bs) (b ∷ bs) in
+    elim (is_ascii_whitespace b) as Goal [ true ↦ ap (λ n. drop n (b ∷ bs)) one ∙ behind_space-prefix bs | false ↦ refl ]
 
-pub unspaced_is : (bs rest : List ℕ) → IsTrimAsciiStart bs rest → rest ≡ unspaced bs
-unspaced_is bs rest is = trim_ascii_start_is bs rest is ∙ unspaced-prefix bs
+pub behind_space_is : (bs rest : List ℕ) → IsTrimAsciiStart bs rest → rest ≡ behind_space bs
+behind_space_is bs rest is = trim_ascii_start_is bs rest is ∙ behind_space-prefix bs
 
 digits_are : IsNumeralModel (λ ds. all_ascii_digits ds ≡ true) (digits_value 10)
 digits_are = numerals_by_value (λ ds. all_ascii_digits ds ≡ true) tells_all_ascii_digits

@@ -48,9 +48,9 @@ abbrev pub word_room : ℕ
 word_room = 1024
 
 -- the bytes behind the white space before a word
-abbrev pub unspaced : List ℕ → List ℕ
-unspaced [] = []
-unspaced (b ∷ bs) = if is_ascii_whitespace b then unspaced bs else b ∷ bs
+abbrev pub behind_space : List ℕ → List ℕ
+behind_space [] = []
+behind_space (b ∷ bs) = if is_ascii_whitespace b then behind_space bs else b ∷ bs
 
 -- the word of these bytes, of so many with the white space before them
 abbrev pub word_at : ℕ → List ℕ → List ℕ → WordRead
@@ -69,7 +69,7 @@ ended_word count bs = if last_passes (λ b. is_word_end b count) bs then word_of
 
 -- a word behind white space
 unfoldable pub word_text : List ℕ → Result WordRead ImageError
-word_text bs = ended_word (length bs) (unspaced bs)
+word_text bs = ended_word (length bs) (behind_space bs)
 
 -- the text is a number of 64 bits: digits, before which one `+` may stand
 unfoldable pub is_number : List ℕ → Bool

@@ -20,12 +20,12 @@ is_hdr head = begins (codes "#?RADIANCE" ++ 0x0A ∷ []) head || begins (codes "
 unfoldable pub is_identifier : List ℕ → Bool
 is_identifier text = begins (codes "#?RADIANCE") text || begins (codes "#?RGBE") text
 
-abbrev pub identified : List ℕ → Layout ℕ
-identified text = if is_identifier text then done (length text + 1) else refuse (IoError InvalidHdrIdentifier)
+abbrev pub check_identifier : List ℕ → Layout ℕ
+check_identifier text = if is_identifier text then done (length text + 1) else refuse (IoError InvalidHdrIdentifier)
 
 -- how many bytes the first line takes, of 11 at most
 abbrev pub hdr_identifier : Layout ℕ
-hdr_identifier = line_at 0x0A 0 11 identified
+hdr_identifier = line_at 0x0A 0 11 check_identifier
 
 -- a line gives the resolution where it begins with an axis and its direction
 unfoldable pub is_resolution : List ℕ → Bool

@@ -186,7 +186,7 @@ fn line_length(bytes: &[u8], delimiter: u8, most: usize) -> Result<usize, Halt>
 
 // The word that stands behind white space.
 #[inline]
-#[tactic(auto, using(crate::proofs::Words::unspaced_is), unfolding(crate::specs::Contents::word_text))]
+#[tactic(auto, using(crate::proofs::Words::behind_space_is), unfolding(crate::specs::Contents::word_text))]
 fn word_text(bytes: &[u8]) -> Result<Word<'_>, Halt>
     ensures { (failure : ImageError) (budget : ℕ) →
         map_answer (λ word. read_word_of word) (with_error failure budget result) ≡ word_text bytes.now }

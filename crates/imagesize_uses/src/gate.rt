@@ -1,7 +1,7 @@
 //! A gate for uploads: an image is admitted where it has few enough pixels.
 ghost use Rattle.std.specs.Prelude.{◌≡◌, ℕ, ◌*◌, ◌+◌, ◌-◌, ◌^◌, ◌<◌, ◌≤◌, IfOk, IsErr, Some, length, option_map, take};
 ghost use Rattle.imagesize_source.specs.Limits.{allowance};
-ghost use Rattle.imagesize_io.specs.Telling.{ReadTells, SeekTells, counted, may_fail};
+ghost use Rattle.imagesize_io.specs.Telling.{ReadTells, SeekTells, count_after, may_fail};
 ghost use Rattle.imagesize_uses.specs.Gate.{Admits, IfTooLarge, gate_verdict};
 
 use imagesize::{ImageError, ImageResult, ImageSize, Stop, Told, reader_probe};
@@ -74,7 +74,7 @@ impl<R: Told> Told for Limited<'_, R> {
     fn read_told(&mut self, room: &mut [u8]) -> Result<usize, Stop>
         ensures bound { IfOk result (λ n. n ≤ length room.new) }
         ensures told { ReadTells (may_fail (R.telling self.old.reader.now)) (may_fail (R.telling self.new.reader.now)) room.new result }
-        ensures counts { Some (2 ^ 64 - self.new.left) ≡ counted (Some (2 ^ 64 - self.old.left)) result }
+        ensures counts { Some (2 ^ 64 - self.new.left) ≡ count_after (Some (2 ^ 64 - self.old.left)) result }
         // Before the end it fails only where the other reader does: a read is one of it, into no more room than is left.
         ensures below { 0 < self.old.left → ReadTells (R.telling self.old.reader.now) (R.telling self.new.reader.now)
             (take self.old.left room.new) result }

@@ -6,7 +6,7 @@ use Rattle.std.proofs.lemmas.List.{append-nil, length_push}
 use Rattle.std.proofs.lemmas.List.Elements.{filter-append}
 use Rattle.std.specs.Prelude.{filter, option_and_then}
 use Rattle.std.specs.List.{last_or}
-use Rattle.imagesize_walked.specs.Tiff.{byte_order, completed, count_bytes, directory_at, tiff_begun, entry_bytes, head_bytes, field_type_in, field_type_of, last_value, size_in, size_if_known, stated_place, tag_in, tiff, tiff_directory, tiff_entries, tiff_entry, tiff_head, tiff_header, tiff_value, value_bytes, value_of, version_of, whole_value, directory_begun}
+use Rattle.imagesize_walked.specs.Tiff.{byte_order, size_or_next, count_bytes, directory_at, tiff_begun, entry_bytes, head_bytes, field_type_in, field_type_of, last_value, size_in, size_if_known, stated_place, tag_in, tiff, tiff_directory, tiff_entries, tiff_entry, tiff_head, tiff_header, tiff_value, value_bytes, value_of, version_of, whole_value, directory_begun}
 use Rattle.imagesize_walked.specs.declared.formats.tiff.Entry.{Entry}
 use Rattle.imagesize_walked.specs.declared.formats.tiff.Header.{Header}
 use Rattle.imagesize_walked.specs.declared.formats.tiff.FieldType.{FieldType}
@@ -70,7 +70,7 @@ abbrev entry_of : Header → List ℕ → FieldType → List ℕ → Entry
 entry_of header head field_type value = record { tag = tag_in header.order head; value = value_of header.order field_type value }
 
 abbrev says : Header → List Entry → ℕ → Entry → Layout (Said Entry ImageSize)
-says header entries place entry = done (completed (size_in (entries ++ entry ∷ [])) entry (place + entry_bytes header.version))
+says header entries place entry = done (size_or_next (size_in (entries ++ entry ∷ [])) entry (place + entry_bytes header.version))
 
 -- an entry behind others
 abbrev record_behind : Header → List Entry → ℕ → Layout (Said Entry ImageSize)
@@ -90,7 +90,7 @@ by_field_type P header entries place head out on = by_accepted P (field_type_of 
     (λ value. done (entry_of header head field_type value))) (says header entries place) out on
 
 by_completed : (P : Layout (Said Entry ImageSize) → Type 0) (size : Option ImageSize) (entry : Entry) (next : ℕ)
-    → ((x : ImageSize) → P (done (Decided x))) → P (done (Next entry next)) → P (done (completed size entry next))
+    → ((x : ImageSize) → P (done (Decided x))) → P (done (Next entry next)) → P (done (size_or_next size entry next))
 by_completed P None entry next stop on = on
 by_completed P (Some x) entry next stop on = stop x
 
@@ -236,16 +236,16 @@ module _ {a b : State} (header : Header) (count i : ℕ) (width height : Option 
   entry_said : {end : State} (entry : Entry) (wide high : Option ℕ) (size : Option ImageSize) → wide ≡ cond (eqb entry.tag 0x100)
       entry.value width → high ≡ cond (eqb entry.tag 0x101) entry.value height → size_if_known wide high ≡ size
       → Runs b end (Ok entry) (layout_reads b.held.input (tiff_entry header place)) → (entries : List Entry) → Known i width height entries
-      → Runs b end (Ok (completed size entry (entry_at header i + entry_bytes header.version)))
+      → Runs b end (Ok (size_or_next size entry (entry_at header i + entry_bytes header.version)))
       (layout_reads b.held.input ((tiff_entries header count).said entries (entry_at header i)))
   entry_said entry wide high size is_wide is_high is run entries h =
       let next : ℕ = entry_at header i + entry_bytes header.version in
       let known : size_in (entries ++ entry ∷ []) ≡ size = size_known (i + 1) wide high (entries ++ entry ∷ [])
       (known_on i width height wide high entries entry is_wide is_high h) ∙ is in
       more_said header count i entries (entry_at header i) below h.many
-      (runs_bind (Ok (completed size entry next)) (tiff_entry header (entry_at header i)) (says header entries (entry_at header i))
+      (runs_bind (Ok (size_or_next size entry next)) (tiff_entry header (entry_at header i)) (says header entries (entry_at header i))
       (entry_read run)
-      (λ d. ap (λ o. layout_reads d (done (completed o entry next))) known) refl tt)
+      (λ d. ap (λ o. layout_reads d (done (size_or_next o entry next))) known) refl tt)
 
   -- the walk goes on where a side is still unknown
   pub tiff_on : {end : State} (entry : Entry) (wide high : Option ℕ) → wide ≡ cond (eqb entry.tag 0x100) entry.value width

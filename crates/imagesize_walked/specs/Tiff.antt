@@ -142,9 +142,9 @@ abbrev pub size_in : List Entry → Option ImageSize
 size_in entries = size_if_known (last_value 0x100 entries) (last_value 0x101 entries)
 
 -- an entry decides that completes the size
-abbrev pub completed : Option ImageSize → Entry → ℕ → Said Entry ImageSize
-completed (Some size) entry next = Decided size
-completed None entry next = Next entry next
+abbrev pub size_or_next : Option ImageSize → Entry → ℕ → Said Entry ImageSize
+size_or_next (Some size) entry next = Decided size
+size_or_next None entry next = Next entry next
 
 -- as many entries as the count says, behind it and without gaps
 abbrev pub tiff_entries : Header → ℕ → Chain Entry ImageSize
@@ -153,7 +153,7 @@ tiff_entries header count = record {
   said = λ entries place.
       if length entries == count then refuse (IoError NoDimensionsInIfd)
       else bind (tiff_entry header place)
-      (λ entry. done (completed (size_in (entries ++ entry ∷ [])) entry (place + entry_bytes header.version)));
+      (λ entry. done (size_or_next (size_in (entries ++ entry ∷ [])) entry (place + entry_bytes header.version)));
 }
 
 -- the directory

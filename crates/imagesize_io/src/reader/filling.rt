@@ -1,9 +1,9 @@
 //! A room that is filled from a place on: by one read after another, within the budget.
 ghost use Rattle.std.specs.Prelude.{◌≡◌, max, ◌+◌, ◌^◌, ◌<◌, ◌≤◌, length, IfOk, IfErr, OnOk, true, false};
 ghost use Rattle.imagesize_source.specs.Limits.{most_retries};
-ghost use Rattle.imagesize_io.specs.Telling.{counted};
+ghost use Rattle.imagesize_io.specs.Telling.{count_after};
 ghost use Rattle.imagesize_io.specs.Standing.{steady, stand, GivesSome, StopsBy, KeepsCounts, Tries, Fills, ReadsOnce, drift, with_kept_error, given_or, GoesTo, ReadsFrom};
-ghost use Rattle.imagesize_io.specs.StopOf.{ending_of, fault_after, halted};
+ghost use Rattle.imagesize_io.specs.StopOf.{ending_of, fault_after, halt_if_failed};
 
 use crate::progress::Progress;
 use crate::{Stop, Told};
@@ -30,7 +30,7 @@ fn ending(stop: Stop, tries: u64) -> Option<io::Error>
 #[inline(always)]
 fn kept<T>(answer: Result<T, io::Error>, fault: &mut io::Error) -> Result<T, Halt>
     ensures fault { fault.new ≡ fault_after fault.old answer }
-    ensures halt { result ≡ halted answer }
+    ensures halt { result ≡ halt_if_failed answer }
 {
     match answer {
         Ok(value) => Ok(value),
@@ -52,7 +52,7 @@ fn read_retrying<R: Told>(
     ensures bound { IfOk result (λ n. n ≤ length room.new) }
     ensures steady { GivesSome (steady (R.telling reader.old) retries.old) (steady (R.telling reader.new) retries.new)
         room.new (given_or fault.new result) }
-    ensures counts { R.count reader.new ≡ counted (R.count reader.old) result }
+    ensures counts { R.count reader.new ≡ count_after (R.count reader.old) result }
     ensures tried { retries.old ≤ retries.new }
     ensures limit { retries.old ≤ most_retries → retries.new ≤ most_retries }
     ensures tries { OnOk result (Tries (R.telling reader.old) retries.old (R.telling reader.new) retries.new) }

@@ -4,7 +4,7 @@ ghost use Rattle.std.specs.Option.{ForSome};
 ghost use Rattle.imagesize_source.specs.Agreement.{has_place};
 ghost use Rattle.imagesize_source.specs.Input.{part, span_at};
 ghost use Rattle.imagesize_source.specs.Halts.{with_error};
-ghost use Rattle.imagesize_source.specs.Known.{AllKnown, Lacks, filled, known, parts_state, within};
+ghost use Rattle.imagesize_source.specs.Known.{AllKnown, Lacks, filled_input, byte_in_parts, parts_state, length_within};
 ghost use Rattle.imagesize_source.specs.Reading.{part_read, map_answer};
 ghost use Rattle.imagesize_source.specs.State.{Runs};
 ghost use Rattle.imagesize_source.specs.Text.{is_ended};
@@ -46,7 +46,7 @@ pub struct PartsSource<'a> {
     pub log: SpanLog,
     /// What a reading that fails ends the call with.
     pub fault: io::Error,
-    ghost front_known: { (i : ℕ) → i < length front.now → known told spans.now bytes.now i ≡ Some (slice_index front.now i) },
+    ghost front_known: { (i : ℕ) → i < length front.now → byte_in_parts told spans.now bytes.now i ≡ Some (slice_index front.now i) },
     ghost seen: { AllKnown told spans.now bytes.now log.spans },
     ghost lacks: { ForSome missed (Lacks told spans.now bytes.now) },
 }
@@ -88,7 +88,7 @@ impl<'a> PartsSource<'a> {
     #[inline(always)]
     #[tactic(auto, unfolding(crate::specs::Input::span_at))]
     fn saw(&mut self, start: u64, count: usize)
-        requires { (i : ℕ) → i < count → is_some (known self.old.told self.old.spans.now self.old.bytes.now (start + i)) ≡ true }
+        requires { (i : ℕ) → i < count → is_some (byte_in_parts self.old.told self.old.spans.now self.old.bytes.now (start + i)) ≡ true }
         ensures spans { self.new.spans.now ≡ self.old.spans.now }
         ensures bytes { self.new.bytes.now ≡ self.old.bytes.now }
         ensures told { self.new.told ≡ self.old.told }
@@ -104,7 +104,7 @@ impl<'a> PartsSource<'a> {
     // Records a span.
     #[inline(always)]
     fn push(&mut self, span: Span)
-        requires { (place : ℕ) → has_place span place ≡ true → is_some (known self.old.told self.old.spans.now self.old.bytes.now place) ≡ true }
+        requires { (place : ℕ) → has_place span place ≡ true → is_some (byte_in_parts self.old.told self.old.spans.now self.old.bytes.now place) ≡ true }
         ensures spans { self.new.spans.now ≡ self.old.spans.now }
         ensures bytes { self.new.bytes.now ≡ self.old.bytes.now }
         ensures told { self.new.told ≡ self.old.told }
@@ -116,11 +116,11 @@ impl<'a> PartsSource<'a> {
 
     // Records a reading that misses bytes behind these.
     fn miss(&mut self, start: u64, count: usize, sure: usize, most: usize) -> Halt
-        requires known { (i : ℕ) → i < count → is_some (known self.old.told self.old.spans.now self.old.bytes.now (start + i)) ≡ true }
+        requires known { (i : ℕ) → i < count → is_some (byte_in_parts self.old.told self.old.spans.now self.old.bytes.now (start + i)) ≡ true }
         requires some { 0 < sure }
         requires among { sure ≤ most }
         requires fits { start + count + most ≤ self.old.told }
-        requires unknown { is_some (known self.old.told self.old.spans.now self.old.bytes.now (start + count)) ≡ false }
+        requires unknown { is_some (byte_in_parts self.old.told self.old.spans.now self.old.bytes.now (start + count)) ≡ false }
         ensures spans { self.new.spans.now ≡ self.old.spans.now }
         ensures bytes { self.new.bytes.now ≡ self.old.bytes.now }
         ensures told { self.new.told ≡ self.old.told }
@@ -143,9 +143,9 @@ impl<'a> PartsSource<'a> {
     fn fill_known(&self, place: u64, room: &mut [u8]) -> (usize, usize)
         ensures wanted { result.1 ≡ min (length room.new) (self.now.told - place) }
         ensures within { result.0 ≤ result.1 }
-        ensures copied { take result.0 room.new ≡ part (filled self.now.told self.now.spans.now self.now.bytes.now) place result.0 }
-        ensures known { (i : ℕ) → i < result.0 → is_some (known self.now.told self.now.spans.now self.now.bytes.now (place + i)) ≡ true }
-        ensures missing { result.0 < result.1 → is_some (known self.now.told self.now.spans.now self.now.bytes.now (place + result.0)) ≡ false }
+        ensures copied { take result.0 room.new ≡ part (filled_input self.now.told self.now.spans.now self.now.bytes.now) place result.0 }
+        ensures known { (i : ℕ) → i < result.0 → is_some (byte_in_parts self.now.told self.now.spans.now self.now.bytes.now (place + i)) ≡ true }
+        ensures missing { result.0 < result.1 → is_some (byte_in_parts self.now.told self.now.spans.now self.now.bytes.now (place + result.0)) ≡ false }
     {
         let wanted = there(self.told, place, room.len());
         let found = gather(
@@ -167,7 +167,7 @@ impl<'a> PartsSource<'a> {
         ensures runs { Runs (parts_state self.old.told self.old.spans.now self.old.bytes.now self.old.log.spans self.old.missed)
             (parts_state self.new.told self.new.spans.now self.new.bytes.now self.new.log.spans self.new.missed)
             (map_answer (λ n. take n room.new) (with_error (error.IoError (reason.Fault self.new.fault)) 0 result))
-            (part_read (filled self.old.told self.old.spans.now self.old.bytes.now) place (length room.new)) }
+            (part_read (filled_input self.old.told self.old.spans.now self.old.bytes.now) place (length room.new)) }
     {
         let (found, wanted) = self.fill_known(place, room);
         if found < wanted {
@@ -258,9 +258,9 @@ fn is_cut(text: Text, bytes: &[u8], wanted: usize) -> bool
 fn gather(spans: &[Span], bytes: &[u8], told: u64, place: u64, room: &mut [u8]) -> usize
     requires { length room.old ≤ told - place }
     ensures within { result ≤ length room.old }
-    ensures copied { take result room.new ≡ part (filled told spans.now bytes.now) place result }
-    ensures known { (i : ℕ) → i < result → is_some (known told spans.now bytes.now (place + i)) ≡ true }
-    ensures missing { result < length room.old → is_some (known told spans.now bytes.now (place + result)) ≡ false }
+    ensures copied { take result room.new ≡ part (filled_input told spans.now bytes.now) place result }
+    ensures known { (i : ℕ) → i < result → is_some (byte_in_parts told spans.now bytes.now (place + i)) ≡ true }
+    ensures missing { result < length room.old → is_some (byte_in_parts told spans.now bytes.now (place + result)) ≡ false }
 {
     let mut count = 0;
     while count < room.len() {
@@ -286,8 +286,8 @@ fn put(run: &[u8], room: &mut [u8], index: usize) -> usize
 
 // The known bytes from a place on: of the first part that has it, up to its end or to where a part before it begins.
 fn known_from<'a>(spans: &[Span], bytes: &'a [u8], told: u64, place: u64) -> &'a [u8]
-    ensures known { (i : ℕ) → i < length result.now → known told spans.now bytes.now (place + i) ≡ Some (slice_index result.now i) }
-    ensures none { length result.now ≡ 0 → is_some (known told spans.now bytes.now place) ≡ false }
+    ensures known { (i : ℕ) → i < length result.now → byte_in_parts told spans.now bytes.now (place + i) ≡ Some (slice_index result.now i) }
+    ensures none { length result.now ≡ 0 → is_some (byte_in_parts told spans.now bytes.now place) ≡ false }
 {
     let mut rest = bytes;
     let mut most = u64::MAX;
@@ -305,7 +305,7 @@ fn known_from<'a>(spans: &[Span], bytes: &'a [u8], told: u64, place: u64) -> &'a
 
 // How many bytes of a span an input of this length has.
 fn length_within(span: &Span, told: u64) -> u64
-    ensures { result ≡ within told span.now }
+    ensures { result ≡ length_within told span.now }
 {
     span.len.min(told.saturating_sub(span.start))
 }

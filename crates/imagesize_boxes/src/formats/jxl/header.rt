@@ -1,7 +1,7 @@
 //! The header of a JPEG XL codestream, by ISO/IEC 18181-1, annex D: the size and the orientation of the image.
 ghost use Rattle.std.specs.Prelude.{◌≡◌, ℕ, ◌+◌, ◌*◌, ◌^◌, ◌<◌, ◌≤◌, length, take, IfSome, ok_or};
 ghost use Rattle.imagesize_boxes.specs.Walks.{found_in};
-ghost use Rattle.imagesize_boxes.specs.Jxl.{exchanged, has_signature, jxl_header, jxl_size, side_fields, side_bits, width_by, width_side};
+ghost use Rattle.imagesize_boxes.specs.Jxl.{exchanges_sides, has_signature, jxl_header, jxl_size, side_fields, side_bits, width_by, width_side};
 ghost use Rattle.imagesize_source.specs.Halts.{with_error};
 ghost use Rattle.imagesize_source.specs.declared.error.ImageError.{ImageError};
 ghost use Rattle.imagesize_types.specs.Sides.{exchange_if};
@@ -135,7 +135,7 @@ fn width_by(ratio: u32, height: u64) -> u64
 #[inline(always)]
 fn read_exchanged(bits: &Bits, from: u32) -> Option<bool>
     requires { from ≤ 100 }
-    ensures { ok_or result error.CorruptedImage ≡ found_in bits.now.number bits.now.count (exchanged from) }
+    ensures { ok_or result error.CorruptedImage ≡ found_in bits.now.number bits.now.count (exchanges_sides from) }
 {
     if bits.field(from, 1)? == 1 || bits.field(from + 1, 1)? == 0 {
         return Some(false);

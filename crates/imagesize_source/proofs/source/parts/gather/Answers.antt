@@ -1,12 +1,12 @@
 use Rattle.std.proofs.Common.{arith, refl, sym, ◌∙◌, length, ◌+◌, ◌≤◌, ◌≡◌}
-use Rattle.imagesize_source.specs.Known.{filled}
+use Rattle.imagesize_source.specs.Known.{filled_input}
 use Rattle.imagesize_source.proofs.Known.{gathered_run, known_run, part_none}
 use Rattle.imagesize_source.proofs.source.parts.gather.Goals as goal
 
 pub loop-count-init : goal.loop-count-init
 loop-count-init c = (
   refl,
-  sym (part_none (filled c.args.told c.args.spans.now c.args.bytes.now) c.args.place),
+  sym (part_none (filled_input c.args.told c.args.spans.now c.args.bytes.now) c.args.place),
   λ i below. absurd (omega (arith, below)),
   omega arith,
 )
