@@ -17,7 +17,7 @@ use imagesize_fixed::formats::{
     aseprite, astc, bmp, farbfeld, gif, ktx2, psd, qoi, tga, vtf, webp,
 };
 use imagesize_source::Halt;
-use imagesize_source::halt::answered;
+use imagesize_source::halt::with_error;
 use imagesize_source::readings::read_exact_at;
 use imagesize_source::source::Source;
 use imagesize_texts::formats::{exr, hdr, pnm};
@@ -33,7 +33,7 @@ pub(crate) fn detect<S: Source>(source: &mut S, place: u64) -> ImageResult<Image
     ensures { Runs (S.state source.old) (S.state source.new) result
         (layout_reads (S.state source.old).held.input (kind (length (S.state source.old).held.input) place)) }
 {
-    answered(read_kind(source, place), source)
+    with_error(read_kind(source, place), source)
 }
 
 /// The size of the image, read as this type whatever its first bytes are.
@@ -42,7 +42,7 @@ pub(crate) fn size<S: Source>(source: &mut S, kind: ImageType) -> ImageResult<Im
     ensures { Runs (S.state source.old) (S.state source.new) result
         (size_of kind (S.state source.old).held.input) }
 {
-    answered(read_size(source, kind), source)
+    with_error(read_size(source, kind), source)
 }
 
 // The type by the twelve bytes at a place, or why there is none.

@@ -142,7 +142,7 @@ fn type_of(source: &mut PartsSource<'_>) -> PartsAnswer<ImageResult<ImageType>>
 {
     source.forget();
     let found = detect(source, 0);
-    let wanted = wanted(&found, source.missed);
+    let wanted = missed_part(&found, source.missed);
     found_or_wanted(found, wanted, false)
 }
 
@@ -155,7 +155,7 @@ fn size_as(source: &mut PartsSource<'_>, image: ImageType) -> PartsAnswer<ImageR
 {
     source.forget();
     let found = size(source, image);
-    let wanted = wanted(&found, source.missed);
+    let wanted = missed_part(&found, source.missed);
     let texts = has_texts(&image);
     found_or_wanted(found, wanted, texts)
 }
@@ -192,7 +192,7 @@ fn has_texts(image: &ImageType) -> bool
 }
 
 // What is missed, where the answer is a failure.
-fn wanted<X>(answer: &ImageResult<X>, missed: Option<Missing>) -> Option<Missing>
+fn missed_part<X>(answer: &ImageResult<X>, missed: Option<Missing>) -> Option<Missing>
     ensures { result ≡ (if is_faulted answer.now then missed else None) }
 {
     match answer {

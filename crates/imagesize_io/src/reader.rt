@@ -78,7 +78,7 @@ impl<R: Told> Source for ReaderSource<'_, R> {
 
     #[inline(always)]
     fn refusal(&self, halt: Halt) -> ImageError {
-        refused(halt, &self.ledger.progress)
+        refusal_of(halt, &self.ledger.progress)
     }
 
     #[inline(always)]
@@ -145,7 +145,7 @@ fn seek<R: Told>(reader: &mut R, to: SeekFrom) -> ImageResult<u64>
 // What a halt ends the call with. A call of its own, since few readings are halted.
 #[cold]
 #[inline(never)]
-fn refused(halt: Halt, progress: &Progress) -> ImageError
+fn refusal_of(halt: Halt, progress: &Progress) -> ImageError
     ensures { result ≡ error_at progress.now halt }
 {
     halt.error(Reason::Fault(progress.fault), progress.budget)

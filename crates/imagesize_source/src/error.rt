@@ -124,14 +124,14 @@ impl fmt::Display for Tag {
 
     fn fmt<W: fmt::Write>(&self, f: &mut fmt::Formatter<W>) -> fmt::Result {
         for &byte in &self.0 {
-            f.write_char(shown(byte))?;
+            f.write_char(show(byte))?;
         }
         Ok(())
     }
 }
 
 // The character that stands for a byte of a tag.
-fn shown(byte: u8) -> char
+fn show(byte: u8) -> char
     ensures { encode_utf8 result ≡ shown_byte byte ∷ [] }
 {
     match byte {

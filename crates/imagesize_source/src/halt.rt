@@ -7,7 +7,7 @@ use crate::source::Source;
 use crate::{ImageError, ImageResult, Reason};
 
 /// Why a reading was halted, or which bytes no layout allows. What is large of an error (that of a call that failed, the budget) is
-/// kept by the source, and asked of it at last (`answered`), so that what each reading on the way answers is small.
+/// kept by the source, and asked of it at last (`with_error`), so that what each reading on the way answers is small.
 #[derive(Clone, Copy, Debug)]
 pub enum Halt {
     /// A call of the reader failed, or memory was refused.
@@ -88,7 +88,7 @@ impl Halt {
 
 /// The answer of a call, with the error of its halt.
 #[inline(always)]
-pub fn answered<S: Source, T>(answer: Result<T, Halt>, source: &S) -> ImageResult<T>
+pub fn with_error<S: Source, T>(answer: Result<T, Halt>, source: &S) -> ImageResult<T>
     ensures { result ≡ with_error (S.failure source.now) (S.state source.now).frame.budget answer }
 {
     match answer {

@@ -366,14 +366,14 @@ fn answer(gathered: Gathered) -> Result<ImageSize, Halt>
     ensures { (failure : ImageError) (budget : ℕ) → with_error failure budget result ≡ gathered_answer gathered }
 {
     match gathered.best {
-        Some(size) => Ok(turned(size, gathered.turn)),
+        Some(size) => Ok(turn_by(size, gathered.turn)),
         None => Err(Halt::NotEnoughData),
     }
 }
 
 // A quarter and three quarters of a turn exchange width and height.
 #[inline(always)]
-fn turned(size: ImageSize, turn: Option<u8>) -> ImageSize
+fn turn_by(size: ImageSize, turn: Option<u8>) -> ImageSize
     ensures { result ≡ turn_by turn size }
 {
     match turn {

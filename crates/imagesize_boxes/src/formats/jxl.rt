@@ -85,12 +85,12 @@ fn read_start<S: Source>(source: &mut S) -> Result<Option<Front>, Halt>
     }
     let mut room = [0u8; 14];
     let there = source.read_at(2, &mut room)?;
-    Ok(Some(joined(start, room, there)))
+    Ok(Some(join(start, room, there)))
 }
 
 // The two bytes, and so many of those behind them.
 #[inline]
-fn joined(start: [u8; 2], room: [u8; 14], there: usize) -> Front
+fn join(start: [u8; 2], room: [u8; 14], there: usize) -> Front
     requires { there ≤ 14 }
     ensures { take result.len result.bytes ≡ start ++ take there room }
 {

@@ -28,7 +28,7 @@ fn ending(stop: Stop, tries: u64) -> Option<io::Error>
 
 // What a call of the reader answered. The error of one that failed is kept, and halts the reading.
 #[inline(always)]
-fn kept<T>(answer: Result<T, io::Error>, fault: &mut io::Error) -> Result<T, Halt>
+fn keep_fault<T>(answer: Result<T, io::Error>, fault: &mut io::Error) -> Result<T, Halt>
     ensures fault { fault.new ≡ fault_after fault.old answer }
     ensures halt { result ≡ halt_if_failed answer }
 {
@@ -62,7 +62,7 @@ fn read_retrying<R: Told>(
         match reader.read_told(room) {
             Ok(count) => return Ok(count),
             Err(stop) => match ending(stop, *retries) {
-                Some(error) => return kept(Err(error), fault),
+                Some(error) => return keep_fault(Err(error), fault),
                 None => *retries += 1,
             },
         }
@@ -198,7 +198,7 @@ fn go_to<R: Told>(reader: &mut R, progress: &mut Progress, place: u64) -> Result
     if place > progress.told {
         return Ok(false);
     }
-    kept(
+    keep_fault(
         reader.seek_told(SeekFrom::Start(place)),
         &mut progress.fault,
     )?;

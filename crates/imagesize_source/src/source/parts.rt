@@ -87,7 +87,7 @@ impl<'a> PartsSource<'a> {
     // Records the places of a reading.
     #[inline(always)]
     #[tactic(auto, unfolding(crate::specs::Input::span_at))]
-    fn saw(&mut self, start: u64, count: usize)
+    fn see(&mut self, start: u64, count: usize)
         requires { (i : ℕ) → i < count → is_some (byte_in_parts self.old.told self.old.spans.now self.old.bytes.now (start + i)) ≡ true }
         ensures spans { self.new.spans.now ≡ self.old.spans.now }
         ensures bytes { self.new.bytes.now ≡ self.old.bytes.now }
@@ -128,7 +128,7 @@ impl<'a> PartsSource<'a> {
         ensures missed { self.new.missed ≡ Some (record { start = start + count; sure = sure; most = most }) }
         ensures halts { result ≡ Halt.Failed }
     {
-        self.saw(start, count);
+        self.see(start, count);
         self.missed = Some(Missing {
             start: start + count as u64,
             sure: sure as u64,
@@ -147,7 +147,7 @@ impl<'a> PartsSource<'a> {
         ensures known { (i : ℕ) → i < result.0 → is_some (byte_in_parts self.now.told self.now.spans.now self.now.bytes.now (place + i)) ≡ true }
         ensures missing { result.0 < result.1 → is_some (byte_in_parts self.now.told self.now.spans.now self.now.bytes.now (place + result.0)) ≡ false }
     {
-        let wanted = there(self.told, place, room.len());
+        let wanted = count_there(self.told, place, room.len());
         let found = gather(
             self.spans,
             self.bytes,
@@ -174,7 +174,7 @@ impl<'a> PartsSource<'a> {
             let missing = wanted - found;
             return Err(self.miss(place, found, missing, missing));
         }
-        self.saw(place, found);
+        self.see(place, found);
         Ok(found)
     }
 }
@@ -202,7 +202,7 @@ impl Source for PartsSource<'_> {
             return self.gather_at(place, room);
         };
         room.copy_from_slice(found);
-        self.saw(place, found.len());
+        self.see(place, found.len());
         Ok(found.len())
     }
 
@@ -212,7 +212,7 @@ impl Source for PartsSource<'_> {
             return Err(self.miss(place, found, 1, wanted - found));
         }
         let count = text_length(text, &room[..found]);
-        self.saw(place, count);
+        self.see(place, count);
         Ok(count)
     }
 }
@@ -236,7 +236,7 @@ fn whole_part(bytes: &[u8], place: u64, count: usize) -> Option<&[u8]>
 }
 
 // How many of a room's bytes an input of this length has from a place on.
-fn there(told: u64, place: u64, room: usize) -> usize
+fn count_there(told: u64, place: u64, room: usize) -> usize
     ensures { result ≡ min room (told - place) }
 {
     let left = told.saturating_sub(place);
@@ -297,8 +297,8 @@ fn known_from<'a>(spans: &[Span], bytes: &'a [u8], told: u64, place: u64) -> &'a
             let offset = place - span.start;
             return part_of(rest, offset, most.min(len - offset));
         }
-        most = before(span.start, place, most);
-        rest = behind(rest, len);
+        most = count_before(span.start, place, most);
+        rest = bytes_behind(rest, len);
     }
     &rest[..0]
 }
@@ -318,7 +318,7 @@ fn has_place(start: u64, len: u64, place: u64) -> bool
 }
 
 // How many of so many places from one on lie before a start that is behind it.
-fn before(start: u64, place: u64, most: u64) -> u64
+fn count_before(start: u64, place: u64, most: u64) -> u64
     ensures { result ≡ (if nat_lt place start then min most (start - place) else most) }
 {
     if place < start {
@@ -330,7 +330,7 @@ fn before(start: u64, place: u64, most: u64) -> u64
 
 // The bytes behind so many.
 #[tactic(auto, using(crate::proofs::Known::slice_behind))]
-fn behind(bytes: &[u8], count: u64) -> &[u8]
+fn bytes_behind(bytes: &[u8], count: u64) -> &[u8]
     ensures { result.now ≡ drop count bytes.now }
 {
     &bytes[(count as usize).min(bytes.len())..]

@@ -59,13 +59,13 @@ impl Records for Words {
         let taken = word.taken as u64;
         if is_comment(word.text) {
             if word.ended_by == b'\n' {
-                return Ok(passed(taken));
+                return Ok(pass(taken));
             }
             let rest = pass_line_behind(source, place, taken, b'\n', &mut self.room)?;
-            return Ok(passed(taken + rest as u64));
+            return Ok(pass(taken + rest as u64));
         }
         if is_blank(word.text) {
-            return Ok(passed(taken));
+            return Ok(pass(taken));
         }
         let width = number(word.text);
         let next = read_word_behind(source, place, taken, &mut self.room)?;
@@ -76,7 +76,7 @@ impl Records for Words {
 
 // A word that says nothing of the size. It takes so many bytes.
 #[inline(always)]
-fn passed(taken: u64) -> Found<(), ImageSize>
+fn pass(taken: u64) -> Found<(), ImageSize>
     ensures { result ≡ found.Other tt taken }
 {
     Found::Other {

@@ -10,7 +10,7 @@ use Rattle.imagesize.proofs.parts.size_as.Goals as goal
 pub returns-clause-says : goal.returns-clause-says
 returns-clause-says c = λ d has short.
     let old = c.args.source.now in let s = c.size-found.new.source in let new = c.forget.ensures in
-    subst (λ a. SaysOf (has_texts c.args.image) (size_of c.args.image d) old.spans.now a) (sym (c.found_or_wanted.ensures ∙ ap (λ m. found_or_wanted c.size-found.result (option_map (wanted_of c.has_texts-texts.result) m)) c.wanted-wanted.ensures
+    subst (λ a. SaysOf (has_texts c.args.image) (size_of c.args.image d) old.spans.now a) (sym (c.found_or_wanted.ensures ∙ ap (λ m. found_or_wanted c.size-found.result (option_map (wanted_of c.has_texts-texts.result) m)) c.missed_part-wanted.ensures
     ∙ ap (λ (t : Bool). found_or_wanted c.size-found.result (option_map (wanted_of t) (cond (is_faulted c.size-found.result) s.missed None)))
     c.has_texts-texts.ensures))
     (says_of (has_texts c.args.image) (size_of c.args.image) (local_size c.args.image) d old.told old.spans.now old.bytes.now has short s.log.spans s.missed _
@@ -22,7 +22,7 @@ returns-clause-fits c =
     let old = c.args.source.now in let s = c.size-found.new.source in let new = c.forget.ensures in
     let call = called (size_of c.args.image) old.told _ _ old.spans.now _ _ old.bytes.now _ _ _ _ _ _ _
     new.told new.spans new.bytes new.seen new.missed c.size-found.ensures s.seen s.lacks in
-    subst (λ a. Fits old.told a) (sym (c.found_or_wanted.ensures ∙ ap (λ m. found_or_wanted c.size-found.result (option_map (wanted_of c.has_texts-texts.result) m)) c.wanted-wanted.ensures
+    subst (λ a. Fits old.told a) (sym (c.found_or_wanted.ensures ∙ ap (λ m. found_or_wanted c.size-found.result (option_map (wanted_of c.has_texts-texts.result) m)) c.missed_part-wanted.ensures
     ∙ ap (λ (t : Bool). found_or_wanted c.size-found.result (option_map (wanted_of t) (cond (is_faulted c.size-found.result) s.missed None)))
     c.has_texts-texts.ensures))
     (fits (has_texts c.args.image) old.told old.spans.now old.bytes.now s.missed c.size-found.result _ call.lacks)

@@ -11,7 +11,7 @@ pub returns-clause-says : goal.returns-clause-says
 returns-clause-says c = λ d has short.
     let old = c.args.source.now in let s = c.detect-found.new.source in let new = c.forget.ensures in
     subst (λ a. SaysOf false (kind_of d 0) old.spans.now a) (sym (c.found_or_wanted.ensures
-    ∙ ap (λ m. found_or_wanted c.detect-found.result (option_map (wanted_of false) m)) c.wanted-wanted.ensures))
+    ∙ ap (λ m. found_or_wanted c.detect-found.result (option_map (wanted_of false) m)) c.missed_part-wanted.ensures))
     (says_of false (λ x. kind_of x 0) (local_kind 0) d old.told old.spans.now old.bytes.now has short s.log.spans s.missed _
     (called (λ x. kind_of x 0) _ _ _ _ _ _ _ _ _ _ _ _ _ _ new.told new.spans new.bytes new.seen new.missed c.detect-found.ensures
     s.seen s.lacks))
@@ -22,7 +22,7 @@ returns-clause-fits c =
     let call = called (λ x. kind_of x 0) old.told _ _ old.spans.now _ _ old.bytes.now _ _ _ _ _ _ _
     new.told new.spans new.bytes new.seen new.missed c.detect-found.ensures s.seen s.lacks in
     subst (λ a. Fits old.told a) (sym (c.found_or_wanted.ensures
-    ∙ ap (λ m. found_or_wanted c.detect-found.result (option_map (wanted_of false) m)) c.wanted-wanted.ensures))
+    ∙ ap (λ m. found_or_wanted c.detect-found.result (option_map (wanted_of false) m)) c.missed_part-wanted.ensures))
     (fits false old.told old.spans.now old.bytes.now s.missed c.detect-found.result _ call.lacks)
 
 pub returns-clause-spans : goal.returns-clause-spans

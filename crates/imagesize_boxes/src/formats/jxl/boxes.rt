@@ -88,7 +88,7 @@ fn read_head<S: Source>(source: &mut S, place: u64) -> Result<BoxHead, Halt>
     match short_size(&head) {
         1 => {
             let size = read_long_size(source, place)?;
-            checked(
+            check_head(
                 place,
                 BoxHead {
                     tag,
@@ -97,7 +97,7 @@ fn read_head<S: Source>(source: &mut S, place: u64) -> Result<BoxHead, Halt>
                 },
             )
         }
-        size => checked(
+        size => check_head(
             place,
             BoxHead {
                 tag,
@@ -135,7 +135,7 @@ fn read_long_size<S: Source>(source: &mut S, place: u64) -> Result<u64, Halt>
 
 // The head, where the box ends at 2^64-1 at the latest and not before its head does.
 #[tactic(auto, using(std::proofs::lemmas::Nat::be_bytes_4))]
-fn checked(place: u64, head: BoxHead) -> Result<BoxHead, Halt>
+fn check_head(place: u64, head: BoxHead) -> Result<BoxHead, Halt>
     requires { head.length ≤ 16 }
     ensures is { IfOk result (λ found. IsHead place found) }
     ensures answer { (failure : ImageError) (budget : ℕ) → with_error failure budget result ≡ box_checked place head }
@@ -176,7 +176,7 @@ fn read_content<S: Source>(
     if is_partial_box(head) {
         return read_partial(source, place, head, held);
     }
-    Ok(behind(place, head, held, Codestream::new()))
+    Ok(found_behind(place, head, held, Codestream::new()))
 }
 
 #[inline]
@@ -308,13 +308,13 @@ fn behind_piece(
     ensures is { box_said result ≡ partial_said held.now.items place head.now index piece.items }
 {
     if held.len() + piece.len() == MOST || index[0] >= 0x80 {
-        return Found::Whole(joined(held, &piece));
+        return Found::Whole(join(held, &piece));
     }
-    behind(place, head, held, piece)
+    found_behind(place, head, held, piece)
 }
 
 // What a box with this piece says. An open box is the last.
-fn behind(place: u64, head: &BoxHead, held: &Codestream, piece: Codestream) -> Found
+fn found_behind(place: u64, head: &BoxHead, held: &Codestream, piece: Codestream) -> Found
     requires is { IsHead place head.now }
     requires fits { length held.now.items + length piece.items ≤ 16 }
     ensures further { IsFurther place result }
@@ -322,7 +322,7 @@ fn behind(place: u64, head: &BoxHead, held: &Codestream, piece: Codestream) -> F
     ensures is { box_said result ≡ said_behind held.now.items place head.now piece.items }
 {
     if head.size == 0 {
-        return Found::Whole(joined(held, &piece));
+        return Found::Whole(join(held, &piece));
     }
     Found::Passed {
         piece,
@@ -331,7 +331,7 @@ fn behind(place: u64, head: &BoxHead, held: &Codestream, piece: Codestream) -> F
 }
 
 // The bytes and the piece behind them.
-fn joined(held: &Codestream, piece: &Codestream) -> Codestream
+fn join(held: &Codestream, piece: &Codestream) -> Codestream
     requires { length held.now.items + length piece.now.items ≤ 16 }
     ensures { result.items ≡ held.now.items ++ piece.now.items }
 {

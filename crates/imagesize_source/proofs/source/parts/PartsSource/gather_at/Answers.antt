@@ -17,4 +17,4 @@ returns-clause-runs c =
     let f = c.fill_known-found in
     parts_read s.told s.spans.now s.bytes.now s.log.spans s.missed _ f.new.room c.args.place
     f.result.1 f.result.0 f.ensures.wanted f.ensures.within c.if-found-wanted.false f.ensures.copied
-    (state_is _ _ _ _ _ _ _ _ _ _ c.saw.ensures.told c.saw.ensures.spans c.saw.ensures.bytes c.saw.ensures.seen c.saw.ensures.missed)
+    (state_is _ _ _ _ _ _ _ _ _ _ c.see.ensures.told c.see.ensures.spans c.see.ensures.bytes c.see.ensures.seen c.see.ensures.missed)

@@ -25,4 +25,4 @@ returns-clause-runs c =
     (omega arith) (omega arith)
     (ap (take (length found)) same ∙ front_part s.told s.spans.now s.bytes.now s.front.now s.front_known found c.args.place (length found)
     (omega (arith, has.1, has.2)) (has.0 ∙ ap (part s.front.now c.args.place) (omega (arith, has.1))) refl)
-    (state_is _ _ _ _ _ _ _ _ _ _ c.saw.ensures.told c.saw.ensures.spans c.saw.ensures.bytes c.saw.ensures.seen c.saw.ensures.missed)
+    (state_is _ _ _ _ _ _ _ _ _ _ c.see.ensures.told c.see.ensures.spans c.see.ensures.bytes c.see.ensures.seen c.see.ensures.missed)

@@ -21,4 +21,4 @@ returns-clause-runs c =
     (cut_is f.new.room f.result.0 f.result.1 c.args.place s.told _ _ f.ensures.wanted f.ensures.within c.is_cut.ensures
     ∙ c.if-is_cut.false)
     c.text_length-count.ensures.length
-    (state_is _ _ _ _ _ _ _ _ _ _ c.saw.ensures.told c.saw.ensures.spans c.saw.ensures.bytes c.saw.ensures.seen c.saw.ensures.missed)
+    (state_is _ _ _ _ _ _ _ _ _ _ c.see.ensures.told c.see.ensures.spans c.see.ensures.bytes c.see.ensures.seen c.see.ensures.missed)

@@ -1,6 +1,6 @@
 use Rattle.std.proofs.Common.{refl}
 use Rattle.imagesize_source.proofs.Known.{span_known}
-use Rattle.imagesize_source.proofs.source.parts.PartsSource.saw.Goals as goal
+use Rattle.imagesize_source.proofs.source.parts.PartsSource.see.Goals as goal
 
 pub push-requires : goal.push-requires
 push-requires c =
