@@ -161,11 +161,25 @@ fn read_compression<S: Source>(
         ImageType::Heif(_) => ImageType::Heif(heif::detect_compression(source, place, head)?),
         ImageType::Atc(_) => ImageType::Atc(atc::detect_compression(source)?),
         ImageType::Pvrtc(_) => ImageType::Pvrtc(pvrtc::detect_compression(source)?),
-        ImageType::Eac(_) => ImageType::Eac(pkm::detect_compression(source)?),
-        ImageType::Etc2(_) => ImageType::Etc2(pkm::detect_compression(source)?),
+        ImageType::Eac(_) | ImageType::Etc2(_) => {
+            in_pkm(found, pkm::detect_compression(source)?)
+        }
         ImageType::Dds(_) => ImageType::Dds(dds::detect_compression(source)?),
         _ => found,
     })
+}
+
+// The type of a texture in a PKM file that stores its pixels like this. Both are read in one place, so that the reading is
+// inlined.
+#[inline(always)]
+fn in_pkm(found: ImageType, compression: PkmCompression) -> ImageType
+    ensures eac { (old : PkmCompression) → found ≡ ImageType.Eac old → result ≡ ImageType.Eac compression }
+    ensures etc2 { (old : PkmCompression) → found ≡ ImageType.Etc2 old → result ≡ ImageType.Etc2 compression }
+{
+    match found {
+        ImageType::Eac(_) => ImageType::Eac(compression),
+        _ => ImageType::Etc2(compression),
+    }
 }
 
 // The size, by the format of a type.

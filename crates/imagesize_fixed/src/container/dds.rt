@@ -7,7 +7,7 @@ ghost use Rattle.imagesize_source.specs.Halts.{RunsOrHalts};
 ghost use Rattle.imagesize_source.specs.Layout.{if_there, layout_reads};
 ghost use Rattle.imagesize_source.specs.Layout.Layout.{«done»};
 
-use imagesize_source::readings::{read_if_there, read_u32};
+use imagesize_source::readings::{read_u32, read_whole_at};
 use imagesize_source::source::Source;
 use imagesize_source::{Endian, Halt};
 use imagesize_types::compression::DdsCompression;
@@ -37,9 +37,10 @@ pub fn detect_compression<S: Source>(source: &mut S) -> Result<DdsCompression, H
     ensures { RunsOrHalts (S.state source.old) (S.state source.new) (S.failure source.new) result
         (layout_reads (S.state source.old).held.input dds_compression) }
 {
-    let Some(code) = read_if_there::<S, 4>(source, 84)? else {
+    let mut code = [0u8; 4];
+    if !read_whole_at(source, 84, &mut code)? {
         return Ok(DdsCompression::Unknown);
-    };
+    }
     if code == *b"DX10" {
         return extended_compression(source);
     }
@@ -55,10 +56,11 @@ fn extended_compression<S: Source>(source: &mut S) -> Result<DdsCompression, Hal
     ensures { RunsOrHalts (S.state source.old) (S.state source.new) (S.failure source.new) result
         (layout_reads (S.state source.old).held.input (if_there 128 4 (λ bs. done (dds_number_of dxgi_formats bs)))) }
 {
-    match read_if_there::<S, 4>(source, 128)? {
-        Some(format) => Ok(format_compression(u32::from_le_bytes(format))),
-        None => Ok(DdsCompression::Unknown),
+    let mut format = [0u8; 4];
+    if !read_whole_at(source, 128, &mut format)? {
+        return Ok(DdsCompression::Unknown);
     }
+    Ok(format_compression(u32::from_le_bytes(format)))
 }
 
 // How the pixels are stored, by the bits of a pixel where they are there.
@@ -67,10 +69,11 @@ fn plain_compression<S: Source>(source: &mut S) -> Result<DdsCompression, Halt>
     ensures { RunsOrHalts (S.state source.old) (S.state source.new) (S.failure source.new) result
         (layout_reads (S.state source.old).held.input (if_there 88 4 (λ bs. done (dds_number_of dds_bit_counts bs)))) }
 {
-    match read_if_there::<S, 4>(source, 88)? {
-        Some(bits) => Ok(bits_compression(u32::from_le_bytes(bits))),
-        None => Ok(DdsCompression::Unknown),
+    let mut bits = [0u8; 4];
+    if !read_whole_at(source, 88, &mut bits)? {
+        return Ok(DdsCompression::Unknown);
     }
+    Ok(bits_compression(u32::from_le_bytes(bits)))
 }
 
 // How the pixels of a four-character code are stored.

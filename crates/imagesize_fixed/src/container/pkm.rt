@@ -5,7 +5,7 @@ ghost use Rattle.imagesize_types.specs.Table.{look_up};
 ghost use Rattle.imagesize_source.specs.Halts.{RunsOrHalts};
 ghost use Rattle.imagesize_source.specs.Layout.{layout_reads};
 
-use imagesize_source::readings::{read_if_there, read_u16};
+use imagesize_source::readings::{read_u16, read_whole_at};
 use imagesize_source::source::Source;
 use imagesize_source::{Endian, Halt};
 use imagesize_types::compression::PkmCompression;
@@ -38,15 +38,17 @@ pub fn is_pkm(header: &[u8]) -> bool
 }
 
 /// How the pixels are stored, by the data type where it is there.
+#[inline(always)]
 #[tactic(auto, using(imagesize_source::proofs::Runs::steps, imagesize_source::proofs::Numbers::big_2), unfolding(crate::specs::Pkm::pkm_compression))]
 pub fn detect_compression<S: Source>(source: &mut S) -> Result<PkmCompression, Halt>
     ensures { RunsOrHalts (S.state source.old) (S.state source.new) (S.failure source.new) result
         (layout_reads (S.state source.old).held.input pkm_compression) }
 {
-    match read_if_there::<S, 2>(source, 6)? {
-        Some(data_type) => Ok(compression(u16::from_be_bytes(data_type))),
-        None => Ok(PkmCompression::Unknown),
+    let mut data_type = [0u8; 2];
+    if !read_whole_at(source, 6, &mut data_type)? {
+        return Ok(PkmCompression::Unknown);
     }
+    Ok(compression(u16::from_be_bytes(data_type)))
 }
 
 // How the pixels of a data type are stored.

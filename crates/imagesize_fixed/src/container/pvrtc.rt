@@ -6,7 +6,7 @@ ghost use Rattle.imagesize_source.specs.Halts.{RunsOrHalts};
 ghost use Rattle.imagesize_source.specs.Layout.{if_there, layout_reads};
 ghost use Rattle.imagesize_source.specs.Layout.Layout.{«done»};
 
-use imagesize_source::readings::{read_bytes, read_if_there, read_u32};
+use imagesize_source::readings::{read_bytes, read_u32, read_whole_at};
 use imagesize_source::source::Source;
 use imagesize_source::{Endian, Halt};
 use imagesize_types::compression::PvrtcCompression;
@@ -36,9 +36,10 @@ pub fn detect_compression<S: Source>(source: &mut S) -> Result<PvrtcCompression,
     ensures { RunsOrHalts (S.state source.old) (S.state source.new) (S.failure source.new) result
         (layout_reads (S.state source.old).held.input pvrtc_compression) }
 {
-    let Some(tag) = read_if_there::<S, 4>(source, 0)? else {
+    let mut tag = [0u8; 4];
+    if !read_whole_at(source, 0, &mut tag)? {
         return Ok(PvrtcCompression::Unknown);
-    };
+    }
     if !is_version_3(&tag) {
         return Ok(PvrtcCompression::Unknown);
     }
@@ -52,10 +53,11 @@ fn format<S: Source>(source: &mut S) -> Result<PvrtcCompression, Halt>
     ensures { RunsOrHalts (S.state source.old) (S.state source.new) (S.failure source.new) result
         (layout_reads (S.state source.old).held.input (if_there 8 8 (λ bs. done (pvrtc_format_of bs)))) }
 {
-    match read_if_there::<S, 8>(source, 8)? {
-        Some(format) => Ok(format_compression(u64::from_le_bytes(format))),
-        None => Ok(PvrtcCompression::Unknown),
+    let mut format = [0u8; 8];
+    if !read_whole_at(source, 8, &mut format)? {
+        return Ok(PvrtcCompression::Unknown);
     }
+    Ok(format_compression(u64::from_le_bytes(format)))
 }
 
 // How the pixels of a format are stored.
