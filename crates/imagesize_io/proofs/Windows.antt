@@ -159,7 +159,7 @@ in_window_state f (Some s) w taken place k counts fits honest =
 
 pub in_window : (f : Frame) (st : Option Standing) (w room old : List ℕ) (taken place n : ℕ) → ToldBy f st → f.counts ≡ true
     → n ≡ min (length old) (length w - place) → room ≡ part w place (length old) ++ drop n old → n ≡ length room
-    → length room ≡ length old → Runs (state_at f st w taken) (state_at f st w taken) (Ok (take n room))
+    → length room ≡ length old → Runs (state_at f st w taken) (state_at f st w taken) (Ok (take (length room) room))
     (part_read (held_at st w).input place (length room))
 in_window f st w room old taken place n told counts count copied all kept = record {
   sound = sound_at f st w taken told;
@@ -167,7 +167,7 @@ in_window f st w room old taken place n told counts count copied all kept = reco
   frame = refl;
   taken = omega arith;
   within = λ honest. omega arith;
-  answer = λ honest goes_on. ap Ok (in_window_answer st w room old place n count copied all kept honest);
+  answer = λ honest goes_on. ap Ok (in_window_answer st w room old place n count copied all kept honest ∙ ap (λ m. take m room) all);
   state = λ honest goes_on. in_window_state f st w taken place (length room) counts (omega arith) honest;
   fault = λ honest faults. absurd cc;
   misses = λ honest faults. absurd cc;

@@ -1,5 +1,5 @@
 //! The first bytes of an input, kept as they were taken.
-ghost use Rattle.std.specs.Prelude.{◌≡◌, ◌-◌, ◌≤◌, ◌++◌, min, drop, length};
+ghost use Rattle.std.specs.Prelude.{◌≡◌, ◌-◌, ◌≤◌, ◌++◌, min, drop, length, take};
 ghost use Rattle.imagesize_source.specs.Limits.{most_held};
 ghost use Rattle.imagesize_source.specs.Input.{part};
 ghost use Rattle.imagesize_io.specs.ReaderState.{kept_window};
@@ -27,6 +27,19 @@ pub(crate) fn keep(window: &mut Window, place: u64, bytes: &[u8])
     // There is room for what is kept.
     let kept = window.remaining_capacity();
     let _ = window.try_extend_from_slice(&bytes[..kept]);
+}
+
+// The same of so many bytes at the front of a room. Most reads fill the room, whose length the compiler knows.
+#[inline(always)]
+pub(crate) fn keep_front(window: &mut Window, place: u64, room: &[u8], count: usize)
+    requires { count ≤ length room.now }
+    ensures { window.new.items ≡ kept_window window.old.items place (take count room.now) }
+{
+    if count == room.len() {
+        keep(window, place, room);
+    } else {
+        keep(window, place, &room[..count]);
+    }
 }
 
 // Copies what the window has from a place on into the room, and answers how many bytes that is.

@@ -7,7 +7,7 @@ use super::Ledger;
 use super::filling::read_from;
 use crate::Told;
 use crate::progress::Progress;
-use crate::window::{copy_kept, keep};
+use crate::window::{copy_kept, keep, keep_front};
 use imagesize_source::Halt;
 
 // Reads from a place on: from the reader alone where it lies behind the window. What follows the window is kept.
@@ -24,12 +24,12 @@ fn read_windowed<R: Told>(
 {
     if place < ledger.window.len() as u64 || room.is_empty() {
         let count = read_within(reader, ledger, place, room)?;
-        ledger.present = place.saturating_add(count as u64);
+        ledger.present = place + count as u64;
         return Ok(count);
     }
     let count = read_from(reader, &mut ledger.progress, place, room)?;
     ledger.present = ledger.progress.place;
-    keep(&mut ledger.window, place, &room[..count]);
+    keep_front(&mut ledger.window, place, room, count);
     Ok(count)
 }
 
@@ -46,7 +46,7 @@ fn read_within<R: Told>(
 {
     let copied = copy_kept(&ledger.window, place, room);
     if copied == room.len() {
-        return Ok(copied);
+        return Ok(room.len());
     }
     let next = place + copied as u64;
     let count = read_across(reader, &mut ledger.progress, next, &mut room[copied..])?;

@@ -18,7 +18,7 @@ pub returns : goal.returns
 returns g c =
     record {
       reads = reads_past (omega (arith, c.len.ensures.value, c.len.ensures.fits)) (omega (arith, c.len.ensures.value)) (search rules)
-          c.in_ok-count-2.ensures c.keep.ensures (search rules);
+          c.in_ok-count-2.ensures c.keep_front.ensures (search rules);
       present = search rules;
       goes_on = search rules;
       ends = λ above other. absurd (omega (arith, c.requires, above));
