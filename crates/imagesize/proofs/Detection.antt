@@ -84,18 +84,18 @@ pub kind_within : (d : List ℕ) (place : ℕ) → total (kind_of d place).marks
 kind_within d place = omega (arith, kind_at_most d place, few_of (kind_of d place).answer)
 
 -- a type whose size is told in the same way, whatever its compression
-abbrev pub Alike : ImageType → ImageType → Type 0
-Alike found type = way_of type ≡ way_of found
+abbrev pub SameWay : ImageType → ImageType → Type 0
+SameWay found type = way_of type ≡ way_of found
 
-with_alike : (place : ℕ) (head : List ℕ) (found : ImageType) → Always (Alike found) (with_compression place head found)
+with_alike : (place : ℕ) (head : List ℕ) (found : ImageType) → Always (SameWay found) (with_compression place head found)
 unfolding with_compression
-with_alike place head (Heif k) = always_bind (Alike (Heif k)) (heif_compression place head) _ (heif_compression_laws place head).answers
+with_alike place head (Heif k) = always_bind (SameWay (Heif k)) (heif_compression place head) _ (heif_compression_laws place head).answers
     (λ _. refl)
-with_alike place head (Atc k) = always_bind (Alike (Atc k)) atc_compression _ atc_compression_laws.answers (λ _. refl)
-with_alike place head (Pvrtc k) = always_bind (Alike (Pvrtc k)) pvrtc_compression _ pvrtc_compression_laws.answers (λ _. refl)
-with_alike place head (Eac k) = always_bind (Alike (Eac k)) pkm_compression _ pkm_compression_laws.answers (λ _. refl)
-with_alike place head (Etc2 k) = always_bind (Alike (Etc2 k)) pkm_compression _ pkm_compression_laws.answers (λ _. refl)
-with_alike place head (Dds k) = always_bind (Alike (Dds k)) dds_compression _ dds_compression_laws.answers (λ _. refl)
+with_alike place head (Atc k) = always_bind (SameWay (Atc k)) atc_compression _ atc_compression_laws.answers (λ _. refl)
+with_alike place head (Pvrtc k) = always_bind (SameWay (Pvrtc k)) pvrtc_compression _ pvrtc_compression_laws.answers (λ _. refl)
+with_alike place head (Eac k) = always_bind (SameWay (Eac k)) pkm_compression _ pkm_compression_laws.answers (λ _. refl)
+with_alike place head (Etc2 k) = always_bind (SameWay (Etc2 k)) pkm_compression _ pkm_compression_laws.answers (λ _. refl)
+with_alike place head (Dds k) = always_bind (SameWay (Dds k)) dds_compression _ dds_compression_laws.answers (λ _. refl)
 with_alike place head _ = refl
 
 -- an answer behind readings is that behind what they answered
@@ -119,18 +119,18 @@ none_lasts d n place head type is stays =
 
 by_more : (d x : List ℕ) (place : ℕ) (head : List ℕ) (row : Option ImageType) (type : ImageType)
     → (layout_reads d (kind_by (length d) place head row)).answer ≡ Ok type → lasts type ≡ true → (after : ImageType)
-    × ((layout_reads (d ++ x) (kind_by (length (d ++ x)) place head row)).answer ≡ Ok after) × Alike type after
+    × ((layout_reads (d ++ x) (kind_by (length (d ++ x)) place head row)).answer ≡ Ok after) × SameWay type after
 by_more d x place head None type is stays = absurd (none_lasts d (length d) place head type is stays)
 by_more d x place head (Some found) type is stays =
-    let before = always (Alike found) d (with_compression place head found) (with_alike place head found) in
-    let after = always (Alike found) (d ++ x) (with_compression place head found) (with_alike place head found) in
+    let before = always (SameWay found) d (with_compression place head found) (with_alike place head found) in
+    let after = always (SameWay found) (d ++ x) (with_compression place head found) (with_alike place head found) in
     let same : before.0 ≡ type = cc in
-    let alike : Alike found type = subst (Alike found) same before.2 in
+    let alike : SameWay found type = subst (SameWay found) same before.2 in
     (after.0, after.1, after.2 ∙ sym alike)
 
 -- behind a type that lasts, bytes that follow leave one whose size is told in the same way
 pub kind_more : (d x : List ℕ) (place : ℕ) (type : ImageType) → (kind_of d place).answer ≡ Ok type → lasts type ≡ true
-    → (after : ImageType) × ((kind_of (d ++ x) place).answer ≡ Ok after) × Alike type after
+    → (after : ImageType) × ((kind_of (d ++ x) place).answer ≡ Ok after) × SameWay type after
 kind_more d x place type is stays =
     let head = onward_ok (span_of d place 12) (bytes_at d place 12) (λ bs. layout_reads d (kind_by (length d) place bs (first_row rows bs))) type
     is in

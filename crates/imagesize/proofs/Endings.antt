@@ -3,10 +3,11 @@ use Rattle.std.proofs.Common.{◌≡◌, ℕ, ◌+◌, ◌-◌, ◌^◌, ◌≤�
 use Rattle.std.specs.Prelude.{option_map}
 use Rattle.imagesize.specs.Probed.{SpentAll}
 use Rattle.imagesize_io.proofs.Openings.{stop_cases, some_spent}
-use Rattle.imagesize_source.specs.Reading.{Reads, is_memory, is_stop, budget_spent, is_stopped}
+use Rattle.imagesize_source.specs.Reading.{Reads, is_memory, is_faulted, is_stop, budget_spent, is_stopped}
 use Rattle.imagesize_io.specs.Standing.{drift}
 use Rattle.imagesize_source.specs.State.{State, Runs}
 use Rattle.imagesize_source.specs.declared.error.ImageError.{ImageError}
+use Rattle.std.proofs.lemmas.Bool.{false_from_ne_true}
 
 without : (e : ImageError) (records is : Bool) → is_memory e ≡ is → (is_memory e ≡ true → records ≡ true) → records ≡ false
     → is_memory e ≡ false
@@ -20,16 +21,12 @@ no_memory (Ok x) reads none h = tt
 no_memory {b = b} (Err e) reads none h = without e b.frame.records (is_memory e) refl (λ refused. (h.ended.memory refused).0)
     (ap (λ f. f.records) h.frame ∙ none)
 
-unless : (b : Bool) → (b ≡ true → ⊥) → b ≡ false
-unless true h = absurd (h refl)
-unless false h = refl
-
--- a source that cannot fail and counts nothing stops a call for want of memory alone
-pub stops_for_memory : {X : Type 0} {a b : State} (r : Result X ImageError) (reads : Reads X) → a.held.honest ≡ true → a.held.can_fail ≡ false
-    → a.frame.counts ≡ false → IfErr r (λ e. is_memory e ≡ false) → Runs a b r reads → is_stopped r ≡ false
-stops_for_memory (Ok x) reads honest sure uncounted memory h = refl
-stops_for_memory {b = b} (Err e) reads honest sure uncounted memory h = unless (is_stop e) (λ stops. elim (stop_cases e stops) [
-  | inl faults ↦ let no : true ≡ false = sym (h.fault honest faults) ∙ sure in (cc)
+-- a source that counts nothing stops a call by a fault, or for want of memory
+pub only_fault : {X : Type 0} {a b : State} (r : Result X ImageError) (reads : Reads X) → a.frame.counts ≡ false
+    → IfErr r (λ e. is_memory e ≡ false) → Runs a b r reads → is_faulted r ≡ false → is_stopped r ≡ false
+only_fault (Ok x) reads uncounted memory h no_fault = refl
+only_fault {b = b} (Err e) reads uncounted memory h no_fault = false_from_ne_true (is_stop e) (λ stops. elim (stop_cases e stops) [
+  | inl faults ↦ let no : true ≡ false = sym faults ∙ no_fault in (cc)
   | inr other ↦ elim other [
     | inl all ↦
         let counts = (some_spent (budget_spent e) all.0 (λ n. (b.frame.counts ≡ true) × (n ≡ b.frame.budget) × (n ≡ b.taken)) all.1
@@ -38,6 +35,12 @@ stops_for_memory {b = b} (Err e) reads honest sure uncounted memory h = unless (
     | inr refused ↦ let no : true ≡ false = sym refused ∙ memory in (cc)
   ]
 ])
+
+-- one that cannot fail stops it for want of memory alone
+pub stops_for_memory : {X : Type 0} {a b : State} (r : Result X ImageError) (reads : Reads X) → a.held.honest ≡ true → a.held.can_fail ≡ false
+    → a.frame.counts ≡ false → IfErr r (λ e. is_memory e ≡ false) → Runs a b r reads → is_stopped r ≡ false
+stops_for_memory r reads honest sure uncounted memory h = only_fault r reads uncounted memory h
+    (false_from_ne_true (is_faulted r) (λ faults. let no : true ≡ false = sym (h.fault honest faults) ∙ sure in (cc)))
 
 -- over a slice that records nothing nothing does
 pub never_stopped : {X : Type 0} {a b : State} (r : Result X ImageError) (reads : Reads X) → a.held.honest ≡ true → a.held.can_fail ≡ false

@@ -30,15 +30,15 @@ HeldAgree n ((F ∷ Fs) ∷ Fss) each place within =
     HeldAgree (n + 1) Fss each.1 (λ c. place (inr c)) (λ c. within (inr c)))
 
 -- both together
-abbrev Agrees : ℕ → (Fss : List (List Field)) → Each Ordering Fss → (Choice Fss → ℕ) → (Choice Fss → ℕ) → Type 0
-Agrees n [] each place within = Unit
-Agrees n (Fs ∷ Fss) each place within =
+abbrev AllAgree : ℕ → (Fss : List (List Field)) → Each Ordering Fss → (Choice Fss → ℕ) → (Choice Fss → ℕ) → Type 0
+AllAgree n [] each place within = Unit
+AllAgree n (Fs ∷ Fss) each place within =
     ((x : Values Fs) → place (inl x) ≡ n) ×
     (((x y : Values Fs) → each.0 x y ≡ nat_cmp (within (inl x)) (within (inl y))) ×
-    Agrees (n + 1) Fss each.1 (λ c. place (inr c)) (λ c. within (inr c)))
+    AllAgree (n + 1) Fss each.1 (λ c. place (inr c)) (λ c. within (inr c)))
 
 agrees : (n : ℕ) (Fss : List (List Field)) (each : Each Ordering Fss) (place within : Choice Fss → ℕ) →
-    bare_agree n Fss each place ≡ true → HeldAgree n Fss each place within → Agrees n Fss each place within
+    bare_agree n Fss each place ≡ true → HeldAgree n Fss each place within → AllAgree n Fss each place within
 agrees n [] each place within bare held = tt
 agrees n ([] ∷ Fss) each place within bare held =
     let both = and_parts (place (inl tt) == n) _ bare in
@@ -51,14 +51,14 @@ agrees n ((F ∷ Fs) ∷ Fss) each place within bare held =
     (held.0, (held.1.0, agrees (n + 1) Fss each.1 (λ c. place (inr c)) (λ c. within (inr c)) bare held.1.1))
 
 from : (n : ℕ) (Fss : List (List Field)) (each : Each Ordering Fss) (place within : Choice Fss → ℕ) →
-    Agrees n Fss each place within → (c : Choice Fss) → n ≤ place c
+    AllAgree n Fss each place within → (c : Choice Fss) → n ≤ place c
 from n [] each place within h c = absurd c
 from n (Fs ∷ Fss) each place within h (inl x) = rw (h.0 x) (omega arith)
 from n (Fs ∷ Fss) each place within h (inr c) =
     let above = from (n + 1) Fss each.1 (λ c. place (inr c)) (λ c. within (inr c)) h.1.1 c in omega arith
 
 listed_choices : (n : ℕ) (Fss : List (List Field)) (each : Each Ordering Fss) (place within : Choice Fss → ℕ) →
-    Agrees n Fss each place within → (c d : Choice Fss) →
+    AllAgree n Fss each place within → (c d : Choice Fss) →
     by Less Greater Fss each c d ≡ ordering_then (nat_cmp (place c) (place d)) (nat_cmp (within c) (within d))
 listed_choices n [] each place within h c d = absurd c
 listed_choices n (Fs ∷ Fss) each place within h (inl x) (inl y) =

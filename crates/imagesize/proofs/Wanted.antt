@@ -2,7 +2,7 @@
 use Rattle.std.proofs.Common.{◌≡◌, ℕ, ◌^◌, ◌+◌, ◌-◌, ◌<◌, ◌≤◌, Bool, true, false, ◌||◌, ◌&&◌, ◌⊎◌, cond, leb, List, [], ◌∷◌, ◌++◌, Option, None, Some, Result, Ok, Err, inl, inr, refl, sym, ap, ◌∙◌, subst, arith}
 use Rattle.std.specs.List.{list_any}
 use Rattle.std.specs.Prelude.{option_map}
-use Rattle.std.proofs.lemmas.Bool.{cases_lt}
+use Rattle.std.proofs.lemmas.Bool.{cases_lt, or_left, or_right}
 use Rattle.std.specs.Option.{ForSome}
 use Rattle.std.specs.Result.{result_ok}
 use Rattle.std.proofs.lemmas.Bool.Decides.{nat_tests}
@@ -11,16 +11,15 @@ use Rattle.imagesize.specs.Parted.{Cover, Fits, IsProbed, Says, SaysOf, Tells, W
 use Rattle.imagesize.specs.declared.parts.PartsAnswer.{PartsAnswer}
 use Rattle.imagesize.specs.declared.parts.PartsAnswer.TheVariants.{Found, Wanted}
 use Rattle.imagesize.specs.declared.types.ImageType.{ImageType}
-use Rattle.imagesize.proofs.Endings.{no_memory}
+use Rattle.imagesize.proofs.Endings.{no_memory, only_fault}
 use Rattle.imagesize_types.specs.declared.size.ImageSize.{ImageSize}
-use Rattle.imagesize_io.proofs.Openings.{stop_cases, some_spent}
 use Rattle.imagesize_source.specs.declared.error.ImageError.{ImageError}
 use Rattle.imagesize_source.specs.declared.source.parts.Missing.{Missing}
 use Rattle.imagesize_source.specs.declared.span.Span.{Span}
 use Rattle.imagesize_source.specs.Agreement.{Agrees, IsLocal, Parting, is_covered, has_place, has_whole}
 use Rattle.imagesize_source.specs.Input.{span_at}
 use Rattle.imagesize_source.specs.Known.{AllKnown, HasParts, Lacks, filled_input, parts_state, sure_of}
-use Rattle.imagesize_source.specs.Reading.{Reads, is_faulted, is_stop, go_on, budget_spent, is_stopped}
+use Rattle.imagesize_source.specs.Reading.{Reads, is_faulted, go_on}
 use Rattle.imagesize_source.specs.State.{State, Runs}
 use Rattle.imagesize_source.proofs.Agreement.{covered-left, covered-one, covered-right, same_by_local}
 use Rattle.imagesize_source.proofs.Runs.{marks_onward}
@@ -31,14 +30,6 @@ use Rattle.imagesize_source.proofs.Known.{known_agrees, known_same, length-fille
 -- a span is one of some: what holds of it holds of one of them
 abbrev Among : Span → List Span → Type 0
 Among m spans = (P : Span → Bool) → P m ≡ true → list_any P spans ≡ true
-
-or_left : (b c : Bool) → b ≡ true → b || c ≡ true
-or_left true c is = refl
-or_left false c is = absurd cc
-
-or_right : (b c : Bool) → c ≡ true → b || c ≡ true
-or_right true c is = refl
-or_right false c is = is
 
 any_left : (P : Span → Bool) (s t : List Span) → list_any P s ≡ true → list_any P (s ++ t) ≡ true
 any_left P [] t is = absurd cc
@@ -81,23 +72,6 @@ later_cut (x ∷ made) (y ∷ seen) rest others m mark same = later (later_cut m
 
 -- ---- a source of parts is stopped by what it misses alone
 
-only_fault : {X : Type 0} {a b : State} (r : Result X ImageError) (reads : Reads X) → a.frame.counts ≡ false → a.frame.records ≡ false
-    → Runs a b r reads → is_faulted r ≡ false → is_stopped r ≡ false
-only_fault (Ok x) reads uncounted none h no_fault = refl
-only_fault {b = b} (Err e) reads uncounted none h no_fault = unless (is_stop e) (λ stops. elim (stop_cases e stops) [
-  | inl faults ↦ let no : true ≡ false = sym faults ∙ no_fault in (cc)
-  | inr other ↦ elim other [
-    | inl all ↦
-        let counts = (some_spent (budget_spent e) all.0 (λ n. (b.frame.counts ≡ true) × (n ≡ b.frame.budget) × (n ≡ b.taken)) all.1
-        h.ended.budget).0 in
-        let no : true ≡ false = sym counts ∙ ap (λ f. f.counts) h.frame ∙ uncounted in (cc)
-    | inr refused ↦ let no : true ≡ false = sym refused ∙ no_memory (Err e) reads none h in (cc)
-  ]
-]) where
-  unless : (b : Bool) → (b ≡ true → ⊥) → b ≡ false
-  unless true h = absurd (h refl)
-  unless false h = refl
-
 -- The readings f on known parts: what they saw and missed, and their answer.
 pub record Called {X : Type 0} (f : List ℕ → Reads X) (n : ℕ) (spans : List Span) (bytes : List ℕ) (log : List Span) (missed : Option Missing)
     (r : Result X ImageError) : Type 0 where
@@ -123,7 +97,8 @@ module _ {X : Type 0} (texts : Bool) (f : List ℕ → Reads X) (is_local : IsLo
       → Agrees (filled_input n spans bytes) d (f (filled_input n spans bytes)).marks
   agreed log missed r call no_fault =
       let honest = is_short n short in
-      let on = only_fault r (f (filled_input n spans bytes)) refl refl call.runs no_fault in
+      let on = only_fault r (f (filled_input n spans bytes)) refl
+      (no_memory r (f (filled_input n spans bytes)) refl call.runs) call.runs no_fault in
       let marked : log ≡ (f (filled_input n spans bytes)).marks = logged (parts_state n spans bytes log missed)
       (parts_state n spans bytes ([] ++ (f (filled_input n spans bytes)).marks) None) log (f (filled_input n spans bytes)).marks
       (call.runs.state honest on ∙ past-parts n spans bytes [] None (f (filled_input n spans bytes)).marks) refl refl in
@@ -135,7 +110,8 @@ module _ {X : Type 0} (texts : Bool) (f : List ℕ → Reads X) (is_local : IsLo
       → r ≡ (f d).answer
   right log missed r call no_fault =
       let honest = is_short n short in
-      let on = only_fault r (f (filled_input n spans bytes)) refl refl call.runs no_fault in
+      let on = only_fault r (f (filled_input n spans bytes)) refl
+      (no_memory r (f (filled_input n spans bytes)) refl call.runs) call.runs no_fault in
       let all : f d ≡ f (filled_input n spans bytes) = same_by_local f is_local (filled_input n spans bytes) d (agreed log missed r call no_fault) in
       sym (call.runs.answer honest on) ∙ ap (λ w. w.answer) (sym all)
 

@@ -1,7 +1,7 @@
 -- Fields of bits: what more bits leave, and the bits as a number.
-use Rattle.std.proofs.Common.{◌≡◌, ℕ, zero, suc, ◌+◌, ◌-◌, ◌*◌, ◌/◌, ◌%◌, ◌^◌, ◌<◌, ◌≤◌, Bool, true, false, cond, leb, List, [], ◌∷◌, ◌++◌, length, take, drop, get_or, slice_index_or, bit_and, Result, Ok, Err, refl, sym, ap, ◌∙◌, add-one, arith}
+use Rattle.std.proofs.Common.{◌≡◌, ℕ, zero, suc, ◌+◌, ◌-◌, ◌*◌, ◌/◌, ◌%◌, ◌^◌, ◌<◌, ◌≤◌, Bool, true, false, cond, leb, List, [], ◌∷◌, ◌++◌, length, take, drop, get_or, slice_index_or, bit_and, Result, Ok, Err, refl, sym, ap, ◌∙◌, subst, add-one, arith}
 use Rattle.std.proofs.lemmas.Bool.Decides.{nat_tests}
-use Rattle.std.proofs.lemmas.List.{append-nil, length-append, length-drop, length-take-le, drop-append-le, take-append-le}
+use Rattle.std.proofs.lemmas.List.{append-nil, length-append, length-drop, length-take, length-take-le, drop-append-le, take-append-drop, take-append-le}
 use Rattle.std.proofs.Math.Numerals.{one-add}
 use Rattle.std.proofs.Math.Pow.{mod-mod-pow}
 use Rattle.std.proofs.Math.Seq.{take-append_seam}
@@ -10,6 +10,7 @@ use Rattle.std.specs.Int.{w128, from_le_bytes}
 use Rattle.imagesize_source.specs.declared.error.ImageError.{ImageError}
 use Rattle.imagesize_source.specs.declared.error.ImageError.TheVariants.{CorruptedImage}
 use Rattle.imagesize_source.specs.declared.endian.Endian.TheVariants.{Little}
+use Rattle.imagesize_source.proofs.Numbers.{Eight, are_eight, eight}
 use Rattle.imagesize_source.specs.Numbers.{number, little}
 use Rattle.imagesize_boxes.specs.Fields.{low_bits, bits_of, binary, field_at, Fields, found, bits, with_found, found_by, bind_fields}
 use Rattle.imagesize_boxes.specs.Walks.{field_in}
@@ -23,24 +24,11 @@ masked n count few =
 
 pub little_16 : (bs : List ℕ) → length bs ≡ 16 → from_le_bytes w128 bs ≡ number Little bs
 unfolding number
-little_16 [] is = absurd (omega (arith, is))
-little_16 (a ∷ []) is = absurd (omega (arith, is))
-little_16 (a ∷ b ∷ []) is = absurd (omega (arith, is))
-little_16 (a ∷ b ∷ c ∷ []) is = absurd (omega (arith, is))
-little_16 (a ∷ b ∷ c ∷ d ∷ []) is = absurd (omega (arith, is))
-little_16 (a ∷ b ∷ c ∷ d ∷ e ∷ []) is = absurd (omega (arith, is))
-little_16 (a ∷ b ∷ c ∷ d ∷ e ∷ f ∷ []) is = absurd (omega (arith, is))
-little_16 (a ∷ b ∷ c ∷ d ∷ e ∷ f ∷ g ∷ []) is = absurd (omega (arith, is))
-little_16 (a ∷ b ∷ c ∷ d ∷ e ∷ f ∷ g ∷ h ∷ []) is = absurd (omega (arith, is))
-little_16 (a ∷ b ∷ c ∷ d ∷ e ∷ f ∷ g ∷ h ∷ i ∷ []) is = absurd (omega (arith, is))
-little_16 (a ∷ b ∷ c ∷ d ∷ e ∷ f ∷ g ∷ h ∷ i ∷ j ∷ []) is = absurd (omega (arith, is))
-little_16 (a ∷ b ∷ c ∷ d ∷ e ∷ f ∷ g ∷ h ∷ i ∷ j ∷ k ∷ []) is = absurd (omega (arith, is))
-little_16 (a ∷ b ∷ c ∷ d ∷ e ∷ f ∷ g ∷ h ∷ i ∷ j ∷ k ∷ l ∷ []) is = absurd (omega (arith, is))
-little_16 (a ∷ b ∷ c ∷ d ∷ e ∷ f ∷ g ∷ h ∷ i ∷ j ∷ k ∷ l ∷ m ∷ []) is = absurd (omega (arith, is))
-little_16 (a ∷ b ∷ c ∷ d ∷ e ∷ f ∷ g ∷ h ∷ i ∷ j ∷ k ∷ l ∷ m ∷ n ∷ []) is = absurd (omega (arith, is))
-little_16 (a ∷ b ∷ c ∷ d ∷ e ∷ f ∷ g ∷ h ∷ i ∷ j ∷ k ∷ l ∷ m ∷ n ∷ o ∷ []) is = absurd (omega (arith, is))
-little_16 (a ∷ b ∷ c ∷ d ∷ e ∷ f ∷ g ∷ h ∷ i ∷ j ∷ k ∷ l ∷ m ∷ n ∷ o ∷ p ∷ []) is = omega arith
-little_16 (a ∷ b ∷ c ∷ d ∷ e ∷ f ∷ g ∷ h ∷ i ∷ j ∷ k ∷ l ∷ m ∷ n ∷ o ∷ p ∷ x ∷ rest) is = absurd (omega (arith, is))
+little_16 bs is =
+    subst (λ bs. from_le_bytes w128 bs ≡ number Little bs) (take-append-drop 8 bs) (on_eights (take 8 bs) (drop 8 bs)
+    (are_eight (take 8 bs) (length-take 8 bs ∙ omega (arith, is))) (are_eight (drop 8 bs) (length-drop 8 bs ∙ omega (arith, is)))) where
+      on_eights : (xs ys : List ℕ) → Eight xs → Eight ys → from_le_bytes w128 (xs ++ ys) ≡ number Little (xs ++ ys)
+      on_eights xs ys (eight a b c d e f g h) (eight i j k l m n o p) = omega arith
 
 -- what goes on alike is found alike
 alike : {X Y : Type 0} (r : Result X ImageError) (f g : X → Result Y ImageError) → ((x : X) → f x ≡ g x) → with_found r f ≡ with_found r g

@@ -4,9 +4,9 @@ use Rattle.std.proofs.Common.{◌≡◌, ℕ, ◌+◌, ◌-◌, ◌*◌, ◌^◌
 use Rattle.std.proofs.lemmas.Bool.Decides.{nat_tests}
 use Rattle.std.proofs.Math.Nat.{add-zero}
 use Rattle.std.proofs.lemmas.Grind.{flat_map-append}
-use Rattle.std.proofs.lemmas.List.{append-nil, get_or-drop, length-drop, map-append}
+use Rattle.std.proofs.lemmas.List.{append-nil, get_or-drop, length-drop}
 use Rattle.std.proofs.lemmas.List.Folds.{find-append}
-use Rattle.std.proofs.lemmas.List.Sums.{fold-append, sum_by_push}
+use Rattle.std.proofs.lemmas.List.Sums.{sum_by_push}
 use Rattle.std.specs.Int.{w32, from_be_bytes}
 use Rattle.std.specs.List.{find, last_or, sum_by}
 use Rattle.std.specs.Option.{option_or}
@@ -24,7 +24,6 @@ use Rattle.imagesize_types.specs.declared.size.ImageSize.{ImageSize}
 use Rattle.imagesize_source.specs.declared.error.ImageError.{ImageError}
 use Rattle.imagesize_source.specs.declared.error.ImageError.TheVariants.{CorruptedImage, IoError}
 use Rattle.imagesize_source.specs.declared.error.Reason.TheVariants.{InvalidHeifBoxSize, NotEnoughData}
-use Rattle.imagesize_source.specs.declared.span.Span.{Span}
 use Rattle.imagesize_source.specs.declared.endian.Endian.TheVariants.{Big}
 use Rattle.imagesize_source.specs.Agreement.{IsLocal}
 use Rattle.imagesize_source.specs.Chain.{Said, Decided, Next, Advances, start, verdict, records, chain_from, chain_at, count_behind}
@@ -32,7 +31,7 @@ use Rattle.imagesize_source.specs.Counts.{AtMost}
 use Rattle.imagesize_source.specs.Input.{span_of}
 use Rattle.imagesize_source.specs.Layout.{Layout, bytes, refuse, done, layout_reads, bind, whole}
 use Rattle.imagesize_source.specs.Numbers.{number}
-use Rattle.imagesize_source.specs.Reading.{Reads, and_then, go_on, bytes_at, bytes_read, number_at, number_read, refuses, end_of_input, is_faulted}
+use Rattle.imagesize_source.specs.Reading.{and_then, bytes_at, bytes_read, number_at, number_read, refuses, end_of_input, is_faulted}
 use Rattle.imagesize_source.specs.State.{State, Runs, EndedBy, total}
 use Rattle.imagesize_source.proofs.Always.{CompressionLaws}
 use Rattle.imagesize_source.proofs.Advances.{Tells, advances}
@@ -40,15 +39,16 @@ use Rattle.imagesize_source.proofs.Spends.{Spends, Onto, chain_onto, left, said_
 use Rattle.imagesize_source.proofs.PastTheEnd.{bytes_beyond, saturated_by}
 use Rattle.imagesize_source.proofs.ChainLaws.{local_chain, chain_cost}
 use Rattle.imagesize_source.proofs.Chains.{chain_stop}
-use Rattle.imagesize_source.proofs.Counts.{then_within, total-span_of, total_behind}
+use Rattle.imagesize_source.proofs.Counts.{begun_cost, then_within, total-span_of, total_behind}
 use Rattle.imagesize_source.proofs.Bytes.{first_four}
 use Rattle.imagesize_source.proofs.Layouts.{no_part, no_span}
 use Rattle.imagesize_source.proofs.Agreement.{local_bytes, local_then, local_number, without_texts}
 use Rattle.imagesize_source.proofs.Reached.{runs_bind, refused_bind, reached_now}
-use Rattle.imagesize_source.proofs.Runs.{total-append}
 use Rattle.imagesize_source.proofs.Tests.{on_test}
 use Rattle.imagesize_source.proofs.Walks.{Walks, walks_start, walks_on, walks_stop, walks_out, walks_past}
 use Rattle.imagesize_source.proofs.Way.{RecordedLaws}
+use Rattle.imagesize_source.proofs.Lists.{last_push}
+use Rattle.imagesize_types.proofs.Largest.{greatest_push}
 
 -- the number of four bytes within others
 pub big_four : (bs : List ℕ) (i : ℕ) → i + 4 ≤ length bs → from_be_bytes w32 (slice_index_or bs i 0 ∷ slice_index_or bs (i + 1) 0
@@ -173,10 +173,6 @@ pub record Largest (best : Option ImageSize) (sizes : List ImageSize) : Type 0 w
   area : greatest_area sizes ≡ area_if_some best
   found : 0 < greatest_area sizes → is_some (find (λ s. eqb (area_of s) (greatest_area sizes)) sizes) ≡ true
 
-greatest_push : (sizes : List ImageSize) (size : ImageSize) → greatest_area (sizes ++ size ∷ []) ≡ max (greatest_area sizes) (area_of size)
-greatest_push sizes size = ap (fold max 0) (map-append area_of sizes (size ∷ [])) ∙ fold-append max 0 (map area_of sizes)
-    (area_of size ∷ [])
-
 largest_some : (sizes : List ImageSize) (size : ImageSize) → largest_extents (sizes ++ size ∷ [])
     ≡ Some (largest_or_none (sizes ++ size ∷ []))
 largest_some [] size = refl
@@ -268,10 +264,6 @@ pub record Amounts (all : ℕ) (g : Gathered) (held : List Property) : Type 0 wh
   left : all - sum_by skipped_bytes held ≡ g.left
   best : Largest g.best (flat_map extents_of held)
   turn : last_or None (flat_map rotations_of held) ≡ g.turn
-
-last_push : {A : Type 0} (o : Option A) (xs : List A) (x : A) → last_or o (xs ++ x ∷ []) ≡ Some x
-last_push o [] x = refl
-last_push o (y ∷ xs) x = last_push (Some y) xs x
 
 none_more : {X : Type 0} (f : Property → List X) (held : List Property) (property : Property) → f property ≡ []
     → flat_map f (held ++ property ∷ []) ≡ flat_map f held
@@ -417,12 +409,6 @@ heif_compression_laws place head =
     on_test (CompressionLaws 12) (is_general (four_at 8 head)) _ _ (λ _. record { few = (omega arith, λ _. tt); answers = λ _. tt })
     (λ _. record { few = tt; answers = tt })
 
--- how many bytes the boxes are read from: what an answer leads to, and nothing behind a refusal
-begun_cost : {X Y : Type 0} (spans : List Span) (r : Result X ImageError) (f : X → Reads Y) (n : X → ℕ) (j k : ℕ) → total spans ≤ j
-    → ((x : X) → total (f x).marks ≤ k + 20 * n x) → total (go_on spans r f).marks ≤ j + (k + 20 * count_behind r n)
-begun_cost spans (Ok x) f n j k here rest = let all = total-append spans (f x).marks in let more = rest x in omega arith
-begun_cost spans (Err e) f n j k here rest = omega arith
-
 -- a box that is passed, or a property, is read from at most 20 bytes
 search_at_most : (tag : List ℕ) (place : ℕ) (passed : List (Unit {0})) (q : ℕ) → AtMost 20 ((search_for tag place).said passed q)
 search_at_most tag place passed q = (omega arith, λ head. by_searched (AtMost 12) tag q head tt tt (λ big. tt))
@@ -471,7 +457,7 @@ heif_local = local_then (λ d. number_read d Big 0 4) (λ first d. and_then (cha
 in_iprp_cost : (iprp : FoundBox) (d : List ℕ) → total (heif_in_iprp iprp d).marks ≤ 20 * boxes_in_iprp iprp d
 in_iprp_cost iprp d =
     let reads = chain_at (search_for (codes "ipco") (iprp.place + 8)) d in
-    let all = begun_cost reads.marks reads.answer (λ ipco. chain_at (properties ipco.size (ipco.place + 8)) d)
+    let all = begun_cost 20 reads.marks reads.answer (λ ipco. chain_at (properties ipco.size (ipco.place + 8)) d)
     (λ ipco. records (properties ipco.size (ipco.place + 8)) d) _ 0
     (search_cost (codes "ipco") (iprp.place + 8) d) (λ ipco. omega (arith, properties_cost ipco.size (ipco.place + 8) d)) in
     omega arith
@@ -483,18 +469,18 @@ in_meta_cost meta d =
     + count_behind reads.answer (λ iprp. boxes_in_iprp iprp d)) =
     omega (
       arith,
-      begun_cost reads.marks reads.answer (λ iprp. heif_in_iprp iprp d) (λ iprp. boxes_in_iprp iprp d) _ 0
+      begun_cost 20 reads.marks reads.answer (λ iprp. heif_in_iprp iprp d) (λ iprp. boxes_in_iprp iprp d) _ 0
           (search_cost (codes "iprp") (meta.place + 12) d) (λ iprp. omega (arith, in_iprp_cost iprp d)),
     ) in
     omega (
       arith,
-      begun_cost (span_of d (meta.place + 8) 4) (bytes_at d (meta.place + 8) 4) (λ version. and_then reads (λ iprp. heif_in_iprp iprp d))
+      begun_cost 20 (span_of d (meta.place + 8) 4) (bytes_at d (meta.place + 8) 4) (λ version. and_then reads (λ iprp. heif_in_iprp iprp d))
           (λ version. records (search_for (codes "iprp") (meta.place + 12)) d + count_behind reads.answer (λ iprp. boxes_in_iprp iprp d)) 4 0
           (total-span_of d (meta.place + 8) 4) (λ version. omega (arith, rest)),
     )
 
 -- a box is read from at most 20 bytes
-pub heif_cost : (d : List ℕ) → total (heif d).marks ≤ 8 + 20 * heif_boxes d
+pub heif_cost : (d : List ℕ) → 24 + total (heif d).marks ≤ 32 + 20 * heif_boxes d
 heif_cost d =
     let rest : (first : ℕ) → total (and_then (chain_at (search_for (codes "meta") first) d) (λ meta. heif_in_meta meta d)).marks ≤ 4
     + 20 * (records (search_for (codes "meta") first) d + count_behind (chain_at (search_for (codes "meta") first) d).answer
@@ -502,12 +488,12 @@ heif_cost d =
     λ first. let reads = chain_at (search_for (codes "meta") first) d in
     omega (
       arith,
-      begun_cost reads.marks reads.answer (λ meta. heif_in_meta meta d) (λ meta. boxes_in_meta meta d) _ 4
+      begun_cost 20 reads.marks reads.answer (λ meta. heif_in_meta meta d) (λ meta. boxes_in_meta meta d) _ 4
           (search_cost (codes "meta") first d) (λ meta. in_meta_cost meta d),
     ) in
     omega (
       arith,
-      begun_cost (span_of d 0 4) (number_at d Big 0 4) (λ first. and_then (chain_at (search_for (codes "meta") first) d)
+      begun_cost 20 (span_of d 0 4) (number_at d Big 0 4) (λ first. and_then (chain_at (search_for (codes "meta") first) d)
           (λ meta. heif_in_meta meta d)) (λ first. records (search_for (codes "meta") first) d + count_behind
           (chain_at (search_for (codes "meta") first) d).answer (λ meta. boxes_in_meta meta d)) 4 4
           (total-span_of d 0 4) rest,
@@ -552,8 +538,8 @@ in_meta_spends meta d = spends_then (length d) (meta.place + 8) (λ version. met
     (chain_at (search_for (codes "iprp") (meta.place + 12)) d) (λ iprp. heif_in_iprp iprp d)
     (search_spends (codes "iprp") (meta.place + 12) d) (λ iprp _. in_iprp_spends iprp d)))
 
--- the boxes are read from at most 4 bytes more than the input has: the first four may be read twice
-pub heif_within : (d : List ℕ) → total (heif d).marks ≤ length d + 4
+-- with its type it is read from at most 28 bytes more than the input has: its first four may be read twice again
+pub heif_within : (d : List ℕ) → 24 + total (heif d).marks ≤ length d + 28
 heif_within d = omega (
   arith,
   then_within (number_read d Big 0 4) (λ first. and_then (chain_at (search_for (codes "meta") first) d) (λ meta. heif_in_meta meta d)) 4
@@ -568,9 +554,4 @@ heif_within d = omega (
 
 -- the properties may go on in bytes that follow
 pub heif_laws : RecordedLaws 24 32 20 false false heif heif_boxes
-heif_laws = record {
-  local = heif_local;
-  cost = λ d. omega (arith, heif_cost d);
-  within = λ d. omega (arith, heif_within d);
-  lasts = λ keeps. absurd cc;
-}
+heif_laws = record { local = heif_local; cost = heif_cost; within = heif_within; lasts = λ keeps. absurd cc }

@@ -21,13 +21,14 @@ use Rattle.imagesize_source.proofs.Chains.{chain_next, chain_stop, records_next,
 use Rattle.imagesize_source.proofs.Costs.{bound_of, costs}
 use Rattle.imagesize_source.proofs.Counts.{at_most, at_most_more, then_within, total-span_of, total_behind}
 use Rattle.imagesize_source.proofs.Agreement.{local_layout, local_then, without_texts}
-use Rattle.imagesize_source.proofs.Runs.{part_length, total-append}
+use Rattle.imagesize_source.proofs.Runs.{total-append}
 use Rattle.imagesize_source.proofs.Tests.{on_test}
 use Rattle.imagesize_source.proofs.Way.{RecordedLaws}
 use Rattle.imagesize_boxes.specs.declared.formats.jxl.boxes.BoxHead.{BoxHead}
 use Rattle.imagesize_boxes.specs.Jxl.{has_signature, jxl_size, box_head, box_room, said_behind, partial_said, box_content, jxl_box, jxl_chain, jxl_start, codestream, jxl_codestream, jxl, jxl_boxes, boxes_behind}
-use Rattle.imagesize_boxes.proofs.JxlBoxes.{Says, by_checked, by_head, by_piece, by_end, by_partial, by_content, jxl_advances}
+use Rattle.imagesize_boxes.proofs.JxlBoxes.{BoxSays, by_checked, by_head, by_piece, by_end, by_partial, by_content, jxl_advances}
 use Rattle.imagesize_boxes.proofs.JxlGrowth.{jxl_lasts, box_sized}
+use Rattle.imagesize_source.proofs.Parts.{part_length}
 
 -- a box goes forward: its content stands behind its head, and the next box behind both
 content_ahead : (q : ℕ) (held : List ℕ) (place : ℕ) (head : BoxHead) → q ≤ place + head.length
@@ -88,8 +89,8 @@ start_costs = (
       (done None) (λ _ more. omega arith) (λ _. omega arith),
 )
 
--- the codestream is read from at most 16 bytes more than the input has
-pub jxl_within : (d : List ℕ) → total (jxl d).marks ≤ length d + 16
+-- with its type it is read from at most 28 bytes more than the input has: the codestream from at most 16 more
+pub jxl_within : (d : List ℕ) → 12 + total (jxl d).marks ≤ length d + 28
 jxl_within d =
     let boxes = chain_ahead jxl_chain d (jxl_advances d) (λ pieces place. box_ahead (concat pieces) place) in
     let found = then_within (layout_reads d jxl_start) (codestream d) 16 (length d) (at_most d 16 jxl_start start_few) (λ o _. by_start o boxes) in
@@ -184,7 +185,7 @@ module _ (d : List ℕ) where
   content_lean : (u : ℕ) (held : List ℕ) (place : ℕ) (head : BoxHead) → u ≤ 16 → Lean u held (layout_reads d (box_content held place head))
   unfolding Lean
   content_lean u held place head few =
-      let P : Says → Type 0 = λ t. Lean u held (layout_reads d t) in
+      let P : BoxSays → Type 0 = λ t. Lean u held (layout_reads d t) in
       by_content P held place head
       (by_piece P (place + head.length) (min 16 (box_room head)) (λ front. done (Decided front)) (λ _ piece next is. absurd cc)
       (λ _ piece next is. absurd cc))
@@ -248,7 +249,7 @@ module _ (d : List ℕ) where
   begun_within (Err e) spans few = omega arith
 
 -- a box is read from at most 20 bytes and its piece
-pub jxl_cost : (d : List ℕ) → total (jxl d).marks ≤ 30 + 20 * jxl_boxes d
+pub jxl_cost : (d : List ℕ) → 12 + total (jxl d).marks ≤ 45 + 20 * jxl_boxes d
 jxl_cost d =
     let found = begun_within d (layout_reads d jxl_start).answer (layout_reads d jxl_start).marks (omega (arith, costs start_bound 16 0 d jxl_start start_costs)) in
     let all = then_within (jxl_codestream d) (λ front. record { answer = jxl_size front; marks = [] }) (30 + 20 * jxl_boxes d) 0 found
@@ -256,9 +257,4 @@ jxl_cost d =
     omega arith
 
 pub jxl_laws : RecordedLaws 12 45 20 true false jxl jxl_boxes
-jxl_laws = record {
-  local = jxl_local;
-  cost = λ d. omega (arith, jxl_cost d);
-  within = λ d. omega (arith, jxl_within d);
-  lasts = λ _. jxl_lasts;
-}
+jxl_laws = record { local = jxl_local; cost = jxl_cost; within = jxl_within; lasts = λ _. jxl_lasts }

@@ -63,10 +63,10 @@ size_signed all len n count enough within is small sums counts =
 
 -- what holds of each way that a box can go
 
-abbrev pub Says : Type 0
-Says = Layout (Said (List ℕ) (List ℕ))
+abbrev pub BoxSays : Type 0
+BoxSays = Layout (Said (List ℕ) (List ℕ))
 
-pub by_checked : (P : Says → Type 0) (place : ℕ) (head : BoxHead) (f : BoxHead → Says) → ((e : ImageError) → P (refuse e))
+pub by_checked : (P : BoxSays → Type 0) (place : ℕ) (head : BoxHead) (f : BoxHead → BoxSays) → ((e : ImageError) → P (refuse e))
     → (place + head.size < 2 ^ 64 → (0 < head.size → head.length ≤ head.size) → P (f head)) → P (bind (accept (box_checked place head) done) f)
 by_checked P place head f out on =
     on_test (λ r. P (bind (accept r done) f)) (ltb (2 ^ 64 - 1) (place + head.size)) (Err CorruptedImage) _ (λ _. out CorruptedImage)
@@ -74,7 +74,7 @@ by_checked P place head f out on =
     (Err (IoError (InvalidJxlBoxSize head.tag head.size))) (Ok head) (λ _. out (IoError (InvalidJxlBoxSize head.tag head.size)))
     (λ whole. on (grind (arith, nat_tests)) (λ some. grind (arith, nat_tests))))
 
-pub by_head : (P : Says → Type 0) (place : ℕ) (front : List ℕ) (f : BoxHead → Says)
+pub by_head : (P : BoxSays → Type 0) (place : ℕ) (front : List ℕ) (f : BoxHead → BoxSays)
     → P (field Big (place + 8) 8 (λ size. bind (accept (box_checked place (record { tag = drop 4 front; size = size; length = 16 })) done) f))
     → P (bind (accept (box_checked place (record { tag = drop 4 front; size = number Big (take 4 front); length = 8 })) done) f)
     → P (bind (cond (eqb (number Big (take 4 front)) 1)
@@ -86,7 +86,7 @@ by_head P place front f long short =
     (accept (box_checked place (record { tag = drop 4 front; size = number Big (take 4 front); length = 8 })) done)
     (λ _. long) (λ _. short)
 
-pub by_piece : (P : Says → Type 0) (place k : ℕ) (f : List ℕ → Says) → (k ≡ 0 → P (f [])) → (0 < k → P (bytes_there place k f))
+pub by_piece : (P : BoxSays → Type 0) (place k : ℕ) (f : List ℕ → BoxSays) → (k ≡ 0 → P (f [])) → (0 < k → P (bytes_there place k f))
     → P (bind (piece_at place k) f)
 unfolding piece_at
 by_piece P place k f none some =
@@ -105,7 +105,7 @@ by_partial P held place head index piece last next =
     (said_behind held place head piece) (λ _. last)
     (λ _. by_end P held place head piece last next)
 
-pub by_content : (P : Says → Type 0) (held : List ℕ) (place : ℕ) (head : BoxHead) → P (codestream_box place head) → P (refuse end_of_input)
+pub by_content : (P : BoxSays → Type 0) (held : List ℕ) (place : ℕ) (head : BoxHead) → P (codestream_box place head) → P (refuse end_of_input)
     → (4 ≤ box_room head → P (bytes (place + head.length) 4
     (λ index. bind (piece_at (place + (head.length + 4)) (min (box_room head - 4) (16 - length held)))
     (λ piece. done (partial_said held place head index piece)))))

@@ -1,5 +1,5 @@
 -- JPEG XL: what bytes behind an input make of the codestream. It may go on, where it was cut.
-use Rattle.std.proofs.Common.{◌≡◌, ℕ, zero, suc, ◌+◌, ◌-◌, ◌<◌, ◌≤◌, min, Bool, true, false, cond, eqb, leb, ltb, ◌||◌, List, [], ◌∷◌, ◌++◌, length, take, drop, slice_index, Option, None, Some, Result, Ok, Err, append_assoc, refl, sym, ap, ◌∙◌, subst, arith}
+use Rattle.std.proofs.Common.{◌≡◌, ℕ, ◌+◌, ◌-◌, ◌<◌, ◌≤◌, min, Bool, true, false, cond, eqb, leb, ltb, ◌||◌, List, [], ◌∷◌, ◌++◌, length, take, drop, slice_index, Option, None, Some, Result, Ok, Err, append_assoc, refl, sym, ap, ◌∙◌, subst, arith}
 use Rattle.std.proofs.lemmas.Bool.Decides.{nat_tests}
 use Rattle.std.proofs.lemmas.List.{append-nil, length-append}
 use Rattle.std.proofs.lemmas.List.Concat.{flat_map-append}
@@ -16,37 +16,18 @@ use Rattle.imagesize_source.specs.Input.{part, span_of}
 use Rattle.imagesize_source.specs.Layout.{Layout, layout_reads, bind, bytes, bytes_there, accept}
 use Rattle.imagesize_source.specs.Layout.Layout.{field, done}
 use Rattle.imagesize_source.specs.Numbers.{number}
-use Rattle.imagesize_source.specs.Reading.{Reads, go_on, gives, bytes_at, number_at, map_answer, end_of_input}
+use Rattle.imagesize_source.specs.Reading.{Reads, go_on, gives, bytes_at, number_at, end_of_input}
 use Rattle.imagesize_source.proofs.PastTheEnd.{bytes_beyond}
 use Rattle.imagesize_source.proofs.ChainLaws.{chain_induction}
 use Rattle.imagesize_source.proofs.Chains.{chain_next, chain_stop}
-use Rattle.imagesize_source.proofs.Extension.{bytes_ok, number_ok, bytes_more}
-use Rattle.imagesize_source.proofs.Runs.{part_length}
+use Rattle.imagesize_source.proofs.Extension.{bytes_ok, number_ok, bytes_more, number_more, part_grows}
 use Rattle.imagesize_source.proofs.Tests.{on_test}
 use Rattle.imagesize_boxes.specs.declared.formats.jxl.boxes.BoxHead.{BoxHead}
 use Rattle.imagesize_boxes.specs.Fields.{bits_of, low_bits, field_at, found_by}
 use Rattle.imagesize_boxes.specs.Jxl.{has_signature, jxl_header, jxl_size, piece_at, box_checked, box_head, box_room, said_behind, partial_said, box_content, jxl_box, jxl_chain, jxl_start, codestream, jxl_codestream, jxl}
 use Rattle.imagesize_boxes.proofs.Fields.{found_more}
-use Rattle.imagesize_boxes.proofs.JxlBoxes.{Says, by_checked, by_head, by_piece, by_content, jxl_advances}
-
-take_both : (k : ℕ) (xs ys : List ℕ) → take k (xs ++ ys) ≡ take k xs ++ take (k - length xs) ys
-take_both zero xs ys = let none : zero - length xs ≡ zero = omega arith in rw none refl
-take_both (suc k) [] ys = let all : suc k - zero ≡ suc k = omega arith in rw all refl
-take_both (suc k) (x ∷ xs) ys = let rest : suc k - length (x ∷ xs) ≡ k - length xs = omega arith in
-    rw rest (ap (λ zs. x ∷ zs) (take_both k xs ys))
-
-drop_both : (k : ℕ) (xs ys : List ℕ) → drop k (xs ++ ys) ≡ drop k xs ++ drop (k - length xs) ys
-drop_both zero xs ys = let none : zero - length xs ≡ zero = omega arith in rw none refl
-drop_both (suc k) [] ys = let all : suc k - zero ≡ suc k = omega arith in rw all refl
-drop_both (suc k) (x ∷ xs) ys = let rest : suc k - length (x ∷ xs) ≡ k - length xs = omega arith in rw rest (drop_both k xs ys)
-
--- what is there of some bytes may go on
-part_grows : (d x : List ℕ) (place k : ℕ) → (more : List ℕ) × (part (d ++ x) place k ≡ part d place k ++ more)
-unfolding part
-part_grows d x place k = (
-  take (k - length (drop place d)) (drop (place - length d) x),
-  ap (take k) (drop_both place d x) ∙ take_both k (drop place d) (drop (place - length d) x),
-)
+use Rattle.imagesize_boxes.proofs.JxlBoxes.{BoxSays, by_checked, by_head, by_piece, by_content, jxl_advances}
+use Rattle.imagesize_source.proofs.Parts.{part_length}
 
 -- behind an answer that bytes behind the input leave, as R says, or that goes on
 abbrev Grows : {X : Type 0} → (X → X → Type 0) → Reads X → Reads X → Type 0
@@ -69,11 +50,6 @@ grows_bytes R d x place k f each =
     grows_onward R (span_of d place k) (span_of (d ++ x) place k) (bytes_at d place k) (bytes_at (d ++ x) place k) (λ bs. layout_reads d (f bs))
     (λ bs. layout_reads (d ++ x) (f bs))
     (λ bs got. bytes_more d x place k (bytes_ok d bs place k got) ∙ got) each
-
-number_more : (d x : List ℕ) (order : Endian) (place k : ℕ) → k ≤ length d - place → number_at (d ++ x) order place k ≡ number_at d order
-    place k
-unfolding number_at
-number_more d x order place k h = ap (map_answer (number order)) (bytes_more d x place k h)
 
 grows_field : {X : Type 0} (R : X → X → Type 0) (d x : List ℕ) (order : Endian) (place k : ℕ) (f : ℕ → Layout X)
     → ((v : ℕ) → Grows R (layout_reads d (f v)) (layout_reads (d ++ x) (f v))) → Grows R (layout_reads d (field order place k f))
@@ -133,7 +109,7 @@ pub box_sized : (head : BoxHead) → 0 < head.size → box_room head ≡ head.si
 box_sized head closed = let test : eqb head.size 0 ≡ false = grind (arith, nat_tests) in rw test refl
 
 module _ (d x : List ℕ) where
-  Both : Says → Type 0
+  Both : BoxSays → Type 0
   Both t = Grows (GoesOn (length d)) (layout_reads d t) (layout_reads (d ++ x) t)
 
   content_grows : (held : List ℕ) (place : ℕ) (head : BoxHead) → (0 < head.size → head.length ≤ head.size)

@@ -6,68 +6,41 @@ use Rattle.imagesize_source.specs.declared.error.ImageError.{ImageError}
 use Rattle.imagesize_source.specs.declared.error.ImageError.TheVariants.{NotSupported, CorruptedImage, IoError}
 use Rattle.imagesize_source.specs.declared.error.Reason.TheVariants.{Fault, EndOfInput, NotEnoughData, BudgetSpent, Memory, NoDelimiter, NotUtf8, InvalidHeifBoxSize, InvalidJxlBoxSize, InvalidJxlSignature, InvalidTiffHeader, BigTiffOffsetSize, InvalidBigTiffHeader, InvalidIfdOffset, IfdTypeForStandardTiff, InvalidIfdType, InvalidIfdValueLength, NoDimensionsInIfd, InvalidVp8Tag, DataWindowNotFound, InvalidHdrIdentifier, InvalidHdrDimensionsLine, HdrDimensionsNotFound, PnmDimensionsNotFound}
 
-stop_status : (e : ImageError) → is_stop_status (refusal_status e) ≡ is_stop e
-stop_status NotSupported = refl
-stop_status CorruptedImage = refl
-stop_status (IoError (Fault _)) = refl
-stop_status (IoError EndOfInput) = refl
-stop_status (IoError NotEnoughData) = refl
-stop_status (IoError (BudgetSpent _)) = refl
-stop_status (IoError Memory) = refl
-stop_status (IoError (NoDelimiter _)) = refl
-stop_status (IoError NotUtf8) = refl
-stop_status (IoError (InvalidHeifBoxSize _)) = refl
-stop_status (IoError (InvalidJxlBoxSize _ _)) = refl
-stop_status (IoError InvalidJxlSignature) = refl
-stop_status (IoError InvalidTiffHeader) = refl
-stop_status (IoError BigTiffOffsetSize) = refl
-stop_status (IoError InvalidBigTiffHeader) = refl
-stop_status (IoError InvalidIfdOffset) = refl
-stop_status (IoError IfdTypeForStandardTiff) = refl
-stop_status (IoError InvalidIfdType) = refl
-stop_status (IoError InvalidIfdValueLength) = refl
-stop_status (IoError NoDimensionsInIfd) = refl
-stop_status (IoError InvalidVp8Tag) = refl
-stop_status (IoError DataWindowNotFound) = refl
-stop_status (IoError InvalidHdrIdentifier) = refl
-stop_status (IoError InvalidHdrDimensionsLine) = refl
-stop_status (IoError HdrDimensionsNotFound) = refl
-stop_status (IoError PnmDimensionsNotFound) = refl
+-- a refusal's status says whether it is a stop, and is not that of a part that is wanted
+refused : (e : ImageError) → (is_stop_status (refusal_status e) ≡ is_stop e) × (is_wanted (refusal_status e) ≡ false)
+refused NotSupported = (refl, refl)
+refused CorruptedImage = (refl, refl)
+refused (IoError (Fault _)) = (refl, refl)
+refused (IoError EndOfInput) = (refl, refl)
+refused (IoError NotEnoughData) = (refl, refl)
+refused (IoError (BudgetSpent _)) = (refl, refl)
+refused (IoError Memory) = (refl, refl)
+refused (IoError (NoDelimiter _)) = (refl, refl)
+refused (IoError NotUtf8) = (refl, refl)
+refused (IoError (InvalidHeifBoxSize _)) = (refl, refl)
+refused (IoError (InvalidJxlBoxSize _ _)) = (refl, refl)
+refused (IoError InvalidJxlSignature) = (refl, refl)
+refused (IoError InvalidTiffHeader) = (refl, refl)
+refused (IoError BigTiffOffsetSize) = (refl, refl)
+refused (IoError InvalidBigTiffHeader) = (refl, refl)
+refused (IoError InvalidIfdOffset) = (refl, refl)
+refused (IoError IfdTypeForStandardTiff) = (refl, refl)
+refused (IoError InvalidIfdType) = (refl, refl)
+refused (IoError InvalidIfdValueLength) = (refl, refl)
+refused (IoError NoDimensionsInIfd) = (refl, refl)
+refused (IoError InvalidVp8Tag) = (refl, refl)
+refused (IoError DataWindowNotFound) = (refl, refl)
+refused (IoError InvalidHdrIdentifier) = (refl, refl)
+refused (IoError InvalidHdrDimensionsLine) = (refl, refl)
+refused (IoError HdrDimensionsNotFound) = (refl, refl)
+refused (IoError PnmDimensionsNotFound) = (refl, refl)
 
 -- an answer that nothing stopped has none of them
 pub unstopped : {X : Type 0} (r : Result X ImageError) → is_stopped r ≡ false → is_stop_status (status_of r) ≡ false
 unstopped (Ok x) on = refl
-unstopped (Err e) on = stop_status e ∙ on
-
-refuses : (e : ImageError) → is_wanted (refusal_status e) ≡ false
-refuses NotSupported = refl
-refuses CorruptedImage = refl
-refuses (IoError (Fault _)) = refl
-refuses (IoError EndOfInput) = refl
-refuses (IoError NotEnoughData) = refl
-refuses (IoError (BudgetSpent _)) = refl
-refuses (IoError Memory) = refl
-refuses (IoError (NoDelimiter _)) = refl
-refuses (IoError NotUtf8) = refl
-refuses (IoError (InvalidHeifBoxSize _)) = refl
-refuses (IoError (InvalidJxlBoxSize _ _)) = refl
-refuses (IoError InvalidJxlSignature) = refl
-refuses (IoError InvalidTiffHeader) = refl
-refuses (IoError BigTiffOffsetSize) = refl
-refuses (IoError InvalidBigTiffHeader) = refl
-refuses (IoError InvalidIfdOffset) = refl
-refuses (IoError IfdTypeForStandardTiff) = refl
-refuses (IoError InvalidIfdType) = refl
-refuses (IoError InvalidIfdValueLength) = refl
-refuses (IoError NoDimensionsInIfd) = refl
-refuses (IoError InvalidVp8Tag) = refl
-refuses (IoError DataWindowNotFound) = refl
-refuses (IoError InvalidHdrIdentifier) = refl
-refuses (IoError InvalidHdrDimensionsLine) = refl
-refuses (IoError HdrDimensionsNotFound) = refl
-refuses (IoError PnmDimensionsNotFound) = refl
+unstopped (Err e) on = (refused e).0 ∙ on
 
 -- no answer and no refusal is the status of a part that is wanted
 pub never_wanted : {X : Type 0} (r : Result X ImageError) → is_wanted (status_of r) ≡ false
 never_wanted (Ok x) = refl
-never_wanted (Err e) = refuses e
+never_wanted (Err e) = (refused e).1

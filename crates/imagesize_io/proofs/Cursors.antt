@@ -7,7 +7,7 @@ use Rattle.imagesize_io.specs.Held.{IsWhole}
 use Rattle.imagesize_io.specs.Telling.{Telling, ReadGives}
 use Rattle.imagesize_source.proofs.Slices.{front_is}
 use Rattle.imagesize_io.proofs.HeldReads.{whole_some}
-use Rattle.imagesize_io.proofs.Windows.{part-min}
+use Rattle.imagesize_source.proofs.Parts.{part_whole}
 
 -- the cursor over bytes at a place, as a reader that tells them
 abbrev pub cursor_at : List ℕ → ℕ → Telling
@@ -20,7 +20,7 @@ pub read_cursor : (d bytes after room old : List ℕ) (p place q n : ℕ) → by
 read_cursor d bytes after room old p place q n is at same e count copied kept =
     let long : length bytes ≡ length d = ap length is in (
       cc,
-      front_is bytes room old place n count copied kept ∙ ap (part bytes place) kept ∙ part-min bytes place (length old) n count
+      front_is bytes room old place n count copied kept ∙ ap (part bytes place) kept ∙ part_whole bytes place (length old) n count
           ∙ ap (λ b. part b place n) is ∙ ap (λ k. part d k n) at,
       omega arith,
       λ has_room before. omega arith,

@@ -11,7 +11,7 @@ use Rattle.imagesize_source.specs.State.{State, Runs, state_after}
 use Rattle.imagesize_source.specs.Text.{ends, text_front}
 use Rattle.imagesize_source.proofs.Agreement.{whole_span}
 use Rattle.imagesize_source.proofs.Counts.{total-span_of}
-use Rattle.imagesize_source.proofs.Runs.{part_is, part_length}
+use Rattle.imagesize_source.proofs.Runs.{part_is}
 use Rattle.imagesize_io.specs.declared.progress.Progress.{Progress}
 use Rattle.imagesize_io.specs.declared.reader.Ledger.{Ledger}
 use Rattle.imagesize_io.specs.declared.told.Stop.{Stop}
@@ -22,6 +22,7 @@ use Rattle.imagesize_io.specs.Telling.{Telling, ReadTells, count_after}
 use Rattle.imagesize_io.proofs.Filling.{part-add}
 use Rattle.imagesize_io.proofs.TextReads.{took_text, text_rest, rest_start, rest_ends, rest_goes_on, rest_some}
 use Rattle.imagesize_io.proofs.Layers.{reads_past}
+use Rattle.imagesize_source.proofs.Parts.{part_length}
 
 -- so many bytes of a text were copied, and none of them ends it
 pub record Copied (t : Text) (begun : Bool) (index : ℕ) (bytes room : List ℕ) : Type 0 where

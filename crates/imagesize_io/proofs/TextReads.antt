@@ -22,10 +22,11 @@ use Rattle.imagesize_io.specs.Telling.{Telling}
 use Rattle.imagesize_source.specs.Text.{delimits, front_through, text_front, ends}
 use Rattle.imagesize_source.proofs.Counts.{total-span_at, total-span_of, total_there}
 use Rattle.imagesize_source.proofs.Layouts.{no_part, no_span}
-use Rattle.imagesize_source.proofs.Agreement.{whole_span}
-use Rattle.imagesize_source.proofs.Runs.{part_is, part_length, past-held}
+use Rattle.imagesize_source.proofs.Agreement.{span-some, whole_span}
+use Rattle.imagesize_source.proofs.Runs.{part_is, past-held}
 use Rattle.imagesize_io.proofs.Windows.{sound_at, told_by}
 use Rattle.imagesize_source.proofs.Texts.{line_front, no_front, through-cons, word_front}
+use Rattle.imagesize_source.proofs.Parts.{part_length, part_none}
 
 -- what is left of a text behind some of its bytes, of which one was no white space or none was
 abbrev pub text_rest : Text → Bool → List ℕ → List ℕ
@@ -99,18 +100,14 @@ step_joins a place n only =
     ∙ ap (λ m. having a (front_after a.front place (n + 1)) m) more
     ∙ sym (step_counts a (record { start = place; len = n + 1 }) only)
 
-span_some : (place n : ℕ) → 0 < n → span_at place n ≡ record { start = place; len = n } ∷ []
-unfolding span_at
-span_some place n some = grind (arith, nat_tests)
-
 span_joins : (a : State) (place n : ℕ) → CountsOnly a → state_after (state_after a (span_at place n)) (span_at (place + n) 1) ≡ state_after a
     (span_at place (n + 1))
 unfolding state_after span_at
 span_joins a place zero only = rw add-zero refl
 span_joins a place (suc n) only =
-    ap (λ s. state_after (state_after a s) (span_at (place + suc n) 1)) (span_some place (suc n) (omega arith))
+    ap (λ s. state_after (state_after a s) (span_at (place + suc n) 1)) (span-some place (suc n) (omega arith))
     ∙ step_joins a place (suc n) only
-    ∙ sym (ap (state_after a) (span_some place (suc n + 1) (omega arith)))
+    ∙ sym (ap (state_after a) (span-some place (suc n + 1) (omega arith)))
 
 -- what stands from a place on, where one byte there is known
 drop_byte : (d : List ℕ) (place b : ℕ) → take 1 (drop place d) ≡ b ∷ [] → drop place d ≡ b ∷ drop (suc place) d
@@ -126,10 +123,6 @@ part_byte d place b (suc k) is some =
     let next : suc place ≡ place + 1 = omega arith in
     let fewer : k ≡ suc k - 1 = omega arith in
     ap (take (suc k)) (drop_byte d place b is) ∙ ap (λ p. b ∷ take k (drop p d)) next ∙ ap (λ n. b ∷ take n (drop (place + 1) d)) fewer
-
-part_none : (d : List ℕ) (place : ℕ) → part d place 0 ≡ []
-unfolding part
-part_none d place = refl
 
 -- Readings gave so many bytes. Where the source is honest, it has taken no more than those, and the state is the one past them.
 pub record Took (a b : State) (place count : ℕ) (got : List ℕ) : Type 0 where

@@ -17,6 +17,8 @@ use borrow.Rule.Slice.PartMut.{put_mid}
 use Rattle.imagesize_io.proofs.Filling.{part-add, take_more, length-put}
 use Rattle.imagesize_source.proofs.Slices.{front_is}
 use Rattle.imagesize_source.specs.State.{State, Frame, Held, Runs, EndedBy, IsSound, state_after, step, total, new_bytes, front_after}
+use Rattle.imagesize_source.proofs.Counts.{total_there}
+use Rattle.imagesize_source.proofs.Parts.{part_whole}
 
 -- the told length is that of the bytes
 abbrev pub ToldBy : Frame → Option Standing → Type 0
@@ -67,11 +69,6 @@ past-span a place zero counts bare =
     rw (no_span a.front place, taken) refl
 past-span a place (suc n) counts bare = ap (state_after a) (span-suc place n) ∙ step_is a _ counts bare
 
--- no more of a part is there than its input has
-pub part-min : (d : List ℕ) (place k n : ℕ) → n ≡ min k (length d - place) → part d place k ≡ part d place n
-unfolding part
-part-min d place k n is = sym (take_min k (drop place d)) ∙ ap (λ i. take i (drop place d)) (ap (min k) (length-drop place d) ∙ sym is)
-
 -- a part of the window is one of the whole
 part-window : (w d : List ℕ) (place k : ℕ) → k ≤ length w - place → part (with_window w d) place k ≡ part w place k
 unfolding part
@@ -97,7 +94,7 @@ part-across w d place k copied is short =
     ap (part (with_window w d) place) (sym whole)
     ∙ sym (part-add (with_window w d) place copied (k - copied))
     ∙ ap (λ l. l ++ part (with_window w d) (place + copied) (k - copied))
-    (part-window w d place copied (omega arith) ∙ sym (part-min w place k copied is))
+    (part-window w d place copied (omega arith) ∙ sym (part_whole w place k copied is))
     ∙ ap (λ l. part w place k ++ l) (part-behind w d (place + copied) (k - copied) (omega arith))
 
 -- a front of a front, and what follows it
@@ -182,7 +179,7 @@ behind_answer : (s : Standing) (st' : Option Standing) (w room old more : List �
 behind_answer s st' w room old more place now copied n count front kept short gives enough long =
     part-across w s.bytes place (length room) copied (count ∙ ap (λ k. min k (length w - place)) (sym kept)) short
     ∙ ap (λ l. l ++ part s.bytes (place + copied) (length room - copied)) (sym (front_is w room old place copied count front kept))
-    ∙ ap (λ l. take copied room ++ l) (part-min s.bytes (place + copied) (length room - copied) n
+    ∙ ap (λ l. take copied room ++ l) (part_whole s.bytes (place + copied) (length room - copied) n
     (gives.2 ∙ ap (λ k. min k (length s.bytes - (place + copied))) long) ∙ sym gives.1)
     ∙ sym (take_more room more copied n (omega arith) enough)
 
@@ -311,15 +308,6 @@ behind_runs_state f f' (Some s) st' w w' room old more taken taken' place now co
     (behind_grown s st' w w' more place now (length room) copied n h.small fits count h.short h.gives h.window)
     honest count (h.gives.2 ∙ ap (λ k. min k (length s.bytes - (place + copied))) h.long) h.short h.took
 
-length-total : (place n : ℕ) → total (span_at place n) ≡ n
-unfolding span_at
-length-total place zero = refl
-length-total place (suc n) = ap total (span-suc place n) ∙ omega arith
-
-total-span : (d : List ℕ) (place k : ℕ) → total (span_of d place k) ≡ min k (length d - place)
-unfolding span_of
-total-span d place k = length-total place (min k (length d - place))
-
 within_claim : (st : Option Standing) (w : List ℕ) (taken taken' place copied k rest : ℕ) → copied ≡ min k (length w - place)
     → rest ≡ k - copied → IfSome st (λ s. taken' ≤ taken + min rest (length s.bytes - (place + copied))) → (held_at st w).honest ≡ true
     → taken' ≤ taken + total (span_of (held_at st w).input place k)
@@ -327,7 +315,7 @@ within_claim None w taken taken' place copied k rest count left within honest = 
 within_claim (Some s) w taken taken' place copied k rest count left within honest =
     let fits = (holds s w honest).0 in
     let long : length (held_at (Some s) w).input ≡ length s.bytes = ap length (input_is s w honest) ∙ length-with_window w s.bytes fits in
-    let all : total (span_of (held_at (Some s) w).input place k) ≡ min k (length s.bytes - place) = total-span (held_at (Some s) w).input
+    let all : total (span_of (held_at (Some s) w).input place k) ≡ min k (length s.bytes - place) = total_there (held_at (Some s) w).input
     place k ∙ ap (λ n. min k (n - place)) long in
     omega (arith, all, within, count, left)
 

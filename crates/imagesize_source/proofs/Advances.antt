@@ -7,8 +7,9 @@ use Rattle.imagesize_source.specs.Input.{span_of}
 use Rattle.imagesize_source.specs.Layout.{Layout, done, refuse, field, reading, layout_reads}
 use Rattle.imagesize_source.specs.Reading.{Reads, Reading, AllOf, PartOf, TextOf, go_on, number_at, read_of}
 use Rattle.imagesize_source.proofs.Extension.{bytes_ok, number_ok}
-use Rattle.imagesize_source.proofs.Runs.{part_is, part_length}
+use Rattle.imagesize_source.proofs.Runs.{part_is}
 use Rattle.imagesize_source.proofs.Counts.{text_length}
+use Rattle.imagesize_source.proofs.Parts.{part_length}
 
 -- whatever its readings answer, each next place that the layout tells has the property
 abbrev pub Tells : {C X : Type 0} → (ℕ → Type 0) → Layout (Said C X) → Type 0

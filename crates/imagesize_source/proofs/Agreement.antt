@@ -15,8 +15,9 @@ use Rattle.imagesize_source.specs.Numbers.{number}
 use Rattle.imagesize_source.specs.declared.text.Text.{Text}
 use Rattle.imagesize_source.specs.Text.{text_front}
 use Rattle.imagesize_source.proofs.Texts.{front_first, front_length, front_same, front_take}
-use Rattle.imagesize_source.proofs.Runs.{part_length, marks_onward}
+use Rattle.imagesize_source.proofs.Runs.{marks_onward}
 use Rattle.imagesize_source.specs.Reading.{Reads, Reading, AllOf, PartOf, TextOf, go_on, put_behind, and_then, bytes_at, bytes_read, number_at, number_read, text_part, read_of, map_answer}
+use Rattle.imagesize_source.proofs.Parts.{part_length, parts_long, part_at, part_front}
 
 pub covered-left : (s t : List Span) (place : ℕ) → is_covered s place ≡ true → is_covered (s ++ t) place ≡ true
 covered-left [] t place h = absurd cc
@@ -54,11 +55,6 @@ pub whole_span : (d : List ℕ) (place n : ℕ) → n ≤ length d - place → s
 unfolding span_of
 whole_span d place n all = let same : min n (length d - place) ≡ n = omega arith in ap (span_at place) same
 
--- the first of a part
-part_part : (d : List ℕ) (place n k : ℕ) → n ≤ k → take n (part d place k) ≡ part d place n
-unfolding part
-part_part d place n k few = take-take n k (drop place d) few
-
 -- agreeing on a reading's span gives the same bytes
 pub same_part : (d e : List ℕ) (place k : ℕ) → Agrees d e (span_of d place k) → part e place k ≡ part d place k
 unfolding part span_of
@@ -82,8 +78,8 @@ same_first : (d e : List ℕ) (place n k : ℕ) → n ≤ length (part d place k
 same_first d e place n k few a =
     let long = part_length d place k in
     let span : span_of d place n ≡ span_at place n = whole_span d place n (omega arith) in
-    part_part e place n k (omega arith) ∙ same_part d e place n (subst (λ s. Agrees d e s) (sym span) a)
-    ∙ sym (part_part d place n k (omega arith))
+    part_front e place n k (omega arith) ∙ same_part d e place n (subst (λ s. Agrees d e s) (sym span) a)
+    ∙ sym (part_front d place n k (omega arith))
 
 -- the same of bytes that are all there, and of a number
 pub same_bytes : (d e : List ℕ) (place k : ℕ) → Agrees d e (span_of d place k) → bytes_at e place k ≡ bytes_at d place k
@@ -219,17 +215,10 @@ parting_at d e place m n i within also unlike same = record {
   differs = unlike;
 }
 
-part-at : (d : List ℕ) (place k i : ℕ) → i < k → get_or (part d place k) i 0 ≡ slice_index d (place + i)
-unfolding part
-part-at d place k i below = get_or-take k (drop place d) i 0 below ∙ get_or-drop place d i 0
-
 -- a difference of two parts is one of the inputs
 unlike_at : (d e : List ℕ) (place k i : ℕ) → i < k → (get_or (part e place k) i 0 ≡ get_or (part d place k) i 0 → ⊥)
     → slice_index e (place + i) ≡ slice_index d (place + i) → ⊥
-unlike_at d e place k i below unlike same = unlike (part-at e place k i below ∙ same ∙ sym (part-at d place k i below))
-
-parts_long : (d e : List ℕ) (place k : ℕ) → length e ≡ length d → length (part e place k) ≡ length (part d place k)
-parts_long d e place k long = part_length e place k ∙ ap (λ m. min k (m - place)) long ∙ sym (part_length d place k)
+unlike_at d e place k i below unlike same = unlike (part_at e place k i below ∙ same ∙ sym (part_at d place k i below))
 
 -- bytes are the same, or the inputs part
 alike_part : {texts : Bool} (d e : List ℕ) (place k : ℕ) → length e ≡ length d → (part e place k ≡ part d place k)

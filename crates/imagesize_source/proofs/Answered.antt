@@ -11,7 +11,7 @@ use Rattle.imagesize_source.specs.Input.{part}
 use Rattle.imagesize_source.specs.Numbers.{number}
 use Rattle.imagesize_source.specs.Reading.{Reads, go_on, put_behind, bytes_at, number_at}
 use Rattle.imagesize_source.proofs.Extension.{bytes_ok, number_ok}
-use Rattle.imagesize_source.proofs.Runs.{part_length}
+use Rattle.imagesize_source.proofs.Parts.{part_length}
 
 -- the bytes that are read
 pub bytes_is : (d bs : List ℕ) (place k : ℕ) → bytes_at d place k ≡ Ok bs → part d place k ≡ bs

@@ -1,21 +1,24 @@
 -- How many bytes are read, and how many places are seen.
-use Rattle.std.proofs.Common.{◌≡◌, ℕ, zero, suc, ◌+◌, ◌-◌, ◌≤◌, min, max, Bool, true, false, cond, eqb, ◌||◌, List, [], ◌∷◌, length, Result, Ok, Err, refl, sym, arith}
+use Rattle.std.proofs.Common.{◌≡◌, ℕ, zero, suc, ◌+◌, ◌-◌, ◌*◌, ◌≤◌, min, max, Bool, true, false, cond, eqb, ◌||◌, List, [], ◌∷◌, length, Result, Ok, Err, refl, sym, arith}
 use Rattle.std.proofs.Math.Nat.{add-zero}
 use Rattle.std.proofs.lemmas.Bool.Decides.{nat_tests}
 use Rattle.std.proofs.lemmas.List.Sums.{sum_by-cons}
 use Rattle.std.specs.Prelude.{count_by}
 use Rattle.std.specs.List.{range_with_len}
-use Rattle.imagesize_source.proofs.Runs.{total-append, part_length}
+use Rattle.imagesize_source.proofs.Runs.{total-append}
 use Rattle.imagesize_source.proofs.Texts.{front_length}
 use Rattle.imagesize_source.specs.declared.error.ImageError.{ImageError}
 use Rattle.imagesize_source.specs.declared.span.Span.{Span}
 use Rattle.imagesize_source.specs.declared.text.Text.{Text}
 use Rattle.imagesize_source.specs.Agreement.{has_place, is_covered}
 use Rattle.imagesize_source.specs.Counts.{places, AtMost, IfBytes}
+use Rattle.imagesize_source.specs.Chain.{count_behind}
 use Rattle.imagesize_source.specs.Input.{part, span_at, span_of}
 use Rattle.imagesize_source.specs.Layout.{Layout, done, refuse, field, reading, layout_reads, bind}
 use Rattle.imagesize_source.specs.Reading.{Reads, Reading, AllOf, PartOf, TextOf, and_then, go_on, number_at, text_part, read_of, most}
 use Rattle.imagesize_source.specs.State.{State, state_after, step, total, new_bytes, front_after}
+use Rattle.imagesize_source.proofs.Parts.{part_length}
+use Rattle.std.proofs.lemmas.Bool.{or_right}
 
 total_unless : (b : Bool) (place n : ℕ) → (b ≡ true → n ≡ 0) → total (cond b [] (record { start = place; len = n } ∷ [])) ≡ n
 total_unless true place n h = sym (h refl)
@@ -90,6 +93,12 @@ pub then_within : {X Y : Type 0} (r : Reads X) (f : X → Reads Y) (j k : ℕ) �
     → ((x : X) → r.answer ≡ Ok x → total (f x).marks ≤ k) → total (and_then r f).marks ≤ j + k
 then_within r f j k one two = onward_within r.marks r.answer f j k one two
 
+-- what an answer leads to is read from `each` a record, and nothing behind a refusal
+pub begun_cost : {X Y : Type 0} (each : ℕ) (spans : List Span) (r : Result X ImageError) (f : X → Reads Y) (n : X → ℕ) (j k : ℕ)
+    → total spans ≤ j → ((x : X) → total (f x).marks ≤ k + each * n x) → total (go_on spans r f).marks ≤ j + (k + each * count_behind r n)
+begun_cost each spans (Ok x) f n j k here rest = let all = total-append spans (f x).marks in let more = rest x in omega arith
+begun_cost each spans (Err e) f n j k here rest = omega arith
+
 -- at most j bytes are at most k, where k is no less
 pub at_most_more : {X : Type 0} (j k : ℕ) (t : Layout X) → j ≤ k → AtMost j t → AtMost k t
 at_most_more j k (done x) le h = tt
@@ -118,7 +127,7 @@ at_most_bind j k (reading r place f) g h rest = if_bytes r (λ few. let here = f
       (bind (f bs) g) (omega arith) (at_most_bind (j - most r) k (f bs) g (few.1 bs) rest),
 )) h
 
-count-cons : (p : ℕ → Bool) (x : ℕ) (xs : List ℕ) → count_by p (x ∷ xs) ≡ cond (p x) 1 0 + count_by p xs
+pub count-cons : (p : ℕ → Bool) (x : ℕ) (xs : List ℕ) → count_by p (x ∷ xs) ≡ cond (p x) 1 0 + count_by p xs
 count-cons p x xs = sum_by-cons (λ y. cond (p y) 1 0) x xs
 
 tests_or : (b c : Bool) → cond (b || c) 1 0 ≤ cond b 1 0 + cond c 1 0
@@ -131,12 +140,13 @@ count_or p q (x ∷ xs) =
     let one = count-cons (λ y. p y || q y) x xs in let left = count-cons p x xs in let right = count-cons q x xs in
     let rest = count_or p q xs in let here = tests_or (p x) (q x) in omega arith
 
-tests_fewer : (b c : Bool) → (b ≡ true → c ≡ true) → cond b 1 0 ≤ cond c 1 0
+pub tests_fewer : (b c : Bool) → (b ≡ true → c ≡ true) → cond b 1 0 ≤ cond c 1 0
 tests_fewer true true h = omega arith
 tests_fewer true false h = absurd (let no : false ≡ true = h refl in cc)
 tests_fewer false c h = omega arith
 
-count_fewer : (p q : ℕ → Bool) (xs : List ℕ) → ((x : ℕ) → p x ≡ true → q x ≡ true) → count_by p xs ≤ count_by q xs
+-- what fewer places have is counted no more often
+pub count_fewer : (p q : ℕ → Bool) (xs : List ℕ) → ((x : ℕ) → p x ≡ true → q x ≡ true) → count_by p xs ≤ count_by q xs
 count_fewer p q [] h = omega arith
 count_fewer p q (x ∷ xs) h =
     let left = count-cons p x xs in let right = count-cons q x xs in
@@ -179,10 +189,6 @@ step_covers : (front place n at : ℕ) → has_place (record { start = 0; len = 
       len = new_bytes front place n - (front_after front place n - front);
     }) at || has_place (record { start = 0; len = front_after front place n }) at ≡ true
 step_covers front place n at h = grind (arith, nat_tests)
-
-or_right : (b c : Bool) → c ≡ true → b || c ≡ true
-or_right true c h = refl
-or_right false c h = h
 
 joined : (b c rest b' c' : Bool) → (b || c ≡ true → b' || c' ≡ true) → b || (c || rest) ≡ true → b' || (c' || rest) ≡ true
 joined b c rest true c' h is = refl

@@ -7,7 +7,7 @@ use Rattle.imagesize_source.specs.declared.error.ImageError.{ImageError}
 use Rattle.imagesize_source.specs.declared.span.Span.{Span}
 use Rattle.imagesize_source.specs.declared.text.Text.{Text}
 use Rattle.imagesize_source.specs.Text.{is_ended, text_front}
-use Rattle.imagesize_source.proofs.Runs.{part_is, part_length}
+use Rattle.imagesize_source.proofs.Runs.{part_is}
 use Rattle.imagesize_source.proofs.Texts.{front_all, front_any, front_more}
 use Rattle.imagesize_source.specs.declared.endian.Endian.{Endian}
 use Rattle.imagesize_source.specs.Input.{part, span_at, span_of}
@@ -15,6 +15,7 @@ use Rattle.imagesize_source.specs.Layout.{Layout, done, refuse, field, reading, 
 use Rattle.imagesize_source.specs.Numbers.{number}
 use Rattle.imagesize_source.specs.Extension.{Plain, Never, WhereCut}
 use Rattle.imagesize_source.specs.Reading.{Reads, and_then, number_read, Reading, AllOf, PartOf, TextOf, go_on, put_behind, bytes_at, number_at, text_part, read_of, map_answer, end_of_input}
+use Rattle.imagesize_source.proofs.Parts.{part_length}
 
 -- bytes behind the input are not among those that are all there
 part_more : (d x : List ℕ) (place k : ℕ) → k ≤ length d - place → part (d ++ x) place k ≡ part d place k
@@ -56,7 +57,7 @@ bytes_more d x place k h =
     let after : leb k (length (d ++ x) - place) ≡ true = grind (arith, nat_tests) in
     rw (here, after, part_more d x place k h) refl
 
-number_more : (d x : List ℕ) (order : Endian) (place k : ℕ) → k ≤ length d - place → number_at (d ++ x) order place k ≡ number_at d order
+pub number_more : (d x : List ℕ) (order : Endian) (place k : ℕ) → k ≤ length d - place → number_at (d ++ x) order place k ≡ number_at d order
     place k
 unfolding number_at
 number_more d x order place k h = ap (map_answer (number order)) (bytes_more d x place k h)
@@ -86,7 +87,7 @@ take_grows zero d x = ([], refl)
 take_grows (suc n) [] x = (take (suc n) x, refl)
 take_grows (suc n) (b ∷ d) x = let more = take_grows n d x in (more.0, ap (λ bs. b ∷ bs) more.1)
 
-part_grows : (d x : List ℕ) (place k : ℕ) → (rest : List ℕ) × (part (d ++ x) place k ≡ part d place k ++ rest)
+pub part_grows : (d x : List ℕ) (place k : ℕ) → (rest : List ℕ) × (part (d ++ x) place k ≡ part d place k ++ rest)
 unfolding part
 part_grows d x place k =
     let behind_place = drop_grows place d x in

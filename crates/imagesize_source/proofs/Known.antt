@@ -4,7 +4,7 @@ use Rattle.std.specs.Prelude.{unwrap_or}
 use Rattle.std.specs.List.{list_any, position, position_or_len}
 use Rattle.std.proofs.lemmas.Bool.{cases_lt}
 use Rattle.std.proofs.lemmas.Bool.Decides.{nat_tests}
-use Rattle.std.proofs.lemmas.List.{length-append, length-take, length-drop, get_or-take, get_or-drop, take-append-drop, drop_all, take_all, drop-drop, ext_get_or, take_min, take-take, take-append-le, append-nil}
+use Rattle.std.proofs.lemmas.List.{length-append, length-take, length-drop, get_or-take, take-append-drop, drop_all, take_all, drop-drop, ext_get_or, take-take, take-append-le, append-nil}
 use Rattle.std.proofs.lemmas.List.FromFn.{length-map-range_with_len, get_or-map-range_with_len}
 use Rattle.std.proofs.Math.Seq.{drop-cons, take-add, take-append_seam, drop-append_seam}
 use Rattle.std.specs.Char.{is_ascii_whitespace}
@@ -22,13 +22,8 @@ use Rattle.imagesize_source.specs.Reading.{Reads, part_read, text_part, text_rea
 use Rattle.imagesize_source.specs.State.{State, Runs, IsSound, state_after}
 use Rattle.imagesize_source.specs.Text.{is_ended, text_front}
 use Rattle.imagesize_source.proofs.Agreement.{span-some}
-use Rattle.imagesize_source.proofs.Runs.{part_length}
 use Rattle.imagesize_source.proofs.Texts.{found, front_all, front_any, front_first, front_length, front_more, front_take, not_found}
-
--- the bytes of a part are those of the input
-part-at : (d : List ℕ) (place k i : ℕ) → i < k → get_or (part d place k) i 0 ≡ slice_index d (place + i)
-unfolding part
-part-at d place k i below = get_or-take k (drop place d) i 0 below ∙ get_or-drop place d i 0
+use Rattle.imagesize_source.proofs.Parts.{part_length, part_at, part_front, part_whole}
 
 pub length-filled_input : (n : ℕ) (spans : List Span) (bytes : List ℕ) → length (filled_input n spans bytes) ≡ n
 unfolding filled_input
@@ -84,7 +79,7 @@ has_known d (s ∷ spans) bytes place b parts is = by_test (reaches (length d) s
       let at = offset (length d) s place has in
       let below : place - s.start < length first = omega (arith, at.1, part_length d s.start s.len) in
       let small : place - s.start < s.len = omega (arith, at.1) in
-      sym (part-at d s.start s.len (place - s.start) small ∙ ap (slice_index d) at.0)
+      sym (part_at d s.start s.len (place - s.start) small ∙ ap (slice_index d) at.0)
       ∙ sym (front_byte first (bytes_of d spans) (place - s.start) below)
       ∙ ap (λ bs. get_or bs (place - s.start) 0) parts ∙ byte_some bytes (place - s.start) b is
   by_test false has later is =
@@ -170,17 +165,6 @@ pub parts_sound : (n : ℕ) (spans : List Span) (bytes : List ℕ) (log : List S
     → IsSound (parts_state n spans bytes log missed)
 parts_sound n spans bytes log missed = λ honest.
     let long = length-filled_input n spans bytes in (sym long, grind (arith, nat_tests))
-
--- all bytes of a part, where these are so many
-part_whole : (d : List ℕ) (place k m : ℕ) → m ≡ min k (length d - place) → part d place k ≡ part d place m
-unfolding part
-part_whole d place k m is =
-    sym (take_min k (drop place d)) ∙ ap (λ j. take j (drop place d)) (ap (min k) (length-drop place d) ∙ sym is)
-
--- a longer one goes on behind a shorter one
-part_front : (d : List ℕ) (place j k : ℕ) → j ≤ k → take j (part d place k) ≡ part d place j
-unfolding part
-part_front d place j k few = take-take j k (drop place d) few
 
 -- a text that is ended stays so
 ended_more : (t : Text) (xs ys : List ℕ) → is_ended t xs ≡ true → is_ended t (xs ++ ys) ≡ true
@@ -382,10 +366,6 @@ cut_is room found wanted place told cut ended long few is =
 
 -- ---- what gathers them
 
-pub part_none : (d : List ℕ) (place : ℕ) → part d place 0 ≡ []
-unfolding part
-part_none d place = refl
-
 -- a part goes on with the next one
 part_more : (d : List ℕ) (place i n : ℕ) → part d place (i + n) ≡ part d place i ++ part d (place + i) n
 unfolding part
@@ -407,7 +387,7 @@ run_part n spans bytes run place count few fits is =
     (λ i below.
     let small : i < count = omega (arith, below, length-take count run) in
     get_or-take count run i 0 small ∙ sym (known_byte n spans bytes (place + i) (get_or run i 0) (is i (omega (arith, small, few))))
-    ∙ sym (part-at (filled_input n spans bytes) place count i small))
+    ∙ sym (part_at (filled_input n spans bytes) place count i small))
 
 -- the front of a room behind which a run was put
 put_front : (run room : List ℕ) (index count : ℕ) → index ≤ length room → count ≤ length run
@@ -464,7 +444,7 @@ module _ (n : ℕ) (spans : List Span) (bytes front : List ℕ)
   front_part found place count fits at long =
       run_part n spans bytes found place count (omega (arith, long)) (omega (arith, fits, front_long))
       (λ i below. is (place + i) (omega (arith, fits, below, long))
-      ∙ ap Some (sym (part-at front place count i (omega (arith, below, long))) ∙ ap (λ bs. get_or bs i 0) (sym at)))
+      ∙ ap Some (sym (part_at front place count i (omega (arith, below, long))) ∙ ap (λ bs. get_or bs i 0) (sym at)))
 
 -- ---- one part after another
 
@@ -500,7 +480,7 @@ front_known rest offset most i below =
     let small : i < most = omega (arith, below, long) in
     let there : leb (suc (offset + i)) (length rest) ≡ true =
     (let fits : offset + i < length rest = omega (arith, below, long) in grind (arith, nat_tests)) in
-    ap (λ b. cond b (Some (get_or rest (offset + i) 0)) None) there ∙ ap Some (sym (part-at rest offset most i small))
+    ap (λ b. cond b (Some (get_or rest (offset + i) 0)) None) there ∙ ap Some (sym (part_at rest offset most i small))
 
 pub front_none : (rest : List ℕ) (offset most : ℕ) → 0 < most → length (part rest offset most) ≡ 0 → is_some (byte_of rest offset) ≡ false
 front_none rest offset most some none =

@@ -11,8 +11,10 @@ pub mod Counts
 pub mod Extension
 pub mod Known
 pub mod Layouts
+pub mod Lists
 pub mod Marks
 pub mod Numbers
+pub mod Parts
 pub mod PastTheEnd
 pub mod Reached
 pub mod Recordings

@@ -1,6 +1,6 @@
 -- How a call's readings follow from those of the calls that it makes.
-use Rattle.std.proofs.Common.{◌≡◌, ℕ, ◌+◌, ◌-◌, ◌*◌, ◌^◌, ◌<◌, ◌≤◌, min, zero, true, false, List, [], ◌∷◌, ◌++◌, length, take, drop, leb, Result, Ok, Err, zero-add, add_assoc, append_assoc, refl, sym, ap, ◌∙◌, subst, arith, IfErr}
-use Rattle.std.proofs.lemmas.List.{length-take, length-drop, take_all, append-nil}
+use Rattle.std.proofs.Common.{◌≡◌, ℕ, ◌+◌, ◌-◌, ◌<◌, ◌≤◌, min, true, false, List, [], ◌∷◌, ◌++◌, length, take, leb, Result, Ok, Err, zero-add, add_assoc, append_assoc, refl, sym, ap, ◌∙◌, subst, arith, IfErr}
+use Rattle.std.proofs.lemmas.List.{length-take, take_all, append-nil}
 use Rattle.std.proofs.lemmas.Bool.Decides.{nat_tests}
 use Rattle.imagesize_source.specs.declared.error.ImageError.{ImageError}
 use Rattle.imagesize_source.specs.declared.span.Span.{Span}
@@ -12,6 +12,7 @@ use Rattle.imagesize_source.specs.declared.halt.Halt.{Halt}
 use Rattle.imagesize_source.specs.Reading.{Reads, go_on, put_behind, and_then, bytes_at, number_at, part_read, bytes_read, number_read, map_answer, is_stopped, is_faulted, end_of_input}
 use Rattle.std.specs.Prelude.{Option, None, Some, IfSome, IsSomeAnd, option_map}
 use Rattle.imagesize_source.specs.State.{State, Held, Runs, EndedBy, Misses, Missed, total, state_after, step}
+use Rattle.imagesize_source.proofs.Parts.{part_length}
 
 -- the same readings, answered otherwise where nothing stopped them
 pub answered : {X Y : Type 0} {a b : State} {x : X} {reads : Reads X} (r : Result Y ImageError) (other : Reads Y) → Runs a b (Ok x) reads
@@ -32,11 +33,6 @@ answered {a} {b} {x} {reads} r other h marks answer goes_on no_fault ended = rec
 
 pub part_is : {xs ys : List ℕ} → ◌≡◌ {A = Result (List ℕ) ImageError} (Ok xs) (Ok ys) → xs ≡ ys
 part_is e = cc
-
--- how many of k bytes there are
-pub part_length : (d : List ℕ) (place k : ℕ) → length (part d place k) ≡ min k (length d - place)
-unfolding part
-part_length d place k = length-take k (drop place d) ∙ ap (min k) (length-drop place d)
 
 -- all of k bytes are there, or not
 all_there : (d : List ℕ) (place k : ℕ) → k ≤ length (part d place k) → leb k (length d - place) ≡ true

@@ -1,32 +1,27 @@
 -- What a reading of a slice sees.
 use Rattle.std.proofs.Common.{◌≡◌, ℕ, ◌-◌, ◌^◌, ◌<◌, ◌≤◌, min, List, [], ◌∷◌, ◌++◌, length, take, drop, Ok, inl, inr, refl, sym, ap, ◌∙◌, arith}
-use Rattle.std.proofs.lemmas.List.{length-append, length-take, length-drop, drop_all, take_all, take_min}
+use Rattle.std.proofs.lemmas.List.{length-append, length-drop, drop_all, take_all, take_min}
 use Rattle.std.proofs.Math.Seq.{take-append_seam}
 use Rattle.imagesize_source.specs.declared.span.Span.{Span}
 use Rattle.imagesize_source.specs.Input.{part}
 use Rattle.imagesize_source.specs.Reading.{Reads, part_read, text_part, text_read}
 use Rattle.imagesize_source.specs.Text.{text_front}
 use Rattle.imagesize_source.proofs.Counts.{text_length}
-use Rattle.imagesize_source.proofs.Runs.{part_length}
 use Rattle.imagesize_source.proofs.Texts.{front_take}
 use Rattle.imagesize_source.specs.declared.text.Text.{Text}
 use Rattle.std.proofs.lemmas.Bool.{cases_lt}
 use Rattle.imagesize_source.specs.State.{State, Runs, IsSound, state_after, slice_state}
+use Rattle.imagesize_source.proofs.Parts.{part_length}
 
 past-slice : (d : List ℕ) (spans : List Span) → state_after (slice_state d) spans ≡ slice_state d
 unfolding state_after
 past-slice d [] = refl
 past-slice d (s ∷ spans) = past-slice d spans
 
--- how many of k bytes there are
-pub length-part : (d : List ℕ) (place k : ℕ) → length (part d place k) ≡ min k (length d - place)
-unfolding part
-length-part d place k = length-take k (drop place d) ∙ ap (min k) (length-drop place d)
-
 pub front_is : (d room old : List ℕ) (place n : ℕ) → n ≡ min (length old) (length d - place) → room ≡ part d place (length old)
     ++ drop n old → length room ≡ length old → take n room ≡ part d place (length room)
 front_is d room old place n count copied kept =
-    let same : length (part d place (length old)) ≡ n = length-part d place (length old) ∙ sym count in
+    let same : length (part d place (length old)) ≡ n = part_length d place (length old) ∙ sym count in
     ap (take n) copied ∙ ap (λ k. take k (part d place (length old) ++ drop n old)) (sym same) ∙ take-append_seam
     (part d place (length old)) (drop n old) ∙ ap (part d place) (sym kept)
 

@@ -10,7 +10,8 @@ use Rattle.imagesize_source.specs.State.{total}
 use Rattle.imagesize_source.proofs.ChainLaws.{chain_induction}
 use Rattle.imagesize_source.proofs.Chains.{chain_next, chain_stop}
 use Rattle.imagesize_source.proofs.Counts.{text_length, total-span_at, total_there}
-use Rattle.imagesize_source.proofs.Runs.{part_is, part_length, total-append}
+use Rattle.imagesize_source.proofs.Runs.{part_is, total-append}
+use Rattle.imagesize_source.proofs.Parts.{part_length}
 
 -- how many of n bytes are left from a place on, or none where nothing goes on
 abbrev pub left_of : ℕ → Option ℕ → ℕ

@@ -1,8 +1,8 @@
 -- What holds of a format, by the way in which it tells its answer.
-use Rattle.std.proofs.Common.{◌≡◌, ℕ, ◌+◌, ◌-◌, ◌*◌, ◌≤◌, Bool, true, List, ◌++◌, length, Ok, arith}
+use Rattle.std.proofs.Common.{◌≡◌, ℕ, ◌+◌, ◌-◌, ◌*◌, ◌≤◌, Bool, true, List, ◌++◌, length, Ok, ap, ◌∙◌, arith}
 use Rattle.imagesize_source.specs.Agreement.{IsLocal}
 use Rattle.imagesize_source.specs.Counts.{AtMost}
-use Rattle.imagesize_source.specs.Extension.{Plain}
+use Rattle.imagesize_source.specs.Extension.{Lasts, Plain}
 use Rattle.imagesize_source.specs.Layout.{Layout}
 use Rattle.imagesize_source.specs.Reading.{Reads}
 use Rattle.imagesize_source.specs.State.{total}
@@ -14,6 +14,9 @@ use Rattle.imagesize_source.proofs.Extension.{more_answer}
 -- bytes behind an input change no answer that was given
 abbrev pub AnswersLast : {X : Type 0} → (List ℕ → Reads X) → Type 0
 AnswersLast {X} reads = (d x : List ℕ) (v : X) → (reads d).answer ≡ Ok v → (reads (d ++ x)).answer ≡ Ok v
+
+pub answers_last : {X : Type 0} (reads : List ℕ → Reads X) → Lasts reads → AnswersLast reads
+answers_last reads stays d x v is = ap (λ r. r.answer) (stays d x v is) ∙ is
 
 -- Of a format at fixed places, whose type is read from at most `first` bytes: both together are at most `outside`.
 pub record FixedLaws {X : Type 0} (first outside : ℕ) (layout : Layout X) : Type 0 where

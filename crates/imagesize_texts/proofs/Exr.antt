@@ -1,38 +1,37 @@
 -- EXR: how a walk along its attributes goes, how many bytes they are read from, and what it sees of an input.
-use Rattle.std.proofs.Common.{◌≡◌, ℕ, suc, ◌+◌, ◌-◌, ◌*◌, ◌<◌, ◌≤◌, Bool, cond, eqb, List, [], ◌∷◌, ◌++◌, length, take, Option, Some, None, Result, Ok, Err, true, false, refl, sym, ap, ◌∙◌, arith, slice_index_or}
+use Rattle.std.proofs.Common.{◌≡◌, ℕ, suc, ◌+◌, ◌-◌, ◌*◌, ◌<◌, ◌≤◌, Bool, cond, eqb, List, [], ◌∷◌, ◌++◌, length, take, Option, Some, None, Ok, true, false, refl, sym, ap, ◌∙◌, arith, slice_index_or}
+use Rattle.std.proofs.lemmas.Bool.{and_parts}
 use Rattle.std.proofs.Math.Seq.{drop-cons}
 use Rattle.std.proofs.lemmas.Bool.Decides.{nat_tests}
 use Rattle.std.specs.Prelude.{◌&&◌}
 use Rattle.std.specs.Int.{w32, cast_signed, from_le_bytes}
 use Rattle.imagesize_types.specs.Head.{four_at}
 use Rattle.imagesize_types.specs.declared.size.ImageSize.{ImageSize}
-use Rattle.imagesize_source.specs.declared.error.ImageError.{ImageError}
 use Rattle.imagesize_source.specs.declared.error.ImageError.TheVariants.{IoError}
 use Rattle.imagesize_source.specs.declared.error.Reason.TheVariants.{DataWindowNotFound}
 use Rattle.imagesize_source.specs.declared.endian.Endian.TheVariants.{Little}
 use Rattle.imagesize_source.specs.Agreement.{IsLocal}
-use Rattle.imagesize_source.specs.Chain.{Said, Decided, Next, Advances, chain_at, start, count_behind, records}
+use Rattle.imagesize_source.specs.Chain.{Said, Decided, Next, Advances, chain_at, start, records}
 use Rattle.imagesize_source.specs.Counts.{AtMost}
 use Rattle.imagesize_source.specs.Extension.{Plain, Lasts}
 use Rattle.imagesize_source.specs.Input.{span_of}
 use Rattle.imagesize_source.specs.Layout.{Layout, layout_reads, bytes, done, refuse}
 use Rattle.imagesize_source.specs.Numbers.{number}
-use Rattle.imagesize_source.specs.Reading.{go_on, number_at, number_read}
+use Rattle.imagesize_source.specs.Reading.{number_at, number_read}
 use Rattle.imagesize_source.specs.State.{total}
 use Rattle.imagesize_source.specs.Walk.{CanFollow}
 use Rattle.imagesize_source.proofs.Advances.{Tells, advances}
 use Rattle.imagesize_source.proofs.Ahead.{Ahead, chain_ahead}
 use Rattle.imagesize_source.proofs.ChainLaws.{local_chain, lasts_chain, chain_cost_from}
-use Rattle.imagesize_source.proofs.Counts.{at_most, at_most_more, then_within, total-span_of}
+use Rattle.imagesize_source.proofs.Counts.{begun_cost, at_most, at_most_more, then_within, total-span_of}
 use Rattle.imagesize_source.proofs.Agreement.{local_then, local_number, with_texts}
 use Rattle.imagesize_source.proofs.Numbers.{little_4}
-use Rattle.imagesize_source.proofs.Runs.{total-append}
 use Rattle.imagesize_source.proofs.Spends.{said_to}
 use Rattle.imagesize_source.proofs.Tests.{on_test}
 use Rattle.imagesize_source.proofs.Way.{RecordedLaws}
 use Rattle.imagesize_texts.specs.Exr.{exr, exr_attributes, exr_attribute, exr_named, exr_typed, exr_value, exr_window, name_room, window_size, is_data_window, is_box, signed_at, attributes_begun}
 use Rattle.imagesize_texts.specs.Texts.{line_at}
-use Rattle.imagesize_texts.proofs.Texts.{first_of, line_total, line_onto, line_plain, line_tells, line_begins, line_beyond, lasts_then, number_lasts}
+use Rattle.imagesize_texts.proofs.Texts.{line_total, line_onto, line_plain, line_tells, line_begins, line_beyond, lasts_then, number_lasts}
 
 -- the four bytes of a number
 four_bytes : (bs : List ℕ) (place : ℕ) → place + 4 ≤ length bs → slice_index_or bs place 0 ∷ slice_index_or bs (place + 1) 0
@@ -135,8 +134,8 @@ attributes_within room d =
     ))))) in
     omega arith
 
--- the version and the attributes are read from at most 4 bytes more than the input has
-pub exr_within : (d : List ℕ) → total (exr d).marks ≤ length d + 4
+-- with its type it is read from at most 28 bytes more than the input has: version and attributes from at most 4 more
+pub exr_within : (d : List ℕ) → 12 + total (exr d).marks ≤ length d + 28
 exr_within d = omega (
   arith,
   then_within (number_read d Little 4 4) (λ version. chain_at (exr_attributes (name_room version)) d) 4
@@ -157,7 +156,7 @@ window_name name is = grind (arith, nat_tests)
 name_and_window : (name : List ℕ) (is_type : Bool) → length name + 1 ≤ 256
     → cond (is_data_window name && is_type) 16 0 + (length name + 1) ≤ 256
 name_and_window name is_type few = on_test (λ n. n + (length name + 1) ≤ 256) (is_data_window name && is_type) 16 0
-    (λ is. let ten = window_name name (first_of (is_data_window name) is_type is) in omega arith) (λ _. omega arith)
+    (λ is. let ten = window_name name (and_parts (is_data_window name) is_type is).0 in omega arith) (λ _. omega arith)
 
 -- an attribute is read from at most 530 bytes
 attribute_cost : (d : List ℕ) (room place : ℕ) → room ≤ 256 → total (layout_reads d (exr_attribute room place)).marks ≤ 530
@@ -176,26 +175,20 @@ attribute_cost d room place few = line_total 0 place room (exr_named room place)
     omega arith) in
     omega arith))
 
-cost_by : (d : List ℕ) (r : Result ℕ ImageError)
-    → total (go_on (span_of d 4 4) r (λ version. chain_at (exr_attributes (name_room version)) d)).marks ≤ 4 + 530 * count_behind r (λ version. records (exr_attributes (name_room version)) d)
-cost_by d (Ok version) =
-    let all = total-append (span_of d 4 4) (chain_at (exr_attributes (name_room version)) d).marks in
-    let first = total-span_of d 4 4 in
-    let each = chain_cost_from (exr_attributes (name_room version)) d (attribute_advances (name_room version) d) 530
-    (λ t. attribute_cost d (name_room version) t.place (room_few version)) (start (exr_attributes (name_room version))) in
-    omega arith
-cost_by d (Err e) = let first = total-span_of d 4 4 in omega arith
-
-pub exr_cost : (d : List ℕ) → total (exr d).marks ≤ 4 + 530 * attributes_begun d
-exr_cost d = cost_by d (number_at d Little 4 4)
+pub exr_cost : (d : List ℕ) → 12 + total (exr d).marks ≤ 16 + 530 * attributes_begun d
+exr_cost d = omega (
+  arith,
+  begun_cost 530 (span_of d 4 4) (number_at d Little 4 4) (λ version. chain_at (exr_attributes (name_room version)) d)
+      (λ version. records (exr_attributes (name_room version)) d) 4 0 (total-span_of d 4 4)
+      (λ version. omega (
+        arith,
+        chain_cost_from (exr_attributes (name_room version)) d (attribute_advances (name_room version) d) 530
+            (λ t. attribute_cost d (name_room version) t.place (room_few version)) (start (exr_attributes (name_room version))),
+      )),
+)
 
 pub exr_laws : RecordedLaws 12 16 530 true true exr attributes_begun
-exr_laws = record {
-  local = exr_local;
-  cost = λ d. omega (arith, exr_cost d);
-  within = λ d. omega (arith, exr_within d);
-  lasts = λ _. exr_lasts;
-}
+exr_laws = record { local = exr_local; cost = exr_cost; within = exr_within; lasts = λ _. exr_lasts }
 
 -- a walk can follow the attributes
 pub exr_follows : (room : ℕ) → 0 < room → CanFollow (exr_attributes room)

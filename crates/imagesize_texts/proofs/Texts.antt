@@ -1,5 +1,6 @@
 -- Texts that were read: what was made of them, and what holds of layouts that read them.
 use Rattle.std.proofs.Common.{◌≡◌, ℕ, zero, suc, ◌+◌, ◌-◌, ◌^◌, ◌<◌, ◌≤◌, min, Bool, true, false, ◌||◌, not, cond, eqb, ltb, List, [], ◌∷◌, ◌++◌, length, take, drop, slice_index, Option, None, Result, Ok, Err, IfErr, IfOk, IfSome, refl, sym, ap, ◌∙◌, subst, arith}
+use Rattle.std.proofs.lemmas.Bool.{and_parts}
 use Rattle.std.proofs.lemmas.Bool.Decides.{nat_tests}
 use Rattle.std.proofs.lemmas.List.{length-take, append-nil}
 use Rattle.std.specs.Char.{is_ascii_whitespace}
@@ -27,11 +28,12 @@ use Rattle.imagesize_source.proofs.Advances.{Tells, Begins}
 use Rattle.imagesize_source.proofs.Counts.{text_length, total-span_at}
 use Rattle.imagesize_source.proofs.PastTheEnd.{saturated_by}
 use Rattle.imagesize_source.proofs.Extension.{more}
-use Rattle.imagesize_source.proofs.Runs.{answered, part_is, part_length, total-append}
+use Rattle.imagesize_source.proofs.Runs.{answered, part_is, total-append}
 use Rattle.imagesize_source.proofs.Spends.{Onto}
 use Rattle.imagesize_source.proofs.Tests.{on_test}
 use Rattle.imagesize_texts.specs.Contents.{WordRead, word_room, last_byte, before_last, last_passes, no_end, utf8, line_text, line_length, word_text, ended_word, word_of, word_at, is_word_end, behind_space}
 use Rattle.imagesize_texts.specs.Texts.{line_at, passed_line, word, text_as, line_read, length_read, word_read}
+use Rattle.imagesize_source.proofs.Parts.{part_length}
 
 -- a refusal by what was read, and none that ends a call at once
 pub record Harmless (e : ImageError) : Type 0 where
@@ -137,14 +139,6 @@ pub word_runs : {a b : State} (d room : List ℕ) (place n : ℕ) (r : Result Wo
     → Runs a b (Ok (take n room)) (text_read d Word place (length room)) → r ≡ word_text (take n room) → Runs a b r (word_read d place)
 word_runs d room place n r long h is = judged_room d room place word_room n long Word word_text r h is (word_judged (take n room))
 
-pub first_of : (a b : Bool) → a && b ≡ true → a ≡ true
-first_of true b is = refl
-first_of false b is = absurd cc
-
-second_of : (a b : Bool) → a && b ≡ true → b ≡ true
-second_of true b is = is
-second_of false b is = absurd cc
-
 -- a text has bytes where something was made of it
 passes_some : (p : ℕ → Bool) (bs : List ℕ) → last_passes p bs ≡ true → 0 < length bs
 passes_some p bs is = by_test (ltb 0 (length bs)) refl where
@@ -206,7 +200,7 @@ word_ok bs w = on_test (λ r. r ≡ Ok w → (length bs ≡ w.taken) × (0 < len
     (λ _ is. absurd cc)
 
 below_room : (last count : ℕ) → is_word_end last count ≡ true → count < word_room
-below_room last count is = let few : ltb count word_room ≡ true = second_of (is_ascii_whitespace last) (ltb count word_room) is in
+below_room last count is = let few : ltb count word_room ≡ true = (and_parts (is_ascii_whitespace last) (ltb count word_room) is).1 in
     grind (arith, nat_tests)
 
 -- so what was read of it was paid for
@@ -280,7 +274,7 @@ drop_space (b ∷ bs) =
 
 any_white : (count : ℕ) (bs : List ℕ) → last_passes (λ b. is_word_end b count) bs ≡ true → list_any is_ascii_whitespace bs ≡ true
 any_white count bs is = any_at is_ascii_whitespace bs (length bs - 1) (omega (arith, passes_some (λ b. is_word_end b count) bs is))
-    (first_of (is_ascii_whitespace (last_byte bs)) (ltb count word_room) (passes_last (λ b. is_word_end b count) bs is))
+    (and_parts (is_ascii_whitespace (last_byte bs)) (ltb count word_room) (passes_last (λ b. is_word_end b count) bs is)).0
 
 word_ended : (bs : List ℕ) → last_passes (λ b. is_word_end b (length bs)) (behind_space bs) ≡ true → is_ended Word bs ≡ true
 unfolding is_ended

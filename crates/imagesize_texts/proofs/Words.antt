@@ -1,5 +1,6 @@
 -- Text, words and numbers, as std reads them.
 use Rattle.std.proofs.Common.{◌≡◌, ℕ, suc, ◌+◌, ◌^◌, ◌<◌, Bool, true, false, cond, ltb, List, [], ◌∷◌, ◌++◌, map, length, drop, None, Some, Result, Ok, Err, refl, sym, ap, ◌∙◌, subst, append_assoc, arith}
+use Rattle.std.proofs.lemmas.Bool.{and_parts}
 use Rattle.std.specs.Prelude.{filter, ◌&&◌}
 use Rattle.std.proofs.lemmas.Bool.Decides.{nat_tests}
 use Rattle.std.proofs.lemmas.List.{append-nil}
@@ -79,18 +80,14 @@ number_is text is small =
 below : (a b : ℕ) → ltb a b ≡ true → a < b
 below a b is = grind (arith, nat_tests)
 
-both : (a b : Bool) → a && b ≡ true → (a ≡ true) × (b ≡ true)
-both true b is = (refl, is)
-both false b is = absurd cc
-
 is_numeral : (text : List ℕ) → is_number text ≡ true → IsNumeral 10 (without_leading_plus text)
     × (digits_value 10 (without_leading_plus text) < 2 ^ 64)
 unfolding is_number
 is_numeral text is =
     let ds : List ℕ = without_leading_plus text in
     let parts : (ltb 0 (length ds) && all_ascii_digits ds ≡ true) × (ltb (digits_value 10 ds) (2 ^ 64) ≡ true) =
-    both (ltb 0 (length ds) && all_ascii_digits ds) (ltb (digits_value 10 ds) (2 ^ 64)) is in
-    let digits : (ltb 0 (length ds) ≡ true) × (all_ascii_digits ds ≡ true) = both (ltb 0 (length ds)) (all_ascii_digits ds) parts.0 in
+    and_parts (ltb 0 (length ds) && all_ascii_digits ds) (ltb (digits_value 10 ds) (2 ^ 64)) is in
+    let digits : (ltb 0 (length ds) ≡ true) × (all_ascii_digits ds ≡ true) = and_parts (ltb 0 (length ds)) (all_ascii_digits ds) parts.0 in
     ((below 0 (length ds) digits.0, digits_are.to ds digits.1), below (digits_value 10 ds) (2 ^ 64) parts.1)
 
 -- what std parses as a number

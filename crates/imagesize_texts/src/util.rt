@@ -51,23 +51,6 @@ pub fn read_line_capped<'a, S: Source>(
     line_text(&room[..count], delimiter, most)
 }
 
-/// The text from a place on up to a byte 0, as `read_line_capped`.
-#[inline]
-pub fn read_null_terminated_string<'a, S: Source>(
-    source: &mut S,
-    place: u64,
-    room: &'a mut [u8],
-) -> Result<&'a str, Halt>
-    requires { length room.old < 2 ^ 32 }
-    ensures bound { IfOk result (λ text. length text.now < length room.old) }
-    ensures pays { IfOk result (λ text. Paid (S.state source.old) (S.state source.new) place) }
-    ensures runs { Runs (S.state source.old) (S.state source.new)
-        (map_answer (λ text. text.now) (with_error (S.failure source.new) (S.state source.new).frame.budget result))
-        (line_read (S.state source.old).held.input 0 place (length room.old)) }
-{
-    read_line_capped(source, place, 0, room)
-}
-
 /// How many bytes there are from a place on up to a delimiter, and with it, as `read_line_capped`, but for a
 /// line that need not be text.
 #[inline]

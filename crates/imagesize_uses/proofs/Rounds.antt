@@ -1,11 +1,11 @@
 -- How many places of its marks an input still lacks, of which some parts were fetched.
 use Rattle.std.proofs.Common.{◌≡◌, ℕ, zero, suc, ◌+◌, ◌^◌, ◌<◌, ◌≤◌, Bool, true, false, ◌&&◌, ◌||◌, not, cond, eqb, List, [], ◌∷◌, ◌++◌, length, refl, sym, ap, ◌∙◌, subst, arith}
+use Rattle.std.proofs.lemmas.Bool.{and_parts}
 use Rattle.std.specs.Prelude.{count_by}
 use Rattle.std.specs.List.{range_with_len}
 use Rattle.std.proofs.lemmas.Bool.Decides.{nat_tests}
 use Rattle.std.proofs.lemmas.Grind.{flat_map-append}
 use Rattle.std.proofs.lemmas.List.{append-nil}
-use Rattle.std.proofs.lemmas.List.Sums.{sum_by-cons}
 use Rattle.imagesize.specs.Meaning.{meaning}
 use Rattle.imagesize.specs.Parted.{Wants, texts_of}
 use Rattle.imagesize_source.specs.Agreement.{is_covered, has_place}
@@ -13,22 +13,9 @@ use Rattle.imagesize_source.specs.Counts.{places}
 use Rattle.imagesize_source.specs.Input.{part}
 use Rattle.imagesize_source.specs.Known.{HasParts, bytes_of}
 use Rattle.imagesize_source.specs.declared.span.Span.{Span}
+use Rattle.imagesize_source.proofs.Counts.{count-cons, count_fewer, tests_fewer}
 
 -- ---- counts of places
-
-count-cons : (p : ℕ → Bool) (x : ℕ) (xs : List ℕ) → count_by p (x ∷ xs) ≡ cond (p x) 1 0 + count_by p xs
-count-cons p x xs = sum_by-cons (λ y. cond (p y) 1 0) x xs
-
-one_fewer : (b c : Bool) → (b ≡ true → c ≡ true) → cond b 1 0 ≤ cond c 1 0
-one_fewer true true h = omega arith
-one_fewer true false h = absurd (let no : false ≡ true = h refl in cc)
-one_fewer false c h = omega arith
-
--- what fewer places have is counted no more often
-count_fewer : (p q : ℕ → Bool) (xs : List ℕ) → ((x : ℕ) → p x ≡ true → q x ≡ true) → count_by p xs ≤ count_by q xs
-count_fewer p q [] h = omega arith
-count_fewer p q (x ∷ xs) h =
-    omega (arith, count-cons p x xs, count-cons q x xs, count_fewer p q xs h, one_fewer (p x) (q x) (h x))
 
 -- and less often, where a place is among them that has it no more
 count_less : (p q : ℕ → Bool) (a n at : ℕ) → a ≤ at → at < a + n → ((x : ℕ) → p x ≡ true → q x ≡ true) → p at ≡ false → q at ≡ true
@@ -48,7 +35,7 @@ count_less p q a (suc n) at low high h gone has =
       by_first false is behind =
           let later : a + 1 ≤ at = grind (arith, nat_tests) in
           let rest = behind later in
-          omega (arith, count-cons p a (range_with_len (a + 1) n), count-cons q a (range_with_len (a + 1) n), one_fewer (p a) (q a) (h a), rest)
+          omega (arith, count-cons p a (range_with_len (a + 1) n), count-cons q a (range_with_len (a + 1) n), tests_fewer (p a) (q a) (h a), rest)
 
 -- one span more
 covered_behind : (spans : List Span) (w : Span) (place : ℕ) → is_covered (spans ++ w ∷ []) place ≡ is_covered spans place || has_place w place
@@ -85,13 +72,9 @@ begun d whole now spans bytes long short none also = record {
   few = omega (
     arith,
     count_fewer (lacks (meaning d 0).marks spans) (is_covered (meaning d 0).marks) (range_with_len 0 (length d))
-        (λ place. both_first (is_covered (meaning d 0).marks place) (not (is_covered spans place))),
+        (λ place has. (and_parts (is_covered (meaning d 0).marks place) (not (is_covered spans place)) has).0),
   );
 }
-  where
-    both_first : (b c : Bool) → b && c ≡ true → b ≡ true
-    both_first true c is = refl
-    both_first false c is = is
 
 -- a fetch of what is wanted of the parts, as the call has them, leaves fewer places that are lacking
 module _ {d : List ℕ} {whole : ℕ} {spans others : List Span} {bytes content : List ℕ} {before now : ℕ} (w : Span)

@@ -4,21 +4,13 @@ use Rattle.std.specs.Cmp.Lexicographic.{pointwise, same_text, other_text}
 use Rattle.std.specs.Prelude.{nat_eq}
 use Rattle.std.proofs.lemmas.Bool.Decides.{nat_tests}
 use Rattle.std.proofs.lemmas.Grind.{flat_map-append}
-use Rattle.std.proofs.lemmas.List.{append_assoc, append_cancel_left, append-nil, ext_get_or, get_or-drop, get_or-take, length-drop, length-take, take-append-drop, take-take, take_more}
+use Rattle.std.proofs.lemmas.List.{append_assoc, append_cancel_left, append-nil, ext_get_or, length-take, take-append-drop, take-take, take_more}
 use Rattle.std.proofs.Math.Seq.{drop-append_seam, drop-cons, take-append_seam}
 use Rattle.imagesize_source.specs.Agreement.{Agrees, is_covered, has_place}
 use Rattle.imagesize_source.specs.Input.{part}
 use Rattle.imagesize_source.specs.declared.span.Span.{Span}
 use Rattle.imagesize_source.specs.Known.{bytes_of}
-
--- the byte at a place of a part
-part-at : (d : List ℕ) (start k i : ℕ) → i < k → get_or (part d start k) i 0 ≡ slice_index d (start + i)
-unfolding part
-part-at d start k i below = get_or-take k (drop start d) i 0 below ∙ get_or-drop start d i 0
-
-length-part : (d : List ℕ) (start k : ℕ) → length (part d start k) ≡ min k (length d - start)
-unfolding part
-length-part d start k = length-take k (drop start d) ∙ ap (min k) (length-drop start d)
+use Rattle.imagesize_source.proofs.Parts.{part_at, part_length, parts_long}
 
 -- the front of a part is a part
 pub copied_front : (d found new : List ℕ) (place k n m : ℕ) → found ≡ part d place k → n ≡ min m (length found)
@@ -27,10 +19,6 @@ unfolding part
 copied_front d found new place k n m is count copied =
     let few : n ≤ k = omega (arith, count, ap length is, length-take k (drop place d)) in
     copied ∙ ap (take n) is ∙ take-take n k (drop place d) few
-
--- parts of inputs of one length are of one length
-as_long : (d e : List ℕ) (start k : ℕ) → length e ≡ length d → length (part e start k) ≡ length (part d start k)
-as_long d e start k long = length-part e start k ∙ ap (λ n. min k (n - start)) long ∙ sym (length-part d start k)
 
 -- lists whose fronts are of one length are the same only where both parts are
 fronts : (a b x y : List ℕ) → length a ≡ length b → a ++ x ≡ b ++ y → a ≡ b
@@ -57,13 +45,13 @@ same_at d e s place same has =
     let at : s.start + i ≡ place = omega (arith, starts_by s place has) in
     let below : i < s.len = omega (arith, starts_by s place has, ends_behind s place has) in
     subst (λ p. slice_index e p ≡ slice_index d p) at
-    (sym (part-at e s.start s.len i below) ∙ ap (λ bs. get_or bs i 0) same ∙ part-at d s.start s.len i below)
+    (sym (part_at e s.start s.len i below) ∙ ap (λ bs. get_or bs i 0) same ∙ part_at d s.start s.len i below)
 
 same_byte : (d e : List ℕ) (spans : List Span) (place : ℕ) → length e ≡ length d → bytes_of e spans ≡ bytes_of d spans
     → is_covered spans place ≡ true → slice_index e place ≡ slice_index d place
 same_byte d e [] place long same here = absurd cc
 same_byte d e (s ∷ spans) place long same here =
-    let lengths = as_long d e s.start s.len long in
+    let lengths = parts_long d e s.start s.len long in
     let front = fronts (part e s.start s.len) (part d s.start s.len) (bytes_of e spans) (bytes_of d spans) lengths same in
     let rest = ends (part e s.start s.len) (part d s.start s.len) (bytes_of e spans) (bytes_of d spans) lengths same in
     let Goal : Bool → Type 0 = λ b. has_place s place ≡ b → b || is_covered spans place ≡ true → slice_index e place ≡ slice_index d place in
@@ -81,10 +69,10 @@ agrees_by_bytes d e spans long same = record { as_long = long; same_byte = λ pl
 same_part : (d e : List ℕ) (s : Span) → length e ≡ length d → ((place : ℕ) → has_place s place ≡ true → slice_index e place
     ≡ slice_index d place) → part e s.start s.len ≡ part d s.start s.len
 same_part d e s long agrees =
-    ext_get_or 0 (part e s.start s.len) (part d s.start s.len) (as_long d e s.start s.len long)
+    ext_get_or 0 (part e s.start s.len) (part d s.start s.len) (parts_long d e s.start s.len long)
     (λ i below.
-    let small : i < s.len = omega (arith, below, length-part e s.start s.len) in
-    part-at e s.start s.len i small ∙ agrees (s.start + i) (has_offset s i small) ∙ sym (part-at d s.start s.len i small))
+    let small : i < s.len = omega (arith, below, part_length e s.start s.len) in
+    part_at e s.start s.len i small ∙ agrees (s.start + i) (has_offset s i small) ∙ sym (part_at d s.start s.len i small))
 
 covered_first : (s : Span) (spans : List Span) (place : ℕ) → has_place s place ≡ true → is_covered (s ∷ spans) place ≡ true
 covered_first s spans place has = ap (λ b. b || is_covered spans place) has

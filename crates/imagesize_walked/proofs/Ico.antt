@@ -1,10 +1,9 @@
 -- ICO: how a walk along its entries goes, how many bytes they are read from, and what it sees of an input.
-use Rattle.std.proofs.Common.{◌≡◌, ◌≢◌, ℕ, ◌+◌, ◌*◌, ◌<◌, ◌≤◌, max, Bool, true, false, cond, eqb, leb, List, [], ◌∷◌, ◌++◌, length, map, Option, Some, None, Result, Ok, Err, refl, sym, ap, ◌∙◌, subst, arith, min}
+use Rattle.std.proofs.Common.{◌≡◌, ◌≢◌, ℕ, ◌+◌, ◌*◌, ◌<◌, ◌≤◌, max, Bool, true, false, cond, eqb, leb, List, [], ◌∷◌, ◌++◌, length, Option, Some, None, Result, Ok, Err, refl, sym, ap, ◌∙◌, subst, arith, min}
 use Rattle.std.proofs.lemmas.Bool.Decides.{nat_tests}
-use Rattle.std.proofs.lemmas.List.{append-nil, length_push, map-append}
+use Rattle.std.proofs.lemmas.List.{append-nil, length_push}
 use Rattle.std.proofs.lemmas.List.Elements.{filter-append}
-use Rattle.std.proofs.lemmas.List.Sums.{fold-append}
-use Rattle.std.specs.Prelude.{filter, fold, ok_or}
+use Rattle.std.specs.Prelude.{filter, ok_or}
 use Rattle.std.specs.List.{last_or}
 use Rattle.imagesize_walked.specs.Ico.{ico, icon_entries, icon_entry, icon_answer, icon_size, icons_begun}
 use Rattle.imagesize_types.specs.Largest.{greatest_area, last_largest, area_if_some, later_largest}
@@ -15,37 +14,30 @@ use Rattle.imagesize_source.specs.declared.error.ImageError.TheVariants.{Corrupt
 use Rattle.imagesize_source.specs.declared.halt.Halt.TheVariants.{Corrupted}
 use Rattle.imagesize_source.specs.declared.endian.Endian.TheVariants.{Little}
 use Rattle.imagesize_source.specs.Agreement.{IsLocal}
-use Rattle.imagesize_source.specs.Chain.{Said, Decided, Next, Along, Advances, start, next_record, records, records_from, verdict, chain_at, count_behind}
+use Rattle.imagesize_source.specs.Chain.{Said, Decided, Next, Along, Advances, start, next_record, records, records_from, verdict, chain_at}
 use Rattle.imagesize_source.specs.Counts.{AtMost}
 use Rattle.imagesize_source.specs.Halts.{RunsOrHalts}
 use Rattle.imagesize_source.specs.Input.{span_of}
 use Rattle.imagesize_source.specs.Layout.{Layout, layout_reads, if_there, refuse, done, whole}
-use Rattle.imagesize_source.specs.Reading.{go_on, number_at, number_read}
+use Rattle.imagesize_source.specs.Reading.{number_at, number_read}
 use Rattle.imagesize_source.specs.State.{State, Runs, IsSound, total}
 use Rattle.imagesize_source.proofs.Advances.{Tells, Begins, advances, tells}
 use Rattle.imagesize_source.proofs.Ahead.{Ahead, chain_ahead}
 use Rattle.imagesize_source.proofs.ChainLaws.{local_chain, chain_cost, chain_induction}
 use Rattle.imagesize_source.proofs.Chains.{records_next, records_stop}
-use Rattle.imagesize_source.proofs.Counts.{then_within, total-span_of}
+use Rattle.imagesize_source.proofs.Counts.{begun_cost, then_within, total-span_of}
 use Rattle.imagesize_source.proofs.Agreement.{local_then, local_number, without_texts}
 use Rattle.imagesize_source.proofs.Reached.{runs_bind, refused_bind}
-use Rattle.imagesize_source.proofs.Runs.{total-append}
 use Rattle.imagesize_source.proofs.Tests.{on_test}
 use Rattle.imagesize_source.proofs.Way.{RecordedLaws}
 use Rattle.imagesize_source.proofs.Walks.{Walks, walks_start, walks_on, walks_stop, walks_out, walks_now}
+use Rattle.imagesize_source.proofs.Lists.{last_push}
+use Rattle.imagesize_types.proofs.Largest.{greatest_push}
 
 -- The largest of the sizes, with its area.
 pub record Largest (best : Option ImageSize) (sizes : List ImageSize) : Type 0 where
   pub is : last_largest sizes ≡ best
   pub area : greatest_area sizes ≡ area_if_some best
-
-last_push : {A : Type 0} (o : Option A) (xs : List A) (x : A) → last_or o (xs ++ x ∷ []) ≡ Some x
-last_push o [] x = refl
-last_push o (y ∷ xs) x = last_push (Some y) xs x
-
-greatest_push : (sizes : List ImageSize) (size : ImageSize) → greatest_area (sizes ++ size ∷ []) ≡ max (greatest_area sizes) (area_of size)
-greatest_push sizes size = ap (fold max 0) (map-append area_of sizes (size ∷ [])) ∙ fold-append max 0 (map area_of sizes)
-    (area_of size ∷ [])
 
 -- of one size more the later largest
 last_by : (best : Option ImageSize) (sizes : List ImageSize) (size : ImageSize) (greatest : ℕ) (b : Bool) → leb (area_if_some best)
@@ -116,8 +108,8 @@ entries_within count d =
     )) in
     omega arith
 
--- the count and the entries are read from at most 2 bytes more than the input has
-pub ico_within : (d : List ℕ) → total (ico d).marks ≤ length d + 2
+-- with its type it is read from at most 28 bytes more than the input has: count and entries from at most 2 more
+pub ico_within : (d : List ℕ) → 12 + total (ico d).marks ≤ length d + 28
 ico_within d = omega (
   arith,
   then_within (number_read d Little 4 2) (λ count. chain_at (icon_entries count) d) 2 (length d)
@@ -247,24 +239,18 @@ ico_local = local_then (λ d. number_read d Little 4 2) (λ count d. chain_at (i
     (λ count. local_chain (icon_entries count) (icon_advances count)
     (λ sizes place. without_texts false 2 ((icon_entries count).said sizes place) (entry_at_most count sizes place)))
 
-cost_by : (d : List ℕ) (r : Result ℕ ImageError) → total (go_on (span_of d 4 2) r (λ count. chain_at (icon_entries count) d)).marks ≤ 4
-    + 2 * count_behind r (λ count. min count (records (icon_entries count) d))
-cost_by d (Ok count) =
-    let all = total-append (span_of d 4 2) (chain_at (icon_entries count) d).marks in
-    let first = total-span_of d 4 2 in
-    let few = records_few count d in
-    let each = chain_cost (icon_entries count) d (icon_advances count d) 2 (entry_at_most count) in
-    omega arith
-cost_by d (Err e) = let first = total-span_of d 4 2 in omega arith
-
-pub ico_cost : (d : List ℕ) → total (ico d).marks ≤ 4 + 2 * icons_begun d
-ico_cost d = cost_by d (number_at d Little 4 2)
+pub ico_cost : (d : List ℕ) → 12 + total (ico d).marks ≤ 18 + 20 * icons_begun d
+ico_cost d = omega (
+  arith,
+  begun_cost 2 (span_of d 4 2) (number_at d Little 4 2) (λ count. chain_at (icon_entries count) d)
+      (λ count. min count (records (icon_entries count) d)) 2 2 (total-span_of d 4 2)
+      (λ count. omega (
+        arith,
+        records_few count d,
+        chain_cost (icon_entries count) d (icon_advances count d) 2 (entry_at_most count),
+      )),
+)
 
 -- the list may go on in bytes that follow
 pub ico_laws : RecordedLaws 12 18 20 false false ico icons_begun
-ico_laws = record {
-  local = ico_local;
-  cost = λ d. omega (arith, ico_cost d);
-  within = λ d. omega (arith, ico_within d);
-  lasts = λ keeps. absurd cc;
-}
+ico_laws = record { local = ico_local; cost = ico_cost; within = ico_within; lasts = λ keeps. absurd cc }

@@ -1,5 +1,5 @@
 -- ILBM: how a walk along its chunks goes, how many bytes they are read from, and what it sees of an input.
-use Rattle.std.proofs.Common.{false, ℕ, ◌+◌, ◌*◌, ◌<◌, ◌≤◌, true, List, length, ap, ◌∙◌, arith}
+use Rattle.std.proofs.Common.{false, ℕ, ◌+◌, ◌*◌, ◌<◌, ◌≤◌, true, List, length, arith}
 use Rattle.imagesize_walked.specs.Ilbm.{ilbm, ilbm_chunks, ilbm_named, bitmap_header, chunk_bytes, chunk_length, is_bitmap_header, is_body}
 use Rattle.imagesize_types.specs.declared.size.ImageSize.{ImageSize}
 use Rattle.imagesize_source.specs.declared.error.ImageError.TheVariants.{CorruptedImage}
@@ -16,7 +16,7 @@ use Rattle.imagesize_source.proofs.PastTheEnd.{bytes_beyond}
 use Rattle.imagesize_source.proofs.Agreement.{without_texts}
 use Rattle.imagesize_source.proofs.ChainLaws.{local_chain, lasts_chain, chain_cost}
 use Rattle.imagesize_source.proofs.Tests.{on_test}
-use Rattle.imagesize_source.proofs.Way.{RecordedLaws}
+use Rattle.imagesize_source.proofs.Way.{RecordedLaws, answers_last}
 
 -- what holds of each chunk, by its name
 by_name : (P : Layout (Said (Unit {0}) ImageSize) → Type 0) (place : ℕ) (head : List ℕ) → P (refuse CorruptedImage)
@@ -38,16 +38,16 @@ ilbm_lasts = lasts_chain ilbm_chunks ilbm_advances (λ passed place head. by_nam
 chunk_at_most : (passed : List (Unit {0})) (place : ℕ) → AtMost 12 (ilbm_chunks.said passed place)
 chunk_at_most passed place = (omega arith, λ head. by_name (AtMost 4) place head tt (omega arith, λ width. (omega arith, λ height. tt)) tt)
 
-pub ilbm_cost : (d : List ℕ) → total (ilbm d).marks ≤ 12 * records ilbm_chunks d
-ilbm_cost d = chain_cost ilbm_chunks d (ilbm_advances d) 12 chunk_at_most
+pub ilbm_cost : (d : List ℕ) → 12 + total (ilbm d).marks ≤ 18 + 20 * records ilbm_chunks d
+ilbm_cost d = omega (arith, chain_cost ilbm_chunks d (ilbm_advances d) 12 chunk_at_most)
 
 -- what is seen of an input
 pub ilbm_local : IsLocal false ilbm
 ilbm_local = local_chain ilbm_chunks ilbm_advances
     (λ passed place. without_texts false 12 (ilbm_chunks.said passed place) (chunk_at_most passed place))
 
--- the chunks are read from at most the bytes behind the form's type
-pub ilbm_within : (d : List ℕ) → total (ilbm d).marks ≤ length d
+-- with its type it is read from at most 28 bytes more than the input has: the chunks stand behind the form's type
+pub ilbm_within : (d : List ℕ) → 12 + total (ilbm d).marks ≤ length d + 28
 ilbm_within d =
     let most = chain_ahead ilbm_chunks d (ilbm_advances d)
     (λ passed place. (
@@ -65,9 +65,4 @@ ilbm_follows = record {
 }
 
 pub ilbm_laws : RecordedLaws 12 18 20 true false ilbm (records ilbm_chunks)
-ilbm_laws = record {
-  local = ilbm_local;
-  cost = λ d. omega (arith, ilbm_cost d);
-  within = λ d. omega (arith, ilbm_within d);
-  lasts = λ _ d x v is. ap (λ r. r.answer) (ilbm_lasts d x v is) ∙ is;
-}
+ilbm_laws = record { local = ilbm_local; cost = ilbm_cost; within = ilbm_within; lasts = λ _. answers_last ilbm ilbm_lasts }

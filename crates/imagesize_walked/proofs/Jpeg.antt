@@ -30,7 +30,7 @@ use Rattle.imagesize_source.proofs.Answered.{bytes_is, part_first, big_pair, on_
 use Rattle.imagesize_source.proofs.Extension.{bytes_ok, number_ok}
 use Rattle.imagesize_source.proofs.Runs.{total-append}
 use Rattle.imagesize_source.proofs.Tests.{on_test}
-use Rattle.imagesize_source.proofs.Way.{RecordedLaws}
+use Rattle.imagesize_source.proofs.Way.{RecordedLaws, answers_last}
 
 -- what holds of each way that a segment can go
 by_head : (P : Layout (Said ℕ ImageSize) → Type 0) (k place : ℕ) (head : List ℕ) → P (refuse CorruptedImage) → P (jpeg_frame place)
@@ -72,8 +72,8 @@ jpeg_local = local_chain jpeg_segments jpeg_advances
     (λ markers place. without_texts false 6 (jpeg_segment (depth markers) place) (segment_at_most (depth markers) place))
 
 -- a segment is read from at most 6 bytes
-pub jpeg_cost : (d : List ℕ) → total (jpeg d).marks ≤ 6 * records jpeg_segments d
-jpeg_cost d = chain_cost jpeg_segments d (jpeg_advances d) 6 (λ markers place. segment_at_most (depth markers) place)
+pub jpeg_cost : (d : List ℕ) → 12 + total (jpeg d).marks ≤ 18 + 20 * records jpeg_segments d
+jpeg_cost d = omega (arith, chain_cost jpeg_segments d (jpeg_advances d) 6 (λ markers place. segment_at_most (depth markers) place))
 
 counts_on : (p : ℕ → Bool) (markers : List ℕ) (marker : ℕ) → count_by p (markers ++ marker ∷ []) ≡ count_by p markers + cond (p marker) 1 0
 counts_on p markers marker = sum_by-append (λ m. cond (p m) 1 0) markers (marker ∷ []) ∙ ap (λ n. count_by p markers + n)
@@ -200,8 +200,8 @@ segment_allowed d k place = on_answer (λ w. total w.marks ≤ allowed d place) 
     let few : 2 ≤ allowed d place = grind (arith, nat_tests) in omega arith))
     (λ e got. let here = total-span_of d place 2 in let few : 2 ≤ allowed d place = grind (arith, nat_tests) in omega arith)
 
--- the segments are read from at most 6 bytes more than the input has
-pub jpeg_within : (d : List ℕ) → total (jpeg d).marks ≤ length d + 6
+-- with its type it is read from at most 28 bytes more than the input has: the segments from at most 6 more
+pub jpeg_within : (d : List ℕ) → 12 + total (jpeg d).marks ≤ length d + 28
 unfolding Used
 jpeg_within d =
     let most = chain_within jpeg_segments d (jpeg_advances d) (λ t. allowed d t.place)
@@ -212,9 +212,4 @@ jpeg_within d =
     omega arith
 
 pub jpeg_laws : RecordedLaws 12 18 20 true false jpeg (records jpeg_segments)
-jpeg_laws = record {
-  local = jpeg_local;
-  cost = λ d. omega (arith, jpeg_cost d);
-  within = λ d. omega (arith, jpeg_within d);
-  lasts = λ _ d x v is. ap (λ r. r.answer) (jpeg_lasts d x v is) ∙ is;
-}
+jpeg_laws = record { local = jpeg_local; cost = jpeg_cost; within = jpeg_within; lasts = λ _. answers_last jpeg jpeg_lasts }

@@ -18,7 +18,7 @@ use Rattle.imagesize_source.specs.declared.error.ImageError.TheVariants.{IoError
 use Rattle.imagesize_source.specs.declared.error.Reason.TheVariants.{InvalidIfdValueLength, NoDimensionsInIfd}
 use Rattle.imagesize_source.specs.declared.endian.Endian.{Endian}
 use Rattle.imagesize_source.specs.Agreement.{IsLocal}
-use Rattle.imagesize_source.specs.Chain.{Said, Decided, Next, Chain, Along, Advances, start, next_record, records, records_from, verdict, chain_at, chain_from, count_behind}
+use Rattle.imagesize_source.specs.Chain.{Said, Decided, Next, Chain, Along, Advances, start, next_record, records, records_from, verdict, chain_at, chain_from}
 use Rattle.imagesize_source.specs.Counts.{AtMost}
 use Rattle.imagesize_source.specs.Extension.{Never, Plain}
 use Rattle.imagesize_source.specs.Input.{span_of}
@@ -32,7 +32,7 @@ use Rattle.imagesize_source.proofs.Ahead.{Ahead, chain_ahead}
 use Rattle.imagesize_source.proofs.PastTheEnd.{bytes_beyond, saturated_by}
 use Rattle.imagesize_source.proofs.ChainLaws.{local_chain, lasts_chain, chain_induction}
 use Rattle.imagesize_source.proofs.Chains.{chain_next, chain_stop, records_next, records_stop}
-use Rattle.imagesize_source.proofs.Counts.{at_most, at_most_bind, at_most_more, then_within, total-span_of, total_behind}
+use Rattle.imagesize_source.proofs.Counts.{begun_cost, at_most, at_most_bind, at_most_more, then_within, total-span_of, total_behind}
 use Rattle.imagesize_source.proofs.Answered.{on_answer}
 use Rattle.imagesize_source.proofs.Agreement.{AllRead, local_layout, local_number, local_then, without_texts}
 use Rattle.imagesize_source.proofs.Extension.{bytes_more, more, number_ok}
@@ -41,6 +41,7 @@ use Rattle.imagesize_source.proofs.Runs.{total-append}
 use Rattle.imagesize_source.proofs.Tests.{on_test}
 use Rattle.imagesize_source.proofs.Way.{RecordedLaws}
 use Rattle.imagesize_source.proofs.Walks.{Walks, walks_start, walks_on, walks_stop, walks_out, walks_now}
+use Rattle.imagesize_source.proofs.Lists.{last_push}
 
 -- what holds of a refusal and of what goes on
 by_accepted : {X Y Z : Type 0} (P : Layout Z → Type 0) (r : Result X ImageError) (f : X → Layout Y) (g : Y → Layout Z)
@@ -127,10 +128,6 @@ entries_advance : (header : Header) (count : ℕ) (d : List ℕ) → Advances (t
 entries_advance header count = advances (tiff_entries header count)
     (λ entries place. by_count (Tells (λ p. place < p)) header count entries place tt (record_tells header entries place))
     (λ entries place. by_count (Begins place) header count entries place tt (record_begins header entries place))
-
-last_push : {A : Type 0} (o : Option A) (xs : List A) (x : A) → last_or o (xs ++ x ∷ []) ≡ Some x
-last_push o [] x = refl
-last_push o (y ∷ xs) x = last_push (Some y) xs x
 
 last_by : (tag : ℕ) (entries : List Entry) (entry : Entry) (b : Bool) → eqb entry.tag tag ≡ b
     → last_or None (filter (λ e. eqb e.tag tag) (entries ++ entry ∷ [])) ≡ cond b (Some entry)
@@ -379,8 +376,9 @@ header_at_most = (
       )),
 )
 
--- header and directory are read from at most 16 bytes more than the input has, since the directory may stand in the header
-pub tiff_within : (d : List ℕ) → total (tiff d).marks ≤ length d + 16
+-- with its type it is read from at most 28 bytes more than the input has: header and directory from at most 16 more, since
+-- the directory may stand in the header
+pub tiff_within : (d : List ℕ) → 12 + total (tiff d).marks ≤ length d + 28
 tiff_within d = omega (
   arith,
   then_within (layout_reads d tiff_header) (tiff_directory d) 16 (length d) (at_most d 16 tiff_header header_at_most)
@@ -433,29 +431,22 @@ entries_cost header count d =
     let most = all (omega arith) in omega arith
 
 directory_cost : (d : List ℕ) (header : Header) → total (tiff_directory d header).marks ≤ 8 + 20 * directory_begun d header
-directory_cost d header = cost_by (number_at d header.order header.directory (count_bytes header.version)) where
-  cost_by : (r : Result ℕ ImageError) → total (go_on (span_of d header.directory (count_bytes header.version)) r
-      (λ count. chain_at (tiff_entries header count) d)).marks ≤ 8 + 20 * count_behind r (λ count. min count (records (tiff_entries header count) d))
-  cost_by (Ok count) =
-      let all = total-append (span_of d header.directory (count_bytes header.version)) (chain_at (tiff_entries header count) d).marks in
-      let first = total-span_of d header.directory (count_bytes header.version) in
-      let short = count_few header.version in
-      let each = entries_cost header count d in
-      omega arith
-  cost_by (Err e) = let first = total-span_of d header.directory (count_bytes header.version) in let short = count_few header.version in
-      omega arith
+directory_cost d header = omega (
+  arith,
+  begun_cost 20 (span_of d header.directory (count_bytes header.version))
+      (number_at d header.order header.directory (count_bytes header.version)) (λ count. chain_at (tiff_entries header count) d)
+      (λ count. min count (records (tiff_entries header count) d)) 8 0
+      (omega (arith, total-span_of d header.directory (count_bytes header.version), count_few header.version))
+      (λ count. omega (arith, entries_cost header count d)),
+)
 
--- outside of the entries, header and count are read from at most 24
-pub tiff_cost : (d : List ℕ) → total (tiff d).marks ≤ 24 + 20 * tiff_begun d
-tiff_cost d = cost_by (layout_reads d tiff_header).answer where
-  cost_by : (r : Result Header ImageError) → total (go_on (layout_reads d tiff_header).marks r (tiff_directory d)).marks ≤ 24
-      + 20 * count_behind r (directory_begun d)
-  cost_by (Ok header) =
-      let all = total-append (layout_reads d tiff_header).marks (tiff_directory d header).marks in
-      let first = at_most d 16 tiff_header header_at_most in
-      let rest = directory_cost d header in
-      omega arith
-  cost_by (Err e) = let first = at_most d 16 tiff_header header_at_most in omega arith
+-- with its type, all but the entries is read from at most 36
+pub tiff_cost : (d : List ℕ) → 12 + total (tiff d).marks ≤ 36 + 20 * tiff_begun d
+tiff_cost d = omega (
+  arith,
+  begun_cost 20 (layout_reads d tiff_header).marks (layout_reads d tiff_header).answer (tiff_directory d) (directory_begun d) 16 8
+      (at_most d 16 tiff_header header_at_most) (directory_cost d),
+)
 
 -- a value that is cut is refused
 cut_never : {Y Z : Type 0} (k : ℕ) (value : List ℕ) (f : List ℕ → Layout Y) (g : Y → Layout Z) → length value < k
@@ -539,9 +530,4 @@ tiff_local = local_then (λ d. layout_reads d tiff_header) (λ header d. tiff_di
     (λ count. local_chain (tiff_entries header count) (entries_advance header count) (entry_of_bytes header count)))
 
 pub tiff_laws : RecordedLaws 12 36 20 true false tiff tiff_begun
-tiff_laws = record {
-  local = tiff_local;
-  cost = λ d. omega (arith, tiff_cost d);
-  within = λ d. omega (arith, tiff_within d);
-  lasts = λ _. tiff_lasts;
-}
+tiff_laws = record { local = tiff_local; cost = tiff_cost; within = tiff_within; lasts = λ _. tiff_lasts }

@@ -9,7 +9,7 @@ ghost use Rattle.imagesize_source.specs.State.{Runs};
 ghost use Rattle.imagesize_texts.specs.Exr.{size_within, exr, exr_attribute, exr_attributes, is_box, is_data_window, is_exr, name_room, window_side, signed_at, window_size};
 ghost use Rattle.imagesize_texts.specs.Texts.{line_read};
 
-use crate::util::{read_null_terminated_string, read_u32_behind};
+use crate::util::{read_line_capped, read_u32_behind};
 use imagesize_source::readings::{read_bytes_behind, read_u32};
 use imagesize_source::source::Source;
 use imagesize_source::walk::{Found, Records, walk};
@@ -112,7 +112,7 @@ impl Records for Attributes {
     }
 }
 
-// The name at a place, which may have so many bytes.
+// The name at a place, up to a byte 0, which stands among so many bytes.
 fn read_name<'a, S: Source>(
     source: &mut S,
     place: u64,
@@ -126,7 +126,7 @@ fn read_name<'a, S: Source>(
         (map_answer (λ text. text.now) (with_error (S.failure source.new) (S.state source.new).frame.budget result))
         (line_read (S.state source.old).held.input 0 place names) }
 {
-    read_null_terminated_string(source, place, &mut room[..names])
+    read_line_capped(source, place, 0, &mut room[..names])
 }
 
 // The name so far behind a place. A place above 2^64 - 1 is behind the end of every input.
