@@ -1,6 +1,6 @@
 // Lists images with their type and size, and draws the bytes that each answer rests on.
 
-import { probeBlob, probeUrl } from '../../bindings/js/imagesize.js';
+import { init, probeBlob, probeUrl } from '../../bindings/js/imagesize.js';
 
 // How long a server is waited for in milliseconds, and how many spans of an image and bytes of a span are shown.
 const PATIENCE = 30_000;
@@ -13,6 +13,8 @@ const ADDRESSES_AT_ONCE = 8;
 
 const [status, images, template, addresses, files] = ['status', 'images', 'image', 'addresses', 'files']
   .map((id) => document.getElementById(id));
+
+const ready = init();
 
 const count = (number, one) => `${number.toLocaleString('en')} ${one}${number === 1 ? '' : 's'}`;
 const within = (parent, selector) => parent.querySelector(selector);
@@ -44,8 +46,11 @@ function addItem({ name, probe }) {
 }
 
 async function show(item, probe) {
-  const begin = performance.now();
-  const answer = await probe().catch((error) => error);
+  let begin;
+  const answer = await ready.then(() => {
+    begin = performance.now();
+    return probe();
+  }).catch((error) => error);
   showAnswer(item, answer, performance.now() - begin);
   if (answer.trace?.length > 0) showTrace(item, answer);
   return answer;
@@ -59,21 +64,22 @@ function showAnswer(item, answer, time) {
     ? `${type && `${type}, no size: `}${message}`
     : `${type}, ${width.toLocaleString('en')} × ${height.toLocaleString('en')} pixels`;
   if (answer.reads > 0) {
-    const read = `${count(answer.bytesRead, 'byte')} of ${answer.total.toLocaleString('en')} read`;
+    const whole = answer.total < Infinity ? ` of ${answer.total.toLocaleString('en')}` : '';
+    const read = `${count(answer.bytesRead, 'byte')}${whole} read`;
     within(item, '.cost').textContent = `${read}, in ${count(answer.reads, 'step')} and ${time.toFixed(1)} ms`
       + (answer.trace === null ? '; its spans are too many to be drawn' : '');
   }
 }
 
 // The strip, to scale, and the table of the same spans.
-function showTrace(item, { trace, total }) {
+function showTrace(item, { trace, total, bytesRead }) {
   const strip = within(item, '.strip');
   const drawn = trace.slice(0, SPANS_SHOWN);
   const length = trace.reduce((sum, { bytes }) => sum + bytes.length, 0);
   const told = `The answer rests on ${count(trace.length, 'span')}, ${count(length, 'byte')} in all`
     + (drawn.length < trace.length ? `; here are the first ${SPANS_SHOWN}` : '');
   strip.setAttribute('aria-label', `${told}; arrow keys go from span to span`);
-  strip.append(...drawn.map((span) => markOf(span, total)));
+  strip.append(...drawn.map((span) => markOf(span, total < Infinity ? total : bytesRead)));
   strip.firstChild.tabIndex = 0;
   const choose = (mark) => {
     within(strip, '.chosen')?.classList.remove('chosen');
@@ -155,4 +161,4 @@ addEventListener('drop', (event) => {
   list(ofAddresses(event.dataTransfer.getData('text/uri-list')), ADDRESSES_AT_ONCE);
 });
 
-status.textContent = 'Ready';
+status.textContent = await ready.then(() => 'Ready', ({ message }) => message);

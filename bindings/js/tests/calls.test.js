@@ -1,14 +1,13 @@
 // What callers may lend, what they may do wrong, and what is left behind.
 
 import assert from 'node:assert/strict';
-import { execFile, execFileSync } from 'node:child_process';
-import { copyFileSync, mkdtempSync, readFileSync, readdirSync, rmSync, truncateSync, writeFileSync } from 'node:fs';
+import { execFileSync } from 'node:child_process';
+import { mkdtempSync, readFileSync, readdirSync, rmSync, truncateSync, writeFileSync } from 'node:fs';
 import { open } from 'node:fs/promises';
 import { tmpdir } from 'node:os';
 import { join } from 'node:path';
 import { after, test } from 'node:test';
 import { fileURLToPath } from 'node:url';
-import { promisify } from 'node:util';
 import { Worker } from 'node:worker_threads';
 import { ImageError, probe, probeBlob, probeFile, spans } from '../imagesize.js';
 import { jpegBehind, tiffBehind } from './support.js';
@@ -198,22 +197,6 @@ test('each worker has a library of its own', async () => {
     new Worker(code, { eval: true, workerData: gif }).on('message', resolve).on('error', reject);
   })));
   answers.forEach(isGif);
-});
-
-test('an engine without 64-bit memory says so at the first call', async () => {
-  const code = `WebAssembly.validate = () => false;
-    import(${JSON.stringify(module)}).then(({ probe }) => probe(new Uint8Array(12)))
-      .catch((error) => console.log(error.name, error.code, error.message));`;
-  const { stdout } = await promisify(execFile)(process.execPath, ['-e', code]);
-  assert.match(stdout, /^ImageError NO_MEMORY64 .*--experimental-wasm-memory64/);
-});
-
-test('a module without its library says how it is built', async () => {
-  for (const name of ['imagesize.js', 'errors.js', 'http.js', 'library.js', 'parts.js', 'package.json']) {
-    copyFileSync(new URL(`../${name}`, import.meta.url), join(folder, name));
-  }
-  const { probe: lost } = await import(join(folder, 'imagesize.js'));
-  assert.throws(() => lost(gif), { code: 'NO_LIBRARY', message: /bindings\/js\/build builds it/ });
 });
 
 test('the codes are those of the header, and the declarations have them', async () => {

@@ -46,6 +46,12 @@ export function tiffBehind(length) {
   return Buffer.concat([head, directory]);
 }
 
+/** An icon with an entry for each of these sides. */
+export function iconOf(...sides) {
+  const entries = sides.map((side) => Buffer.from([side % 256, side % 256, 0, 0, 1, 0, 32, 0, 0, 0, 0, 0, 0, 0, 0, 0]));
+  return Buffer.concat([Buffer.from([0, 0, 1, 0, sides.length, 0]), ...entries, Buffer.alloc(6000)]);
+}
+
 /** Gives a range of some bytes as it was asked for, with these headers. */
 export function giveRange(request, response, bytes, headers = {}) {
   const [, first, last] = /^bytes=(\d+)-(\d+)$/.exec(request.headers.range).map(Number);

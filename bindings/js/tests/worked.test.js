@@ -44,6 +44,24 @@ test('from a server', async () => {
   });
 });
 
+test('from a server without ranges, in pieces, with and without a length', async () => {
+  let served;
+  const forms = { '/told': (bytes) => ({ 'Content-Length': bytes.length }), '/untold': () => ({}) };
+  await withServer(async ({ url }, response) => {
+    response.writeHead(200, forms[url](served));
+    for (let at = 0; at < served.length; at += 5) {
+      response.write(served.subarray(at, at + 5));
+      await new Promise(setImmediate);
+    }
+    response.end();
+  }, async (url) => {
+    for (const { bytes, line } of worked.filter((row) => row.bytes.length < 5000)) {
+      served = bytes;
+      for (const form of Object.keys(forms)) assert.equal(await lineOf(() => probeUrl(new URL(form, url))), line);
+    }
+  });
+});
+
 test('the trace of a blob has these spans and their bytes', async () => {
   for (const { bytes, spans: wanted } of worked.filter((row) => row.spans !== '?')) {
     const { trace } = await probeBlob(new Blob([bytes]), { trace: true }).catch((error) => error);

@@ -8,7 +8,8 @@ import { tmpdir } from 'node:os';
 import { join } from 'node:path';
 import { test } from 'node:test';
 import { fileURLToPath } from 'node:url';
-import { giveRange, jpegBehind, withServer, worked } from '../../../bindings/js/tests/support.js';
+import { gzipSync } from 'node:zlib';
+import { giveRange, iconOf, jpegBehind, withServer, worked } from '../../../bindings/js/tests/support.js';
 import { withTab } from './chromium.js';
 
 const out = fileURLToPath(new URL('../../out/', import.meta.url));
@@ -215,19 +216,29 @@ test('the page', async (t) => {
         open: { ...allowed, 'Access-Control-Expose-Headers': 'Content-Range, ETag', ETag: '"1"' },
         unexposed: allowed,
         closed: {},
+        whole: allowed,
+        packed: { ...allowed, 'Access-Control-Expose-Headers': 'Content-Range', 'Content-Encoding': 'gzip' },
       };
+      const packed = gzipSync(iconOf(...Array(40).fill(16), 256));
       await withServer((request, response) => {
-        const headers = given[new URL(request.url, origin).searchParams.get('as')];
+        const as = new URL(request.url, origin).searchParams.get('as');
+        const headers = given[as];
         if (request.method === 'OPTIONS') return response.writeHead(204, headers).end();
+        if (as === 'whole') return response.writeHead(200, headers).end(jpeg);
+        if (as === 'packed') return giveRange(request, response, packed, headers);
         return giveRange(request, response, jpeg, headers);
       }, async (url) => {
         const lines = await lookUp(tab, [...Object.keys(given).map((name) => `${url}?as=${name}`), 'http://']);
-        assert.deepEqual(lines.map(({ answer }) => answer).slice(0, 3), [
+        assert.deepEqual(lines.map(({ answer }) => answer).slice(0, 4), [
           'Jpeg, 7 × 5 pixels',
           'The server does not tell this origin, by Content-Range, which bytes it gives',
           'The server gives no answer, or none that this origin may read',
+          'Jpeg, 7 × 5 pixels',
         ]);
-        assert.match(lines[3].answer, /URL/);
+        assert.match(lines[3].cost, /^[\d,]+ bytes read, in 1 step and /);
+        // Some browsers refuse such an answer themselves.
+        assert.ok(lines[4].refused);
+        assert.match(lines[5].answer, /URL/);
       });
     });
 
