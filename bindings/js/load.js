@@ -27,7 +27,8 @@ async function load(source) {
   const from = source ?? beside();
   try {
     const module = await compiled(from);
-    loaded = new Library(module, await WebAssembly.instantiate(module));
+    const instance = await WebAssembly.instantiate(module);
+    loaded ??= new Library(module, instance);
   } catch (cause) {
     throw noLibrary(cause);
   }

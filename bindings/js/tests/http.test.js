@@ -6,7 +6,7 @@ import { createServer } from 'node:http';
 import { test } from 'node:test';
 import { gzipSync } from 'node:zlib';
 import { ImageError, probeUrl } from '../imagesize.js';
-import { giveRange, iconOf, jpegBehind, tiffBehind, withServer } from './support.js';
+import { giveRange, iconOf, jpegBehind, tiffBehind, withPieces, withServer } from './support.js';
 
 const jpeg = jpegBehind(4, 50000);
 
@@ -141,18 +141,22 @@ test('what came of a whole is enough, though the server stalls', async () => {
 });
 
 test('a whole that comes byte by byte is not probed at each', async () => {
-  const bytes = jpegBehind(15000, 4);
-  await withServer(async (_, response) => {
-    response.writeHead(200);
-    for (let at = 0; at < bytes.length; at += 1) {
-      if (!response.write(bytes.subarray(at, at + 1))) await once(response, 'drain');
-    }
-    response.end();
-  }, async (url) => {
+  await withPieces(jpegBehind(40_000, 4), 1, {}, async (url) => {
     const before = process.cpuUsage();
-    assert.equal((await probeUrl(url)).width, 7);
+    const { width, bytesRead } = await probeUrl(url);
+    assert.equal(width, 7);
+    assert.ok(bytesRead >= 160_011, `${bytesRead} bytes`);
     const { user, system } = process.cpuUsage(before);
-    assert.ok(user + system < 20_000_000, `${user + system} microseconds`);
+    assert.ok(user + system < 4_000_000, `${user + system} microseconds`);
+  });
+});
+
+test('the length of what may be compressed is not that of the input', async () => {
+  const icon = iconOf(...Array(40).fill(16), 256);
+  const headers = { 'Content-Length': gzipSync(icon).length };
+  await withPieces(icon, 16, { headers, type: 'cors' }, async (url) => {
+    const { width, total } = await probeUrl(url);
+    assert.deepEqual([width, total], [256, Infinity]);
   });
 });
 

@@ -62,6 +62,27 @@ export function giveRange(request, response, bytes, headers = {}) {
   return response.end(bytes.subarray(first, end));
 }
 
+/** Runs `use` while each fetch gives these bytes whole, in pieces of some length, with these headers and of this type. */
+export async function withPieces(bytes, length, { headers = {}, type = 'default' }, use) {
+  const before = globalThis.fetch;
+  globalThis.fetch = async () => {
+    let at = 0;
+    const body = new ReadableStream({
+      pull(control) {
+        if (at >= bytes.length) return control.close();
+        control.enqueue(new Uint8Array(bytes.subarray(at, at + length)));
+        at += length;
+      },
+    });
+    return Object.defineProperty(new Response(body, { headers }), 'type', { value: type });
+  };
+  try {
+    return await use('http://127.0.0.1/image');
+  } finally {
+    globalThis.fetch = before;
+  }
+}
+
 /** Runs `use` with the address of a server on this machine, and with the requests that came so far. */
 export async function withServer(answer, use) {
   const requests = [];

@@ -6,7 +6,7 @@ import { tmpdir } from 'node:os';
 import { join } from 'node:path';
 import { test } from 'node:test';
 import { probe, probeBlob, probeFile, probeUrl, spans } from '../imagesize.js';
-import { giveRange, lineOf, withServer, worked } from './support.js';
+import { giveRange, lineOf, withPieces, withServer, worked } from './support.js';
 
 test('from bytes', async () => {
   for (const { bytes, line } of worked) assert.equal(await lineOf(() => probe(bytes)), line);
@@ -45,21 +45,23 @@ test('from a server', async () => {
 });
 
 test('from a server without ranges, in pieces, with and without a length', async () => {
-  let served;
-  const forms = { '/told': (bytes) => ({ 'Content-Length': bytes.length }), '/untold': () => ({}) };
-  await withServer(async ({ url }, response) => {
-    response.writeHead(200, forms[url](served));
-    for (let at = 0; at < served.length; at += 5) {
-      response.write(served.subarray(at, at + 5));
-      await new Promise(setImmediate);
+  for (const { bytes, line } of worked) {
+    for (const length of [1, 7, 4096]) {
+      for (const headers of [{}, { 'Content-Length': bytes.length }]) {
+        await withPieces(bytes, length, { headers }, async (url) => assert.equal(await lineOf(() => probeUrl(url)), line));
+      }
     }
-    response.end();
-  }, async (url) => {
-    for (const { bytes, line } of worked.filter((row) => row.bytes.length < 5000)) {
-      served = bytes;
-      for (const form of Object.keys(forms)) assert.equal(await lineOf(() => probeUrl(new URL(form, url))), line);
-    }
-  });
+  }
+});
+
+test('what such a server gives first is enough, and its trace the same', async () => {
+  for (const { bytes, line, spans: wanted } of worked.filter((row) => row.spans !== '?')) {
+    await withPieces(bytes, 1, {}, async (url) => {
+      const { trace, bytesRead } = await probeUrl(url, { trace: true }).catch((error) => error);
+      assert.equal(trace.map((piece) => `${piece.start}+${piece.bytes.length}`).join(' ') || '-', wanted, line);
+      assert.ok(bytesRead <= bytes.length);
+    });
+  }
 });
 
 test('the trace of a blob has these spans and their bytes', async () => {
