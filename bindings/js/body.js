@@ -1,19 +1,19 @@
-// The body of an answer, which is read no further than it is needed.
+// The body of a response, read no further than it is needed.
 
 import { ImageError } from './errors.js';
 
-/** The bytes of a body that came so far, from its beginning on. */
+/** The bytes of a body that came so far, from its beginning. */
 export class Body {
   length = 0;
 
   /** Whether all of its bytes came. */
   ended;
 
-  /** How many bytes it has, and `Infinity` where nobody told. */
+  /** How many bytes it has, or `Infinity` if that is not known. */
   expected = Infinity;
   #reader;
   #signal;
-  #room = new Uint8Array();
+  #buffer = new Uint8Array();
 
   constructor(response, signal) {
     this.#reader = response.body?.getReader();
@@ -22,17 +22,17 @@ export class Body {
   }
 
   get bytes() {
-    return this.#room.subarray(0, this.length);
+    return this.#buffer.subarray(0, this.length);
   }
 
-  /** Makes room for so many bytes in all. Without it the room grows as they come. */
+  /** Makes the buffer that long. Otherwise it grows as bytes come. */
   reserve(length) {
-    const room = new Uint8Array(length);
-    room.set(this.bytes);
-    this.#room = room;
+    const buffer = new Uint8Array(length);
+    buffer.set(this.bytes);
+    this.#buffer = buffer;
   }
 
-  /** Reads until so many bytes came, or the body ends. Of the bytes behind these it keeps what comes with them, up to `most`. */
+  /** Reads until `end` bytes came or the body ended. It keeps the rest of the last piece too, up to `most` bytes in all. */
   async readTo(end, most = end) {
     while (!this.ended && this.length < end) {
       const { done, value } = await this.#reader.read().catch((cause) => {
@@ -45,7 +45,7 @@ export class Body {
     if (this.ended && this.expected < Infinity && this.length < this.expected) throw this.cutShort(this.length);
   }
 
-  /** Leaves the rest to the server. */
+  /** Tells the server that the rest is not needed. */
   leave() {
     this.#reader?.cancel().catch(() => {});
   }
@@ -58,8 +58,8 @@ export class Body {
 
   #keep(bytes) {
     const length = this.length + bytes.length;
-    if (length > this.#room.length) this.reserve(Math.max(length, 2 * this.#room.length));
-    this.#room.set(bytes, this.length);
+    if (length > this.#buffer.length) this.reserve(Math.max(length, 2 * this.#buffer.length));
+    this.#buffer.set(bytes, this.length);
     this.length = length;
   }
 }

@@ -1,14 +1,14 @@
-// An input behind HTTP: ranges of it are fetched, or its beginning where the server gives no ranges.
+// An input behind HTTP. Ranges of it are fetched, or its beginning if the server gives no ranges.
 
 import { Body } from './body.js';
 import { ImageError } from './errors.js';
 
 /** The input at an address. */
 export class Remote {
-  /** The length of the input, and `Infinity` as long as the server has not told it. */
+  /** The length of the input in bytes, or `Infinity` while it is not known. */
   total = Infinity;
 
-  /** The body with the whole input, where the server gives no ranges. */
+  /** The body with the whole input, if the server gives no ranges. */
   whole = null;
   #url;
   #signal;
@@ -19,7 +19,7 @@ export class Remote {
     this.#signal = signal;
   }
 
-  /** The bytes of a block, as many as the input has there. A server that gives no ranges begins with `whole` instead. */
+  /** The bytes of a block, as many as the input has there. If the server gives no ranges, it sets `whole` instead. */
   async read({ start, end }) {
     const response = await this.#fetched(`bytes=${start}-${end - 1}`);
     const body = new Body(response, this.#signal);
@@ -49,7 +49,7 @@ export class Remote {
     }
   }
 
-  // An answer of another origin may hide that it is compressed, and then its length is not the input's.
+  // A response from another origin may hide that it is compressed. Its length is then not that of the input.
   #beginWhole(response, body) {
     checkEncoding(response);
     const length = response.headers.get('Content-Length') ?? '';
@@ -58,8 +58,8 @@ export class Remote {
     this.whole = body;
   }
 
-  // Each answer is of the same version of the input, as far as the server tells one from another. Where the first address leads
-  // to another one, the later ranges are asked for there.
+  // Each answer is of the same version of the input, as far as the server tells one from another. If the first request was
+  // redirected, later ranges are fetched from the new address.
   #checkVersion({ headers, url }, total) {
     const version = JSON.stringify([headers.get('ETag'), headers.get('Last-Modified'), total]);
     if (this.#version === undefined && url) this.#url = url;
@@ -83,14 +83,14 @@ function rangeOf(response, start) {
   throw new ImageError('NO_CONTENT_RANGE', 'The server does not tell this origin, by Content-Range, which bytes it gives');
 }
 
-// The places and the length of a compressed input are those of other bytes.
+// The offsets and the length of a compressed input are not those of the input.
 function checkEncoding({ headers }) {
   const encoding = headers.get('Content-Encoding') ?? 'identity';
   if (encoding.trim().toLowerCase() === 'identity') return;
   throw new ImageError('CONTENT_ENCODING', `The server compresses the input (${encoding}), although it was asked not to`);
 }
 
-// The bytes of a range, of which the body has just so many. More come where an answer hides that it is compressed.
+// The bytes of a range. The body has more of them if the response hides that it is compressed.
 async function rangeIn(body, wanted) {
   body.reserve(wanted + 1);
   await body.readTo(wanted + 1);

@@ -94,8 +94,8 @@ async function answerOf(source, parts, maxBytes, signal) {
   }
 }
 
-// The answer of an input whose bytes come in their order. As long as its length is not told it may be any, so an answer that rests on
-// the bytes that came is that of each input which begins so.
+// The answer of an input that comes as a stream. While its length is not known, the probe gets the greatest length. Its answer then
+// depends only on bytes that came, and holds for every input that begins with them.
 async function answerOfWhole(source, parts, maxBytes) {
   const { whole } = source;
   try {

@@ -48,8 +48,7 @@ function loadFile() {
   }
 }
 
-// Where the WebAssembly is. An ES module knows its own address, and a CommonJS module its folder, which a build makes `out`.
-// A script knows neither.
+// Where the WebAssembly is. An ES module knows its own address, and a CommonJS module its folder, `out`. A script knows neither.
 function beside() {
   if (import.meta.url) return new URL('./out/imagesize.wasm', import.meta.url);
   return typeof __dirname === 'string' ? `${__dirname}/imagesize.wasm` : undefined;

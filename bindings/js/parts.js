@@ -8,7 +8,7 @@ const BLOCK = 4096;
 // Behind so many each block is twice as long as the one before, so that an input of any length is read in a few more.
 const SINGLE_BLOCKS = 16;
 
-// Up to so many probes of bytes that come in their order are made as soon as the wanted ones came.
+// A stream is probed so many times as soon as the wanted bytes came, and then more rarely.
 const SINGLE_PROBES = 64;
 
 /** The parts of an input that are known. */
@@ -22,7 +22,7 @@ export class Parts {
     this.length += bytes.length;
   }
 
-  /** Makes these bytes, from the beginning on, all that is known. */
+  /** Replaces what is known by these bytes from the beginning of the input. */
   become(bytes) {
     this.pieces = [{ start: 0, bytes }];
     this.length = bytes.length;
@@ -62,8 +62,8 @@ export function nextBlock(wanted, total, parts, most) {
 }
 
 /**
- * How many bytes of an input are awaited next, where they come in their order: those up to the wanted span's end, or after many
- * probes at least as many again as came. So all probes together read a few times what the last one reads.
+ * How many bytes of a stream have to come before the next probe: those up to the end of the wanted span. After many probes it is
+ * also twice as many as came, so that all probes together cost a few times what the last one does.
  */
 export function nextEnd(wanted, total, parts, most, probes) {
   const within = total < Infinity ? wanted.start < most : parts.length < most;
