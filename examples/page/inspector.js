@@ -19,14 +19,16 @@ function element(name, className, text = '') {
 let shown; // the image that is shown: its result, its bytes around the spans, and how much of it is listed
 
 /** Shows an image, with the bytes that its result depends on. */
-export async function inspect(input, result) {
+export async function inspect(input, found) {
+  const total = found.total < Infinity ? found.total : found.bytesRead;
+  const result = { ...found, kind: found.kind, message: found.message, total };
   shown = { input, result, names: [], listed: 0, chosen: 0, around: input.around };
   const { trace } = result;
   part('one').hidden = false;
   part('name').textContent = input.name;
   part('answer').textContent = answerText(result);
   part('answer').classList.toggle('error', result.width === undefined);
-  part('cost').textContent = costText(result) + (trace === null ? '. Its spans are too many to be drawn.' : '');
+  part('cost').textContent = costText(found) + (trace === null ? '. Its spans are too many to be drawn.' : '');
   part('evidence').hidden = !(trace?.length > 0);
   part('outcome').textContent = '';
   part('outcome').className = '';

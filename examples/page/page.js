@@ -138,7 +138,7 @@ function listen() {
 }
 
 try {
-  await library.init?.();
+  await library.init();
   listen();
   say(listed() === 0 ? 'Try a sample, or choose files of your own.' : '');
 } catch (error) {

@@ -40,9 +40,10 @@ export function bytesText(bytes) {
   return count(bytes, 'byte');
 }
 
-/** How much was read: "12 kB of 8.5 MB read, in 3 steps". */
+/** How much was read: "12 kB of 8.5 MB read, in 3 steps". A server may not tell the length. */
 export function costText({ bytesRead, total, reads }) {
-  return reads > 0 ? `${bytesText(bytesRead)} of ${bytesText(total)} read, in ${count(reads, 'step')}` : '';
+  const whole = total < Infinity ? ` of ${bytesText(total)}` : '';
+  return reads > 0 ? `${bytesText(bytesRead)}${whole} read, in ${count(reads, 'step')}` : '';
 }
 
 /** Bytes in hex. */

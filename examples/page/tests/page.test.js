@@ -9,7 +9,7 @@ import { join } from 'node:path';
 import { test } from 'node:test';
 import { fileURLToPath } from 'node:url';
 import { gzipSync } from 'node:zlib';
-import { giveRange, jpegBehind, withServer, worked } from '../../../bindings/js/tests/support.js';
+import { giveRange, iconOf, jpegBehind, withServer, worked } from '../../../bindings/js/tests/support.js';
 import { withTab } from './chromium.js';
 
 const out = fileURLToPath(new URL('../../out/', import.meta.url));
@@ -268,17 +268,31 @@ test('the page', async (t) => {
       const allowed = { 'Access-Control-Allow-Origin': '*', 'Access-Control-Allow-Headers': 'Range' };
       const given = {
         open: { ...allowed, 'Access-Control-Expose-Headers': 'Content-Range, ETag', ETag: '"1"' },
+        unexposed: allowed,
         closed: {},
+        whole: allowed,
+        packed: { ...allowed, 'Access-Control-Expose-Headers': 'Content-Range', 'Content-Encoding': 'gzip' },
       };
+      const packed = gzipSync(iconOf(...Array(40).fill(16), 256));
       await withServer((request, response) => {
-        const headers = given[new URL(request.url, origin).searchParams.get('as')];
+        const as = new URL(request.url, origin).searchParams.get('as');
+        const headers = given[as];
         if (request.method === 'OPTIONS') return response.writeHead(204, headers).end();
+        if (as === 'whole') return response.writeHead(200, headers).end(jpeg);
+        if (as === 'packed') return giveRange(request, response, packed, headers);
         return giveRange(request, response, jpeg, headers);
       }, async (url) => {
         await lookUp(tab, [...Object.keys(given).map((name) => `${url}?as=${name}`), 'http://']);
         const rows = await tab.value(ROWS);
-        assert.deepEqual(rows.slice(0, 2).map(({ cells }) => cells[3]), ['7 × 5', 'The server gives no answer, or none that this origin may read']);
-        assert.match(rows[2].cells[3], /URL/);
+        assert.deepEqual(rows.slice(0, 4).map(({ cells }) => cells[3]), [
+          '7 × 5',
+          'The server does not tell this origin, by Content-Range, which bytes it gives',
+          'The server gives no answer, or none that this origin may read',
+          '7 × 5',
+        ]);
+        // Some browsers refuse such an answer themselves.
+        assert.ok(rows[4].refused);
+        assert.match(rows[5].cells[3], /URL/);
       });
       await press(tab, '#clear');
     });
