@@ -36,7 +36,7 @@ export interface Piece {
 
 /** What a probe of an input in parts has read. */
 export interface Reads {
-  /** The length of the input in bytes. */
+  /** The length of the input in bytes. It is `Infinity` where a server without ranges has not told it. */
   total: number;
   /** How many slices, blocks or ranges were read. */
   reads: number;
@@ -44,7 +44,7 @@ export interface Reads {
   bytesRead: number;
   /**
    * Where `trace` was asked for: the bytes of each span that the answer rests on, as `spans` tells them. It is null where
-   * there are more than 65,536, or where the input is longer than the engine has memory for (some gigabytes).
+   * there are more than 65,536, or where the input is longer than the library's memory (4 GiB, or what the engine gives).
    */
   trace?: Piece[] | null;
 }
@@ -57,6 +57,18 @@ export interface Options {
   /** Whether the bytes that the answer rests on are told, also of an `ImageError`. */
   trace?: boolean;
 }
+
+/**
+ * Loads the library, once: later calls wait for the first. It is awaited before any other call. In Node no call needs it, since
+ * the first one loads the file `imagesize.wasm` of this package.
+ *
+ * @param source where the library is: its address (in Node also a path), its bytes, or its module. Without it, that is
+ * `out/imagesize.wasm` beside this ES module. A script that a bundler made, as `iife`, does not know its address, and needs it.
+ * @throws {ImageError} `'NO_LIBRARY'`, with the reason as its `cause`; then `init` may be called again
+ * @example
+ * await init(new URL('imagesize.wasm', document.baseURI))
+ */
+export function init(source?: string | URL | ArrayBuffer | ArrayBufferView | WebAssembly.Module): Promise<void>;
 
 /**
  * Type and size of the image in some bytes: all bytes of its file, or a front of them.
@@ -72,6 +84,7 @@ export function probe(bytes: ArrayBufferLike | ArrayBufferView): Image;
  * The spans of the readings that the answer of `probe` rests on, in their order, repeats kept; also where it is refused.
  * Every other input of this length that has the same bytes there has the same answer. All bytes are copied once.
  *
+ * @throws {RangeError} where the library's memory (4 GiB, or what the engine gives) has no room for the copy
  * @throws {ImageError} `'TOO_MANY_SPANS'` where there are more than `limit`, which is 65,536 if nothing else is said
  * @throws {TypeError} where these are no bytes
  */
@@ -85,9 +98,10 @@ export function spans(bytes: ArrayBufferLike | ArrayBufferView, options?: { limi
 export function probeBlob(blob: Blob, options?: Options): Promise<Image & Reads>;
 
 /**
- * Type and size of the image at an address, of which a few ranges are fetched.
+ * Type and size of the image at an address, of which a few ranges are fetched. A server that gives no ranges is read from the
+ * beginning until there is an answer, and then left. Where the address leads to another one, later ranges are fetched there.
  *
- * A server of another origin has to allow this one, and to expose the header `Content-Range`.
+ * A server of another origin has to allow this one, and for ranges to expose the header `Content-Range`.
  *
  * @throws {ImageError} as `probe`; see `SourceCode`
  * @throws {TypeError} where this is no address
@@ -165,20 +179,22 @@ export type SourceCode =
   | 'UNREACHABLE'
   /** The server answers neither 206 nor 200. The error's `status` has what it answers. */
   | 'HTTP_STATUS'
-  /** The server answers 200: it would give the whole input. */
+  /** The server gave ranges, and then answers 200 with the whole input. */
   | 'NO_RANGES'
+  /** The server compresses what it gives, although it was asked not to. */
+  | 'CONTENT_ENCODING'
   /** The answer has no `Content-Range` with a length, or does not expose it to this origin. */
   | 'NO_CONTENT_RANGE'
-  /** The answer is another range than the one that was asked for. */
+  /** The answer is another range than the one that was asked for, or has more bytes than its range. */
   | 'WRONG_RANGE'
   /** `ETag`, `Last-Modified` or the length changed between two ranges. */
   | 'CHANGED';
 
 /** Why a call could not begin. */
 export type CallCode =
-  /** This engine has no 64-bit WebAssembly memory. */
-  | 'NO_MEMORY64'
-  /** The WebAssembly of the library is not there, or is broken. The error's `cause` says more. */
+  /** The library is not loaded: `init` comes first, outside Node. */
+  | 'NOT_LOADED'
+  /** The WebAssembly of the library is not there, or is none that this engine runs. The error's `cause` says more. */
   | 'NO_LIBRARY'
   /** The answer rests on more spans than were allowed. */
   | 'TOO_MANY_SPANS';

@@ -1,18 +1,19 @@
 // The type of an image and its width and height in pixels, from a few bytes, with no pixel decoded.
 
+import { bytesOf } from './bytes.js';
 import { ImageError } from './errors.js';
 import { Remote } from './http.js';
-import { library } from './library.js';
-import { Parts, firstBlock, nextBlock } from './parts.js';
+import { init, library } from './load.js';
+import { Parts, firstBlock, nextBlock, nextEnd } from './parts.js';
 
-export { ImageError };
+export { ImageError, init };
 
 const MEBIBYTE = 2 ** 20;
 const MOST_SPANS = 65536;
 
 /** Type and size of the image in some bytes. */
 export function probe(data) {
-  const bytes = bytesOf(data);
+  const bytes = bytesIn(data);
   const parts = new Parts();
   let block = firstBlock(Infinity);
   for (;;) {
@@ -26,7 +27,7 @@ export function probe(data) {
 
 /** The spans of the readings that the answer of `probe` rests on. */
 export function spans(data, { limit = MOST_SPANS } = {}) {
-  return library().spans(bytesOf(data), limit);
+  return library().spans(bytesIn(data), limit);
 }
 
 /** Type and size of the image in a `Blob` or a `File`, of which a few slices are read. */
@@ -65,6 +66,7 @@ async function readBlock(file, { start, end }) {
 
 // Type and size of the image in a source: its `read` gives the bytes of a block, and its `total` is known behind the first.
 async function probeSource(source, most, { signal, maxBytes = most, trace = false } = {}) {
+  library();
   const parts = new Parts();
   const read = () => ({ total: source.total, reads: parts.pieces.length, bytesRead: parts.length });
   try {
@@ -82,6 +84,7 @@ async function answerOf(source, parts, maxBytes, signal) {
   for (;;) {
     signal?.throwIfAborted();
     const bytes = await source.read(block);
+    if (source.whole) return answerOfWhole(source, parts, maxBytes);
     const length = Math.min(block.end, source.total) - block.start;
     if (bytes.length !== length) throw new ImageError('CUT_SHORT', `${bytes.length} of ${length} bytes came`);
     parts.add(block.start, bytes);
@@ -91,10 +94,28 @@ async function answerOf(source, parts, maxBytes, signal) {
   }
 }
 
+// The answer of an input that comes as a stream. While its length is not known, the probe gets the greatest length. Its answer then
+// depends only on bytes that came, and holds for every input that begins with them.
+async function answerOfWhole(source, parts, maxBytes) {
+  const { whole } = source;
+  try {
+    for (let probes = 1, end = 1; ; probes += 1) {
+      await whole.readTo(end, maxBytes);
+      if (whole.ended) source.total = whole.length;
+      parts.become(whole.bytes);
+      const answer = library().probeParts(parts, Math.min(source.total, Number.MAX_SAFE_INTEGER));
+      if (!answer.wanted) return answer;
+      end = nextEnd(answer.wanted, source.total, parts, maxBytes, probes);
+    }
+  } finally {
+    whole.leave();
+  }
+}
+
 // The spans of an answer with their bytes; null where there are too many, or too little memory for an input of this length.
 async function traceOf(parts, total) {
   try {
-    const found = await library().spansOfParts(parts, total, MOST_SPANS);
+    const found = await library().spansOfParts(parts, total < Infinity ? total : parts.length, MOST_SPANS);
     return found.map(({ start, len }) => ({ start, bytes: parts.slice(start, len) }));
   } catch (error) {
     if (error instanceof RangeError || error.code === 'TOO_MANY_SPANS') return null;
@@ -102,10 +123,8 @@ async function traceOf(parts, total) {
   }
 }
 
-// The bytes of a buffer, or of a view of one.
-function bytesOf(data) {
-  if (ArrayBuffer.isView(data)) return new Uint8Array(data.buffer, data.byteOffset, data.byteLength);
-  const kind = Object.prototype.toString.call(data);
-  if (kind === '[object ArrayBuffer]' || kind === '[object SharedArrayBuffer]') return new Uint8Array(data);
-  throw new TypeError('The bytes of an image are an ArrayBuffer, or a view of one as a Uint8Array');
+function bytesIn(data) {
+  const bytes = bytesOf(data);
+  if (bytes === undefined) throw new TypeError('The bytes of an image are an ArrayBuffer, or a view of one as a Uint8Array');
+  return bytes;
 }

@@ -23,38 +23,8 @@ const TEXT_ROOM = 256;
 
 const NO_NAMES = { kind: null, compression: null };
 
-// A module with nothing but a 64-bit memory.
-const MEMORY64 = new Uint8Array([0, 97, 115, 109, 1, 0, 0, 0, 5, 3, 1, 4, 0]);
-
-async function load() {
-  if (!WebAssembly.validate(MEMORY64)) {
-    const message = 'This engine has no 64-bit WebAssembly memory; Node 20 has it by --experimental-wasm-memory64';
-    throw new ImageError('NO_MEMORY64', message);
-  }
-  try {
-    return await Library.of(await WebAssembly.compile(await binary(new URL('./out/imagesize.wasm', import.meta.url))));
-  } catch (cause) {
-    const message = `The library cannot be loaded (${cause.message}); bindings/js/build builds it`;
-    throw new ImageError('NO_LIBRARY', message, { cause });
-  }
-}
-
-async function binary(url) {
-  if (url.protocol === 'file:') {
-    return globalThis.process.getBuiltinModule('node:fs/promises').readFile(url);
-  }
-  const response = await fetch(url);
-  if (!response.ok) throw new Error(`${url} answers ${response.status}`);
-  return response.arrayBuffer();
-}
-
-/** The library, or the reason why there is none, thrown. */
-export function library() {
-  if (loaded.failure) throw loaded.failure;
-  return loaded.library;
-}
-
-class Library {
+/** The library in a memory of its own, whose addresses have 32 or 64 bits. */
+export class Library {
   #module;
   #calls;
   #memory;
@@ -65,11 +35,7 @@ class Library {
   #names = [];
   #texts = [];
 
-  static async of(module) {
-    return new Library(module, (await WebAssembly.instantiate(module)).exports);
-  }
-
-  constructor(module, exports) {
+  constructor(module, { exports }) {
     this.#module = module;
     this.#calls = exports;
     this.#memory = exports.memory;
@@ -106,7 +72,8 @@ class Library {
    * memory of its own, of which the engine holds only the pages that are written.
    */
   async spansOfParts(parts, total, most) {
-    return (await Library.of(this.#module)).#spansOf(parts.pieces, total, most);
+    const apart = new Library(this.#module, await WebAssembly.instantiate(this.#module));
+    return apart.#spansOf(parts.pieces, total, most);
   }
 
   #spansOf(pieces, length, most) {
@@ -211,7 +178,7 @@ class Library {
   }
 }
 
-// Engines from before the last rules of 64-bit memory count its pages by a number of 32 bits, and the others by a BigInt.
+// The pages of a 32-bit memory are counted by a number, and those of a 64-bit one by a BigInt, or in older engines by a number.
 function grow(memory, pages) {
   try {
     memory.grow(BigInt(pages));
@@ -220,5 +187,3 @@ function grow(memory, pages) {
     memory.grow(Math.min(pages, 2 ** 32 - 1));
   }
 }
-
-const loaded = await load().then((library) => ({ library }), (failure) => ({ failure }));

@@ -8,6 +8,9 @@ const BLOCK = 4096;
 // Behind so many each block is twice as long as the one before, so that an input of any length is read in a few more.
 const SINGLE_BLOCKS = 16;
 
+// A stream is probed so many times as soon as the wanted bytes came, and then more rarely.
+const SINGLE_PROBES = 64;
+
 /** The parts of an input that are known. */
 export class Parts {
   /** A piece of the input for each read, and how many bytes they have together. */
@@ -17,6 +20,12 @@ export class Parts {
   add(start, bytes) {
     this.pieces.push({ start, bytes });
     this.length += bytes.length;
+  }
+
+  /** Replaces what is known by these bytes from the beginning of the input. */
+  become(bytes) {
+    this.pieces = [{ start: 0, bytes }];
+    this.length = bytes.length;
   }
 
   /** The bytes of a span that is known. */
@@ -48,6 +57,21 @@ export function nextBlock(wanted, total, parts, most) {
   const last = Math.ceil((wanted.start + wanted.len) / BLOCK) * BLOCK;
   const ahead = start + BLOCK * 2 ** Math.max(0, parts.pieces.length + 1 - SINGLE_BLOCKS);
   const end = Math.min(Math.max(last, ahead), total, start + most - parts.length);
-  if (end <= wanted.start) throw new ImageError('LIMIT_REACHED', `There is no answer within ${most} bytes`);
+  if (end <= wanted.start) throw limitReached(most);
   return { start, end };
+}
+
+/**
+ * How many bytes of a stream have to come before the next probe: those up to the end of the wanted span. After many probes it is
+ * also twice as many as came, so that all probes together cost a few times what the last one does.
+ */
+export function nextEnd(wanted, total, parts, most, probes) {
+  const within = total < Infinity ? wanted.start < most : parts.length < most;
+  if (!within) throw limitReached(most);
+  const end = wanted.start + wanted.len;
+  return Math.min(probes < SINGLE_PROBES ? end : Math.max(end, 2 * parts.length), most);
+}
+
+function limitReached(most) {
+  return new ImageError('LIMIT_REACHED', `There is no answer within ${most} bytes`);
 }

@@ -1,158 +1,147 @@
-// Lists images with their type and size, and draws the bytes that each answer rests on.
+// Which bytes tell the size of an image: files, folders and addresses are read here, and nothing is uploaded.
 
-import { probeBlob, probeUrl } from '../../bindings/js/imagesize.js';
+import * as library from '../../bindings/js/imagesize.js';
+import { inspect } from './inspector.js';
+import { add, listed, start } from './table.js';
+import { count } from './texts.js';
 
-// How long a server is waited for in milliseconds, and how many spans of an image and bytes of a span are shown.
+// How long a server is waited for in milliseconds, and how many images are read before the table is drawn again.
 const PATIENCE = 30_000;
-const SPANS_SHOWN = 1000;
-const BYTES_SHOWN = 64;
+const AT_ONCE = 16;
 
-// How many files are read at once, so that the time of each is its own, and how many addresses.
-const FILES_AT_ONCE = 1;
-const ADDRESSES_AT_ONCE = 8;
+const SAMPLES = [
+  ['segments.jpg', 'JPEG with segments'],
+  ['photo.avif', 'AVIF'],
+  ['end.tif', 'TIFF, directory at the end'],
+  ['texture.dds', 'DDS texture'],
+  ['render.exr', 'OpenEXR'],
+  ['cut.jpg', 'JPEG that is cut'],
+];
 
-const [status, images, template, addresses, files] = ['status', 'images', 'image', 'addresses', 'files']
-  .map((id) => document.getElementById(id));
+const part = (id) => document.getElementById(id);
+const say = (text, wrong = false) => {
+  part('status').textContent = text;
+  part('status').classList.toggle('error', wrong);
+};
 
-const count = (number, one) => `${number.toLocaleString('en')} ${one}${number === 1 ? '' : 's'}`;
-const within = (parent, selector) => parent.querySelector(selector);
+const ofFile = (file, name = file.name) => ({
+  name,
+  file,
+  probe: (options) => library.probeBlob(file, options),
+  around: async (begin, end) => new Uint8Array(await file.slice(begin, end).arrayBuffer()),
+});
 
-function element(name, text) {
-  const made = document.createElement(name);
-  made.textContent = text;
-  return made;
-}
+const ofAddress = (address) => ({
+  name: address,
+  probe: (options) => library.probeUrl(address, { ...options, signal: AbortSignal.timeout(PATIENCE) }),
+});
 
-// Adds inputs to the list, each with its name and the probe that reads it, and reads some at a time.
-async function list(inputs, atOnce) {
-  if (inputs.length === 0) return;
-  status.textContent = `Reading ${count(inputs.length, 'image')}`;
-  const items = inputs.map(addItem);
-  let sized = 0;
-  for (let first = 0; first < items.length; first += atOnce) {
-    const answers = await Promise.all(items.slice(first, first + atOnce).map(({ item, probe }) => show(item, probe)));
-    sized += answers.filter(({ width }) => width !== undefined).length;
-  }
-  status.textContent = `${count(items.length, 'image')} read, ${sized} with a size`;
-}
-
-function addItem({ name, probe }) {
-  const item = within(template.content.cloneNode(true), 'li');
-  within(item, 'h2').textContent = name;
-  images.append(item);
-  return { item, probe };
-}
-
-async function show(item, probe) {
+// Reads an image; an error is its result.
+async function read(input, trace) {
   const begin = performance.now();
-  const answer = await probe().catch((error) => error);
-  showAnswer(item, answer, performance.now() - begin);
-  if (answer.trace?.length > 0) showTrace(item, answer);
-  return answer;
+  const result = await input.probe({ trace }).catch((error) => error);
+  return { input, result, time: performance.now() - begin };
 }
 
-function showAnswer(item, answer, time) {
-  const { kind, compression, width, height, message } = answer;
-  const type = compression ? `${kind} (${compression})` : kind ?? '';
-  item.classList.toggle('refused', width === undefined);
-  within(item, '.answer').textContent = width === undefined
-    ? `${type && `${type}, no size: `}${message}`
-    : `${type}, ${width.toLocaleString('en')} × ${height.toLocaleString('en')} pixels`;
-  if (answer.reads > 0) {
-    const read = `${count(answer.bytesRead, 'byte')} of ${answer.total.toLocaleString('en')} read`;
-    within(item, '.cost').textContent = `${read}, in ${count(answer.reads, 'step')} and ${time.toFixed(1)} ms`
-      + (answer.trace === null ? '; its spans are too many to be drawn' : '');
+// Reads all images, some at a time, and draws them as they come.
+async function readAll(inputs) {
+  if (inputs.length === 0) return say('There is no file here.', true);
+  const bar = part('progress');
+  bar.max = inputs.length;
+  bar.hidden = inputs.length < 2 * AT_ONCE;
+  let sized = 0;
+  for (let first = 0; first < inputs.length; first += AT_ONCE) {
+    const images = await Promise.all(inputs.slice(first, first + AT_ONCE).map((input) => read(input, inputs.length === 1)));
+    sized += images.filter(({ result }) => result.width !== undefined).length;
+    add(images);
+    bar.value = first + images.length;
+    say(`${bar.value.toLocaleString('en')} of ${count(inputs.length, 'image')} read`);
+    await new Promise((resolve) => { setTimeout(resolve); });
+    if (first === 0) await show(images[0]);
   }
+  bar.hidden = true;
+  say(`${count(inputs.length, 'image')} read, ${sized.toLocaleString('en')} with a size`);
 }
 
-// The strip, to scale, and the table of the same spans.
-function showTrace(item, { trace, total }) {
-  const strip = within(item, '.strip');
-  const drawn = trace.slice(0, SPANS_SHOWN);
-  const length = trace.reduce((sum, { bytes }) => sum + bytes.length, 0);
-  const told = `The answer rests on ${count(trace.length, 'span')}, ${count(length, 'byte')} in all`
-    + (drawn.length < trace.length ? `; here are the first ${SPANS_SHOWN}` : '');
-  strip.setAttribute('aria-label', `${told}; arrow keys go from span to span`);
-  strip.append(...drawn.map((span) => markOf(span, total)));
-  strip.firstChild.tabIndex = 0;
-  const choose = (mark) => {
-    within(strip, '.chosen')?.classList.remove('chosen');
-    mark.classList.add('chosen');
-    within(item, '.detail').textContent = mark.ariaLabel;
-  };
-  for (const event of ['focusin', 'mouseover']) {
-    strip.addEventListener(event, ({ target }) => { if (target !== strip) choose(target); });
+// Shows the bytes of an image, which is read again where its spans were not asked for.
+async function show({ input, result }) {
+  const traced = result.trace === undefined && result.reads > 0 ? (await read(input, true)).result : result;
+  await inspect(input, traced);
+}
+
+async function trySample([file, name]) {
+  const response = await fetch(new URL(`samples/${file}`, import.meta.url));
+  await readAll([ofFile(await response.blob(), name)]);
+}
+
+// An address as people write it: example.com/a.jpg is an https address.
+const addressOf = (line) => (/^[a-z][a-z0-9+.-]*:/i.test(line) && !/^[\w.-]+:\d+/.test(line) ? line : `https://${line}`);
+
+const addressesIn = (text) => text.split('\n').map((line) => line.trim()).filter((line) => line && !line.startsWith('#'));
+
+// The files of a drop, and those in its folders.
+async function dropped({ items, files }) {
+  const entries = [...items].map((item) => item.webkitGetAsEntry?.()).filter(Boolean);
+  if (entries.length === 0) return [...files].map((file) => ofFile(file));
+  return (await Promise.all(entries.map(walk))).flat();
+}
+
+async function walk(entry) {
+  if (entry.isFile) {
+    const file = await new Promise((resolve, reject) => { entry.file(resolve, reject); });
+    return [ofFile(file, entry.fullPath.replace(/^\//, ''))];
   }
-  strip.addEventListener('keydown', (event) => moveFocus(event, [...strip.children]));
-  within(item, 'summary').textContent = told;
-  within(item, 'tbody').append(...drawn.map(rowOf));
-  within(item, '.rests').hidden = false;
+  const reader = entry.createReader();
+  const found = [];
+  for (;;) {
+    const more = await new Promise((resolve, reject) => { reader.readEntries(resolve, reject); });
+    if (more.length === 0) break;
+    found.push(...more);
+  }
+  return (await Promise.all(found.map(walk))).flat();
 }
 
-function markOf({ start, bytes }, total) {
-  const mark = element('button', '');
-  mark.type = 'button';
-  mark.className = 'mark';
-  mark.tabIndex = -1;
-  mark.style.left = `min(${(100 * start) / total}%, 100% - 5px)`;
-  mark.style.width = `${(100 * bytes.length) / total}%`;
-  mark.ariaLabel = `Place ${start.toLocaleString('en')}, ${count(bytes.length, 'byte')}: ${printed(bytes)}`;
-  return mark;
+function listen() {
+  part('samples').append(...SAMPLES.map((sample) => {
+    const item = document.createElement('li');
+    const button = document.createElement('button');
+    button.type = 'button';
+    button.textContent = sample[1];
+    button.addEventListener('click', () => trySample(sample).catch((error) => say(error.message, true)));
+    item.append(button);
+    return item;
+  }));
+  part('choose').addEventListener('click', () => part('files').click());
+  part('files').addEventListener('change', () => {
+    const chosen = [...part('files').files].map((file) => ofFile(file));
+    part('files').value = '';
+    readAll(chosen);
+  });
+  part('lookup').addEventListener('submit', (event) => {
+    event.preventDefault();
+    const addresses = addressesIn(part('addresses').value);
+    if (addresses.length === 0) say('Type an address first.', true);
+    else readAll(addresses.map((line) => ofAddress(addressOf(line))));
+  });
+  addEventListener('dragover', (event) => {
+    event.preventDefault();
+    document.body.classList.add('dragging');
+  });
+  for (const event of ['dragleave', 'drop']) addEventListener(event, () => document.body.classList.remove('dragging'));
+  addEventListener('drop', async (event) => {
+    event.preventDefault();
+    const addresses = addressesIn(event.dataTransfer.getData('text/uri-list'));
+    const files = await dropped(event.dataTransfer);
+    await readAll([...files, ...(files.length ? [] : addresses.map(ofAddress))]);
+  });
+  start(show);
 }
 
-function rowOf({ start, bytes }) {
-  const row = element('tr', '');
-  const cell = element('td', '');
-  cell.append(element('code', printed(bytes)));
-  row.append(element('td', start.toLocaleString('en')), element('td', bytes.length.toLocaleString('en')), cell);
-  return row;
+try {
+  await library.init();
+  listen();
+  say(listed() === 0 ? 'Try a sample, or choose files of your own.' : '');
+} catch (error) {
+  say(`The library could not be loaded. ${error.message}`, true);
+  for (const control of document.querySelectorAll('main button, main textarea')) control.disabled = true;
 }
-
-// Bytes in hex, and as text where they are ASCII.
-function printed(bytes) {
-  const shown = [...bytes.subarray(0, BYTES_SHOWN)];
-  const hex = shown.map((byte) => byte.toString(16).padStart(2, '0')).join(' ');
-  const text = shown.every((byte) => byte >= 32 && byte < 127) ? ` “${String.fromCharCode(...shown)}”` : '';
-  return `${hex}${text}${bytes.length > BYTES_SHOWN ? ' …' : ''}`;
-}
-
-// One mark of a strip can be reached by the tabulator, and the others from it.
-function moveFocus(event, marks) {
-  const at = marks.indexOf(document.activeElement);
-  const to = { ArrowLeft: at - 1, ArrowRight: at + 1, Home: 0, End: marks.length - 1 }[event.key];
-  if (marks[to] === undefined) return;
-  event.preventDefault();
-  marks[at].tabIndex = -1;
-  marks[to].tabIndex = 0;
-  marks[to].focus();
-}
-
-const ofFiles = (chosen) => Array.from(chosen, (file) => ({ name: file.name, probe: () => probeBlob(file, { trace: true }) }));
-
-const ofAddresses = (text) => text.split('\n').map((line) => line.trim()).filter((line) => line && !line.startsWith('#'))
-  .map((name) => ({ name, probe: () => probeUrl(name, { trace: true, signal: AbortSignal.timeout(PATIENCE) }) }));
-
-files.addEventListener('change', () => {
-  list(ofFiles(files.files), FILES_AT_ONCE);
-  files.value = '';
-});
-
-document.getElementById('sources').addEventListener('submit', (event) => {
-  event.preventDefault();
-  list(ofAddresses(addresses.value), ADDRESSES_AT_ONCE);
-});
-
-addEventListener('dragover', (event) => {
-  event.preventDefault();
-  document.body.classList.add('dragging');
-});
-
-for (const event of ['dragleave', 'drop']) addEventListener(event, () => document.body.classList.remove('dragging'));
-
-addEventListener('drop', (event) => {
-  event.preventDefault();
-  list(ofFiles(event.dataTransfer.files), FILES_AT_ONCE);
-  list(ofAddresses(event.dataTransfer.getData('text/uri-list')), ADDRESSES_AT_ONCE);
-});
-
-status.textContent = 'Ready';

@@ -1,17 +1,16 @@
 // What callers may lend, what they may do wrong, and what is left behind.
 
 import assert from 'node:assert/strict';
-import { execFile, execFileSync } from 'node:child_process';
-import { copyFileSync, mkdtempSync, readFileSync, readdirSync, rmSync, truncateSync, writeFileSync } from 'node:fs';
+import { execFileSync } from 'node:child_process';
+import { mkdtempSync, readFileSync, readdirSync, rmSync, truncateSync, writeFileSync } from 'node:fs';
 import { open } from 'node:fs/promises';
 import { tmpdir } from 'node:os';
 import { join } from 'node:path';
 import { after, test } from 'node:test';
 import { fileURLToPath } from 'node:url';
-import { promisify } from 'node:util';
 import { Worker } from 'node:worker_threads';
 import { ImageError, probe, probeBlob, probeFile, spans } from '../imagesize.js';
-import { jpegBehind, tiffBehind } from './support.js';
+import { iconOf, jpegBehind, tiffBehind } from './support.js';
 
 const gif = new TextEncoder().encode('GIF89ad\0\x32\0\0\0');
 const isGif = (image) => assert.deepEqual(image, { kind: 'Gif', compression: null, width: 100, height: 50 });
@@ -74,6 +73,21 @@ test('a refusal has a code, a text and the type that was found', () => {
 test('a side is exact, or refused', () => {
   assert.equal(probe(Buffer.from(`P1 ${2 ** 53 - 1} 7\n0`)).width, Number.MAX_SAFE_INTEGER);
   assert.equal(refused(() => probe(Buffer.from(`P1 7 ${2 ** 53}\n0`)), 'SIDE_TOO_LARGE').kind, 'Pnm');
+});
+
+test('what may surprise is as the README says', () => {
+  const bmp = (...header) => Buffer.concat([Buffer.from('BM'), Buffer.alloc(12), Buffer.from(header.flat()), Buffer.alloc(40)]);
+  const sides = (bytes) => { const { width, height } = probe(bytes); return [width, height]; };
+  assert.deepEqual(sides(bmp([40, 0, 0, 0], [100, 0, 0, 0], [206, 255, 255, 255])), [100, 2 ** 32 - 50]);
+  assert.notDeepEqual(sides(bmp([12, 0, 0, 0], [100, 0], [50, 0], [1, 0], [24, 0])), [100, 50]);
+  const orientation = Buffer.from('ffd8ffe1002245786966000049492a000800000001001201030001000000' + '0600000000000000', 'hex');
+  const turned = Buffer.concat([orientation, jpegBehind(0, 4).subarray(2)]);
+  assert.deepEqual(sides(turned), [7, 5]);
+  const mp4 = Buffer.from('0000001c6674797069736f6d0000020069736f6d69736f326d7034310000006c6d6f6f760000' + '00'.repeat(98), 'hex');
+  assert.throws(() => probe(mp4), { kind: 'Heif' });
+  assert.deepEqual(sides(iconOf(16, 256, 48)), [256, 256]);
+  const animation = Buffer.from('52494646340000005745425056503858' + '0a00000002000000630000310000414e494d' + '00'.repeat(26), 'hex');
+  assert.deepEqual(probe(animation), { kind: 'Webp', compression: null, width: 100, height: 50 });
 });
 
 test('large bytes are answered by a few blocks of them, and no memory grows', () => {
@@ -198,22 +212,6 @@ test('each worker has a library of its own', async () => {
     new Worker(code, { eval: true, workerData: gif }).on('message', resolve).on('error', reject);
   })));
   answers.forEach(isGif);
-});
-
-test('an engine without 64-bit memory says so at the first call', async () => {
-  const code = `WebAssembly.validate = () => false;
-    import(${JSON.stringify(module)}).then(({ probe }) => probe(new Uint8Array(12)))
-      .catch((error) => console.log(error.name, error.code, error.message));`;
-  const { stdout } = await promisify(execFile)(process.execPath, ['-e', code]);
-  assert.match(stdout, /^ImageError NO_MEMORY64 .*--experimental-wasm-memory64/);
-});
-
-test('a module without its library says how it is built', async () => {
-  for (const name of ['imagesize.js', 'errors.js', 'http.js', 'library.js', 'parts.js', 'package.json']) {
-    copyFileSync(new URL(`../${name}`, import.meta.url), join(folder, name));
-  }
-  const { probe: lost } = await import(join(folder, 'imagesize.js'));
-  assert.throws(() => lost(gif), { code: 'NO_LIBRARY', message: /bindings\/js\/build builds it/ });
 });
 
 test('the codes are those of the header, and the declarations have them', async () => {

@@ -4,8 +4,9 @@ import assert from 'node:assert/strict';
 import { EventEmitter, once } from 'node:events';
 import { createServer } from 'node:http';
 import { test } from 'node:test';
+import { gzipSync } from 'node:zlib';
 import { ImageError, probeUrl } from '../imagesize.js';
-import { giveRange, jpegBehind, tiffBehind, withServer } from './support.js';
+import { giveRange, iconOf, jpegBehind, tiffBehind, withPieces, withServer } from './support.js';
 
 const jpeg = jpegBehind(4, 50000);
 
@@ -19,7 +20,9 @@ async function refused(answer, options = {}) {
 }
 
 // Says that it gives this range, and gives these bytes.
-const say = (response, range, bytes) => response.writeHead(206, { 'Content-Range': range }).end(bytes);
+const say = (response, range, bytes, headers = {}) => response.writeHead(206, { 'Content-Range': range, ...headers }).end(bytes);
+
+const code = (error) => [error.code, error.message];
 
 // Writes bytes for as long as somebody takes them.
 function writeForever(response) {
@@ -70,17 +73,128 @@ test('an empty input is one that ends', async () => {
   assert.equal(error.total, 0);
 });
 
-test('a server without ranges is refused, and its body is left', async () => {
-  const leaving = new EventEmitter();
-  await withServer((_, response) => {
-    response.on('close', () => leaving.emit('close'));
-    response.writeHead(200, { 'Content-Type': 'image/jpeg' });
-    writeForever(response);
-  }, async (url) => {
-    const closed = once(leaving, 'close', { signal: AbortSignal.timeout(10000) });
-    await assert.rejects(probeUrl(url), { code: 'NO_RANGES' });
-    await closed;
+test('a server that compresses its ranges is refused, and so is one that hides it', async () => {
+  const icon = iconOf(...Array(40).fill(16), 256);
+  const packed = gzipSync(icon);
+  const known = { 'Content-Encoding': 'gzip' };
+  const give = (headers, bytes) => (request, response) => {
+    say(response, `bytes 0-${packed.length - 1}/${packed.length}`, bytes, headers);
+  };
+  for (const encoding of ['gzip', 'GZIP', 'x-unknown', 'identity, gzip']) {
+    const error = await refused(give({ 'Content-Encoding': encoding }, encoding === 'x-unknown' ? icon : packed));
+    assert.equal(error.code, 'CONTENT_ENCODING', encoding);
+  }
+  // An answer of another origin tells of no encoding.
+  assert.deepEqual(code(await refused(give({}, icon))), ['WRONG_RANGE', 'The server gives more bytes than its range has']);
+  for (const headers of [{}, { 'Content-Length': packed.length }]) {
+    const error = await refused((_, response) => response.writeHead(200, { ...known, ...headers }).end(packed));
+    assert.deepEqual([error.code, error.total], ['CONTENT_ENCODING', Infinity]);
+  }
+  const missing = await refused((_, response) => response.writeHead(404, known).end(gzipSync('nothing')));
+  assert.equal(missing.code, 'HTTP_STATUS');
+});
+
+test('ranges that are said to be as they are', async () => {
+  const icon = iconOf(16, 256);
+  await withServer((request, response) => giveRange(request, response, icon, { 'Content-Encoding': 'identity' }), async (url) => {
+    assert.equal((await probeUrl(url)).width, 256);
   });
+});
+
+test('later ranges are fetched where the first address led to', async () => {
+  await withServer((request, response, index) => {
+    if (request.url !== '/image') giveRange(request, response, request.url === '/first' ? jpeg : tiffBehind(70000));
+    else response.writeHead(302, { Location: index === 1 ? '/first' : '/later' }).end();
+  }, async (url, requests) => {
+    const { kind, reads } = await probeUrl(url);
+    assert.deepEqual([kind, reads], ['Jpeg', 5]);
+    assert.deepEqual(requests.map((request) => request.url), ['/image', ...Array(5).fill('/first')]);
+  });
+});
+
+test('a server without ranges is read up to the answer, and then left', async () => {
+  const front = jpegBehind(1, 60000);
+  for (const headers of [{}, { 'Content-Length': 10_000_000 }]) {
+    const leaving = new EventEmitter();
+    await withServer((_, response) => {
+      response.on('close', () => leaving.emit('close'));
+      response.writeHead(200, headers);
+      response.write(front);
+      writeForever(response);
+    }, async (url, requests) => {
+      const closed = once(leaving, 'close', { signal: AbortSignal.timeout(10000) });
+      const { kind, width, total, reads, bytesRead, trace } = await probeUrl(url, { trace: true });
+      assert.deepEqual([kind, width, total, reads], ['Jpeg', 7, headers['Content-Length'] ?? Infinity, 1]);
+      assert.ok(bytesRead >= 60011 && bytesRead < 300_000, `${bytesRead} bytes`);
+      assert.deepEqual(trace.at(-1), { start: 60009, bytes: new Uint8Array([0, 7]) });
+      await closed;
+      assert.equal(requests.length, 1);
+    });
+  }
+});
+
+test('what came of a whole is enough, though the server stalls', async () => {
+  await withServer((_, response) => response.writeHead(200).write(jpegBehind(0, 4).subarray(0, 13)), async (url) => {
+    const { width, height, bytesRead } = await probeUrl(url, { signal: AbortSignal.timeout(10000) });
+    assert.deepEqual([width, height, bytesRead], [7, 5, 13]);
+  });
+});
+
+test('a whole that comes byte by byte is not probed at each', async () => {
+  await withPieces(jpegBehind(40_000, 4), 1, {}, async (url) => {
+    const before = process.cpuUsage();
+    const { width, bytesRead } = await probeUrl(url);
+    assert.equal(width, 7);
+    assert.ok(bytesRead >= 160_011, `${bytesRead} bytes`);
+    const { user, system } = process.cpuUsage(before);
+    assert.ok(user + system < 4_000_000, `${user + system} microseconds`);
+  });
+});
+
+test('the length of what may be compressed is not that of the input', async () => {
+  const icon = iconOf(...Array(40).fill(16), 256);
+  const headers = { 'Content-Length': gzipSync(icon).length };
+  await withPieces(icon, 16, { headers, type: 'cors' }, async (url) => {
+    const { width, total } = await probeUrl(url);
+    assert.deepEqual([width, total], [256, Infinity]);
+  });
+});
+
+test('a whole is read no further than is allowed', async () => {
+  const endless = (headers) => (_, response) => {
+    response.writeHead(200, headers);
+    response.write(tiffBehind(50_000_000).subarray(0, 5000));
+    writeForever(response);
+  };
+  const limited = await refused(endless({}));
+  assert.deepEqual([limited.code, limited.bytesRead], ['LIMIT_REACHED', 2 ** 20]);
+  assert.equal((await refused(endless({}), { maxBytes: 7 })).bytesRead, 7);
+  const early = await refused(endless({ 'Content-Length': 50_000_030 }));
+  assert.equal(early.code, 'LIMIT_REACHED');
+  assert.ok(early.bytesRead < 200_000, `${early.bytesRead} bytes`);
+});
+
+test('a whole that is cut short is refused', async () => {
+  for (const headers of [{}, { 'Content-Length': 60000 }]) {
+    const error = await refused((_, response) => {
+      response.writeHead(200, headers);
+      response.write(jpeg.subarray(0, 100));
+      setTimeout(() => response.destroy(), 50);
+    });
+    assert.equal(error.code, 'CUT_SHORT');
+    assert.match(error.message, /^100 (of 60000 )?bytes came/);
+  }
+  const ended = await refused((_, response) => response.writeHead(200).end(jpeg.subarray(0, 100)));
+  assert.deepEqual([ended.code, ended.total], ['END_OF_INPUT', 100]);
+  assert.equal((await refused((_, response) => response.writeHead(200).end())).total, 0);
+});
+
+test('a server that gives ranges and then the whole is refused', async () => {
+  const error = await refused((request, response, index) => {
+    if (index < 2) giveRange(request, response, jpeg);
+    else response.writeHead(200).end(jpeg);
+  });
+  assert.deepEqual([error.code, error.reads], ['NO_RANGES', 1]);
 });
 
 test('a server that answers another status is refused by it', async () => {
@@ -125,15 +239,17 @@ test('a range of which nothing is told is refused', async () => {
   }
 });
 
-test('a body that goes on for ever is left behind its range', async () => {
-  await withServer((_, response) => {
+test('a body that goes on for ever behind its range is refused, and left', async () => {
+  const leaving = new EventEmitter();
+  const closed = once(leaving, 'close', { signal: AbortSignal.timeout(10000) });
+  const error = await refused((_, response) => {
+    response.on('close', () => leaving.emit('close'));
     response.writeHead(206, { 'Content-Range': 'bytes 0-4095/4096' });
     response.write(jpegBehind(0, 4));
     writeForever(response);
-  }, async (url) => {
-    const { width, height, bytesRead } = await probeUrl(url, { signal: AbortSignal.timeout(10000) });
-    assert.deepEqual([width, height, bytesRead], [7, 5, 4096]);
   });
+  assert.equal(error.code, 'WRONG_RANGE');
+  await closed;
 });
 
 test('an input that changes between two ranges is refused', async () => {

@@ -1,10 +1,10 @@
-// What the module costs: node --experimental-wasm-memory64 bindings/js/tests/measure.js [FILE..]
+// What the module costs: node bindings/js/tests/measure.js [FILE..]
 //
 // It prints microseconds a call of `probe` over the bytes of each file, here and in Python; the bytes and requests of
-// `probeUrl` beside the whole input; and the size of what a page loads.
+// `probeUrl` beside the whole input, from a server with ranges and from one without; and the size of what a page loads.
 
 import { spawnSync } from 'node:child_process';
-import { readFileSync } from 'node:fs';
+import { readFileSync, readdirSync } from 'node:fs';
 import { basename } from 'node:path';
 import { fileURLToPath } from 'node:url';
 import { brotliCompressSync, gzipSync } from 'node:zlib';
@@ -14,7 +14,7 @@ import { giveRange, jpegBehind, tiffBehind, withServer } from './support.js';
 const CALLS = 2000;
 const ROUNDS = 20;
 
-const row = (name, ...numbers) => console.log(name.padEnd(34), ...numbers.map((number) => String(number).padStart(10)));
+const row = (name, ...numbers) => console.log(name.padEnd(48), ...numbers.map((number) => String(number).padStart(10)));
 
 // Microseconds a call, in the best of some rounds.
 function timed(call) {
@@ -75,17 +75,24 @@ async function measureRanges() {
     'TIFF, its directory behind 2 MB': tiffBehind(2_000_000),
     AVIF: avif(300_000),
   };
-  for (const [name, bytes] of Object.entries(inputs)) {
-    await withServer((request, response) => giveRange(request, response, bytes), async (url) => {
-      const image = await probeUrl(url);
-      row(`${name}, ${image.width}x${image.height}`, bytes.length, image.bytesRead, image.reads);
-    });
+  const forms = {
+    '': giveRange,
+    ', no ranges': (request, response, bytes) => response.writeHead(200, { 'Content-Length': bytes.length }).end(bytes),
+  };
+  for (const [form, give] of Object.entries(forms)) {
+    for (const [name, bytes] of Object.entries(inputs)) {
+      await withServer((request, response) => give(request, response, bytes), async (url) => {
+        const image = await probeUrl(url, { maxBytes: 4_000_000 });
+        row(`${name}${form}, ${image.width}x${image.height}`, bytes.length, image.bytesRead, image.reads);
+      });
+    }
   }
 }
 
 function measureSizes() {
   row('\nwhat a page loads', 'plain', 'gzip', 'brotli');
-  const files = ['imagesize.js', 'errors.js', 'http.js', 'library.js', 'parts.js', 'out/imagesize.wasm'];
+  const modules = readdirSync(new URL('..', import.meta.url)).filter((name) => name.endsWith('.js'));
+  const files = [...modules, 'out/imagesize.wasm'];
   const sizes = files.map((name) => {
     const bytes = readFileSync(new URL(`../${name}`, import.meta.url));
     return [bytes.length, gzipSync(bytes, { level: 9 }).length, brotliCompressSync(bytes).length];

@@ -46,6 +46,12 @@ export function tiffBehind(length) {
   return Buffer.concat([head, directory]);
 }
 
+/** An icon with an entry for each of these sides. */
+export function iconOf(...sides) {
+  const entries = sides.map((side) => Buffer.from([side % 256, side % 256, 0, 0, 1, 0, 32, 0, 0, 0, 0, 0, 0, 0, 0, 0]));
+  return Buffer.concat([Buffer.from([0, 0, 1, 0, sides.length, 0]), ...entries, Buffer.alloc(6000)]);
+}
+
 /** Gives a range of some bytes as it was asked for, with these headers. */
 export function giveRange(request, response, bytes, headers = {}) {
   const [, first, last] = /^bytes=(\d+)-(\d+)$/.exec(request.headers.range).map(Number);
@@ -54,6 +60,27 @@ export function giveRange(request, response, bytes, headers = {}) {
   const range = `bytes ${first}-${end - 1}/${bytes.length}`;
   response.writeHead(206, { 'Content-Range': range, 'Content-Length': end - first, ...headers });
   return response.end(bytes.subarray(first, end));
+}
+
+/** Runs `use` while each fetch gives these bytes whole, in pieces of some length, with these headers and of this type. */
+export async function withPieces(bytes, length, { headers = {}, type = 'default' }, use) {
+  const before = globalThis.fetch;
+  globalThis.fetch = async () => {
+    let at = 0;
+    const body = new ReadableStream({
+      pull(control) {
+        if (at >= bytes.length) return control.close();
+        control.enqueue(new Uint8Array(bytes.subarray(at, at + length)));
+        at += length;
+      },
+    });
+    return Object.defineProperty(new Response(body, { headers }), 'type', { value: type });
+  };
+  try {
+    return await use('http://127.0.0.1/image');
+  } finally {
+    globalThis.fetch = before;
+  }
 }
 
 /** Runs `use` with the address of a server on this machine, and with the requests that came so far. */

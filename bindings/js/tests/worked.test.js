@@ -6,7 +6,7 @@ import { tmpdir } from 'node:os';
 import { join } from 'node:path';
 import { test } from 'node:test';
 import { probe, probeBlob, probeFile, probeUrl, spans } from '../imagesize.js';
-import { giveRange, lineOf, withServer, worked } from './support.js';
+import { giveRange, lineOf, withPieces, withServer, worked } from './support.js';
 
 test('from bytes', async () => {
   for (const { bytes, line } of worked) assert.equal(await lineOf(() => probe(bytes)), line);
@@ -42,6 +42,26 @@ test('from a server', async () => {
       assert.equal(await lineOf(() => probeUrl(url)), line);
     }
   });
+});
+
+test('from a server without ranges, in pieces, with and without a length', async () => {
+  for (const { bytes, line } of worked) {
+    for (const length of [1, 7, 4096]) {
+      for (const headers of [{}, { 'Content-Length': bytes.length }]) {
+        await withPieces(bytes, length, { headers }, async (url) => assert.equal(await lineOf(() => probeUrl(url)), line));
+      }
+    }
+  }
+});
+
+test('what such a server gives first is enough, and its trace the same', async () => {
+  for (const { bytes, line, spans: wanted } of worked.filter((row) => row.spans !== '?')) {
+    await withPieces(bytes, 1, {}, async (url) => {
+      const { trace, bytesRead } = await probeUrl(url, { trace: true }).catch((error) => error);
+      assert.equal(trace.map((piece) => `${piece.start}+${piece.bytes.length}`).join(' ') || '-', wanted, line);
+      assert.ok(bytesRead <= bytes.length);
+    });
+  }
 });
 
 test('the trace of a blob has these spans and their bytes', async () => {

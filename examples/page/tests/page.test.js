@@ -1,14 +1,15 @@
-// The page in a browser: files chosen and dropped, addresses, keys, and what it looks like.
+// The page in a browser: samples, files, folders and addresses, the experiment, many files, keys, and what it looks like.
 
 import assert from 'node:assert/strict';
 import { spawn } from 'node:child_process';
 import { once } from 'node:events';
-import { mkdirSync, mkdtempSync, openSync, closeSync, rmSync, writeFileSync, writeSync, ftruncateSync } from 'node:fs';
+import { closeSync, ftruncateSync, mkdirSync, mkdtempSync, openSync, readFileSync, readdirSync, rmSync, writeFileSync, writeSync } from 'node:fs';
 import { tmpdir } from 'node:os';
 import { join } from 'node:path';
 import { test } from 'node:test';
 import { fileURLToPath } from 'node:url';
-import { giveRange, jpegBehind, withServer, worked } from '../../../bindings/js/tests/support.js';
+import { gzipSync } from 'node:zlib';
+import { giveRange, iconOf, jpegBehind, withServer, worked } from '../../../bindings/js/tests/support.js';
 import { withTab } from './chromium.js';
 
 const out = fileURLToPath(new URL('../../out/', import.meta.url));
@@ -29,23 +30,24 @@ const COUNTER = `
     Blob.prototype[name] = function () { if (!this.isPart) bytesAsked += this.size; return read.call(this); };
   }`;
 
-// What the list shows: a line for each image as in the table of worked inputs.
-const LINES = `Array.from(document.querySelectorAll('#images li'), (item) => ({
-  name: item.querySelector('h2').textContent,
-  answer: item.querySelector('.answer').textContent,
-  cost: item.querySelector('.cost').textContent,
-  marks: item.querySelectorAll('.mark').length,
-  refused: item.classList.contains('refused'),
+const text = (id) => `document.getElementById('${id}').textContent`;
+const READ = `/ read, /.test(${text('status')})`;
+
+// What the page shows of the chosen image.
+const SHOWN = `({
+  answer: ${text('answer')},
+  cost: ${text('cost')},
+  steps: Array.from(document.querySelectorAll('.step b'), (name) => name.textContent),
+  wrong: document.getElementById('answer').classList.contains('error'),
+})`;
+
+// A row of the table: its texts, and whether the image has no size.
+const ROWS = `Array.from(document.querySelectorAll('#rows tr'), (row) => ({
+  cells: Array.from(row.children, (cell) => cell.textContent),
+  refused: row.classList.contains('refused'),
 }))`;
 
-// The line of the page for a line of the table.
-function shown(line) {
-  const [, kind, compression, width, height] = /^(\w+)(?:\((\w+)\))? (\d+)x(\d+)$/.exec(line);
-  const type = compression ? `${kind} (${compression})` : kind;
-  return `${type}, ${Number(width).toLocaleString('en')} × ${Number(height).toLocaleString('en')} pixels`;
-}
-
-async function withPage(use) {
+async function withPage(use, prepare = async () => {}) {
   const folder = mkdtempSync(join(tmpdir(), 'imagesize-page-'));
   const server = spawn(serve, ['0'], { stdio: ['ignore', 'pipe', 'inherit'] });
   try {
@@ -53,8 +55,9 @@ async function withPage(use) {
     return await withTab(async (tab) => {
       for (const domain of ['Page', 'Runtime', 'Network', 'DOM', 'Log']) await tab.send(`${domain}.enable`);
       await tab.send('Page.addScriptToEvaluateOnNewDocument', { source: COUNTER });
+      await prepare(tab);
       await tab.send('Page.navigate', { url: address.trim() });
-      await tab.until(`document.getElementById('status')?.textContent === 'Ready'`);
+      await tab.until(`!/^(Loading|$)/.test(document.getElementById('status')?.textContent ?? '')`);
       return await use(tab, folder, new URL(address.trim()));
     });
   } finally {
@@ -71,34 +74,38 @@ function writeInputs(folder, inputs) {
   });
 }
 
-// Whether the list has so many images, the last of which have been read.
-const listed = (count) => `document.querySelectorAll('#images li').length === ${count}
-  && / read,/.test(document.getElementById('status').textContent)`;
+// Does something that reads images, and waits until they are read.
+async function reading(tab, act) {
+  await tab.value(`${text('status')} = ''`);
+  await act();
+  await tab.until(READ);
+}
+
+const press = (tab, selector) => tab.value(`document.querySelector(${JSON.stringify(selector)}).click()`);
 
 async function choose(tab, paths) {
   const { root } = await tab.send('DOM.getDocument');
   const { nodeId } = await tab.send('DOM.querySelector', { nodeId: root.nodeId, selector: '#files' });
-  const before = await tab.value(`document.querySelectorAll('#images li').length`);
-  await tab.send('DOM.setFileInputFiles', { nodeId, files: paths });
-  await tab.until(listed(before + paths.length));
+  await reading(tab, () => tab.send('DOM.setFileInputFiles', { nodeId, files: paths }));
 }
 
-async function lookUp(tab, addresses) {
-  await tab.value(`document.getElementById('images').replaceChildren();
-    document.getElementById('addresses').value = ${JSON.stringify(addresses.join('\n'))};
-    document.querySelector('form button').click()`);
-  await tab.until(listed(addresses.length));
-  return tab.value(LINES);
+const lookUp = (tab, addresses) => reading(tab, () => tab.value(`document.getElementById('addresses').value = ${JSON.stringify(addresses.join('\n'))};
+  document.querySelector('#lookup button').click()`));
+
+async function drop(tab, files) {
+  const data = { items: [], files, dragOperationsMask: 1 };
+  await reading(tab, async () => {
+    for (const type of ['dragEnter', 'dragOver', 'drop']) await tab.send('Input.dispatchDragEvent', { type, x: 200, y: 200, data });
+  });
 }
 
-async function press(tab, key) {
-  for (const type of ['keyDown', 'keyUp']) await tab.send('Input.dispatchKeyEvent', { type, key, code: key });
-}
+const viewport = (tab, width, height) => tab.send('Emulation.setDeviceMetricsOverride', { width, height, deviceScaleFactor: 1, mobile: false });
 
-async function screenshot(tab, name, width, scheme) {
+async function screenshot(tab, name, [width, height], scheme) {
   await tab.send('Emulation.setScrollbarsHidden', { hidden: true });
-  await tab.send('Emulation.setDeviceMetricsOverride', { width, height: 900, deviceScaleFactor: 1, mobile: false });
+  await viewport(tab, width, height);
   await tab.send('Emulation.setEmulatedMedia', { features: [{ name: 'prefers-color-scheme', value: scheme }] });
+  await tab.value('dispatchEvent(new Event("resize"))');
   const { data } = await tab.send('Page.captureScreenshot', { captureBeyondViewport: true });
   mkdirSync(out, { recursive: true });
   writeFileSync(join(out, `page-${name}.png`), Buffer.from(data, 'base64'));
@@ -106,17 +113,56 @@ async function screenshot(tab, name, width, scheme) {
 
 test('the page', async (t) => {
   await withPage(async (tab, folder, { origin }) => {
-    const sized = worked.filter(({ line, spans }) => /\dx\d/.test(line) && spans !== '?');
-    const ten = Array.from({ length: 10 }, (_, index) => sized[Math.floor((index * sized.length) / 10)]);
-    const refusal = worked.find(({ line }) => line.startsWith('Jpeg: '));
+    await t.test('answers six samples by one click each', async () => {
+      const answers = [];
+      for (let sample = 0; sample < 6; sample += 1) {
+        await reading(tab, () => press(tab, `#samples li:nth-child(${sample + 1}) button`));
+        await tab.until(`document.querySelectorAll('.step').length > 0`);
+        answers.push(await tab.value(SHOWN));
+      }
+      assert.deepEqual(answers.map(({ answer }) => answer), [
+        'JPEG, 1,920 × 1,080 pixels', 'AVIF, 1,920 × 1,080 pixels', 'TIFF, 1,600 × 1,200 pixels', 'DDS (Bc7), 1,024 × 512 pixels',
+        'OpenEXR, 2,048 × 858 pixels', 'JPEG, no size. The file ends before its size.',
+      ]);
+      assert.deepEqual(answers.map(({ wrong }) => wrong), [false, false, false, false, false, true]);
+      assert.equal(answers[0].cost, '12 kB of 94 kB read, in 3 steps');
+      assert.deepEqual(answers[0].steps.slice(-4), ['segment length', 'marker: frame', 'height', 'width']);
+      assert.ok(answers.every(({ steps }) => steps.every((name) => !/undefined|read by/.test(name))));
+      await press(tab, '#clear');
+    });
 
-    await t.test('lists ten worked inputs and a refused one', async () => {
-      await choose(tab, writeInputs(folder, [...ten, refusal]));
-      const lines = await tab.value(LINES);
-      assert.deepEqual(lines.slice(0, 10).map(({ answer }) => answer), ten.map(({ line }) => shown(line)));
-      assert.deepEqual([lines[10].answer, lines[10].refused], ['Jpeg, no size: Hit end of file before finding size', true]);
-      assert.ok(lines.every(({ marks }, index) => marks === [...ten, refusal][index].spans.split(' ').length));
-      assert.equal(await tab.value(`document.getElementById('status').textContent`), '11 images read, 10 with a size');
+    await t.test('shows each test vector, and the same result with every other byte changed', async () => {
+      const wrong = await tab.value(`(async () => {
+        const { inspect } = await import('./inspector.js');
+        const { probeBlob } = await import('../../bindings/js/imagesize.js');
+        const wrong = [];
+        for (const base64 of ${JSON.stringify(worked.filter(({ bytes }) => bytes.length > 0).map(({ bytes }) => bytes.toString('base64')))}) {
+          const file = new Blob([Uint8Array.from(atob(base64), (letter) => letter.charCodeAt(0))]);
+          const result = await probeBlob(file, { trace: true }).catch((error) => error);
+          if (!(result.trace?.length > 0)) continue;
+          await inspect({ name: base64, around: async (begin, end) => new Uint8Array(await file.slice(begin, end).arrayBuffer()) }, result);
+          document.getElementById('scramble').click();
+          while (!document.getElementById('outcome').className) await new Promise((resolve) => { setTimeout(resolve); });
+          if (!/The same result\\.$/.test(document.getElementById('outcome').textContent)) wrong.push(base64);
+        }
+        return wrong;
+      })()`);
+      assert.deepEqual(wrong, []);
+    });
+
+    await t.test('says so where the result is another one', async () => {
+      const outcome = await tab.value(`(async () => {
+        const { inspect } = await import('./inspector.js');
+        const file = new Blob([new TextEncoder().encode('GIF89a0000000000')]);
+        const { probeBlob } = await import('../../bindings/js/imagesize.js');
+        const result = await probeBlob(file, { trace: true });
+        await inspect({ name: 'other' }, { ...result, width: 7 });
+        document.getElementById('scramble').click();
+        while (!document.getElementById('outcome').className) await new Promise((resolve) => { setTimeout(resolve); });
+        return [document.getElementById('outcome').textContent, document.getElementById('outcome').className];
+      })()`);
+      assert.match(outcome[0], /ANOTHER RESULT\.$/);
+      assert.equal(outcome[1], 'error');
     });
 
     await t.test('reads less than 100 kB of a file of 3 GB', async () => {
@@ -129,83 +175,92 @@ test('the page', async (t) => {
       closeSync(file);
       await tab.value('bytesAsked = 0');
       await choose(tab, [path]);
-      const image = (await tab.value(LINES)).at(-1);
-      assert.deepEqual([image.answer, image.marks], ['Tiff, 5 × 7 pixels', 9]);
-      assert.match(image.cost, /^8,192 bytes of 3,100,000,000 read, in 2 steps and /);
+      await tab.until(`document.querySelectorAll('.step').length === 9`);
+      const { answer, cost } = await tab.value(SHOWN);
+      assert.deepEqual([answer, cost], ['TIFF, 5 × 7 pixels', '8.2 kB of 3.1 GB read, in 2 steps']);
       const asked = await tab.value('bytesAsked');
       assert.ok(asked > 0 && asked < 100_000, `${asked} bytes`);
+      await press(tab, '#clear');
     });
 
-    await t.test('draws the first of many spans, and says where there are too many', async () => {
-      const paths = [5000, 50000].map((segments) => {
+    await t.test('keeps 204 spans apart in the strip, and says where there are too many', async () => {
+      const paths = [100, 50000].map((segments) => {
         const path = join(folder, `${segments} segments.jpg`);
-        writeFileSync(path, jpegBehind(segments, 4));
+        writeFileSync(path, jpegBehind(segments, 1000));
         return path;
       });
-      await choose(tab, paths);
-      const [many, tooMany] = (await tab.value(LINES)).slice(-2);
-      assert.deepEqual([many.answer, many.marks, tooMany.marks], ['Jpeg, 7 × 5 pixels', 1000, 0]);
-      assert.match(tooMany.cost, /; its spans are too many to be drawn$/);
-      await tab.value(`document.querySelectorAll('#images li:nth-last-child(-n + 2)').forEach((item) => item.remove())`);
-    });
-
-    await t.test('takes files that are dropped', async () => {
-      const before = (await tab.value(LINES)).length;
-      const data = { items: [], files: [join(folder, 'image 0'), join(folder, 'image 1')], dragOperationsMask: 1 };
-      for (const type of ['dragEnter', 'dragOver', 'drop']) {
-        await tab.send('Input.dispatchDragEvent', { type, x: 200, y: 200, data });
-      }
-      await tab.until(listed(before + 2));
-    });
-
-    await t.test('uploads nothing', async () => {
-      const requests = tab.events('Network.requestWillBeSent').map(({ request }) => request);
-      assert.ok(requests.length > 0);
-      for (const { method, url } of requests.filter(({ url }) => !url.startsWith('data:'))) {
-        assert.deepEqual([method, new URL(url).origin], ['GET', origin]);
-      }
-    });
-
-    await t.test('tells each span to the keys and to a screen reader', async () => {
-      await tab.value(`document.querySelector('#images li .mark').focus()`);
-      const detail = () => tab.value(`document.querySelector('#images li .detail').textContent`);
-      const first = await detail();
-      assert.match(first, /^Place 0, \d+ bytes: [0-9a-f]{2}( [0-9a-f]{2})+/);
-      await press(tab, 'ArrowRight');
-      const second = await tab.value(`document.activeElement.ariaLabel`);
-      assert.notEqual(second, first);
-      assert.equal(await detail(), second);
-      await press(tab, 'Home');
-      assert.equal(await detail(), first);
-      assert.equal(await tab.value(`document.querySelectorAll('#images li:first-child .mark[tabindex="0"]').length`), 1);
-      const { nodes } = await tab.send('Accessibility.getFullAXTree');
-      const named = (role) => nodes.filter((node) => node.role?.value === role && !node.ignored)
-        .map(({ name }) => name?.value ?? '');
-      assert.ok(named('button').includes(first) && named('button').every((name) => name !== ''));
-      assert.ok(named('group').some((name) => /^The answer rests on \d+ spans, \d+ bytes in all; arrow keys/.test(name)));
-      assert.ok(named('textbox').includes('Addresses, one a line') && named('status').length === 1);
-    });
-
-    await t.test('tells each span under the pointer', async () => {
-      const place = await tab.value(`(() => {
-        const mark = document.querySelector('#images li .mark:last-child');
-        mark.scrollIntoView({ block: 'center' });
-        const { x, y, width, height } = mark.getBoundingClientRect();
-        return { x: x + width / 2, y: y + height / 2, label: mark.ariaLabel };
+      await choose(tab, paths.slice(0, 1));
+      await tab.until(`document.querySelectorAll('.step').length > 100`);
+      const lines = await tab.value(`(() => {
+        const { width, height } = document.getElementById('strip');
+        const row = document.getElementById('strip').getContext('2d').getImageData(0, height / 2, width, 1).data;
+        let lines = 0;
+        for (let at = 1; at < width; at += 1) lines += row[4 * at + 3] > 0 && row[4 * at - 1] === 0;
+        return lines;
       })()`);
-      await tab.send('Input.dispatchMouseEvent', { type: 'mouseMoved', x: place.x, y: place.y });
-      await tab.until(`document.querySelector('#images li .detail').textContent === ${JSON.stringify(place.label)}`);
+      assert.ok(lines >= 90, `${lines} lines`);
+      await tab.value(`document.getElementById('zoom').value = 5; document.getElementById('zoom').dispatchEvent(new Event('input'))`);
+      assert.match(await tab.value(text('window')), /^bytes 0 to 3,/);
+      await choose(tab, paths.slice(1));
+      assert.match((await tab.value(SHOWN)).cost, /\. Its spans are too many to be drawn\.$/);
+      await press(tab, '#clear');
     });
 
-    await t.test('fits 400 pixels, in light and in dark', async () => {
-      const name = `${'a long name without a space '.replaceAll(' ', '_').repeat(6)}.jpg`;
-      writeFileSync(join(folder, name), jpegBehind(4, 50000));
-      await choose(tab, [join(folder, name)]);
-      await tab.value(`document.querySelector('#images li:last-child details').open = true`);
-      await screenshot(tab, 'light', 900, 'light');
-      await screenshot(tab, 'dark', 900, 'dark');
-      await screenshot(tab, 'narrow', 400, 'light');
-      assert.equal(await tab.value('document.documentElement.scrollWidth'), 400);
+    await t.test('walks a folder that is dropped', async () => {
+      const below = join(folder, 'gallery', 'below');
+      mkdirSync(below, { recursive: true });
+      for (const path of [join(folder, 'gallery', 'a.gif'), join(below, 'b.gif')]) writeFileSync(path, 'GIF89a\x01\x00\x02\x00   ');
+      await drop(tab, [join(folder, 'gallery')]);
+      assert.deepEqual((await tab.value(ROWS)).map(({ cells }) => cells.slice(1, 4)).sort(), [
+        ['gallery/a.gif', 'GIF', '1 × 2'], ['gallery/below/b.gif', 'GIF', '1 × 2'],
+      ]);
+      await press(tab, '#clear');
+    });
+
+    await t.test('reads 2,000 files with a progress bar, and stays quick', async () => {
+      const many = join(folder, 'many');
+      mkdirSync(many);
+      const paths = Array.from({ length: 2000 }, (_, index) => join(many, `${index}.jpg`));
+      paths.forEach((path, index) => writeFileSync(path, index % 10 ? jpegBehind(1 + (index % 7), 40) : 'no image'));
+      await tab.value(`globalThis.longest = 0; globalThis.seen = false;
+        new PerformanceObserver((list) => { for (const { duration } of list.getEntries()) longest = Math.max(longest, duration); }).observe({ type: 'longtask' });
+        new MutationObserver(() => { seen = true; }).observe(document.getElementById('progress'), { attributeFilter: ['hidden'] })`);
+      const begin = Date.now();
+      await choose(tab, paths);
+      const time = Date.now() - begin;
+      const [longest, seen, height, status] = await tab.value(`[longest, seen, document.documentElement.scrollHeight, ${text('status')}]`);
+      assert.equal(status, '2,000 images read, 1,800 with a size');
+      assert.ok(seen && time < 15_000 && longest < 1000 && height < 4000, JSON.stringify({ seen, time, longest, height }));
+    });
+
+    await t.test('sorts the table, and copies it', async () => {
+      const first = async () => (await tab.value(ROWS))[0].cells.slice(1, 4);
+      await press(tab, '#columns th:nth-child(4) button');
+      assert.deepEqual(await first(), ['0.jpg', '', 'The file ends before its size.']);
+      await press(tab, '#columns th:nth-child(4) button');
+      assert.deepEqual((await first()).slice(1), ['JPEG', '7 × 5']);
+      await tab.value(`navigator.clipboard.writeText = async (text) => { globalThis.copied = text; }`);
+      await press(tab, '#csv');
+      const lines = (await tab.value('copied')).split('\r\n');
+      assert.deepEqual([lines.length, lines[0]], [2001, 'name,kind,compression,width,height,error,bytesRead,milliseconds']);
+      assert.match(lines[2], /^1\.jpg,Jpeg,,7,5,,\d+,[\d.]+$/);
+      await press(tab, '#json');
+      assert.equal(JSON.parse(await tab.value('copied'))[1].width, 7);
+      await press(tab, '#clear');
+    });
+
+    await t.test('looks up addresses by ranges', async () => {
+      await lookUp(tab, [`${origin}/examples/page/samples/end.tif`]);
+      await tab.until(`document.querySelectorAll('.step').length > 0`);
+      const { answer, cost } = await tab.value(SHOWN);
+      assert.deepEqual([answer, cost], ['TIFF, 1,600 × 1,200 pixels', '5.4 kB of 120 kB read, in 2 steps']);
+      await tab.value(`document.getElementById('addresses').value = ' '; document.querySelector('#lookup button').click()`);
+      assert.equal(await tab.value(text('status')), 'Type an address first.');
+      await tab.send('Network.setBlockedURLs', { urls: ['*://host.invalid/*'] });
+      await lookUp(tab, ['host.invalid/a.jpg']);
+      const asked = tab.events('Network.requestWillBeSent').map(({ request }) => request.url);
+      assert.ok(asked.includes('https://host.invalid/a.jpg'));
+      await press(tab, '#clear');
     });
 
     await t.test('reads servers of another origin as they allow it', async () => {
@@ -215,26 +270,86 @@ test('the page', async (t) => {
         open: { ...allowed, 'Access-Control-Expose-Headers': 'Content-Range, ETag', ETag: '"1"' },
         unexposed: allowed,
         closed: {},
+        whole: allowed,
+        packed: { ...allowed, 'Access-Control-Expose-Headers': 'Content-Range', 'Content-Encoding': 'gzip' },
       };
+      const packed = gzipSync(iconOf(...Array(40).fill(16), 256));
       await withServer((request, response) => {
-        const headers = given[new URL(request.url, origin).searchParams.get('as')];
+        const as = new URL(request.url, origin).searchParams.get('as');
+        const headers = given[as];
         if (request.method === 'OPTIONS') return response.writeHead(204, headers).end();
+        if (as === 'whole') return response.writeHead(200, headers).end(jpeg);
+        if (as === 'packed') return giveRange(request, response, packed, headers);
         return giveRange(request, response, jpeg, headers);
       }, async (url) => {
-        const lines = await lookUp(tab, [...Object.keys(given).map((name) => `${url}?as=${name}`), 'http://']);
-        assert.deepEqual(lines.map(({ answer }) => answer).slice(0, 3), [
-          'Jpeg, 7 × 5 pixels',
+        await lookUp(tab, [...Object.keys(given).map((name) => `${url}?as=${name}`), 'http://']);
+        const rows = await tab.value(ROWS);
+        assert.deepEqual(rows.slice(0, 4).map(({ cells }) => cells[3]), [
+          '7 × 5',
           'The server does not tell this origin, by Content-Range, which bytes it gives',
           'The server gives no answer, or none that this origin may read',
+          '7 × 5',
         ]);
-        assert.match(lines[3].answer, /URL/);
+        // Some browsers refuse such an answer themselves.
+        assert.ok(rows[4].refused);
+        assert.match(rows[5].cells[3], /URL/);
       });
+      await press(tab, '#clear');
     });
 
-    await t.test('throws nothing and breaks no rule of its own', () => {
+    await t.test('tells each step to the keys and to a screen reader', async () => {
+      await reading(tab, () => press(tab, '#samples li:nth-child(1) button'));
+      await tab.until(`document.querySelectorAll('.step').length > 0`);
+      await tab.value(`document.querySelector('#steps li:nth-child(2) button').focus()`);
+      for (const type of ['keyDown', 'keyUp']) await tab.send('Input.dispatchKeyEvent', { type, key: 'Enter', code: 'Enter', text: '\r' });
+      assert.equal(await tab.value(`document.querySelector('.step.chosen').dataset.step`), '1');
+      assert.equal(await tab.value(`document.querySelectorAll('#hex .byte.chosen').length`), 2);
+      const { nodes } = await tab.send('Accessibility.getFullAXTree');
+      const named = (role) => nodes.filter((node) => node.role?.value === role && !node.ignored).map(({ name }) => name?.value ?? '');
+      assert.ok(named('button').every((name) => name !== '') && named('button').includes('Change every other byte'));
+      assert.ok(named('image').concat(named('img')).some((name) => /^The whole file to scale: the result depends on \d+ spans/.test(name)));
+      assert.ok(named('slider').includes('Zoom') && named('status').length >= 1);
+    });
+
+    await t.test('fits a phone, in light and in dark', async () => {
+      const name = `${'a long name without a space '.replaceAll(' ', '_').repeat(6)}.jpg`;
+      writeFileSync(join(folder, name), jpegBehind(4, 50000));
+      await choose(tab, [join(folder, name), join(folder, '100 segments.jpg')]);
+      await press(tab, '#samples li:nth-child(1) button');
+      await tab.until(`document.querySelectorAll('#rows tr').length === 4`);
+      for (const scheme of ['light', 'dark']) {
+        await screenshot(tab, `wide-${scheme}`, [1280, 900], scheme);
+        await screenshot(tab, `phone-${scheme}`, [390, 844], scheme);
+      }
+      assert.equal(await tab.value('document.documentElement.scrollWidth'), 390);
+      const small = await tab.value(`Array.from(document.querySelectorAll('button, summary'))
+        .filter((target) => target.offsetParent && target.getBoundingClientRect().height < 44).map((target) => target.textContent)`);
+      assert.deepEqual(small, []);
+    });
+
+    await t.test('uploads nothing, throws nothing and breaks no rule of its own', () => {
+      const requests = tab.events('Network.requestWillBeSent').map(({ request }) => request);
+      assert.ok(requests.every(({ method }) => ['GET', 'OPTIONS'].includes(method)));
       const thrown = tab.events('Runtime.exceptionThrown').map(({ exceptionDetails }) => exceptionDetails.text);
       const logged = tab.events('Log.entryAdded').map(({ entry }) => entry.text);
-      assert.deepEqual([...thrown, ...logged.filter((text) => text.includes('Content Security Policy'))], []);
+      assert.deepEqual([...thrown, ...logged.filter((entry) => entry.includes('Content Security Policy'))], []);
     });
+  });
+
+  await t.test('says so where the library does not load', async () => {
+    const block = (tab) => tab.send('Network.setBlockedURLs', { urls: ['*.wasm'] });
+    await withPage(async (tab) => {
+      assert.match(await tab.value(text('status')), /^The library could not be loaded\./);
+      assert.equal(await tab.value(`document.querySelector('#choose').disabled`), true);
+    }, block);
+  });
+
+  await t.test('is at most 60 kB, packed', () => {
+    const page = fileURLToPath(new URL('../', import.meta.url));
+    const library = fileURLToPath(new URL('../../../bindings/js/', import.meta.url));
+    const files = [[page, /\.(html|css|js)$/], [library, /^[a-z]+\.js$/], [join(library, 'out'), /\.wasm$/]]
+      .flatMap(([folder, names]) => readdirSync(folder).filter((name) => names.test(name)).map((name) => join(folder, name)));
+    const length = files.reduce((sum, file) => sum + gzipSync(readFileSync(file)).length, 0);
+    assert.ok(length <= 60_000, `${length} bytes`);
   });
 });

@@ -1,0 +1,9 @@
+// Bytes, in each form in which callers have them.
+
+const BUFFERS = ['[object ArrayBuffer]', '[object SharedArrayBuffer]'];
+
+/** The bytes of a buffer, or of a view of one; undefined for anything else. */
+export function bytesOf(data) {
+  if (ArrayBuffer.isView(data)) return new Uint8Array(data.buffer, data.byteOffset, data.byteLength);
+  return BUFFERS.includes(Object.prototype.toString.call(data)) ? new Uint8Array(data) : undefined;
+}

@@ -1,0 +1,193 @@
+// One image: the strip of the whole file, its steps, its bytes in hex, and the experiment.
+
+import { probeBlob } from '../../bindings/js/imagesize.js';
+import { namesOf } from './fields.js';
+import { Scrambled } from './scrambled.js';
+import { bytesText, costText, count, errorText, hex, sizeText, typeText } from './texts.js';
+
+const STEPS_SHOWN = 200;
+const ROW = 16;
+const part = (id) => document.getElementById(id);
+
+function element(name, className, text = '') {
+  const made = document.createElement(name);
+  if (className) made.className = className;
+  made.textContent = text;
+  return made;
+}
+
+let shown; // the image that is shown: its result, its bytes around the spans, and how much of it is listed
+
+/** Shows an image, with the bytes that its result depends on. */
+export async function inspect(input, found) {
+  const total = found.total < Infinity ? found.total : found.bytesRead;
+  const result = { ...found, kind: found.kind, message: found.message, total };
+  shown = { input, result, names: [], listed: 0, chosen: 0, around: input.around };
+  const { trace } = result;
+  part('one').hidden = false;
+  part('name').textContent = input.name;
+  part('answer').textContent = answerText(result);
+  part('answer').classList.toggle('error', result.width === undefined);
+  part('cost').textContent = costText(found) + (trace === null ? '. Its spans are too many to be drawn.' : '');
+  part('evidence').hidden = !(trace?.length > 0);
+  part('outcome').textContent = '';
+  part('outcome').className = '';
+  if (part('evidence').hidden) return;
+  shown.names = namesOf(result.kind, trace, result.total);
+  part('zoom').value = 0;
+  part('zoom').max = Math.max(0, Math.ceil(Math.log2(result.total / 64)));
+  part('steps').replaceChildren();
+  part('hex').replaceChildren();
+  await list();
+  choose(0);
+}
+
+function answerText(result) {
+  const type = typeText(result);
+  if (result.width !== undefined) return `${type}, ${sizeText(result)} pixels`;
+  return type ? `${type}, no size. ${errorText(result)}` : errorText(result);
+}
+
+// Lists more steps, and the bytes that they read.
+async function list() {
+  const { result: { trace }, names, listed } = shown;
+  const end = Math.min(trace.length, listed + STEPS_SHOWN);
+  part('steps').append(...trace.slice(listed, end).map((span, at) => stepOf(span, names[listed + at], listed + at)));
+  shown.listed = end;
+  part('more').hidden = end === trace.length;
+  part('more').textContent = `Show more of ${count(trace.length, 'step')}`;
+  await drawHex();
+}
+
+function stepOf({ start, bytes }, name, index) {
+  const step = element('li', '');
+  const button = element('button', 'step');
+  button.type = 'button';
+  button.dataset.step = index;
+  const where = bytes.length === 1 ? `byte ${start.toLocaleString('en')}` : `bytes ${start.toLocaleString('en')} to ${(start + bytes.length - 1).toLocaleString('en')}`;
+  button.append(element('b', '', name), element('span', '', where));
+  step.append(button);
+  return step;
+}
+
+// Rows of 16 bytes, those that have a byte of the listed spans, with a line for what is left out between them.
+async function drawHex() {
+  const { result: { trace, total }, listed, names } = shown;
+  const spans = trace.slice(0, listed);
+  const numbers = [...new Set(spans.flatMap(({ start, bytes }) => {
+    const first = Math.floor(start / ROW);
+    return Array.from({ length: Math.floor((start + bytes.length - 1) / ROW) - first + 1 }, (_, at) => first + at);
+  }))].sort((a, b) => a - b);
+  const asked = shown;
+  const rows = [];
+  let next = 0;
+  for (const number of numbers) {
+    if (number > next) rows.push(gapOf((number - next) * ROW));
+    const around = await shown.around?.(number * ROW, Math.min(total, (number + 1) * ROW)).catch(() => undefined);
+    if (shown !== asked) return;
+    rows.push(rowOf(number * ROW, Math.min(ROW, total - number * ROW), spans, names, around));
+    next = number + 1;
+  }
+  if (next * ROW < total) rows.push(gapOf(total - next * ROW));
+  part('hex').replaceChildren(...rows);
+}
+
+const gapOf = (length) => element('div', 'gap', `↓ ${bytesText(length)} not read`);
+
+function rowOf(start, length, spans, names, around) {
+  const row = element('div', 'row');
+  const digits = element('code', 'digits');
+  const here = spans.map((span, index) => ({ ...span, index })).filter(({ start: at, bytes }) => at < start + length && at + bytes.length > start);
+  for (let offset = start; offset < start + length; offset += 1) {
+    const covering = here.filter(({ start: at, bytes }) => at <= offset && offset < at + bytes.length);
+    const known = covering.at(-1);
+    const byte = known ? known.bytes[offset - known.start] : around?.[offset - start];
+    const cell = element('span', known ? `byte read tone${known.index % 4}` : 'byte', byte === undefined ? '··' : hex([byte]));
+    if (known) cell.dataset.steps = covering.map(({ index }) => index).join(' ');
+    digits.append(cell);
+  }
+  const labels = here.filter(({ start: at }) => at >= start).map(({ index }) => `${index + 1} ${names[index]}`);
+  row.append(element('code', 'offset', start.toLocaleString('en')), digits, element('span', 'labels', labels.join(', ')));
+  return row;
+}
+
+// Marks a step in the list, among the bytes and in the strip.
+function choose(index) {
+  shown.chosen = index;
+  for (const old of document.querySelectorAll('.chosen')) old.classList.remove('chosen');
+  part('steps').querySelector(`[data-step="${index}"]`)?.classList.add('chosen');
+  const cells = part('hex').querySelectorAll(`[data-steps~="${index}"]`);
+  for (const cell of cells) cell.classList.add('chosen');
+  const box = part('hex');
+  if (cells[0]) box.scrollTop = cells[0].offsetTop - box.offsetTop - box.clientHeight / 3;
+  drawStrip();
+}
+
+// The part of the file that the strip shows: all of it, or a part around the step that is chosen.
+function windowOf() {
+  const { result: { total, trace }, chosen } = shown;
+  const length = Math.max(1, total / 2 ** Number(part('zoom').value));
+  const from = Math.min(Math.max(0, trace[chosen].start - length / 2), total - length);
+  return { from: Number(part('zoom').value) === 0 ? 0 : from, length };
+}
+
+// A column of the strip is marked where a byte of it is read, so that dense spans stay visible.
+function drawStrip() {
+  const canvas = part('strip');
+  const { result: { trace, total }, chosen } = shown;
+  const { from, length } = windowOf();
+  const width = Math.max(1, Math.round(canvas.clientWidth * devicePixelRatio));
+  canvas.width = width;
+  canvas.height = Math.round(canvas.clientHeight * devicePixelRatio);
+  const style = getComputedStyle(canvas);
+  const context = canvas.getContext('2d');
+  const paint = ({ start, bytes }, colour, least) => {
+    const left = Math.floor(((start - from) / length) * width);
+    const right = Math.ceil(((start + bytes.length - from) / length) * width);
+    context.fillStyle = colour;
+    context.fillRect(left, 0, Math.max(right - left, least), canvas.height);
+  };
+  for (const span of trace) paint(span, style.color, 2 * devicePixelRatio);
+  paint(trace[chosen], style.caretColor, 4 * devicePixelRatio);
+  const read = trace.reduce((sum, { bytes }) => sum + bytes.length, 0);
+  canvas.ariaLabel = `The whole file to scale: the result depends on ${count(trace.length, 'span')}, ${count(read, 'byte')} in all, of ${count(total, 'byte')}`;
+  part('window').textContent = `bytes ${Math.floor(from).toLocaleString('en')} to ${Math.ceil(from + length).toLocaleString('en')}`;
+}
+
+// The step that is nearest to a point of the strip.
+function nearest(event) {
+  const { from, length } = windowOf();
+  const offset = from + (event.offsetX / part('strip').clientWidth) * length;
+  const distance = ({ start, bytes }) => Math.max(start - offset, offset - start - bytes.length, 0);
+  const { trace } = shown.result;
+  return trace.reduce((best, span, index) => (distance(span) < distance(trace[best]) ? index : best), 0);
+}
+
+// Changes every byte outside of the spans, probes again, and says what came of it.
+async function scramble() {
+  const { result, input } = shown;
+  const kept = new Set(result.trace.flatMap(({ start, bytes }) => Array.from(bytes, (_, at) => start + at))).size;
+  const other = new Scrambled(result.total, result.trace, crypto.getRandomValues(new Uint32Array(1))[0]);
+  const again = await probeBlob(other, { maxBytes: 2 ** 30 }).catch((error) => error);
+  const same = ['kind', 'compression', 'width', 'height', 'code'].every((name) => (again[name] ?? null) === (result[name] ?? null));
+  const changed = bytesText(result.total - kept);
+  part('outcome').textContent = `${changed} changed, ${bytesText(kept)} kept: ${answerText(again)}. ${same ? 'The same result.' : 'ANOTHER RESULT.'}`;
+  part('outcome').className = same ? 'same' : 'error';
+  shown = { ...shown, input, around: async (start, end) => other.bytes(start, end) };
+  await drawHex();
+  choose(shown.chosen);
+}
+
+part('zoom').addEventListener('input', drawStrip);
+part('scramble').addEventListener('click', scramble);
+part('more').addEventListener('click', list);
+part('strip').addEventListener('click', (event) => choose(nearest(event)));
+part('steps').addEventListener('click', ({ target }) => {
+  const step = target.closest('[data-step]');
+  if (step) choose(Number(step.dataset.step));
+});
+part('hex').addEventListener('click', ({ target }) => {
+  const steps = target.closest('[data-steps]')?.dataset.steps;
+  if (steps) choose(Number(steps.split(' ').at(-1)));
+});
+addEventListener('resize', () => { if (!part('evidence').hidden) drawStrip(); });

@@ -1,0 +1,67 @@
+// The module in a browser without the page: before and after `init`, in a worker, and as a script that a bundler made.
+
+import assert from 'node:assert/strict';
+import { execFileSync, spawnSync } from 'node:child_process';
+import { readFileSync } from 'node:fs';
+import { test } from 'node:test';
+import { fileURLToPath } from 'node:url';
+import { withServer } from '../../../bindings/js/tests/support.js';
+import { withTab } from './chromium.js';
+
+const folder = fileURLToPath(new URL('../../../bindings/js/', import.meta.url));
+const TYPES = { js: 'text/javascript', wasm: 'application/wasm', html: 'text/html' };
+const SIZE = `probe(new TextEncoder().encode('GIF89ad\\0\\x32\\0\\0\\0')).width`;
+const FILES = {
+  '/': '<!doctype html><title>module</title>',
+  '/worker.js': `import { init, probe } from '/imagesize.js'; await init(); postMessage(${SIZE});`,
+  '/classic.js': `importScripts('/bundle.js'); const { init, probe } = bundled;
+    init('/out/imagesize.wasm').then(() => postMessage(${SIZE}));`,
+};
+
+const hasBundler = spawnSync('esbuild', ['--version']).status === 0;
+if (hasBundler) {
+  FILES['/bundle.js'] = execFileSync('esbuild', [
+    'imagesize.js', '--bundle', '--format=iife', '--global-name=bundled', '--log-level=error',
+  ], { cwd: folder, encoding: 'utf8' });
+}
+
+function serve({ url }, response) {
+  response.setHeader('Content-Type', TYPES[url.split('.')[1] ?? 'html'] ?? 'text/plain');
+  try {
+    response.end(FILES[url] ?? readFileSync(`${folder}${url.slice(1)}`));
+  } catch {
+    response.writeHead(404).end();
+  }
+}
+
+test('the module', async (t) => {
+  await withServer(serve, (address) => withTab(async (tab) => {
+    await tab.send('Page.enable');
+    await tab.send('Page.navigate', { url: new URL('/', address).href });
+    await tab.until(`document.title === 'module'`);
+    const inModule = (code) => tab.value(`import('/imagesize.js').then(async ({ init, probe }) => { ${code} })
+      .catch(({ name, code, message }) => [name, code, message].join(' '))`);
+    const inWorker = (made) => tab.value(`new Promise((resolve, reject) => {
+      const worker = ${made};
+      worker.onmessage = ({ data }) => resolve(data);
+      worker.onerror = ({ message }) => reject(new Error(message));
+    })`);
+
+    await t.test('before init each call says so', async () => {
+      assert.match(await inModule(`return ${SIZE}`), /^ImageError NOT_LOADED .*await init\(\)/);
+    });
+
+    await t.test('after init it answers', async () => {
+      assert.match(await inModule(`await init('/nothing.wasm')`), /^ImageError NO_LIBRARY .*answers 404/);
+      assert.equal(await inModule(`await init(); return ${SIZE}`), 100);
+    });
+
+    await t.test('in a worker', async () => {
+      assert.equal(await inWorker(`new Worker('/worker.js', { type: 'module' })`), 100);
+    });
+
+    await t.test('in a worker that is a script', { skip: hasBundler ? false : 'no esbuild here' }, async () => {
+      assert.equal(await inWorker(`new Worker('/classic.js')`), 100);
+    });
+  }));
+});
