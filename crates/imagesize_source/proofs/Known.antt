@@ -236,7 +236,7 @@ module _ (n : ℕ) (spans : List Span) (bytes : List ℕ) (log : List Span) (mis
             within = within;
           };
         };
-        ended = record { budget = tt; memory = λ is. absurd cc };
+        ended = record { budget = tt; memory = λ is. absurd cc; fault = λ faults. tt };
       })
 
   -- how long a reading of k bytes is

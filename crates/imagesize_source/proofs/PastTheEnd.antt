@@ -81,5 +81,5 @@ number_refused {a} order place k sound beyond some =
       state = λ honest goes_on. sym (past-none a) ∙ ap (λ q. state_after a q.marks) (sym (gone honest));
       fault = λ honest faults. absurd cc;
       misses = λ honest faults. absurd cc;
-      ended = record { budget = tt; memory = λ e. absurd cc };
+      ended = record { budget = tt; memory = λ e. absurd cc; fault = λ e. absurd cc };
     }

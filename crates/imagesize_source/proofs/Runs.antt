@@ -64,7 +64,7 @@ bytes_missing {a} {b} d room place k n h long short =
     let got : length (part d place (length room)) ≡ min n (length room) = ap length (part_is is) ∙ length-take n room in
     let too_few : leb k (length d - place) ≡ false = not_there d place k (rw (← long) (omega arith)) in
     rw too_few refl)
-    refl refl (record { budget = tt; memory = λ e. absurd cc })
+    refl refl (record { budget = tt; memory = λ e. absurd cc; fault = λ e. absurd cc })
 
 -- a reading that was stopped gave none
 pub bytes_stopped : {X : Type 0} {a b : State} (d : List ℕ) (place k : ℕ) (failure : ImageError) (budget : ℕ) (bytes : X → List ℕ) (r : Result X Halt)

@@ -54,7 +54,7 @@ module _ {C X : Type 0} (c : Chain C X) (adv : (d : List ℕ) → Advances c d) 
   -- or at a place beyond every input, where nothing more is read
   pub walks_past : 2 ^ 63 ≤ place → c.first < place → ((held : List C) (d : List ℕ) → P held → length d ≤ place
       → layout_reads d (c.said held place) ≡ refuses end_of_input) → Runs a b (Err end_of_input) (chain_at c a.held.input)
-  walks_past far some none = reached_now w.reached (Err end_of_input) (w.sound some) refl (record { budget = tt; memory = λ e. absurd cc })
+  walks_past far some none = reached_now w.reached (Err end_of_input) (w.sound some) refl (record { budget = tt; memory = λ e. absurd cc; fault = λ e. absurd cc })
       (λ honest short.
       let out = none w.held a.held.input w.known (omega arith) in
       chain_stop c a.held.input (record { held = w.held; place = place }) (Err end_of_input) (ap (λ r. verdict r.answer) out)

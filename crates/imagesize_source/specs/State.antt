@@ -4,11 +4,18 @@ use Rattle.imagesize_source.specs.Input.{span_at}
 use Rattle.imagesize_source.specs.Limits.{most_held}
 use Rattle.imagesize_source.specs.declared.error.ImageError.{ImageError}
 use Rattle.imagesize_source.specs.declared.span.Span.{Span}
-use Rattle.imagesize_source.specs.Reading.{Reads, is_stopped, is_faulted, is_memory, budget_spent}
+use Rattle.imagesize_source.specs.Reading.{Reads, is_stopped, is_fault, is_faulted, is_memory, budget_spent}
+
+-- What never changes of a reader behind a source: its bytes, whether a call of it can fail, and how many interruptions
+-- of it come in all, where that is known.
+pub record Behind : Type 0 where
+  pub bytes : List ℕ
+  pub can_fail : Bool
+  pub interruptions : Option ℕ
 
 -- What never changes: the told length and the budget, whether bytes taken are counted and memory is taken for spans,
 -- the name of the borrow behind the source, by how much what the reader itself counts is above what was taken,
--- and below it, and the parts that are known, of a source of parts.
+-- and below it, what else never changes of a reader that tells it, and the parts that are known, of a source of parts.
 pub record Frame : Type 0 where
   pub told : ℕ
   pub budget : ℕ
@@ -16,6 +23,7 @@ pub record Frame : Type 0 where
   pub records : Bool
   pub home : ℕ
   pub since : Option (ℕ × ℕ)
+  pub behind : Option Behind
   pub parts : Option (List Span × List ℕ)
 
 -- The bytes that the source claims to read, while it is honest, and whether a call on it can fail.
@@ -25,7 +33,7 @@ pub record Held : Type 0 where
   pub can_fail : Bool
 
 -- A source as a whole: how many of its first bytes it holds, how many bytes it has taken, the spans that it
--- has recorded, and, of a source that tells it, what its last failed reading missed.
+-- has recorded, and, of a source that tells it, what its last failed reading missed and the error of its last failure.
 pub record State : Type 0 where
   pub frame : Frame
   pub held : Held
@@ -33,6 +41,7 @@ pub record State : Type 0 where
   pub taken : ℕ
   pub recorded : Option (List Span)
   pub missed : Option (Option Span)
+  pub failed : Option (Option ImageError)
 
 -- how many of n bytes from a place on lie behind the first `front`
 abbrev pub new_bytes : ℕ → ℕ → ℕ → ℕ
@@ -65,10 +74,11 @@ abbrev pub IsSound : State → Type 0
 IsSound a = a.held.honest ≡ true → (a.frame.told ≡ length a.held.input) × (length a.held.input < 2 ^ 63)
 
 -- A spent budget is only answered by a source that counts, and names the bytes taken; refused memory only
--- by one that takes it for spans, and over an input that has a byte.
+-- by one that takes it for spans, and over an input that has a byte. A failure is the last one, where the source tells it.
 pub record EndedBy (b : State) (e : ImageError) : Type 0 where
   pub budget : IfSome (budget_spent e) (λ n. (b.frame.counts ≡ true) × (n ≡ b.frame.budget) × (n ≡ b.taken))
   pub memory : is_memory e ≡ true → (b.frame.records ≡ true) × (0 < length b.held.input)
+  pub fault : is_fault e ≡ true → IfSome b.failed (λ failed. failed ≡ Some e)
 
 -- A failed call made the first of these spans' readings, saw the next one's bytes up to what it missed, which lies whole
 -- in that span.
@@ -103,22 +113,24 @@ pub record Runs {X : Type 0} (a b : State) (r : Result X ImageError) (reads : Re
 -- a slice as a source: it counts nothing, records nothing and cannot fail
 abbrev pub slice_state : List ℕ → State
 slice_state d = record {
-  frame = record { told = length d; budget = 0; counts = false; records = false; home = 0; since = None; parts = None };
+  frame = record { told = length d; budget = 0; counts = false; records = false; home = 0; since = None; behind = None; parts = None };
   held = record { honest = true; input = d; can_fail = false };
   front = 0;
   taken = 0;
   recorded = None;
   missed = None;
+  failed = None;
 }
 
 -- a slice whose readings' spans are recorded behind these, with the name of the borrow of their buffer: memory can be
 -- refused where that buffer takes any
 abbrev pub recording_state : List ℕ → List Span → Bool → ℕ → State
 recording_state d spans allocates home = record {
-  frame = record { told = length d; budget = 0; counts = false; records = allocates; home = home; since = None; parts = None };
+  frame = record { told = length d; budget = 0; counts = false; records = allocates; home = home; since = None; behind = None; parts = None };
   held = record { honest = true; input = d; can_fail = false };
   front = 0;
   taken = 0;
   recorded = Some spans;
   missed = None;
+  failed = None;
 }

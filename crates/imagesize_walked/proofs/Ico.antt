@@ -175,7 +175,7 @@ icon_cut failure count i None below w run =
     walks_out (icon_entries count) (icon_advances count) (Found i None) w CorruptedImage
     (λ sizes h. more_said count i sizes (6 + 16 * i) below h.many
     (runs_bind (Err CorruptedImage) (if_there (6 + 16 * i) 2 done) (icon_entry sizes (6 + 16 * i)) run
-    (λ d. answers None sizes d h.largest) refl (record { budget = tt; memory = λ e. absurd cc })))
+    (λ d. answers None sizes d h.largest) refl (record { budget = tt; memory = λ e. absurd cc; fault = λ e. absurd cc })))
 icon_cut failure count i (Some size) below w run =
     walks_stop (icon_entries count) (icon_advances count) (Found i (Some size)) w size
     (λ sizes h. more_said count i sizes (6 + 16 * i) below h.many
@@ -194,7 +194,7 @@ pub icon_done : {a b : State} (failure : ImageError) (count i : ℕ) (best : Opt
     → RunsOrHalts a b failure (ok_or best Corrupted) (chain_at (icon_entries count) a.held.input)
 icon_done failure count i None at sound w =
     walks_now (icon_entries count) (icon_advances count) (Found i None) w (Err CorruptedImage) sound refl
-    (record { budget = tt; memory = λ e. absurd cc })
+    (record { budget = tt; memory = λ e. absurd cc; fault = λ e. absurd cc })
     (λ sizes d h. let says = end_said count sizes (6 + 16 * i) None d (h.many ∙ at) h.largest in
     (ap (λ r. verdict r.answer) says, ap (λ r. r.marks) says))
 icon_done failure count i (Some size) at sound w =
