@@ -1,14 +1,15 @@
 -- A room that is filled by one read after another.
-use Rattle.std.proofs.Common.{◌≡◌, ℕ, ◌+◌, ◌-◌, ◌^◌, ◌<◌, ◌≤◌, min, List, ◌++◌, length, take, drop, Option, Some, None, IfSome, Ok, refl, sym, ap, ◌∙◌, subst, arith}
+use Rattle.std.proofs.Common.{◌≡◌, ℕ, ◌+◌, ◌-◌, ◌^◌, ◌<◌, ◌≤◌, min, List, ◌++◌, length, take, drop, Option, Some, None, IfSome, Ok, Err, refl, sym, ap, ◌∙◌, subst, arith}
 use Rattle.std.proofs.lemmas.List.{length-append, length-take, length-drop, length-take-le, take-append-le}
 use Rattle.std.proofs.Math.Seq.{take-append-add, take-add, drop-append-add, drop-drop}
 use Rattle.std.specs.List.{slice_range}
 use borrow.Rule.Slice.PartMut.{put_mid}
+use Rattle.imagesize_source.specs.declared.error.ImageError.{ImageError}
 use Rattle.imagesize_io.specs.declared.progress.Progress.{Progress}
 use Rattle.imagesize_source.specs.Input.{part}
 use Rattle.imagesize_io.proofs.Standings.{keeps_both}
-use Rattle.imagesize_io.specs.Standing.{Standing, advance_standing, stand, GivesSome, GivesAll, ReadsOnce, Fills, KeepsCounts, drift}
-use Rattle.imagesize_io.specs.Telling.{Telling}
+use Rattle.imagesize_io.specs.Standing.{Standing, advance_standing, behind, stand, GivesSome, GivesAll, ReadsOnce, Fills, KeepsCounts, drift}
+use Rattle.imagesize_io.specs.Telling.{Account}
 
 -- so many bytes of the room are the next of the bytes that the reader stood at first
 abbrev pub Filled : Option Standing → Option Standing → ℕ → List ℕ → Type 0
@@ -17,12 +18,14 @@ Filled (Some s) now filled room =
     (now ≡ Some (advance_standing s filled)) × (take filled room ≡ part s.bytes s.place filled) × (filled ≤ length s.bytes - s.place)
 
 -- the reads so far
-pub record Filling (first now : Option Standing) (count count' : Option ℕ) (old new : Progress) (filled : ℕ) (room : List ℕ) : Type 0 where
+pub record Filling (first now : Option Standing) (a b : Account) (old new : Progress) (filled : ℕ) (room : List ℕ) : Type 0 where
   pub fits : filled ≤ length room
   pub reached : Filled first now filled room
   pub taken : new.taken ≡ old.taken + filled
   pub place : new.place ≡ min (old.place + filled) (2 ^ 64 - 1)
-  pub counts : drift count' new.taken ≡ drift count old.taken
+  pub counts : drift b.count new.taken ≡ drift a.count old.taken
+  pub behind : behind b.telling new ≡ behind a.telling old
+  pub calm : new.fault ≡ old.fault
   pub keeps : KeepsCounts old new
 
 none_reached : (first : Option Standing) (room : List ℕ) → Filled first first 0 room
@@ -31,14 +34,16 @@ none_reached None room = tt
 none_reached (Some s) room = (ap (λ p. Some (record s { place = p })) (omega arith), refl, omega arith)
 
 -- before the first read
-pub filled_none : (first : Option Standing) (count : Option ℕ) (p : Progress) (room : List ℕ) → p.place < 2 ^ 64
-    → Filling first first count count p p 0 room
-filled_none first count p room small = record {
+pub filled_none : (first : Option Standing) (a : Account) (p : Progress) (room : List ℕ) → p.place < 2 ^ 64
+    → Filling first first a a p p 0 room
+filled_none first a p room small = record {
   fits = omega arith;
   reached = none_reached first room;
   taken = omega arith;
   place = omega (arith, small);
   counts = refl;
+  behind = refl;
+  calm = refl;
   keeps = record { told = refl; budget = refl; taken = omega arith; retries = omega arith; limit = λ few. few };
 }
 
@@ -85,19 +90,18 @@ reached_more (Some s) now next room more filled n fits enough reached gave =
     )
 
 -- one more read
-pub filling_more : {first now next : Option Standing} {count before after : Option ℕ} {old new newer : Progress} {filled : ℕ}
-    {room : List ℕ} (more : List ℕ) (n : ℕ) → Filling first now count before old new filled room → n ≤ length more
-    → length more ≡ length room - filled → GivesSome now next more (Ok n) → newer.taken ≡ new.taken + n
-    → newer.place ≡ min (new.place + n) (2 ^ 64 - 1) → drift after newer.taken
-    ≡ drift before new.taken → KeepsCounts new newer → Filling first next count after old newer (filled + n)
-    (put_mid filled (length room - filled) room more)
-filling_more {first} {now} {next} {filled = filled} {room = room} more n h enough long gave taken place same keeps = record {
-  fits = rw (length-put room more filled h.fits long) (omega (arith, h.fits, long));
-  reached = reached_more first now next room more filled n h.fits enough h.reached gave;
-  taken = omega (arith, h.taken);
-  place = omega (arith, h.place, place);
-  counts = same ∙ h.counts;
-  keeps = keeps_both h.keeps keeps;
+pub filling_more : {first : Option Standing} {a b c : Account} {old new newer : Progress} {filled : ℕ} {room more : List ℕ} {n : ℕ}
+    → Filling first (stand b.telling new) a b old new filled room → ReadsOnce new newer b c more (Ok n) → length more ≡ length room - filled
+    → Filling first (stand c.telling newer) a c old newer (filled + n) (put_mid filled (length room - filled) room more)
+filling_more {first} {filled = filled} {room = room} {more = more} {n = n} h read long = record {
+  fits = rw (length-put room more filled h.fits long) (omega (arith, h.fits, long, read.bound));
+  reached = reached_more first _ _ room more filled n h.fits read.bound h.reached read.stand;
+  taken = omega (arith, h.taken, read.taken);
+  place = omega (arith, h.place, read.place);
+  counts = read.since ∙ h.counts;
+  behind = read.behind ∙ h.behind;
+  calm = read.calm ∙ h.calm;
+  keeps = keeps_both h.keeps read.keeps;
 }
 
 ends : (first now next : Option Standing) (room more : List ℕ) (filled : ℕ) → filled ≤ length room → Filled first now filled room
@@ -114,8 +118,8 @@ ends (Some s) now next room more filled fits reached left long gave =
     )
 
 -- a read that gave nothing where there was room: the bytes end there
-filling_ends : {first now : Option Standing} (next : Option Standing) {count before : Option ℕ} {old new : Progress} {filled : ℕ}
-    {room : List ℕ} (more : List ℕ) (n : ℕ) → Filling first now count before old new filled room → filled < length room
+filling_ends : {first now : Option Standing} (next : Option Standing) {a b : Account} {old new : Progress} {filled : ℕ}
+    {room : List ℕ} (more : List ℕ) (n : ℕ) → Filling first now a b old new filled room → filled < length room
     → length more ≡ length room - filled → GivesSome now next more (Ok n) → n ≡ 0
     → GivesAll first next (put_mid filled (length room - filled) room more) (Ok filled)
 filling_ends {first} {now} next {filled = filled} {room = room} more n h left long gave none =
@@ -130,18 +134,18 @@ within_none (Some s) now room more filled before taken fits long reached took =
     rw (length-put room more filled fits long) (omega (arith, took, fits, reached.2))
 
 -- and it took no more than there was
-ends_within : {first now : Option Standing} {count before : Option ℕ} {old new : Progress} {filled : ℕ} {room : List ℕ}
-    (more : List ℕ) (n taken : ℕ) → Filling first now count before old new filled room → length more ≡ length room - filled
+ends_within : {first now : Option Standing} {a b : Account} {old new : Progress} {filled : ℕ} {room : List ℕ}
+    (more : List ℕ) (n taken : ℕ) → Filling first now a b old new filled room → length more ≡ length room - filled
     → taken ≡ new.taken + n → n ≡ 0
     → IfSome first (λ s. taken ≤ old.taken + min (length (put_mid filled (length room - filled) room more)) (length s.bytes - s.place))
 ends_within {first} {now} {old = old} {filled = filled} {room = room} more n taken h long took none =
     within_none first now room more filled old.taken taken h.fits long h.reached (omega (arith, took, none, h.taken))
 
 -- a read that gave nothing where there was room ends the filling
-pub filling_done : {first : Option Standing} {t t' : Option Telling} {count before after : Option ℕ} {old new newer : Progress}
-    {filled : ℕ} {room more : List ℕ} {n : ℕ} → Filling first (stand t new) count before old new filled room
-    → ReadsOnce new newer t t' before after more (Ok n) → n ≡ 0 → filled < length room → length more ≡ length room - filled
-    → Fills old newer first (stand t' newer) count after (put_mid filled (length room - filled) room more) (Ok filled)
+pub filling_done : {first : Option Standing} {a b c : Account} {old new newer : Progress} {filled : ℕ} {room more : List ℕ} {n : ℕ}
+    → Filling first (stand b.telling new) a b old new filled room → ReadsOnce new newer b c more (Ok n) → n ≡ 0 → filled < length room
+    → length more ≡ length room - filled
+    → Fills old newer first (stand c.telling newer) a c (put_mid filled (length room - filled) room more) (Ok filled)
 filling_done {filled = filled} {room = room} {more = more} {n = n} h read none left long = record {
   bound = rw (length-put room more filled h.fits long) h.fits;
   stand = filling_ends _ more n h left long read.stand none;
@@ -149,8 +153,33 @@ filling_done {filled = filled} {room = room} {more = more} {n = n} h read none l
   place = omega (arith, h.place, read.place, none);
   within = ends_within more n _ h long read.taken none;
   since = read.since ∙ h.counts;
+  behind = read.behind ∙ h.behind;
+  calm = read.calm ∙ h.calm;
   keeps = keeps_both h.keeps read.keeps;
   stops = tt;
+}
+
+-- Of a failure only that the reader can fail is known.
+stopped_stand : (first now next last : Option Standing) (room more all : List ℕ) (filled : ℕ) (e : ImageError)
+    → Filled first now filled room → GivesSome now next more (Err e) → GivesAll first last all (Err e)
+stopped_stand None now next last room more all filled e reached gave = tt
+stopped_stand (Some s) now next last room more all filled e reached gave = subst (λ w. GivesSome w next more (Err e)) reached.0 gave
+
+-- a read that was stopped ends the filling too
+pub filling_stopped : {first : Option Standing} {a b c : Account} {old new newer : Progress} {filled : ℕ} {room more : List ℕ} {e : ImageError}
+    → Filling first (stand b.telling new) a b old new filled room → ReadsOnce new newer b c more (Err e) → length more ≡ length room - filled
+    → Fills old newer first (stand c.telling newer) a c (put_mid filled (length room - filled) room more) (Err e)
+filling_stopped {first} {old = old} {newer = newer} {filled = filled} {room = room} {more = more} {e = e} h read long = record {
+  bound = tt;
+  stand = stopped_stand first _ _ _ room more _ filled e h.reached read.stand;
+  taken = tt;
+  place = tt;
+  within = within_none first _ room more filled old.taken newer.taken h.fits long h.reached (omega (arith, read.taken, h.taken));
+  since = read.since ∙ h.counts;
+  behind = read.behind ∙ h.behind;
+  calm = tt;
+  keeps = keeps_both h.keeps read.keeps;
+  stops = read.stops;
 }
 
 -- a read, and all that follows it
@@ -165,6 +194,11 @@ gave_rest (Some s) now last room more n k gave fits rest enough long =
           s.bytes s.place n k,
       rw (length-put room more n fits long) (omega (arith, gives.2, gave.2, long)),
     )
+
+pub stopped_rest : (first now last : Option Standing) (room more all : List ℕ) (n : ℕ) (e : ImageError) → GivesSome first now room (Ok n)
+    → GivesAll now last more (Err e) → GivesAll first last all (Err e)
+stopped_rest None now last room more all n e gave rest = tt
+stopped_rest (Some s) now last room more all n e gave rest = subst (λ w. GivesAll w last more (Err e)) gave.0 rest
 
 pub within_rest : (first now : Option Standing) (room : List ℕ) (n m long taken mid taken' : ℕ) → GivesSome first now room (Ok n)
     → mid ≡ taken + n → n ≤ long → m ≡ long - n → IfSome now (λ s. taken' ≤ mid + min m (length s.bytes - s.place))

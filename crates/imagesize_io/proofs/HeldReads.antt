@@ -18,7 +18,10 @@ use Rattle.imagesize_io.specs.declared.told.Stop.{Stop}
 use Rattle.imagesize_io.specs.Held.{IsWhole}
 use Rattle.imagesize_io.specs.ReaderState.{ReadsAt, kept_window}
 use Rattle.imagesize_io.specs.Standing.{Standing, advance_standing, steady, in_step, stand_of, stand, drift, GivesSome, GivesFrom, KeepsCounts, ReadsFrom}
-use Rattle.imagesize_io.specs.Telling.{Telling, ReadTells, count_after}
+use Rattle.imagesize_io.specs.Telling.{Account, Telling, ReadTells, count_after}
+use Rattle.imagesize_io.proofs.Standings.{behind_given}
+use Rattle.std.specs.declared.io.Error.{Error}
+use Rattle.std.specs.Prelude.{is_none}
 use Rattle.imagesize_io.proofs.Filling.{part-add}
 use Rattle.imagesize_io.proofs.TextReads.{took_text, text_rest, rest_start, rest_ends, rest_goes_on, rest_some}
 use Rattle.imagesize_io.proofs.Layers.{reads_past}
@@ -89,28 +92,29 @@ steady_gives (Some t) telling' retries room n gave =
     (steady_if (t.can_fail || leb (t.interruptions + retries) 64) (record { bytes = t.bytes; place = t.place; can_fail = t.can_fail })
     room n gave.1 gave.2 gave.3)
 
-stands_if : (told place place' n : ℕ) (s : Standing) (room : List ℕ) (b : Bool) → in_step told place s ≡ b → 0 < n
+stands_if : (told place place' n : ℕ) (fault : Option Error) (s : Standing) (room : List ℕ) (b : Bool) → in_step told place fault s ≡ b → 0 < n
     → take n room ≡ part s.bytes s.place n → n ≤ length s.bytes - s.place → n ≤ length room → place' ≡ min (place + n) (2 ^ 64 - 1)
-    → GivesFrom (cond b (Some s) None) (stand_of told place' (Some (advance_standing s n))) place place' (take n room) (Ok n)
-stands_if told place place' n s room false step some gave few fits now = tt
-stands_if told place place' n s room true step some gave few fits now =
+    → GivesFrom (cond b (Some s) None) (stand_of told place' fault (Some (advance_standing s n))) place place' (take n room) (Ok n)
+stands_if told place place' n fault s room false step some gave few fits now = tt
+stands_if told place place' n fault s room true step some gave few fits now =
     let at : place ≡ s.place = grind (arith, nat_tests) in
     let long : told ≡ length s.bytes = grind (arith, nat_tests) in
     let short : length s.bytes < 2 ^ 63 = grind (arith, nat_tests) in
     let there : place' ≡ s.place + n = omega (arith, now, at, few, short, some) in
-    let step' : in_step told place' (advance_standing s n) ≡ true = grind (arith, nat_tests, there, long, short) in (
+    let calm : is_none fault ≡ true = grind (arith, nat_tests) in
+    let step' : in_step told place' fault (advance_standing s n) ≡ true = grind (arith, nat_tests, there, long, short, calm) in (
       ap (λ b. cond b (Some (advance_standing s n)) None) step' ∙ ap (λ p. Some (record s { place = p })) (sym there),
       take-take n n room (omega arith) ∙ gave ∙ ap (λ p. part s.bytes p n) (sym at),
       omega (arith, length-take n room, fits, few, at),
     )
 
-stands_gives : (told place place' n : ℕ) (st st' : Option Standing) (room : List ℕ) → GivesSome st st' room (Ok n) → 0 < n → n ≤ length room
+stands_gives : (told place place' n : ℕ) (fault : Option Error) (st st' : Option Standing) (room : List ℕ) → GivesSome st st' room (Ok n) → 0 < n → n ≤ length room
     → place' ≡ min (place + n) (2 ^ 64 - 1)
-    → GivesFrom (stand_of told place st) (stand_of told place' st') place place' (take n room) (Ok n)
-stands_gives told place place' n None st' room gave some fits now = tt
-stands_gives told place place' n (Some s) st' room gave some fits now =
-    subst (λ u. GivesFrom (stand_of told place (Some s)) (stand_of told place' u) place place' (take n room) (Ok n)) (sym gave.0)
-    (stands_if told place place' n s room (in_step told place s) refl some gave.1 gave.2 fits now)
+    → GivesFrom (stand_of told place fault st) (stand_of told place' fault st') place place' (take n room) (Ok n)
+stands_gives told place place' n fault None st' room gave some fits now = tt
+stands_gives told place place' n fault (Some s) st' room gave some fits now =
+    subst (λ u. GivesFrom (stand_of told place fault (Some s)) (stand_of told place' fault u) place place' (take n room) (Ok n)) (sym gave.0)
+    (stands_if told place place' n fault s room (in_step told place fault s) refl some gave.1 gave.2 fits now)
 
 within_given : (st st' : Option Standing) (place now n taken taken' : ℕ) (room : List ℕ) → GivesFrom st st' place now room (Ok n)
     → taken' ≡ taken + n → IfSome st (λ s. taken' ≤ taken + min (length room) (length s.bytes - place))
@@ -131,20 +135,20 @@ not_kept w bytes place far =
     rw off refl
 
 -- A text that the reader held is a reading of as many bytes from where it stands.
-pub held_reads : {old new : Ledger} {telling telling' : Option Telling} {count count' : Option ℕ} {place n : ℕ} (room : List ℕ) (t : Text)
-    → ReadTells telling telling' room (Ok n) → count' ≡ count_after {E = Stop} count (Ok n) → n ≤ length room → IsWhole t (take n room)
+pub held_reads : {old new : Ledger} {a b : Account} {place n : ℕ} (room : List ℕ) (t : Text)
+    → ReadTells a.telling b.telling room (Ok n) → b.count ≡ count_after {E = Stop} a.count (Ok n) → n ≤ length room → IsWhole t (take n room)
     → old.progress.place ≡ place → place ≤ old.progress.told → length old.window.items < place → length old.window.items ≤ 32
     → new.window ≡ old.window → new.progress.told ≡ old.progress.told → new.progress.budget ≡ old.progress.budget
-    → new.progress.retries ≡ old.progress.retries → new.progress.taken ≡ old.progress.taken + n
+    → new.progress.retries ≡ old.progress.retries → new.progress.fault ≡ old.progress.fault → new.progress.taken ≡ old.progress.taken + n
     → new.progress.place ≡ min (place + n) (2 ^ 64 - 1) → new.progress.taken ≤ old.progress.budget
-    → ReadsAt old new telling telling' count count' place (take n room) (Ok n)
-held_reads {old} {new} {telling} {telling'} {count} {count'} {place} {n} room t gave counts fits whole at near far small same told budget retries taken now limit =
+    → ReadsAt old new a b place (take n room) (Ok n)
+held_reads {old} {new} {a} {b} {place} {n} room t gave counts fits whole at near far small same told budget retries calm taken now limit =
     let p : Progress = old.progress in
     let q : Progress = new.progress in
     let long : length (take n room) ≡ n = omega (arith, length-take n room, fits) in
     let some = whole_some t (take n room) whole in
     let many : 0 < n = omega (arith, some, long) in
-    let since = since_given count count' p.taken q.taken n counts taken in
+    let since = since_given a.count b.count p.taken q.taken n counts taken in
     let keeps : KeepsCounts p q = record {
       told = told;
       budget = budget;
@@ -152,21 +156,21 @@ held_reads {old} {new} {telling} {telling'} {count} {count'} {place} {n} room t 
       retries = omega (arith, retries);
       limit = λ few. omega (arith, few, retries);
     } in
-    let first = stands_gives p.told p.place q.place n (steady telling p.retries) (steady telling' p.retries) room
-    (steady_gives telling telling' p.retries room n gave) many fits (now ∙ ap (λ k. min (k + n) (2 ^ 64 - 1)) (sym at)) in
-    let gives : GivesFrom (stand telling p) (stand telling' q) place q.place (take n room) (Ok n) =
-    subst (λ k. GivesFrom (stand telling p) (stand telling' q) k q.place (take n room) (Ok n)) at
-    (subst (λ r. GivesFrom (stand telling p) (stand_of q.told q.place (steady telling' r)) p.place q.place (take n room) (Ok n)) (sym retries)
-    (subst (λ k. GivesFrom (stand telling p) (stand_of k q.place (steady telling' p.retries)) p.place q.place (take n room) (Ok n)) (sym told)
-    first)) in
-    let read : ReadsFrom p q (stand telling p) (stand telling' q) count count' place (take n room) (Ok n) = record {
+    let first = stands_gives p.told p.place q.place n p.fault (steady a.telling p.retries) (steady b.telling p.retries) room
+    (steady_gives a.telling b.telling p.retries room n gave) many fits (now ∙ ap (λ k. min (k + n) (2 ^ 64 - 1)) (sym at)) in
+    let gives : GivesFrom (stand a.telling p) (stand b.telling q) place q.place (take n room) (Ok n) =
+    rw (retries, told, calm) (subst (λ k. GivesFrom (stand a.telling p) (stand_of p.told q.place p.fault (steady b.telling p.retries)) k
+    q.place (take n room) (Ok n)) at first) in
+    let read : ReadsFrom p q (stand a.telling p) (stand b.telling q) a b place (take n room) (Ok n) = record {
       bound = omega (arith, long);
       stand = gives;
       stands = λ told. now;
       taken = taken;
-      within = within_given (stand telling p) (stand telling' q) place q.place n p.taken q.taken (take n room) gives taken;
+      within = within_given (stand a.telling p) (stand b.telling q) place q.place n p.taken q.taken (take n room) gives taken;
       pays = λ beyond some. absurd (omega (arith, near, beyond));
       since = since;
+      behind = rw (retries, told, calm) (behind_given p.told p.retries p.fault a.telling b.telling room n gave);
+      calm = calm;
       keeps = keeps;
       stops = tt;
     } in

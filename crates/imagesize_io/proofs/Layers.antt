@@ -5,7 +5,8 @@ use Rattle.imagesize_source.specs.Input.{part}
 use Rattle.imagesize_io.specs.declared.reader.Ledger.{Ledger}
 use Rattle.imagesize_io.specs.ReaderState.{ReadsAt, kept_window}
 use Rattle.imagesize_io.specs.Standing.{ReadsFrom, stand, with_kept_error}
-use Rattle.imagesize_io.specs.Telling.{Telling}
+use Rattle.imagesize_io.specs.Telling.{Account}
+use Rattle.imagesize_io.proofs.Standings.{calm_at}
 use Rattle.imagesize_io.proofs.Filling.{length-put}
 use Rattle.imagesize_io.proofs.Windows.{behind_window, behind_stopped, ended_by, none_in, put_whole, same_frame, told_by}
 use borrow.Rule.Slice.PartMut.{put_mid}
@@ -44,12 +45,12 @@ none_copied {window} {more} {place} small behind some = record {
   long = omega arith;
 }
 
-module _ {old new : Ledger} {telling telling' : Option Telling} {count count' : Option ℕ} where
+module _ {old new : Ledger} {a b : Account} where
   -- What follows the window came from the reader.
   pub reads_behind : {place copied n : ℕ} {room before more : List ℕ} → Copies old.window.items room before more place copied
-      → ReadsFrom old.progress new.progress (stand telling old.progress) (stand telling' new.progress) count count' (place + copied) more
+      → ReadsFrom old.progress new.progress (stand a.telling old.progress) (stand b.telling new.progress) a b (place + copied) more
       (Ok n) → new.window.items ≡ kept_window old.window.items (place + copied) (take n more) → new.progress.taken ≤ old.progress.budget
-      → ReadsAt old new telling telling' count count' place (put_mid copied (length room - copied) room more) (Ok (copied + n))
+      → ReadsAt old new a b place (put_mid copied (length room - copied) room more) (Ok (copied + n))
   reads_behind {place} {copied} {n} {room} {before} {more} copy read window limit = record {
     bound = omega (arith, length-put room more copied (omega (arith, copy.short)) copy.long, read.bound, copy.long, copy.short);
     pays = λ some far. (
@@ -58,10 +59,11 @@ module _ {old new : Ledger} {telling telling' : Option Telling} {count count' : 
     );
     keeps = read.keeps;
     runs = λ home. behind_window (record {
-      told = told_by count home telling old.progress;
-      told_after = told_by count' home telling' new.progress;
+      told = told_by a home old.progress;
+      told_after = told_by b home new.progress;
       counts = refl;
-      frame = same_frame count count' home old.progress new.progress read.keeps read.since;
+      frame = same_frame a b home old.progress new.progress read.keeps read.since read.behind;
+      failed = calm_at a b old.progress new.progress read.calm;
       small = copy.small;
       count = copy.count;
       front = copy.front;
@@ -79,20 +81,20 @@ module _ {old new : Ledger} {telling telling' : Option Telling} {count count' : 
   -- The reader was stopped.
   pub stops_behind : {place copied : ℕ} {room before more : List ℕ} {halt : Halt} {r : Result ℕ Halt}
       → Copies old.window.items room before more place copied
-      → ReadsFrom old.progress new.progress (stand telling old.progress) (stand telling' new.progress) count count' (place + copied) more
+      → ReadsFrom old.progress new.progress (stand a.telling old.progress) (stand b.telling new.progress) a b (place + copied) more
       (with_kept_error new.progress (Err halt)) → new.window.items ≡ old.window.items → r ≡ Err halt
-      → ReadsAt old new telling telling' count count' place (put_mid copied (length room - copied) room more)
+      → ReadsAt old new a b place (put_mid copied (length room - copied) room more)
       (with_kept_error new.progress r)
   stops_behind {place} {copied} {room} {before} {more} {halt} {r} copy read same is =
-      subst (λ q. ReadsAt old new telling telling' count count' place (put_mid copied (length room - copied) room more)
+      subst (λ q. ReadsAt old new a b place (put_mid copied (length room - copied) room more)
       (with_kept_error new.progress q)) (sym is) (record {
         bound = tt;
         pays = tt;
         keeps = read.keeps;
         runs = λ home. behind_stopped (λ n. take n (put_mid copied (length room - copied) room more)) (with_kept_error new.progress (Err halt)) (record {
-          told = told_by count home telling old.progress;
-          told_after = told_by count' home telling' new.progress;
-          frame = same_frame count count' home old.progress new.progress read.keeps read.since;
+          told = told_by a home old.progress;
+          told_after = told_by b home new.progress;
+          frame = same_frame a b home old.progress new.progress read.keeps read.since read.behind;
           window = same;
           count = copy.count;
           kept = copy.kept;
@@ -101,29 +103,29 @@ module _ {old new : Ledger} {telling telling' : Option Telling} {count count' : 
           paid = read.keeps.taken;
           within = read.within;
           stops = read.stops.stops;
-          ended = ended_by count' home new.progress _ _ _ read.stops;
+          ended = ended_by b home new.progress _ _ _ read.stops;
         }) refl;
       })
 
   -- a reading behind the window
   pub reads_past : {place n : ℕ} {more : List ℕ} → length old.window.items ≤ 32 → length old.window.items ≤ place → 0 < length more
-      → ReadsFrom old.progress new.progress (stand telling old.progress) (stand telling' new.progress) count count' place more (Ok n)
+      → ReadsFrom old.progress new.progress (stand a.telling old.progress) (stand b.telling new.progress) a b place more (Ok n)
       → new.window.items ≡ kept_window old.window.items place (take n more) → new.progress.taken ≤ old.progress.budget
-      → ReadsAt old new telling telling' count count' place more (Ok n)
+      → ReadsAt old new a b place more (Ok n)
   reads_past {place} {n} {more} small behind some read window limit =
       let here : place + 0 ≡ place = omega arith in
       let sum : 0 + n ≡ n = omega arith in
-      subst (λ m. ReadsAt old new telling telling' count count' place more (Ok m)) sum
-      (subst (λ l. ReadsAt old new telling telling' count count' place l (Ok (0 + n))) (put_whole more)
+      subst (λ m. ReadsAt old new a b place more (Ok m)) sum
+      (subst (λ l. ReadsAt old new a b place l (Ok (0 + n))) (put_whole more)
       (reads_behind (none_copied small behind some) (rw here read) (rw here window) limit))
 
   -- and one that was stopped
   pub stops_past : {place : ℕ} {more : List ℕ} {halt : Halt} {r : Result ℕ Halt} → length old.window.items ≤ 32
       → length old.window.items ≤ place → 0 < length more
-      → ReadsFrom old.progress new.progress (stand telling old.progress) (stand telling' new.progress) count count' place more
+      → ReadsFrom old.progress new.progress (stand a.telling old.progress) (stand b.telling new.progress) a b place more
       (with_kept_error new.progress (Err halt)) → new.window.items ≡ old.window.items → r ≡ Err halt
-      → ReadsAt old new telling telling' count count' place more (with_kept_error new.progress r)
+      → ReadsAt old new a b place more (with_kept_error new.progress r)
   stops_past {place} {more} {halt} {r} small behind some read same is =
       let here : place + 0 ≡ place = omega arith in
-      subst (λ l. ReadsAt old new telling telling' count count' place l (with_kept_error new.progress r)) (put_whole more)
+      subst (λ l. ReadsAt old new a b place l (with_kept_error new.progress r)) (put_whole more)
       (stops_behind (none_copied small behind some) (rw here read) same is)

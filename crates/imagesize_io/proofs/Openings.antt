@@ -9,7 +9,7 @@ use Rattle.imagesize_io.specs.Answers.{AnswersAs, TakesAs, Answers, Takes, over_
 use Rattle.imagesize_source.specs.Reading.{Reads, is_fault, is_stop, is_memory, budget_spent}
 use Rattle.imagesize_io.specs.ReaderState.{start_state, Opens}
 use Rattle.imagesize_source.specs.State.{State, Held, Runs, state_after, total}
-use Rattle.imagesize_io.specs.Telling.{Telling, IsHonest, at_place}
+use Rattle.imagesize_io.specs.Telling.{Account, Telling, IsHonest, at_place}
 use Rattle.imagesize_source.proofs.Counts.{places_past}
 
 few_leb : (n : ℕ) → n ≤ 64 → leb (n + 0) 64 ≡ true
@@ -36,9 +36,13 @@ least_of n short = omega arith
 abbrev pub claim : Telling → Held
 claim t = record { honest = true; input = t.bytes; can_fail = t.can_fail }
 
-pub start_holds : (t : Telling) (count : Option ℕ) (home : ℕ) → IsHonest t
-    → (start_state (Some (at_place t (length t.bytes))) count home (length t.bytes)).held ≡ claim t
-start_holds t count home honest =
+-- a reader that stands at the end of what it tells
+abbrev pub at_end : Telling → Account → Account
+at_end t a = record a { telling = Some (at_place t (length t.bytes)) }
+
+pub start_holds : (t : Telling) (a : Account) (home : ℕ) → IsHonest t
+    → (start_state (at_end t a) home (length t.bytes)).held ≡ claim t
+start_holds t a home honest =
     let n = length t.bytes in
     let waits : (t.can_fail || leb (t.interruptions + 0) 64) ≡ true = patient t t.can_fail refl honest.patient in
     let short : ltb n (2 ^ 63) ≡ true = is_below n (2 ^ 63) honest.short in
@@ -107,10 +111,9 @@ takes_of {X} t a b r reads starts h =
           omega (arith, after, places_past (length t.bytes) a reads.marks starts.counts starts.front, starts.taken);
     }
 
-starts_at : (t : Telling) (count : Option ℕ) (home : ℕ) → IsHonest t
-    → Starts t (start_state (Some (at_place t (length t.bytes))) count home (length t.bytes))
-starts_at t count home honest = record {
-  held = start_holds t count home honest;
+starts_at : (t : Telling) (a : Account) (home : ℕ) → IsHonest t → Starts t (start_state (at_end t a) home (length t.bytes))
+starts_at t a home honest = record {
+  held = start_holds t a home honest;
   budget = least_of (length t.bytes) honest.short;
   counts = refl;
   records = refl;
@@ -132,41 +135,41 @@ pub record Began (t : Telling) (mid : Option Telling) (told place : ℕ) : Type 
   pub length_told : told ≡ length t.bytes
   pub at : place ≡ t.place
 
-pub start_of : (t : Telling) (mid : Option Telling) (count : Option ℕ) (home told place : ℕ) → Began t mid told place
-    → start_state mid count home told ≡ start_state (Some (at_place t (length t.bytes))) count home (length t.bytes)
-start_of t mid count home told place h = ap (λ m. start_state m count home told) h.at_end
-    ∙ ap (λ n. start_state (Some (at_place t (length t.bytes))) count home n) h.length_told
+pub start_of : (t : Telling) (mid : Account) (home told place : ℕ) → Began t mid.telling told place
+    → start_state mid home told ≡ start_state (at_end t mid) home (length t.bytes)
+start_of t mid home told place h = ap (λ m. start_state (record mid { telling = m }) home told) h.at_end
+    ∙ ap (λ n. start_state (at_end t mid) home n) h.length_told
 
-runs_of : {X : Type 0} (t : Telling) (mid : Option Telling) (count : Option ℕ) (home told place : ℕ) (b : State)
-    (r : Result X ImageError) (reads_of : List ℕ → ℕ → Reads X) → IsHonest t → Began t mid told place
-    → Runs (start_state mid count home told) b r (over_state (start_state mid count home told) reads_of place)
-    → Runs (start_state (Some (at_place t (length t.bytes))) count home (length t.bytes)) b r (over_reader t reads_of)
-runs_of t mid count home told place b r reads_of honest began h =
-    let a = start_state (Some (at_place t (length t.bytes))) count home (length t.bytes) in
+runs_of : {X : Type 0} (t : Telling) (mid : Account) (home told place : ℕ) (b : State)
+    (r : Result X ImageError) (reads_of : List ℕ → ℕ → Reads X) → IsHonest t → Began t mid.telling told place
+    → Runs (start_state mid home told) b r (over_state (start_state mid home told) reads_of place)
+    → Runs (start_state (at_end t mid) home (length t.bytes)) b r (over_reader t reads_of)
+runs_of t mid home told place b r reads_of honest began h =
+    let a = start_state (at_end t mid) home (length t.bytes) in
     let begun : Runs a b r (over_state a reads_of place) = subst (λ s. Runs s b r (over_state s reads_of place))
-    (start_of t mid count home told place began) h in
-    let there : Runs a b r (reads_of t.bytes place) = subst (λ k. Runs a b r (reads_of k.input place)) (start_holds t count home honest)
+    (start_of t mid home told place began) h in
+    let there : Runs a b r (reads_of t.bytes place) = subst (λ k. Runs a b r (reads_of k.input place)) (start_holds t mid home honest)
     begun in
     subst (λ p. Runs a b r (reads_of t.bytes p)) began.at there
 
 -- what a call that ran behind an opening answers
-pub opened_answers : {X : Type 0} (telling mid : Option Telling) (count : Option ℕ) (home : ℕ) (opened : Opened) (b : State)
-    (r : Result X ImageError) (reads_of : List ℕ → ℕ → Reads X) → IsBounded reads_of → Opens telling mid (Ok opened)
-    → Runs (start_state mid count home opened.told) b r (over_state (start_state mid count home opened.told) reads_of opened.place)
+pub opened_answers : {X : Type 0} (telling : Option Telling) (mid : Account) (home : ℕ) (opened : Opened) (b : State)
+    (r : Result X ImageError) (reads_of : List ℕ → ℕ → Reads X) → IsBounded reads_of → Opens telling mid.telling (Ok opened)
+    → Runs (start_state mid home opened.told) b r (over_state (start_state mid home opened.told) reads_of opened.place)
     → Answers telling reads_of r
-opened_answers None mid count home opened b r reads_of bounded opens h = tt
-opened_answers (Some t) mid count home opened b r reads_of bounded opens h = λ honest.
-    let began : Began t mid opened.told opened.place = record { at_end = opens.0; length_told = opens.2; at = opens.1 } in
-    answers_of t _ b r (over_reader t reads_of) (starts_at t count home honest) (runs_of t mid count home opened.told opened.place b r
+opened_answers None mid home opened b r reads_of bounded opens h = tt
+opened_answers (Some t) mid home opened b r reads_of bounded opens h = λ honest.
+    let began : Began t mid.telling opened.told opened.place = record { at_end = opens.0; length_told = opens.2; at = opens.1 } in
+    answers_of t _ b r (over_reader t reads_of) (starts_at t mid home honest) (runs_of t mid home opened.told opened.place b r
     reads_of honest began h) (bounded t.bytes t.place)
 
 -- and what it took
-pub opened_takes : {X : Type 0} (telling mid : Option Telling) (count : Option ℕ) (home : ℕ) (opened : Opened) (b : State)
-    (r : Result X ImageError) (reads_of : List ℕ → ℕ → Reads X) → Opens telling mid (Ok opened)
-    → Runs (start_state mid count home opened.told) b r (over_state (start_state mid count home opened.told) reads_of opened.place)
+pub opened_takes : {X : Type 0} (telling : Option Telling) (mid : Account) (home : ℕ) (opened : Opened) (b : State)
+    (r : Result X ImageError) (reads_of : List ℕ → ℕ → Reads X) → Opens telling mid.telling (Ok opened)
+    → Runs (start_state mid home opened.told) b r (over_state (start_state mid home opened.told) reads_of opened.place)
     → Takes telling reads_of r b.taken
-opened_takes None mid count home opened b r reads_of opens h = tt
-opened_takes (Some t) mid count home opened b r reads_of opens h = λ honest.
-    let began : Began t mid opened.told opened.place = record { at_end = opens.0; length_told = opens.2; at = opens.1 } in
-    takes_of t _ b r (over_reader t reads_of) (starts_at t count home honest) (runs_of t mid count home opened.told opened.place b r
+opened_takes None mid home opened b r reads_of opens h = tt
+opened_takes (Some t) mid home opened b r reads_of opens h = λ honest.
+    let began : Began t mid.telling opened.told opened.place = record { at_end = opens.0; length_told = opens.2; at = opens.1 } in
+    takes_of t _ b r (over_reader t reads_of) (starts_at t mid home honest) (runs_of t mid home opened.told opened.place b r
     reads_of honest began h)

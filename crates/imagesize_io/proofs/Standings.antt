@@ -4,20 +4,25 @@ use Rattle.std.proofs.lemmas.Bool.Decides.{nat_tests}
 use Rattle.imagesize_source.specs.declared.error.ImageError.{ImageError}
 use Rattle.imagesize_io.specs.declared.progress.Progress.{Progress}
 use Rattle.imagesize_source.specs.Input.{part}
-use Rattle.imagesize_io.specs.Telling.{Telling}
-use Rattle.imagesize_io.specs.Standing.{Standing, steady, in_step, stand_of, stand, GivesAll, GoesTo, GivesFrom, KeepsCounts, Tries}
+use Rattle.std.specs.declared.io.Error.{Error}
+use Rattle.imagesize_io.specs.StopOf.{last_failed}
+use Rattle.imagesize_io.specs.Telling.{Account, ReadTells, Telling}
+use Rattle.imagesize_io.specs.Standing.{Standing, behind_of, steady, in_step, stand_of, stand, GivesAll, GoesTo, GivesFrom, KeepsCounts, Tries}
 
 kept_if : (b : Bool) (s t : Standing) → cond b (Some s) None ≡ Some t → (b ≡ true) × (s ≡ t)
 kept_if true s t e = (refl, cc)
 kept_if false s t e = absurd cc
 
-in_step_of : (told place : ℕ) (st : Option Standing) (s : Standing) → stand_of told place st ≡ Some s → in_step told place s ≡ true
-in_step_of told place None s e = absurd cc
-in_step_of told place (Some t) s e = let k = kept_if (in_step told place t) t s e in ap (in_step told place) (sym k.1) ∙ k.0
+in_step_of : (told place : ℕ) (fault : Option Error) (st : Option Standing) (s : Standing) → stand_of told place fault st ≡ Some s
+    → in_step told place fault s ≡ true
+in_step_of told place fault None s e = absurd cc
+in_step_of told place fault (Some t) s e =
+    let k = kept_if (in_step told place fault t) t s e in ap (in_step told place fault) (sym k.1) ∙ k.0
 
 -- the numbers agree with a reader that stands somewhere
-pub in_step_at : (telling : Option Telling) (p : Progress) (s : Standing) → stand telling p ≡ Some s → in_step p.told p.place s ≡ true
-in_step_at telling p s e = in_step_of p.told p.place (steady telling p.retries) s e
+pub in_step_at : (telling : Option Telling) (p : Progress) (s : Standing) → stand telling p ≡ Some s → in_step p.told p.place p.fault s
+    ≡ true
+in_step_at telling p s e = in_step_of p.told p.place p.fault (steady telling p.retries) s e
 
 pub place_at : (telling : Option Telling) (p : Progress) (s : Standing) → stand telling p ≡ Some s → p.place ≡ s.place
 place_at telling p s e = let k = in_step_at telling p s e in grind (arith, nat_tests)
@@ -80,8 +85,34 @@ keeps_both h k = record {
   limit = λ few. k.limit (h.limit few);
 }
 
+-- while a reader stands somewhere, no error is kept
+calm_in : (told place : ℕ) (fault : Option Error) (s : Standing) → in_step told place fault s ≡ true → fault ≡ None
+calm_in told place None s e = refl
+calm_in told place (Some error) s e = absurd (let off : in_step told place (Some error) s ≡ false = grind (arith, nat_tests) in cc)
+
+none_kept : (fault fault' : Option Error) (failure failure' : Option (Option Error)) → fault ≡ None → fault' ≡ fault
+    → last_failed fault' failure' ≡ last_failed fault failure
+none_kept fault fault' failure failure' none same = rw (same, none) refl
+
+-- so a call that does not fail changes nothing of the last failure
+pub calm_at : (a b : Account) (p q : Progress) → q.fault ≡ p.fault
+    → IfSome (stand a.telling p) (λ _. last_failed q.fault b.failure ≡ last_failed p.fault a.failure)
+calm_at a b p q same = by_stand (stand a.telling p) refl where
+  by_stand : (st : Option Standing) → stand a.telling p ≡ st → IfSome st (λ _. last_failed q.fault b.failure ≡ last_failed p.fault a.failure)
+  by_stand None is = tt
+  by_stand (Some s) is = none_kept p.fault q.fault a.failure b.failure
+      (calm_in p.told p.place p.fault s (in_step_at a.telling p s is)) same
+
+-- what never changes, over a read that gave bytes
+pub behind_given : (told retries : ℕ) (fault : Option Error) (telling telling' : Option Telling) (room : List ℕ) (n : ℕ)
+    → ReadTells telling telling' room (Ok n) → behind_of told retries fault telling' ≡ behind_of told retries fault telling
+behind_given told retries fault None telling' room n gave = rw gave refl
+behind_given told retries fault (Some t) telling' room n gave = rw gave.0 refl
+
 -- the tries of a read so far
-pub record Retried (first now : Option Telling) (count count' : Option ℕ) (old new : ℕ) : Type 0 where
+pub record Retried (first now : Option Telling) (count count' : Option ℕ) (old new : ℕ) (fault fault' : Option Error) : Type 0 where
+  pub behind : (told : ℕ) → behind_of told new fault' now ≡ behind_of told old fault first
+  pub calm : fault' ≡ fault
   pub steady : steady now new ≡ steady first old
   pub counts : count' ≡ count
   pub tried : old ≤ new

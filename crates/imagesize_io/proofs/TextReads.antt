@@ -18,7 +18,8 @@ use Rattle.imagesize_source.specs.State.{State, Runs, IsSound, total, state_afte
 use Rattle.imagesize_io.specs.declared.progress.Progress.{Progress}
 use Rattle.imagesize_io.specs.ReaderState.{reader_frame, reader_state}
 use Rattle.imagesize_io.specs.Standing.{stand}
-use Rattle.imagesize_io.specs.Telling.{Telling}
+use Rattle.imagesize_io.specs.StopOf.{last_failed}
+use Rattle.imagesize_io.specs.Telling.{Account}
 use Rattle.imagesize_source.specs.Text.{delimits, front_through, text_front, ends}
 use Rattle.imagesize_source.proofs.Counts.{total-span_at, total-span_of, total_there}
 use Rattle.imagesize_source.proofs.Layouts.{no_part, no_span}
@@ -371,10 +372,9 @@ one_read {b} {c} d more got next n one is run = subst (λ k. Runs b c (Ok got) (
     (subst (λ bs. Runs b c (Ok bs) (part_read d next (length more))) is run)
 
 -- a reader tells the true length where it is honest
-pub reader_sound : (telling : Option Telling) (count : Option ℕ) (home : ℕ) (p : Progress) (window : List ℕ)
-    → IsSound (reader_state telling count home p window)
-reader_sound telling count home p window = sound_at (reader_frame count home p) (stand telling p) window p.taken
-    (told_by count home telling p)
+pub reader_sound : (a : Account) (home : ℕ) (p : Progress) (window : List ℕ) → IsSound (reader_state a home p window)
+reader_sound a home p window = sound_at (reader_frame a home p) (stand a.telling p) (last_failed p.fault a.failure) window p.taken
+    (told_by a home p)
 
 -- a room of one byte
 pub one_long : (count : ℕ) (room more : List ℕ) → count < length room → length more ≡ length (take (count + 1 - count) (drop count room))

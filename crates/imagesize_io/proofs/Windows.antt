@@ -6,17 +6,18 @@ use Rattle.std.proofs.Math.Seq.{drop-append-add, take-nil, drop-drop, take-take}
 use Rattle.imagesize_source.specs.declared.error.ImageError.{ImageError}
 use Rattle.imagesize_source.specs.declared.span.Span.{Span}
 use Rattle.imagesize_io.specs.declared.progress.Progress.{Progress}
-use Rattle.imagesize_io.specs.Telling.{Telling}
+use Rattle.imagesize_io.specs.StopOf.{last_failed}
+use Rattle.imagesize_io.specs.Telling.{Account, Telling}
 use Rattle.imagesize_source.proofs.Layouts.{no_part}
 use Rattle.imagesize_io.proofs.Standings.{told_at}
 use Rattle.imagesize_source.specs.Input.{part, span_at, span_of}
 use Rattle.imagesize_source.specs.Reading.{part_read, map_answer, is_fault, is_stop, budget_spent}
 use Rattle.imagesize_io.specs.ReaderState.{held_at, no_claim, with_window, kept_window, state_at, reader_frame}
-use Rattle.imagesize_io.specs.Standing.{Standing, GivesFrom, stand, drift, KeepsCounts, StopsBy}
+use Rattle.imagesize_io.specs.Standing.{Standing, GivesFrom, behind, stand, drift, KeepsCounts, StopsBy}
 use borrow.Rule.Slice.PartMut.{put_mid}
 use Rattle.imagesize_io.proofs.Filling.{part-add, take_more, length-put}
 use Rattle.imagesize_source.proofs.Slices.{front_is}
-use Rattle.imagesize_source.specs.State.{State, Frame, Held, Runs, EndedBy, IsSound, state_after, step, total, new_bytes, front_after}
+use Rattle.imagesize_source.specs.State.{Behind as Unchanged, State, Frame, Held, Runs, EndedBy, IsSound, state_after, step, total, new_bytes, front_after}
 use Rattle.imagesize_source.proofs.Counts.{total_there}
 use Rattle.imagesize_source.proofs.Parts.{part_whole}
 
@@ -42,9 +43,10 @@ holds s w honest =
     let fits = honest_if (leb (length w) (length s.bytes)) _ honest in
     (leb_is (length w) (length s.bytes) fits, rw fits refl)
 
-pub sound_at : (f : Frame) (st : Option Standing) (w : List ℕ) (taken : ℕ) → ToldBy f st → IsSound (state_at f st w taken)
-sound_at f None w taken told honest = absurd cc
-sound_at f (Some s) w taken told honest =
+pub sound_at : (f : Frame) (st : Option Standing) (z : Option ImageError) (w : List ℕ) (taken : ℕ) → ToldBy f st
+    → IsSound (state_at f st z w taken)
+sound_at f None z w taken told honest = absurd cc
+sound_at f (Some s) z w taken told honest =
     let h = holds s w honest in
     rw h.1 (told.0 ∙ sym (length-with_window w s.bytes h.0), rw (length-with_window w s.bytes h.0) told.1)
 
@@ -139,12 +141,13 @@ in_window_answer (Some s) w room old place n count copied all kept honest =
     ∙ sym copied
     ∙ sym (take_all n room (omega arith))
 
-in_window_state : (f : Frame) (st : Option Standing) (w : List ℕ) (taken place k : ℕ) → f.counts ≡ true → k ≤ length w - place
-    → (held_at st w).honest ≡ true → state_at f st w taken ≡ state_after (state_at f st w taken) (span_of (held_at st w).input place k)
+in_window_state : (f : Frame) (st : Option Standing) (z : Option ImageError) (w : List ℕ) (taken place k : ℕ) → f.counts ≡ true
+    → k ≤ length w - place → (held_at st w).honest ≡ true
+    → state_at f st z w taken ≡ state_after (state_at f st z w taken) (span_of (held_at st w).input place k)
 unfolding span_of
-in_window_state f None w taken place k counts fits honest = absurd cc
-in_window_state f (Some s) w taken place k counts fits honest =
-    let a = state_at f (Some s) w taken in
+in_window_state f None z w taken place k counts fits honest = absurd cc
+in_window_state f (Some s) z w taken place k counts fits honest =
+    let a = state_at f (Some s) z w taken in
     let long : length (held_at (Some s) w).input ≡ length s.bytes = ap length (input_is s w honest) ∙ length-with_window w s.bytes
     (holds s w honest).0 in
     let within : length w ≤ length s.bytes = (holds s w honest).0 in
@@ -154,18 +157,18 @@ in_window_state f (Some s) w taken place k counts fits honest =
     ∙ ap (λ n. record a { front = n; taken = taken + new_bytes (length w) place k }) (kept_front (length w) place k fits)
     ∙ ap (λ t. record a { taken = t }) same)
 
-pub in_window : (f : Frame) (st : Option Standing) (w room old : List ℕ) (taken place n : ℕ) → ToldBy f st → f.counts ≡ true
-    → n ≡ min (length old) (length w - place) → room ≡ part w place (length old) ++ drop n old → n ≡ length room
-    → length room ≡ length old → Runs (state_at f st w taken) (state_at f st w taken) (Ok (take (length room) room))
+pub in_window : (f : Frame) (st : Option Standing) (z : Option ImageError) (w room old : List ℕ) (taken place n : ℕ) → ToldBy f st
+    → f.counts ≡ true → n ≡ min (length old) (length w - place) → room ≡ part w place (length old) ++ drop n old → n ≡ length room
+    → length room ≡ length old → Runs (state_at f st z w taken) (state_at f st z w taken) (Ok (take (length room) room))
     (part_read (held_at st w).input place (length room))
-in_window f st w room old taken place n told counts count copied all kept = record {
-  sound = sound_at f st w taken told;
-  sound_after = sound_at f st w taken told;
+in_window f st z w room old taken place n told counts count copied all kept = record {
+  sound = sound_at f st z w taken told;
+  sound_after = sound_at f st z w taken told;
   frame = refl;
   taken = omega arith;
   within = λ honest. omega arith;
   answer = λ honest goes_on. ap Ok (in_window_answer st w room old place n count copied all kept honest ∙ ap (λ m. take m room) all);
-  state = λ honest goes_on. in_window_state f st w taken place (length room) counts (omega arith) honest;
+  state = λ honest goes_on. in_window_state f st z w taken place (length room) counts (omega arith) honest;
   fault = λ honest faults. absurd cc;
   misses = λ honest faults. absurd cc;
   ended = tt;
@@ -238,47 +241,48 @@ grown_if w d more place k copied n false at small fits count short gave n_fits =
 }
 
 -- states that agree in each part
-together : (f f' : Frame) (h h' : Held) (m m' t t' : ℕ) → f ≡ f' → h ≡ h' → m ≡ m' → t ≡ t'
-    → ◌≡◌ {A = State} (record { frame = f; held = h; front = m; taken = t; recorded = None; missed = None })
-    (record { frame = f'; held = h'; front = m'; taken = t'; recorded = None; missed = None })
-together f f' h h' m m' t t' p q r s = cc
+together : (f f' : Frame) (h h' : Held) (m m' t t' : ℕ) (z z' : Option ImageError) → f ≡ f' → h ≡ h' → m ≡ m' → t ≡ t' → z ≡ z'
+    → ◌≡◌ {A = State} (record { frame = f; held = h; front = m; taken = t; recorded = None; missed = None; failed = Some z })
+    (record { frame = f'; held = h'; front = m'; taken = t'; recorded = None; missed = None; failed = Some z' })
+together f f' h h' m m' t t' z z' p q r s e = cc
 
 -- the source after a reading that went on behind the window
-behind_state : (f f' : Frame) (s : Standing) (w w' : List ℕ) (taken taken' place now k copied n : ℕ) → f.counts ≡ true → f' ≡ f
-    → length w ≤ length s.bytes → Grown w w' s.bytes place (copied + n) → (held_at (Some s) w).honest ≡ true
+behind_state : (f f' : Frame) (s : Standing) (z z' : Option ImageError) (w w' : List ℕ) (taken taken' place now k copied n : ℕ)
+    → f.counts ≡ true → f' ≡ f → z' ≡ z → length w ≤ length s.bytes → Grown w w' s.bytes place (copied + n) → (held_at (Some s) w).honest ≡ true
     → copied ≡ min k (length w - place) → n ≡ min (k - copied) (length s.bytes - (place + copied)) → copied < k → taken' ≡ taken + n
-    → state_at f' (Some (record s { place = now })) w' taken' ≡ state_after (state_at f (Some s) w taken)
+    → state_at f' (Some (record s { place = now })) z' w' taken' ≡ state_after (state_at f (Some s) z w taken)
     (span_of (held_at (Some s) w).input place k)
 unfolding span_of
-behind_state f f' s w w' taken taken' place now k copied n counts frame fits grown honest count rest short took =
-    let a = state_at f (Some s) w taken in
+behind_state f f' s z z' w w' taken taken' place now k copied n counts frame failed fits grown honest count rest short took =
+    let a = state_at f (Some s) z w taken in
     let long : length (held_at (Some s) w).input ≡ length s.bytes = ap length (input_is s w honest) ∙ length-with_window w s.bytes fits in
     let all : min k (length (held_at (Some s) w).input - place) ≡ copied + n = omega (arith, long, count, rest) in
     let held : held_at (Some (record s { place = now })) w' ≡ held_at (Some s) w = behind_held s w w' now fits grown.fits grown.same in
     let paid : taken' ≡ taken + new_bytes (length w) place (copied + n) = omega (arith, took, count) in
     let front = grown.front in
     together f' f (held_at (Some (record s { place = now })) w') (held_at (Some s) w) (length w')
-    (front_after (length w) place (copied + n)) taken' (taken + new_bytes (length w) place (copied + n)) frame held front paid
+    (front_after (length w) place (copied + n)) taken' (taken + new_bytes (length w) place (copied + n)) z' z frame held front paid failed
     ∙ sym (ap (λ m. state_after a (span_at place m)) all ∙ past-span a place (copied + n) counts refl)
 
 -- A reading that the window does not hold: it copied what the window has, and got n bytes more.
-pub record Behind (f f' : Frame) (st st' : Option Standing) (w w' room old more : List ℕ) (taken taken' place now copied n : ℕ) : Type 0
-  where
-    pub told : ToldBy f st
-    pub told_after : ToldBy f' st'
-    pub counts : f.counts ≡ true
-    pub frame : f' ≡ f
-    pub small : length w ≤ 32
-    pub count : copied ≡ min (length old) (length w - place)
-    pub front : room ≡ part w place (length old) ++ drop copied old
-    pub kept : length room ≡ length old
-    pub short : copied < length room
-    pub gives : GivesFrom st st' (place + copied) now more (Ok n)
-    pub enough : n ≤ length more
-    pub long : length more ≡ length room - copied
-    pub took : taken' ≡ taken + n
-    pub window : w' ≡ kept_window w (place + copied) (take n more)
-    pub within : IfSome st (λ s. taken' ≤ taken + min (length more) (length s.bytes - (place + copied)))
+pub record Behind (f f' : Frame) (st st' : Option Standing) (z z' : Option ImageError) (w w' room old more : List ℕ)
+    (taken taken' place now copied n : ℕ) : Type 0 where
+  pub told : ToldBy f st
+  pub told_after : ToldBy f' st'
+  pub counts : f.counts ≡ true
+  pub frame : f' ≡ f
+  pub failed : IfSome st (λ _. z' ≡ z)
+  pub small : length w ≤ 32
+  pub count : copied ≡ min (length old) (length w - place)
+  pub front : room ≡ part w place (length old) ++ drop copied old
+  pub kept : length room ≡ length old
+  pub short : copied < length room
+  pub gives : GivesFrom st st' (place + copied) now more (Ok n)
+  pub enough : n ≤ length more
+  pub long : length more ≡ length room - copied
+  pub took : taken' ≡ taken + n
+  pub window : w' ≡ kept_window w (place + copied) (take n more)
+  pub within : IfSome st (λ s. taken' ≤ taken + min (length more) (length s.bytes - (place + copied)))
 
 behind_grown : (s : Standing) (st' : Option Standing) (w w' more : List ℕ) (place now k copied n : ℕ) → length w ≤ 32
     → length w ≤ length s.bytes → copied ≡ min k (length w - place) → copied < k → GivesFrom (Some s) st' (place + copied) now more
@@ -288,23 +292,23 @@ behind_grown s st' w w' more place now k copied n small fits count short gives w
     (grown_if w s.bytes more place k copied n (eqb (place + copied) (length w)) refl small fits count short gives.1
     (omega (arith, gives.2)))
 
-behind_runs_answer : (f f' : Frame) (st st' : Option Standing) (w w' room old more : List ℕ) (taken taken' place now copied n : ℕ)
-    → Behind f f' st st' w w' room old more taken taken' place now copied n → (held_at st w).honest ≡ true
+behind_runs_answer : (f f' : Frame) (st st' : Option Standing) (z z' : Option ImageError) (w w' room old more : List ℕ)
+    (taken taken' place now copied n : ℕ) → Behind f f' st st' z z' w w' room old more taken taken' place now copied n → (held_at st w).honest ≡ true
     → part (held_at st w).input place (length room) ≡ take (copied + n) (put_mid copied (length room - copied) room more)
-behind_runs_answer f f' None st' w w' room old more taken taken' place now copied n h honest = absurd cc
-behind_runs_answer f f' (Some s) st' w w' room old more taken taken' place now copied n h honest =
+behind_runs_answer f f' None st' z z' w w' room old more taken taken' place now copied n h honest = absurd cc
+behind_runs_answer f f' (Some s) st' z z' w w' room old more taken taken' place now copied n h honest =
     ap (λ d. part d place (length room)) (input_is s w honest)
     ∙ behind_answer s st' w room old more place now copied n h.count h.front h.kept h.short h.gives h.enough h.long
 
-behind_runs_state : (f f' : Frame) (st st' : Option Standing) (w w' room old more : List ℕ) (taken taken' place now copied n : ℕ)
-    → Behind f f' st st' w w' room old more taken taken' place now copied n → (held_at st w).honest ≡ true → state_at f' st' w' taken'
-    ≡ state_after (state_at f st w taken) (span_of (held_at st w).input place (length room))
-behind_runs_state f f' None st' w w' room old more taken taken' place now copied n h honest = absurd cc
-behind_runs_state f f' (Some s) st' w w' room old more taken taken' place now copied n h honest =
+behind_runs_state : (f f' : Frame) (st st' : Option Standing) (z z' : Option ImageError) (w w' room old more : List ℕ)
+    (taken taken' place now copied n : ℕ) → Behind f f' st st' z z' w w' room old more taken taken' place now copied n → (held_at st w).honest ≡ true → state_at f' st' z' w' taken'
+    ≡ state_after (state_at f st z w taken) (span_of (held_at st w).input place (length room))
+behind_runs_state f f' None st' z z' w w' room old more taken taken' place now copied n h honest = absurd cc
+behind_runs_state f f' (Some s) st' z z' w w' room old more taken taken' place now copied n h honest =
     let fits = (holds s w honest).0 in
     let count : copied ≡ min (length room) (length w - place) = h.count ∙ ap (λ k. min k (length w - place)) (sym h.kept) in
-    ap (λ v. state_at f' v w' taken') h.gives.0
-    ∙ behind_state f f' s w w' taken taken' place now (length room) copied n h.counts h.frame fits
+    ap (λ v. state_at f' v z' w' taken') h.gives.0
+    ∙ behind_state f f' s z z' w w' taken taken' place now (length room) copied n h.counts h.frame h.failed fits
     (behind_grown s st' w w' more place now (length room) copied n h.small fits count h.short h.gives h.window)
     honest count (h.gives.2 ∙ ap (λ k. min k (length s.bytes - (place + copied))) h.long) h.short h.took
 
@@ -319,24 +323,25 @@ within_claim (Some s) w taken taken' place copied k rest count left within hones
     place k ∙ ap (λ n. min k (n - place)) long in
     omega (arith, all, within, count, left)
 
-pub behind_window : {f f' : Frame} {st st' : Option Standing} {w w' room old more : List ℕ} {taken taken' place now copied n : ℕ}
-    → Behind f f' st st' w w' room old more taken taken' place now copied n → Runs (state_at f st w taken) (state_at f' st' w' taken')
+pub behind_window : {f f' : Frame} {st st' : Option Standing} {z z' : Option ImageError} {w w' room old more : List ℕ}
+    {taken taken' place now copied n : ℕ} → Behind f f' st st' z z' w w' room old more taken taken' place now copied n
+    → Runs (state_at f st z w taken) (state_at f' st' z' w' taken')
     (Ok (take (copied + n) (put_mid copied (length room - copied) room more)))
     (part_read (held_at st w).input place (length (put_mid copied (length room - copied) room more)))
-behind_window {f} {f'} {st} {st'} {w} {w'} {room} {old} {more} {taken} {taken'} {place} {now} {copied} {n} h =
+behind_window {f} {f'} {st} {st'} {z} {z'} {w} {w'} {room} {old} {more} {taken} {taken'} {place} {now} {copied} {n} h =
     let whole : length (put_mid copied (length room - copied) room more) ≡ length room = length-put room more copied
     (omega (arith, h.short)) h.long in
     let count : copied ≡ min (length room) (length w - place) = h.count ∙ ap (λ k. min k (length w - place)) (sym h.kept) in
-    subst (λ k. Runs (state_at f st w taken) (state_at f' st' w' taken')
+    subst (λ k. Runs (state_at f st z w taken) (state_at f' st' z' w' taken')
     (Ok (take (copied + n) (put_mid copied (length room - copied) room more))) (part_read (held_at st w).input place k)) (sym whole)
     (record {
-      sound = sound_at f st w taken h.told;
-      sound_after = sound_at f' st' w' taken' h.told_after;
+      sound = sound_at f st z w taken h.told;
+      sound_after = sound_at f' st' z' w' taken' h.told_after;
       frame = h.frame;
       taken = omega (arith, h.took);
       within = λ honest. within_claim st w taken taken' place copied (length room) (length more) count h.long h.within honest;
-      answer = λ honest goes_on. ap Ok (behind_runs_answer f f' st st' w w' room old more taken taken' place now copied n h honest);
-      state = λ honest goes_on. behind_runs_state f f' st st' w w' room old more taken taken' place now copied n h honest;
+      answer = λ honest goes_on. ap Ok (behind_runs_answer f f' st st' z z' w w' room old more taken taken' place now copied n h honest);
+      state = λ honest goes_on. behind_runs_state f f' st st' z z' w w' room old more taken taken' place now copied n h honest;
       fault = λ honest faults. absurd cc;
       misses = λ honest faults. absurd cc;
       ended = tt;
@@ -348,8 +353,8 @@ fails_claim None st' w more place now e gives honest faults = absurd cc
 fails_claim (Some s) st' w more place now e gives honest faults = ap (λ h. h.can_fail) (holds s w honest).1 ∙ gives faults
 
 -- A reading behind the window that was stopped.
-pub record Halted (f f' : Frame) (st st' : Option Standing) (w w' room old more : List ℕ) (taken taken' place now copied : ℕ)
-    (e : ImageError) : Type 0 where
+pub record Halted (f f' : Frame) (st st' : Option Standing) (z z' : Option ImageError) (w w' room old more : List ℕ)
+    (taken taken' place now copied : ℕ) (e : ImageError) : Type 0 where
   pub told : ToldBy f st
   pub told_after : ToldBy f' st'
   pub frame : f' ≡ f
@@ -361,14 +366,15 @@ pub record Halted (f f' : Frame) (st st' : Option Standing) (w w' room old more 
   pub paid : taken ≤ taken'
   pub within : IfSome st (λ s. taken' ≤ taken + min (length more) (length s.bytes - (place + copied)))
   pub stops : is_stop e ≡ true
-  pub ended : EndedBy (state_at f' st' w' taken') e
+  pub ended : EndedBy (state_at f' st' z' w' taken') e
 
-halted : {f f' : Frame} {st st' : Option Standing} {w w' room old more : List ℕ} {taken taken' place now copied : ℕ} {e : ImageError}
-    (value : ℕ → List ℕ) → Halted f f' st st' w w' room old more taken taken' place now copied e → Runs (state_at f st w taken)
-    (state_at f' st' w' taken') (map_answer value (Err e)) (part_read (held_at st w).input place (length room))
-halted {f} {f'} {st} {st'} {w} {w'} {room} {old} {more} {taken} {taken'} {place} {now} {copied} {e} value h = record {
-  sound = sound_at f st w taken h.told;
-  sound_after = sound_at f' st' w' taken' h.told_after;
+halted : {f f' : Frame} {st st' : Option Standing} {z z' : Option ImageError} {w w' room old more : List ℕ}
+    {taken taken' place now copied : ℕ} {e : ImageError} (value : ℕ → List ℕ)
+    → Halted f f' st st' z z' w w' room old more taken taken' place now copied e → Runs (state_at f st z w taken)
+    (state_at f' st' z' w' taken') (map_answer value (Err e)) (part_read (held_at st w).input place (length room))
+halted {f} {f'} {st} {st'} {z} {z'} {w} {w'} {room} {old} {more} {taken} {taken'} {place} {now} {copied} {e} value h = record {
+  sound = sound_at f st z w taken h.told;
+  sound_after = sound_at f' st' z' w' taken' h.told_after;
   frame = h.frame;
   taken = h.paid;
   within = λ honest. within_claim st w taken taken' place copied (length room) (length more)
@@ -380,16 +386,17 @@ halted {f} {f'} {st} {st'} {w} {w'} {room} {old} {more} {taken} {taken'} {place}
   ended = h.ended;
 }
 
-pub behind_stopped : {f f' : Frame} {st st' : Option Standing} {w w' room old more : List ℕ} {taken taken' place now copied : ℕ}
-    {e : ImageError} (value : ℕ → List ℕ) (r : Result ℕ ImageError) → Halted f f' st st' w w' room old more taken taken' place now copied
-    e → r ≡ Err e → Runs (state_at f st w taken) (state_at f' st' w' taken') (map_answer value r)
+pub behind_stopped : {f f' : Frame} {st st' : Option Standing} {z z' : Option ImageError} {w w' room old more : List ℕ}
+    {taken taken' place now copied : ℕ} {e : ImageError} (value : ℕ → List ℕ) (r : Result ℕ ImageError)
+    → Halted f f' st st' z z' w w' room old more taken taken' place now copied e → r ≡ Err e
+    → Runs (state_at f st z w taken) (state_at f' st' z' w' taken') (map_answer value r)
     (part_read (held_at st w).input place (length (put_mid copied (length room - copied) room more)))
-behind_stopped {f} {f'} {st} {st'} {w} {w'} {room} {old} {more} {taken} {taken'} {place} {now} {copied} {e} value r h is =
+behind_stopped {f} {f'} {st} {st'} {z} {z'} {w} {w'} {room} {old} {more} {taken} {taken'} {place} {now} {copied} {e} value r h is =
     let whole : length (put_mid copied (length room - copied) room more) ≡ length room = length-put room more copied
     (omega (arith, h.count, h.kept)) h.long in
-    subst (λ k. Runs (state_at f st w taken) (state_at f' st' w' taken') (map_answer value r) (part_read (held_at st w).input place k))
+    subst (λ k. Runs (state_at f st z w taken) (state_at f' st' z' w' taken') (map_answer value r) (part_read (held_at st w).input place k))
     (sym whole)
-    (subst (λ q. Runs (state_at f st w taken) (state_at f' st' w' taken') (map_answer value q)
+    (subst (λ q. Runs (state_at f st z w taken) (state_at f' st' z' w' taken') (map_answer value q)
     (part_read (held_at st w).input place (length room))) (sym is) (halted value h))
 
 -- the window has nothing from a place on that lies behind it
@@ -406,19 +413,30 @@ told_if f telling p None told is = tt
 told_if f telling p (Some s) told is = let t = told_at telling p s is in (told ∙ t.0, t.1)
 
 -- the length that stands beside a reader is that of the bytes that it claims
-pub told_by : (count : Option ℕ) (home : ℕ) (telling : Option Telling) (p : Progress) → ToldBy (reader_frame count home p)
-    (stand telling p)
-told_by count home telling p = told_if (reader_frame count home p) telling p (stand telling p) refl refl
+pub told_by : (a : Account) (home : ℕ) (p : Progress) → ToldBy (reader_frame a home p) (stand a.telling p)
+told_by a home p = told_if (reader_frame a home p) a.telling p (stand a.telling p) refl refl
 
-same_frames : (told told' budget budget' home : ℕ) (s s' : Option (ℕ × ℕ)) → told ≡ told' → budget ≡ budget' → s ≡ s'
-    → ◌≡◌ {A = Frame} (record { told = told; budget = budget; counts = true; records = false; home = home; since = s; parts = None })
-    (record { told = told'; budget = budget'; counts = true; records = false; home = home; since = s'; parts = None })
-same_frames told told' budget budget' home s s' p q r = cc
+abbrev frame_of : ℕ → ℕ → ℕ → Option (ℕ × ℕ) → Option Unchanged → Frame
+frame_of told budget home since behind = record {
+  told = told;
+  budget = budget;
+  counts = true;
+  records = false;
+  home = home;
+  since = since;
+  behind = behind;
+  parts = None;
+}
+
+same_frames : (told told' budget budget' home : ℕ) (s s' : Option (ℕ × ℕ)) (b b' : Option Unchanged) → told ≡ told' → budget ≡ budget'
+    → s ≡ s' → b ≡ b' → frame_of told budget home s b ≡ frame_of told' budget' home s' b'
+same_frames told told' budget budget' home s s' b b' p q r e = cc
 
 -- what never changes
-pub same_frame : (count count' : Option ℕ) (home : ℕ) (p p' : Progress) → KeepsCounts p p' → drift count' p'.taken ≡ drift count p.taken
-    → reader_frame count' home p' ≡ reader_frame count home p
-same_frame count count' home p p' keeps same = same_frames p'.told p.told p'.budget p.budget home _ _ keeps.told keeps.budget same
+pub same_frame : (a b : Account) (home : ℕ) (p p' : Progress) → KeepsCounts p p' → drift b.count p'.taken ≡ drift a.count p.taken
+    → behind b.telling p' ≡ behind a.telling p → reader_frame b home p' ≡ reader_frame a home p
+same_frame a b home p p' keeps since same =
+    same_frames p'.told p.told p'.budget p.budget home _ _ _ _ keeps.told keeps.budget since same
 
 paid_by : (f : Frame) (taken : ℕ) (spent : Option ℕ) → f.counts ≡ true → IfSome spent (λ n. (n ≡ f.budget) × (n ≡ taken))
     → IfSome spent (λ n. (f.counts ≡ true) × (n ≡ f.budget) × (n ≡ taken))
@@ -426,11 +444,12 @@ paid_by f taken None counts named = tt
 paid_by f taken (Some n) counts named = (counts, named.0, named.1)
 
 -- a stop of the reader is one of the source
-pub ended_by : (count : Option ℕ) (home : ℕ) (p : Progress) (st : Option Standing) (w : List ℕ) (e : ImageError) → StopsBy p e
-    → EndedBy (state_at (reader_frame count home p) st w p.taken) e
-ended_by count home p st w e stops = record {
-  budget = paid_by (reader_frame count home p) p.taken (budget_spent e) refl stops.budget;
+pub ended_by : (a : Account) (home : ℕ) (p : Progress) (st : Option Standing) (w : List ℕ) (e : ImageError) → StopsBy p a.failure e
+    → EndedBy (state_at (reader_frame a home p) st (last_failed p.fault a.failure) w p.taken) e
+ended_by a home p st w e stops = record {
+  budget = paid_by (reader_frame a home p) p.taken (budget_spent e) refl stops.budget;
   memory = λ refused. absurd cc;
+  fault = stops.fault;
 }
 
 end_answer : (f : Frame) (st : Option Standing) (w : List ℕ) (place k : ℕ) → ToldBy f st → f.told < place → (held_at st w).honest ≡ true
@@ -441,27 +460,28 @@ end_answer f (Some s) w place k told far honest =
     (holds s w honest).0 in
     no_part (held_at (Some s) w).input place k (omega (arith, long, told.0, far))
 
-end_state : (f : Frame) (st : Option Standing) (w : List ℕ) (taken place k : ℕ) → ToldBy f st → f.told < place → (held_at st w).honest
-    ≡ true → state_at f st w taken ≡ state_after (state_at f st w taken) (span_of (held_at st w).input place k)
+end_state : (f : Frame) (st : Option Standing) (z : Option ImageError) (w : List ℕ) (taken place k : ℕ) → ToldBy f st → f.told < place
+    → (held_at st w).honest ≡ true
+    → state_at f st z w taken ≡ state_after (state_at f st z w taken) (span_of (held_at st w).input place k)
 unfolding span_of span_at state_after
-end_state f None w taken place k told far honest = absurd cc
-end_state f (Some s) w taken place k told far honest =
+end_state f None z w taken place k told far honest = absurd cc
+end_state f (Some s) z w taken place k told far honest =
     let long : length (held_at (Some s) w).input ≡ length s.bytes = ap length (input_is s w honest) ∙ length-with_window w s.bytes
     (holds s w honest).0 in
     let none : min k (length (held_at (Some s) w).input - place) ≡ 0 = omega (arith, long, told.0, far) in
-    sym (ap (λ n. state_after (state_at f (Some s) w taken) (span_at place n)) none)
+    sym (ap (λ n. state_after (state_at f (Some s) z w taken) (span_at place n)) none)
 
 -- a reading above the told length sees nothing, and changes nothing
-pub behind_end : {f : Frame} (st : Option Standing) (w : List ℕ) (taken place k : ℕ) → ToldBy f st → f.told < place
-    → Runs (state_at f st w taken) (state_at f st w taken) (Ok []) (part_read (held_at st w).input place k)
-behind_end {f} st w taken place k told far = record {
-  sound = sound_at f st w taken told;
-  sound_after = sound_at f st w taken told;
+pub behind_end : {f : Frame} (st : Option Standing) (z : Option ImageError) (w : List ℕ) (taken place k : ℕ) → ToldBy f st → f.told < place
+    → Runs (state_at f st z w taken) (state_at f st z w taken) (Ok []) (part_read (held_at st w).input place k)
+behind_end {f} st z w taken place k told far = record {
+  sound = sound_at f st z w taken told;
+  sound_after = sound_at f st z w taken told;
   frame = refl;
   taken = omega arith;
   within = λ honest. omega arith;
   answer = λ honest goes_on. ap Ok (end_answer f st w place k told far honest);
-  state = λ honest goes_on. end_state f st w taken place k told far honest;
+  state = λ honest goes_on. end_state f st z w taken place k told far honest;
   fault = λ honest faults. absurd cc;
   misses = λ honest faults. absurd cc;
   ended = tt;

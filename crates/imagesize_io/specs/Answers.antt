@@ -4,6 +4,8 @@ use Rattle.imagesize_source.specs.declared.error.ImageError.{ImageError}
 use Rattle.imagesize_source.specs.Counts.{places}
 use Rattle.imagesize_source.specs.Reading.{Reads, is_stopped, is_faulted}
 use Rattle.imagesize_source.specs.State.{total}
+use Rattle.std.specs.declared.io.Error.{Error}
+use Rattle.imagesize_io.specs.StopOf.{fault_of}
 use Rattle.imagesize_io.specs.Telling.{Telling, IsHonest}
 
 -- The answer is that of the readings, or a failure of a reader that can fail.
@@ -40,3 +42,20 @@ RisesWithin (Some before) after k = IsSomeAnd after (λ count. (before ≤ count
 abbrev pub CountsWithin : {X : Type 0} → Option Telling → Option ℕ → Option ℕ → (List ℕ → ℕ → Reads X) → Type 0
 CountsWithin None before after reads = Unit {0}
 CountsWithin (Some t) before after reads = IsHonest t → RisesWithin before after (total (over_reader t reads).marks)
+
+-- a failure is that of the last call that failed, where the reader tells it
+abbrev pub IsLast : Option (Option Error) → ImageError → Type 0
+IsLast None e = Unit {0}
+IsLast (Some last) e = IsSomeAnd last (λ failed. e ≡ fault_of failed)
+
+-- A reader afterwards: it has the same bytes, and may fail where it might before. Of an honest one that cannot fail no
+-- more interruptions are left than were.
+pub record LeftAs (t u : Telling) : Type 0 where
+  pub bytes : u.bytes ≡ t.bytes
+  pub can_fail : u.can_fail ≡ t.can_fail
+  pub interruptions : IsHonest t → t.can_fail ≡ false → u.interruptions ≤ t.interruptions
+
+-- the same of a reader that may tell nothing
+abbrev pub Leaves : Option Telling → Option Telling → Type 0
+Leaves None new = new ≡ None
+Leaves (Some t) new = IsSomeAnd new (LeftAs t)

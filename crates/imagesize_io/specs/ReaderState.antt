@@ -8,8 +8,9 @@ use Rattle.imagesize_io.specs.declared.progress.Progress.{Progress}
 use Rattle.imagesize_source.specs.Limits.{allowance, most_held}
 use Rattle.imagesize_io.specs.declared.reader.Ledger.{Ledger}
 use Rattle.imagesize_source.specs.Reading.{part_read, text_read, map_answer}
-use Rattle.imagesize_io.specs.Telling.{Telling, at_place}
-use Rattle.imagesize_io.specs.Standing.{Standing, KeepsCounts, steady, stand_of, stand, drift, with_kept_error}
+use Rattle.imagesize_io.specs.StopOf.{last_failed}
+use Rattle.imagesize_io.specs.Telling.{Account, Fails, Telling, at_place}
+use Rattle.imagesize_io.specs.Standing.{Standing, KeepsCounts, behind, behind_of, steady, stand_of, stand, drift, with_kept_error}
 use Rattle.imagesize_source.specs.State.{State, Frame, Held, Runs}
 
 -- no claim
@@ -28,30 +29,33 @@ held_at (Some s) window =
     then record { honest = true; input = with_window window s.bytes; can_fail = s.can_fail } else no_claim
 
 -- what never changes of a reader as a source, with the name of its borrow
-abbrev pub reader_frame : Option ℕ → ℕ → Progress → Frame
-reader_frame count home p = record {
+abbrev pub reader_frame : Account → ℕ → Progress → Frame
+reader_frame a home p = record {
   told = p.told;
   budget = p.budget;
   counts = true;
   records = false;
   home = home;
-  since = drift count p.taken;
+  since = drift a.count p.taken;
+  behind = behind a.telling p;
   parts = None;
 }
 
 -- a reader as a source
-abbrev pub state_at : Frame → Option Standing → List ℕ → ℕ → State
-state_at frame standing window taken = record {
+abbrev pub state_at : Frame → Option Standing → Option ImageError → List ℕ → ℕ → State
+state_at frame standing failed window taken = record {
   frame = frame;
   held = held_at standing window;
   front = length window;
   taken = taken;
   recorded = None;
   missed = None;
+  failed = Some failed;
 }
 
-abbrev pub reader_state : Option Telling → Option ℕ → ℕ → Progress → List ℕ → State
-reader_state telling count home p window = state_at (reader_frame count home p) (stand telling p) window p.taken
+abbrev pub reader_state : Account → ℕ → Progress → List ℕ → State
+reader_state a home p window =
+    state_at (reader_frame a home p) (stand a.telling p) (last_failed p.fault a.failure) window p.taken
 
 -- the window after bytes came from a place on: it takes in those that follow it, up to its length
 abbrev pub kept_window : List ℕ → ℕ → List ℕ → List ℕ
@@ -62,41 +66,49 @@ abbrev pub Opens : Option Telling → Option Telling → Result Opened ImageErro
 Opens None new r = new ≡ None
 Opens (Some t) new (Ok opened) =
     (new ≡ Some (at_place t (length t.bytes))) × (opened.place ≡ t.place) × (opened.told ≡ length t.bytes)
-Opens (Some t) new (Err e) = t.can_fail ≡ true
+Opens (Some t) new (Err e) = Fails t new
 
 -- A reader as a source, before the first reading, where its length is told: it stands at the end, and the
 -- budget is the told length and the allowance.
-abbrev pub start_state : Option Telling → Option ℕ → ℕ → ℕ → State
-start_state telling count home told = state_at
-    (record { told = told; budget = min (told + allowance) (2 ^ 64 - 1); counts = true; records = false; home = home; since = drift count 0; parts = None })
-    (stand_of told told (steady telling 0)) [] 0
+abbrev pub start_state : Account → ℕ → ℕ → State
+start_state a home told = state_at
+    (record {
+      told = told;
+      budget = min (told + allowance) (2 ^ 64 - 1);
+      counts = true;
+      records = false;
+      home = home;
+      since = drift a.count 0;
+      behind = behind_of told 0 None a.telling;
+      parts = None;
+    })
+    (stand_of told told None (steady a.telling 0)) None [] 0
 
 -- What a reading from a place on did, over every reader: it saw what the window has of it, and what follows from the reader.
-pub record ReadsAt (old new : Ledger) (telling telling' : Option Telling) (count count' : Option ℕ) (place : ℕ) (room : List ℕ)
-    (r : Result ℕ ImageError) : Type 0 where
+pub record ReadsAt (old new : Ledger) (a b : Account) (place : ℕ) (room : List ℕ) (r : Result ℕ ImageError) : Type 0 where
   pub bound : IfOk r (λ n. n ≤ length room)
   pub pays : IfOk r (λ n. 0 < n → max old.progress.told most_held < place → (old.progress.taken < new.progress.taken)
       × (new.progress.taken ≤ old.progress.budget))
   pub keeps : KeepsCounts old.progress new.progress
-  pub runs : (home : ℕ) → Runs (reader_state telling count home old.progress old.window.items)
-      (reader_state telling' count' home new.progress new.window.items) (map_answer (λ n. take n room) r)
-      (part_read (held_at (stand telling old.progress) old.window.items).input place (length room))
+  pub runs : (home : ℕ) → Runs (reader_state a home old.progress old.window.items)
+      (reader_state b home new.progress new.window.items) (map_answer (λ n. take n room) r)
+      (part_read (held_at (stand a.telling old.progress) old.window.items).input place (length room))
 
 -- What a reading of a source did. Above the told length it goes on only from the end of the last reading: elsewhere it sees
 -- the end of the input, and makes no call of the reader.
-pub record ReadsOn {R : Type 0} (reader reader' : R) (old new : Ledger) (telling telling' : Option Telling) (count count' : Option ℕ)
-    (place : ℕ) (room : List ℕ) (r : Result ℕ Halt) : Type 0 where
-  pub reads : ReadsAt old new telling telling' count count' place room (with_kept_error new.progress r)
+pub record ReadsOn {R : Type 0} (reader reader' : R) (old new : Ledger) (a b : Account) (place : ℕ) (room : List ℕ)
+    (r : Result ℕ Halt) : Type 0 where
+  pub reads : ReadsAt old new a b place room (with_kept_error new.progress r)
   pub present : place ≤ old.progress.told → IfOk r (λ n. new.present ≡ min (place + n) (2 ^ 64 - 1))
   pub goes_on : place ≡ old.present → IfOk r (λ n. new.present ≡ min (place + n) (2 ^ 64 - 1))
   pub ends : old.progress.told < place → place ≢ old.present → (r ≡ Ok 0) × (reader' ≡ reader) × (new.present ≡ old.present)
 
 -- what a reading of a text from a place on did, over every reader
-pub record ReadsText (old new : Ledger) (telling telling' : Option Telling) (count count' : Option ℕ) (text : Text) (place : ℕ)
-    (room : List ℕ) (r : Result ℕ Halt) : Type 0 where
+pub record ReadsText (old new : Ledger) (a b : Account) (text : Text) (place : ℕ) (room : List ℕ) (r : Result ℕ Halt)
+    : Type 0 where
   pub bound : IfOk r (λ n. n ≤ length room)
   pub pays : IfOk r (λ n. 0 < n → max old.progress.told most_held < place → old.progress.taken < new.progress.taken)
-  pub runs : (home : ℕ) → Runs (reader_state telling count home old.progress old.window.items)
-      (reader_state telling' count' home new.progress new.window.items)
+  pub runs : (home : ℕ) → Runs (reader_state a home old.progress old.window.items)
+      (reader_state b home new.progress new.window.items)
       (map_answer (λ n. take n room) (with_kept_error new.progress r))
-      (text_read (held_at (stand telling old.progress) old.window.items).input text place (length room))
+      (text_read (held_at (stand a.telling old.progress) old.window.items).input text place (length room))

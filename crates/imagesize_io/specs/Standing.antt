@@ -1,15 +1,16 @@
 -- What a reader claims, as far as the numbers kept beside it agree with what it tells.
-use Rattle.std.specs.Prelude.{◌≡◌, ℕ, ◌+◌, ◌-◌, ◌^◌, ◌<◌, ◌≤◌, min, Bool, true, false, ◌||◌, ◌&&◌, List, length, take, nat_le, nat_lt, ◌==◌, if◌then◌else◌, Option, None, Some, Result, Ok, Err, IfSome, IfOk, IfErr, OnOk, IsSomeAnd, option_map, ⊤}
+use Rattle.std.specs.Prelude.{◌≡◌, ℕ, ◌+◌, ◌-◌, ◌^◌, ◌<◌, ◌≤◌, min, Bool, true, false, ◌||◌, ◌&&◌, not, List, length, take, nat_le, nat_lt, ◌==◌, if◌then◌else◌, Option, None, Some, is_none, Result, Ok, Err, IfSome, IfOk, IfErr, OnOk, IsSomeAnd, option_map, ⊤}
 use Rattle.imagesize_source.specs.declared.error.ImageError.{ImageError}
 use Rattle.imagesize_source.specs.declared.halt.Halt.{Halt}
 use Rattle.imagesize_source.specs.Limits.{most_retries}
 use Rattle.imagesize_io.specs.declared.progress.Progress.{Progress}
 use Rattle.std.specs.declared.io.Error.{Error}
 use Rattle.imagesize_source.specs.Halts.{error_by, with_error}
-use Rattle.imagesize_io.specs.StopOf.{fault_of}
+use Rattle.imagesize_io.specs.StopOf.{kept_error, last_failed}
 use Rattle.imagesize_source.specs.Input.{part}
 use Rattle.imagesize_source.specs.Reading.{is_fault, is_memory, is_stop, budget_spent}
-use Rattle.imagesize_io.specs.Telling.{Telling, bytes_given}
+use Rattle.imagesize_source.specs.State.{Behind}
+use Rattle.imagesize_io.specs.Telling.{Account, Telling, bytes_given}
 
 -- the bytes behind a reader, where it stands, and whether a call may fail
 pub record Standing : Type 0 where
@@ -28,17 +29,32 @@ steady (Some t) retries =
     if t.can_fail || nat_le (t.interruptions + retries) most_retries
     then Some (record { bytes = t.bytes; place = t.place; can_fail = t.can_fail }) else None
 
--- the told length and the place kept beside a reader agree with where it stands
-abbrev pub in_step : ℕ → ℕ → Standing → Bool
-in_step told place s = nat_lt (length s.bytes) (2 ^ 63) && (told == length s.bytes) && (place == s.place)
+-- the told length and the place kept beside a reader agree with where it stands, and no error is kept
+abbrev pub in_step : ℕ → ℕ → Option Error → Standing → Bool
+in_step told place fault s = nat_lt (length s.bytes) (2 ^ 63) && (told == length s.bytes) && (place == s.place) && is_none fault
 
--- where a reader stands, if these numbers agree
-abbrev pub stand_of : ℕ → ℕ → Option Standing → Option Standing
-stand_of told place None = None
-stand_of told place (Some s) = if in_step told place s then Some s else None
+-- where a reader stands, if these numbers agree and no call failed
+abbrev pub stand_of : ℕ → ℕ → Option Error → Option Standing → Option Standing
+stand_of told place fault None = None
+stand_of told place fault (Some s) = if in_step told place fault s then Some s else None
 
 abbrev pub stand : Option Telling → Progress → Option Standing
-stand telling p = stand_of p.told p.place (steady telling p.retries)
+stand telling p = stand_of p.told p.place p.fault (steady telling p.retries)
+
+-- How many interruptions come in all, of which so many were tried again. It is known of a reader that cannot fail and has
+-- the told length, where all of them are tried again and no error is kept.
+abbrev pub in_all : ℕ → ℕ → Option Error → Telling → Option ℕ
+in_all told retries fault t =
+    if is_none fault && not t.can_fail && nat_le (t.interruptions + retries) most_retries && (told == length t.bytes)
+    then Some (t.interruptions + retries) else None
+
+-- what never changes of a reader, over all calls
+abbrev pub behind_of : ℕ → ℕ → Option Error → Option Telling → Option Behind
+behind_of told retries fault telling = option_map
+    (λ t. record { bytes = t.bytes; can_fail = t.can_fail; interruptions = in_all told retries fault t }) telling
+
+abbrev pub behind : Option Telling → Progress → Option Behind
+behind telling p = behind_of p.told p.retries p.fault telling
 
 -- what a read did that went on from where a reader stands: as much as it gave was the next of the bytes, at
 -- least one where there is one and there is room; a failure comes only from a reader that can fail
@@ -77,26 +93,28 @@ Tries (Some t) tries new tries' = IsSomeAnd new (λ u. t.interruptions + tries �
 
 -- the error that a halt ends a call with
 abbrev pub error_at : Progress → Halt → ImageError
-error_at p halt = error_by (fault_of p.fault) p.budget halt
+error_at p halt = error_by (kept_error p.fault) p.budget halt
 
 -- an answer, with the error of its halt
 abbrev pub with_kept_error : {X : Type 0} → Progress → Result X Halt → Result X ImageError
-with_kept_error p r = with_error (fault_of p.fault) p.budget r
+with_kept_error p r = with_error (kept_error p.fault) p.budget r
 
 -- the bytes that a read gave, or the error that is kept
-abbrev pub given_or : Error → Result ℕ Halt → Result ℕ ImageError
-given_or e (Ok n) = Ok n
-given_or e (Err halt) = Err (fault_of e)
+abbrev pub given_or : Option Error → Result ℕ Halt → Result ℕ ImageError
+given_or fault (Ok n) = Ok n
+given_or fault (Err halt) = Err (kept_error fault)
 
 -- by how much a count is above a number, and below it
 abbrev pub drift : Option ℕ → ℕ → Option (ℕ × ℕ)
 drift count taken = option_map (λ c. (c - taken, taken - c)) count
 
--- Only a failure or a spent budget stops a read: the budget that is named is the one that was taken.
-pub record StopsBy (p : Progress) (e : ImageError) : Type 0 where
+-- Only a failure or a spent budget stops a read: the budget that is named is the one that was taken, and the failure is
+-- the last one.
+pub record StopsBy (p : Progress) (failure : Option (Option Error)) (e : ImageError) : Type 0 where
   pub stops : is_stop e ≡ true
   pub memory : is_memory e ≡ false
   pub budget : IfSome (budget_spent e) (λ n. (n ≡ p.budget) × (n ≡ p.taken))
+  pub fault : is_fault e ≡ true → last_failed p.fault failure ≡ Some e
 
 -- What a call leaves of the numbers beside the reader. Tries are never forgotten, and never more than `most_retries`.
 pub record KeepsCounts (old new : Progress) : Type 0 where
@@ -107,31 +125,34 @@ pub record KeepsCounts (old new : Progress) : Type 0 where
   pub limit : old.retries ≤ most_retries → new.retries ≤ most_retries
 
 -- what one read from where a reader stands did
-pub record ReadsOnce (old new : Progress) (telling telling' : Option Telling) (count count' : Option ℕ) (room : List ℕ)
-    (r : Result ℕ ImageError) : Type 0 where
+pub record ReadsOnce (old new : Progress) (a b : Account) (room : List ℕ) (r : Result ℕ ImageError) : Type 0 where
   pub bound : IfOk r (λ n. n ≤ length room)
-  pub stand : GivesSome (stand telling old) (stand telling' new) room r
+  pub stand : GivesSome (stand a.telling old) (stand b.telling new) room r
   pub taken : new.taken ≡ old.taken + bytes_given r
   pub place : IfOk r (λ n. new.place ≡ min (old.place + n) (2 ^ 64 - 1))
-  pub since : drift count' new.taken ≡ drift count old.taken
-  pub tries : OnOk r (Tries telling old.retries telling' new.retries)
+  pub since : drift b.count new.taken ≡ drift a.count old.taken
+  pub behind : behind b.telling new ≡ behind a.telling old
+  pub calm : OnOk r (new.fault ≡ old.fault)
+  pub tries : OnOk r (Tries a.telling old.retries b.telling new.retries)
   pub keeps : KeepsCounts old new
-  pub stops : IfErr r (StopsBy new)
+  pub stops : IfErr r (StopsBy new b.failure)
 
 -- what reads from where a reader stands did, one after another until the room is full or the bytes end
-pub record Fills (old new : Progress) (before after : Option Standing) (count count' : Option ℕ) (room : List ℕ)
-    (r : Result ℕ ImageError) : Type 0 where
+pub record Fills (old new : Progress) (before after : Option Standing) (a b : Account) (room : List ℕ) (r : Result ℕ ImageError)
+    : Type 0 where
   pub bound : IfOk r (λ n. n ≤ length room)
   pub stand : GivesAll before after room r
   pub taken : IfOk r (λ n. new.taken ≡ old.taken + n)
   pub place : IfOk r (λ n. new.place ≡ min (old.place + n) (2 ^ 64 - 1))
   pub within : IfSome before (λ s. new.taken ≤ old.taken + min (length room) (length s.bytes - s.place))
-  pub since : drift count' new.taken ≡ drift count old.taken
+  pub since : drift b.count new.taken ≡ drift a.count old.taken
+  pub behind : behind b.telling new ≡ behind a.telling old
+  pub calm : OnOk r (new.fault ≡ old.fault)
   pub keeps : KeepsCounts old new
-  pub stops : IfErr r (StopsBy new)
+  pub stops : IfErr r (StopsBy new b.failure)
 
 -- what a reading from a place on did, over every reader
-pub record ReadsFrom (old new : Progress) (before after : Option Standing) (count count' : Option ℕ) (place : ℕ) (room : List ℕ)
+pub record ReadsFrom (old new : Progress) (before after : Option Standing) (a b : Account) (place : ℕ) (room : List ℕ)
     (r : Result ℕ ImageError) : Type 0 where
   pub bound : IfOk r (λ n. n ≤ length room)
   pub stand : GivesFrom before after place new.place room r
@@ -139,6 +160,8 @@ pub record ReadsFrom (old new : Progress) (before after : Option Standing) (coun
   pub taken : IfOk r (λ n. new.taken ≡ old.taken + n)
   pub within : IfSome before (λ s. new.taken ≤ old.taken + min (length room) (length s.bytes - place))
   pub pays : IfOk r (λ n. old.told < place → 0 < n → old.taken < new.taken)
-  pub since : drift count' new.taken ≡ drift count old.taken
+  pub since : drift b.count new.taken ≡ drift a.count old.taken
+  pub behind : behind b.telling new ≡ behind a.telling old
+  pub calm : OnOk r (new.fault ≡ old.fault)
   pub keeps : KeepsCounts old new
-  pub stops : IfErr r (StopsBy new)
+  pub stops : IfErr r (StopsBy new b.failure)

@@ -1,5 +1,6 @@
 -- What a reader may tell of itself, and what its calls then owe.
-use Rattle.std.specs.Prelude.{◌≡◌, ℕ, pos, negsuc, zero, suc, ◌+◌, ◌-◌, ◌^◌, ◌<◌, ◌≤◌, Bool, true, false, List, length, take, nat_le, if◌then◌else◌, Option, None, Some, Result, Ok, Err, IsSome, IsSomeAnd, option_map}
+use Rattle.std.specs.Prelude.{◌≡◌, ℕ, pos, negsuc, zero, suc, ◌+◌, ◌-◌, ◌^◌, ◌<◌, ◌≤◌, Bool, true, false, List, length, take, nat_le, if◌then◌else◌, Option, None, Some, Result, Ok, Err, IsSomeAnd, option_map}
+use Rattle.std.specs.declared.io.Error.{Error}
 use Rattle.std.specs.declared.io.traits.SeekFrom.{SeekFrom}
 use Rattle.std.specs.declared.io.traits.SeekFrom.TheVariants.{Start, End, Current}
 use Rattle.imagesize_io.specs.declared.told.Stop.{Stop}
@@ -59,9 +60,13 @@ seek_target t (Current (pos zero)) = Some t.place
 seek_target t (Current (pos (suc _))) = None
 seek_target t (Current (negsuc _)) = None
 
--- what a seek did that is known to go to a place; of any other only that the reader still tells
+-- it has the same bytes, and may fail where it might before
+abbrev pub Stays : Telling → Telling → Type 0
+Stays t u = (u.bytes ≡ t.bytes) × (u.can_fail ≡ t.can_fail)
+
+-- what a seek did that is known to go to a place; of any other only that the reader stays as it was, but for its place
 abbrev pub SeekGives : {E : Type 0} → Telling → Option Telling → Option ℕ → Result ℕ E → Type 0
-SeekGives t new None r = IsSome new
+SeekGives t new None r = IsSomeAnd new (Stays t)
 SeekGives t new (Some place) (Ok answer) = (answer ≡ place) × (new ≡ Some (at_place t place))
 SeekGives t new (Some place) (Err e) = Fails t new
 
@@ -79,8 +84,33 @@ bytes_given (Err _) = 0
 abbrev pub count_after : {E : Type 0} → Option ℕ → Result ℕ E → Option ℕ
 count_after count r = option_map (λ c. c + bytes_given r) count
 
+-- The last failure is none, or the error of the last call that failed. After a call that failed it is the error of that,
+-- where the reader tells it.
+abbrev pub failed_with : Option (Option Error) → Error → Option (Option Error)
+failed_with failure e = option_map (λ _. Some e) failure
+
+-- the last failure after a call, as a seek is
+abbrev pub failure_after : {X : Type 0} → Option (Option Error) → Result X Error → Option (Option Error)
+failure_after failure (Ok x) = failure
+failure_after failure (Err e) = failed_with failure e
+
+-- and after a read; an interruption is a failure too
+abbrev pub failure_after_read : Option (Option Error) → Result ℕ Stop → Option (Option Error)
+failure_after_read failure (Ok n) = failure
+failure_after_read failure (Err (Interrupted e)) = failed_with failure e
+failure_after_read failure (Err (Fault e)) = failed_with failure e
+
 -- An honest reader: its bytes are fewer than 2^63, and where none of its calls fails, at most as many of its
 -- reads are interrupted as a call tries again.
 pub record IsHonest (t : Telling) : Type 0 where
   pub short : length t.bytes < 2 ^ 63
   pub patient : t.can_fail ≡ false → t.interruptions ≤ most_retries
+
+-- what a reader tells of itself
+pub record Account : Type 0 where
+  pub telling : Option Telling
+  pub count : Option ℕ
+  pub failure : Option (Option Error)
+
+abbrev pub account : {R : Type 0} → (R → Option Telling) → (R → Option ℕ) → (R → Option (Option Error)) → R → Account
+account telling count failure reader = record { telling = telling reader; count = count reader; failure = failure reader }

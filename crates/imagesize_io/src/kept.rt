@@ -43,6 +43,8 @@ impl<R: Read + Seek + Drop> Told for KeptReader<R> {
 
     ghost count = { λ _. None };
 
+    ghost failure = { λ _. None };
+
     fn read_told(&mut self, room: &mut [u8]) -> Result<usize, Stop>
         ensures bound { IfOk result (λ n. n ≤ length room.new) }
         ensures stops { IfErr result (λ stop. (e : Error) × (stop ≡ stop_of e)) }

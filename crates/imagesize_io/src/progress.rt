@@ -16,7 +16,7 @@ pub struct Progress {
     pub place: u64,
     /// How many interruptions were tried again.
     pub retries: u64,
-    /// The error of the last call that failed.
-    pub fault: io::Error,
+    /// The error of the last call that failed and halted a reading; none so far.
+    pub fault: Option<io::Error>,
     ghost within: { taken ≤ budget },
 }

@@ -2,9 +2,10 @@
 ghost use Rattle.std.specs.Prelude.{◌≡◌, IfErr, true, false};
 ghost use Rattle.imagesize_source.specs.Reading.{is_fault, is_memory};
 ghost use Rattle.imagesize_io.specs.ReaderState.{reader_state, start_state, Opens};
-ghost use Rattle.imagesize_io.specs.Telling.{SeekTells};
+ghost use Rattle.imagesize_io.specs.Answers.{IsLast};
+ghost use Rattle.imagesize_io.specs.Telling.{SeekTells, account};
 ghost use Rattle.imagesize_io.specs.Standing.{error_at};
-ghost use Rattle.imagesize_io.specs.StopOf.{fault_of};
+ghost use Rattle.imagesize_io.specs.StopOf.{kept_error};
 
 mod filling;
 mod held;
@@ -16,7 +17,7 @@ use crate::progress::Progress;
 use crate::window::Window;
 use imagesize_source::source::Source;
 use imagesize_source::{Halt, ImageError, ImageResult, Reason, Text};
-use std::io::{self, ErrorKind, SeekFrom};
+use std::io::SeekFrom;
 
 /// A reader that is read by place. It takes bytes within a budget, and keeps the first of the input.
 #[derive(Drop)]
@@ -39,9 +40,9 @@ impl<'a, R: Told> ReaderSource<'a, R> {
     #[inline(always)]
     pub fn new(reader: &'a mut R, told: u64) -> Self
         ensures same_reference { result.reader.ghost_name ≡ reader.entry.ghost_name }
-        ensures state { reader_state (R.telling result.reader.now) (R.count result.reader.now) result.reader.ghost_name
+        ensures state { reader_state (account R.telling R.count R.failure result.reader.now) result.reader.ghost_name
             result.ledger.progress result.ledger.window.items
-            ≡ start_state (R.telling reader.old) (R.count reader.old) reader.entry.ghost_name told }
+            ≡ start_state (account R.telling R.count R.failure reader.old) reader.entry.ghost_name told }
         ensures present { result.ledger.present ≡ told }
     {
         let progress = Progress {
@@ -50,7 +51,7 @@ impl<'a, R: Told> ReaderSource<'a, R> {
             taken: 0,
             place: told,
             retries: 0,
-            fault: io::Error::from(ErrorKind::Other),
+            fault: None,
         };
         let ledger = Ledger {
             progress,
@@ -62,9 +63,10 @@ impl<'a, R: Told> ReaderSource<'a, R> {
 }
 
 impl<R: Told> Source for ReaderSource<'_, R> {
-    ghost state = { λ s. reader_state (R.telling s.reader.now) (R.count s.reader.now) s.reader.ghost_name s.ledger.progress s.ledger.window.items };
+    ghost state = { λ s. reader_state (account R.telling R.count R.failure s.reader.now) s.reader.ghost_name s.ledger.progress
+        s.ledger.window.items };
 
-    ghost failure = { λ s. fault_of s.ledger.progress.fault };
+    ghost failure = { λ s. kept_error s.ledger.progress.fault };
 
     #[inline]
     fn told(&self) -> u64 {
@@ -120,6 +122,7 @@ pub fn open<R: Told>(reader: &mut R, origin: Origin) -> ImageResult<Opened>
     ensures told { Opens (R.telling reader.old) (R.telling reader.new) result }
     ensures counts { R.count reader.new ≡ R.count reader.old }
     ensures fault { IfErr result (λ e. is_fault e ≡ true) }
+    ensures last { IfErr result (IsLast (R.failure reader.new)) }
     ensures memory { IfErr result (λ e. is_memory e ≡ false) }
 {
     let place = seek(reader, SeekFrom::Current(0))?;
@@ -136,6 +139,7 @@ fn seek<R: Told>(reader: &mut R, to: SeekFrom) -> ImageResult<u64>
     ensures told { SeekTells (R.telling reader.old) (R.telling reader.new) to result }
     ensures counts { R.count reader.new ≡ R.count reader.old }
     ensures fault { IfErr result (λ e. is_fault e ≡ true) }
+    ensures last { IfErr result (IsLast (R.failure reader.new)) }
     ensures memory { IfErr result (λ e. is_memory e ≡ false) }
 {
     let place = reader.seek_told(to)?;
@@ -148,5 +152,9 @@ fn seek<R: Told>(reader: &mut R, to: SeekFrom) -> ImageResult<u64>
 fn refusal_of(halt: Halt, progress: &Progress) -> ImageError
     ensures { result ≡ error_at progress.now halt }
 {
-    halt.error(Reason::Fault(progress.fault), progress.budget)
+    let failure = match progress.fault {
+        Some(error) => Reason::Fault(error),
+        None => Reason::EndOfInput,
+    };
+    halt.error(failure, progress.budget)
 }

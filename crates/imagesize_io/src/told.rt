@@ -7,7 +7,7 @@ ghost use Rattle.std.specs.Io.Seek.{SeekMoves, IsAtOffset};
 ghost use Rattle.std.specs.declared.io.Error.{Error};
 ghost use Rattle.imagesize_io.specs.Held.{IsWhole};
 ghost use Rattle.imagesize_io.specs.Kept.{HeldOf};
-ghost use Rattle.imagesize_io.specs.Telling.{Telling, ReadTells, SeekTells, count_after};
+ghost use Rattle.imagesize_io.specs.Telling.{Telling, ReadTells, SeekTells, count_after, failure_after, failure_after_read};
 ghost use Rattle.imagesize_io.specs.StopOf.{stop_of};
 
 use crate::held::copy_text;
@@ -44,11 +44,15 @@ pub trait Told: Drop {
     /// How many bytes the reader has given; or nothing.
     ghost count: { Self → Option ℕ };
 
+    /// The error of the last call that failed, interruptions among them, or that none has failed; or nothing.
+    ghost failure: { Self → Option (Option Error) };
+
     /// Reads into the buffer, and returns how many bytes it gave.
     fn read_told(&mut self, room: &mut [u8]) -> Result<usize, Stop>
         ensures bound { IfOk result (λ n. n ≤ length room.new) }
         ensures told { ReadTells (telling self.old) (telling self.new) room.new result }
-        ensures counts { count self.new ≡ count_after (count self.old) result };
+        ensures counts { count self.new ≡ count_after (count self.old) result }
+        ensures fails { failure self.new ≡ failure_after_read (failure self.old) result };
 
     /// Reads the text at the place where it stands, where it holds all of that, and answers how many bytes it gave. It
     /// may answer nothing, and has then given nothing.
@@ -59,6 +63,7 @@ pub trait Told: Drop {
         ensures told { IfSome result (λ n. ReadTells (telling self.old) (telling self.new) _room.new (Ok n)) }
         ensures counts { IfSome result (λ n. count self.new ≡ count_after {E = Stop} (count self.old) (Ok n)) }
         ensures none { result ≡ None → (telling self.new ≡ telling self.old) × (count self.new ≡ count self.old) }
+        ensures fails { failure self.new ≡ failure self.old }
     {
         None
     }
@@ -66,10 +71,12 @@ pub trait Told: Drop {
     /// Moves to a place, and answers it. Places count bytes from 0.
     fn seek_told(&mut self, to: SeekFrom) -> io::Result<u64>
         ensures told { SeekTells (telling self.old) (telling self.new) to result }
-        ensures counts { count self.new ≡ count self.old };
+        ensures counts { count self.new ≡ count self.old }
+        ensures fails { failure self.new ≡ failure_after (failure self.old) result };
 }
 
-/// A cursor over bytes tells them and its place, cannot fail, is never interrupted and counts nothing.
+/// A cursor over bytes tells them and its place, cannot fail and is never interrupted. It counts nothing, and tells no failure
+/// of a seek to a place that is none.
 impl Told for Cursor<&[u8]> {
     ghost telling = { λ c. Some (record {
       bytes = (cursor_inner c).now;
@@ -79,6 +86,8 @@ impl Told for Cursor<&[u8]> {
     }) };
 
     ghost count = { λ _. None };
+
+    ghost failure = { λ _. None };
 
     #[inline(always)]
     fn read_told(&mut self, room: &mut [u8]) -> Result<usize, Stop> {
@@ -121,6 +130,8 @@ impl<R: Read + Seek + Drop> Told for BufReader<R> {
     ghost telling = { λ _. None };
 
     ghost count = { λ _. None };
+
+    ghost failure = { λ _. None };
 
     fn read_told(&mut self, room: &mut [u8]) -> Result<usize, Stop>
         ensures bound { IfOk result (λ n. n ≤ length room.new) }

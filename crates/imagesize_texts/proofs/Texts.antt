@@ -60,6 +60,7 @@ judged_ended b (Ok x) h = tt
 judged_ended b (Err e) h = record {
   budget = subst (λ s. IfSome s (λ n. (b.frame.counts ≡ true) × (n ≡ b.frame.budget) × (n ≡ b.taken))) (sym h.none_spent) tt;
   memory = λ is. absurd (let no = h.memory in cc);
+  fault = λ is. absurd (let no = h.no_fault in cc);
 }
 
 -- what is made of a text that was read

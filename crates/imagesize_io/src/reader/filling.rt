@@ -1,9 +1,9 @@
 //! A room that is filled from a place on: by one read after another, within the budget.
-ghost use Rattle.std.specs.Prelude.{◌≡◌, max, ◌+◌, ◌^◌, ◌<◌, ◌≤◌, length, IfOk, IfErr, OnOk, true, false};
+ghost use Rattle.std.specs.Prelude.{◌≡◌, ℕ, max, ◌+◌, ◌^◌, ◌<◌, ◌≤◌, length, IfOk, IfErr, OnOk, Some, true, false};
 ghost use Rattle.imagesize_source.specs.Limits.{most_retries};
-ghost use Rattle.imagesize_io.specs.Telling.{count_after};
-ghost use Rattle.imagesize_io.specs.Standing.{steady, stand, GivesSome, StopsBy, KeepsCounts, Tries, Fills, ReadsOnce, drift, with_kept_error, given_or, GoesTo, ReadsFrom};
-ghost use Rattle.imagesize_io.specs.StopOf.{ending_of, fault_after, halt_if_failed};
+ghost use Rattle.imagesize_io.specs.Telling.{account, count_after};
+ghost use Rattle.imagesize_io.specs.Standing.{behind, behind_of, steady, stand, GivesSome, StopsBy, KeepsCounts, Tries, Fills, ReadsOnce, drift, with_kept_error, given_or, GoesTo, ReadsFrom};
+ghost use Rattle.imagesize_io.specs.StopOf.{ending_of, fault_after, halt_if_failed, kept_error, last_failed};
 
 use crate::progress::Progress;
 use crate::{Stop, Told};
@@ -28,14 +28,14 @@ fn ending(stop: Stop, tries: u64) -> Option<io::Error>
 
 // What a call of the reader answered. The error of one that failed is kept, and halts the reading.
 #[inline(always)]
-fn keep_fault<T>(answer: Result<T, io::Error>, fault: &mut io::Error) -> Result<T, Halt>
+fn keep_fault<T>(answer: Result<T, io::Error>, fault: &mut Option<io::Error>) -> Result<T, Halt>
     ensures fault { fault.new ≡ fault_after fault.old answer }
     ensures halt { result ≡ halt_if_failed answer }
 {
     match answer {
         Ok(value) => Ok(value),
         Err(error) => {
-            *fault = error;
+            *fault = Some(error);
             Err(Halt::Failed)
         }
     }
@@ -46,7 +46,7 @@ fn keep_fault<T>(answer: Result<T, io::Error>, fault: &mut io::Error) -> Result<
 fn read_retrying<R: Told>(
     reader: &mut R,
     retries: &mut u64,
-    fault: &mut io::Error,
+    fault: &mut Option<io::Error>,
     room: &mut [u8],
 ) -> Result<usize, Halt>
     ensures bound { IfOk result (λ n. n ≤ length room.new) }
@@ -57,6 +57,10 @@ fn read_retrying<R: Told>(
     ensures limit { retries.old ≤ most_retries → retries.new ≤ most_retries }
     ensures tries { OnOk result (Tries (R.telling reader.old) retries.old (R.telling reader.new) retries.new) }
     ensures failed { IfErr result (λ halt. halt ≡ Halt.Failed) }
+    ensures behind { (told : ℕ) → behind_of told retries.new fault.new (R.telling reader.new)
+        ≡ behind_of told retries.old fault.old (R.telling reader.old) }
+    ensures calm { OnOk result (fault.new ≡ fault.old) }
+    ensures kept { IfErr result (λ _. last_failed fault.new (R.failure reader.new) ≡ Some (kept_error fault.new)) }
 {
     loop {
         match reader.read_told(room) {
@@ -79,8 +83,7 @@ fn read_counted<R: Told>(
 ) -> Result<usize, Halt>
     requires fits { progress.old.taken + length room.old ≤ progress.old.budget }
     requires stands { progress.old.place ≡ place }
-    ensures reads { ReadsOnce progress.old progress.new (R.telling reader.old) (R.telling reader.new)
-        (R.count reader.old) (R.count reader.new) room.new (with_kept_error progress.new result) }
+    ensures reads { ReadsOnce progress.old progress.new (account R.telling R.count R.failure reader.old) (account R.telling R.count R.failure reader.new) room.new (with_kept_error progress.new result) }
     ensures failed { IfErr result (λ halt. halt ≡ Halt.Failed) }
 {
     let count = read_retrying(reader, &mut progress.retries, &mut progress.fault, room)?;
@@ -102,8 +105,7 @@ fn read_some<R: Told>(
     progress: &mut Progress,
     room: &mut [u8],
 ) -> Result<usize, Halt>
-    ensures { ReadsOnce progress.old progress.new (R.telling reader.old) (R.telling reader.new)
-        (R.count reader.old) (R.count reader.new) room.new (with_kept_error progress.new result) }
+    ensures { ReadsOnce progress.old progress.new (account R.telling R.count R.failure reader.old) (account R.telling R.count R.failure reader.new) room.new (with_kept_error progress.new result) }
 {
     let place = progress.place;
     let left = progress.budget - progress.taken;
@@ -126,7 +128,7 @@ fn fill<R: Told>(
 ) -> Result<usize, Halt>
     requires { progress.old.place ≡ place }
     ensures { Fills progress.old progress.new (stand (R.telling reader.old) progress.old) (stand (R.telling reader.new) progress.new)
-        (R.count reader.old) (R.count reader.new) room.new (with_kept_error progress.new result) }
+        (account R.telling R.count R.failure reader.old) (account R.telling R.count R.failure reader.new) room.new (with_kept_error progress.new result) }
 {
     if room.len() as u64 > progress.budget - progress.taken {
         return fill_behind(reader, progress, room);
@@ -148,7 +150,7 @@ fn fill_behind<R: Told>(
 ) -> Result<usize, Halt>
     requires { progress.old.place < 2 ^ 64 }
     ensures { Fills progress.old progress.new (stand (R.telling reader.old) progress.old) (stand (R.telling reader.new) progress.new)
-        (R.count reader.old) (R.count reader.new) room.new (with_kept_error progress.new result) }
+        (account R.telling R.count R.failure reader.old) (account R.telling R.count R.failure reader.new) room.new (with_kept_error progress.new result) }
 {
     let count = fill_rest(reader, progress, room)?;
     Ok(count)
@@ -164,7 +166,7 @@ fn fill_rest<R: Told>(
 ) -> Result<usize, Halt>
     requires { progress.old.place < 2 ^ 64 }
     ensures { Fills progress.old progress.new (stand (R.telling reader.old) progress.old) (stand (R.telling reader.new) progress.new)
-        (R.count reader.old) (R.count reader.new) room.new (with_kept_error progress.new result) }
+        (account R.telling R.count R.failure reader.old) (account R.telling R.count R.failure reader.new) room.new (with_kept_error progress.new result) }
 {
     let mut filled = 0;
     while filled < room.len() {
@@ -188,9 +190,11 @@ fn go_to<R: Told>(reader: &mut R, progress: &mut Progress, place: u64) -> Result
     ensures far { IfOk result (λ there. there ≡ false → progress.old.told < place) }
     ensures stays { progress.old.place ≡ place → (result ≡ Ok true) × (reader.new ≡ reader.old) }
     ensures since { drift (R.count reader.new) progress.new.taken ≡ drift (R.count reader.old) progress.old.taken }
+    ensures behind { behind (R.telling reader.new) progress.new ≡ behind (R.telling reader.old) progress.old }
+    ensures calm { OnOk result (progress.new.fault ≡ progress.old.fault) }
     ensures taken { progress.new.taken ≡ progress.old.taken }
     ensures keeps { KeepsCounts progress.old progress.new }
-    ensures stops { IfErr (with_kept_error progress.new result) (StopsBy progress.new) }
+    ensures stops { IfErr (with_kept_error progress.new result) (StopsBy progress.new (R.failure reader.new)) }
 {
     if progress.place == place {
         return Ok(true);
@@ -215,7 +219,7 @@ pub(super) fn read_from<R: Told>(
     room: &mut [u8],
 ) -> Result<usize, Halt>
     ensures { ReadsFrom progress.old progress.new (stand (R.telling reader.old) progress.old) (stand (R.telling reader.new) progress.new)
-        (R.count reader.old) (R.count reader.new) place room.new (with_kept_error progress.new result) }
+        (account R.telling R.count R.failure reader.old) (account R.telling R.count R.failure reader.new) place room.new (with_kept_error progress.new result) }
 {
     if !go_to(reader, progress, place)? {
         return Ok(0);

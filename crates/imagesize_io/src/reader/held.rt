@@ -3,6 +3,7 @@ ghost use Rattle.std.specs.Prelude.{◌≡◌, ◌+◌, ◌^◌, ◌<◌, ◌≤
 ghost use Rattle.imagesize_source.specs.Limits.{most_held};
 ghost use Rattle.imagesize_io.specs.Held.{IsWhole};
 ghost use Rattle.imagesize_io.specs.ReaderState.{ReadsAt};
+ghost use Rattle.imagesize_io.specs.Telling.{account};
 
 use super::Ledger;
 use crate::Told;
@@ -20,10 +21,9 @@ pub(super) fn read_held<R: Told>(
 ) -> Option<usize>
     ensures bound { IfSome result (λ n. n ≤ length room.new) }
     ensures whole { IfSome result (λ n. IsWhole text (take n room.new)) }
-    ensures none { result ≡ None → (R.telling reader.new ≡ R.telling reader.old) × (R.count reader.new ≡ R.count reader.old)
+    ensures none { result ≡ None → (account R.telling R.count R.failure reader.new ≡ account R.telling R.count R.failure reader.old)
         × (ledger.new ≡ ledger.old) }
-    ensures reads { IfSome result (λ n. ReadsAt ledger.old ledger.new (R.telling reader.old) (R.telling reader.new)
-        (R.count reader.old) (R.count reader.new) place (take n room.new) (Ok n)) }
+    ensures reads { IfSome result (λ n. ReadsAt ledger.old ledger.new (account R.telling R.count R.failure reader.old) (account R.telling R.count R.failure reader.new) place (take n room.new) (Ok n)) }
 {
     if !pays_there(ledger, place, room.len() as u64) {
         return None;

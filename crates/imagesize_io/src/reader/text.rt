@@ -1,5 +1,6 @@
 //! The text of a reader: out of what the reader holds, or byte by byte, since what is read is taken.
 ghost use Rattle.imagesize_io.specs.ReaderState.{ReadsText};
+ghost use Rattle.imagesize_io.specs.Telling.{account};
 
 use super::Ledger;
 use super::held::read_held;
@@ -17,7 +18,7 @@ pub(super) fn read_text<R: Told>(
     text: Text,
     room: &mut [u8],
 ) -> Result<usize, Halt>
-    ensures { ReadsText ledger.old ledger.new (R.telling reader.old) (R.telling reader.new) (R.count reader.old) (R.count reader.new)
+    ensures { ReadsText ledger.old ledger.new (account R.telling R.count R.failure reader.old) (account R.telling R.count R.failure reader.new)
         text place room.new result }
 {
     if let Some(count) = read_held(reader, ledger, place, text, room) {
@@ -35,7 +36,7 @@ fn read_by_bytes<R: Told>(
     text: Text,
     room: &mut [u8],
 ) -> Result<usize, Halt>
-    ensures { ReadsText ledger.old ledger.new (R.telling reader.old) (R.telling reader.new) (R.count reader.old) (R.count reader.new)
+    ensures { ReadsText ledger.old ledger.new (account R.telling R.count R.failure reader.old) (account R.telling R.count R.failure reader.new)
         text place room.new result }
 {
     let mut begun = false;

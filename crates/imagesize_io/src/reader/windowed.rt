@@ -2,6 +2,7 @@
 ghost use Rattle.std.specs.Prelude.{◌<◌, ◌≤◌};
 ghost use Rattle.imagesize_io.specs.ReaderState.{ReadsAt, ReadsOn};
 ghost use Rattle.imagesize_io.specs.Standing.{stand, with_kept_error, ReadsFrom};
+ghost use Rattle.imagesize_io.specs.Telling.{account};
 
 use super::Ledger;
 use super::filling::read_from;
@@ -19,8 +20,7 @@ fn read_windowed<R: Told>(
     room: &mut [u8],
 ) -> Result<usize, Halt>
     requires { place ≤ ledger.old.progress.told }
-    ensures { ReadsOn reader.old reader.new ledger.old ledger.new (R.telling reader.old) (R.telling reader.new)
-        (R.count reader.old) (R.count reader.new) place room.new result }
+    ensures { ReadsOn reader.old reader.new ledger.old ledger.new (account R.telling R.count R.failure reader.old) (account R.telling R.count R.failure reader.new) place room.new result }
 {
     if place < ledger.window.len() as u64 || room.is_empty() {
         let count = read_within(reader, ledger, place, room)?;
@@ -41,7 +41,7 @@ fn read_within<R: Told>(
     place: u64,
     room: &mut [u8],
 ) -> Result<usize, Halt>
-    ensures { ReadsAt ledger.old ledger.new (R.telling reader.old) (R.telling reader.new) (R.count reader.old) (R.count reader.new)
+    ensures { ReadsAt ledger.old ledger.new (account R.telling R.count R.failure reader.old) (account R.telling R.count R.failure reader.new)
         place room.new (with_kept_error ledger.new.progress result) }
 {
     let copied = copy_kept(&ledger.window, place, room);
@@ -64,7 +64,7 @@ fn read_across<R: Told>(
     room: &mut [u8],
 ) -> Result<usize, Halt>
     ensures { ReadsFrom progress.old progress.new (stand (R.telling reader.old) progress.old) (stand (R.telling reader.new) progress.new)
-        (R.count reader.old) (R.count reader.new) place room.new (with_kept_error progress.new result) }
+        (account R.telling R.count R.failure reader.old) (account R.telling R.count R.failure reader.new) place room.new (with_kept_error progress.new result) }
 {
     read_from(reader, progress, place, room)
 }
@@ -77,8 +77,7 @@ pub(super) fn read_on<R: Told>(
     place: u64,
     room: &mut [u8],
 ) -> Result<usize, Halt>
-    ensures { ReadsOn reader.old reader.new ledger.old ledger.new (R.telling reader.old) (R.telling reader.new)
-        (R.count reader.old) (R.count reader.new) place room.new result }
+    ensures { ReadsOn reader.old reader.new ledger.old ledger.new (account R.telling R.count R.failure reader.old) (account R.telling R.count R.failure reader.new) place room.new result }
 {
     if ledger.progress.told < place {
         return read_beyond(reader, ledger, place, room);
@@ -95,8 +94,7 @@ fn read_beyond<R: Told>(
     room: &mut [u8],
 ) -> Result<usize, Halt>
     requires { ledger.old.progress.told < place }
-    ensures { ReadsOn reader.old reader.new ledger.old ledger.new (R.telling reader.old) (R.telling reader.new)
-        (R.count reader.old) (R.count reader.new) place room.new result }
+    ensures { ReadsOn reader.old reader.new ledger.old ledger.new (account R.telling R.count R.failure reader.old) (account R.telling R.count R.failure reader.new) place room.new result }
 {
     let count = read_above(reader, ledger, place, room)?;
     Ok(count)
@@ -113,8 +111,7 @@ fn read_above<R: Told>(
     room: &mut [u8],
 ) -> Result<usize, Halt>
     requires { ledger.old.progress.told < place }
-    ensures { ReadsOn reader.old reader.new ledger.old ledger.new (R.telling reader.old) (R.telling reader.new)
-        (R.count reader.old) (R.count reader.new) place room.new result }
+    ensures { ReadsOn reader.old reader.new ledger.old ledger.new (account R.telling R.count R.failure reader.old) (account R.telling R.count R.failure reader.new) place room.new result }
 {
     if place != ledger.present {
         return Ok(0);

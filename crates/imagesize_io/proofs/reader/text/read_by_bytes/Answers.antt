@@ -1,5 +1,6 @@
 use Rattle.std.proofs.Common.{◌≡◌, ◌+◌, ◌-◌, ℕ, Result, Err, length, ap, arith, rules, refl}
 use Rattle.imagesize_source.specs.declared.halt.Halt.{Halt}
+use Rattle.imagesize_io.specs.Telling.{account}
 use Rattle.imagesize_io.proofs.TextReads.{one_long, reader_sound, taking_none, taking_full, text_goes_on, text_ends, input_ends, text_stopped}
 use Rattle.imagesize_io.proofs.reader.text.read_by_bytes.Goals as goal
 
@@ -7,7 +8,7 @@ pub loop-count-init : goal.loop-count-init
 loop-count-init g c = λ home.
     let ledger = c.args.ledger.now in
     taking_none _ c.args.text c.args.place (length c.args.room.now)
-    (reader_sound (g.R.Told.telling c.args.reader.now) (g.R.Told.count c.args.reader.now) home ledger.progress ledger.window.items)
+    (reader_sound (account g.R.Told.telling g.R.Told.count g.R.Told.failure c.args.reader.now) home ledger.progress ledger.window.items)
 
 pub loop-count-preserved : goal.loop-count-preserved
 loop-count-preserved g c = λ home.
@@ -30,7 +31,7 @@ returns-in_err-read_on g c =
           (c.loop-count.count + 1 - c.loop-count.count) c.read_on.new.room
           (omega (arith, c.saturating_add-next.ensures)) c.loop-count-test.true (omega arith) (one_long c.loop-count.count c.loop-count.room
           c.read_on.new.room c.loop-count-test.true c.read_on.auto.room) (c.in_err-read_on.ensures.reads.runs home)
-          (reader_sound (g.R.Told.telling c.args.reader.now) (g.R.Told.count c.args.reader.now) home ledger.progress ledger.window.items) refl);
+          (reader_sound (account g.R.Told.telling g.R.Told.count g.R.Told.failure c.args.reader.now) home ledger.progress ledger.window.items) refl);
     }
 
 pub returns-after-loop-count : goal.returns-after-loop-count
@@ -40,7 +41,7 @@ returns-after-loop-count g c =
       bound = (c.loop-count.invariant 0).fits;
       pays = (c.loop-count.invariant 0).pays;
       runs = λ home. taking_full (c.loop-count.invariant home) c.loop-count-test.false
-          (reader_sound (g.R.Told.telling c.args.reader.now) (g.R.Told.count c.args.reader.now) home ledger.progress ledger.window.items);
+          (reader_sound (account g.R.Told.telling g.R.Told.count g.R.Told.failure c.args.reader.now) home ledger.progress ledger.window.items);
     }
 
 pub returns-then-branch-eq0 : goal.returns-then-branch-eq0
@@ -55,7 +56,7 @@ returns-then-branch-eq0 g c =
           (c.loop-count.count + 1 - c.loop-count.count) c.read_on.new.room
           (omega (arith, c.saturating_add-next.ensures)) c.loop-count-test.true (omega arith) (one_long c.loop-count.count c.loop-count.room
           c.read_on.new.room c.loop-count-test.true c.read_on.auto.room) (read.runs home)
-          (reader_sound (g.R.Told.telling c.args.reader.now) (g.R.Told.count c.args.reader.now) home ledger.progress ledger.window.items)
+          (reader_sound (account g.R.Told.telling g.R.Told.count g.R.Told.failure c.args.reader.now) home ledger.progress ledger.window.items)
           c.if-branch-eq0.true;
     }
 
@@ -76,6 +77,6 @@ returns-then-is_end g c =
           (omega (arith, c.saturating_add-next.ensures)) c.loop-count-test.true (omega arith) (one_long c.loop-count.count c.loop-count.room
           c.read_on.new.room c.loop-count-test.true c.read_on.auto.room) (read.runs home) (omega (arith, c.if-branch-eq0.false)) read.bound
           c.is_end.result (refl, refl)
-          (reader_sound (g.R.Told.telling c.args.reader.now) (g.R.Told.count c.args.reader.now) home ledger.progress ledger.window.items)
+          (reader_sound (account g.R.Told.telling g.R.Told.count g.R.Told.failure c.args.reader.now) home ledger.progress ledger.window.items)
           c.is_end.ensures c.if-is_end.true;
     }

@@ -1,13 +1,14 @@
 use Rattle.std.proofs.Common.{ℕ, ◌-◌, length, take}
 use Rattle.imagesize_io.specs.ReaderState.{reader_state}
+use Rattle.imagesize_io.specs.Telling.{account}
 use Rattle.imagesize_io.proofs.TextReads.{Taking}
 use Rattle.imagesize_io.proofs.reader.text.read_by_bytes.Given as goal
 
 abbrev pub invariant-loop-count : goal.invariant-loop-count
 invariant-loop-count g l = (home : ℕ) → Taking
-    (reader_state (g.R.Told.telling l.initial.reader) (g.R.Told.count l.initial.reader) home l.initial.ledger.progress
+    (reader_state (account g.R.Told.telling g.R.Told.count g.R.Told.failure l.initial.reader) home l.initial.ledger.progress
     l.initial.ledger.window.items)
-    (reader_state (g.R.Told.telling l.reader) (g.R.Told.count l.reader) home l.ledger.progress l.ledger.window.items)
+    (reader_state (account g.R.Told.telling g.R.Told.count g.R.Told.failure l.reader) home l.ledger.progress l.ledger.window.items)
     l.text l.place l.count l.begun (length l.room) (take l.count l.room)
 
 abbrev pub decreases-loop-count : goal.decreases-loop-count

@@ -1,4 +1,5 @@
 use Rattle.std.proofs.Common.{arith, refl, rules}
+use Rattle.imagesize_io.specs.Telling.{account}
 use Rattle.imagesize_io.proofs.Windows.{behind_end, told_by}
 use Rattle.imagesize_io.proofs.reader.windowed.read_above.Goals as goal
 
@@ -12,8 +13,8 @@ returns-then-place-ledger g c =
             pays = λ some far. omega (arith, some);
             keeps = record { told = refl; budget = refl; taken = omega arith; retries = omega arith; limit = λ few. few };
             runs = λ home.
-                let told = told_by (g.R.Told.count c.args.reader.now) home (g.R.Told.telling c.args.reader.now) old in
-                behind_end _ _ _ _ _ told c.requires;
+                let told = told_by (account g.R.Told.telling g.R.Told.count g.R.Told.failure c.args.reader.now) home old in
+                behind_end _ _ _ _ _ _ told c.requires;
           };
       present = λ told. absurd (omega (arith, c.requires, told));
       goes_on = λ on. search (rules, on);

@@ -1,5 +1,6 @@
 use Rattle.std.proofs.Common.{◌≡◌, ℕ, Result, Err, ◌+◌, ap, ◌∙◌, arith, refl, rules}
 use Rattle.imagesize_source.specs.declared.halt.Halt.{Halt}
+use Rattle.imagesize_io.specs.Telling.{account}
 use Rattle.imagesize_io.specs.ReaderState.{kept_window}
 use Rattle.imagesize_io.proofs.Filling.{put_there}
 use Rattle.imagesize_io.proofs.Layers.{some_copied, reads_behind, stops_behind}
@@ -15,8 +16,8 @@ returns-then-copied-room g c =
       pays = search rules;
       keeps = search rules;
       runs = λ home.
-          let told = told_by (g.R.Told.count c.args.reader.now) home (g.R.Told.telling c.args.reader.now) old in
-          in_window _ _ _ _ _ _ _ _ told refl copy.ensures.count copy.ensures.copied c.if-copied-room.true copy.auto.room;
+          let told = told_by (account g.R.Told.telling g.R.Told.count g.R.Told.failure c.args.reader.now) home old in
+          in_window _ _ _ _ _ _ _ _ _ told refl copy.ensures.count copy.ensures.copied c.if-copied-room.true copy.auto.room;
     }
 
 pub returns-in_err-count : goal.returns-in_err-count
