@@ -1,11 +1,17 @@
 -- How calls end: over a reader they want no memory, and spend a budget whole; over a slice nothing stops them.
-use Rattle.std.proofs.Common.{◌≡◌, ℕ, ◌+◌, ◌-◌, ◌^◌, ◌≤◌, min, Bool, true, false, Option, Some, None, Result, Ok, Err, IfErr, IfSome, inl, inr, refl, sym, ap, ◌∙◌, arith}
+use Rattle.std.proofs.Common.{◌≡◌, ℕ, ◌+◌, ◌-◌, ◌^◌, ◌≤◌, min, Bool, true, false, Option, Some, None, Result, Ok, Err, IfErr, IfSome, inl, inr, refl, sym, ap, ◌∙◌, subst, arith}
 use Rattle.std.specs.Prelude.{option_map}
 use Rattle.imagesize.specs.Probed.{SpentAll}
-use Rattle.imagesize_io.proofs.Openings.{stop_cases, some_spent}
-use Rattle.imagesize_source.specs.Reading.{Reads, is_memory, is_faulted, is_stop, budget_spent, is_stopped}
-use Rattle.imagesize_io.specs.Standing.{drift}
-use Rattle.imagesize_source.specs.State.{State, Runs}
+use Rattle.std.specs.declared.io.Error.{Error}
+use Rattle.imagesize_io.proofs.Openings.{opened_leaves, stop_cases, some_spent, told_last}
+use Rattle.imagesize_io.specs.Answers.{IsLast, Leaves}
+use Rattle.imagesize_io.specs.ReaderState.{Opens, start_state}
+use Rattle.imagesize_io.specs.StopOf.{last_failed}
+use Rattle.imagesize_io.specs.Telling.{Telling}
+use Rattle.imagesize_io.specs.declared.reader.Opened.{Opened}
+use Rattle.imagesize_source.specs.Reading.{Reads, is_fault, is_memory, is_faulted, is_stop, budget_spent, is_stopped}
+use Rattle.imagesize_io.specs.Standing.{behind_of, drift}
+use Rattle.imagesize_source.specs.State.{State, EndedBy, Runs}
 use Rattle.imagesize_source.specs.declared.error.ImageError.{ImageError}
 use Rattle.std.proofs.lemmas.Bool.{false_from_ne_true}
 
@@ -94,3 +100,21 @@ budget_counted {b = b} told before after (Err e) reads start counts h counted =
     all_spent (budget_spent e) before after b.taken
     (rose before after b.taken (sym counted ∙ ap (λ f. f.since) h.frame ∙ counts))
     (budget_taken told b.taken (Err e) reads start h refl)
+
+told_fault : {X : Type 0} (b : State) (failure : Option (Option Error)) (fault : Option Error) (r : Result X ImageError)
+    → b.failed ≡ Some (last_failed fault failure) → IfErr r (EndedBy b) → IfErr r (λ e. is_fault e ≡ true → IsLast failure e)
+told_fault b failure fault (Ok x) is ended = tt
+told_fault b failure fault (Err e) is ended = λ faults.
+    told_last failure fault e (subst (λ f. IfSome f (λ failed. failed ≡ Some e)) is (ended.fault faults))
+
+-- a failure that ends a call over a reader is the reader's last one
+pub fault_last : {X : Type 0} {a b : State} (failure : Option (Option Error)) (fault : Option Error) (r : Result X ImageError) (reads : Reads X)
+    → b.failed ≡ Some (last_failed fault failure) → Runs a b r reads → IfErr r (λ e. is_fault e ≡ true → IsLast failure e)
+fault_last failure fault r reads is h = told_fault _ failure fault r is h.ended
+
+-- and the reader is left as it was, but for its place and the interruptions that came
+pub leaves_reader : {X : Type 0} {a b : State} (telling mid new : Option Telling) (count : Option ℕ) (home : ℕ) (opened : Opened)
+    (told retries : ℕ) (fault : Option Error) (r : Result X ImageError) (reads : Reads X) → a ≡ start_state mid count home opened.told
+    → b.frame.behind ≡ behind_of told retries fault new → Runs a b r reads → Opens telling mid (Ok opened) → Leaves telling new
+leaves_reader telling mid new count home opened told retries fault r reads start is h opens = opened_leaves telling mid new opened told
+    retries fault opens (sym is ∙ ap (λ f. f.behind) h.frame ∙ ap (λ s. s.frame.behind) start)

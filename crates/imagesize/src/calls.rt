@@ -1,8 +1,8 @@
 //! The calls: type and size of a slice's bytes, or of a reader's.
 ghost use Rattle.std.specs.Prelude.{◌≡◌, ℕ, ◌+◌, ◌<◌, ◌≤◌, List, length, ◌++◌, IsTrue, IfOk, IfErr, IfSome, IsSome, Some, true, false, Option, Ok, Err, option_map};
-ghost use Rattle.imagesize_io.specs.Answers.{Answers, CountsWithin};
+ghost use Rattle.imagesize_io.specs.Answers.{Answers, CountsWithin, IsLast, Leaves};
 ghost use Rattle.imagesize_source.specs.Limits.{allowance};
-ghost use Rattle.imagesize_source.specs.Reading.{end_of_input, is_memory, budget_spent, is_stopped};
+ghost use Rattle.imagesize_source.specs.Reading.{end_of_input, is_fault, is_memory, budget_spent, is_stopped};
 ghost use Rattle.imagesize_source.specs.State.{Runs};
 ghost use Rattle.imagesize_io.specs.ReaderState.{Opens};
 ghost use Rattle.imagesize_io.specs.Telling.{Telling};
@@ -186,6 +186,10 @@ pub fn reader_probe<R: Told>(reader: &mut R) -> Probed
     ensures counts { R.count reader.new ≡ option_map (λ c. c + result.taken) (R.count reader.old) }
     ensures spent { IfErr result.answer (λ e. IfSome (budget_spent e) (λ budget. (budget ≡ result.taken) × (allowance ≤ budget))) }
     ensures memory { IfErr result.answer (λ e. is_memory e ≡ false) }
+
+    // A `Fault` carries the error of the last call that failed, and the reader may be used again.
+    ensures fault { IfErr result.answer (λ e. is_fault e ≡ true → IsLast (R.failure reader.new) e) }
+    ensures leaves { Leaves (R.telling reader.old) (R.telling reader.new) }
 {
     match open(reader, Origin::Place) {
         Ok(opened) => probe_opened(reader, opened),
@@ -218,6 +222,10 @@ impl ImageType {
         // Over every reader, also one that tells nothing or lies:
         ensures spent { IfErr result (λ e. IfSome (budget_spent e) (λ budget. SpentAll (R.count reader.old) (R.count reader.new) budget)) }
         ensures memory { IfErr result (λ e. is_memory e ≡ false) }
+
+        // A `Fault` carries the error of the last call that failed, and the reader may be used again.
+        ensures fault { IfErr result (λ e. is_fault e ≡ true → IsLast (R.failure reader.new) e) }
+        ensures leaves { Leaves (R.telling reader.old) (R.telling reader.new) }
     {
         let opened = open(reader, Origin::Start)?;
         size_opened(*self, reader, opened)
@@ -244,6 +252,9 @@ fn size_opened<R: Told>(kind: ImageType, reader: &mut R, opened: Opened) -> Imag
         → CountsWithin telling (R.count reader.old) (R.count reader.new) (λ d place. size_of kind d) }
     ensures spent { IfErr result (λ e. IfSome (budget_spent e) (λ budget. SpentAll (R.count reader.old) (R.count reader.new) budget)) }
     ensures memory { IfErr result (λ e. is_memory e ≡ false) }
+    ensures fault { IfErr result (λ e. is_fault e ≡ true → IsLast (R.failure reader.new) e) }
+    ensures leaves { (telling : Option Telling) → Opens telling (R.telling reader.old) (Ok opened)
+        → Leaves telling (R.telling reader.new) }
 {
     let mut source = ReaderSource::new(reader, opened.told);
     let answer = size(&mut source, kind);
@@ -258,6 +269,9 @@ fn probe_opened<R: Told>(reader: &mut R, opened: Opened) -> Probed
     ensures counts { R.count reader.new ≡ option_map (λ c. c + result.taken) (R.count reader.old) }
     ensures spent { IfErr result.answer (λ e. IfSome (budget_spent e) (λ budget. (budget ≡ result.taken) × (allowance ≤ budget))) }
     ensures memory { IfErr result.answer (λ e. is_memory e ≡ false) }
+    ensures fault { IfErr result.answer (λ e. is_fault e ≡ true → IsLast (R.failure reader.new) e) }
+    ensures leaves { (telling : Option Telling) → Opens telling (R.telling reader.old) (Ok opened)
+        → Leaves telling (R.telling reader.new) }
 {
     let mut source = ReaderSource::new(reader, opened.told);
     let (kind, answer) = probe(&mut source, opened.place);

@@ -1,15 +1,18 @@
 -- From the state of a source to what a call answers to its reader.
-use Rattle.std.proofs.Common.{◌≡◌, ℕ, ◌+◌, ◌-◌, ◌^◌, ◌<◌, ◌≤◌, ◌⊎◌, inl, inr, min, Bool, true, false, ◌||◌, List, length, leb, ltb, eqb, Option, Some, None, Result, Ok, Err, IfSome, refl, sym, ap, ◌∙◌, subst, arith}
+use Rattle.std.proofs.Common.{◌≡◌, ℕ, ◌+◌, ◌-◌, ◌^◌, ◌<◌, ◌≤◌, ◌⊎◌, inl, inr, min, Bool, true, false, ◌||◌, cond, List, length, leb, ltb, eqb, Option, Some, None, Result, Ok, Err, IfSome, refl, sym, ap, ◌∙◌, subst, arith}
 use Rattle.std.proofs.lemmas.Bool.Decides.{nat_tests}
 use Rattle.imagesize_source.specs.declared.error.ImageError.{ImageError}
 use Rattle.imagesize_source.specs.declared.error.ImageError.TheVariants.{NotSupported, CorruptedImage, IoError}
 use Rattle.imagesize_source.specs.declared.error.Reason.TheVariants.{Fault, BudgetSpent, Memory}
 use Rattle.imagesize_io.specs.declared.reader.Opened.{Opened}
-use Rattle.imagesize_io.specs.Answers.{AnswersAs, TakesAs, Answers, Takes, over_reader}
+use Rattle.std.specs.declared.io.Error.{Error}
+use Rattle.imagesize_io.specs.Answers.{AnswersAs, TakesAs, Answers, IsLast, LeftAs, Leaves, Takes, over_reader}
+use Rattle.imagesize_io.specs.Standing.{behind_of, in_all}
+use Rattle.imagesize_io.specs.StopOf.{fault_of, last_failed}
 use Rattle.imagesize_source.specs.Reading.{Reads, is_fault, is_stop, is_memory, budget_spent}
 use Rattle.imagesize_io.specs.ReaderState.{start_state, Opens}
-use Rattle.imagesize_source.specs.State.{State, Held, Runs, state_after, total}
-use Rattle.imagesize_io.specs.Telling.{Account, Telling, IsHonest, at_place}
+use Rattle.imagesize_source.specs.State.{Behind, State, Held, Runs, state_after, total}
+use Rattle.imagesize_io.specs.Telling.{Telling, IsHonest, at_place}
 use Rattle.imagesize_source.proofs.Counts.{places_past}
 
 few_leb : (n : ℕ) → n ≤ 64 → leb (n + 0) 64 ≡ true
@@ -36,13 +39,9 @@ least_of n short = omega arith
 abbrev pub claim : Telling → Held
 claim t = record { honest = true; input = t.bytes; can_fail = t.can_fail }
 
--- a reader that stands at the end of what it tells
-abbrev pub at_end : Telling → Account → Account
-at_end t a = record a { telling = Some (at_place t (length t.bytes)) }
-
-pub start_holds : (t : Telling) (a : Account) (home : ℕ) → IsHonest t
-    → (start_state (at_end t a) home (length t.bytes)).held ≡ claim t
-start_holds t a home honest =
+pub start_holds : (t : Telling) (count : Option ℕ) (home : ℕ) → IsHonest t
+    → (start_state (Some (at_place t (length t.bytes))) count home (length t.bytes)).held ≡ claim t
+start_holds t count home honest =
     let n = length t.bytes in
     let waits : (t.can_fail || leb (t.interruptions + 0) 64) ≡ true = patient t t.can_fail refl honest.patient in
     let short : ltb n (2 ^ 63) ≡ true = is_below n (2 ^ 63) honest.short in
@@ -111,9 +110,10 @@ takes_of {X} t a b r reads starts h =
           omega (arith, after, places_past (length t.bytes) a reads.marks starts.counts starts.front, starts.taken);
     }
 
-starts_at : (t : Telling) (a : Account) (home : ℕ) → IsHonest t → Starts t (start_state (at_end t a) home (length t.bytes))
-starts_at t a home honest = record {
-  held = start_holds t a home honest;
+starts_at : (t : Telling) (count : Option ℕ) (home : ℕ) → IsHonest t
+    → Starts t (start_state (Some (at_place t (length t.bytes))) count home (length t.bytes))
+starts_at t count home honest = record {
+  held = start_holds t count home honest;
   budget = least_of (length t.bytes) honest.short;
   counts = refl;
   records = refl;
@@ -135,41 +135,93 @@ pub record Began (t : Telling) (mid : Option Telling) (told place : ℕ) : Type 
   pub length_told : told ≡ length t.bytes
   pub at : place ≡ t.place
 
-pub start_of : (t : Telling) (mid : Account) (home told place : ℕ) → Began t mid.telling told place
-    → start_state mid home told ≡ start_state (at_end t mid) home (length t.bytes)
-start_of t mid home told place h = ap (λ m. start_state (record mid { telling = m }) home told) h.at_end
-    ∙ ap (λ n. start_state (at_end t mid) home n) h.length_told
+pub start_of : (t : Telling) (mid : Option Telling) (count : Option ℕ) (home told place : ℕ) → Began t mid told place
+    → start_state mid count home told ≡ start_state (Some (at_place t (length t.bytes))) count home (length t.bytes)
+start_of t mid count home told place h = ap (λ m. start_state m count home told) h.at_end
+    ∙ ap (λ n. start_state (Some (at_place t (length t.bytes))) count home n) h.length_told
 
-runs_of : {X : Type 0} (t : Telling) (mid : Account) (home told place : ℕ) (b : State)
-    (r : Result X ImageError) (reads_of : List ℕ → ℕ → Reads X) → IsHonest t → Began t mid.telling told place
-    → Runs (start_state mid home told) b r (over_state (start_state mid home told) reads_of place)
-    → Runs (start_state (at_end t mid) home (length t.bytes)) b r (over_reader t reads_of)
-runs_of t mid home told place b r reads_of honest began h =
-    let a = start_state (at_end t mid) home (length t.bytes) in
+runs_of : {X : Type 0} (t : Telling) (mid : Option Telling) (count : Option ℕ) (home told place : ℕ) (b : State)
+    (r : Result X ImageError) (reads_of : List ℕ → ℕ → Reads X) → IsHonest t → Began t mid told place
+    → Runs (start_state mid count home told) b r (over_state (start_state mid count home told) reads_of place)
+    → Runs (start_state (Some (at_place t (length t.bytes))) count home (length t.bytes)) b r (over_reader t reads_of)
+runs_of t mid count home told place b r reads_of honest began h =
+    let a = start_state (Some (at_place t (length t.bytes))) count home (length t.bytes) in
     let begun : Runs a b r (over_state a reads_of place) = subst (λ s. Runs s b r (over_state s reads_of place))
-    (start_of t mid home told place began) h in
-    let there : Runs a b r (reads_of t.bytes place) = subst (λ k. Runs a b r (reads_of k.input place)) (start_holds t mid home honest)
+    (start_of t mid count home told place began) h in
+    let there : Runs a b r (reads_of t.bytes place) = subst (λ k. Runs a b r (reads_of k.input place)) (start_holds t count home honest)
     begun in
     subst (λ p. Runs a b r (reads_of t.bytes p)) began.at there
 
 -- what a call that ran behind an opening answers
-pub opened_answers : {X : Type 0} (telling : Option Telling) (mid : Account) (home : ℕ) (opened : Opened) (b : State)
-    (r : Result X ImageError) (reads_of : List ℕ → ℕ → Reads X) → IsBounded reads_of → Opens telling mid.telling (Ok opened)
-    → Runs (start_state mid home opened.told) b r (over_state (start_state mid home opened.told) reads_of opened.place)
+pub opened_answers : {X : Type 0} (telling mid : Option Telling) (count : Option ℕ) (home : ℕ) (opened : Opened) (b : State)
+    (r : Result X ImageError) (reads_of : List ℕ → ℕ → Reads X) → IsBounded reads_of → Opens telling mid (Ok opened)
+    → Runs (start_state mid count home opened.told) b r (over_state (start_state mid count home opened.told) reads_of opened.place)
     → Answers telling reads_of r
-opened_answers None mid home opened b r reads_of bounded opens h = tt
-opened_answers (Some t) mid home opened b r reads_of bounded opens h = λ honest.
-    let began : Began t mid.telling opened.told opened.place = record { at_end = opens.0; length_told = opens.2; at = opens.1 } in
-    answers_of t _ b r (over_reader t reads_of) (starts_at t mid home honest) (runs_of t mid home opened.told opened.place b r
+opened_answers None mid count home opened b r reads_of bounded opens h = tt
+opened_answers (Some t) mid count home opened b r reads_of bounded opens h = λ honest.
+    let began : Began t mid opened.told opened.place = record { at_end = opens.0; length_told = opens.2; at = opens.1 } in
+    answers_of t _ b r (over_reader t reads_of) (starts_at t count home honest) (runs_of t mid count home opened.told opened.place b r
     reads_of honest began h) (bounded t.bytes t.place)
 
 -- and what it took
-pub opened_takes : {X : Type 0} (telling : Option Telling) (mid : Account) (home : ℕ) (opened : Opened) (b : State)
-    (r : Result X ImageError) (reads_of : List ℕ → ℕ → Reads X) → Opens telling mid.telling (Ok opened)
-    → Runs (start_state mid home opened.told) b r (over_state (start_state mid home opened.told) reads_of opened.place)
+pub opened_takes : {X : Type 0} (telling mid : Option Telling) (count : Option ℕ) (home : ℕ) (opened : Opened) (b : State)
+    (r : Result X ImageError) (reads_of : List ℕ → ℕ → Reads X) → Opens telling mid (Ok opened)
+    → Runs (start_state mid count home opened.told) b r (over_state (start_state mid count home opened.told) reads_of opened.place)
     → Takes telling reads_of r b.taken
-opened_takes None mid home opened b r reads_of opens h = tt
-opened_takes (Some t) mid home opened b r reads_of opens h = λ honest.
-    let began : Began t mid.telling opened.told opened.place = record { at_end = opens.0; length_told = opens.2; at = opens.1 } in
-    takes_of t _ b r (over_reader t reads_of) (starts_at t mid home honest) (runs_of t mid home opened.told opened.place b r
+opened_takes None mid count home opened b r reads_of opens h = tt
+opened_takes (Some t) mid count home opened b r reads_of opens h = λ honest.
+    let began : Began t mid opened.told opened.place = record { at_end = opens.0; length_told = opens.2; at = opens.1 } in
+    takes_of t _ b r (over_reader t reads_of) (starts_at t count home honest) (runs_of t mid count home opened.told opened.place b r
     reads_of honest began h)
+
+-- A reader that cannot open stays as it was, but for its place.
+pub fails_leaves : (telling new : Option Telling) (e : ImageError) → Opens telling new (Err e) → Leaves telling new
+fails_leaves None new e is = is
+fails_leaves (Some t) None e fails = absurd fails.1
+fails_leaves (Some t) (Some u) e fails = record {
+  bytes = fails.1.0;
+  can_fail = fails.1.1 ∙ sym fails.0;
+  interruptions = λ honest never. absurd (let no : true ≡ false = sym fails.0 ∙ never in cc);
+}
+
+-- no more interruptions are left than come in all
+fewer_left : (b : Bool) (n k : ℕ) → cond b (Some n) None ≡ Some k → n ≤ k
+fewer_left true n k is = let same : n ≡ k = cc in omega (arith, same)
+fewer_left false n k is = absurd cc
+
+known_in_all : (t : Telling) → IsHonest t → t.can_fail ≡ false
+    → in_all (length t.bytes) 0 None (at_place t (length t.bytes)) ≡ Some (t.interruptions + 0)
+known_in_all t honest never =
+    let few : leb (t.interruptions + 0) 64 ≡ true = few_leb t.interruptions (honest.patient never) in
+    let same : eqb (length t.bytes) (length t.bytes) ≡ true = is_same (length t.bytes) in
+    rw (never, few, same) refl
+
+some_is : {b c : Behind} → ◌≡◌ {A = Option Behind} (Some b) (Some c) → b ≡ c
+some_is same = cc
+
+-- what never changes of a reader says how a call leaves it
+pub opened_leaves : (telling mid new : Option Telling) (opened : Opened) (told retries : ℕ) (fault : Option Error)
+    → Opens telling mid (Ok opened) → behind_of told retries fault new ≡ behind_of opened.told 0 None mid → Leaves telling new
+opened_leaves None mid None opened told retries fault opens same = refl
+opened_leaves None mid (Some u) opened told retries fault opens same = absurd (let e : mid ≡ None = opens in cc)
+opened_leaves (Some t) mid None opened told retries fault opens same = absurd (let e = opens.0 in cc)
+opened_leaves (Some t) mid (Some u) opened told retries fault opens same =
+    let start : behind_of opened.told 0 None mid ≡ behind_of (length t.bytes) 0 None (Some (at_place t (length t.bytes))) =
+    ap (λ m. behind_of opened.told 0 None m) opens.0
+    ∙ ap (λ n. behind_of n 0 None (Some (at_place t (length t.bytes)))) opens.2 in
+    let stays = some_is (same ∙ start) in record {
+      bytes = ap (λ b. b.bytes) stays;
+      can_fail = ap (λ b. b.can_fail) stays;
+      interruptions = λ honest never.
+          let all : in_all told retries fault u ≡ Some (t.interruptions + 0) =
+          ap (λ b. b.interruptions) stays ∙ known_in_all t honest never in
+          omega (arith, fewer_left _ (u.interruptions + retries) (t.interruptions + 0) all);
+    }
+
+-- the failure that a source tells is the reader's last one
+pub told_last : (failure : Option (Option Error)) (fault : Option Error) (e : ImageError) → last_failed fault failure ≡ Some e
+    → IsLast failure e
+told_last None fault e is = tt
+told_last (Some last) None e is = absurd cc
+told_last (Some None) (Some f) e is = absurd cc
+told_last (Some (Some last)) (Some f) e is = let same : fault_of last ≡ e = cc in sym same

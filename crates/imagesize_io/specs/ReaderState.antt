@@ -70,19 +70,19 @@ Opens (Some t) new (Err e) = Fails t new
 
 -- A reader as a source, before the first reading, where its length is told: it stands at the end, and the
 -- budget is the told length and the allowance.
-abbrev pub start_state : Account → ℕ → ℕ → State
-start_state a home told = state_at
+abbrev pub start_state : Option Telling → Option ℕ → ℕ → ℕ → State
+start_state telling count home told = state_at
     (record {
       told = told;
       budget = min (told + allowance) (2 ^ 64 - 1);
       counts = true;
       records = false;
       home = home;
-      since = drift a.count 0;
-      behind = behind_of told 0 None a.telling;
+      since = drift count 0;
+      behind = behind_of told 0 None telling;
       parts = None;
     })
-    (stand_of told told None (steady a.telling 0)) None [] 0
+    (stand_of told told None (steady telling 0)) None [] 0
 
 -- What a reading from a place on did, over every reader: it saw what the window has of it, and what follows from the reader.
 pub record ReadsAt (old new : Ledger) (a b : Account) (place : ℕ) (room : List ℕ) (r : Result ℕ ImageError) : Type 0 where

@@ -42,7 +42,7 @@ impl<'a, R: Told> ReaderSource<'a, R> {
         ensures same_reference { result.reader.ghost_name ≡ reader.entry.ghost_name }
         ensures state { reader_state (account R.telling R.count R.failure result.reader.now) result.reader.ghost_name
             result.ledger.progress result.ledger.window.items
-            ≡ start_state (account R.telling R.count R.failure reader.old) reader.entry.ghost_name told }
+            ≡ start_state (R.telling reader.old) (R.count reader.old) reader.entry.ghost_name told }
         ensures present { result.ledger.present ≡ told }
     {
         let progress = Progress {

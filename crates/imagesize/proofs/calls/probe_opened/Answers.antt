@@ -1,5 +1,5 @@
-use Rattle.std.proofs.Common.{ap, arith}
-use Rattle.imagesize.proofs.Endings.{budget_taken, no_memory}
+use Rattle.std.proofs.Common.{ap, arith, rules}
+use Rattle.imagesize.proofs.Endings.{budget_taken, fault_last, leaves_reader, no_memory}
 use Rattle.imagesize.proofs.Meanings.{probes_opened}
 use Rattle.imagesize.proofs.calls.probe_opened.Goals as goal
 
@@ -14,3 +14,12 @@ returns-clause-spent g c = budget_taken c.args.opened.told _ _ _ (ap (λ s. s.fr
 
 pub returns-clause-memory : goal.returns-clause-memory
 returns-clause-memory g c = no_memory _ _ (ap (λ s. s.frame.records) c.new-source.ensures.state) c.probe-kind.ensures.runs
+
+pub returns-clause-fault : goal.returns-clause-fault
+returns-clause-fault g c = fault_last _ c.probe-kind.new.source.ledger.progress.fault _ _ (search rules) c.probe-kind.ensures.runs
+
+pub returns-clause-leaves : goal.returns-clause-leaves
+returns-clause-leaves g c = λ telling opens.
+    leaves_reader telling _ _ _ _ c.args.opened
+    c.probe-kind.new.source.ledger.progress.told c.probe-kind.new.source.ledger.progress.retries c.probe-kind.new.source.ledger.progress.fault _ _
+    c.new-source.ensures.state (search rules) c.probe-kind.ensures.runs opens

@@ -1,5 +1,5 @@
 use Rattle.std.proofs.Common.{ap, rules}
-use Rattle.imagesize.proofs.Endings.{budget_counted, no_memory}
+use Rattle.imagesize.proofs.Endings.{budget_counted, fault_last, leaves_reader, no_memory}
 use Rattle.imagesize.proofs.Meanings.{size_answers}
 use Rattle.imagesize.proofs.calls.size_opened.Goals as goal
 
@@ -14,3 +14,12 @@ returns-clause-spent g c =
 
 pub returns-clause-memory : goal.returns-clause-memory
 returns-clause-memory g c = no_memory _ _ (ap (λ s. s.frame.records) c.new-source.ensures.state) c.size-answer.ensures
+
+pub returns-clause-fault : goal.returns-clause-fault
+returns-clause-fault g c = fault_last _ c.size-answer.new.source.ledger.progress.fault _ _ (search rules) c.size-answer.ensures
+
+pub returns-clause-leaves : goal.returns-clause-leaves
+returns-clause-leaves g c = λ telling opens.
+    leaves_reader telling _ _ _ _ c.args.opened
+    c.size-answer.new.source.ledger.progress.told c.size-answer.new.source.ledger.progress.retries c.size-answer.new.source.ledger.progress.fault _ _
+    c.new-source.ensures.state (search rules) c.size-answer.ensures opens
