@@ -1,5 +1,5 @@
 -- What known parts tell of each input that has them.
-use Rattle.std.proofs.Common.{◌≡◌, ℕ, ◌^◌, ◌+◌, ◌-◌, ◌<◌, ◌≤◌, Bool, true, false, ◌||◌, ◌&&◌, ◌⊎◌, cond, leb, List, [], ◌∷◌, ◌++◌, slice_index, Option, None, Some, is_some, Result, Ok, Err, inl, inr, refl, sym, ap, ◌∙◌, subst, arith}
+use Rattle.std.proofs.Common.{◌≡◌, ℕ, ◌^◌, ◌+◌, ◌-◌, ◌<◌, ◌≤◌, Bool, true, false, ◌||◌, ◌&&◌, ◌⊎◌, cond, leb, List, [], ◌∷◌, ◌++◌, drop, slice_index, Option, None, Some, is_some, Result, Ok, Err, inl, inr, refl, sym, ap, ◌∙◌, subst, arith}
 use Rattle.std.specs.List.{list_any}
 use Rattle.std.specs.Prelude.{option_map, unwrap_or}
 use Rattle.std.proofs.lemmas.Bool.{cases_lt, or_left, or_right}
@@ -18,12 +18,12 @@ use Rattle.imagesize_source.specs.declared.source.parts.Missing.{Missing}
 use Rattle.imagesize_source.specs.declared.span.Span.{Span}
 use Rattle.imagesize_source.specs.Agreement.{Agrees, IsLocal, Parting, is_covered, has_place, has_whole}
 use Rattle.imagesize_source.specs.Input.{span_at}
-use Rattle.imagesize_source.specs.Known.{AllKnown, HasParts, Lacks, byte_in_parts, filled_input, parts_state, sure_of}
+use Rattle.imagesize_source.specs.Known.{AllKnown, HasParts, Lacks, byte_in_parts, byte_of, filled_input, length_within, reaches, parts_state, sure_of}
 use Rattle.imagesize_source.specs.Reading.{Reads, go_on, is_faulted, is_stopped}
 use Rattle.imagesize_source.specs.State.{State, Runs}
 use Rattle.imagesize_source.proofs.Agreement.{covered-left, covered-one, covered-right, same_by_local}
 use Rattle.imagesize_source.proofs.Runs.{marks_onward}
-use Rattle.imagesize_source.proofs.Known.{filled_at, has_known, known_below, length-filled_input, past-parts}
+use Rattle.imagesize_source.proofs.Known.{filled_at, has_known, known_below, length-filled_input, past-parts, unknown_free}
 
 -- ---- one list of spans, cut at two of them
 
@@ -103,6 +103,27 @@ parts_known d n spans bytes has = record {
   as_long = has.as_long;
   known = λ place byte is. has_known d spans bytes place byte has.bytes (ap (λ m. byte_in_parts m spans bytes place) has.as_long ∙ is);
 }
+
+-- a place that is known is one of a span
+known_covered : (n : ℕ) (spans : List Span) (bytes : List ℕ) (place : ℕ) → is_some (byte_in_parts n spans bytes place) ≡ true
+    → is_covered spans place ≡ true
+known_covered n [] bytes place is = absurd cc
+known_covered n (s ∷ spans) bytes place is =
+    by_test (reaches n s place) refl (known_covered n spans (drop (length_within n s) bytes) place) is where
+      by_test : (test : Bool) → reaches n s place ≡ test
+          → (is_some (byte_in_parts n spans (drop (length_within n s) bytes) place) ≡ true → is_covered spans place ≡ true)
+          → is_some (cond test (byte_of bytes (place - s.start)) (byte_in_parts n spans (drop (length_within n s) bytes) place)) ≡ true
+          → has_place s place || is_covered spans place ≡ true
+      by_test true has later is = let there : has_place s place ≡ true = grind (arith, nat_tests) in or_left (has_place s place) (is_covered spans place) there
+      by_test false has later is = or_right (has_place s place) (is_covered spans place) (later is)
+
+-- and of an input that has the parts each place of a span is known
+pub known_where_covered : (d : List ℕ) (n : ℕ) (spans : List Span) (bytes : List ℕ) (place : ℕ) → HasParts d n spans bytes → place < n
+    → is_some (byte_in_parts n spans bytes place) ≡ is_covered spans place
+known_where_covered d n spans bytes place has below = by_test (is_some (byte_in_parts n spans bytes place)) refl where
+  by_test : (test : Bool) → is_some (byte_in_parts n spans bytes place) ≡ test → test ≡ is_covered spans place
+  by_test true is = sym (known_covered n spans bytes place is)
+  by_test false is = sym (unknown_free d n spans bytes place has below is)
 
 some_byte : (o : Option ℕ) → is_some o ≡ true → (byte : ℕ) × (o ≡ Some byte)
 some_byte None is = absurd cc
