@@ -1,16 +1,22 @@
 -- The type at a place: what it is read from, and what bytes that follow leave of it.
-use Rattle.std.proofs.Common.{◌≡◌, ℕ, ◌≤◌, Bool, true, false, List, ◌++◌, length, Option, Some, None, Result, Ok, Err, refl, sym, ap, ◌∙◌, subst, arith}
+use Rattle.std.proofs.Common.{◌≡◌, ℕ, zero, suc, ◌+◌, ◌-◌, ◌<◌, ◌≤◌, Bool, true, false, cond, leb, List, [], ◌∷◌, ◌++◌, length, take, drop, Option, Some, None, Result, Ok, Err, IfOk, IsTrue, ◌⊎◌, inl, inr, refl, sym, ap, ◌∙◌, subst, arith}
+use Rattle.std.specs.Prelude.{IsOkAnd, codes}
+use Rattle.std.specs.Str.{bytes_eq}
+use Rattle.std.proofs.lemmas.Bool.{cases_lt}
+use Rattle.std.proofs.lemmas.Bool.Decides.{nat_tests}
+use Rattle.std.proofs.lemmas.List.{length-drop, drop-append-le, take-append-le}
+use Rattle.imagesize.specs.Counts.{Stays, keeps, without_compression}
 use Rattle.imagesize_boxes.proofs.Heif.{heif_compression_laws}
-use Rattle.imagesize_boxes.specs.Heif.{heif_compression}
+use Rattle.imagesize_boxes.specs.Heif.{compatible_compression, heif_compression, is_general}
 use Rattle.imagesize_fixed.proofs.Atc.{atc_compression_laws}
 use Rattle.imagesize_fixed.proofs.Dds.{dds_compression_laws}
 use Rattle.imagesize_fixed.proofs.Pkm.{pkm_compression_laws}
 use Rattle.imagesize_fixed.proofs.Pvrtc.{pvrtc_compression_laws}
 use Rattle.imagesize_fixed.proofs.Tga.{is_tga_few}
-use Rattle.imagesize_fixed.specs.Atc.{atc_compression}
-use Rattle.imagesize_fixed.specs.Dds.{dds_compression}
-use Rattle.imagesize_fixed.specs.Pkm.{pkm_compression}
-use Rattle.imagesize_fixed.specs.Pvrtc.{pvrtc_compression}
+use Rattle.imagesize_fixed.specs.Atc.{atc_compression, atc_compression_of}
+use Rattle.imagesize_fixed.specs.Dds.{dds_bit_counts, dds_compression, dds_compression_by, dds_number_of, dxgi_formats}
+use Rattle.imagesize_fixed.specs.Pkm.{pkm_compression, pkm_compression_of}
+use Rattle.imagesize_fixed.specs.Pvrtc.{is_pvr3, pvrtc_compression, pvrtc_compression_by, pvrtc_format_of}
 use Rattle.imagesize_fixed.specs.Tga.{is_tga}
 use Rattle.imagesize.specs.Kind.{kind, kind_by, with_compression, tga_or_none, first_row}
 use Rattle.imagesize.specs.Meaning.{kind_of}
@@ -22,10 +28,19 @@ use Rattle.imagesize_source.proofs.Costs.{bound_of, costs, costs_bind}
 use Rattle.imagesize_source.proofs.Layouts.{over-bind}
 use Rattle.imagesize_source.proofs.Extension.{bytes_ok, bytes_more}
 use Rattle.imagesize_source.specs.Counts.{CostsBy}
-use Rattle.imagesize_source.specs.Input.{span_of}
-use Rattle.imagesize_source.specs.Layout.{layout_reads, bind}
+use Rattle.imagesize_source.specs.Input.{part, span_of}
+use Rattle.imagesize_source.specs.Layout.{Layout, bind, if_there, layout_reads}
+use Rattle.imagesize_source.specs.Layout.Layout.{«done», refuse, field, reading}
+use Rattle.imagesize_source.proofs.Parts.{part_length}
+use Rattle.imagesize_source.proofs.Tests.{on_test}
+use Rattle.imagesize_types.specs.Head.{four_at}
+use Rattle.imagesize_types.specs.declared.compression.AtcCompression.TheVariants.{Unknown as atc_unknown}
+use Rattle.imagesize_types.specs.declared.compression.Compression.TheVariants.{Unknown as heif_unknown}
+use Rattle.imagesize_types.specs.declared.compression.DdsCompression.TheVariants.{Unknown as dds_unknown}
+use Rattle.imagesize_types.specs.declared.compression.PkmCompression.TheVariants.{Unknown as pkm_unknown}
+use Rattle.imagesize_types.specs.declared.compression.PvrtcCompression.TheVariants.{Unknown as pvrtc_unknown}
 use Rattle.imagesize_source.proofs.Runs.{runs_then}
-use Rattle.imagesize_source.specs.Reading.{Reads, go_on, bytes_at, bytes_read}
+use Rattle.imagesize_source.specs.Reading.{AllOf, PartOf, Reads, TextOf, go_on, bytes_at, bytes_read}
 use Rattle.imagesize_source.specs.State.{State, Runs, total}
 use Rattle.imagesize_source.specs.declared.error.ImageError.{ImageError}
 use Rattle.imagesize_source.specs.declared.span.Span.{Span}
@@ -108,29 +123,133 @@ tga_is : (is : Bool) (d : List ℕ) (type : ImageType) → (layout_reads d (tga_
 tga_is true d type is = cc
 tga_is false d type is = absurd cc
 
-none_lasts : (d : List ℕ) (n place : ℕ) (head : List ℕ) (type : ImageType) → (layout_reads d (bind (is_tga n head) tga_or_none)).answer ≡ Ok type
-    → lasts type ≡ true → ⊥
-none_lasts d n place head type is stays =
+ok_is : {X : Type 0} {x y : X} → ◌≡◌ {A = Result X ImageError} (Ok x) (Ok y) → x ≡ y
+ok_is e = cc
+
+-- Where a reading is cut the layout answers u, so that bytes that follow leave any other answer.
+abbrev Fades : {X : Type 0} → X → Layout X → Type 0
+Fades u (done x) = Unit {0}
+Fades u (refuse e) = ⊥
+Fades u (field order place n f) = ⊥
+Fades u (reading (AllOf n) place f) = ⊥
+Fades u (reading (PartOf n) place f) = (bs : List ℕ) → (length bs < n → f bs ≡ done u) × Fades u (f bs)
+Fades u (reading (TextOf t n) place f) = ⊥
+
+-- a part that is there is not changed by bytes that follow
+part_kept : (d x : List ℕ) (place n : ℕ) → n ≤ length d - place → part (d ++ x) place n ≡ part d place n
+unfolding part
+part_kept d x place zero h = refl
+part_kept d x place (suc n) h =
+    let short = length-drop place d in
+    ap (take (suc n)) (drop-append-le place d x (omega (arith, h))) ∙ take-append-le (suc n) (drop place d) x (omega (arith, h, short))
+
+fades : {X : Type 0} (u : X) (d x : List ℕ) (t : Layout X) (v w : X) → Fades u t → (layout_reads d t).answer ≡ Ok v
+    → (layout_reads (d ++ x) t).answer ≡ Ok w → (w ≡ v) ⊎ (v ≡ u)
+fades u d x (done y) v w h is more = inl cc
+fades u d x (refuse e) v w h is more = absurd h
+fades u d x (field order place n f) v w h is more = absurd h
+fades u d x (reading (AllOf n) place f) v w h is more = absurd h
+fades {X} u d x (reading (PartOf n) place f) v w h is more = elim (cases_lt (length d - place) n) [
+  | inl cut ↦
+      let none : f (part d place n) ≡ done u = (h (part d place n)).0 (omega (arith, cut, part_length d place n)) in
+      let untold : ◌≡◌ {A = Result X ImageError} (Ok u) (Ok v) = sym (ap (λ t. (layout_reads d t).answer) none) ∙ is in
+      inr cc
+  | inr all ↦ fades u d x (f (part d place n)) v w (h (part d place n)).1 is
+      (ap (λ bs. (layout_reads (d ++ x) (f bs)).answer) (sym (part_kept d x place n all)) ∙ more)
+]
+fades u d x (reading (TextOf t n) place f) v w h is more = absurd h
+
+-- all or nothing of a reading
+if_there_fades : {X : Type 0} (u : X) (place n : ℕ) (f : Option (List ℕ) → Layout X) → f None ≡ done u
+    → ((bs : List ℕ) → Fades u (f (Some bs))) → Fades u (if_there place n f)
+if_there_fades u place n f none some bs = (
+  λ cut. let short : leb n (length bs) ≡ false = grind (arith, nat_tests) in ap (λ (test : Bool). f (cond test (Some bs) None)) short ∙ none,
+  by_test (leb n (length bs)),
+) where
+  by_test : (test : Bool) → Fades u (f (cond test (Some bs) None))
+  by_test true = some bs
+  by_test false = subst (Fades u) (sym none) tt
+
+-- of each compression
+heif_fades : (place : ℕ) (head : List ℕ) → Fades heif_unknown (heif_compression place head)
+unfolding heif_compression
+heif_fades place head = on_test (Fades heif_unknown) (is_general (four_at 8 head)) _ _
+    (λ _. if_there_fades heif_unknown (place + 12) 12 (λ more. done (compatible_compression more)) refl (λ bs. tt)) (λ _. tt)
+
+atc_fades : Fades atc_unknown atc_compression
+unfolding atc_compression
+atc_fades = if_there_fades atc_unknown 0 8 (λ bs. done (atc_compression_of bs)) refl (λ bs. tt)
+
+pkm_fades : Fades pkm_unknown pkm_compression
+unfolding pkm_compression
+pkm_fades = if_there_fades pkm_unknown 6 2 (λ bs. done (pkm_compression_of bs)) refl (λ bs. tt)
+
+pvrtc_fades : Fades pvrtc_unknown pvrtc_compression
+unfolding pvrtc_compression
+pvrtc_fades = if_there_fades pvrtc_unknown 0 4 pvrtc_compression_by refl (λ tag. on_test (Fades pvrtc_unknown) (is_pvr3 tag) _ _
+    (λ _. if_there_fades pvrtc_unknown 8 8 (λ bs. done (pvrtc_format_of bs)) refl (λ bs. tt)) (λ _. tt))
+
+dds_fades : Fades dds_unknown dds_compression
+unfolding dds_compression
+dds_fades = if_there_fades dds_unknown 84 4 dds_compression_by refl (λ code.
+    on_test (Fades dds_unknown) (bytes_eq code (codes "DX10")) _ _
+    (λ _. if_there_fades dds_unknown 128 4 (λ bs. done (dds_number_of dxgi_formats bs)) refl (λ bs. tt))
+    (λ _. on_test (Fades dds_unknown) (bytes_eq code (0 ∷ 0 ∷ 0 ∷ 0 ∷ [])) _ _
+    (λ _. if_there_fades dds_unknown 88 4 (λ bs. done (dds_number_of dds_bit_counts bs)) refl (λ bs. tt)) (λ _. tt)))
+
+-- so a type stays, with its compression where one was told
+type_stays : {C : Type 0} (of : C → ImageType) (u : C) (t : Layout C) (d x : List ℕ) (type after : ImageType) → Fades u t
+    → ((c : C) → without_compression (of c) ≡ of u) → (layout_reads d (bind t (λ c. done (of c)))).answer ≡ Ok type
+    → (layout_reads (d ++ x) (bind t (λ c. done (of c)))).answer ≡ Ok after → Stays type after
+type_stays {C} of u t d x type after h unknown is more =
+    let first = onward_ok (layout_reads d t).marks (layout_reads d t).answer (λ c. layout_reads d (done (of c))) type
+    (ap (λ r. r.answer) (sym (over-bind d t (λ c. done (of c)))) ∙ is) in
+    let second = onward_ok (layout_reads (d ++ x) t).marks (layout_reads (d ++ x) t).answer (λ c. layout_reads (d ++ x) (done (of c))) after
+    (ap (λ r. r.answer) (sym (over-bind (d ++ x) t (λ c. done (of c)))) ∙ more) in
+    let found : of first.0 ≡ type = ok_is first.2 in
+    let left : of second.0 ≡ after = ok_is second.2 in
+    elim (fades u d x t first.0 second.0 h first.1 second.1) [
+      | inl same ↦ inl (sym left ∙ ap of same ∙ found)
+      | inr none ↦ inr (sym found ∙ ap of none ∙ sym (unknown second.0) ∙ ap without_compression left)
+    ]
+
+compression_stays : (d x : List ℕ) (place : ℕ) (head : List ℕ) (found type after : ImageType)
+    → (layout_reads d (with_compression place head found)).answer ≡ Ok type
+    → (layout_reads (d ++ x) (with_compression place head found)).answer ≡ Ok after → Stays type after
+unfolding with_compression
+compression_stays d x place head (Heif _) type after is more =
+    type_stays Heif heif_unknown (heif_compression place head) d x type after (heif_fades place head) (λ _. refl) is more
+compression_stays d x place head (Atc _) type after is more = type_stays Atc atc_unknown atc_compression d x type after atc_fades (λ _. refl) is more
+compression_stays d x place head (Pvrtc _) type after is more =
+    type_stays Pvrtc pvrtc_unknown pvrtc_compression d x type after pvrtc_fades (λ _. refl) is more
+compression_stays d x place head (Eac _) type after is more = type_stays Eac pkm_unknown pkm_compression d x type after pkm_fades (λ _. refl) is more
+compression_stays d x place head (Etc2 _) type after is more = type_stays Etc2 pkm_unknown pkm_compression d x type after pkm_fades (λ _. refl) is more
+compression_stays d x place head (Dds _) type after is more = type_stays Dds dds_unknown dds_compression d x type after dds_fades (λ _. refl) is more
+compression_stays d x place head _ type after is more = inl (sym (ok_is more) ∙ ok_is is)
+
+none_keeps : (d : List ℕ) (n place : ℕ) (head : List ℕ) (type : ImageType) → (layout_reads d (bind (is_tga n head) tga_or_none)).answer ≡ Ok type
+    → keeps type ≡ true → ⊥
+none_keeps d n place head type is stays =
     let both = ap (λ r. r.answer) (sym (over-bind d (is_tga n head) tga_or_none)) ∙ is in
     let last = onward_ok (layout_reads d (is_tga n head)).marks (layout_reads d (is_tga n head)).answer (λ b. layout_reads d (tga_or_none b)) type both in
     let tga_found : type ≡ Tga = tga_is last.0 d type last.2 in
-    let not_tga : lasts Tga ≡ true = ap lasts (sym tga_found) ∙ stays in
+    let not_tga : keeps Tga ≡ true = ap keeps (sym tga_found) ∙ stays in
     absurd cc
 
 by_more : (d x : List ℕ) (place : ℕ) (head : List ℕ) (row : Option ImageType) (type : ImageType)
-    → (layout_reads d (kind_by (length d) place head row)).answer ≡ Ok type → lasts type ≡ true → (after : ImageType)
-    × ((layout_reads (d ++ x) (kind_by (length (d ++ x)) place head row)).answer ≡ Ok after) × SameWay type after
-by_more d x place head None type is stays = absurd (none_lasts d (length d) place head type is stays)
+    → (layout_reads d (kind_by (length d) place head row)).answer ≡ Ok type → keeps type ≡ true → (after : ImageType)
+    × ((layout_reads (d ++ x) (kind_by (length (d ++ x)) place head row)).answer ≡ Ok after) × SameWay type after × Stays type after
+by_more d x place head None type is stays = absurd (none_keeps d (length d) place head type is stays)
 by_more d x place head (Some found) type is stays =
     let before = always (SameWay found) d (with_compression place head found) (with_alike place head found) in
     let after = always (SameWay found) (d ++ x) (with_compression place head found) (with_alike place head found) in
     let same : before.0 ≡ type = cc in
     let alike : SameWay found type = subst (SameWay found) same before.2 in
-    (after.0, after.1, after.2 ∙ sym alike)
+    (after.0, after.1, after.2 ∙ sym alike, compression_stays d x place head found type after.0 is after.1)
 
--- behind a type that lasts, bytes that follow leave one whose size is told in the same way
-pub kind_more : (d x : List ℕ) (place : ℕ) (type : ImageType) → (kind_of d place).answer ≡ Ok type → lasts type ≡ true
-    → (after : ImageType) × ((kind_of (d ++ x) place).answer ≡ Ok after) × SameWay type after
+-- behind a type that is kept, bytes that follow leave it, and a compression that is told
+pub kind_more : (d x : List ℕ) (place : ℕ) (type : ImageType) → (kind_of d place).answer ≡ Ok type → keeps type ≡ true
+    → (after : ImageType) × ((kind_of (d ++ x) place).answer ≡ Ok after) × SameWay type after × Stays type after
 kind_more d x place type is stays =
     let head = onward_ok (span_of d place 12) (bytes_at d place 12) (λ bs. layout_reads d (kind_by (length d) place bs (first_row rows bs))) type
     is in
@@ -140,7 +259,24 @@ kind_more d x place type is stays =
       ap (λ r. (go_on (span_of (d ++ x) place 12) r
           (λ bs. layout_reads (d ++ x) (kind_by (length (d ++ x)) place bs (first_row rows bs)))).answer) there ∙ after.1,
       after.2,
+      after.3,
     )
+
+-- a type whose size lasts is kept
+lasting : (type : ImageType) → lasts type ≡ true → keeps type ≡ true
+lasting Tga stays = absurd cc
+lasting _ stays = refl
+
+pub way_more : (d x : List ℕ) (place : ℕ) (type : ImageType) → (kind_of d place).answer ≡ Ok type → lasts type ≡ true
+    → (after : ImageType) × ((kind_of (d ++ x) place).answer ≡ Ok after) × SameWay type after
+way_more d x place type is stays = let after = kind_more d x place type is (lasting type stays) in (after.0, after.1, after.2)
+
+pub kind_lasts : (d : List ℕ) (place : ℕ) (r : Result ImageType ImageError) → r ≡ (kind_of d place).answer
+    → IfOk r (λ type. IsTrue (keeps type) → (x : List ℕ) → IsOkAnd (kind_of (d ++ x) place).answer (Stays type))
+kind_lasts d place (Ok type) is = λ stays x.
+    let after = kind_more d x place type (sym is) stays in
+    subst (λ (r : Result ImageType ImageError). IsOkAnd r (Stays type)) (sym after.1) after.3
+kind_lasts d place (Err e) is = tt
 
 -- a head that was read, and the type by it
 pub head_then : {a m b : State} (r : Result ImageType ImageError) (place : ℕ) (head : List ℕ) → length head ≡ 12

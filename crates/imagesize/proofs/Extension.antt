@@ -1,6 +1,6 @@
 -- A size stays, whatever bytes follow.
 use Rattle.std.proofs.Common.{◌≡◌, ℕ, true, List, ◌++◌, Result, Ok, Err, IfOk, IsTrue, refl, sym, ap, ◌∙◌}
-use Rattle.imagesize.proofs.Detection.{kind_cost, kind_more}
+use Rattle.imagesize.proofs.Detection.{kind_cost, way_more}
 use Rattle.imagesize.proofs.Ways.{laws_of}
 use Rattle.imagesize.specs.Counts.{lasts_as}
 use Rattle.imagesize.specs.Meaning.{kind_of, size_of, meaning}
@@ -27,7 +27,7 @@ meaning_more : (d x : List ℕ) (place : ℕ) (size : ImageSize) → lasts_as (k
     ≡ Ok size → (meaning (d ++ x) place).answer ≡ Ok size
 meaning_more d x place size stays is =
     let found = lasting_kind (kind_of d place).answer stays in
-    let after = kind_more d x place found.0 found.1 found.2 in
+    let after = way_more d x place found.0 found.1 found.2 in
     let sized : (size_of found.0 d).answer ≡ Ok size = sym (meaning_of d place found.0 found.1) ∙ is in
     meaning_of (d ++ x) place after.0 after.1 ∙ ap (λ way. (by_way way (d ++ x)).answer) after.2
     ∙ lasts_way (kind_cost found.0) (outside_records found.0) (in_record found.0) (lasts found.0) (has_texts found.0) (way_of found.0) found.2

@@ -1,7 +1,7 @@
 -- The size by a type that was found.
 use Rattle.std.proofs.Common.{◌≡◌, ℕ, ◌≤◌, Option, Some, None, Result, Ok, Err, IfSome, true, false, sym, ap, ◌∙◌, subst, arith}
 use Rattle.std.specs.Result.{result_ok}
-use Rattle.imagesize.proofs.Counts.{cost_stated, cost_within, size_within}
+use Rattle.imagesize.proofs.Counts.{cost_most, cost_stated, cost_within, size_within}
 use Rattle.imagesize.proofs.Detection.{kind_within}
 use Rattle.imagesize.proofs.Short.{no_meaning}
 use Rattle.imagesize.specs.Counts.{cost}
@@ -74,15 +74,16 @@ probes_opened (Some t) mid count home opened a b probed start opens h finds took
     let kinds = found_kind t mid count home opened.told opened.place a probed.kind probed.answer honest began start finds in
     let takes = subst (λ n. TakesAs t (meaning t.bytes t.place) probed.answer n) (sym took)
     (opened_takes (Some t) mid count home opened b probed.answer meaning opens runs honest) in
-    let most : probed.taken ≤ cost t.bytes t.place = takes.most in
+    let few : probed.taken ≤ cost t.bytes t.place = takes.most in
     let answers = opened_answers (Some t) mid count home opened b probed.answer meaning bounded_meaning opens runs honest in
     record {
       answer = answers;
       takes = takes;
       right = kinds.0;
       whole = kinds.1;
-      stated = omega (arith, most, cost_stated t.bytes t.place);
-      within = omega (arith, most, cost_within t.bytes t.place);
+      stated = omega (arith, few, cost_stated t.bytes t.place);
+      most = omega (arith, few, cost_most t.bytes t.place);
+      within = omega (arith, few, cost_within t.bytes t.place);
       short = λ few goes_on. sym (answers.answer goes_on) ∙ no_meaning t.bytes t.place few;
     }
 

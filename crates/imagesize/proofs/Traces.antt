@@ -1,16 +1,17 @@
 -- What a recording slice shows of an answer.
-use Rattle.std.proofs.Common.{◌≡◌, ℕ, ◌+◌, ◌≤◌, Bool, true, false, List, [], ◌++◌, length, take, Result, Ok, Err, IfErr, IfOk, IsTrue, refl, sym, ap, ◌∙◌, arith}
+use Rattle.std.proofs.Common.{◌≡◌, ℕ, ◌+◌, ◌≤◌, Bool, true, false, List, [], ◌++◌, length, take, Result, Ok, Err, IfErr, IfOk, IsTrue, refl, sym, ap, ◌∙◌, subst, arith}
 use Rattle.std.proofs.lemmas.List.{take_all}
 use Rattle.imagesize.specs.Counts.{lasts_as, stated_bytes}
 use Rattle.imagesize.specs.Meaning.{kind_of, meaning, size_of}
 use Rattle.imagesize.specs.Probed.{FindsKind}
-use Rattle.imagesize.specs.Traced.{IsSame, Traces, lacks_memory}
+use Rattle.imagesize.specs.Traced.{AreWithin, IsSame, Traces, lacks_memory}
 use Rattle.imagesize.specs.declared.trace.Trace.{Trace}
 use Rattle.imagesize_types.specs.declared.size.ImageSize.{ImageSize}
 use Rattle.imagesize.proofs.Counts.{cost_stated, cost_within}
 use Rattle.imagesize.proofs.Endings.{stops_for_memory}
 use Rattle.imagesize.proofs.Extension.{size_lasts}
 use Rattle.imagesize.proofs.Locality.{local_kind, local_meaning}
+use Rattle.imagesize.proofs.Within.{marks_few, meaning_within}
 use Rattle.imagesize_source.proofs.Agreement.{agrees_first, same_by_local}
 use Rattle.imagesize_source.proofs.Recordings.{past-recording}
 use Rattle.imagesize_source.specs.Agreement.{Agrees}
@@ -72,6 +73,19 @@ pub spans_within : (d after : List ℕ) (items spans : List Span) (r : Result Im
     → total items ≤ length d + 64
 spans_within d after items spans r h held memory =
     rw (all_held items spans held ∙ marked d after spans r h memory) (omega (arith, cost_within d 0))
+
+-- each of them can be cut by, and there are no more of them than that
+pub spans_cut : (d after : List ℕ) (items spans : List Span) (r : Result ImageSize ImageError) → Runs (recording_state d [] true 0)
+    (recording_state after spans true 0) r (meaning d 0) → items ≡ take (length spans) spans → lacks_memory r ≡ false
+    → AreWithin (length d) items
+spans_cut d after items spans r h held memory =
+    subst (AreWithin (length d)) (sym (all_held items spans held ∙ marked d after spans r h memory)) (meaning_within d 0)
+
+pub spans_few : (d after : List ℕ) (items spans : List Span) (r : Result ImageSize ImageError) → Runs (recording_state d [] true 0)
+    (recording_state after spans true 0) r (meaning d 0) → items ≡ take (length spans) spans → lacks_memory r ≡ false
+    → length items ≤ length d + 64
+spans_few d after items spans r h held memory =
+    omega (arith, ap length (all_held items spans held ∙ marked d after spans r h memory), marks_few d 0)
 
 -- a size stays, whatever bytes follow
 pub answer_lasts : (d after : List ℕ) (spans : List Span) (r : Result ImageSize ImageError) → Runs (recording_state d [] true 0)

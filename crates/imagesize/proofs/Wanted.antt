@@ -1,13 +1,13 @@
 -- What known parts tell of each input that has them.
-use Rattle.std.proofs.Common.{◌≡◌, ℕ, ◌^◌, ◌+◌, ◌-◌, ◌<◌, ◌≤◌, Bool, true, false, ◌||◌, ◌&&◌, ◌⊎◌, cond, leb, List, [], ◌∷◌, ◌++◌, Option, None, Some, Result, Ok, Err, inl, inr, refl, sym, ap, ◌∙◌, subst, arith}
+use Rattle.std.proofs.Common.{◌≡◌, ℕ, ◌^◌, ◌+◌, ◌-◌, ◌<◌, ◌≤◌, Bool, true, false, ◌||◌, ◌&&◌, ◌⊎◌, cond, leb, List, [], ◌∷◌, ◌++◌, drop, slice_index, Option, None, Some, is_some, Result, Ok, Err, inl, inr, refl, sym, ap, ◌∙◌, subst, arith}
 use Rattle.std.specs.List.{list_any}
-use Rattle.std.specs.Prelude.{option_map}
+use Rattle.std.specs.Prelude.{option_map, unwrap_or}
 use Rattle.std.proofs.lemmas.Bool.{cases_lt, or_left, or_right}
 use Rattle.std.specs.Option.{ForSome}
 use Rattle.std.specs.Result.{result_ok}
 use Rattle.std.proofs.lemmas.Bool.Decides.{nat_tests}
 use Rattle.imagesize.specs.Meaning.{kind_of, meaning, size_of}
-use Rattle.imagesize.specs.Parted.{Cover, Fits, IsProbed, Says, SaysOf, Tells, Wants, has_texts, texts_as, texts_of, found_or_wanted, wanted_of, with_type}
+use Rattle.imagesize.specs.Parted.{Fits, HasKnown, IfFound, IsProbed, Says, SaysOf, Tells, Wants, has_texts, texts_as, texts_of, found_or_wanted, wanted_of, with_type}
 use Rattle.imagesize.specs.declared.parts.PartsAnswer.{PartsAnswer}
 use Rattle.imagesize.specs.declared.parts.PartsAnswer.TheVariants.{Found, Wanted}
 use Rattle.imagesize.specs.declared.types.ImageType.{ImageType}
@@ -18,12 +18,12 @@ use Rattle.imagesize_source.specs.declared.source.parts.Missing.{Missing}
 use Rattle.imagesize_source.specs.declared.span.Span.{Span}
 use Rattle.imagesize_source.specs.Agreement.{Agrees, IsLocal, Parting, is_covered, has_place, has_whole}
 use Rattle.imagesize_source.specs.Input.{span_at}
-use Rattle.imagesize_source.specs.Known.{AllKnown, HasParts, Lacks, filled_input, parts_state, sure_of}
-use Rattle.imagesize_source.specs.Reading.{Reads, is_faulted, go_on}
+use Rattle.imagesize_source.specs.Known.{AllKnown, HasParts, Lacks, byte_in_parts, byte_of, filled_input, length_within, reaches, parts_state, sure_of}
+use Rattle.imagesize_source.specs.Reading.{Reads, go_on, is_faulted, is_stopped}
 use Rattle.imagesize_source.specs.State.{State, Runs}
 use Rattle.imagesize_source.proofs.Agreement.{covered-left, covered-one, covered-right, same_by_local}
 use Rattle.imagesize_source.proofs.Runs.{marks_onward}
-use Rattle.imagesize_source.proofs.Known.{known_agrees, known_same, length-filled_input, past-parts, unknown_free}
+use Rattle.imagesize_source.proofs.Known.{filled_at, has_known, known_below, length-filled_input, past-parts, unknown_free}
 
 -- ---- one list of spans, cut at two of them
 
@@ -90,8 +90,61 @@ some_is e = cc
 
 -- ---- an input that has the parts, and local readings of it
 
+-- the filled input has the bytes that are known
+pub filled_known : (n : ℕ) (spans : List Span) (bytes : List ℕ) → HasKnown (filled_input n spans bytes) n spans bytes
+filled_known n spans bytes = record {
+  as_long = length-filled_input n spans bytes;
+  known = λ place byte is. filled_at n spans bytes place (known_below n spans bytes place (ap is_some is)) ∙ ap (λ o. unwrap_or o 0) is;
+}
+
+-- and so has one that has the parts
+pub parts_known : (d : List ℕ) (n : ℕ) (spans : List Span) (bytes : List ℕ) → HasParts d n spans bytes → HasKnown d n spans bytes
+parts_known d n spans bytes has = record {
+  as_long = has.as_long;
+  known = λ place byte is. has_known d spans bytes place byte has.bytes (ap (λ m. byte_in_parts m spans bytes place) has.as_long ∙ is);
+}
+
+-- a place that is known is one of a span
+known_covered : (n : ℕ) (spans : List Span) (bytes : List ℕ) (place : ℕ) → is_some (byte_in_parts n spans bytes place) ≡ true
+    → is_covered spans place ≡ true
+known_covered n [] bytes place is = absurd cc
+known_covered n (s ∷ spans) bytes place is =
+    by_test (reaches n s place) refl (known_covered n spans (drop (length_within n s) bytes) place) is where
+      by_test : (test : Bool) → reaches n s place ≡ test
+          → (is_some (byte_in_parts n spans (drop (length_within n s) bytes) place) ≡ true → is_covered spans place ≡ true)
+          → is_some (cond test (byte_of bytes (place - s.start)) (byte_in_parts n spans (drop (length_within n s) bytes) place)) ≡ true
+          → has_place s place || is_covered spans place ≡ true
+      by_test true has later is = let there : has_place s place ≡ true = grind (arith, nat_tests) in or_left (has_place s place) (is_covered spans place) there
+      by_test false has later is = or_right (has_place s place) (is_covered spans place) (later is)
+
+-- and of an input that has the parts each place of a span is known
+pub known_where_covered : (d : List ℕ) (n : ℕ) (spans : List Span) (bytes : List ℕ) (place : ℕ) → HasParts d n spans bytes → place < n
+    → is_some (byte_in_parts n spans bytes place) ≡ is_covered spans place
+known_where_covered d n spans bytes place has below = by_test (is_some (byte_in_parts n spans bytes place)) refl where
+  by_test : (test : Bool) → is_some (byte_in_parts n spans bytes place) ≡ test → test ≡ is_covered spans place
+  by_test true is = sym (known_covered n spans bytes place is)
+  by_test false is = sym (unknown_free d n spans bytes place has below is)
+
+some_byte : (o : Option ℕ) → is_some o ≡ true → (byte : ℕ) × (o ≡ Some byte)
+some_byte None is = absurd cc
+some_byte (Some byte) is = (byte, refl)
+
+-- one that has them has the byte of the filled input where it is known
+same_known : (d : List ℕ) (n : ℕ) (spans : List Span) (bytes : List ℕ) (place : ℕ) → HasKnown d n spans bytes
+    → is_some (byte_in_parts n spans bytes place) ≡ true → slice_index d place ≡ slice_index (filled_input n spans bytes) place
+same_known d n spans bytes place has is =
+    let b = some_byte (byte_in_parts n spans bytes place) is in
+    has.known place b.0 b.1 ∙ sym ((filled_known n spans bytes).known place b.0 b.1)
+
+agrees_known : (d : List ℕ) (n : ℕ) (spans : List Span) (bytes : List ℕ) (marks : List Span) → HasKnown d n spans bytes
+    → AllKnown n spans bytes marks → Agrees (filled_input n spans bytes) d marks
+agrees_known d n spans bytes marks has all = record {
+  as_long = has.as_long ∙ sym (length-filled_input n spans bytes);
+  same_byte = λ place here. same_known d n spans bytes place has (all place here);
+}
+
 module _ {X : Type 0} (texts : Bool) (f : List ℕ → Reads X) (is_local : IsLocal texts f) (d : List ℕ) (n : ℕ) (spans : List Span) (bytes : List ℕ)
-    (has : HasParts d n spans bytes) (short : n < 2 ^ 63) where
+    (has : HasKnown d n spans bytes) (short : n < 2 ^ 63) where
   -- where nothing is missed, it agrees with what was read
   agreed : (log : List Span) (missed : Option Missing) (r : Result X ImageError) → Called f n spans bytes log missed r → is_faulted r ≡ false
       → Agrees (filled_input n spans bytes) d (f (filled_input n spans bytes)).marks
@@ -102,7 +155,7 @@ module _ {X : Type 0} (texts : Bool) (f : List ℕ → Reads X) (is_local : IsLo
       let marked : log ≡ (f (filled_input n spans bytes)).marks = logged (parts_state n spans bytes log missed)
       (parts_state n spans bytes ([] ++ (f (filled_input n spans bytes)).marks) None) log (f (filled_input n spans bytes)).marks
       (call.runs.state honest on ∙ past-parts n spans bytes [] None (f (filled_input n spans bytes)).marks) refl refl in
-      known_agrees d n spans bytes (f (filled_input n spans bytes)).marks has
+      agrees_known d n spans bytes (f (filled_input n spans bytes)).marks has
       (subst (λ l. AllKnown n spans bytes l) marked call.seen)
 
   -- and the answer is its own
@@ -140,7 +193,7 @@ module _ {X : Type 0} (texts : Bool) (f : List ℕ → Reads X) (is_local : IsLo
           (begun mark among (grind (arith, nat_tests)), λ _. whole among)
 
       not_seen : (parts : Parting texts (filled_input n spans bytes) d (f (filled_input n spans bytes)).marks (f d).marks) → is_covered log parts.place ≡ true → ⊥
-      not_seen parts here = parts.differs (known_same d n spans bytes parts.place has (seen parts.place here))
+      not_seen parts here = parts.differs (same_known d n spans bytes parts.place has (seen parts.place here))
 
       -- the inputs part behind what was seen
       later : (parts : Parting texts (filled_input n spans bytes) d (f (filled_input n spans bytes)).marks (f d).marks) → mark ≡ parts.mark → (parts.place < s.start) ⊎ (s.start ≤ parts.place) → s.start ≤ parts.place
@@ -175,44 +228,44 @@ module _ {X : Type 0} (texts : Bool) (f : List ℕ → Reads X) (is_local : IsLo
 
   -- where something is missed, it is wanted
   wants : (log : List Span) (m : Missing) (r : Result X ImageError) → Called f n spans bytes log (Some m) r → is_faulted r ≡ true
-      → Wants texts (f d).marks spans (wanted_of texts m)
+      → Wants texts (f d).marks n spans bytes (wanted_of texts m)
   wants log m r call faults =
       let is = (call.runs.misses (is_short n short) faults).told in
       let lacks = call.lacks m refl in
       let marked = wanted_mark log (sure_of m) is.made is.mark is.rest call.seen lacks.0 (some_is is.recorded) is.all is.behind is.within in (
         marked.0,
-        unknown_free d n spans bytes m.start has (let some = lacks.0 in let few = lacks.1 in let fits = lacks.2 in omega arith) lacks.3,
+        lacks.3,
         λ none. ap (λ (t : Bool). has_whole (f d).marks (wanted_of t m)) none ∙ marked.1 none,
       )
 
   -- a failure misses something
   says_wanted : {T : Type 0} (IsSo : T → Type 0) (found : T) (log : List Span) (missed : Option Missing) (r : Result X ImageError)
       → Called f n spans bytes log missed r → is_faulted r ≡ true
-      → Says texts IsSo (f d).marks spans (found_or_wanted found (option_map (wanted_of texts) missed))
+      → Says texts IsSo (f d).marks n spans bytes (found_or_wanted found (option_map (wanted_of texts) missed))
   says_wanted IsSo found log None r call faults = absurd (call.runs.misses (is_short n short) faults).told
   says_wanted IsSo found log (Some m) r call faults = wants log m r call faults
 
   -- by the code's test
   pub says : {T : Type 0} (IsSo : T → Type 0) (found : T) (log : List Span) (missed : Option Missing) (r : Result X ImageError)
       → Called f n spans bytes log missed r → (is_faulted r ≡ false → IsSo found)
-      → Says texts IsSo (f d).marks spans (found_or_wanted found (option_map (wanted_of texts) (cond (is_faulted r) missed None)))
+      → Says texts IsSo (f d).marks n spans bytes (found_or_wanted found (option_map (wanted_of texts) (cond (is_faulted r) missed None)))
   says IsSo found log missed r call is_so = by_test (is_faulted r) refl where
     by_test : (test : Bool) → is_faulted r ≡ test
-        → Says texts IsSo (f d).marks spans (found_or_wanted found (option_map (wanted_of texts) (cond test missed None)))
+        → Says texts IsSo (f d).marks n spans bytes (found_or_wanted found (option_map (wanted_of texts) (cond test missed None)))
     by_test true faults = says_wanted IsSo found log missed r call faults
     by_test false no_fault = is_so no_fault
 
   pub says_of : (log : List Span) (missed : Option Missing) (r : Result X ImageError) → Called f n spans bytes log missed r
-      → SaysOf texts (f d) spans (found_or_wanted r (option_map (wanted_of texts) (cond (is_faulted r) missed None)))
+      → SaysOf texts (f d) n spans bytes (found_or_wanted r (option_map (wanted_of texts) (cond (is_faulted r) missed None)))
   says_of log missed r call = says (λ answer. answer ≡ (f d).answer) r log missed r call (right log missed r call)
 
 -- ---- the type beside a size
 
 -- what the type wants is wanted
-pub type_wanted : (d : List ℕ) (spans : List Span) (w : Span) → Wants false (kind_of d 0).marks spans w
-    → Wants (texts_of d) (meaning d 0).marks spans w
+pub type_wanted : (d : List ℕ) (n : ℕ) (spans : List Span) (bytes : List ℕ) (w : Span) → Wants false (kind_of d 0).marks n spans bytes w
+    → Wants (texts_of d) (meaning d 0).marks n spans bytes w
 unfolding meaning
-type_wanted d spans w wants =
+type_wanted d n spans bytes w wants =
     let more = marks_onward (kind_of d 0).marks (kind_of d 0).answer (λ found. size_of found d) in (
       ap (λ s. is_covered s w.start) more.1 ∙ covered-left (kind_of d 0).marks more.0 w.start wants.0,
       wants.1,
@@ -229,15 +282,15 @@ type_refused d e is = (
 )
 
 -- and a type that is found has its size
-pub type_sized : (d : List ℕ) (spans : List Span) (type : ImageType) (answer : PartsAnswer (Result ImageSize ImageError))
-    → ◌≡◌ {A = Result ImageType ImageError} (Ok type) (kind_of d 0).answer → SaysOf (has_texts type) (size_of type d) spans answer
-    → Says (texts_of d) (IsProbed d) (meaning d 0).marks spans (with_type type answer)
+pub type_sized : (d : List ℕ) (n : ℕ) (spans : List Span) (bytes : List ℕ) (type : ImageType) (answer : PartsAnswer (Result ImageSize ImageError))
+    → ◌≡◌ {A = Result ImageType ImageError} (Ok type) (kind_of d 0).answer → SaysOf (has_texts type) (size_of type d) n spans bytes answer
+    → Says (texts_of d) (IsProbed d) (meaning d 0).marks n spans bytes (with_type type answer)
 unfolding meaning
-type_sized d spans type (Found answer) is says = (
+type_sized d n spans bytes type (Found answer) is says = (
   ap (λ (r : Result ImageType ImageError). result_ok r) is,
   says ∙ ap (λ r. (go_on (kind_of d 0).marks r (λ found. size_of found d)).answer) is,
 )
-type_sized d spans type (Wanted w) is says =
+type_sized d n spans bytes type (Wanted w) is says =
     let marks : (meaning d 0).marks ≡ (kind_of d 0).marks ++ (size_of type d).marks =
     ap (λ r. (go_on (kind_of d 0).marks r (λ found. size_of found d)).marks) (sym is) in (
       ap (λ s. is_covered s w.start) marks ∙ covered-right (kind_of d 0).marks (size_of type d).marks w.start says.0,
@@ -246,11 +299,27 @@ type_sized d spans type (Wanted w) is says =
           (size_of type d).marks (says.2 (ap texts_as is ∙ none)),
     )
 
-pub tells : {T : Type 0} (texts : Bool) (IsSo : T → Type 0) (marks spans : List Span) (answer : PartsAnswer T)
-    → Says texts IsSo marks spans answer
-    → Cover spans marks → Tells answer
-tells texts IsSo marks spans (Found found) says cover = tt
-tells texts IsSo marks spans (Wanted w) says cover = let no : true ≡ false = sym (cover w.start says.0) ∙ says.1 in cc
+pub tells : {T : Type 0} (texts : Bool) (IsSo : T → Type 0) (marks : List Span) (n : ℕ) (spans : List Span) (bytes : List ℕ)
+    (answer : PartsAnswer T) → Says texts IsSo marks n spans bytes answer → AllKnown n spans bytes marks → Tells answer
+tells texts IsSo marks n spans bytes (Found found) says all = tt
+tells texts IsSo marks n spans bytes (Wanted w) says all = let no : true ≡ false = sym (all w.start says.0) ∙ says.1 in cc
+
+-- a failure is never found
+pub unstopped : {X : Type 0} (f : List ℕ → Reads X) (n : ℕ) (spans : List Span) (bytes : List ℕ) (texts : Bool) (log : List Span)
+    (missed : Option Missing) (r : Result X ImageError) → n < 2 ^ 63 → Called f n spans bytes log missed r
+    → IfFound (found_or_wanted r (option_map (wanted_of texts) (cond (is_faulted r) missed None))) (λ answer. is_stopped answer ≡ false)
+unstopped {X} f n spans bytes texts log missed r short call = by_test (is_faulted r) refl missed call where
+  by_test : (test : Bool) → is_faulted r ≡ test → (m : Option Missing) → Called f n spans bytes log m r
+      → IfFound (found_or_wanted r (option_map (wanted_of texts) (cond test m None))) (λ answer. is_stopped answer ≡ false)
+  by_test true faults None c = absurd (c.runs.misses (is_short n short) faults).told
+  by_test true faults (Some m) c = tt
+  by_test false no_fault m c =
+      only_fault r (f (filled_input n spans bytes)) refl (no_memory r (f (filled_input n spans bytes)) refl c.runs) c.runs no_fault
+
+pub unstopped_type : (type : ImageType) (answer : PartsAnswer (Result ImageSize ImageError)) → IfFound answer (λ r. is_stopped r ≡ false)
+    → IfFound (with_type type answer) (λ found. is_stopped found.1 ≡ false)
+unstopped_type type (Found answer) is = is
+unstopped_type type (Wanted w) is = tt
 
 pub fits : {T : Type 0} (texts : Bool) (n : ℕ) (spans : List Span) (bytes : List ℕ) (missed : Option Missing) (found : T) (test : Bool)
     → ForSome missed (Lacks n spans bytes) → Fits n (found_or_wanted found (option_map (wanted_of texts) (cond test missed None)))
@@ -265,7 +334,7 @@ fits texts n spans bytes missed found false lacks = tt
 
 -- an answer says of each input that has the parts what these readings of it are
 abbrev pub SaysOfEach : {X : Type 0} → Bool → (List ℕ → Reads X) → PartsAnswer (Result X ImageError) → ℕ → List Span → List ℕ → Type 0
-SaysOfEach texts f answer n spans bytes = (d : List ℕ) → HasParts d n spans bytes → n < 2 ^ 63 → SaysOf texts (f d) spans answer
+SaysOfEach texts f answer n spans bytes = (d : List ℕ) → HasKnown d n spans bytes → n < 2 ^ 63 → SaysOf texts (f d) n spans bytes answer
 
 -- what holds of the parts of a source holds of those that it has them from
 pub moved : (P : ℕ → List Span → List ℕ → Type 0) (n m : ℕ) (spans others : List Span) (bytes content : List ℕ) → m ≡ n → others ≡ spans

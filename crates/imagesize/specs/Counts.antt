@@ -1,8 +1,14 @@
 -- How many bytes a type and its size are read from, and what bytes that follow leave.
-use Rattle.std.specs.Prelude.{ℕ, Bool, false, List, Result, Ok, Err}
+use Rattle.std.specs.Prelude.{◌≡◌, ℕ, Bool, true, false, ◌⊎◌, List, Result, Ok, Err}
 use Rattle.imagesize.specs.Meaning.{kind_of, meaning}
 use Rattle.imagesize.specs.Types.{in_record, lasts, outside_records, way_of}
 use Rattle.imagesize.specs.declared.types.ImageType.{ImageType}
+use Rattle.imagesize.specs.declared.types.ImageType.TheVariants.{Atc, Dds, Eac, Etc2, Heif, Pvrtc, Tga}
+use Rattle.imagesize_types.specs.declared.compression.AtcCompression.TheVariants.{Unknown as atc_unknown}
+use Rattle.imagesize_types.specs.declared.compression.Compression.TheVariants.{Unknown as heif_unknown}
+use Rattle.imagesize_types.specs.declared.compression.DdsCompression.TheVariants.{Unknown as dds_unknown}
+use Rattle.imagesize_types.specs.declared.compression.PkmCompression.TheVariants.{Unknown as pkm_unknown}
+use Rattle.imagesize_types.specs.declared.compression.PvrtcCompression.TheVariants.{Unknown as pvrtc_unknown}
 use Rattle.imagesize_source.specs.Limits.{stated_fixed}
 use Rattle.imagesize_source.specs.State.{total}
 use Rattle.imagesize_source.specs.Way.{most_by, stated_by}
@@ -28,6 +34,26 @@ most_as (Err _) d = 37
 
 abbrev pub most_bytes : List ℕ → ℕ → ℕ
 most_bytes d place = most_as (kind_of d place).answer d
+
+-- Bytes that follow change no such type, but for a compression that is unknown. The bytes behind an image may make it a TGA, or
+-- no TGA any more.
+abbrev pub keeps : ImageType → Bool
+keeps Tga = false
+keeps _ = true
+
+-- the type, its compression unknown where it has several
+abbrev pub without_compression : ImageType → ImageType
+without_compression (Atc _) = Atc atc_unknown
+without_compression (Dds _) = Dds dds_unknown
+without_compression (Eac _) = Eac pkm_unknown
+without_compression (Etc2 _) = Etc2 pkm_unknown
+without_compression (Heif _) = Heif heif_unknown
+without_compression (Pvrtc _) = Pvrtc pvrtc_unknown
+without_compression type = type
+
+-- what was found is this type, or this one with its compression unknown
+abbrev pub Stays : ImageType → ImageType → Type 0
+Stays found type = (type ≡ found) ⊎ (found ≡ without_compression type)
 
 -- bytes that follow change no size of what was found
 abbrev pub lasts_as : Result ImageType ImageError → Bool

@@ -1,5 +1,5 @@
 -- What the calls over the parts of an input answer.
-use Rattle.std.specs.Prelude.{◌≡◌, ℕ, ◌+◌, ◌<◌, ◌≤◌, Bool, true, false, if◌then◌else◌, List, Option, None, Some, Result, Ok, Err}
+use Rattle.std.specs.Prelude.{◌≡◌, ℕ, ◌+◌, ◌<◌, ◌≤◌, Bool, true, false, if◌then◌else◌, List, length, slice_index, Option, None, Some, is_some, Result, Ok, Err}
 use Rattle.std.specs.Result.{result_ok}
 use Rattle.imagesize.specs.Meaning.{kind_of, meaning}
 use Rattle.imagesize.specs.declared.parts.PartsAnswer.{PartsAnswer}
@@ -7,6 +7,7 @@ use Rattle.imagesize.specs.declared.parts.PartsAnswer.TheVariants.{Found, Wanted
 use Rattle.imagesize.specs.declared.types.ImageType.{ImageType}
 use Rattle.imagesize.specs.declared.types.ImageType.TheVariants.{Exr, Hdr, Pnm}
 use Rattle.imagesize_source.specs.Agreement.{is_covered, has_whole}
+use Rattle.imagesize_source.specs.Known.{byte_in_parts}
 use Rattle.imagesize_source.specs.Reading.{Reads}
 use Rattle.imagesize_source.specs.declared.error.ImageError.{ImageError}
 use Rattle.imagesize_source.specs.declared.source.parts.Missing.{Missing}
@@ -28,19 +29,30 @@ texts_as (Err _) = false
 abbrev pub texts_of : List ℕ → Bool
 texts_of d = texts_as (kind_of d 0).answer
 
--- The first byte of a wanted span lies in one of the marks, and in no part. Where no texts are read, a mark has the whole of it.
-abbrev pub Wants : Bool → List Span → List Span → Span → Type 0
-Wants texts marks spans w = (is_covered marks w.start ≡ true) × (is_covered spans w.start ≡ false)
+-- An input of n bytes that has each byte which the parts know: of parts that share a place, the first one's. Whatever the
+-- parts are, there is such an input.
+pub record HasKnown (d : List ℕ) (n : ℕ) (spans : List Span) (content : List ℕ) : Type 0 where
+  pub as_long : length d ≡ n
+  pub known : (place byte : ℕ) → byte_in_parts n spans content place ≡ Some byte → slice_index d place ≡ byte
+
+-- The first byte of a wanted span lies in one of the marks, and is not known. Where no texts are read, a mark has the whole of it.
+abbrev pub Wants : Bool → List Span → ℕ → List Span → List ℕ → Span → Type 0
+Wants texts marks n spans content w = (is_covered marks w.start ≡ true) × (is_some (byte_in_parts n spans content w.start) ≡ false)
     × (texts ≡ false → has_whole marks w ≡ true)
 
 -- Of readings with these marks, with texts or without: what is found is so, and what is wanted is wanted by them.
-abbrev pub Says : {T : Type 0} → Bool → (T → Type 0) → List Span → List Span → PartsAnswer T → Type 0
-Says texts IsSo marks spans (Found found) = IsSo found
-Says texts IsSo marks spans (Wanted w) = Wants texts marks spans w
+abbrev pub Says : {T : Type 0} → Bool → (T → Type 0) → List Span → ℕ → List Span → List ℕ → PartsAnswer T → Type 0
+Says texts IsSo marks n spans content (Found found) = IsSo found
+Says texts IsSo marks n spans content (Wanted w) = Wants texts marks n spans content w
 
 -- what is found is the answer of the readings
-abbrev pub SaysOf : {X : Type 0} → Bool → Reads X → List Span → PartsAnswer (Result X ImageError) → Type 0
-SaysOf texts reads spans told = Says texts (λ answer. answer ≡ reads.answer) reads.marks spans told
+abbrev pub SaysOf : {X : Type 0} → Bool → Reads X → ℕ → List Span → List ℕ → PartsAnswer (Result X ImageError) → Type 0
+SaysOf texts reads n spans content told = Says texts (λ answer. answer ≡ reads.answer) reads.marks n spans content told
+
+-- what holds of what is found
+abbrev pub IfFound : {T : Type 0} → PartsAnswer T → (T → Type 0) → Type 0
+IfFound (Found found) IsSo = IsSo found
+IfFound (Wanted w) IsSo = Unit {0}
 
 -- type and answer are those of the layouts
 abbrev pub IsProbed : List ℕ → Option ImageType × Result ImageSize ImageError → Type 0
@@ -58,10 +70,6 @@ Fits n (Wanted w) = IsWithin n w
 abbrev pub Tells : {T : Type 0} → PartsAnswer T → Type 0
 Tells (Found found) = Unit {0}
 Tells (Wanted w) = ⊥
-
--- the spans have each place of the marks
-abbrev pub Cover : List Span → List Span → Type 0
-Cover spans marks = (place : ℕ) → is_covered marks place ≡ true → is_covered spans place ≡ true
 
 -- what is found, where nothing is wanted
 abbrev pub found_or_wanted : {T : Type 0} → T → Option Span → PartsAnswer T

@@ -1,7 +1,7 @@
 -- What `reader_probe` answers.
 use Rattle.std.specs.Prelude.{◌≡◌, ℕ, ◌+◌, ◌≤◌, true, false, length, Option, None, Some, Result, Ok, IfSome, option_map}
 use Rattle.std.specs.Result.{result_ok}
-use Rattle.imagesize.specs.Counts.{stated_bytes}
+use Rattle.imagesize.specs.Counts.{most_bytes, stated_bytes}
 use Rattle.imagesize.specs.Meaning.{kind_of, meaning}
 use Rattle.imagesize.specs.Short.{EndsAs}
 use Rattle.imagesize_types.specs.declared.size.ImageSize.{ImageSize}
@@ -20,14 +20,15 @@ pub record FindsKind (a : State) (place : ℕ) (found : Option ImageType) (r : R
   pub whole : a.held.honest ≡ true → is_stopped r ≡ false → found ≡ result_ok (kind_of a.held.input place).answer
 
 -- Over an honest reader the answer is that of the layouts or a failure, the type named beside it is right, and the
--- bytes taken are those of their readings, at most as many as are stated, and the allowance more than the input has. What is
--- too short for a type ends there.
+-- bytes taken are those of their readings, at most as many as are stated, as the format's count, and the allowance more than
+-- the input has. What is too short for a type ends there.
 pub record ProbesOf (t : Telling) (probed : Probed) : Type 0 where
   pub answer : AnswersAs t (over_reader t meaning) probed.answer
   pub takes : TakesAs t (over_reader t meaning) probed.answer probed.taken
   pub right : IfSome probed.kind (λ type. (over_reader t kind_of).answer ≡ Ok type)
   pub whole : is_stopped probed.answer ≡ false → probed.kind ≡ result_ok (over_reader t kind_of).answer
   pub stated : probed.taken ≤ stated_bytes t.bytes t.place
+  pub most : probed.taken ≤ most_bytes t.bytes t.place
   pub within : probed.taken ≤ length t.bytes + allowance
   pub short : EndsAs t probed.answer
 

@@ -1,10 +1,13 @@
 -- What `blob_trace` answers.
 use Rattle.std.specs.Prelude.{◌≡◌, ℕ, Bool, false, List, Result, Ok, Err}
 use Rattle.std.specs.Result.{result_ok}
+use Rattle.std.specs.List.{All}
 use Rattle.imagesize.specs.Meaning.{kind_of, meaning}
+use Rattle.imagesize.specs.Parted.{IsWithin}
 use Rattle.imagesize.specs.declared.trace.Trace.{Trace}
 use Rattle.imagesize_source.specs.Reading.{is_memory, is_stopped}
 use Rattle.imagesize_source.specs.declared.error.ImageError.{ImageError}
+use Rattle.imagesize_source.specs.declared.span.Span.{Span}
 
 -- memory was refused
 abbrev pub lacks_memory : {X : Type 0} → Result X ImageError → Bool
@@ -18,6 +21,10 @@ pub record Traces {A : Type 0} (d : List ℕ) (t : Trace A) : Type 0 where
   pub answer : t.answer ≡ (meaning d 0).answer
   pub spans : t.spans.items ≡ (meaning d 0).marks
   pub goes : is_stopped t.answer ≡ false
+
+-- each of the spans has a byte, and lies within an input of n bytes
+abbrev pub AreWithin : ℕ → List Span → Type 0
+AreWithin n spans = All (IsWithin n) spans
 
 -- another input has the same type, the same size and the same marks
 pub record IsSame (d e : List ℕ) : Type 0 where

@@ -1,5 +1,5 @@
 //! The calls: type and size of a slice's bytes, or of a reader's.
-ghost use Rattle.std.specs.Prelude.{◌≡◌, ℕ, ◌+◌, ◌<◌, ◌≤◌, List, length, ◌++◌, IsTrue, IfOk, IfErr, IfSome, IsSome, Some, true, false, Option, Ok, Err, option_map};
+ghost use Rattle.std.specs.Prelude.{◌≡◌, ℕ, ◌+◌, ◌<◌, ◌≤◌, List, length, ◌++◌, IsTrue, IfOk, IsOkAnd, IfErr, IfSome, IsSome, Some, true, false, Option, Ok, Err, option_map};
 ghost use Rattle.imagesize_io.specs.Answers.{Answers, CountsWithin, IsLast, Leaves};
 ghost use Rattle.imagesize_source.specs.Limits.{allowance};
 ghost use Rattle.imagesize_source.specs.Reading.{end_of_input, is_fault, is_memory, budget_spent, is_stopped};
@@ -7,7 +7,7 @@ ghost use Rattle.imagesize_source.specs.State.{Runs};
 ghost use Rattle.imagesize_io.specs.ReaderState.{Opens};
 ghost use Rattle.imagesize_io.specs.Telling.{Telling};
 ghost use Rattle.imagesize_source.specs.Agreement.{Agrees};
-ghost use Rattle.imagesize.specs.Counts.{cost, lasts_as, most_bytes, stated_bytes};
+ghost use Rattle.imagesize.specs.Counts.{Stays, cost, keeps, lasts_as, most_bytes, stated_bytes};
 ghost use Rattle.imagesize.specs.Meaning.{kind_of, meaning, size_of};
 ghost use Rattle.imagesize.specs.Probed.{FindsKind, Probes, SpentAll};
 ghost use Rattle.imagesize.specs.Short.{Ends};
@@ -48,6 +48,9 @@ pub fn image_type(header: &[u8]) -> ImageResult<ImageType>
     // Another input of this length that agrees on the marks has the same type, at every place.
     ensures local { (place : ℕ) (e : List ℕ) → Agrees header.now e (kind_of header.now place).marks
         → kind_of e place ≡ kind_of header.now place }
+
+    // Bytes that follow change no type but TGA, and no compression but one that is unknown.
+    ensures lasts { IfOk result (λ type. IsTrue (keeps type) → (x : List ℕ) → IsOkAnd (kind_of (header.now ++ x) 0).answer (Stays type)) }
 
     // A slice fails at no reading, has no budget and wants no memory.
     ensures unstopped { is_stopped result ≡ false }

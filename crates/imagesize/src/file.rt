@@ -1,7 +1,9 @@
 //! The size of the image in a file.
-ghost use Rattle.std.specs.Prelude.{◌≤◌, IfErr, IfSome};
+ghost use Rattle.std.specs.Prelude.{◌≡◌, ◌≤◌, IfErr, IfOk, IfSome, Ok, Err};
 ghost use Rattle.imagesize_source.specs.Limits.{allowance};
 ghost use Rattle.imagesize_source.specs.Reading.{budget_spent};
+ghost use Rattle.imagesize_source.specs.declared.error.ImageError.TheVariants as error;
+ghost use Rattle.imagesize_source.specs.declared.error.Reason.TheVariants as reason;
 
 use crate::{ImageError, ImageResult, Reason, reader_size};
 use imagesize_io::KeptReader;
@@ -28,8 +30,17 @@ pub fn size<F: Files, P: AsPath + Drop>(rt: &F, alloc: Global, path: P) -> Image
     ensures spent { IfErr result (λ e. IfSome (budget_spent e) (λ budget. allowance ≤ budget)) }
 {
     let file = fs::open(rt, path)?;
-    match BufReader::new(alloc, file) {
-        Ok(reader) => reader_size(KeptReader::new(reader)),
+    let reader = with_buffer(BufReader::new(alloc, file))?;
+    reader_size(KeptReader::new(reader))
+}
+
+// The reader behind its buffer, or want of memory for the buffer.
+fn with_buffer<R: Drop, E: Drop>(made: Result<R, E>) -> ImageResult<R>
+    ensures kept { IfOk made (λ reader. result ≡ Ok reader) }
+    ensures refused { IfErr made (λ _. result ≡ Err (error.IoError reason.Memory)) }
+{
+    match made {
+        Ok(reader) => Ok(reader),
         Err(_) => Err(ImageError::IoError(Reason::Memory)),
     }
 }

@@ -1,9 +1,13 @@
 //! Laws of the comparisons and the hashes of the public types. A law is what the contract of a
 //! function says, and the function itself does nothing.
-ghost use Rattle.std.specs.Prelude.{◌≡◌, true};
+ghost use Rattle.std.specs.Prelude.{◌≡◌, ℕ, ◌<◌, List, is_some, true};
 ghost use Rattle.imagesize_types.specs.Comparisons.{IsLawfulHash, IsLawfulOrder, RankedBy};
 ghost use Rattle.imagesize.specs.Ranks.{IsListed, family_rank, is_ascending};
+ghost use Rattle.imagesize.specs.Parted.{HasKnown};
 ghost use Rattle.imagesize.specs.Types.{types};
+ghost use Rattle.imagesize_source.specs.Known.{HasParts, byte_in_parts, filled_input};
+ghost use Rattle.imagesize_source.specs.Agreement.{is_covered};
+ghost use Rattle.imagesize_source.specs.declared.span.Span.{Span};
 
 use crate::types::{CompressionFamily, ImageType};
 use imagesize_source::Span;
@@ -26,6 +30,16 @@ fn compression_family_laws()
     ensures order { IsLawfulOrder
         ⟦<CompressionFamily as Ord>⟧.cmp ⟦<CompressionFamily as PartialOrd>⟧.partial_cmp }
     ensures ranked { RankedBy family_rank ⟦<CompressionFamily as Ord>⟧.cmp }
+{}
+
+// Whatever the parts are, some input has the bytes that they know, and one that has the parts themselves has them.
+fn parts_laws()
+    ensures some { (n : ℕ) (spans : List Span) (content : List ℕ) → HasKnown (filled_input n spans content) n spans content }
+    ensures parts { (d : List ℕ) (n : ℕ) (spans : List Span) (content : List ℕ) → HasParts d n spans content → HasKnown d n spans content }
+
+    // Of such an input those bytes are known that a span has.
+    ensures covered { (d : List ℕ) (n : ℕ) (spans : List Span) (content : List ℕ) (place : ℕ) → HasParts d n spans content → place < n
+        → is_some (byte_in_parts n spans content place) ≡ is_covered spans place }
 {}
 
 fn span_laws()

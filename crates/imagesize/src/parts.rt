@@ -1,9 +1,9 @@
 //! Types and sizes by parts of an input, of which the caller has no more so far.
 ghost use Rattle.std.specs.Prelude.{◌≡◌, ℕ, ◌^◌, ◌<◌, false, List, None, if◌then◌else◌, option_map};
 ghost use Rattle.imagesize.specs.Meaning.{kind_of, meaning, size_of};
-ghost use Rattle.imagesize.specs.Parted.{Cover, Fits, IsProbed, Says, SaysOf, Tells, has_texts, texts_of, found_or_wanted, wanted_of, with_type};
-ghost use Rattle.imagesize_source.specs.Known.{HasParts};
-ghost use Rattle.imagesize_source.specs.Reading.{is_faulted};
+ghost use Rattle.imagesize.specs.Parted.{Fits, HasKnown, IfFound, IsProbed, Says, SaysOf, Tells, has_texts, texts_of, found_or_wanted, wanted_of, with_type};
+ghost use Rattle.imagesize_source.specs.Known.{AllKnown};
+ghost use Rattle.imagesize_source.specs.Reading.{is_faulted, is_stopped};
 
 use crate::formats::{detect, size};
 use crate::types::ImageType;
@@ -49,14 +49,17 @@ pub fn parts_probe(
     spans: &[Span],
     total: u64,
 ) -> PartsAnswer<(Option<ImageType>, ImageResult<ImageSize>)>
-    // Of each input of that length that has these parts:
-    ensures says { (d : List ℕ) → HasParts d total spans.now bytes.now → total < 2 ^ 63
-        → Says (texts_of d) (IsProbed d) (meaning d 0).marks spans.now result }
+    // Of each input of that length that has the bytes which these parts know, and there is one:
+    ensures says { (d : List ℕ) → HasKnown d total spans.now bytes.now → total < 2 ^ 63
+        → Says (texts_of d) (IsProbed d) (meaning d 0).marks total spans.now bytes.now result }
 
-    // Where the parts have every byte that the answer rests on, it is given.
-    ensures complete { (d : List ℕ) → HasParts d total spans.now bytes.now → total < 2 ^ 63
-        → Cover spans.now (meaning d 0).marks → Tells result }
+    // Where the parts know every byte that the answer rests on, it is given.
+    ensures complete { (d : List ℕ) → HasKnown d total spans.now bytes.now → total < 2 ^ 63
+        → AllKnown total spans.now bytes.now (meaning d 0).marks → Tells result }
     ensures fits { Fits total result }
+
+    // No fault, no spent budget and no want of memory is an answer.
+    ensures unstopped { total < 2 ^ 63 → IfFound result (λ found. is_stopped found.1 ≡ false) }
 {
     let mut source = PartsSource::new(spans, bytes, total);
     match type_of(&mut source) {
@@ -80,13 +83,17 @@ pub fn parts_probe(
 /// }
 /// ```
 pub fn parts_type(bytes: &[u8], spans: &[Span], total: u64) -> PartsAnswer<ImageResult<ImageType>>
-    // Of each input of that length that has these parts:
-    ensures says { (d : List ℕ) → HasParts d total spans.now bytes.now → total < 2 ^ 63 → SaysOf false (kind_of d 0) spans.now result }
+    // Of each input of that length that has the bytes which these parts know, and there is one:
+    ensures says { (d : List ℕ) → HasKnown d total spans.now bytes.now → total < 2 ^ 63
+        → SaysOf false (kind_of d 0) total spans.now bytes.now result }
 
-    // Where the parts have every byte that the type rests on, it is given.
-    ensures complete { (d : List ℕ) → HasParts d total spans.now bytes.now → total < 2 ^ 63
-        → Cover spans.now (kind_of d 0).marks → Tells result }
+    // Where the parts know every byte that the type rests on, it is given.
+    ensures complete { (d : List ℕ) → HasKnown d total spans.now bytes.now → total < 2 ^ 63
+        → AllKnown total spans.now bytes.now (kind_of d 0).marks → Tells result }
     ensures fits { Fits total result }
+
+    // No fault, no spent budget and no want of memory is an answer.
+    ensures unstopped { total < 2 ^ 63 → IfFound result (λ answer. is_stopped answer ≡ false) }
 {
     let mut source = PartsSource::new(spans, bytes, total);
     type_of(&mut source)
@@ -114,14 +121,17 @@ impl ImageType {
         spans: &[Span],
         total: u64,
     ) -> PartsAnswer<ImageResult<ImageSize>>
-        // Of each input of that length that has these parts:
-        ensures says { (d : List ℕ) → HasParts d total spans.now bytes.now → total < 2 ^ 63
-            → SaysOf (has_texts self.now) (size_of self.now d) spans.now result }
+        // Of each input of that length that has the bytes which these parts know, and there is one:
+        ensures says { (d : List ℕ) → HasKnown d total spans.now bytes.now → total < 2 ^ 63
+            → SaysOf (has_texts self.now) (size_of self.now d) total spans.now bytes.now result }
 
-        // Where the parts have every byte that the size rests on, it is given.
-        ensures complete { (d : List ℕ) → HasParts d total spans.now bytes.now → total < 2 ^ 63
-            → Cover spans.now (size_of self.now d).marks → Tells result }
+        // Where the parts know every byte that the size rests on, it is given.
+        ensures complete { (d : List ℕ) → HasKnown d total spans.now bytes.now → total < 2 ^ 63
+            → AllKnown total spans.now bytes.now (size_of self.now d).marks → Tells result }
         ensures fits { Fits total result }
+
+        // No fault, no spent budget and no want of memory is an answer.
+        ensures unstopped { total < 2 ^ 63 → IfFound result (λ answer. is_stopped answer ≡ false) }
     {
         let mut source = PartsSource::new(spans, bytes, total);
         size_as(&mut source, *self)
@@ -131,9 +141,10 @@ impl ImageType {
 // The type, by readings that begin anew.
 #[inline(always)]
 fn type_of(source: &mut PartsSource<'_>) -> PartsAnswer<ImageResult<ImageType>>
-    ensures says { (d : List ℕ) → HasParts d source.old.told source.old.spans.now source.old.bytes.now → source.old.told < 2 ^ 63
-        → SaysOf false (kind_of d 0) source.old.spans.now result }
+    ensures says { (d : List ℕ) → HasKnown d source.old.told source.old.spans.now source.old.bytes.now → source.old.told < 2 ^ 63
+        → SaysOf false (kind_of d 0) source.old.told source.old.spans.now source.old.bytes.now result }
     ensures fits { Fits source.old.told result }
+    ensures unstopped { source.old.told < 2 ^ 63 → IfFound result (λ answer. is_stopped answer ≡ false) }
 
     // The parts stay as they are.
     ensures spans { source.new.spans.now ≡ source.old.spans.now }
@@ -149,9 +160,10 @@ fn type_of(source: &mut PartsSource<'_>) -> PartsAnswer<ImageResult<ImageType>>
 // The size, read as this type, by readings that begin anew.
 #[inline(always)]
 fn size_as(source: &mut PartsSource<'_>, image: ImageType) -> PartsAnswer<ImageResult<ImageSize>>
-    ensures says { (d : List ℕ) → HasParts d source.old.told source.old.spans.now source.old.bytes.now → source.old.told < 2 ^ 63
-        → SaysOf (has_texts image) (size_of image d) source.old.spans.now result }
+    ensures says { (d : List ℕ) → HasKnown d source.old.told source.old.spans.now source.old.bytes.now → source.old.told < 2 ^ 63
+        → SaysOf (has_texts image) (size_of image d) source.old.told source.old.spans.now source.old.bytes.now result }
     ensures fits { Fits source.old.told result }
+    ensures unstopped { source.old.told < 2 ^ 63 → IfFound result (λ answer. is_stopped answer ≡ false) }
 {
     source.forget();
     let found = size(source, image);

@@ -1,6 +1,8 @@
 //! The bytes that an answer rests on, in a buffer that the caller lends.
-ghost use Rattle.std.specs.Prelude.{◌≡◌, ◌<◌, ◌≤◌, ◌++◌, length, take, drop};
+ghost use Rattle.std.specs.Prelude.{◌≡◌, ◌+◌, ◌<◌, ◌≤◌, ◌++◌, length, take, drop};
 ghost use Rattle.imagesize.specs.Meaning.{meaning};
+ghost use Rattle.imagesize.specs.Traced.{AreWithin};
+ghost use Rattle.imagesize_source.specs.Limits.{allowance};
 
 use crate::Span;
 use crate::calls::probe;
@@ -20,6 +22,10 @@ use imagesize_source::source::recording::RecordingSource;
 pub fn blob_spans(data: &[u8], room: &mut [Span]) -> usize
     ensures count { result ≡ length (meaning «data».now 0).marks }
     ensures spans { result ≤ length room.old → room.new ≡ (meaning «data».now 0).marks ++ drop result room.old }
+
+    // Each span has a byte and lies within the input, and there are at most as many as there are bytes and 64 more.
+    ensures cuts { result ≤ length room.old → AreWithin (length «data».now) (take result room.new) }
+    ensures few { result ≤ length «data».now + allowance }
     ensures unchanged { length room.old < result → room.new ≡ room.old }
 {
     let count = record_spans(data, &mut []);

@@ -2,7 +2,7 @@
 ghost use Rattle.std.specs.Prelude.{◌≡◌, ℕ, ◌+◌, ◌≤◌, ◌++◌, IfOk, IsOk, IsTrue, List, Ok, length};
 ghost use Rattle.imagesize.specs.Counts.{lasts_as, stated_bytes};
 ghost use Rattle.imagesize.specs.Meaning.{kind_of, meaning};
-ghost use Rattle.imagesize.specs.Traced.{IsSame, Traces, lacks_memory};
+ghost use Rattle.imagesize.specs.Traced.{AreWithin, IsSame, Traces, lacks_memory};
 ghost use Rattle.imagesize_source.specs.Limits.{allowance};
 ghost use Rattle.imagesize_source.specs.Agreement.{Agrees};
 ghost use Rattle.imagesize_source.specs.State.{total};
@@ -47,6 +47,10 @@ pub fn blob_trace<A: Allocator>(alloc: A, data: &[u8]) -> Result<Trace<A>, Alloc
     // The spans are together at most as long as is stated, and as there are bytes and 64 more.
     ensures stated { IfOk result (λ t. total t.spans.items ≤ stated_bytes «data».now 0) }
     ensures within { IfOk result (λ t. total t.spans.items ≤ length «data».now + allowance) }
+
+    // Each span has a byte and lies within the input, and there are at most as many as there are bytes and 64 more.
+    ensures cuts { IfOk result (λ t. AreWithin (length «data».now) t.spans.items) }
+    ensures few { IfOk result (λ t. length t.spans.items ≤ length «data».now + allowance) }
 
     // Bytes that follow change no size, but those of HEIF, of icons and of TGA.
     ensures lasts { IsTrue (lasts_as (kind_of «data».now 0).answer) → IfOk result (λ t. IfOk t.answer (λ size.

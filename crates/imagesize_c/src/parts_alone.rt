@@ -2,11 +2,11 @@
 ghost use Rattle.std.specs.Prelude.{◌≡◌, ℕ, ◌^◌, ◌<◌, List, true, false, None, IfSome};
 ghost use Rattle.std.specs.Result.{result_ok};
 ghost use Rattle.imagesize.specs.Meaning.{kind_of, size_of};
-ghost use Rattle.imagesize.specs.Parted.{Cover, IsWithin, Wants, has_texts};
+ghost use Rattle.imagesize.specs.Parted.{HasKnown, IsWithin, Wants, has_texts};
 ghost use Rattle.imagesize_c.specs.Numbers.{type_numbered};
-ghost use Rattle.imagesize_c.specs.Status.{is_answered, is_wanted, status_of};
+ghost use Rattle.imagesize_c.specs.Status.{is_answered, is_stop_status, is_wanted, status_of};
 ghost use Rattle.imagesize_c.specs.Told.{TellsSize, TellsType};
-ghost use Rattle.imagesize_source.specs.Known.{HasParts};
+ghost use Rattle.imagesize_source.specs.Known.{AllKnown};
 
 use crate::numbers::type_numbered;
 use crate::status::UNKNOWN_TYPE;
@@ -15,7 +15,7 @@ use imagesize::{PartsAnswer, Span, parts_type};
 
 /// The type of the image in an input of which these parts are known, or a part that it needs.
 #[unsafe(no_mangle)]
-#[tactic(auto, using(crate::proofs::Statuses::never_wanted))]
+#[tactic(auto, using(crate::proofs::Statuses::never_wanted, crate::proofs::Statuses::unstopped))]
 pub extern "C" fn imagesize_parts_type(
     bytes: &[u8],
     spans: &[Span],
@@ -24,18 +24,21 @@ pub extern "C" fn imagesize_parts_type(
     compression: &mut u32,
     wanted: &mut Span,
 ) -> u32
-    // Of each input of that length that has these parts:
-    ensures status { (d : List ℕ) → HasParts d total spans.now bytes.now → total < 2 ^ 63 → is_wanted result ≡ false
+    // Of each input of that length that has the bytes which these parts know:
+    ensures status { (d : List ℕ) → HasKnown d total spans.now bytes.now → total < 2 ^ 63 → is_wanted result ≡ false
         → result ≡ status_of (kind_of d 0).answer }
-    ensures told { (d : List ℕ) → HasParts d total spans.now bytes.now → total < 2 ^ 63 → is_wanted result ≡ false
+    ensures told { (d : List ℕ) → HasKnown d total spans.now bytes.now → total < 2 ^ 63 → is_wanted result ≡ false
         → TellsType (result_ok (kind_of d 0).answer) number.old number.new compression.old compression.new }
-    ensures wants { (d : List ℕ) → HasParts d total spans.now bytes.now → total < 2 ^ 63 → is_wanted result ≡ true
-        → Wants false (kind_of d 0).marks spans.now wanted.new }
+    ensures wants { (d : List ℕ) → HasKnown d total spans.now bytes.now → total < 2 ^ 63 → is_wanted result ≡ true
+        → Wants false (kind_of d 0).marks total spans.now bytes.now wanted.new }
 
-    // Where the parts have every byte that the type rests on, it is given.
-    ensures complete { (d : List ℕ) → HasParts d total spans.now bytes.now → total < 2 ^ 63
-        → Cover spans.now (kind_of d 0).marks → is_wanted result ≡ false }
+    // Where the parts know every byte that the type rests on, it is given.
+    ensures complete { (d : List ℕ) → HasKnown d total spans.now bytes.now → total < 2 ^ 63
+        → AllKnown total spans.now bytes.now (kind_of d 0).marks → is_wanted result ≡ false }
     ensures fits { is_wanted result ≡ true → IsWithin total wanted.new }
+
+    // It is never the status of a fault, a spent budget or want of memory.
+    ensures unstopped { total < 2 ^ 63 → is_stop_status result ≡ false }
 
     // What is not told stays as it was.
     ensures unknown { is_answered result ≡ false → (number.new ≡ number.old) × (compression.new ≡ compression.old) }
@@ -50,7 +53,7 @@ pub extern "C" fn imagesize_parts_type(
 /// The size of the image in an input of which these parts are known, read as the type that has these numbers, or a part that
 /// it needs.
 #[unsafe(no_mangle)]
-#[tactic(auto, using(crate::proofs::Statuses::never_wanted))]
+#[tactic(auto, using(crate::proofs::Statuses::never_wanted, crate::proofs::Statuses::unstopped))]
 pub extern "C" fn imagesize_parts_size(
     number: u32,
     compression: u32,
@@ -62,17 +65,20 @@ pub extern "C" fn imagesize_parts_size(
     wanted: &mut Span,
 ) -> u32
     // Read as this type, of each input of that length that has these parts:
-    ensures status { IfSome (type_numbered number compression) (λ image. (d : List ℕ) → HasParts d total spans.now bytes.now
+    ensures status { IfSome (type_numbered number compression) (λ image. (d : List ℕ) → HasKnown d total spans.now bytes.now
         → total < 2 ^ 63 → is_wanted result ≡ false → result ≡ status_of (size_of image d).answer) }
-    ensures size { IfSome (type_numbered number compression) (λ image. (d : List ℕ) → HasParts d total spans.now bytes.now
+    ensures size { IfSome (type_numbered number compression) (λ image. (d : List ℕ) → HasKnown d total spans.now bytes.now
         → total < 2 ^ 63 → is_wanted result ≡ false → TellsSize (size_of image d).answer width.old width.new height.old height.new) }
-    ensures wants { IfSome (type_numbered number compression) (λ image. (d : List ℕ) → HasParts d total spans.now bytes.now
-        → total < 2 ^ 63 → is_wanted result ≡ true → Wants (has_texts image) (size_of image d).marks spans.now wanted.new) }
+    ensures wants { IfSome (type_numbered number compression) (λ image. (d : List ℕ) → HasKnown d total spans.now bytes.now
+        → total < 2 ^ 63 → is_wanted result ≡ true → Wants (has_texts image) (size_of image d).marks total spans.now bytes.now wanted.new) }
 
-    // Where the parts have every byte that the size rests on, it is given.
-    ensures complete { IfSome (type_numbered number compression) (λ image. (d : List ℕ) → HasParts d total spans.now bytes.now
-        → total < 2 ^ 63 → Cover spans.now (size_of image d).marks → is_wanted result ≡ false) }
+    // Where the parts know every byte that the size rests on, it is given.
+    ensures complete { IfSome (type_numbered number compression) (λ image. (d : List ℕ) → HasKnown d total spans.now bytes.now
+        → total < 2 ^ 63 → AllKnown total spans.now bytes.now (size_of image d).marks → is_wanted result ≡ false) }
     ensures fits { is_wanted result ≡ true → IsWithin total wanted.new }
+
+    // It is never the status of a fault, a spent budget or want of memory.
+    ensures unstopped { total < 2 ^ 63 → is_stop_status result ≡ false }
 
     // No type has the numbers, or what is not told stays as it was.
     ensures unknown { type_numbered number compression ≡ None → result ≡ 28 }

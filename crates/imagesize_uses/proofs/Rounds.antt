@@ -7,13 +7,15 @@ use Rattle.std.proofs.lemmas.Bool.Decides.{nat_tests}
 use Rattle.std.proofs.lemmas.Grind.{flat_map-append}
 use Rattle.std.proofs.lemmas.List.{append-nil}
 use Rattle.imagesize.specs.Meaning.{meaning}
-use Rattle.imagesize.specs.Parted.{Wants, texts_of}
+use Rattle.imagesize.specs.Parted.{HasKnown, Wants, texts_of}
 use Rattle.imagesize_source.specs.Agreement.{is_covered, has_place}
 use Rattle.imagesize_source.specs.Counts.{places}
 use Rattle.imagesize_source.specs.Input.{part}
 use Rattle.imagesize_source.specs.Known.{HasParts, bytes_of}
 use Rattle.imagesize_source.specs.declared.span.Span.{Span}
 use Rattle.imagesize_source.proofs.Counts.{count-cons, count_fewer, tests_fewer}
+use Rattle.imagesize_source.proofs.Known.{unknown_free}
+use Rattle.imagesize.proofs.Wanted.{parts_known}
 
 -- ---- counts of places
 
@@ -79,12 +81,14 @@ begun d whole now spans bytes long short none also = record {
 -- a fetch of what is wanted of the parts, as the call has them, leaves fewer places that are lacking
 module _ {d : List ℕ} {whole : ℕ} {spans others : List Span} {bytes content : List ℕ} {before now : ℕ} (w : Span)
     (f : Fetching d whole spans bytes before now) (same : others ≡ spans) (also : content ≡ bytes)
-    (says : HasParts d whole others content → whole < 2 ^ 63 → Wants (texts_of d) (meaning d 0).marks others w)
+    (says : HasKnown d whole others content → whole < 2 ^ 63 → Wants (texts_of d) (meaning d 0).marks whole others content w)
     (fits : (0 < w.len) × (w.start + w.len ≤ whole)) where
-  wants : Wants (texts_of d) (meaning d 0).marks spans w
+  wants : (is_covered (meaning d 0).marks w.start ≡ true) × (is_covered spans w.start ≡ false)
   wants =
       let has : HasParts d whole others content = record { as_long = sym f.as_long; bytes = ap (bytes_of d) same ∙ f.content ∙ sym also } in
-      subst (λ s. Wants (texts_of d) (meaning d 0).marks s w) same (says has f.short)
+      let is = says (parts_known d whole others content has) f.short in
+      let free : is_covered others w.start ≡ false = unknown_free d whole others content w.start has (omega (arith, fits.0, fits.1)) is.1 in
+      (is.0, ap (λ s. is_covered s w.start) (sym same) ∙ free)
 
   pub smaller : {more : List Span} → more ≡ spans ++ w ∷ [] → lacking d more < lacking d spans
   unfolding lacking

@@ -1,4 +1,5 @@
 use Rattle.std.proofs.Common.{refl, sym, ◌∙◌}
+use Rattle.imagesize.proofs.Detection.{kind_lasts}
 use Rattle.imagesize.proofs.Endings.{never_stopped}
 use Rattle.imagesize.proofs.Locality.{local_kind}
 use Rattle.imagesize.proofs.Short.{no_kind}
@@ -15,3 +16,7 @@ returns-clause-short c = λ few.
 
 pub returns-clause-unstopped : goal.returns-clause-unstopped
 returns-clause-unstopped c = never_stopped _ _ refl refl refl refl c.detect.ensures
+
+pub returns-clause-lasts : goal.returns-clause-lasts
+returns-clause-lasts c = kind_lasts c.args.header.now 0 _
+    (sym (c.detect.ensures.answer refl (never_stopped _ _ refl refl refl refl c.detect.ensures)))

@@ -1,5 +1,5 @@
 use Rattle.std.proofs.Common.{sym, ◌∙◌}
-use Rattle.imagesize.proofs.Traces.{answer_lasts, same, spans_stated, spans_within, traced}
+use Rattle.imagesize.proofs.Traces.{answer_lasts, same, spans_cut, spans_few, spans_stated, spans_within, traced}
 use Rattle.imagesize.proofs.trace.blob_trace.Goals as goal
 
 pub returns-then-lacks_memory-clause-local : goal.returns-then-lacks_memory-clause-local
@@ -28,3 +28,13 @@ pub returns-clause-lasts : goal.returns-clause-lasts
 returns-clause-lasts g c =
     answer_lasts c.args.«data».now _ _ _ (rw (c.in_memory-source.ensures.bytes, c.in_memory-source.ensures.spans) at c.probe-kind.ensures.runs)
     (sym c.lacks_memory.ensures ∙ c.if-lacks_memory.false)
+
+pub returns-clause-cuts : goal.returns-clause-cuts
+returns-clause-cuts g c =
+    spans_cut c.args.«data».now _ _ _ _ (rw (c.in_memory-source.ensures.bytes, c.in_memory-source.ensures.spans) at c.probe-kind.ensures.runs)
+    c.probe-kind.new.source.written (sym c.lacks_memory.ensures ∙ c.if-lacks_memory.false)
+
+pub returns-clause-few : goal.returns-clause-few
+returns-clause-few g c =
+    spans_few c.args.«data».now _ _ _ _ (rw (c.in_memory-source.ensures.bytes, c.in_memory-source.ensures.spans) at c.probe-kind.ensures.runs)
+    c.probe-kind.new.source.written (sym c.lacks_memory.ensures ∙ c.if-lacks_memory.false)

@@ -1,0 +1,194 @@
+-- Each span that an answer rests on has a byte, and lies within the input.
+use Rattle.std.proofs.Common.{◌≡◌, ℕ, ◌+◌, ◌-◌, ◌<◌, ◌≤◌, min, Bool, true, false, cond, eqb, List, [], ◌∷◌, ◌++◌, length, take, suc, subst, Option, Some, None, Result, Ok, Err, refl, sym, ap, ◌∙◌, arith}
+use Rattle.std.specs.Prelude.{codes, flat_map}
+use Rattle.std.specs.Option.{option_map_or}
+use Rattle.std.specs.List.{range_with_len}
+use Rattle.std.proofs.Math.Seq.{take-append_seam}
+use Rattle.std.proofs.lemmas.Bool.Decides.{nat_tests}
+use Rattle.std.proofs.lemmas.List.{take_all}
+use Rattle.std.proofs.lemmas.List.Elements.{All-append, All-nil}
+use Rattle.std.proofs.lemmas.Grind.{common_steps}
+use Rattle.imagesize_boxes.specs.Heif.{heif, heif_in_iprp, heif_in_meta, properties, search_for}
+use Rattle.imagesize_boxes.specs.Jxl.{codestream, jxl, jxl_chain, jxl_codestream, jxl_size, jxl_start}
+use Rattle.imagesize_texts.specs.Exr.{exr, exr_attributes, name_room}
+use Rattle.imagesize_texts.specs.Hdr.{hdr, hdr_identifier, hdr_lines}
+use Rattle.imagesize_texts.specs.Pnm.{pnm_words}
+use Rattle.imagesize_walked.specs.Ico.{ico, icon_entries}
+use Rattle.imagesize_walked.specs.Ilbm.{ilbm_chunks}
+use Rattle.imagesize_walked.specs.Jpeg.{jpeg_segments}
+use Rattle.imagesize_walked.specs.Tiff.{count_bytes, tiff, tiff_directory, tiff_entries, tiff_header}
+use Rattle.imagesize.proofs.Counts.{cost_within}
+use Rattle.imagesize.specs.Kind.{kind}
+use Rattle.imagesize.specs.Meaning.{kind_of, meaning, size_of}
+use Rattle.imagesize.specs.Parted.{IsWithin}
+use Rattle.imagesize.specs.Traced.{AreWithin}
+use Rattle.imagesize.specs.Types.{way_of}
+use Rattle.imagesize.specs.declared.types.ImageType.{ImageType}
+use Rattle.imagesize.specs.declared.types.ImageType.TheVariants.{Exr, Hdr, Heif, Ico, Ilbm, Jpeg, Jxl, Pnm, Tiff}
+use Rattle.imagesize_source.specs.Chain.{Along, Chain, chain_at, chain_from, marks_of, next_record, records_from, start, trail}
+use Rattle.imagesize_source.specs.Input.{span_at, span_of}
+use Rattle.imagesize_source.specs.Layout.{Layout, layout_reads}
+use Rattle.imagesize_source.specs.Layout.Layout.{«done», refuse, field, reading}
+use Rattle.imagesize_source.specs.Reading.{Reads, Reading, AllOf, PartOf, TextOf, and_then, bytes_read, go_on, number_at, number_read, read_of, text_part}
+use Rattle.imagesize_types.specs.declared.size.ImageSize.{ImageSize}
+use Rattle.imagesize_source.specs.State.{total}
+use Rattle.imagesize_source.specs.Way.{Way, Fixed, Recorded, Texts, by_way}
+use Rattle.imagesize_source.specs.declared.endian.Endian.TheVariants.{Big, Little}
+use Rattle.imagesize_source.specs.declared.error.ImageError.{ImageError}
+use Rattle.imagesize_source.specs.declared.span.Span.{Span}
+use Rattle.imagesize_source.proofs.Counts.{text_length}
+use Rattle.imagesize_source.proofs.Parts.{part_length}
+
+one_within : (n : ℕ) (s : Span) → IsWithin n s → AreWithin n (s ∷ [])
+one_within n s is = grind (arith, common_steps)
+
+-- what has a byte and lies within
+by_count : (n place count : ℕ) (none : Bool) → eqb count 0 ≡ none → (0 < count → place + count ≤ n)
+    → AreWithin n (cond none [] (record { start = place; len = count } ∷ []))
+by_count n place count true is fits = All-nil (IsWithin n)
+by_count n place count false is fits =
+    let some : 0 < count = grind (arith, nat_tests) in one_within n (record { start = place; len = count }) (some, fits some)
+
+span_within : (n place count : ℕ) → (0 < count → place + count ≤ n) → AreWithin n (span_at place count)
+unfolding span_at
+span_within n place count fits = by_count n place count (eqb count 0) refl fits
+
+reading_within : (d : List ℕ) (place k : ℕ) → AreWithin (length d) (span_of d place k)
+unfolding span_of
+reading_within d place k = span_within (length d) place (min k (length d - place)) (λ some. omega (arith, some))
+
+read_within : (d : List ℕ) (r : Reading) (place : ℕ) → AreWithin (length d) (read_of d r place).marks
+read_within d (AllOf k) place = reading_within d place k
+read_within d (PartOf k) place = reading_within d place k
+read_within d (TextOf t k) place = span_within (length d) place (length (text_part d t place k))
+    (λ some. omega (arith, some, text_length d t place k, part_length d place k))
+
+onward_within : {X Y : Type 0} (n : ℕ) (spans : List Span) (r : Result X ImageError) (f : X → Reads Y) → AreWithin n spans
+    → ((x : X) → AreWithin n (f x).marks) → AreWithin n (go_on spans r f).marks
+onward_within n spans (Ok x) f first rest = All-append (IsWithin n) spans (f x).marks first (rest x)
+onward_within n spans (Err e) f first rest = first
+
+-- the marks of a layout, of some readings and what goes on from them, and of a chain
+pub layout_within : {X : Type 0} (d : List ℕ) (t : Layout X) → AreWithin (length d) (layout_reads d t).marks
+layout_within d (done x) = All-nil (IsWithin (length d))
+layout_within d (refuse e) = All-nil (IsWithin (length d))
+layout_within d (field order place k f) = onward_within (length d) (span_of d place k) (number_at d order place k)
+    (λ v. layout_reads d (f v)) (reading_within d place k) (λ v. layout_within d (f v))
+layout_within d (reading r place f) = onward_within (length d) (read_of d r place).marks (read_of d r place).answer
+    (λ bs. layout_reads d (f bs)) (read_within d r place) (λ bs. layout_within d (f bs))
+
+then_within : {X Y : Type 0} (n : ℕ) (r : Reads X) (f : X → Reads Y) → AreWithin n r.marks → ((x : X) → AreWithin n (f x).marks)
+    → AreWithin n (and_then r f).marks
+then_within n r f first rest = onward_within n r.marks r.answer f first rest
+
+record_within : {C X : Type 0} (c : Chain C X) (d : List ℕ) (at : Option (Along C))
+    → AreWithin (length d) (option_map_or (λ u. (next_record c d u).marks) at [])
+record_within c d None = All-nil (IsWithin (length d))
+record_within c d (Some u) = layout_within d (c.said u.held u.place)
+
+records_within : {C X : Type 0} (c : Chain C X) (d : List ℕ) (t : Along C) (indices : List ℕ)
+    → AreWithin (length d) (flat_map (marks_of c d t) indices)
+records_within c d t [] = All-nil (IsWithin (length d))
+records_within c d t (i ∷ indices) = All-append (IsWithin (length d)) (marks_of c d t i) (flat_map (marks_of c d t) indices)
+    (record_within c d (trail c d t i)) (records_within c d t indices)
+
+chain_within : {C X : Type 0} (c : Chain C X) (d : List ℕ) → AreWithin (length d) (chain_at c d).marks
+unfolding chain_from
+chain_within c d = records_within c d (start c) (range_with_len 0 (records_from c d (start c)))
+
+-- of each format that is no layout
+ico_within : (d : List ℕ) → AreWithin (length d) (ico d).marks
+ico_within d = then_within (length d) (number_read d Little 4 2) (λ count. chain_at (icon_entries count) d) (reading_within d 4 2)
+    (λ count. chain_within (icon_entries count) d)
+
+tiff_within : (d : List ℕ) → AreWithin (length d) (tiff d).marks
+tiff_within d =
+    then_within (length d) (layout_reads d tiff_header) (tiff_directory d) (layout_within d tiff_header)
+    (λ header. then_within (length d) (number_read d header.order header.directory (count_bytes header.version))
+    (λ count. chain_at (tiff_entries header count) d) (reading_within d header.directory (count_bytes header.version))
+    (λ count. chain_within (tiff_entries header count) d))
+
+heif_within : (d : List ℕ) → AreWithin (length d) (heif d).marks
+heif_within d =
+    then_within (length d) (number_read d Big 0 4)
+    (λ first. and_then (chain_at (search_for (codes "meta") first) d) (λ meta. heif_in_meta meta d)) (reading_within d 0 4)
+    (λ first. then_within (length d) (chain_at (search_for (codes "meta") first) d) (λ meta. heif_in_meta meta d)
+    (chain_within (search_for (codes "meta") first) d)
+    (λ meta. then_within (length d) (bytes_read d (meta.place + 8) 4)
+    (λ version. and_then (chain_at (search_for (codes "iprp") (meta.place + 12)) d) (λ iprp. heif_in_iprp iprp d))
+    (reading_within d (meta.place + 8) 4)
+    (λ version. then_within (length d) (chain_at (search_for (codes "iprp") (meta.place + 12)) d) (λ iprp. heif_in_iprp iprp d)
+    (chain_within (search_for (codes "iprp") (meta.place + 12)) d)
+    (λ iprp. then_within (length d) (chain_at (search_for (codes "ipco") (iprp.place + 8)) d)
+    (λ ipco. chain_at (properties ipco.size (ipco.place + 8)) d) (chain_within (search_for (codes "ipco") (iprp.place + 8)) d)
+    (λ ipco. chain_within (properties ipco.size (ipco.place + 8)) d)))))
+
+codestream_within : (d : List ℕ) (found : Option (List ℕ)) → AreWithin (length d) (codestream d found).marks
+codestream_within d None = chain_within jxl_chain d
+codestream_within d (Some front) = All-nil (IsWithin (length d))
+
+jxl_within : (d : List ℕ) → AreWithin (length d) (jxl d).marks
+jxl_within d =
+    then_within (length d) (jxl_codestream d) (λ front. record { answer = jxl_size front; marks = [] })
+    (then_within (length d) (layout_reads d jxl_start) (codestream d) (layout_within d jxl_start) (codestream_within d))
+    (λ front. All-nil (IsWithin (length d)))
+
+exr_within : (d : List ℕ) → AreWithin (length d) (exr d).marks
+exr_within d =
+    then_within (length d) (number_read d Little 4 4) (λ version. chain_at (exr_attributes (name_room version)) d) (reading_within d 4 4)
+    (λ version. chain_within (exr_attributes (name_room version)) d)
+
+hdr_within : (d : List ℕ) → AreWithin (length d) (hdr d).marks
+hdr_within d =
+    then_within (length d) (layout_reads d hdr_identifier) (λ first. chain_at (hdr_lines first) d) (layout_within d hdr_identifier)
+    (λ first. chain_within (hdr_lines first) d)
+
+-- what is owed of a size, by the way in which it is found
+abbrev IsMarked : Way ImageSize → Type 0
+IsMarked (Fixed layout) = Unit {0}
+IsMarked (Recorded each reads begun) = (d : List ℕ) → AreWithin (length d) (reads d).marks
+IsMarked (Texts reads) = (d : List ℕ) → AreWithin (length d) (reads d).marks
+
+way_within : (way : Way ImageSize) (d : List ℕ) → IsMarked way → AreWithin (length d) (by_way way d).marks
+way_within (Fixed layout) d marked = layout_within d layout
+way_within (Recorded each reads begun) d marked = marked d
+way_within (Texts reads) d marked = marked d
+
+type_marked : (type : ImageType) → IsMarked (way_of type)
+type_marked Exr = exr_within
+type_marked Hdr = hdr_within
+type_marked (Heif _) = heif_within
+type_marked Ico = ico_within
+type_marked Ilbm = chain_within ilbm_chunks
+type_marked Jpeg = chain_within jpeg_segments
+type_marked Jxl = jxl_within
+type_marked Pnm = chain_within pnm_words
+type_marked Tiff = tiff_within
+type_marked _ = tt
+
+-- the marks of a size, and of a type with it
+size_within : (type : ImageType) (d : List ℕ) → AreWithin (length d) (size_of type d).marks
+size_within type d = way_within (way_of type) d (type_marked type)
+
+pub meaning_within : (d : List ℕ) (place : ℕ) → AreWithin (length d) (meaning d place).marks
+unfolding meaning
+meaning_within d place = then_within (length d) (kind_of d place) (λ found. size_of found d) (layout_within d (kind (length d) place))
+    (λ found. size_within found d)
+
+-- there are no more of them than they are long
+count_within : (n : ℕ) (spans : List Span) → AreWithin n spans → length spans ≤ total spans
+count_within n [] is = omega arith
+count_within n (s ∷ spans) is =
+    let here = is 0 s (omega arith) in let rest = count_within n spans (λ k d below. is (suc k) d (omega (arith, below))) in
+    omega (arith, rest, here.0)
+
+pub marks_few : (d : List ℕ) (place : ℕ) → length (meaning d place).marks ≤ length d + 64
+marks_few d place = omega (arith, count_within (length d) (meaning d place).marks (meaning_within d place), cost_within d place)
+
+-- those that a buffer begins with
+pub front_within : (n : ℕ) (marks new rest : List Span) (count again : ℕ) → count ≡ length marks → again ≡ length marks → length new ≡ count
+    → take again new ≡ take (length new) marks → AreWithin n marks → AreWithin n (take count (new ++ rest))
+front_within n marks new rest count again is also long written within =
+    let same : new ≡ marks = sym (take_all again new (omega (arith, is, also, long))) ∙ written
+    ∙ take_all (length new) marks (omega (arith, is, long)) in
+    subst (AreWithin n) (sym (ap (λ k. take k (new ++ rest)) (sym long) ∙ take-append_seam new rest ∙ same)) within
