@@ -84,21 +84,19 @@ bytes_given (Err _) = 0
 abbrev pub count_after : {E : Type 0} → Option ℕ → Result ℕ E → Option ℕ
 count_after count r = option_map (λ c. c + bytes_given r) count
 
--- The last failure is none, or the error of the last call that failed. After a call that failed it is the error of that,
--- where the reader tells it.
-abbrev pub failed_with : Option (Option Error) → Error → Option (Option Error)
-failed_with failure e = option_map (λ _. Some e) failure
-
--- the last failure after a call, as a seek is
+-- The last failure after a call, as a seek is: the error of this one where it failed, and else what it was. A reader that
+-- tells nothing of its failures tells nothing.
 abbrev pub failure_after : {X : Type 0} → Option (Option Error) → Result X Error → Option (Option Error)
-failure_after failure (Ok x) = failure
-failure_after failure (Err e) = failed_with failure e
+failure_after None r = None
+failure_after (Some last) (Ok x) = Some last
+failure_after (Some last) (Err e) = Some (Some e)
 
 -- and after a read; an interruption is a failure too
 abbrev pub failure_after_read : Option (Option Error) → Result ℕ Stop → Option (Option Error)
-failure_after_read failure (Ok n) = failure
-failure_after_read failure (Err (Interrupted e)) = failed_with failure e
-failure_after_read failure (Err (Fault e)) = failed_with failure e
+failure_after_read None r = None
+failure_after_read (Some last) (Ok n) = Some last
+failure_after_read (Some last) (Err (Interrupted e)) = Some (Some e)
+failure_after_read (Some last) (Err (Fault e)) = Some (Some e)
 
 -- An honest reader: its bytes are fewer than 2^63, and where none of its calls fails, at most as many of its
 -- reads are interrupted as a call tries again.

@@ -1,7 +1,8 @@
 //! Readers that do what few files do.
 ghost use Rattle.std.specs.Prelude.{◌≡◌, ◌≢◌, ℕ, pos, zero, ◌+◌, ◌-◌, ◌%◌, ◌^◌, ◌<◌, ◌≤◌, min, length, slice_get, Option, None, Some, Ok, Err, IfOk, IfErr, IsErr, true, false, not};
 ghost use Rattle.std.specs.Io.Cursor.{cursor_inner, cursor_position};
-ghost use Rattle.imagesize_io.specs.Telling.{ReadTells, SeekTells, count_after, may_fail};
+ghost use Rattle.std.specs.declared.io.Error.{Error};
+ghost use Rattle.imagesize_io.specs.Telling.{ReadTells, SeekTells, count_after, failure_after, failure_after_read, may_fail};
 ghost use Rattle.imagesize_readers.specs.Readers.{interrupted_more, halting_telling, StandsAt, StandsAtEnd, failure_at, left_after};
 
 use imagesize_io::{Stop, Told};
@@ -37,10 +38,13 @@ impl<R: Told> Told for Cutting<'_, R> {
 
     ghost count = { λ r. R.count r.reader };
 
+    ghost failure = { λ r. R.failure r.reader };
+
     fn read_told(&mut self, room: &mut [u8]) -> Result<usize, Stop>
         ensures bound { IfOk result (λ n. n ≤ length room.new) }
         ensures told { ReadTells (R.telling self.old.reader) (R.telling self.new.reader) room.new result }
         ensures counts { R.count self.new.reader ≡ count_after (R.count self.old.reader) result }
+        ensures fails { R.failure self.new.reader ≡ failure_after_read (R.failure self.old.reader) result }
         ensures cuts { (most : ℕ) → slice_get self.old.lengths.now self.old.next ≡ Some most → 0 < most
             → IfOk result (λ n. n ≤ most) }
         ensures one { slice_get self.old.lengths.now self.old.next ≡ None → IfOk result (λ n. n ≤ 1) }
@@ -76,6 +80,8 @@ impl<R: Told> Told for Counting<'_, R> {
     ghost telling = { λ r. may_fail (R.telling r.reader) };
 
     ghost count = { λ r. Some r.count.now };
+
+    ghost failure = { λ _. None };
 
     fn read_told(&mut self, room: &mut [u8]) -> Result<usize, Stop>
         ensures bound { IfOk result (λ n. n ≤ length room.new) }
@@ -117,10 +123,13 @@ impl<R: Told> Told for Calls<'_, R> {
 
     ghost count = { λ r. R.count r.reader };
 
+    ghost failure = { λ r. R.failure r.reader };
+
     fn read_told(&mut self, room: &mut [u8]) -> Result<usize, Stop>
         ensures bound { IfOk result (λ n. n ≤ length room.new) }
         ensures told { ReadTells (R.telling self.old.reader) (R.telling self.new.reader) room.new result }
         ensures counts { R.count self.new.reader ≡ count_after (R.count self.old.reader) result }
+        ensures fails { R.failure self.new.reader ≡ failure_after_read (R.failure self.old.reader) result }
         ensures made { self.new.made.now ≡ (min (self.old.made.now.0 + 1) u32.MAX, self.old.made.now.1) }
     {
         self.made.0 = self.made.0.saturating_add(1);
@@ -130,6 +139,7 @@ impl<R: Told> Told for Calls<'_, R> {
     fn seek_told(&mut self, to: SeekFrom) -> io::Result<u64>
         ensures told { SeekTells (R.telling self.old.reader) (R.telling self.new.reader) to result }
         ensures counts { R.count self.new.reader ≡ R.count self.old.reader }
+        ensures fails { R.failure self.new.reader ≡ failure_after (R.failure self.old.reader) result }
         ensures made { self.new.made.now ≡ (self.old.made.now.0, min (self.old.made.now.1 + 1) u32.MAX) }
     {
         self.made.1 = self.made.1.saturating_add(1);
@@ -152,6 +162,8 @@ impl<R: Told> Told for Interrupted<R> {
     ghost telling = { λ r. interrupted_more r.left (R.telling r.reader) };
 
     ghost count = { λ r. R.count r.reader };
+
+    ghost failure = { λ _. None };
 
     fn read_told(&mut self, room: &mut [u8]) -> Result<usize, Stop>
         ensures bound { IfOk result (λ n. n ≤ length room.new) }
@@ -186,6 +198,8 @@ impl Told for Halting<'_> {
 
     ghost count = { λ _. None };
 
+    ghost failure = { λ _. None };
+
     fn read_told(&mut self, room: &mut [u8]) -> Result<usize, Stop>
         ensures bound { IfOk result (λ n. n ≤ length room.new) }
         ensures told { ReadTells
@@ -218,6 +232,8 @@ pub struct Failing<R: Told> {
     pub left: Option<u64>,
     /// Why it fails.
     pub error: io::Error,
+    /// The error of the last call that failed, of this reader or of the other one.
+    pub last: Option<io::Error>,
 }
 
 impl<R: Told> Failing<R> {
@@ -245,31 +261,45 @@ impl<R: Told> Told for Failing<R> {
 
     ghost count = { λ r. R.count r.reader };
 
+    ghost failure = { λ r. Some r.last };
+
     fn read_told(&mut self, room: &mut [u8]) -> Result<usize, Stop>
         ensures bound { IfOk result (λ n. n ≤ length room.new) }
         ensures told { ReadTells (may_fail (R.telling self.old.reader)) (may_fail (R.telling self.new.reader)) room.new result }
         ensures counts { R.count self.new.reader ≡ count_after (R.count self.old.reader) result }
+        ensures last { ◌≡◌ {A = Option (Option Error)} (Some self.new.last) (failure_after_read (Some self.old.last) result) }
         ensures fails { self.old.left ≡ Some 0 → result ≡ Err (Stop.Fault self.old.error) }
         ensures gives { failure_at self.old.left self.old.error ≡ Ok tt
             → ReadTells (R.telling self.old.reader) (R.telling self.new.reader) room.new result }
         ensures left { self.new.left ≡ left_after self.old.left }
     {
-        match self.step() {
+        let answer = match self.step() {
             Ok(()) => self.reader.read_told(room),
             Err(error) => Err(Stop::Fault(error)),
+        };
+        if let Err(Stop::Interrupted(error) | Stop::Fault(error)) = &answer {
+            self.last = Some(*error);
         }
+        answer
     }
 
     fn seek_told(&mut self, to: SeekFrom) -> io::Result<u64>
         ensures told { SeekTells (may_fail (R.telling self.old.reader)) (may_fail (R.telling self.new.reader)) to result }
         ensures counts { R.count self.new.reader ≡ R.count self.old.reader }
+        ensures last { ◌≡◌ {A = Option (Option Error)} (Some self.new.last) (failure_after (Some self.old.last) result) }
         ensures fails { self.old.left ≡ Some 0 → result ≡ Err self.old.error }
         ensures goes { failure_at self.old.left self.old.error ≡ Ok tt
             → SeekTells (R.telling self.old.reader) (R.telling self.new.reader) to result }
         ensures left { self.new.left ≡ left_after self.old.left }
     {
-        self.step()?;
-        self.reader.seek_told(to)
+        let answer = match self.step() {
+            Ok(()) => self.reader.seek_told(to),
+            Err(error) => Err(error),
+        };
+        if let Err(error) = &answer {
+            self.last = Some(*error);
+        }
+        answer
     }
 }
 
@@ -289,10 +319,13 @@ impl<R: Told> Told for Claiming<R> {
 
     ghost count = { λ r. R.count r.reader };
 
+    ghost failure = { λ r. R.failure r.reader };
+
     fn read_told(&mut self, room: &mut [u8]) -> Result<usize, Stop>
         ensures bound { IfOk result (λ n. n ≤ length room.new) }
         ensures told { ReadTells None None room.new result }
         ensures counts { R.count self.new.reader ≡ count_after (R.count self.old.reader) result }
+        ensures fails { R.failure self.new.reader ≡ failure_after_read (R.failure self.old.reader) result }
         ensures gives { ReadTells (R.telling self.old.reader) (R.telling self.new.reader) room.new result }
     {
         self.reader.read_told(room)
@@ -301,6 +334,7 @@ impl<R: Told> Told for Claiming<R> {
     fn seek_told(&mut self, to: SeekFrom) -> io::Result<u64>
         ensures told { SeekTells None None to result }
         ensures counts { R.count self.new.reader ≡ R.count self.old.reader }
+        ensures fails { R.failure self.new.reader ≡ failure_after (R.failure self.old.reader) result }
         ensures claims { to ≡ SeekFrom.End (pos zero) → IfOk result (λ place. place ≡ self.old.told) }
         ensures stands { self.old.goes_there ≡ true → to ≡ SeekFrom.End (pos zero) → IfOk result (λ place.
             StandsAt (R.telling self.old.reader) (R.telling self.new.reader) self.old.told) }
@@ -357,6 +391,8 @@ impl Told for Endless<'_> {
     ghost telling = { λ _. None };
 
     ghost count = { λ _. None };
+
+    ghost failure = { λ _. None };
 
     fn read_told(&mut self, room: &mut [u8]) -> Result<usize, Stop>
         ensures bound { IfOk result (λ n. n ≤ length room.new) }

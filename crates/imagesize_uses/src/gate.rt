@@ -1,5 +1,5 @@
 //! A gate for uploads: an image is admitted where it has few enough pixels.
-ghost use Rattle.std.specs.Prelude.{◌≡◌, ℕ, ◌*◌, ◌+◌, ◌-◌, ◌^◌, ◌<◌, ◌≤◌, IfOk, IsErr, Some, length, option_map, take};
+ghost use Rattle.std.specs.Prelude.{◌≡◌, ℕ, ◌*◌, ◌+◌, ◌-◌, ◌^◌, ◌<◌, ◌≤◌, IfOk, IsErr, None, Some, length, option_map, take};
 ghost use Rattle.imagesize_source.specs.Limits.{allowance};
 ghost use Rattle.imagesize_io.specs.Telling.{ReadTells, SeekTells, count_after, may_fail};
 ghost use Rattle.imagesize_uses.specs.Gate.{Admits, IfTooLarge, gate_verdict};
@@ -70,6 +70,8 @@ impl<R: Told> Told for Limited<'_, R> {
 
     // It rises as what is left falls, so no call gives more than was left.
     ghost count = { λ r. Some (2 ^ 64 - r.left) };
+
+    ghost failure = { λ _. None };
 
     fn read_told(&mut self, room: &mut [u8]) -> Result<usize, Stop>
         ensures bound { IfOk result (λ n. n ≤ length room.new) }

@@ -44,6 +44,8 @@ impl Told for Joined<'_> {
 
     ghost count = { λ _. None };
 
+    ghost failure = { λ _. None };
+
     fn read_told(&mut self, room: &mut [u8]) -> Result<usize, Stop> {
         let count = copy_front(rest_of(self.first, self.second, self.place), room);
         self.place += count;

@@ -14,6 +14,7 @@ fn the_type_beside_a_fault_is_that_of_the_bytes(rt: HostRuntime) {
             reader: Cursor::new(ICON),
             left: Some(turn),
             error: io::Error::from(ErrorKind::Other),
+            last: None,
         };
         let probed = reader_probe(&mut reader);
         // The first four calls ask for the place and the length, go back, and read the twelve bytes of the type.

@@ -1,9 +1,9 @@
 //! What is promised over readers that tell their bytes: each of these is proved of readers that there are.
-ghost use Rattle.std.specs.Prelude.{◌≡◌, ◌+◌, ◌^◌, ◌<◌, ◌≤◌, length, false, true, Some};
-ghost use Rattle.imagesize_io.specs.Answers.{RisesWithin};
+ghost use Rattle.std.specs.Prelude.{◌≡◌, ◌+◌, ◌^◌, ◌<◌, ◌≤◌, length, false, true, IfErr, Some};
+ghost use Rattle.imagesize_io.specs.Answers.{IsLast, RisesWithin};
 ghost use Rattle.std.specs.Io.Cursor.{cursor_inner};
 ghost use Rattle.imagesize.specs.Meaning.{meaning, size_of};
-ghost use Rattle.imagesize_source.specs.Reading.{is_stopped, is_faulted};
+ghost use Rattle.imagesize_source.specs.Reading.{is_fault, is_stopped, is_faulted};
 ghost use Rattle.imagesize_source.specs.State.{total};
 
 #[cfg(test)]
@@ -28,6 +28,7 @@ pub fn size_or_fault(bytes: &[u8], left: u64, error: io::Error) -> ImageResult<I
         reader: Cursor::new(bytes),
         left: Some(left),
         error,
+        last: None,
     })
 }
 
@@ -96,6 +97,23 @@ pub fn counted_probe(reader: &mut Counting<'_, Cursor<&[u8]>>) -> Probed
     reader_probe(reader)
 }
 
+/// The size in pixels through a reader that is lent and of which a call fails: a fault is its last failure.
+pub fn lent_size(reader: &mut Failing<Cursor<&[u8]>>) -> ImageResult<ImageSize>
+    ensures { IfErr result (λ e. is_fault e ≡ true → IsLast (Some reader.new.last) e) }
+{
+    let probed = reader_probe(reader);
+    probed.answer
+}
+
+/// The size in pixels of this type through a cursor that another call has read from: that of its bytes, or the refusal.
+pub fn size_again(kind: ImageType, reader: &mut Cursor<&[u8]>) -> ImageResult<ImageSize>
+    requires { length (cursor_inner reader.old).now < 2 ^ 63 }
+    ensures { result ≡ (size_of kind (cursor_inner reader.old).now).answer }
+{
+    let _probed = reader_probe(reader);
+    kind.reader_size(reader)
+}
+
 #[cfg(test)]
 const GIF_SIZE: ImageSize = ImageSize {
     width: 100,
@@ -110,6 +128,18 @@ fn promises_over_telling_readers_are_met(rt: HostRuntime) -> Result<(), Fail> {
     assert_eq!(rt; size_in_pieces(GIF, 64, error)?, GIF_SIZE);
     assert_eq!(rt; size_by_lengths(GIF, &[5, 3])?, GIF_SIZE);
     assert_eq!(rt; size_at_last(GIF, 64, error)?, GIF_SIZE);
+    assert_eq!(rt;
+        size_again(ImageType::Gif, &mut Cursor::new(GIF))?,
+        GIF_SIZE
+    );
+    let mut reader = Failing {
+        reader: Cursor::new(GIF),
+        left: Some(3),
+        error,
+        last: None,
+    };
+    assert!(rt; lent_size(&mut reader).is_err());
+    assert!(rt; lent_size(&mut reader).is_ok());
     let mut count = 0;
     let mut reader = Counting {
         reader: Cursor::new(NESTED_JPEG),

@@ -83,7 +83,8 @@ fn read_counted<R: Told>(
 ) -> Result<usize, Halt>
     requires fits { progress.old.taken + length room.old ≤ progress.old.budget }
     requires stands { progress.old.place ≡ place }
-    ensures reads { ReadsOnce progress.old progress.new (account R.telling R.count R.failure reader.old) (account R.telling R.count R.failure reader.new) room.new (with_kept_error progress.new result) }
+    ensures reads { ReadsOnce progress.old progress.new (account R.telling R.count R.failure reader.old)
+        (account R.telling R.count R.failure reader.new) room.new (with_kept_error progress.new result) }
     ensures failed { IfErr result (λ halt. halt ≡ Halt.Failed) }
 {
     let count = read_retrying(reader, &mut progress.retries, &mut progress.fault, room)?;
@@ -105,7 +106,8 @@ fn read_some<R: Told>(
     progress: &mut Progress,
     room: &mut [u8],
 ) -> Result<usize, Halt>
-    ensures { ReadsOnce progress.old progress.new (account R.telling R.count R.failure reader.old) (account R.telling R.count R.failure reader.new) room.new (with_kept_error progress.new result) }
+    ensures { ReadsOnce progress.old progress.new (account R.telling R.count R.failure reader.old)
+        (account R.telling R.count R.failure reader.new) room.new (with_kept_error progress.new result) }
 {
     let place = progress.place;
     let left = progress.budget - progress.taken;
@@ -128,7 +130,8 @@ fn fill<R: Told>(
 ) -> Result<usize, Halt>
     requires { progress.old.place ≡ place }
     ensures { Fills progress.old progress.new (stand (R.telling reader.old) progress.old) (stand (R.telling reader.new) progress.new)
-        (account R.telling R.count R.failure reader.old) (account R.telling R.count R.failure reader.new) room.new (with_kept_error progress.new result) }
+        (account R.telling R.count R.failure reader.old)
+        (account R.telling R.count R.failure reader.new) room.new (with_kept_error progress.new result) }
 {
     if room.len() as u64 > progress.budget - progress.taken {
         return fill_behind(reader, progress, room);
@@ -150,7 +153,8 @@ fn fill_behind<R: Told>(
 ) -> Result<usize, Halt>
     requires { progress.old.place < 2 ^ 64 }
     ensures { Fills progress.old progress.new (stand (R.telling reader.old) progress.old) (stand (R.telling reader.new) progress.new)
-        (account R.telling R.count R.failure reader.old) (account R.telling R.count R.failure reader.new) room.new (with_kept_error progress.new result) }
+        (account R.telling R.count R.failure reader.old)
+        (account R.telling R.count R.failure reader.new) room.new (with_kept_error progress.new result) }
 {
     let count = fill_rest(reader, progress, room)?;
     Ok(count)
@@ -166,7 +170,8 @@ fn fill_rest<R: Told>(
 ) -> Result<usize, Halt>
     requires { progress.old.place < 2 ^ 64 }
     ensures { Fills progress.old progress.new (stand (R.telling reader.old) progress.old) (stand (R.telling reader.new) progress.new)
-        (account R.telling R.count R.failure reader.old) (account R.telling R.count R.failure reader.new) room.new (with_kept_error progress.new result) }
+        (account R.telling R.count R.failure reader.old)
+        (account R.telling R.count R.failure reader.new) room.new (with_kept_error progress.new result) }
 {
     let mut filled = 0;
     while filled < room.len() {
@@ -219,7 +224,8 @@ pub(super) fn read_from<R: Told>(
     room: &mut [u8],
 ) -> Result<usize, Halt>
     ensures { ReadsFrom progress.old progress.new (stand (R.telling reader.old) progress.old) (stand (R.telling reader.new) progress.new)
-        (account R.telling R.count R.failure reader.old) (account R.telling R.count R.failure reader.new) place room.new (with_kept_error progress.new result) }
+        (account R.telling R.count R.failure reader.old)
+        (account R.telling R.count R.failure reader.new) place room.new (with_kept_error progress.new result) }
 {
     if !go_to(reader, progress, place)? {
         return Ok(0);

@@ -23,7 +23,8 @@ pub(super) fn read_held<R: Told>(
     ensures whole { IfSome result (λ n. IsWhole text (take n room.new)) }
     ensures none { result ≡ None → (account R.telling R.count R.failure reader.new ≡ account R.telling R.count R.failure reader.old)
         × (ledger.new ≡ ledger.old) }
-    ensures reads { IfSome result (λ n. ReadsAt ledger.old ledger.new (account R.telling R.count R.failure reader.old) (account R.telling R.count R.failure reader.new) place (take n room.new) (Ok n)) }
+    ensures reads { IfSome result (λ n. ReadsAt ledger.old ledger.new (account R.telling R.count R.failure reader.old)
+        (account R.telling R.count R.failure reader.new) place (take n room.new) (Ok n)) }
 {
     if !pays_there(ledger, place, room.len() as u64) {
         return None;

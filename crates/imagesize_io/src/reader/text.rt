@@ -18,8 +18,8 @@ pub(super) fn read_text<R: Told>(
     text: Text,
     room: &mut [u8],
 ) -> Result<usize, Halt>
-    ensures { ReadsText ledger.old ledger.new (account R.telling R.count R.failure reader.old) (account R.telling R.count R.failure reader.new)
-        text place room.new result }
+    ensures { ReadsText ledger.old ledger.new (account R.telling R.count R.failure reader.old)
+        (account R.telling R.count R.failure reader.new) text place room.new result }
 {
     if let Some(count) = read_held(reader, ledger, place, text, room) {
         return Ok(count);
@@ -36,8 +36,8 @@ fn read_by_bytes<R: Told>(
     text: Text,
     room: &mut [u8],
 ) -> Result<usize, Halt>
-    ensures { ReadsText ledger.old ledger.new (account R.telling R.count R.failure reader.old) (account R.telling R.count R.failure reader.new)
-        text place room.new result }
+    ensures { ReadsText ledger.old ledger.new (account R.telling R.count R.failure reader.old)
+        (account R.telling R.count R.failure reader.new) text place room.new result }
 {
     let mut begun = false;
     let mut count = 0;

@@ -20,7 +20,8 @@ fn read_windowed<R: Told>(
     room: &mut [u8],
 ) -> Result<usize, Halt>
     requires { place ≤ ledger.old.progress.told }
-    ensures { ReadsOn reader.old reader.new ledger.old ledger.new (account R.telling R.count R.failure reader.old) (account R.telling R.count R.failure reader.new) place room.new result }
+    ensures { ReadsOn reader.old reader.new ledger.old ledger.new (account R.telling R.count R.failure reader.old)
+        (account R.telling R.count R.failure reader.new) place room.new result }
 {
     if place < ledger.window.len() as u64 || room.is_empty() {
         let count = read_within(reader, ledger, place, room)?;
@@ -41,8 +42,8 @@ fn read_within<R: Told>(
     place: u64,
     room: &mut [u8],
 ) -> Result<usize, Halt>
-    ensures { ReadsAt ledger.old ledger.new (account R.telling R.count R.failure reader.old) (account R.telling R.count R.failure reader.new)
-        place room.new (with_kept_error ledger.new.progress result) }
+    ensures { ReadsAt ledger.old ledger.new (account R.telling R.count R.failure reader.old)
+        (account R.telling R.count R.failure reader.new) place room.new (with_kept_error ledger.new.progress result) }
 {
     let copied = copy_kept(&ledger.window, place, room);
     if copied == room.len() {
@@ -64,7 +65,8 @@ fn read_across<R: Told>(
     room: &mut [u8],
 ) -> Result<usize, Halt>
     ensures { ReadsFrom progress.old progress.new (stand (R.telling reader.old) progress.old) (stand (R.telling reader.new) progress.new)
-        (account R.telling R.count R.failure reader.old) (account R.telling R.count R.failure reader.new) place room.new (with_kept_error progress.new result) }
+        (account R.telling R.count R.failure reader.old)
+        (account R.telling R.count R.failure reader.new) place room.new (with_kept_error progress.new result) }
 {
     read_from(reader, progress, place, room)
 }
@@ -77,7 +79,8 @@ pub(super) fn read_on<R: Told>(
     place: u64,
     room: &mut [u8],
 ) -> Result<usize, Halt>
-    ensures { ReadsOn reader.old reader.new ledger.old ledger.new (account R.telling R.count R.failure reader.old) (account R.telling R.count R.failure reader.new) place room.new result }
+    ensures { ReadsOn reader.old reader.new ledger.old ledger.new (account R.telling R.count R.failure reader.old)
+        (account R.telling R.count R.failure reader.new) place room.new result }
 {
     if ledger.progress.told < place {
         return read_beyond(reader, ledger, place, room);
@@ -94,7 +97,8 @@ fn read_beyond<R: Told>(
     room: &mut [u8],
 ) -> Result<usize, Halt>
     requires { ledger.old.progress.told < place }
-    ensures { ReadsOn reader.old reader.new ledger.old ledger.new (account R.telling R.count R.failure reader.old) (account R.telling R.count R.failure reader.new) place room.new result }
+    ensures { ReadsOn reader.old reader.new ledger.old ledger.new (account R.telling R.count R.failure reader.old)
+        (account R.telling R.count R.failure reader.new) place room.new result }
 {
     let count = read_above(reader, ledger, place, room)?;
     Ok(count)
@@ -111,7 +115,8 @@ fn read_above<R: Told>(
     room: &mut [u8],
 ) -> Result<usize, Halt>
     requires { ledger.old.progress.told < place }
-    ensures { ReadsOn reader.old reader.new ledger.old ledger.new (account R.telling R.count R.failure reader.old) (account R.telling R.count R.failure reader.new) place room.new result }
+    ensures { ReadsOn reader.old reader.new ledger.old ledger.new (account R.telling R.count R.failure reader.old)
+        (account R.telling R.count R.failure reader.new) place room.new result }
 {
     if place != ledger.present {
         return Ok(0);

@@ -120,6 +120,8 @@ impl Told for Unseekable {
 
     ghost count = { λ _. None };
 
+    ghost failure = { λ _. None };
+
     fn read_told(&mut self, _room: &mut [u8]) -> Result<usize, Stop> {
         Ok(0)
     }

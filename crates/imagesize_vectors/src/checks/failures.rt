@@ -82,6 +82,7 @@ fn check_turns(alloc: Global, bytes: &[u8], call: Call, failure: io::Error) -> R
             reader: Cursor::new(bytes),
             left: Some(turn),
             error: failure,
+            last: None,
         };
         let Some(fault) = fault_of(call, reader) else {
             break;

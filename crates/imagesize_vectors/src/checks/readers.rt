@@ -102,6 +102,8 @@ impl<R: Told> Told for Sent<'_, R> {
 
     ghost count = { λ _. None };
 
+    ghost failure = { λ _. None };
+
     fn read_told(&mut self, room: &mut [u8]) -> Result<usize, Stop> {
         self.reader.read_told(room)
     }
