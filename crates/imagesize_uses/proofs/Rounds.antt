@@ -78,6 +78,12 @@ begun d whole now spans bytes long short none also = record {
   );
 }
 
+-- the input has the bytes that the parts know, as the call has them
+pub has_known : {d : List ℕ} {whole : ℕ} {spans others : List Span} {bytes content : List ℕ} {before now : ℕ}
+    → Fetching d whole spans bytes before now → others ≡ spans → content ≡ bytes → HasKnown d whole others content
+has_known {d} {whole} {spans} {others} {bytes} {content} f same also =
+    parts_known d whole others content (record { as_long = sym f.as_long; bytes = ap (bytes_of d) same ∙ f.content ∙ sym also })
+
 -- a fetch of what is wanted of the parts, as the call has them, leaves fewer places that are lacking
 module _ {d : List ℕ} {whole : ℕ} {spans others : List Span} {bytes content : List ℕ} {before now : ℕ} (w : Span)
     (f : Fetching d whole spans bytes before now) (same : others ≡ spans) (also : content ≡ bytes)
