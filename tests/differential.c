@@ -633,7 +633,8 @@ static struct answer probe_known(uint64_t total, imagesize_span *wanted)
     return found;
 }
 
-/* Fetched as it is wanted the result is that of the whole: with up to `around` bytes beside it, or at most `most` bytes a time. */
+/* Fetched as it is wanted the result is that of the whole: with up to `around` bytes beside it, or at most `most` bytes a time.
+ * One of both changes nothing, since bytes before those that are wanted bring nothing new. */
 static bool by_parts(const struct input *of, struct answer whole, uint64_t around, uint64_t most)
 {
     counted[BY_PARTS]++;
@@ -741,7 +742,7 @@ static const char *broken(const struct input *of, bool sample)
         : !is_local(of, whole, spans, count)                                                    ? "local"
         : !lasts_with_more(of, whole)                                                           ? "appended"
         : !front_lasts(of, whole, of->length ? below(of->length) : 0)                           ? "front"
-        : !by_parts(of, whole, once_in(2) ? 0 : below(40), once_in(4) ? 1 + below(9) : ROOM) ? "parts"
+        : !(once_in(3) ? by_parts(of, whole, 0, 1 + below(9)) : by_parts(of, whole, below(40), ROOM)) ? "parts"
         : !without_any(of, whole, spans, count)                                                 ? "missing"
                                                                                                 : NULL;
 }
