@@ -12,6 +12,7 @@ import pathlib
 import re
 import resource
 import shutil
+import socket
 import subprocess
 import sys
 import tempfile
@@ -23,7 +24,17 @@ GIF = b"GIF89ad\0d\0\0\0"
 SEGMENTS = 1000
 # A JPEG of 7 by 5 pixels behind empty segments, with a megabyte behind its frame.
 LONG_JPEG = b"\xff\xd8" + b"\xff\xe0\0\x02" * SEGMENTS + b"\xff\xc0\0\x11\x08\0\x05\0\x07" + bytes(1 << 20)
-FILES = {"tiny.gif": GIF, "cut.gif": GIF[:10], "long.gif": GIF + bytes(1 << 20), "long.jpeg": LONG_JPEG}
+# An HDR and a PNM of 7 by 5 pixels behind long lines.
+LONG_HDR = b"#?RADIANCE\n" + (b"a" * 249 + b"\n") * 1000 + b"-Y 5 +X 7\n"
+LONG_PNM = b"P6\n" + (b"#" + b" c" * 400 + b"\n") * 200 + b"7 5\n255\n"
+FILES = {
+    "tiny.gif": GIF,
+    "cut.gif": GIF[:10],
+    "long.gif": GIF + bytes(1 << 20),
+    "long.jpeg": LONG_JPEG,
+    "long.hdr": LONG_HDR,
+    "long.pnm": LONG_PNM,
+}
 
 
 def run(*command, **settings):
@@ -54,13 +65,39 @@ def check_program(probe):
     print("the program: its outputs and its statuses")
 
 
-def check_files(sizes):
+def limited(limit, most, *command, **settings):
+    """The same of a command that may have no more of something."""
+    return run(*command, preexec_fn=lambda: resource.setrlimit(limit, (most, most)), **settings)
+
+
+def check_files(probe, sizes):
     """Each file is closed behind its size, and the buffer is a small one."""
-    limits = [("open files", resource.RLIMIT_NOFILE, 16), ("memory", resource.RLIMIT_AS, 32 << 20)]
-    for name, limit, most in limits:
-        got = run(sizes, *["tiny.gif"] * 5000, preexec_fn=lambda: resource.setrlimit(limit, (most, most)))
-        assert got == ("100x100\n" * 5000, "", 0), f"{name} at most {most}: {got[0][-200:]!r} {got[1:]}"
-    print("5000 sizes of files: within 16 open files and 32 MiB")
+    sized = "tiny.gif: Gif 100x100\n"
+    for command, line in [
+        ([sizes], "100x100\n"),
+        ([probe], sized),
+        ([probe, "--spans"], sized + "  0+12\n  6+2\n  8+2\n"),
+    ]:
+        for name, limit, most in [("open files", resource.RLIMIT_NOFILE, 16), ("memory", resource.RLIMIT_AS, 32 << 20)]:
+            got = limited(limit, most, *command, *["tiny.gif"] * 5000)
+            assert got == (line * 5000, "", 0), f"{command}: {name} at most {most}: {got[0][-200:]!r} {got[1:]}"
+    print("5000 files by each program: within 16 open files and 32 MiB")
+
+
+def check_memory(probe):
+    """Of a file of 2 GiB that is refused no more is loaded than of the longest whose spans are shown, and the output's buffer is small."""
+    with open("sparse.bin", "wb") as sparse:
+        sparse.truncate(2 << 30)
+    want = "sparse.bin: error: file is longer than 16777216 bytes\n", "", 1
+    got = limited(resource.RLIMIT_AS, 128 << 20, probe, "--spans", "sparse.bin")
+    assert got == want, f"spans of 2 GiB within 128 MiB: {got}"
+    ours, theirs = socket.socketpair(socket.AF_UNIX, socket.SOCK_SEQPACKET)
+    with ours, theirs:
+        limited(resource.RLIMIT_AS, 32 << 20, probe, *["tiny.gif"] * 5, stdout=theirs)
+        theirs.close()
+        packets = [packet for packet in iter(lambda: ours.recv(1 << 16), b"")]
+    assert packets == [b"tiny.gif: Gif 100x100\n"] * 5, f"a line is not written at once within 32 MiB: {packets[:6]}"
+    print("memory: spans of 2 GiB within 128 MiB, and lines go out whole within 32 MiB")
 
 
 def traced(command, name):
@@ -95,20 +132,33 @@ def check_calls(probe, sizes):
     print("system calls: a file is opened once, and its front is read in blocks")
 
 
-def collected(program, function, name):
-    """How many instructions a function takes, with those that it calls."""
-    command = ["valgrind", "--tool=callgrind", "--callgrind-out-file=/dev/null", f"--toggle-collect={function}", program, name]
-    return int(re.search(r"Collected : (\d+)", run(*command)[1]).group(1))
+def collected(program, function, *arguments):
+    """How many instructions a function takes, with those that it calls; of no function, the whole program."""
+    toggle = [f"--toggle-collect={function}"] if function else []
+    told = run("valgrind", "--tool=callgrind", "--callgrind-out-file=/dev/null", *toggle, program, *arguments)[1]
+    return int(re.search(r"Collected : (\d+)", told).group(1))
 
 
-def check_instructions(folder):
-    """The bytes behind the size are not looked at, and each segment once."""
+def check_instructions(folder, probe):
+    """The bytes behind the size are not looked at, and each segment and each byte of a text once, by a call and by the program."""
     program = f"{folder}/image_counted"
     sources = [f"-I{HERE.parent}/include", f"{HERE}/image.c", f"{folder}/libimagesize.a"]
     subprocess.run([os.environ.get("CC", "cc"), "-O1", "-o", program, *sources], check=True)
-    for name, most in [("tiny.gif", 300), ("long.gif", 300), ("long.jpeg", 70 * SEGMENTS)]:
-        count = collected(program, "imagesize_probe", name)
-        assert 0 < count <= most, f"{name}: {count} instructions"
+    start = collected(probe, None, "tiny.gif")
+    for name, of_probe, of_spans, of_program, of_program_with_spans in [
+        ("tiny.gif", 300, 1000, 20_000, 20_000),
+        ("long.gif", 300, 1000, 20_000, 8_000_000),
+        ("long.jpeg", 45 * SEGMENTS, 300 * SEGMENTS, 450 * SEGMENTS, 2_600 * SEGMENTS),
+        ("long.hdr", 11 * len(LONG_HDR), 33 * len(LONG_HDR), 20 * len(LONG_HDR), 16 * len(LONG_HDR)),
+        ("long.pnm", 10 * len(LONG_PNM), 31 * len(LONG_PNM), 37 * len(LONG_PNM), 15 * len(LONG_PNM)),
+    ]:
+        for what, count, most in [
+            ("imagesize_probe", collected(program, "imagesize_probe", name), of_probe),
+            ("imagesize_spans, twice", collected(program, "imagesize_spans", "--spans", name), of_spans),
+            ("the program", collected(probe, None, name) - start, of_program),
+            ("the program, with spans", collected(probe, None, "--spans", name) - start, of_program_with_spans),
+        ]:
+            assert count <= most, f"{what} on {name}: {count} instructions, and at most {most}"
     print("instructions: type and size are found once, and from few bytes")
 
 
@@ -119,8 +169,9 @@ def main(folder, probe, sizes):
         for name, data in FILES.items():
             pathlib.Path(name).write_bytes(data)
         check_program(probe)
-        check_files(sizes)
-        for tool, check in [("strace", lambda: check_calls(probe, sizes)), ("valgrind", lambda: check_instructions(folder))]:
+        check_files(probe, sizes)
+        check_memory(probe)
+        for tool, check in [("strace", lambda: check_calls(probe, sizes)), ("valgrind", lambda: check_instructions(folder, probe))]:
             if shutil.which(tool):
                 check()
             else:

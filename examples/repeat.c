@@ -3,7 +3,8 @@
  *
  *     repeat CALL TIMES FILE
  *
- * CALL is size, probe, parts (with one part, which has all bytes) or none.
+ * CALL is size, probe, spans, parts (with one part, which has all bytes), many (with 63 parts more, which lie behind the end and have
+ * no bytes) or none.
  */
 #include "imagesize.h"
 
@@ -44,9 +45,38 @@ static uint32_t parts(const uint8_t *bytes, size_t length, struct told *told)
                                  &wanted);
 }
 
+static uint32_t many(const uint8_t *bytes, size_t length, struct told *told)
+{
+    imagesize_span all[64], wanted;
+    all[0] = (imagesize_span){0, length};
+    for (size_t i = 1; i < 64; i++) {
+        all[i] = (imagesize_span){length, 1};
+    }
+    return imagesize_probe_parts(bytes, length, all, 64, length, &told->type, &told->compression, &told->width, &told->height,
+                                 &wanted);
+}
+
+static uint32_t spans(const uint8_t *bytes, size_t length, struct told *told)
+{
+    static imagesize_span found[4096];
+    size_t count = 0;
+    uint32_t status = imagesize_spans(bytes, length, found, 4096, &count);
+    told->width = count;
+    return status;
+}
+
 static call *called(const char *name)
 {
-    return strcmp(name, "size") == 0 ? size : strcmp(name, "probe") == 0 ? probe : strcmp(name, "parts") == 0 ? parts : none;
+    static const struct {
+        const char *name;
+        call *called;
+    } calls[] = {{"size", size}, {"probe", probe}, {"spans", spans}, {"parts", parts}, {"many", many}};
+    for (size_t i = 0; i < sizeof calls / sizeof *calls; i++) {
+        if (strcmp(name, calls[i].name) == 0) {
+            return calls[i].called;
+        }
+    }
+    return none;
 }
 
 int main(int count, char **words)

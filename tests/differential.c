@@ -1,11 +1,25 @@
 /*
- * Makes inputs by the grammars of the formats and by mutations of the test vectors, and checks laws of the C library over each.
+ * Makes inputs by the grammars of the formats and by mutations of samples, and checks laws of the C library over each.
  *
- *     differential VECTORS SEED SECONDS EVERY
+ *     differential made SAMPLES SEED SECONDS EVERY PART PARTS
+ *     differential files FILE..
+ *     differential check
  *
- * VECTORS is a file with an input in hex a line. Every EVERY-th input is written to standard output with what the library says
- * of it, for the model to compare. A broken law is a line `LAW name hex`, and ends the run with status 1.
- * The last line is `DONE inputs probes`: how many inputs were made, and how many calls of the library they took.
+ * SAMPLES is a file with an input in hex a line. `made` goes first through each sample, each of its fronts, and each change of
+ * one byte of a small one; then it makes inputs for so many seconds. Every EVERY-th is written to standard output with what the
+ * library says of it, for the model to compare. It is process PART of PARTS, which share the work. `files` checks the laws over
+ * whole files, with each front and each missing byte. `check` reads inputs in hex and prints the law that each breaks, or `-`.
+ *
+ * A broken law is a line `LAW name hex`, and ends the run with status 1. The last line is `DONE`, and how often each thing was
+ * done. The laws:
+ *
+ *     calls     imagesize_type and imagesize_size say what imagesize_probe says
+ *     spans     each span has a byte and lies within the input, and all have at most 64 bytes more than the input
+ *     local     with every byte outside the spans changed, type, size, error and spans are the same
+ *     appended  bytes appended change no size, but that of a HEIF, an icon or a TGA
+ *     front     the result of a front is that of the whole, unless the header says that more bytes may change it
+ *     parts     fetched as it is wanted, with other bytes or cut short, the result is that of the whole
+ *     missing   with one byte of the spans missing that byte is wanted; with any other byte missing the result is there
  */
 #include <imagesize.h>
 
@@ -15,11 +29,17 @@
 #include <string.h>
 #include <time.h>
 
-enum { MOST = 4096, SPANS = MOST + 64, ROUNDS = 96 };
+enum { MOST = 4096, ROOM = 1 << 20, SPANS = 1 << 16, PARTS = 4096, SAMPLES = 4096, SMALL = 64, SMALLEST = 16 };
+enum { TYPES = 26, STATUSES = 31 };
 
 struct input {
-    uint8_t bytes[MOST];
     size_t length;
+    uint8_t bytes[ROOM];
+};
+
+struct sample {
+    size_t length;
+    uint8_t *bytes;
 };
 
 struct answer {
@@ -27,8 +47,17 @@ struct answer {
     uint64_t width, height;
 };
 
+/* How often each thing was done. */
+enum counter { INPUTS, PROBES, VECTORS, FRONTS_OF_SAMPLES, CHANGES_OF_ONE, CHANGES_OF_TWO, CALLS, LOCAL, APPENDED, FRONT, BY_PARTS, MISSING, COUNTERS };
+static const char *const counter_names[COUNTERS] = {
+    "inputs", "probes", "samples", "fronts of samples", "changes of one byte", "changes of two bytes", "calls", "local",
+    "appended", "front", "parts", "missing",
+};
+static unsigned long long counted[COUNTERS], results[TYPES][STATUSES];
+
+static struct sample samples[SAMPLES];
+static size_t sample_count;
 static uint64_t state;
-static unsigned long long inputs, probes;
 
 /* The next random number, by splitmix64. */
 static uint64_t next(void)
@@ -60,6 +89,12 @@ static uint64_t edge(void)
     }
     uint64_t power = UINT64_C(1) << bits[below(sizeof bits)];
     return once_in(8) ? UINT64_MAX - below(24) : power + below(3) - 1;
+}
+
+static void set(struct input *to, const struct sample *from)
+{
+    to->length = from->length;
+    memcpy(to->bytes, from->bytes, from->length);
 }
 
 static void put_byte(struct input *to, uint64_t byte)
@@ -101,6 +136,13 @@ static void put_random(struct input *to, size_t length)
 {
     while (length-- > 0) {
         put_byte(to, once_in(3) ? 0 : next());
+    }
+}
+
+static void put_times(struct input *to, char byte, uint64_t times)
+{
+    while (times-- > 0) {
+        put_byte(to, (uint8_t)byte);
     }
 }
 
@@ -289,10 +331,8 @@ static void put_heif(struct input *to)
 /* The codestream's signature and some bits. */
 static void put_stream(struct input *to, size_t length)
 {
-    struct input whole = {.length = 0};
-    PUT(&whole, "\xff\x0a");
-    put_random(&whole, 20);
-    put(to, (const char *)whole.bytes, length < 22 ? length : 22);
+    put(to, "\xff\x0a", length < 2 ? length : 2);
+    put_random(to, length < 2 ? 0 : length < 22 ? length - 2 : 20);
 }
 
 static void put_jxl(struct input *to)
@@ -334,9 +374,12 @@ static void put_word(struct input *to)
                                         "\x0b", "\xc2\xa0", "\xe2\x80\x83", "\xff", "\xc0\x80", "\xed\xa0\x80", "+", "65535", "9\x0b", "#\xff"};
     static const char ends[] = " \t\n\f\r\n ";
     if (once_in(80)) {
-        for (uint64_t left = 1000 + below(60); left-- > 0;) {
-            put_byte(to, '1');
-        }
+        PUT(to, "#");
+        put_times(to, 'c', 1000 + below(60));
+        PUT(to, "\n");
+    }
+    if (once_in(80)) {
+        put_times(to, '1', 1000 + below(60));
     }
     if (once_in(6)) {
         put_byte(to, (uint8_t)ends[below(7)]);
@@ -365,11 +408,7 @@ static void put_hdr(struct input *to)
     for (uint64_t left = below(6); left-- > 0;) {
         const char *line = one_of(lines, 7);
         put(to, line, strlen(line));
-        if (once_in(60)) {
-            for (uint64_t more = 230 + below(40); more-- > 0;) {
-                put_byte(to, 'a');
-            }
-        }
+        put_times(to, 'a', once_in(60) ? 230 + below(40) : 0);
         put_byte(to, '\n');
     }
     static const char *const axes[] = {"-Y ", "+Y ", "-X ", "+X ", " -Y "};
@@ -388,9 +427,7 @@ static void put_exr(struct input *to)
     for (uint64_t left = below(6); left-- > 0;) {
         const char *name = one_of(names, 5), *type = one_of(types, 4);
         put(to, name, strlen(name));
-        for (uint64_t more = once_in(30) ? 20 + below(240) : 0; more-- > 0;) {
-            put_byte(to, 'n');
-        }
+        put_times(to, 'n', once_in(30) ? 20 + below(240) : 0);
         put_byte(to, 0);
         put(to, type, strlen(type));
         put_byte(to, 0);
@@ -421,7 +458,7 @@ static void (*const grammars[])(struct input *) = {
 static void mutate(struct input *to)
 {
     size_t at = to->length ? below(to->length) : 0;
-    switch (below(6)) {
+    switch (below(7)) {
     case 0:
         to->length = at;
         break;
@@ -439,6 +476,13 @@ static void mutate(struct input *to)
             to->bytes[at++] = (uint8_t)number;
         }
         break;
+    case 4:
+        if (sample_count) {
+            const struct sample *other = &samples[below(sample_count)];
+            to->length = at;
+            put(to, (const char *)other->bytes, other->length);
+        }
+        break;
     default:
         if (to->length > at) {
             to->bytes[at] = (uint8_t)(once_in(2) ? to->bytes[at] ^ UINT64_C(1) << below(8) : edge());
@@ -449,7 +493,7 @@ static void mutate(struct input *to)
 static struct answer probe(const uint8_t *bytes, size_t length)
 {
     struct answer found = {0};
-    probes++;
+    counted[PROBES]++;
     found.status = imagesize_probe(bytes, length, &found.type, &found.compression, &found.width, &found.height);
     return found;
 }
@@ -459,20 +503,35 @@ static bool same(struct answer a, struct answer b)
     return a.status == b.status && a.type == b.type && a.compression == b.compression && a.width == b.width && a.height == b.height;
 }
 
+static bool calls_agree(const struct input *of, struct answer whole)
+{
+    struct answer found = {0};
+    counted[CALLS]++;
+    counted[PROBES] += 2;
+    found.status = imagesize_size(of->bytes, of->length, &found.width, &found.height);
+    uint32_t status = imagesize_type(of->bytes, of->length, &found.type, &found.compression);
+    return same(whole, found) && (status == IMAGESIZE_ANSWERED) == (whole.type != 0);
+}
+
 static size_t spans_of(const struct input *of, imagesize_span *spans)
 {
     size_t count = 0;
-    probes++;
+    counted[PROBES]++;
     imagesize_spans(of->bytes, of->length, spans, SPANS, &count);
-    return count;
+    return count < SPANS ? count : SPANS;
 }
 
-/* Each span lies within the input and has a byte, and there are not many. */
+/* Whether a span has a byte and lies within an input of so many bytes. */
+static bool within(imagesize_span span, uint64_t total)
+{
+    return span.len > 0 && span.start < total && span.len <= total - span.start;
+}
+
 static bool spans_fit(const struct input *of, const imagesize_span *spans, size_t count)
 {
     uint64_t total = 0;
-    for (size_t at = 0; at < count && count <= SPANS; at++) {
-        if (spans[at].len == 0 || spans[at].start > of->length || spans[at].len > of->length - spans[at].start) {
+    for (size_t at = 0; at < count; at++) {
+        if (!within(spans[at], of->length)) {
             return false;
         }
         total += spans[at].len;
@@ -480,14 +539,15 @@ static bool spans_fit(const struct input *of, const imagesize_span *spans, size_
     return total <= of->length + 64;
 }
 
-/* With all other bytes changed, answer and spans are the same. */
-static bool local(const struct input *of, struct answer whole, const imagesize_span *spans, size_t count)
+static bool is_local(const struct input *of, struct answer whole, const imagesize_span *spans, size_t count)
 {
     static imagesize_span others[SPANS];
     static struct input other;
+    counted[LOCAL]++;
     other.length = of->length;
     for (size_t at = 0; at < of->length; at++) {
-        other.bytes[at] = (uint8_t)(of->bytes[at] ^ (1 + below(255)));
+        uint8_t change = (uint8_t)(next() >> 32);
+        other.bytes[at] = (uint8_t)(of->bytes[at] ^ (change ? change : 1));
     }
     for (size_t at = 0; at < count; at++) {
         memcpy(other.bytes + spans[at].start, of->bytes + spans[at].start, spans[at].len);
@@ -496,49 +556,149 @@ static bool local(const struct input *of, struct answer whole, const imagesize_s
         && memcmp(spans, others, count * sizeof *spans) == 0;
 }
 
-/* Fetched as it is wanted, with some bytes around it, the answer is the same. */
-static bool by_parts(const struct input *of, struct answer whole)
+/* The types whose size bytes that follow may change. */
+static bool may_change(uint32_t type)
 {
-    static uint8_t bytes[4 * MOST];
-    static imagesize_span spans[ROUNDS];
-    size_t length = 0, count = 0;
-    uint64_t around = once_in(2) ? 0 : below(40);
-    while (count < ROUNDS) {
-        struct answer found = {0};
+    return type == IMAGESIZE_HEIF || type == IMAGESIZE_ICO || type == IMAGESIZE_TGA;
+}
+
+/* Whether the result of a front may be what it is, where that of the whole is this. */
+static bool lasts(struct answer front, struct answer whole)
+{
+    switch (front.status) {
+    case IMAGESIZE_ANSWERED:
+        return may_change(front.type)
+            || (whole.status == front.status && whole.type == front.type && whole.width == front.width && whole.height == front.height);
+    case IMAGESIZE_END_OF_INPUT:
+    case IMAGESIZE_NOT_SUPPORTED:
+        return true;
+    case IMAGESIZE_INVALID_IFD_VALUE_LENGTH:
+    case IMAGESIZE_NOT_ENOUGH_DATA:
+        return whole.type == front.type;
+    case IMAGESIZE_CORRUPTED_IMAGE:
+        return whole.type == front.type && (front.type == IMAGESIZE_JXL || whole.status == front.status);
+    default:
+        return whole.type == front.type && whole.status == front.status;
+    }
+}
+
+static bool lasts_with_more(const struct input *of, struct answer whole)
+{
+    static struct input longer;
+    counted[APPENDED]++;
+    longer.length = of->length;
+    memcpy(longer.bytes, of->bytes, of->length);
+    for (uint64_t more = 1 + below(40); more-- > 0 && longer.length < ROOM;) {
+        longer.bytes[longer.length++] = (uint8_t)(next() >> 32);
+    }
+    return lasts(whole, probe(longer.bytes, longer.length));
+}
+
+static bool front_lasts(const struct input *of, struct answer whole, size_t length)
+{
+    counted[FRONT]++;
+    return lasts(probe(of->bytes, length), whole);
+}
+
+/* Parts of an input that are known. */
+static struct parts {
+    uint8_t bytes[2 * ROOM];
+    imagesize_span spans[PARTS];
+    size_t length, count;
+} known;
+
+/* Adds a part, or lengthens the last one. */
+static bool add_part(const struct input *of, imagesize_span part)
+{
+    if (known.count == PARTS || part.len > sizeof known.bytes - known.length) {
+        return false;
+    }
+    memcpy(known.bytes + known.length, of->bytes + part.start, part.len);
+    known.length += part.len;
+    imagesize_span *last = known.count ? &known.spans[known.count - 1] : NULL;
+    if (last && last->start + last->len == part.start) {
+        last->len += part.len;
+    } else {
+        known.spans[known.count++] = part;
+    }
+    return true;
+}
+
+static struct answer probe_known(uint64_t total, imagesize_span *wanted)
+{
+    struct answer found = {0};
+    counted[PROBES]++;
+    found.status = imagesize_probe_parts(known.bytes, known.length, known.spans, known.count, total, &found.type, &found.compression,
+                                         &found.width, &found.height, wanted);
+    return found;
+}
+
+/* Fetched as it is wanted the result is that of the whole: with up to `around` bytes beside it, or at most `most` bytes a time.
+ * One of both changes nothing, since bytes before those that are wanted bring nothing new. */
+static bool by_parts(const struct input *of, struct answer whole, uint64_t around, uint64_t most)
+{
+    counted[BY_PARTS]++;
+    known.length = known.count = 0;
+    for (uint64_t more = once_in(2) ? 0 : below(4); more-- > 0 && of->length;) {
+        uint64_t start = below(of->length);
+        add_part(of, (imagesize_span){start, 1 + below(of->length - start)});
+    }
+    for (;;) {
         imagesize_span wanted = {0, 0};
-        probes++;
-        found.status = imagesize_probe_parts(bytes, length, spans, count, of->length, &found.type, &found.compression, &found.width,
-                                             &found.height, &wanted);
+        struct answer found = probe_known(of->length, &wanted);
         if (found.status != IMAGESIZE_BYTES_WANTED) {
             return same(whole, found);
         }
-        if (wanted.len == 0 || wanted.start > of->length || wanted.len > of->length - wanted.start) {
+        if (!within(wanted, of->length)) {
             return false;
         }
         uint64_t before = wanted.start < around ? wanted.start : around, behind = of->length - wanted.start - wanted.len;
         wanted.start -= before;
         wanted.len += before + (behind < around ? behind : around);
-        if (wanted.len > sizeof bytes - length) {
+        wanted.len = wanted.len < most ? wanted.len : most;
+        if (!add_part(of, wanted)) {
             return true;
         }
-        memcpy(bytes + length, of->bytes + wanted.start, wanted.len);
-        spans[count++] = wanted;
-        length += wanted.len;
     }
-    return true;
 }
 
-/* Bytes that follow change no size, but that of a HEIF, an icon or a TGA. */
-static bool lasts(const struct input *of, struct answer whole)
+/* All bytes are known but one: the result, or that byte, where the result rests on it. */
+static bool without(const struct input *of, struct answer whole, uint64_t place, bool rests_on)
 {
-    static struct input longer;
-    if (whole.status != IMAGESIZE_ANSWERED || whole.type == IMAGESIZE_HEIF || whole.type == IMAGESIZE_ICO || whole.type == IMAGESIZE_TGA) {
+    imagesize_span wanted = {0, 0};
+    counted[MISSING]++;
+    known.length = known.count = 0;
+    if (place > 0) {
+        add_part(of, (imagesize_span){0, place});
+    }
+    if (place + 1 < of->length) {
+        add_part(of, (imagesize_span){place + 1, of->length - place - 1});
+    }
+    struct answer found = probe_known(of->length, &wanted);
+    return rests_on ? found.status == IMAGESIZE_BYTES_WANTED && wanted.start == place && within(wanted, of->length) : same(whole, found);
+}
+
+static bool rests_on(const imagesize_span *spans, size_t count, uint64_t place)
+{
+    for (size_t at = 0; at < count; at++) {
+        if (place >= spans[at].start && place - spans[at].start < spans[at].len) {
+            return true;
+        }
+    }
+    return false;
+}
+
+static bool without_any(const struct input *of, struct answer whole, const imagesize_span *spans, size_t count)
+{
+    if (of->length == 0) {
         return true;
     }
-    longer = *of;
-    put_random(&longer, 1 + below(40));
-    struct answer found = probe(longer.bytes, longer.length);
-    return found.status == whole.status && found.type == whole.type && found.width == whole.width && found.height == whole.height;
+    uint64_t place = below(of->length);
+    if (count && once_in(2)) {
+        const imagesize_span *span = &spans[below(count)];
+        place = span->start + below(span->len);
+    }
+    return without(of, whole, place, rests_on(spans, count, place));
 }
 
 static void print_hex(const struct input *of)
@@ -560,53 +720,152 @@ static void print_sample(const struct input *of, struct answer whole, const imag
     printf("\n");
 }
 
+static void count_result(struct answer whole)
+{
+    if (whole.type < TYPES && whole.status < STATUSES) {
+        results[whole.type][whole.status]++;
+    }
+}
+
 /* The name of a law that an input breaks, or NULL. */
 static const char *broken(const struct input *of, bool sample)
 {
     static imagesize_span spans[SPANS];
     struct answer whole = probe(of->bytes, of->length);
     size_t count = spans_of(of, spans);
+    count_result(whole);
     if (sample) {
         print_sample(of, whole, spans, count);
     }
-    if (!spans_fit(of, spans, count)) {
-        return "spans";
-    }
-    if (!local(of, whole, spans, count)) {
-        return "local";
-    }
-    if (!lasts(of, whole)) {
-        return "lasts";
-    }
-    return by_parts(of, whole) ? NULL : "parts";
+    return !calls_agree(of, whole)                                                              ? "calls"
+        : !spans_fit(of, spans, count)                                                          ? "spans"
+        : !is_local(of, whole, spans, count)                                                    ? "local"
+        : !lasts_with_more(of, whole)                                                           ? "appended"
+        : !front_lasts(of, whole, of->length ? below(of->length) : 0)                           ? "front"
+        : !(once_in(3) ? by_parts(of, whole, 0, 1 + below(9)) : by_parts(of, whole, below(40), ROOM)) ? "parts"
+        : !without_any(of, whole, spans, count)                                                 ? "missing"
+                                                                                                : NULL;
 }
 
-/* The test vectors: each line of a file is an input in hex. */
-static size_t read_vectors(const char *name, struct input **vectors)
+/* The same of a whole file, with each of its fronts, and each byte missing on which its result rests, and its neighbours. */
+static const char *broken_file(const struct input *of)
 {
-    FILE *file = fopen(name, "r");
-    static char line[2 * MOST + 8];
-    size_t count = 0, room = 1024;
-    *vectors = malloc(room * sizeof **vectors);
-    while (file && *vectors && count < room && fgets(line, sizeof line, file)) {
-        struct input *to = &(*vectors)[count++];
-        to->length = 0;
-        unsigned byte;
-        for (const char *at = line; sscanf(at, "%2x", &byte) == 1 && at[0] != '\n'; at += 2) {
-            put_byte(to, byte);
+    static imagesize_span spans[SPANS];
+    struct answer whole = probe(of->bytes, of->length);
+    size_t count = spans_of(of, spans);
+    const char *law = broken(of, false);
+    for (size_t length = 0; !law && length < of->length; length++) {
+        law = front_lasts(of, whole, length) ? NULL : "front";
+    }
+    law = law ? law : by_parts(of, whole, 0, 1) ? NULL : "parts";
+    for (size_t at = 0; at < count; at++) {
+        for (uint64_t place = spans[at].start ? spans[at].start - 1 : 0; !law && place <= spans[at].start + spans[at].len; place++) {
+            law = place >= of->length || without(of, whole, place, rests_on(spans, count, place)) ? NULL : "missing";
         }
     }
-    if (file) {
-        fclose(file);
-    }
-    return count;
+    return law;
 }
 
-static void make(struct input *to, const struct input *vectors, size_t count)
+/* Reads an input in hex. */
+static void read_hex(struct input *to, const char *line)
+{
+    static const char digits[] = "0123456789abcdef";
+    to->length = 0;
+    for (const char *high, *low; line[0] && line[1] && to->length < ROOM; line += 2) {
+        high = strchr(digits, line[0]);
+        low = strchr(digits, line[1]);
+        if (!high || !low) {
+            return;
+        }
+        to->bytes[to->length++] = (uint8_t)((high - digits) << 4 | (low - digits));
+    }
+}
+
+static bool read_samples(const char *name)
+{
+    static struct input read;
+    static char line[2 * MOST + 8];
+    FILE *file = fopen(name, "r");
+    while (file && sample_count < SAMPLES && fgets(line, sizeof line, file)) {
+        read_hex(&read, line);
+        struct sample *to = &samples[sample_count++];
+        to->length = read.length;
+        to->bytes = malloc(read.length + 1);
+        if (!to->bytes) {
+            return false;
+        }
+        memcpy(to->bytes, read.bytes, read.length);
+    }
+    return file && fclose(file) == 0;
+}
+
+static unsigned long long every;
+
+/* Checks an input. A broken law ends the program. */
+static void check(const struct input *of)
+{
+    const char *law = broken(of, counted[INPUTS]++ % every == 0);
+    if (law) {
+        printf("LAW\t%s\t", law);
+        print_hex(of);
+        printf("\n");
+        exit(1);
+    }
+}
+
+/* Each sample, each of its fronts, and each change of one byte of a small one: one process does one of so many. */
+static void check_samples(size_t part, size_t parts)
+{
+    static struct input made;
+    for (size_t index = part; index < sample_count; index += parts) {
+        const struct sample *of = &samples[index];
+        for (size_t length = 0; length <= of->length; length++) {
+            set(&made, of);
+            made.length = length;
+            counted[length == of->length ? VECTORS : FRONTS_OF_SAMPLES]++;
+            check(&made);
+        }
+        for (size_t at = 0; of->length <= SMALL && at < 256 * of->length; at++) {
+            set(&made, of);
+            made.bytes[at / 256] = (uint8_t)at;
+            counted[CHANGES_OF_ONE]++;
+            check(&made);
+        }
+    }
+}
+
+/* How many changes of two neighbouring bytes the smallest samples have. */
+static uint64_t pairs_of(const struct sample *of)
+{
+    return of->length <= SMALLEST && of->length > 1 ? (of->length - 1) << 16 : 0;
+}
+
+static uint64_t all_pairs(void)
+{
+    uint64_t pairs = 0;
+    for (size_t index = 0; index < sample_count; index++) {
+        pairs += pairs_of(&samples[index]);
+    }
+    return pairs;
+}
+
+/* A change of two bytes by its number. The numbers are gone through by a large step, so that each comes once. */
+static void set_pair(struct input *to, uint64_t number)
+{
+    size_t index = 0;
+    while (number >= pairs_of(&samples[index])) {
+        number -= pairs_of(&samples[index++]);
+    }
+    set(to, &samples[index]);
+    to->bytes[number >> 16] = (uint8_t)(number >> 8);
+    to->bytes[(number >> 16) + 1] = (uint8_t)number;
+}
+
+static void make(struct input *to)
 {
     to->length = 0;
-    if (count && once_in(3)) {
-        *to = vectors[below(count)];
+    if (sample_count && once_in(3)) {
+        set(to, &samples[below(sample_count)]);
         mutate(to);
     } else {
         grammars[below(sizeof grammars / sizeof *grammars)](to);
@@ -616,29 +875,96 @@ static void make(struct input *to, const struct input *vectors, size_t count)
     }
 }
 
-int main(int argc, char **argv)
+/* Inputs for so many seconds: of four one is a change of two bytes, as long as there are such. */
+static void check_made(time_t end, size_t part, size_t parts)
 {
-    struct input *vectors = NULL;
     static struct input made;
-    if (argc != 5) {
-        fprintf(stderr, "usage: differential VECTORS SEED SECONDS EVERY\n");
-        return 2;
+    const uint64_t step = 2654435761, pairs = all_pairs();
+    for (uint64_t at = part, round = 0; round % 1024 || time(NULL) < end; round++) {
+        if (round % 4 == 0 && at < pairs) {
+            set_pair(&made, at * step % pairs);
+            at += parts;
+            counted[CHANGES_OF_TWO]++;
+        } else {
+            make(&made);
+        }
+        check(&made);
     }
-    size_t count = read_vectors(argv[1], &vectors);
-    state = strtoull(argv[2], NULL, 10);
-    time_t end = time(NULL) + atoi(argv[3]);
-    unsigned long long every = strtoull(argv[4], NULL, 10);
-    while (inputs % 1024 || time(NULL) < end) {
-        make(&made, vectors, count);
-        const char *law = broken(&made, inputs++ % every == 0);
+}
+
+static void print_done(void)
+{
+    printf("DONE");
+    for (int at = 0; at < COUNTERS; at++) {
+        printf("\t%s=%llu", counter_names[at], counted[at]);
+    }
+    printf("\tpairs=%llu", (unsigned long long)all_pairs());
+    for (int type = 0; type < TYPES; type++) {
+        for (int status = 0; status < STATUSES; status++) {
+            if (results[type][status]) {
+                printf("\t%d:%d=%llu", type, status, results[type][status]);
+            }
+        }
+    }
+    printf("\n");
+}
+
+static int check_files(int count, char **names)
+{
+    static struct input read;
+    for (int at = 0; at < count; at++) {
+        FILE *file = fopen(names[at], "rb");
+        read.length = file ? fread(read.bytes, 1, ROOM, file) : 0;
+        if (!file || fclose(file)) {
+            return 2;
+        }
+        const char *law = broken_file(&read);
+        counted[INPUTS]++;
         if (law) {
             printf("LAW\t%s\t", law);
-            print_hex(&made);
+            print_hex(&read);
             printf("\n");
             return 1;
         }
     }
-    printf("DONE\t%llu\t%llu\n", inputs, probes);
-    free(vectors);
+    print_done();
     return 0;
+}
+
+static int check_lines(void)
+{
+    static struct input read;
+    static char line[2 * ROOM + 8];
+    while (fgets(line, sizeof line, stdin)) {
+        const char *law = NULL;
+        read_hex(&read, line);
+        state = read.length;
+        for (int times = 0; !law && times < 64; times++) {
+            law = broken(&read, false);
+        }
+        puts(law ? law : "-");
+        fflush(stdout);
+    }
+    return 0;
+}
+
+int main(int argc, char **argv)
+{
+    if (argc == 8 && !strcmp(argv[1], "made") && read_samples(argv[2])) {
+        state = strtoull(argv[3], NULL, 10);
+        time_t end = time(NULL) + atoi(argv[4]);
+        every = strtoull(argv[5], NULL, 10);
+        check_samples(strtoul(argv[6], NULL, 10), strtoul(argv[7], NULL, 10));
+        check_made(end, strtoul(argv[6], NULL, 10), strtoul(argv[7], NULL, 10));
+        print_done();
+        return 0;
+    }
+    if (argc > 2 && !strcmp(argv[1], "files")) {
+        return check_files(argc - 2, argv + 2);
+    }
+    if (argc == 2 && !strcmp(argv[1], "check")) {
+        return check_lines();
+    }
+    fprintf(stderr, "usage: differential made SAMPLES SEED SECONDS EVERY PART PARTS, or files FILE.., or check\n");
+    return 2;
 }

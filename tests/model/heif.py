@@ -26,7 +26,7 @@ def search(image, wanted, offset):
         if head[4:] == wanted:
             return offset, length
         if length < 8:
-            raise Refused("InvalidHeifBoxSize")
+            raise Refused("InvalidHeifBoxSize", length)
         offset += length
 
 

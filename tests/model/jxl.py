@@ -48,7 +48,7 @@ def box(image, offset):
     if offset + length > MAX_OFFSET:
         raise Refused("CorruptedImage")
     if 0 < length < head:
-        raise Refused("InvalidJxlBoxSize")
+        raise Refused("InvalidJxlBoxSize", name, length)
     return head, length, name
 
 

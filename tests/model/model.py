@@ -39,6 +39,7 @@ class Found:
     compression: str  # the compression within the type, or None
     size: tuple  # width and height in pixels, or None
     refusal: str  # why there is no size, or None
+    carried: tuple  # the numbers and the name that the error carries
     spans: list  # offset and length of each read, in their order
     trace: list  # a line for each read
 
@@ -51,12 +52,12 @@ class Found:
 
 def probe(data):
     """Type, size and spans of the image in some bytes."""
-    image, found = Input(data), Found(None, None, None, None, [], [])
+    image, found = Input(data), Found(None, None, None, None, (), [], [])
     try:
         found.kind, found.compression = kinds.kind(image)
         found.size = size(found.kind, image)
     except Refused as refused:
-        found.refusal = refused.args[0]
+        found.refusal, *found.carried = refused.args
     found.spans, found.trace = image.spans, image.trace
     return found
 

@@ -14,7 +14,7 @@ def raw_line(image, offset, most, delimiter, why):
     end = found.find(delimiter)
     if end < 0:
         image.available(offset, len(found), why)
-        raise Refused("NoDelimiter" if len(found) == most else "EndOfInput")
+        raise Refused("NoDelimiter", most) if len(found) == most else Refused("EndOfInput")
     return image.available(offset, end + 1, why)
 
 
@@ -32,7 +32,7 @@ def word(image, offset, why):
     length = len(found) if end is None else end + 1
     image.available(offset, length, why)
     if length == 1024:
-        raise Refused("NoDelimiter")
+        raise Refused("NoDelimiter", 1024)
     if end is None:
         raise Refused("EndOfInput")
     return text_of(found[start:end]), found[end : end + 1], offset + length

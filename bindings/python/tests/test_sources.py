@@ -83,6 +83,20 @@ class Reading(unittest.TestCase):
         self.assertEqual(image.probe(), (7, 5))
         self.assertLess(len(image.fetched), 30)
 
+    def test_length_is_asked_once(self) -> None:
+        """However many rounds a file takes, its end is sought once."""
+
+        class Counting(io.BytesIO):
+            ends = 0
+
+            def seek(self, place: int, whence: int = 0, /) -> int:
+                self.ends += whence == os.SEEK_END
+                return super().seek(place, whence)
+
+        image = Counting(jpeg(12))
+        self.assertEqual(imagesize.probe(image).size, (7, 5))
+        self.assertEqual(image.ends, 1)
+
     def test_no_byte_twice(self) -> None:
         """What is wanted goes from a block that is not known into one that is."""
         spans = [(16384, 4), (4099, 1), (8192, 9000)]
