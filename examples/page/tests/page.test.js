@@ -9,11 +9,13 @@ import { join } from 'node:path';
 import { test } from 'node:test';
 import { fileURLToPath } from 'node:url';
 import { gzipSync } from 'node:zlib';
+import { spans } from '../../../bindings/js/imagesize.js';
 import { giveRange, iconOf, jpegBehind, withServer, worked } from '../../../bindings/js/tests/support.js';
 import { withTab } from './chromium.js';
 
 const out = fileURLToPath(new URL('../../out/', import.meta.url));
-const serve = fileURLToPath(new URL('../serve', import.meta.url));
+const page = fileURLToPath(new URL('../', import.meta.url));
+const serve = join(page, 'serve');
 
 // Counts the bytes that the page reads of files.
 const COUNTER = `
@@ -31,13 +33,14 @@ const COUNTER = `
   }`;
 
 const text = (id) => `document.getElementById('${id}').textContent`;
-const READ = `/ read, /.test(${text('status')})`;
+const READ = `/ read(,|$)/.test(${text('status')})`;
 
 // What the page shows of the chosen image.
 const SHOWN = `({
   answer: ${text('answer')},
   cost: ${text('cost')},
   steps: Array.from(document.querySelectorAll('.step b'), (name) => name.textContent),
+  listing: ${text('listing')},
   wrong: document.getElementById('answer').classList.contains('error'),
 })`;
 
@@ -57,7 +60,7 @@ async function withPage(use, prepare = async () => {}) {
       await tab.send('Page.addScriptToEvaluateOnNewDocument', { source: COUNTER });
       await prepare(tab);
       await tab.send('Page.navigate', { url: address.trim() });
-      await tab.until(`!/^(Loading|$)/.test(document.getElementById('status')?.textContent ?? '')`);
+      await tab.until(`!/^(Loading|This page needs|$)/.test(document.getElementById('status')?.textContent ?? '')`);
       return await use(tab, folder, new URL(address.trim()));
     });
   } finally {
@@ -79,6 +82,17 @@ async function reading(tab, act) {
   await tab.value(`${text('status')} = ''`);
   await act();
   await tab.until(READ);
+}
+
+async function click(tab, x, y) {
+  for (const type of ['mousePressed', 'mouseReleased']) {
+    await tab.send('Input.dispatchMouseEvent', { type, x, y, button: 'left', clickCount: 1 });
+  }
+}
+
+async function trySample(tab, sample) {
+  await reading(tab, () => press(tab, `#samples li:nth-child(${sample + 1}) button`));
+  await tab.until(`document.querySelectorAll('.step').length > 0 && ${text('name')} === document.querySelector('#samples li:nth-child(${sample + 1})').textContent`);
 }
 
 const press = (tab, selector) => tab.value(`document.querySelector(${JSON.stringify(selector)}).click()`);
@@ -113,41 +127,120 @@ async function screenshot(tab, name, [width, height], scheme) {
 
 test('the page', async (t) => {
   await withPage(async (tab, folder, { origin }) => {
+    await t.test('offers a first screen: a headline, six samples, a large button and a look-up behind a disclosure', async () => {
+      const first = await tab.value(`({
+        headline: document.querySelector('h1').textContent,
+        samples: document.querySelectorAll('#samples button').length,
+        choose: document.getElementById('choose').getBoundingClientRect().toJSON(),
+        below: document.getElementById('status').getBoundingClientRect().bottom,
+        lookUp: document.getElementById('addresses').checkVisibility(),
+        status: ${text('status')},
+        shown: ['name', 'evidence', 'many'].some((id) => document.getElementById(id).checkVisibility()),
+      })`);
+      assert.equal(first.headline, 'Which bytes tell the size of an image?');
+      assert.deepEqual([first.samples, first.lookUp, first.shown], [6, false, false]);
+      assert.ok(first.choose.height >= 80 && first.choose.width >= 600, JSON.stringify(first.choose));
+      assert.ok(first.below <= 900, `${first.below} px`);
+      assert.equal(first.status, 'Try a sample, or choose files of your own.');
+      await press(tab, 'summary');
+      assert.equal(await tab.value(`document.getElementById('addresses').checkVisibility()`), true);
+      await press(tab, 'summary');
+    });
+
+    await t.test('opens the dialog for files by a click on the large button', async () => {
+      await tab.send('Page.setInterceptFileChooserDialog', { enabled: true });
+      const { x, y } = await tab.value(`document.getElementById('choose').getBoundingClientRect().toJSON()`);
+      await click(tab, x + 30, y + 30);
+      await tab.settled(() => tab.events('Page.fileChooserOpened').length > 0);
+      assert.equal(tab.events('Page.fileChooserOpened')[0].mode, 'selectMultiple');
+      await tab.send('Page.setInterceptFileChooserDialog', { enabled: false });
+    });
+
     await t.test('answers six samples by one click each', async () => {
       const answers = [];
       for (let sample = 0; sample < 6; sample += 1) {
-        await reading(tab, () => press(tab, `#samples li:nth-child(${sample + 1}) button`));
-        await tab.until(`document.querySelectorAll('.step').length > 0`);
+        await trySample(tab, sample);
         answers.push(await tab.value(SHOWN));
       }
       assert.deepEqual(answers.map(({ answer }) => answer), [
-        'JPEG, 1,920 × 1,080 pixels', 'AVIF, 1,920 × 1,080 pixels', 'TIFF, 1,600 × 1,200 pixels', 'DDS (Bc7), 1,024 × 512 pixels',
+        'JPEG, 1,920 × 1,080 pixels', 'AVIF, 1,920 × 1,080 pixels', 'TIFF, 1,600 × 1,200 pixels', 'Bc7 DDS, 1,024 × 512 pixels',
         'OpenEXR, 2,048 × 858 pixels', 'JPEG, no size. The file ends before its size.',
       ]);
       assert.deepEqual(answers.map(({ wrong }) => wrong), [false, false, false, false, false, true]);
       assert.equal(answers[0].cost, '12 kB of 94 kB read, in 3 steps');
       assert.deepEqual(answers[0].steps.slice(-4), ['segment length', 'marker: frame', 'height', 'width']);
-      assert.ok(answers.every(({ steps }) => steps.every((name) => !/undefined|read by/.test(name))));
-      await press(tab, '#clear');
+      assert.equal(answers[0].listing, `The result depends on ${answers[0].steps.length} fields, in this order`);
+      assert.deepEqual(await tab.value(ROWS), []);
     });
 
-    await t.test('shows each test vector, and the same result with every other byte changed', async () => {
-      const wrong = await tab.value(`(async () => {
+    await t.test('shows the bytes that count in hex, each field marked and named in its order, and what is left out', async () => {
+      await trySample(tab, 0);
+      const file = readFileSync(join(page, 'samples', 'segments.jpg'));
+      const rows = await tab.value(`Array.from(document.querySelectorAll('#hex > *'), (row) => row.className === 'gap' ? row.textContent : {
+        start: Number(row.querySelector('.offset').textContent.replaceAll(',', '')),
+        bytes: Array.from(row.querySelectorAll('.byte'), (byte) => byte.textContent),
+        steps: Array.from(row.querySelectorAll('.byte'), (byte) => byte.dataset.steps ?? ''),
+        label: row.querySelector('.labels').textContent,
+      })`);
+      const trace = spans(file);
+      const marked = new Map();
+      for (const { start, bytes, steps } of rows.filter((row) => row.start !== undefined)) {
+        assert.equal(bytes.join(''), file.subarray(start, start + 16).toString('hex'));
+        steps.forEach((step, at) => { if (step) marked.set(start + at, step); });
+      }
+      const wanted = new Map();
+      trace.forEach(({ start, len }, index) => {
+        for (let at = start; at < start + len; at += 1) wanted.set(at, wanted.has(at) ? `${wanted.get(at)} ${index}` : `${index}`);
+      });
+      assert.deepEqual(new Map([...marked].sort(([a], [b]) => a - b)), new Map([...wanted].sort(([a], [b]) => a - b)));
+      assert.deepEqual(rows.flatMap((row) => (row.label ? row.label.split(', ').map((label) => Number(label.split(' ')[0])) : [])), trace.map((_, index) => index + 1));
+      assert.equal(rows.at(-2).label, '13 height, 14 width');
+      assert.deepEqual(rows.filter((row) => row.start === undefined), [
+        '↓ 9.0 kB with no effect', '↓ 24 kB with no effect', '↓ 48 bytes with no effect', '↓ 400 bytes with no effect', '↓ 60 kB with no effect',
+      ]);
+    });
+
+    await t.test('scrambles every other byte, and keeps those that count', async () => {
+      await trySample(tab, 0);
+      const bytes = (read) => tab.value(`Array.from(document.querySelectorAll('#hex .byte${read}'), (byte) => byte.textContent)`);
+      const before = [await bytes('.read'), await bytes(':not(.read)')];
+      await press(tab, '#scramble');
+      await tab.until(`document.getElementById('outcome').className !== ''`);
+      const kept = new Set(spans(readFileSync(join(page, 'samples', 'segments.jpg'))).flatMap(({ start, len }) => Array.from({ length: len }, (_, at) => start + at))).size;
+      assert.equal(await tab.value(text('outcome')), `94 kB scrambled, ${kept} bytes kept: JPEG, 1,920 × 1,080 pixels. The same result.`);
+      const after = [await bytes('.read'), await bytes(':not(.read)')];
+      assert.deepEqual(after[0], before[0]);
+      const changed = after[1].filter((byte, at) => byte !== before[1][at]).length;
+      assert.ok(changed > 0.9 * after[1].length, `${changed} of ${after[1].length}`);
+      await trySample(tab, 5);
+      await press(tab, '#scramble');
+      await tab.until(`document.getElementById('outcome').className !== ''`);
+      assert.match(await tab.value(text('outcome')), /kept: JPEG, no size\. The file ends before its size\. The same result\.$/);
+    });
+
+    await t.test('shows each test vector, and the same result with every other byte scrambled', async () => {
+      const shown = worked.filter(({ bytes }) => bytes.length > 0 && bytes.length <= 2 ** 16);
+      const [tried, wrong] = await tab.value(`(async () => {
         const { inspect } = await import('./inspector.js');
         const { probeBlob } = await import('../../bindings/js/imagesize.js');
         const wrong = [];
-        for (const base64 of ${JSON.stringify(worked.filter(({ bytes }) => bytes.length > 0).map(({ bytes }) => bytes.toString('base64')))}) {
+        let tried = 0;
+        for (const base64 of ${JSON.stringify(shown.map(({ bytes }) => bytes.toString('base64')))}) {
           const file = new Blob([Uint8Array.from(atob(base64), (letter) => letter.charCodeAt(0))]);
           const result = await probeBlob(file, { trace: true }).catch((error) => error);
-          if (!(result.trace?.length > 0)) continue;
           await inspect({ name: base64, around: async (begin, end) => new Uint8Array(await file.slice(begin, end).arrayBuffer()) }, result);
           document.getElementById('scramble').click();
           while (!document.getElementById('outcome').className) await new Promise((resolve) => { setTimeout(resolve); });
+          tried += 1;
+          const names = Array.from(document.querySelectorAll('.step b'), (name) => name.textContent);
+          if (names.length !== Math.min(200, result.trace.length) || names.some((name) => /^$|read by|undefined|null/.test(name))) wrong.push(names);
           if (!/The same result\\.$/.test(document.getElementById('outcome').textContent)) wrong.push(base64);
         }
-        return wrong;
+        return [tried, wrong];
       })()`);
       assert.deepEqual(wrong, []);
+      assert.equal(tried, shown.length);
+      assert.ok(tried >= worked.length - 1, `${tried} of ${worked.length}`);
     });
 
     await t.test('says so where the result is another one', async () => {
@@ -202,7 +295,7 @@ test('the page', async (t) => {
       await tab.value(`document.getElementById('zoom').value = 5; document.getElementById('zoom').dispatchEvent(new Event('input'))`);
       assert.match(await tab.value(text('window')), /^bytes 0 to 3,/);
       await choose(tab, paths.slice(1));
-      assert.match((await tab.value(SHOWN)).cost, /\. Its spans are too many to be drawn\.$/);
+      assert.match((await tab.value(SHOWN)).cost, /\. The result depends on too many fields to draw them\.$/);
       await press(tab, '#clear');
     });
 
