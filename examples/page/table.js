@@ -7,6 +7,10 @@ const part = (id) => document.getElementById(id);
 // How many rows are drawn at once.
 const PAGE = 100;
 
+// The side of a thumbnail, and how many pixels an image has at most that gets one.
+const SIDE = 88;
+const MOST_PIXELS = 5e7;
+
 // What a browser can show of a file.
 const SHOWN = new Set(['JPEG', 'GIF', 'WebP', 'BMP', 'ICO', 'AVIF', 'PNG']);
 
@@ -63,7 +67,6 @@ export function add(more) {
 }
 
 function clear() {
-  for (const { thumbnail } of images) if (thumbnail) URL.revokeObjectURL(thumbnail);
   images = [];
   sorted = [];
   order = { column: -1, down: false };
@@ -109,7 +112,7 @@ function rowOf(image, index) {
   row.classList.toggle('refused', image.result.width === undefined);
   const picture = cell('td', 'cell', '');
   picture.className = 'thumbnail';
-  if (image.input.file && SHOWN.has(typeText(image.result))) waiting.observe(picture);
+  if (hasThumbnail(image)) waiting.observe(picture);
   row.append(picture, ...COLUMNS.map(([, , , shown], column) => {
     const made = cell('td', 'cell', column === 0 ? '' : shown(image));
     if (column === 0) made.append(button(shown(image)));
@@ -119,22 +122,29 @@ function rowOf(image, index) {
   return row;
 }
 
+const hasThumbnail = ({ input, result }) => input.file && SHOWN.has(typeText(result)) && result.width * result.height <= MOST_PIXELS;
+
 // A thumbnail is made as soon as its row comes into view.
 const waiting = new IntersectionObserver((entries) => {
   for (const { target, isIntersecting } of entries) {
     if (!isIntersecting) continue;
     waiting.unobserve(target);
     const image = images[Number(target.parentElement?.dataset.image)];
-    if (!image?.input.file) continue;
-    image.thumbnail ??= URL.createObjectURL(image.input.file);
-    const picture = document.createElement('img');
-    picture.alt = '';
-    picture.decoding = 'async';
-    picture.addEventListener('error', () => picture.remove());
-    picture.src = image.thumbnail;
-    target.append(picture);
+    if (!image) continue;
+    image.picture ??= thumbnailOf(image).catch(() => '');
+    image.picture.then((picture) => target.append(picture));
   }
 });
+
+// The browser decodes it beside the page, which stays quick. An `img` would stop the page for a file with many segments.
+async function thumbnailOf({ input, result: { width, height } }) {
+  const bitmap = await createImageBitmap(input.file, width > height ? { resizeWidth: SIDE } : { resizeHeight: SIDE });
+  const picture = document.createElement('canvas');
+  picture.width = bitmap.width;
+  picture.height = bitmap.height;
+  picture.getContext('bitmaprenderer').transferFromImageBitmap(bitmap);
+  return picture;
+}
 
 function sort(column, down) {
   order = { column, down };
