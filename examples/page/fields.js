@@ -1,121 +1,161 @@
 // The names of spans, in the words of the formats.
 
 // What is at a fixed offset, by type.
-const SIDES = {
+const FIXED = {
   Aseprite: { 8: 'width', 10: 'height' },
   Astc: { 7: 'width', 10: 'height' },
   Bmp: { 18: 'width', 22: 'height' },
+  Dds: { 12: 'height', 16: 'width', 84: 'four-character code', 88: 'bits of a pixel', 128: 'DXGI format' },
+  Etc2: { 6: 'data type', 8: 'padded width', 10: 'padded height', 12: 'width', 14: 'height' },
   Farbfeld: { 8: 'width', 12: 'height' },
   Gif: { 6: 'width', 8: 'height' },
   Ktx2: { 20: 'width', 24: 'height' },
+  Png: { 16: 'width', 20: 'height' },
   Psd: { 14: 'height', 18: 'width' },
-  Qoi: { 4: 'width', 8: 'height' },
-  Vtf: { 16: 'width', 18: 'height' },
-  Tga: { 0: 'header', 3: 'colour map', 7: 'bits of a map entry', 12: 'width', 14: 'height', 16: 'bits of a pixel', 17: 'descriptor' },
-  Webp: { 12: 'chunk tag', 21: 'width and height', 24: 'width', 26: 'width', 27: 'height', 28: 'height' },
-  Dds: { 12: 'height', 16: 'width', 84: 'four-character code', 88: 'bits of a pixel', 128: 'DXGI format' },
-  Etc2: { 6: 'data type', 8: 'padded width', 10: 'padded height', 12: 'width', 14: 'height' },
   Pvrtc: { 0: 'version', 4: 'height', 8: 'width', 24: 'height', 28: 'width' },
+  Qoi: { 4: 'width', 8: 'height' },
+  Tga: { 0: 'header', 3: 'colour map', 7: 'bits of a map entry', 12: 'width', 14: 'height', 16: 'bits of a pixel', 17: 'descriptor' },
+  Vtf: { 16: 'width', 18: 'height' },
+  Webp: { 12: 'chunk tag', 21: 'width and height', 24: 'width', 26: 'width', 27: 'height', 28: 'height' },
 };
-SIDES.Eac = SIDES.Etc2;
-SIDES.Atc = { ...SIDES.Etc2, 0: 'signature', 4: 'height', 8: 'width', 16: 'width' };
+FIXED.Eac = FIXED.Etc2;
+FIXED.Atc = { ...FIXED.Etc2, 0: 'signature' };
 
-const MARKERS = { c4: 'Huffman tables', d8: 'start of image', d9: 'end of image', da: 'scan', db: 'quantization tables', dd: 'restart interval', fe: 'comment' };
+const MARKERS = { 0xc4: 'Huffman tables', 0xc8: 'extension', 0xcc: 'arithmetic coding', 0xd8: 'start of image', 0xd9: 'end of image',
+  0xda: 'scan', 0xdb: 'quantization tables', 0xdd: 'restart interval', 0xfe: 'comment' };
 
-const text = (bytes) => String.fromCharCode(...bytes);
+// What follows the version of a TIFF, up to its entries.
+const TIFF = ['offset of the directory', 'count of entries'];
+const BIG_TIFF = ['size of an offset', 'always zero', ...TIFF];
+
+// Characters of a name; a dot stands for what cannot be shown.
+const text = (bytes) => Array.from(bytes, (byte) => (byte >= 0x20 && byte < 0x7f ? String.fromCharCode(byte) : '·')).join('');
 const number = (bytes, little) => (little ? [...bytes].reverse() : [...bytes]).reduce((sum, byte) => sum * 256 + byte, 0);
+const cut = (what) => `${what}, which is cut`;
 
-function markerName([, marker]) {
-  const digits = marker.toString(16).padStart(2, '0');
+function markerName(bytes) {
+  const [first, marker] = bytes;
+  if (marker === undefined) return cut('marker');
+  if (first !== 0xff) return 'no marker';
+  if (marker in MARKERS) return `marker: ${MARKERS[marker]}`;
   if (marker >= 0xe0 && marker <= 0xef) return `marker: APP${marker - 0xe0}`;
-  if (marker >= 0xc0 && marker <= 0xcf && !(digits in MARKERS) && marker !== 0xc8 && marker !== 0xcc) return 'marker: frame';
-  return `marker: ${MARKERS[digits] ?? digits}`;
+  return marker >= 0xc0 && marker <= 0xcf ? 'marker: frame' : `marker: ${marker.toString(16).padStart(2, '0')}`;
 }
 
-// For the types whose records are walked: a function from a span, and what the ones before left, to its name.
+// The size of a box and its name. A box of size 0 reaches to the end of the file.
+function boxName(bytes, state) {
+  if (bytes.length < 8) return cut('box');
+  state.box = text(bytes.subarray(4, 8));
+  state.size = number(bytes.subarray(0, 4));
+  return `box: ${state.box}`;
+}
+
+// For the types whose records are walked: the name of a span, by what the spans before it left in `state`.
 const WALKED = {
   Jpeg({ start, bytes }, state) {
-    const name = { 2: 'segment length', 5: 'height', 7: 'width' }[start - state.record];
-    if (name) return name;
-    state.record = start;
+    const name = { 2: 'segment length', 5: 'height', 7: 'width' }[start - state.marker];
+    if (name) {
+      if (name === 'segment length') state.marker = undefined;
+      return name;
+    }
+    state.marker = start;
     return markerName(bytes);
   },
-  Ilbm({ start, bytes }, state) {
-    const name = { 8: 'width', 10: 'height' }[start - state.record];
-    if (name) return name;
-    state.record = start;
-    return `chunk: ${text(bytes.subarray(0, 4))}`;
+  Ilbm({ bytes }, state) {
+    if (state.sides?.length) return state.sides.shift();
+    if (bytes.length < 8) return cut('chunk');
+    const name = text(bytes.subarray(0, 4));
+    if (name === 'BMHD') state.sides = ['width', 'height'];
+    return `chunk: ${name}`;
   },
   Ico({ start }) {
     return start === 4 ? 'count of images' : `width and height of image ${(start - 6) / 16 + 1}`;
   },
-  Tiff({ start, bytes }, state) {
-    if (start === 0 && bytes.length === 2) {
-      state.little = bytes[0] === 0x49;
-      return 'byte order';
-    }
-    if (start === 2 && !state.directory) return 'version';
-    if (start < 16 && !state.directory) {
-      const offset = bytes.length === 4 || bytes.length === 8;
-      if (offset) state.directory = number(bytes, state.little);
-      return offset ? 'offset of the directory' : 'BigTIFF header';
-    }
-    if (start === state.directory) return 'count of entries';
-    if (start === state.value) return state.tag === 0x100 ? 'width' : state.tag === 0x101 ? 'height' : 'value';
-    state.value = start + bytes.length;
-    state.tag = number(bytes.subarray(0, 2), state.little);
-    return state.tag === 0x100 ? 'entry: ImageWidth' : state.tag === 0x101 ? 'entry: ImageLength' : `entry: tag ${state.tag}`;
+  Tiff({ bytes }, state) {
+    state.next ??= ['byte order', 'version'];
+    const name = state.next.shift();
+    if (name === 'byte order') state.little = bytes[0] === 0x49;
+    if (name === 'version') state.next = number(bytes, state.little) === 43 ? [...BIG_TIFF] : [...TIFF];
+    if (name) return name;
+    if (bytes.length < 8) return cut('entry');
+    const tag = number(bytes.subarray(0, 2), state.little);
+    state.next = [{ 256: 'width', 257: 'height' }[tag] ?? 'value'];
+    return `entry: ${{ 256: 'ImageWidth', 257: 'ImageLength' }[tag] ?? `tag ${tag}`}`;
   },
   Heif({ start, bytes }, state) {
+    const { box } = state;
+    state.box = '';
     if (start === 0) return 'size of the first box';
-    if (bytes.length === 12) return state.box === 'ispe' ? 'width and height' : 'compatible brands';
-    if (bytes.length === 4) return 'version and flags';
-    if (bytes.length === 1) return 'rotation';
-    state.box = text(bytes.subarray(4, 8));
-    return `box: ${state.box}`;
+    if (box === undefined) return 'compatible brands';
+    if (box === 'meta' && !state.meta) {
+      state.meta = true;
+      return 'version and flags';
+    }
+    if (state.properties && box === 'ispe') return 'width and height';
+    if (state.properties && box === 'irot') return 'rotation';
+    const name = boxName(bytes, state);
+    if (state.meta && state.box === 'ipco') state.properties = true;
+    return name;
   },
   Jxl({ start, bytes }, state) {
     if (start === 0) return 'signature';
     if (start === 2) return 'width and height, in bits';
-    if (state.box === start && bytes.length === 4) return 'index of the piece';
-    if (state.box !== undefined && start <= state.box + 4 && start >= state.box) return 'width and height, in bits';
-    state.box = start + 8;
-    return `box: ${text(bytes.subarray(4, 8))}`;
+    if (state.end === undefined || start >= state.end) {
+      const name = boxName(bytes, state);
+      state.content = state.box === 'jxlp' ? ['index of the piece'] : [];
+      state.long = state.size === 1;
+      state.end = start + (state.long ? 16 : state.size || Infinity);
+      state.begin = start;
+      return name;
+    }
+    if (state.long) {
+      state.long = false;
+      state.end = state.begin + (number(bytes) || Infinity);
+      return 'size of the box';
+    }
+    return state.content.shift() ?? 'width and height, in bits';
   },
   Exr({ start, bytes }, state) {
     if (start === 4) return 'version';
-    if (bytes.length === 16 && state.step === 3) return 'data window';
-    if (state.step === 2) {
-      state.step = 3;
-      return 'size of the attribute';
-    }
-    if (state.step === 1) {
-      state.step = 2;
-      return 'type of the attribute';
-    }
-    state.step = 1;
-    return `attribute: ${text(bytes.subarray(0, -1))}`;
+    const name = state.next ?? 'attribute';
+    state.next = { attribute: 'type of the attribute', 'type of the attribute': 'size of the attribute' }[name];
+    const content = text(bytes.subarray(0, -1));
+    if (name === 'type of the attribute') state.type = content;
+    if (name === 'size of the attribute' && state.attribute === 'dataWindow' && state.type === 'box2i') state.next = 'data window';
+    if (name !== 'attribute') return name;
+    state.attribute = content;
+    return bytes.length === 1 && bytes[0] === 0 ? 'end of the header' : `attribute: ${content}`;
   },
-  Hdr: ({ bytes }) => (/^[-+][XY]/.test(text(bytes)) ? 'height and width' : 'line'),
+  Hdr({ start, bytes }) {
+    if (start === 0) return 'identifier';
+    return /^[-+][XY]/.test(text(bytes)) ? 'height and width' : 'line';
+  },
   Pnm({ bytes }, state) {
-    const word = text(bytes).trim();
-    if (word === '' || word.startsWith('#') || state.comment) {
-      state.comment = word.startsWith('#') && bytes.at(-1) !== 10;
+    if (state.comment) {
+      state.comment = false;
       return 'comment';
     }
-    state.words = (state.words ?? 0) + 1;
-    return state.words === 1 ? 'width' : 'height';
+    if (state.width) return 'height';
+    const word = new TextDecoder().decode(bytes).replace(/^\p{White_Space}+/u, '');
+    if (word === '') return 'blank';
+    state.comment = word.startsWith('#') && bytes.at(-1) !== 10;
+    if (word.startsWith('#')) return 'comment';
+    state.width = true;
+    return 'width';
   },
 };
+
+function nameOf(kind, span, total, state) {
+  const { start, bytes } = span;
+  if ((!kind || kind === 'Tga') && start === total - 18 && bytes.length === 18) return 'footer';
+  if (kind === 'Pvrtc' && start === 8 && bytes.length === 8) return 'pixel format';
+  // An input of no known type was read as a TGA last.
+  return WALKED[kind]?.(span, state) ?? FIXED[kind || 'Tga']?.[start] ?? `read by ${kind}`;
+}
 
 /** The name of each span of a trace. */
 export function namesOf(kind, trace, total) {
   const state = {};
-  return trace.map((span, index) => {
-    if (index === 0) return kind ? 'signature' : 'first bytes';
-    if (kind === undefined || (kind === 'Tga' && span.start === total - 18 && span.bytes.length === 18)) return 'footer';
-    const walked = WALKED[kind]?.(span, state);
-    if (kind === 'Pvrtc' && span.start === 8 && span.bytes.length === 8) return 'pixel format';
-    return walked ?? SIDES[kind]?.[span.start] ?? `read by ${kind}`;
-  });
+  const first = kind ? 'signature' : 'first bytes';
+  return trace.map((span, index) => (index === 0 ? first : nameOf(kind, span, total, state)));
 }

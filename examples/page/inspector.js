@@ -1,4 +1,4 @@
-// One image: the strip of the whole file, its steps, its bytes in hex, and the experiment.
+// One image: the strip of the whole file, the fields that count, their bytes in hex, and the experiment.
 
 import { probeBlob } from '../../bindings/js/imagesize.js';
 import { namesOf } from './fields.js';
@@ -16,19 +16,23 @@ function element(name, className, text = '') {
   return made;
 }
 
+// The bytes of a range, the last one included.
+const rangeText = (start, end) => (end === start + 1 ? `byte ${start.toLocaleString('en')}`
+  : `bytes ${start.toLocaleString('en')} to ${(end - 1).toLocaleString('en')}`);
+
 let shown; // the image that is shown: its result, its bytes around the spans, and how much of it is listed
 
 /** Shows an image, with the bytes that its result depends on. */
 export async function inspect(input, found) {
   const total = found.total < Infinity ? found.total : found.bytesRead;
-  const result = { ...found, kind: found.kind, message: found.message, total };
-  shown = { input, result, names: [], listed: 0, chosen: 0, around: input.around };
+  const result = { ...found, kind: found.kind, name: found.name, message: found.message, total };
+  shown = { result, names: [], listed: 0, chosen: 0, around: input.around };
   const { trace } = result;
-  part('one').hidden = false;
+  part('name').hidden = false;
   part('name').textContent = input.name;
   part('answer').textContent = answerText(result);
   part('answer').classList.toggle('error', result.width === undefined);
-  part('cost').textContent = costText(found) + (trace === null ? '. Its spans are too many to be drawn.' : '');
+  part('cost').textContent = costText(found) + (trace === null ? '. The result depends on too many fields to draw them.' : '');
   part('evidence').hidden = !(trace?.length > 0);
   part('outcome').textContent = '';
   part('outcome').className = '';
@@ -36,6 +40,7 @@ export async function inspect(input, found) {
   shown.names = namesOf(result.kind, trace, result.total);
   part('zoom').value = 0;
   part('zoom').max = Math.max(0, Math.ceil(Math.log2(result.total / 64)));
+  part('listing').textContent = `The result depends on ${count(trace.length, 'field')}, in this order`;
   part('steps').replaceChildren();
   part('hex').replaceChildren();
   await list();
@@ -48,14 +53,14 @@ function answerText(result) {
   return type ? `${type}, no size. ${errorText(result)}` : errorText(result);
 }
 
-// Lists more steps, and the bytes that they read.
+// Lists more fields, and their bytes.
 async function list() {
   const { result: { trace }, names, listed } = shown;
   const end = Math.min(trace.length, listed + STEPS_SHOWN);
   part('steps').append(...trace.slice(listed, end).map((span, at) => stepOf(span, names[listed + at], listed + at)));
   shown.listed = end;
   part('more').hidden = end === trace.length;
-  part('more').textContent = `Show more of ${count(trace.length, 'step')}`;
+  part('more').textContent = `Show more: ${end.toLocaleString('en')} of ${count(trace.length, 'field')} are listed`;
   await drawHex();
 }
 
@@ -64,35 +69,40 @@ function stepOf({ start, bytes }, name, index) {
   const button = element('button', 'step');
   button.type = 'button';
   button.dataset.step = index;
-  const where = bytes.length === 1 ? `byte ${start.toLocaleString('en')}` : `bytes ${start.toLocaleString('en')} to ${(start + bytes.length - 1).toLocaleString('en')}`;
-  button.append(element('b', '', name), element('span', '', where));
+  button.append(element('b', '', name), element('span', '', rangeText(start, start + bytes.length)));
   step.append(button);
   return step;
 }
 
 // Rows of 16 bytes, those that have a byte of the listed spans, with a line for what is left out between them.
 async function drawHex() {
-  const { result: { trace, total }, listed, names } = shown;
+  const asked = shown;
+  const { result: { trace, total }, listed, names } = asked;
   const spans = trace.slice(0, listed);
   const numbers = [...new Set(spans.flatMap(({ start, bytes }) => {
     const first = Math.floor(start / ROW);
     return Array.from({ length: Math.floor((start + bytes.length - 1) / ROW) - first + 1 }, (_, at) => first + at);
   }))].sort((a, b) => a - b);
-  const asked = shown;
+  const around = await Promise.all(numbers.map((number) =>
+    asked.around?.(number * ROW, Math.min(total, (number + 1) * ROW)).catch(() => undefined)));
+  if (shown !== asked) return;
   const rows = [];
   let next = 0;
-  for (const number of numbers) {
-    if (number > next) rows.push(gapOf((number - next) * ROW));
-    const around = await shown.around?.(number * ROW, Math.min(total, (number + 1) * ROW)).catch(() => undefined);
-    if (shown !== asked) return;
-    rows.push(rowOf(number * ROW, Math.min(ROW, total - number * ROW), spans, names, around));
+  numbers.forEach((number, index) => {
+    if (number > next) rows.push(gapOf(next * ROW, number * ROW));
+    rows.push(rowOf(number * ROW, Math.min(ROW, total - number * ROW), spans, names, around[index]));
     next = number + 1;
-  }
-  if (next * ROW < total) rows.push(gapOf(total - next * ROW));
+  });
+  if (next * ROW < total) rows.push(gapOf(next * ROW, total));
   part('hex').replaceChildren(...rows);
 }
 
-const gapOf = (length) => element('div', 'gap', `↓ ${bytesText(length)} not read`);
+// A line for bytes that are left out. They may hold fields that are not listed yet.
+function gapOf(from, to) {
+  const { result: { trace }, listed } = shown;
+  const later = trace.slice(listed).filter(({ start }) => from <= start && start < to).length;
+  return element('div', 'gap', `↓ ${bytesText(to - from)} ${later > 0 ? `with ${count(later, 'more field')}` : 'with no effect'}`);
+}
 
 function rowOf(start, length, spans, names, around) {
   const row = element('div', 'row');
@@ -111,11 +121,16 @@ function rowOf(start, length, spans, names, around) {
   return row;
 }
 
-// Marks a step in the list, among the bytes and in the strip.
+// Marks a field in the list, among the bytes and in the strip.
 function choose(index) {
   shown.chosen = index;
-  for (const old of document.querySelectorAll('.chosen')) old.classList.remove('chosen');
-  part('steps').querySelector(`[data-step="${index}"]`)?.classList.add('chosen');
+  for (const old of document.querySelectorAll('.chosen')) {
+    old.classList.remove('chosen');
+    old.ariaCurrent = null;
+  }
+  const step = part('steps').querySelector(`[data-step="${index}"]`);
+  step?.classList.add('chosen');
+  if (step) step.ariaCurrent = 'step';
   const cells = part('hex').querySelectorAll(`[data-steps~="${index}"]`);
   for (const cell of cells) cell.classList.add('chosen');
   const box = part('hex');
@@ -123,7 +138,7 @@ function choose(index) {
   drawStrip();
 }
 
-// The part of the file that the strip shows: all of it, or a part around the step that is chosen.
+// The part of the file that the strip shows: all of it, or a part around the field that is chosen.
 function windowOf() {
   const { result: { total, trace }, chosen } = shown;
   const length = Math.max(1, total / 2 ** Number(part('zoom').value));
@@ -150,11 +165,11 @@ function drawStrip() {
   for (const span of trace) paint(span, style.color, 2 * devicePixelRatio);
   paint(trace[chosen], style.caretColor, 4 * devicePixelRatio);
   const read = trace.reduce((sum, { bytes }) => sum + bytes.length, 0);
-  canvas.ariaLabel = `The whole file to scale: the result depends on ${count(trace.length, 'span')}, ${count(read, 'byte')} in all, of ${count(total, 'byte')}`;
-  part('window').textContent = `bytes ${Math.floor(from).toLocaleString('en')} to ${Math.ceil(from + length).toLocaleString('en')}`;
+  canvas.ariaLabel = `The whole file to scale: the result depends on ${count(trace.length, 'field')}, ${count(read, 'byte')} in all, of ${count(total, 'byte')}`;
+  part('window').textContent = rangeText(Math.floor(from), Math.ceil(from + length));
 }
 
-// The step that is nearest to a point of the strip.
+// The field that is nearest to a point of the strip.
 function nearest(event) {
   const { from, length } = windowOf();
   const offset = from + (event.offsetX / part('strip').clientWidth) * length;
@@ -163,19 +178,21 @@ function nearest(event) {
   return trace.reduce((best, span, index) => (distance(span) < distance(trace[best]) ? index : best), 0);
 }
 
-// Changes every byte outside of the spans, probes again, and says what came of it.
+// Puts a random byte in the place of each byte outside of the spans, probes again, and says what came of it.
 async function scramble() {
-  const { result, input } = shown;
+  const asked = shown;
+  const { result } = asked;
   const kept = new Set(result.trace.flatMap(({ start, bytes }) => Array.from(bytes, (_, at) => start + at))).size;
   const other = new Scrambled(result.total, result.trace, crypto.getRandomValues(new Uint32Array(1))[0]);
   const again = await probeBlob(other, { maxBytes: 2 ** 30 }).catch((error) => error);
+  if (shown !== asked) return;
   const same = ['kind', 'compression', 'width', 'height', 'code'].every((name) => (again[name] ?? null) === (result[name] ?? null));
-  const changed = bytesText(result.total - kept);
-  part('outcome').textContent = `${changed} changed, ${bytesText(kept)} kept: ${answerText(again)}. ${same ? 'The same result.' : 'ANOTHER RESULT.'}`;
+  const scrambled = bytesText(result.total - kept);
+  part('outcome').textContent = `${scrambled} scrambled, ${bytesText(kept)} kept: ${answerText(again)}${again.width === undefined ? '' : '.'} ${same ? 'The same result.' : 'ANOTHER RESULT.'}`;
   part('outcome').className = same ? 'same' : 'error';
-  shown = { ...shown, input, around: async (start, end) => other.bytes(start, end) };
+  asked.around = async (start, end) => other.bytes(start, end);
   await drawHex();
-  choose(shown.chosen);
+  choose(asked.chosen);
 }
 
 part('zoom').addEventListener('input', drawStrip);

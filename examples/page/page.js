@@ -2,10 +2,10 @@
 
 import * as library from '../../bindings/js/imagesize.js';
 import { inspect } from './inspector.js';
-import { add, listed, start } from './table.js';
+import { add, startTable } from './table.js';
 import { count } from './texts.js';
 
-// How long a server is waited for in milliseconds, and how many images are read before the table is drawn again.
+// How long a server is waited for in milliseconds, and how many images are read at once.
 const PATIENCE = 30_000;
 const AT_ONCE = 16;
 
@@ -33,8 +33,14 @@ const ofFile = (file, name = file.name) => ({
 
 const ofAddress = (address) => ({
   name: address,
-  probe: (options) => library.probeUrl(address, { ...options, signal: AbortSignal.timeout(PATIENCE) }),
+  async probe(options) {
+    if (!URL.canParse(address)) throw new Error('This is no web address.');
+    return library.probeUrl(address, { ...options, signal: AbortSignal.timeout(PATIENCE) });
+  },
 });
+
+// What cannot be read: its probe fails for that reason.
+const unread = (name, error) => ({ name, probe: () => Promise.reject(error) });
 
 // Reads an image; an error is its result.
 async function read(input, trace) {
@@ -43,35 +49,56 @@ async function read(input, trace) {
   return { input, result, time: performance.now() - begin };
 }
 
-// Reads all images, some at a time, and draws them as they come.
-async function readAll(inputs) {
-  if (inputs.length === 0) return say('There is no file here.', true);
-  const bar = part('progress');
-  bar.max = inputs.length;
-  bar.hidden = inputs.length < 2 * AT_ONCE;
-  let sized = 0;
-  for (let first = 0; first < inputs.length; first += AT_ONCE) {
-    const images = await Promise.all(inputs.slice(first, first + AT_ONCE).map((input) => read(input, inputs.length === 1)));
-    sized += images.filter(({ result }) => result.width !== undefined).length;
-    add(images);
-    bar.value = first + images.length;
-    say(`${bar.value.toLocaleString('en')} of ${count(inputs.length, 'image')} read`);
-    await new Promise((resolve) => { setTimeout(resolve); });
-    if (first === 0) await show(images[0]);
-  }
-  bar.hidden = true;
-  say(`${count(inputs.length, 'image')} read, ${sized.toLocaleString('en')} with a size`);
+// What was asked for and is not read yet, from all calls of readAll together.
+let work = { asked: 0, read: 0, sized: 0 };
+
+function showProgress() {
+  part('progress').max = work.asked;
+  part('progress').value = work.read;
+  part('sofar').textContent = `${work.read.toLocaleString('en')} of ${count(work.asked, 'image')} read`;
+  part('running').hidden = work.asked < 2 * AT_ONCE || work.read === work.asked;
 }
 
-// Shows the bytes of an image, which is read again where its spans were not asked for.
-async function show({ input, result }) {
+// Reads images, some at a time, and takes each group as it comes.
+async function readAll(inputs, take) {
+  if (inputs.length === 0) return say('There is no file here.', true);
+  work.asked += inputs.length;
+  say(`Reading ${count(work.asked, 'image')}`);
+  for (let first = 0; first < inputs.length; first += AT_ONCE) {
+    showProgress();
+    const images = await Promise.all(inputs.slice(first, first + AT_ONCE).map((input) => read(input, inputs.length === 1)));
+    work.read += images.length;
+    work.sized += images.filter(({ result }) => result.width !== undefined).length;
+    take(images);
+    if (first === 0) show(images[0]);
+  }
+  showProgress();
+  if (work.read < work.asked) return;
+  const sized = work.asked > 1 ? `, ${work.sized.toLocaleString('en')} with a size` : '';
+  say(`${count(work.asked, 'image')} read${sized}`);
+  work = { asked: 0, read: 0, sized: 0 };
+}
+
+let latest;
+
+// Shows the bytes of an image, which is read again if its spans were not asked for.
+async function show(image) {
+  latest = image;
+  const { input, result } = image;
   const traced = result.trace === undefined && result.reads > 0 ? (await read(input, true)).result : result;
-  await inspect(input, traced);
+  if (latest === image) await inspect(input, traced);
+}
+
+// Shows an image of the table, and goes there.
+async function open(image) {
+  await show(image);
+  part('name').focus();
 }
 
 async function trySample([file, name]) {
   const response = await fetch(new URL(`samples/${file}`, import.meta.url));
-  await readAll([ofFile(await response.blob(), name)]);
+  if (!response.ok) throw new Error(`The sample could not be loaded: the server answers with status ${response.status}.`);
+  await readAll([ofFile(await response.blob(), name)], () => {});
 }
 
 // An address as people write it: example.com/a.jpg is an https address.
@@ -87,21 +114,26 @@ async function dropped({ items, files }) {
 }
 
 async function walk(entry) {
-  if (entry.isFile) {
-    const file = await new Promise((resolve, reject) => { entry.file(resolve, reject); });
-    return [ofFile(file, entry.fullPath.replace(/^\//, ''))];
+  const name = entry.fullPath.replace(/^\//, '');
+  try {
+    if (!entry.isFile) return (await Promise.all((await entriesOf(entry)).map(walk))).flat();
+    return [ofFile(await new Promise((resolve, reject) => { entry.file(resolve, reject); }), name)];
+  } catch (error) {
+    return [unread(name, error)];
   }
-  const reader = entry.createReader();
-  const found = [];
-  for (;;) {
-    const more = await new Promise((resolve, reject) => { reader.readEntries(resolve, reject); });
-    if (more.length === 0) break;
-    found.push(...more);
-  }
-  return (await Promise.all(found.map(walk))).flat();
 }
 
-function listen() {
+// What is in a folder. A browser lists some of it at each call.
+async function entriesOf(folder) {
+  const reader = folder.createReader();
+  const found = [];
+  for (let more; more?.length !== 0; found.push(...more)) {
+    more = await new Promise((resolve, reject) => { reader.readEntries(resolve, reject); });
+  }
+  return found;
+}
+
+function listSamples() {
   part('samples').append(...SAMPLES.map((sample) => {
     const item = document.createElement('li');
     const button = document.createElement('button');
@@ -111,18 +143,9 @@ function listen() {
     item.append(button);
     return item;
   }));
-  part('choose').addEventListener('click', () => part('files').click());
-  part('files').addEventListener('change', () => {
-    const chosen = [...part('files').files].map((file) => ofFile(file));
-    part('files').value = '';
-    readAll(chosen);
-  });
-  part('lookup').addEventListener('submit', (event) => {
-    event.preventDefault();
-    const addresses = addressesIn(part('addresses').value);
-    if (addresses.length === 0) say('Type an address first.', true);
-    else readAll(addresses.map((line) => ofAddress(addressOf(line))));
-  });
+}
+
+function listenToDrops() {
   addEventListener('dragover', (event) => {
     event.preventDefault();
     document.body.classList.add('dragging');
@@ -132,16 +155,27 @@ function listen() {
     event.preventDefault();
     const addresses = addressesIn(event.dataTransfer.getData('text/uri-list'));
     const files = await dropped(event.dataTransfer);
-    await readAll([...files, ...(files.length ? [] : addresses.map(ofAddress))]);
+    await readAll([...files, ...(files.length ? [] : addresses.map(ofAddress))], add);
   });
-  start(show);
 }
 
-try {
+/** Loads the library, and then listens. */
+export async function start() {
   await library.init();
-  listen();
-  say(listed() === 0 ? 'Try a sample, or choose files of your own.' : '');
-} catch (error) {
-  say(`The library could not be loaded. ${error.message}`, true);
-  for (const control of document.querySelectorAll('main button, main textarea')) control.disabled = true;
+  listSamples();
+  listenToDrops();
+  startTable(open);
+  part('choose').addEventListener('click', () => part('files').click());
+  part('files').addEventListener('change', () => {
+    const chosen = [...part('files').files].map((file) => ofFile(file));
+    part('files').value = '';
+    readAll(chosen, add);
+  });
+  part('lookup').addEventListener('submit', (event) => {
+    event.preventDefault();
+    const addresses = addressesIn(part('addresses').value);
+    if (addresses.length === 0) say('Type an address first.', true);
+    else readAll(addresses.map((line) => ofAddress(addressOf(line))), add);
+  });
+  say('Try a sample, or choose files of your own.');
 }

@@ -91,11 +91,16 @@ class Tab {
   }
 
   /** Waits until an expression is true in the page. */
-  async until(expression) {
+  until(expression) {
+    return this.settled(() => this.value(expression), expression);
+  }
+
+  /** Waits until a condition holds here. */
+  async settled(condition, name = condition) {
     for (const end = Date.now() + PATIENCE; Date.now() < end;) {
-      if (await this.value(expression)) return;
+      if (await condition()) return;
       await new Promise((resolve) => { setTimeout(resolve, 50); });
     }
-    throw new Error(`not so in time: ${expression}`);
+    throw new Error(`not so in time: ${name}`);
   }
 }
