@@ -75,7 +75,7 @@ static int print_file(const char *name)
 {
     struct known known = {malloc(1), {{0, 0}}, 0, 0};
     struct stat told;
-    int file = open(name, O_RDONLY);
+    int file = open(name, O_RDONLY | O_NONBLOCK);
     int is_read = 0;
     if (known.bytes != NULL && file >= 0 && fstat(file, &told) == 0 && S_ISREG(told.st_mode)) {
         struct answer answer = probe_file(&known, file, (uint64_t)told.st_size);
