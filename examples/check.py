@@ -65,8 +65,9 @@ def check_blocks(out):
             name.write_bytes(data)
             names.append(str(name))
             want += line + "\n"
-        got = printed([f"{out}/blocks"], names, False)
-        assert got == want, differs(got, want)
+        for option in ([], ["--stdio"]):
+            got = printed([f"{out}/blocks", *option], names, False)
+            assert got == want, differs(got, want)
     print(f"{len(names)} worked inputs by blocks: their answers")
 
 
