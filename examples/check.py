@@ -2,9 +2,11 @@
 
     python3 check.py FOLDER
 
-FOLDER has the program `image`, the shared library, and the worked inputs that expand.py writes, as `run` builds them.
+FOLDER has the programs `image` and `blocks`, the shared library, and the worked inputs that expand.py writes, as `run` builds
+them. To these come the inputs of surprises.tsv, of which the READMEs say what they may not seem to be.
 """
 
+import os
 import pathlib
 import subprocess
 import sys
@@ -18,6 +20,9 @@ def rows(out):
     for row in pathlib.Path(out, "worked.tsv").read_text().splitlines():
         data, line, spans = row.split("\t")
         yield bytes.fromhex("" if data == "-" else data), line, spans
+    for row in (HERE / "surprises.tsv").read_text().splitlines()[1:]:
+        _, data, line = row.split("\t")
+        yield bytes.fromhex(data), line, "?"
 
 
 def printed(command, names, spans):
@@ -60,9 +65,20 @@ def check_blocks(out):
             name.write_bytes(data)
             names.append(str(name))
             want += line + "\n"
-        got = printed([f"{out}/blocks"], names, False)
-        assert got == want, differs(got, want)
+        for option in ([], ["--stdio"]):
+            got = printed([f"{out}/blocks", *option], names, False)
+            assert got == want, differs(got, want)
     print(f"{len(names)} worked inputs by blocks: their answers")
+
+
+def check_pipe(out):
+    """A pipe without a writer is an error, and is not waited for."""
+    with tempfile.TemporaryDirectory() as folder:
+        pipe = f"{folder}/pipe"
+        os.mkfifo(pipe)
+        ended = subprocess.run([f"{out}/blocks", pipe], capture_output=True, text=True, timeout=10)
+    assert (ended.returncode, ended.stdout) == (1, "") and pipe in ended.stderr, ended
+    print("a pipe: an error")
 
 
 def differs(got, want):
@@ -76,3 +92,4 @@ def differs(got, want):
 if __name__ == "__main__":
     check_examples(sys.argv[1])
     check_blocks(sys.argv[1])
+    check_pipe(sys.argv[1])

@@ -21,7 +21,7 @@ def line(name: str) -> str:
     try:
         image_type, size = imagesize_proved.probe(name)
     except imagesize_proved.ImageError as error:
-        return f"{error.image_type}: {error}" if error.image_type else str(error)
+        return f"{error.image_type}: {error.text}" if error.image_type else error.text
     return f"{image_type} {size.width}x{size.height}"
 
 

@@ -14,10 +14,10 @@ enum { TEXT_ROOM = 128 };
 
 static void print_status(uint32_t status)
 {
-    uint8_t text[TEXT_ROOM] = {0};
+    char text[TEXT_ROOM] = {0};
     size_t length = 0;
     if (imagesize_status_text(status, text, sizeof text, &length) == IMAGESIZE_ANSWERED) {
-        printf("%.*s", (int)length, (const char *)text);
+        printf("%.*s", (int)length, text);
     } else {
         printf("status %" PRIu32, status);
     }
@@ -25,13 +25,13 @@ static void print_status(uint32_t status)
 
 static void print_type(uint32_t type, uint32_t compression)
 {
-    uint8_t text[TEXT_ROOM] = {0};
+    char text[TEXT_ROOM] = {0};
     size_t length = 0;
     if (imagesize_type_name(type, compression, text, sizeof text, &length) == IMAGESIZE_ANSWERED) {
-        printf("%.*s", (int)length, (const char *)text);
+        printf("%.*s", (int)length, text);
     }
     if (imagesize_compression_name(type, compression, text, sizeof text, &length) == IMAGESIZE_ANSWERED && length > 0) {
-        printf("(%.*s)", (int)length, (const char *)text);
+        printf("(%.*s)", (int)length, text);
     }
 }
 

@@ -102,7 +102,7 @@ def line(url: str) -> Tuple[bool, str]:
         image_type, size = remote.probe()
         sized, said = True, f"{image_type} {size.width}x{size.height}"
     except imagesize_proved.ImageError as error:
-        said = f"{error.image_type}: {error}" if error.image_type else str(error)
+        said = str(error)
     except (RemoteError, OSError, HTTPException, ValueError) as error:
         said = f"error: {str(error) or type(error).__name__}"
     plural = "" if remote.requests == 1 else "s"

@@ -41,7 +41,7 @@ static uint32_t probe(const uint8_t *bytes, size_t length, struct told *told)
 static uint32_t parts(const uint8_t *bytes, size_t length, struct told *told)
 {
     imagesize_span all = {0, length}, wanted;
-    return imagesize_probe_parts(bytes, length, &all, 1, length, &told->type, &told->compression, &told->width, &told->height,
+    return imagesize_parts_probe(bytes, length, &all, 1, length, &told->type, &told->compression, &told->width, &told->height,
                                  &wanted);
 }
 

@@ -149,7 +149,7 @@ static uint32_t ask(const struct worker *worker, enum asked asked, const uint8_t
     case SIZE:
         return imagesize_parts_size(a->type, a->compression, bytes, length, parts, count, total, &a->width, &a->height, wanted);
     default:
-        return imagesize_probe_parts(bytes, length, parts, count, total, &a->type, &a->compression, &a->width, &a->height, wanted);
+        return imagesize_parts_probe(bytes, length, parts, count, total, &a->type, &a->compression, &a->width, &a->height, wanted);
     }
 }
 
@@ -224,7 +224,7 @@ static void parts_of_any_kind(struct worker *worker, enum asked asked, size_t le
 static void text_of(struct worker *worker, uint32_t status)
 {
     size_t written = 0;
-    uint8_t *end = worker->bytes_end;
+    char *end = (char *)worker->bytes_end;
     expect(imagesize_status_text(status, end, 0, &written) == IMAGESIZE_BUFFER_TOO_SMALL, "no text has no byte");
     expect(imagesize_status_text(status, end - written, written, &written) == IMAGESIZE_ANSWERED, "a room that is just enough");
 }
@@ -259,7 +259,8 @@ static void spans_in_just_enough_room(imagesize_span *end)
 
 static void wrong_calls(void)
 {
-    uint8_t nothing = 0, text[4] = {'a', 'b', 'c', 'd'};
+    uint8_t nothing = 0;
+    char text[4] = {'a', 'b', 'c', 'd'};
     uint32_t type = 5, compression = 6, answer = 8;
     uint64_t width = 7, height = 9;
     size_t written = 11;

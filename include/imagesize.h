@@ -36,11 +36,11 @@ enum imagesize_status {
     IMAGESIZE_ANSWERED = 0, /* the call is answered */
     IMAGESIZE_NOT_SUPPORTED = 1, /* the bytes are of no type that is known */
     IMAGESIZE_CORRUPTED_IMAGE = 2, /* the type is known, and its records are malformed, or end before the size */
-    IMAGESIZE_FAULT = 3, /* a reader failed; no call of this library answers it */
+    IMAGESIZE_FAULT = 3, /* a file cannot be read; only the calls of imagesize_file.h return it */
     IMAGESIZE_END_OF_INPUT = 4, /* the bytes end before some that the layout needs */
     IMAGESIZE_NOT_ENOUGH_DATA = 5, /* a HEIF property list holds no image size */
-    IMAGESIZE_BUDGET_SPENT = 6, /* a reader's budget is spent; no call of this library answers it */
-    IMAGESIZE_OUT_OF_MEMORY = 7, /* memory was refused; no call of this library answers it */
+    IMAGESIZE_BUDGET_SPENT = 6, /* too many bytes of a file are needed; only the calls of imagesize_file.h return it */
+    IMAGESIZE_OUT_OF_MEMORY = 7, /* there is no memory; only the calls of imagesize_file.h return it */
     IMAGESIZE_NO_DELIMITER = 8, /* a text has no delimiter within the bytes that it may have */
     IMAGESIZE_NOT_UTF8 = 9, /* a text is no UTF-8 */
     IMAGESIZE_INVALID_HEIF_BOX_SIZE = 10, /* a HEIF box is smaller than its own head */
@@ -164,7 +164,7 @@ uint32_t imagesize_type(const uint8_t *bytes, size_t length, uint32_t *type, uin
  *
  * A size of a front is that of the whole, but for three types. A front of a HEIF or of an icon can have another size: of the
  * 24 bytes 00 00 01 00 FC FF 80 20 00 DA 26 00 3D FF E9 FF 13 9A FF B8 0F 93 80 00 the first 12 are an icon of 128x32, and all
- * are one of 128x256. A TGA can be told by its footer alone, which only the whole has. imagesize_probe_parts answers for the
+ * are one of 128x256. A TGA can be told by its footer alone, which only the whole has. imagesize_parts_probe answers for the
  * whole from a few parts of it.
  *
  * Refusals: those of imagesize_type, IMAGESIZE_END_OF_INPUT where the bytes end before the size, and the refusals of the
@@ -200,7 +200,7 @@ uint32_t imagesize_probe(const uint8_t *bytes, size_t length, uint32_t *type, ui
  *     uint8_t bytes[4096];
  *     imagesize_span parts[64], wanted;
  *     size_t length = 0, count = 0;
- *     while ((status = imagesize_probe_parts(bytes, length, parts, count, total, &type, &compression, &width, &height,
+ *     while ((status = imagesize_parts_probe(bytes, length, parts, count, total, &type, &compression, &width, &height,
  *                                            &wanted)) == IMAGESIZE_BYTES_WANTED) {
  *         if (count == 64 || wanted.len > sizeof bytes - length || !fetch(wanted.start, wanted.len, bytes + length)) {
  *             return GAVE_UP;
@@ -209,17 +209,20 @@ uint32_t imagesize_probe(const uint8_t *bytes, size_t length, uint32_t *type, ui
  *         length += wanted.len;
  *     }
  *
- * examples/blocks.c does so in blocks of 4096 bytes.
+ * imagesize_file.h does so over files, in blocks of 4096 bytes.
  *
  * Nothing is said of parts that no input has (two bytes for one place, fewer bytes than the spans have, or more), nor of a
  * total of 2^63 bytes or more, but that the call returns a status, and that a wanted part lies within `total`.
+ *
+ * The library exports the call by its old name, imagesize_probe_parts, which programs may use too.
  */
-uint32_t imagesize_probe_parts(const uint8_t *bytes, size_t length, const imagesize_span *spans, size_t count, uint64_t total,
+#define imagesize_parts_probe imagesize_probe_parts
+uint32_t imagesize_parts_probe(const uint8_t *bytes, size_t length, const imagesize_span *spans, size_t count, uint64_t total,
                                uint32_t *type, uint32_t *compression, uint64_t *width, uint64_t *height, imagesize_span *wanted);
 
 /*
  * The type alone, and its compression, from the parts of an input; or a part that it needs. The parts are lent as to
- * imagesize_probe_parts, and `wanted` is written as there; it is one that the type rests on.
+ * imagesize_parts_probe, and `wanted` is written as there; it is one that the type rests on.
  *
  * Else status, type and compression are those of imagesize_type over the whole input.
  */
@@ -230,7 +233,7 @@ uint32_t imagesize_parts_type(const uint8_t *bytes, size_t length, const imagesi
  * The size of the image in an input of which these parts are known, read as the type that has these two numbers; or a part that
  * it needs. The input may be of another type, whose bytes are read as those of this one. The compression changes no size.
  *
- * The parts are lent as to imagesize_probe_parts, and `wanted` is written as there; it is one that this size rests on. Else
+ * The parts are lent as to imagesize_parts_probe, and `wanted` is written as there; it is one that this size rests on. Else
  * the status says whether the whole input has a size of this type, or why it has none.
  *
  * Refusals: IMAGESIZE_UNKNOWN_TYPE where no type has these numbers, IMAGESIZE_END_OF_INPUT where the input ends before the size,
@@ -254,16 +257,16 @@ uint32_t imagesize_spans(const uint8_t *bytes, size_t length, imagesize_span *sp
  *
  * Refusals: IMAGESIZE_UNKNOWN_TYPE where no type has these two numbers, and nothing is told then; IMAGESIZE_BUFFER_TOO_SMALL.
  */
-uint32_t imagesize_type_name(uint32_t type, uint32_t compression, uint8_t *text, size_t room, size_t *written);
-uint32_t imagesize_compression_name(uint32_t type, uint32_t compression, uint8_t *text, size_t room, size_t *written);
-uint32_t imagesize_container_format(uint32_t type, uint32_t compression, uint8_t *text, size_t room, size_t *written);
+uint32_t imagesize_type_name(uint32_t type, uint32_t compression, char *text, size_t room, size_t *written);
+uint32_t imagesize_compression_name(uint32_t type, uint32_t compression, char *text, size_t room, size_t *written);
+uint32_t imagesize_container_format(uint32_t type, uint32_t compression, char *text, size_t room, size_t *written);
 
 /*
  * The text of a status, for people. The text of IMAGESIZE_NO_DELIMITER and of the two refused box sizes names no number.
  *
  * Refusals: IMAGESIZE_UNKNOWN_STATUS, and nothing is told then; IMAGESIZE_BUFFER_TOO_SMALL.
  */
-uint32_t imagesize_status_text(uint32_t status, uint8_t *text, size_t room, size_t *written);
+uint32_t imagesize_status_text(uint32_t status, char *text, size_t room, size_t *written);
 
 /*
  * The family of a type's compression; whether it is one of the block compressions, 1 or 0; and whether the type's container

@@ -1,61 +1,143 @@
-"""Builds the wheel, for pip. It is of the standard library alone, so that an installation needs nothing from the network.
+"""Builds the wheel, an editable wheel and the sdist, for pip. It is of the standard library alone, so that pip needs no network.
 
-The shared library is that of `examples/run build`, which is run where it has not been.
+The shared library is the one in the package's folder, as in an sdist, or else that of `examples/run build`, which is run where it
+has not been. Files carry the time in the environment's SOURCE_DATE_EPOCH, or else that of 1980, so that a build can be repeated.
 """
 
 from __future__ import annotations
 
+import ast
 import base64
+import gzip
 import hashlib
+import io
+import os
 import pathlib
+import re
 import subprocess
 import sysconfig
+import tarfile
+import time
 import zipfile
-from typing import Any, Dict, Iterator, Optional, Tuple
+from typing import Any, Dict, Iterator, List, Optional, Tuple
 
-NAME, VERSION = "imagesize_proved", "0.15.0"
-SUMMARY = "The type of an image and its width and height in pixels, from a few bytes, by a library that is proved"
 HERE = pathlib.Path(__file__).resolve().parent
-EXAMPLES = HERE.parent.parent / "examples"
-LIBRARY = EXAMPLES / "out" / "libimagesize.so"
-TAG = "py3-none-" + sysconfig.get_platform().replace("-", "_").replace(".", "_")
-INFO = f"{NAME}-{VERSION}.dist-info"
+TOP = HERE.parent.parent
+PACKAGE = "imagesize_proved"
+LIBRARY = "libimagesize.so"
+EPOCH = int(os.environ.get("SOURCE_DATE_EPOCH", "315532800"))
+
+Files = List[Tuple[str, bytes]]
+Settings = Optional[Dict[str, Any]]
 
 
-def build_wheel(
-    wheel_directory: str, config_settings: Optional[Dict[str, Any]] = None, metadata_directory: Optional[str] = None
-) -> str:
-    """Writes the wheel to a folder, and returns its name."""
-    if not LIBRARY.exists():
-        subprocess.run([str(EXAMPLES / "run"), "build"], check=True)
-    name = f"{NAME}-{VERSION}-{TAG}.whl"
-    record = f"{INFO}/RECORD"
-    with zipfile.ZipFile(pathlib.Path(wheel_directory) / name, "w", zipfile.ZIP_DEFLATED) as wheel:
-        lines = []
-        for place, data in files():
-            wheel.writestr(place, data)
-            digest = base64.urlsafe_b64encode(hashlib.sha256(data).digest()).rstrip(b"=").decode()
-            lines.append(f"{place},sha256={digest},{len(data)}\n")
-        wheel.writestr(record, "".join(lines) + f"{record},,\n")
+def build_wheel(wheel_directory: str, config_settings: Settings = None, metadata_directory: Optional[str] = None) -> str:
+    """Writes the wheel to a folder, and returns its name. The setting `platform` names its platform, as manylinux_2_17_x86_64."""
+    return write_wheel(wheel_directory, f"py3-none-{platform(config_settings)}", package())
+
+
+def build_editable(wheel_directory: str, config_settings: Settings = None, metadata_directory: Optional[str] = None) -> str:
+    """Writes a wheel that leads to this folder."""
+    library()
+    return write_wheel(wheel_directory, f"py3-none-{platform(config_settings)}", [(f"{PACKAGE}.pth", f"{HERE}\n".encode())])
+
+
+def build_sdist(sdist_directory: str, config_settings: Settings = None) -> str:
+    """Writes the sdist to a folder, and returns its name. It has the shared library in it, which pip cannot build."""
+    stem = f"{PACKAGE}-{project()['version']}"
+    parts = [("PKG-INFO", metadata().encode()), ("LICENSE", licence())]
+    parts += [(name, (HERE / name).read_bytes()) for name in ("README.md", "build_wheel.py", "pyproject.toml")]
+    packed = io.BytesIO()
+    with tarfile.open(fileobj=packed, mode="w", format=tarfile.PAX_FORMAT) as sdist:
+        for place, data in sorted(parts + package()):
+            member = tarfile.TarInfo(f"{stem}/{place}")
+            member.size, member.mtime, member.mode = len(data), EPOCH, 0o644
+            sdist.addfile(member, io.BytesIO(data))
+    (pathlib.Path(sdist_directory) / f"{stem}.tar.gz").write_bytes(gzip.compress(packed.getvalue(), mtime=EPOCH))
+    return f"{stem}.tar.gz"
+
+
+def platform(settings: Settings) -> str:
+    """The platform in the wheel's tag."""
+    here = sysconfig.get_platform().replace("-", "_").replace(".", "_")
+    return str((settings or {}).get("platform", here))
+
+
+def write_wheel(folder: str, tag: str, content: Files) -> str:
+    """Writes a wheel with some files and its own records."""
+    info = f"{PACKAGE}-{project()['version']}.dist-info"
+    content = content + [
+        (f"{info}/licenses/LICENSE", licence()),
+        (f"{info}/METADATA", metadata().encode()),
+        (f"{info}/WHEEL", wheel_records(tag).encode()),
+        (f"{info}/entry_points.txt", entry_points().encode()),
+    ]
+    lines = [f"{place},sha256={digest(data)},{len(data)}\n" for place, data in content]
+    content.append((f"{info}/RECORD", "".join([*lines, f"{info}/RECORD,,\n"]).encode()))
+    name = f"{PACKAGE}-{project()['version']}-{tag}.whl"
+    with zipfile.ZipFile(pathlib.Path(folder) / name, "w") as wheel:
+        for place, data in content:
+            member = zipfile.ZipInfo(place, time.gmtime(max(EPOCH, 315532800))[:6])
+            member.external_attr, member.compress_type = 0o644 << 16, zipfile.ZIP_DEFLATED
+            wheel.writestr(member, data)
     return name
 
 
-def files() -> Iterator[Tuple[str, bytes]]:
-    """Each file of the wheel, with its place in it."""
-    for source in sorted((HERE / NAME).glob("*.py")) + [HERE / NAME / "py.typed"]:
-        yield f"{NAME}/{source.name}", source.read_bytes()
-    yield f"{NAME}/{LIBRARY.name}", LIBRARY.read_bytes()
-    yield f"{INFO}/LICENSE", (EXAMPLES.parent / "LICENSE").read_bytes()
-    yield f"{INFO}/METADATA", metadata().encode()
-    yield f"{INFO}/WHEEL", f"Wheel-Version: 1.0\nGenerator: {NAME}\nRoot-Is-Purelib: false\nTag: {TAG}\n".encode()
+def wheel_records(tag: str) -> str:
+    """The file WHEEL. It has a line for each tag, of which a platform with dots stands for several."""
+    python, abi, platforms = tag.split("-")
+    tags = "".join(f"Tag: {python}-{abi}-{one}\n" for one in platforms.split("."))
+    return f"Wheel-Version: 1.0\nGenerator: {PACKAGE}\nRoot-Is-Purelib: false\n{tags}"
+
+
+def digest(data: bytes) -> str:
+    """The checksum of a file, as a wheel records it."""
+    return base64.urlsafe_b64encode(hashlib.sha256(data).digest()).rstrip(b"=").decode()
+
+
+def package() -> Files:
+    """Each file of the package, with its place."""
+    sources = sorted((HERE / PACKAGE).glob("*.py")) + [HERE / PACKAGE / "py.typed"]
+    return [(f"{PACKAGE}/{source.name}", source.read_bytes()) for source in sources] + [(f"{PACKAGE}/{LIBRARY}", library())]
+
+
+def library() -> bytes:
+    """The shared library, which is built where it is not there."""
+    packed, built = HERE / PACKAGE / LIBRARY, TOP / "examples" / "out" / LIBRARY
+    if not packed.exists() and not built.exists():
+        subprocess.run([str(TOP / "examples" / "run"), "build"], check=True)
+    return (packed if packed.exists() else built).read_bytes()
+
+
+def licence() -> bytes:
+    """The licence, which an sdist has beside this file."""
+    own = HERE / "LICENSE"
+    return (own if own.exists() else TOP / "LICENSE").read_bytes()
+
+
+def table(name: str) -> Iterator[Tuple[str, Any]]:
+    """The keys of a table of pyproject.toml, with their values: texts and lists of texts alone, which Python writes alike."""
+    text = (HERE / "pyproject.toml").read_text(encoding="utf-8")
+    (body,) = re.findall(rf"^\[{re.escape(name)}\]\n(.*?)(?=^\[|\Z)", text, re.MULTILINE | re.DOTALL)
+    for key, value in re.findall(r"^([\w-]+) = (.*?)(?=^[\w-]|\Z)", body, re.MULTILINE | re.DOTALL):
+        yield key, ast.literal_eval(value.strip())
+
+
+def project() -> Dict[str, Any]:
+    """The metadata in pyproject.toml."""
+    return dict(table("project"))
+
+
+def entry_points() -> str:
+    """The commands that an installation makes."""
+    return "[console_scripts]\n" + "".join(f"{name} = {target}\n" for name, target in table("project.scripts"))
 
 
 def metadata() -> str:
     """What pip shows of the package."""
-    head = f"Metadata-Version: 2.1\nName: {NAME}\nVersion: {VERSION}\nSummary: {SUMMARY}\nLicense: MIT\nRequires-Python: >=3.8\n"
-    return head + "Description-Content-Type: text/markdown\n\n" + (HERE / "README.md").read_text(encoding="utf-8")
-
-
-def build_sdist(sdist_directory: str, config_settings: Optional[Dict[str, Any]] = None) -> str:
-    """Is refused: the library is built from the repository."""
-    raise NotImplementedError("a wheel alone can be built; the library is built from the repository")
+    of = project()
+    lines = ["Metadata-Version: 2.4", f"Name: {of['name']}", f"Version: {of['version']}", f"Summary: {of['description']}"]
+    lines += [f"License-Expression: {of['license']}", *(f"License-File: {name}" for name in of["license-files"])]
+    lines += [f"Keywords: {','.join(of['keywords'])}", *(f"Classifier: {name}" for name in of["classifiers"])]
+    lines += [f"Requires-Python: {of['requires-python']}", "Description-Content-Type: text/markdown", ""]
+    return "\n".join([*lines, (HERE / of["readme"]).read_text(encoding="utf-8")])

@@ -1,4 +1,5 @@
-//! Finds the static library: in the folder that IMAGESIZE_LIB_DIR names, or else where pkg-config finds `imagesize`.
+//! Finds the static library: with the feature `vendored` in this package; else in the folder that IMAGESIZE_LIB_DIR names; else
+//! where pkg-config finds `imagesize`; else where `examples/run build` puts it in the repository that this package is in.
 
 use std::env;
 use std::path::{Path, PathBuf};
@@ -16,17 +17,27 @@ fn main() {
     for name in ["IMAGESIZE_LIB_DIR", "PKG_CONFIG", "PKG_CONFIG_PATH"] {
         println!("cargo:rerun-if-env-changed={name}");
     }
-    let found = match env::var_os("IMAGESIZE_LIB_DIR") {
-        Some(folder) => library_in(Path::new(&folder)),
-        None => installed().and_then(|folder| library_in(&folder)),
-    };
-    match found {
+    match found() {
         Ok(library) => link(&library),
         Err(reason) => {
             eprintln!("{reason}\n{HELP}");
             process::exit(1);
         }
     }
+}
+
+/// The library, or why there is none.
+fn found() -> Result<PathBuf, String> {
+    let package = PathBuf::from(env::var_os("CARGO_MANIFEST_DIR").unwrap_or_default());
+    if env::var_os("CARGO_FEATURE_VENDORED").is_some() {
+        return library_in(&package.join("vendor"));
+    }
+    if let Some(folder) = env::var_os("IMAGESIZE_LIB_DIR") {
+        return library_in(Path::new(&folder));
+    }
+    installed()
+        .and_then(|folder| library_in(&folder))
+        .or_else(|reason| library_in(&package.join("../../examples/out")).map_err(|_| reason))
 }
 
 /// The library's folder, as pkg-config tells it.

@@ -7,6 +7,7 @@ The calls are those of the library that is proved, `include/imagesize.h`, as Pyt
     Size(width=640, height=480)
 
 An image is bytes, a path, or an open binary file; `probe_with` and `probe_async` take a function that gives some of its bytes.
+`python -m imagesize_proved PATH..` prints type and size of files.
 """
 
 from ._calls import image_type, probe, probe_async, probe_with, size, spans
@@ -23,6 +24,8 @@ from ._types import (
     status_text,
 )
 
+__version__ = "0.15.0"
+
 __all__ = [
     "Compression",
     "Family",
@@ -33,6 +36,7 @@ __all__ = [
     "Size",
     "Span",
     "Status",
+    "__version__",
     "image_type",
     "probe",
     "probe_async",

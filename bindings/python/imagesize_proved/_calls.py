@@ -5,32 +5,36 @@ from __future__ import annotations
 import ctypes
 import os
 import sys
-from typing import TYPE_CHECKING, Awaitable, Callable, List, Union
+from typing import TYPE_CHECKING, Awaitable, Callable, List, Optional, Protocol, Tuple, TypeVar, Union
 
 from ._library import Told, probe_front, probe_whole, spans_of, type_of
-from ._parts import BLOCK, BUDGET, WANTED, Parts, first_block
+from ._parts import BLOCK, BUDGET, SPENT, WANTED, BytesLike, Parts, checked, first_block
 from ._types import ImageError, ImageType, Probed, Size, Span, Status, known_type
 
 if TYPE_CHECKING:
-    from typing import Protocol
+    _Path = os.PathLike[str]
+else:  # which takes no parameter before Python 3.9
+    _Path = os.PathLike
 
-    from ._parts import BytesLike
 
-    class BinaryFile(Protocol):
-        """An open binary file that can seek."""
+class BinaryFile(Protocol):
+    """An open binary file that can seek."""
 
-        def read(self, size: int, /) -> bytes: ...
+    def read(self, size: int, /) -> bytes: ...
 
-        def seek(self, place: int, whence: int = 0, /) -> object: ...
+    def seek(self, place: int, whence: int = 0, /) -> object: ...
 
-        def tell(self) -> int: ...
+    def tell(self) -> int: ...
 
-    Image = Union[BytesLike, str, "os.PathLike[str]", BinaryFile]
+
+Image = Union[BytesLike, str, _Path, BinaryFile]
+
+T = TypeVar("T")
 
 LIMIT = 1 << 16
 """The spans that are told at most, where a call names no other number."""
 
-_FLAGS = os.O_RDONLY | os.O_NONBLOCK  # so that a pipe without a writer does not wait
+_FLAGS = (os.O_RDONLY | os.O_NONBLOCK,)  # so that a pipe without a writer does not wait
 
 
 def probe(image: Image, *, budget: int = BUDGET) -> Probed:
@@ -39,17 +43,19 @@ def probe(image: Image, *, budget: int = BUDGET) -> Probed:
         >>> probe("photo.gif").size
         Size(width=640, height=480)
 
-    Of a file the blocks of 4096 bytes are read that have what the answer rests on, and larger ones behind the eighth. An open
-    file is read from its first byte on, and left at the place where it stood. Bytes have to be those of the whole file.
+    Of a file the blocks of 4096 bytes are read that the result depends on, and larger ones after the eighth. An open file is read
+    from its first byte on, and left at the offset where it was. Bytes have to be those of the whole file.
 
-    Raises `ImageError` where there is no answer: its `status` says why, and `BUDGET_SPENT` that more than `budget` bytes of a file
-    would be read. A file that cannot be read raises its `OSError`, and one that becomes shorter meanwhile `EOFError`.
+    Raises `ImageError` if there is no type or no size: its `status` says why. It is `BUDGET_SPENT` if more than `budget` bytes of a
+    file would be read. Raises `ValueError` if `budget` is not a whole number of at least 1. A file that cannot be read raises its
+    `OSError`, and one that becomes shorter meanwhile `EOFError`.
     """
+    budget = checked(budget)
     if type(image) is str:
-        return _probed(_told_at(image, budget))
+        return _probed(_at(image, budget, _told_in), image)
     if type(image) is bytes:
         return _probed(probe_whole(image))
-    return _probed(_told(image, budget))
+    return _probed(_told(image, budget), image)
 
 
 def size(image: Image, *, budget: int = BUDGET) -> Size:
@@ -58,13 +64,14 @@ def size(image: Image, *, budget: int = BUDGET) -> Size:
 
 
 def image_type(image: Image, *, budget: int = BUDGET) -> ImageType:
-    """The type, also of an image whose size is refused. Takes and raises what `probe` does.
+    """The type, also of an image whose size is an error. Takes and raises what `probe` does.
 
     Of bytes only those are looked at that tell the type, so that the first twelve of a file are enough for most types.
     """
+    budget = checked(budget)
     status, told = type_of(image) if type(image) is bytes else _told(image, budget)
     if not told[0]:
-        raise ImageError(status)
+        raise ImageError(status, None, _filename(image))
     return known_type(told[0], told[1])
 
 
@@ -74,9 +81,10 @@ def probe_with(fetch: Callable[[int, int], BytesLike], total: int, *, budget: in
         >>> probe_with(lambda start, length: blob[start : start + length], len(blob))
 
     It is asked for bytes within the input, mostly for blocks of 4096, and for at most `budget` in all. Raises what it raises,
-    `EOFError` where it gives fewer bytes than it was asked for, `ValueError` where it gives more, and `ImageError` as `probe` does.
+    `EOFError` where it gives fewer bytes than it was asked for, `ValueError` where it gives more, and else as `probe` does.
     """
-    first = first_block(total)
+    budget = checked(budget)
+    first = first_block(total, budget)
     parts = Parts(fetch(0, first) if first else b"", total, budget)
     while parts.length:
         parts.add(fetch(parts.start, parts.length))
@@ -90,7 +98,8 @@ async def probe_async(
 
     As `probe_with`.
     """
-    first = first_block(length)
+    budget = checked(budget)
+    first = first_block(length, budget)
     parts = Parts(await read(0, first) if first else b"", length, budget)
     while parts.length:
         parts.add(await read(parts.start, parts.length))
@@ -98,76 +107,105 @@ async def probe_async(
 
 
 def spans(image: Image, *, limit: int = LIMIT, budget: int = BUDGET) -> List[Span]:
-    """The bytes that type and size rest on, a span for each reading, in their order, repeats kept.
+    """The bytes that type and size depend on, a span for each reading, in their order, repeats kept.
 
-    Every other input of this length that has the same bytes there has the same type and size, or the same refusal. Takes what
-    `probe` does. Raises `ImageError` with `BUFFER_TOO_SMALL` where there are more than `limit` spans, and else as `probe`, but for
-    the refusals of the image.
+    Every other input of this length that has the same bytes there has the same type and size, or the same error. Takes what
+    `probe` does. Raises `ImageError` with `BUFFER_TOO_SMALL` where there are more than `limit` spans, and with `OUT_OF_MEMORY`
+    where a file is longer than the addresses that the process may have. Else raises as `probe`, but not the errors of the image.
     """
-    if type(image) is bytes:
-        told = spans_of(image, len(image), limit)
-    else:
-        parts = _parts(image, budget)
-        told = spans_of(ctypes.c_char.from_buffer(parts.filled()), parts.total, limit) if parts.total else []
-    if told is None:
-        raise ImageError(Status.BUFFER_TOO_SMALL)
+    status, told = _spans(image, limit, checked(budget))
+    if status:
+        raise ImageError(status, None, _filename(image))
     return list(map(Span, told[::2], told[1::2]))
 
 
-def _probed(told: Told) -> Probed:
+def _spans(image: Image, limit: int, budget: int) -> Tuple[int, List[int]]:
+    if type(image) is bytes:
+        return spans_of(image, len(image), limit)
+    parts = _parts(image, budget)
+    if parts.told is SPENT or not parts.total:
+        return SPENT[0] if parts.told is SPENT else 0, []
+    filled = parts.filled()
+    if filled is None:
+        return Status.OUT_OF_MEMORY, []
+    return spans_of(ctypes.c_char.from_buffer(filled), parts.total, limit)
+
+
+def _probed(told: Told, image: object = None) -> Probed:
     status, (number, compression, width, height, _, _) = told
     if status:
-        raise ImageError(status, known_type(number, compression) if number else None)
+        raise ImageError(status, known_type(number, compression) if number else None, _filename(image))
     return Probed(known_type(number, compression), Size(width, height))
+
+
+def _filename(image: object) -> Optional[str]:
+    name = os.fspath(image) if isinstance(image, (str, os.PathLike)) else getattr(image, "name", None)
+    return name if isinstance(name, str) else None
 
 
 def _told(image: Image, budget: int) -> Told:
     if isinstance(image, (str, os.PathLike)):
-        return _told_at(image, budget)
+        return _at(image, budget, _told_in)
     return _parts(image, budget).told
-
-
-def _told_at(path: Union[str, "os.PathLike[str]"], budget: int) -> Told:
-    file = os.open(path, _FLAGS)
-    try:
-        front = os.pread(file, BLOCK, 0)  # refuses a folder and a pipe
-        total = os.lseek(file, 0, os.SEEK_END)
-        if total < BLOCK:
-            front = front[:total]
-        told = probe_front(front, total)
-        if told[0] != WANTED:
-            return told
-        parts = Parts(front, total, budget, told)
-        while parts.length:
-            parts.add(os.pread(file, parts.length, parts.start))
-        return parts.told
-    except OSError as error:
-        error.filename = os.fspath(path)
-        raise
-    finally:
-        os.close(file)
 
 
 def _parts(image: Image, budget: int) -> Parts:
     if isinstance(image, (str, os.PathLike)):
-        with open(image, "rb", buffering=0, opener=lambda path, _: os.open(path, _FLAGS)) as file:
-            return _parts_in(file, budget)
+        return _at(image, budget, _parts_in)
     try:
         view = memoryview(image)  # type: ignore[arg-type]
     except TypeError:
-        return _parts_in(image, budget)  # type: ignore[arg-type]
+        return _parts_of_file(image, budget)  # type: ignore[arg-type]
     with view:
-        return _parts_of(view)
+        return _parts_of_view(view)
 
 
-def _parts_in(file: BinaryFile, budget: int) -> Parts:
+def _at(path: Union[str, _Path], budget: int, read: Callable[[int, int], T]) -> T:
+    """What `read` returns of the file at a path. Whatever is raised, also by a signal handler, the file is closed."""
+    opened: List[int] = []
+    try:
+        opened.extend(map(os.open, (path,), _FLAGS))  # one step: a signal handler runs before it or after it
+        return read(opened[0], budget)
+    except OSError as error:
+        error.filename = os.fspath(path)
+        raise
+    except EOFError as error:
+        raise EOFError(f"{os.fspath(path)}: {error}") from None
+    finally:
+        if opened:
+            os.close(opened[0])
+
+
+def _front(file: int, budget: int) -> Tuple[bytes, int]:
+    front = os.pread(file, BLOCK if budget > BLOCK else budget, 0)  # refuses a folder and a pipe
+    total = os.lseek(file, 0, os.SEEK_END)
+    return front if total >= BLOCK else front[:total], total
+
+
+def _told_in(file: int, budget: int) -> Told:
+    front, total = _front(file, budget)
+    told = probe_front(front, total)
+    return told if told[0] != WANTED else _followed(file, Parts(front, total, budget, told)).told
+
+
+def _parts_in(file: int, budget: int) -> Parts:
+    return _followed(file, Parts(*_front(file, budget), budget))
+
+
+def _followed(file: int, parts: Parts) -> Parts:
+    while parts.length:
+        parts.add(os.pread(file, parts.length, parts.start))
+    return parts
+
+
+def _parts_of_file(file: BinaryFile, budget: int) -> Parts:
     if not hasattr(file, "read"):
         raise TypeError(f"an image is bytes, a path or an open binary file, and not {type(file).__name__}")
     place = file.tell()
     try:
         file.seek(0, os.SEEK_END)
         total = file.tell()
-        parts = Parts(_read(file, 0, first_block(total)), total, budget)
+        parts = Parts(_read(file, 0, first_block(total, budget)), total, budget)
         while parts.length:
             parts.add(_read(file, parts.start, parts.length))
         return parts
@@ -184,7 +222,7 @@ def _read(file: BinaryFile, start: int, length: int) -> bytes:
     return data
 
 
-def _parts_of(view: memoryview) -> Parts:
+def _parts_of_view(view: memoryview) -> Parts:
     if view.ndim != 1 or view.itemsize != 1:
         view = memoryview(bytes(view))
     parts = Parts(view[:BLOCK], view.nbytes, sys.maxsize)

@@ -122,16 +122,16 @@ def probe_parts(known: bytes, spans: "array[int]", total: int) -> Told:
     return told
 
 
-def spans_of(data: Union[bytes, ctypes.c_char], length: int, limit: int) -> Optional[List[int]]:
-    """Start and length of each span that an answer rests on; None where there are more than `limit`."""
+def spans_of(data: Union[bytes, ctypes.c_char], length: int, limit: int) -> Tuple[int, List[int]]:
+    """A status, and start and length of each span that an answer rests on. More spans than `limit` are an error."""
     place = data if isinstance(data, bytes) else ctypes.byref(data)
     size, count = ctypes.c_size_t(length), ctypes.c_size_t()
-    _spans(place, size, (ctypes.c_uint64 * 2)(), ctypes.c_size_t(), ctypes.byref(count))
+    status = _spans(place, size, (ctypes.c_uint64 * 2)(), ctypes.c_size_t(), ctypes.byref(count))
     if count.value > limit:
-        return None
+        return status, []
     room = (ctypes.c_uint64 * (2 * count.value + 2))()
-    _spans(place, size, room, count, ctypes.byref(count))
-    return room[: 2 * count.value]
+    status = _spans(place, size, room, count, ctypes.byref(count))
+    return status, room[: 2 * count.value]
 
 
 def text(call: str, *numbers: int) -> Optional[str]:

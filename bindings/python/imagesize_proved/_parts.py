@@ -2,15 +2,21 @@
 
 from __future__ import annotations
 
+import errno
 import mmap
+import operator
 from array import array
 from typing import TYPE_CHECKING, Optional, Union
 
 from ._library import Told, probe_front, probe_parts
-from ._types import ImageError, Status
+from ._types import Status
 
 if TYPE_CHECKING:
-    BytesLike = Union[bytes, bytearray, memoryview, mmap.mmap, "array[int]"]
+    _Array = array[int]
+else:  # which takes no parameter before Python 3.12
+    _Array = array
+
+BytesLike = Union[bytes, bytearray, memoryview, mmap.mmap, _Array]
 
 BLOCK = 4096
 """The bytes of a block. What is wanted is fetched with the blocks around it."""
@@ -20,18 +26,36 @@ BUDGET = 64 << 20
 
 WANTED = int(Status.BYTES_WANTED)
 
+SPENT: Told = (Status.BUDGET_SPENT, [0] * 6)
 
-def first_block(total: int) -> int:
+_SPARSE = mmap.MAP_PRIVATE | mmap.MAP_ANONYMOUS | 0x4000  # MAP_NORESERVE of Linux, which Python names since 3.13
+
+
+def checked(budget: int) -> int:
+    """A budget. Raises `ValueError` where it is not a whole number of at least 1."""
+    if budget is BUDGET:
+        return budget
+    try:
+        whole = operator.index(budget)
+    except TypeError:
+        whole = 0
+    if whole < 1:
+        raise ValueError(f"a budget is a whole number of bytes, at least 1, and not {budget!r}")
+    return whole
+
+
+def first_block(total: int, budget: int) -> int:
     """The bytes in the first block of an input of `total` bytes. Raises `ValueError` where no input is as long."""
     if not 0 <= total < 1 << 63:
         raise ValueError(f"an input has from 0 to 2^63-1 bytes, and not {total}")
-    return total if total < BLOCK else BLOCK
+    return min(total, BLOCK, budget)
 
 
 class Parts:
     """The parts of an input of `total` bytes that are known, beginning with its first block, of which the library may have told.
 
-    Wanted are `length` bytes from place `start` on. Where `length` is 0 no more are wanted, and `told` stands.
+    Wanted are `length` bytes from place `start` on. Where `length` is 0 no more are wanted, and `told` stands: the library's answer,
+    or `SPENT` where it wants more than `budget` bytes.
     """
 
     __slots__ = ("total", "budget", "known", "spans", "rounds", "start", "last", "length", "told")
@@ -40,7 +64,7 @@ class Parts:
         self.total = total
         self.budget = budget
         self.start = self.last = 0
-        self.length = first_block(total)
+        self.length = first_block(total, budget)
         self.known = self._taken(front)
         self.spans = array("Q", (0, self.length))
         self.rounds = 1
@@ -60,9 +84,17 @@ class Parts:
         self.told = probe_parts(self.known, self.spans, self.total)
         self._go_on()
 
-    def filled(self) -> mmap.mmap:
-        """An input of this length that has the known parts, and zeros elsewhere."""
-        room = mmap.mmap(-1, self.total, mmap.MAP_PRIVATE | mmap.MAP_ANONYMOUS)
+    def filled(self) -> Optional[mmap.mmap]:
+        """An input of this length that has the known parts, and zeros elsewhere; None where there is no memory for it.
+
+        Memory is taken for the known parts alone.
+        """
+        try:
+            room = mmap.mmap(-1, self.total, _SPARSE)
+        except OSError as error:
+            if error.errno != errno.ENOMEM:
+                raise
+            return None
         taken = 0
         for start, length in zip(self.spans[::2], self.spans[1::2]):
             room[start : start + length] = self.known[taken : taken + length]
@@ -94,4 +126,4 @@ class Parts:
             end = min(end, *(known for known in self.spans[::2] if known > start))
         self.length = end - self.start
         if len(self.known) + self.length > self.budget:
-            raise ImageError(Status.BUDGET_SPENT)
+            self.told, self.length = SPENT, 0

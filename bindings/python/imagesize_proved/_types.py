@@ -1,11 +1,11 @@
-"""What the calls answer: types of images, sizes, spans, and refusals."""
+"""What the calls return: types of images, sizes, spans, and errors."""
 
 from __future__ import annotations
 
 import dataclasses
 import functools
 from enum import IntEnum
-from typing import Any, NamedTuple, Optional, Tuple
+from typing import Any, Dict, NamedTuple, Optional, Tuple
 
 from ._library import number, text
 
@@ -46,6 +46,37 @@ class Status(IntEnum):
     BYTES_WANTED = 30
 
 
+_MESSAGES: Dict[Status, str] = {
+    Status.NOT_SUPPORTED: "the bytes are of no known image type",
+    Status.CORRUPTED_IMAGE: "the records are malformed, or end before the size",
+    Status.FAULT: "the bytes cannot be read",
+    Status.END_OF_INPUT: "the file ends before its size",
+    Status.NOT_ENOUGH_DATA: "no property of the image is its size",
+    Status.BUDGET_SPENT: "the size needs more bytes than the budget",
+    Status.OUT_OF_MEMORY: "there is not enough memory",
+    Status.NO_DELIMITER: "a word, a line or a name is too long",
+    Status.NOT_UTF8: "a text is not UTF-8",
+    Status.INVALID_HEIF_BOX_SIZE: "a box is smaller than its own header",
+    Status.INVALID_JXL_BOX_SIZE: "a box is smaller than its own header",
+    Status.INVALID_JXL_SIGNATURE: "the codestream has a wrong signature",
+    Status.INVALID_TIFF_HEADER: "the header has no known byte order or version",
+    Status.BIG_TIFF_OFFSET_SIZE: "the offsets of a BigTIFF are not 8 bytes long",
+    Status.INVALID_BIG_TIFF_HEADER: "two bytes of the header that are always 0 are not 0",
+    Status.INVALID_IFD_OFFSET: "the directory is at offset 0",
+    Status.IFD_TYPE_FOR_STANDARD_TIFF: "an entry has a field type that only a BigTIFF may have",
+    Status.INVALID_IFD_TYPE: "an entry has an unknown field type",
+    Status.INVALID_IFD_VALUE_LENGTH: "the file ends within the value of an entry",
+    Status.NO_DIMENSIONS_IN_IFD: "the directory has no width or no height",
+    Status.INVALID_VP8_TAG: "the first chunk is of an unknown kind",
+    Status.DATA_WINDOW_NOT_FOUND: "the header has no data window",
+    Status.INVALID_HDR_IDENTIFIER: "the first line is not that of a Radiance image",
+    Status.INVALID_HDR_DIMENSIONS_LINE: "the line of the size does not have four words",
+    Status.HDR_DIMENSIONS_NOT_FOUND: "the width or the height is not a number",
+    Status.PNM_DIMENSIONS_NOT_FOUND: "the width or the height is not a number",
+    Status.BUFFER_TOO_SMALL: "there are more spans than the limit",
+}
+
+
 class Kind(IntEnum):
     """The types of images, without their compressions."""
 
@@ -77,7 +108,10 @@ class Kind(IntEnum):
 
 
 class Compression(IntEnum):
-    """The compressions of the types that have one. `UNKNOWN` is one that is none of the others."""
+    """The compressions of textures and of HEIF. A type without one has `NO_COMPRESSION`.
+
+    `UNKNOWN_COMPRESSION` is a compression that is none of the others.
+    """
 
     NO_COMPRESSION = 0
     UNKNOWN_COMPRESSION = 1
@@ -127,6 +161,39 @@ class Family(IntEnum):
     UNCOMPRESSED = 7
 
 
+_MEDIA: Dict[Kind, Tuple[Optional[str], str]] = {
+    Kind.ASEPRITE: (None, ".aseprite"),
+    Kind.ASTC: ("image/astc", ".astc"),
+    Kind.ATC: (None, ".pkm"),
+    Kind.BMP: ("image/bmp", ".bmp"),
+    Kind.DDS: ("image/x-dds", ".dds"),
+    Kind.EAC: (None, ".pkm"),
+    Kind.ETC2: (None, ".pkm"),
+    Kind.EXR: ("image/x-exr", ".exr"),
+    Kind.FARBFELD: (None, ".ff"),
+    Kind.GIF: ("image/gif", ".gif"),
+    Kind.HDR: ("image/vnd.radiance", ".hdr"),
+    Kind.HEIF: ("image/heif", ".heif"),
+    Kind.ICO: ("image/vnd.microsoft.icon", ".ico"),
+    Kind.ILBM: ("image/x-ilbm", ".iff"),
+    Kind.JPEG: ("image/jpeg", ".jpg"),
+    Kind.JXL: ("image/jxl", ".jxl"),
+    Kind.KTX2: ("image/ktx2", ".ktx2"),
+    Kind.PNM: ("image/x-portable-anymap", ".pnm"),
+    Kind.PVRTC: (None, ".pvr"),
+    Kind.PSD: ("image/vnd.adobe.photoshop", ".psd"),
+    Kind.QOI: ("image/qoi", ".qoi"),
+    Kind.TGA: ("image/x-tga", ".tga"),
+    Kind.TIFF: ("image/tiff", ".tif"),
+    Kind.VTF: ("image/vnd.valve.source.texture", ".vtf"),
+    Kind.WEBP: ("image/webp", ".webp"),
+}
+_HEIF_MEDIA = {
+    Compression.HEIF_AV1: ("image/avif", ".avif"),
+    Compression.HEIF_HEVC: ("image/heic", ".heic"),
+}
+
+
 class Size(NamedTuple):
     """A width and a height, in pixels."""
 
@@ -169,6 +236,16 @@ class ImageType:
         return self._text("imagesize_compression_name") or None
 
     @property
+    def mime_type(self) -> Optional[str]:
+        """The MIME type, as "image/jpeg"; None for a type that has none. A HEIF with AV1 is "image/avif", with HEVC "image/heic"."""
+        return self._media[0]
+
+    @property
+    def extension(self) -> str:
+        """The usual extension of a file of this type, with its dot, as ".jpg"."""
+        return self._media[1]
+
+    @property
     def container_format(self) -> Optional[str]:
         """The name of the container, for types whose images stand in one."""
         return self._text("imagesize_container_format") or None
@@ -189,6 +266,10 @@ class ImageType:
         """Whether the container can hold textures of several compression families."""
         return self._number("imagesize_is_multi_compression_container") == 1
 
+    @property
+    def _media(self) -> Tuple[Optional[str], str]:
+        return _HEIF_MEDIA.get(self.compression, _MEDIA[self.kind])
+
     def __str__(self) -> str:
         compression = self.compression_name
         return f"{self.name}({compression})" if compression else self.name
@@ -208,18 +289,33 @@ class Probed(NamedTuple):
 
 
 class ImageError(Exception):
-    """An image has no answer. It prints as a text that a person can read.
+    """An image has no type or no size. It prints as a message for people, as "photo.jpg: Jpeg: the file ends before its size".
 
-    `status` says why, and `image_type` is the type where one was found.
+    `status` says why, and `message` says it in words. `text` is the library's own text of the status. `image_type` is the type
+    where one was found, and `filename` the path where there is one; both can be None.
     """
 
-    def __init__(self, status: int, image_type: Optional[ImageType] = None) -> None:
+    def __init__(self, status: int, image_type: Optional[ImageType] = None, filename: Optional[str] = None) -> None:
         self.status = Status(status)
         self.image_type = image_type
-        super().__init__(status_text(self.status))
+        self.filename = filename
+        super().__init__(self.status)
+
+    @property
+    def message(self) -> str:
+        """Why there is no answer, in words."""
+        return _MESSAGES.get(self.status) or self.text
+
+    @property
+    def text(self) -> str:
+        """The library's own text of the status, as "failed to fill whole buffer"."""
+        return status_text(self.status)
+
+    def __str__(self) -> str:
+        return ": ".join(str(word) for word in (self.filename, self.image_type, self.message) if word is not None)
 
     def __reduce__(self) -> Tuple[Any, ...]:
-        return type(self), (self.status, self.image_type), self.__dict__
+        return type(self), (self.status, self.image_type, self.filename), self.__dict__
 
 
 def status_text(status: int) -> str:

@@ -1,26 +1,75 @@
-"""The package as pip installs it, with no network."""
+"""The package as pip installs it, with no network: from the folder, in place, and from an sdist away from the repository."""
 
 import os
 import pathlib
+import re
 import subprocess
 import sys
 import tempfile
 import unittest
+import zipfile
+
+import build_wheel
+import imagesize_proved
 
 HERE = pathlib.Path(__file__).resolve().parent
+SCRIPT = "import imagesize_proved as i; print(i.__file__, i.__version__, i.probe(b'GIF89a\\x80\\x02\\xe0\\x01\\0\\0').size)"
 
 
 class Install(unittest.TestCase):
-    def test_install(self) -> None:
+    def setUp(self) -> None:
+        folder = tempfile.TemporaryDirectory()
+        self.addCleanup(folder.cleanup)
+        self.folder = folder.name
+
+    def pip_install(self, *arguments: str) -> None:
+        """Installs into the folder."""
         try:
             import pip  # noqa: F401
         except ImportError:
             self.skipTest("no pip here")
-        with tempfile.TemporaryDirectory() as folder:
-            pip_install = [sys.executable, "-m", "pip", "install", "--quiet", "--no-index", "--target", folder, str(HERE.parent)]
-            subprocess.run(pip_install, check=True, stdout=subprocess.PIPE, stderr=subprocess.STDOUT)
-            environment = {**os.environ, "PYTHONPATH": folder}
-            environment.pop("IMAGESIZE_LIBRARY", None)
-            script = "import imagesize_proved as i; print(i.__file__, i.probe(b'GIF89a\\x80\\x02\\xe0\\x01\\0\\0').size)"
-            said = subprocess.run([sys.executable, "-c", script], check=True, env=environment, cwd=folder, stdout=subprocess.PIPE)
-            self.assertEqual(said.stdout.decode(), f"{folder}/imagesize_proved/__init__.py Size(width=640, height=480)\n")
+        command = [sys.executable, "-m", "pip", "install", "--quiet", "--no-index", "--target", self.folder, *arguments]
+        subprocess.run(command, check=True, stdout=subprocess.PIPE, stderr=subprocess.STDOUT)
+
+    def said(self, command: str) -> str:
+        """What a command in Python prints, which has the folder on its path as site-packages are."""
+        environment = {**os.environ}
+        environment.pop("IMAGESIZE_LIBRARY", None)
+        script = f"import site; site.addsitedir({self.folder!r}); {command}"
+        run = subprocess.run([sys.executable, "-c", script], check=True, env=environment, cwd=self.folder, stdout=subprocess.PIPE)
+        return run.stdout.decode()
+
+    def wanted(self, folder: object) -> str:
+        return f"{folder}/imagesize_proved/__init__.py {imagesize_proved.__version__} Size(width=640, height=480)\n"
+
+    def test_install(self) -> None:
+        self.pip_install(str(HERE.parent))
+        self.assertEqual(self.said(SCRIPT), self.wanted(self.folder))
+        metadata = "import importlib.metadata as m; print(m.version('imagesize-proved'), *m.metadata('imagesize-proved').get_all('Keywords'))"
+        self.assertRegex(self.said(metadata), rf"^{re.escape(imagesize_proved.__version__)} image,size")
+        run = subprocess.run([f"{self.folder}/bin/imagesize-proved", "/none"], env={**os.environ, "PYTHONPATH": self.folder},
+                             stdout=subprocess.PIPE)
+        self.assertEqual((run.returncode, run.stdout.decode().split()[-6:]), (1, "/none: No such file or directory".split()[-6:]))
+
+    def test_editable_install(self) -> None:
+        with tempfile.TemporaryDirectory() as wheels:
+            name = build_wheel.build_editable(wheels)
+            self.pip_install(str(pathlib.Path(wheels) / name))
+        self.assertEqual(self.said(SCRIPT), self.wanted(HERE.parent))
+
+    def test_sdist(self) -> None:
+        with tempfile.TemporaryDirectory() as sources:
+            name = build_wheel.build_sdist(sources)
+            self.assertEqual(name, f"imagesize_proved-{imagesize_proved.__version__}.tar.gz")
+            self.pip_install(str(pathlib.Path(sources) / name))
+        self.assertEqual(self.said(SCRIPT), self.wanted(self.folder))
+
+    def test_tag(self) -> None:
+        name = build_wheel.build_wheel(self.folder, {"platform": "manylinux_2_17_x86_64.manylinux2014_x86_64"})
+        self.assertTrue(name.endswith("-py3-none-manylinux_2_17_x86_64.manylinux2014_x86_64.whl"))
+        with zipfile.ZipFile(pathlib.Path(self.folder) / name) as wheel:
+            records = wheel.read(f"imagesize_proved-{imagesize_proved.__version__}.dist-info/WHEEL").decode()
+        self.assertIn("Tag: py3-none-manylinux_2_17_x86_64\nTag: py3-none-manylinux2014_x86_64\n", records)
+
+    def test_one_version(self) -> None:
+        self.assertEqual(build_wheel.project()["version"], imagesize_proved.__version__)

@@ -86,8 +86,8 @@ class Remote(unittest.TestCase):
         self.assertEqual(self.line("good/gif"), (True, "Gif 640x480 (1 request, 12 of 12 bytes)"))
         self.assertEqual(self.line("good/jpeg"), (True, f"Jpeg 7x5 (4 requests, 15302 of {len(IMAGE)} bytes)"))
         self.assertEqual(self.line("long/gif"), (True, "Gif 640x480 (1 request, 12 of 12 bytes)"))
-        self.assertEqual(self.line("good/text"), (False, "Could not decode image (1 request, 35 of 35 bytes)"))
-        self.assertEqual(self.line("good/empty"), (False, "failed to fill whole buffer (1 request, 0 of 0 bytes)"))
+        self.assertEqual(self.line("good/text"), (False, "the bytes are of no known image type (1 request, 35 of 35 bytes)"))
+        self.assertEqual(self.line("good/empty"), (False, "the file ends before its size (1 request, 0 of 0 bytes)"))
 
     def test_faults(self) -> None:
         for fault, error in {

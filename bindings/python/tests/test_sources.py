@@ -2,12 +2,16 @@
 
 import array
 import asyncio
+import errno
 import io
 import os
 import pathlib
+import signal
 import struct
+import sys
 import tempfile
 import unittest
+from functools import partial
 from typing import Any, List, Tuple
 from unittest import mock
 
@@ -122,6 +126,38 @@ class Reading(unittest.TestCase):
         self.assertIs(raised.exception.status, Status.BUDGET_SPENT)
         self.assertEqual(imagesize.probe(bytearray(jpeg(40)), budget=20000).size, (7, 5))
 
+    def test_budget_of_the_first_block(self) -> None:
+        """No source gives more bytes than the budget, and eleven tell no type."""
+        image = Sliced(GIF + bytes(8000))
+        for budget, found in ((1, None), (11, None), (12, (640, 480)), (100, (640, 480))):
+            image.fetched.clear()
+            with tempfile.NamedTemporaryFile() as file:
+                file.write(image.data)
+                file.flush()
+                calls: List[Any] = [image.probe, *(partial(imagesize.size, form) for form in (file.name, file))]
+                for call in calls:
+                    if found:
+                        self.assertEqual(call(budget=budget), found)
+                        continue
+                    with self.assertRaises(ImageError) as raised:
+                        call(budget=budget)
+                    self.assertIs(raised.exception.status, Status.BUDGET_SPENT)
+            self.assertEqual(image.fetched, [(0, budget)])
+
+    def test_budget_is_a_whole_number(self) -> None:
+        async def read(start: int, length: int) -> bytes:
+            return GIF
+
+        image = Sliced(GIF)
+        both: List[Any] = [imagesize.probe, imagesize.spans]
+        calls: List[Any] = [partial(call, form) for call in both for form in (GIF, io.BytesIO(GIF), "/none")]
+        calls += [image.probe, lambda budget: asyncio.run(imagesize.probe_async(read, 12, budget=budget))]
+        wrong: Any
+        for wrong in (0, -1, 1.5, "64", None, float("nan")):
+            for call in calls:
+                self.assertRaisesRegex(ValueError, "whole number", call, budget=wrong)
+        self.assertEqual(image.fetched, [])
+
     def test_limit(self) -> None:
         data = jpeg(10, 2)
         self.assertEqual(len(imagesize.spans(data, limit=24)), 24)
@@ -144,6 +180,16 @@ class Reading(unittest.TestCase):
             file.write(GIF)
             file.truncate(3 << 30)
             self.assertEqual(imagesize.spans(file.name), [(0, 12), (6, 2), (8, 2)])
+
+    def test_spans_of_a_file_larger_than_memory(self) -> None:
+        with tempfile.NamedTemporaryFile() as file:
+            file.write(GIF)
+            file.truncate(40 << 30)
+            self.assertEqual(imagesize.spans(file.name), [(0, 12), (6, 2), (8, 2)])
+            with mock.patch("mmap.mmap", side_effect=OSError(errno.ENOMEM, "Cannot allocate memory")):
+                with self.assertRaises(ImageError) as raised:
+                    imagesize.spans(file.name)
+        self.assertIs(raised.exception.status, Status.OUT_OF_MEMORY)
 
     def test_place_of_an_open_file_stays(self) -> None:
         for data in (GIF, GIF[:3]):
@@ -202,7 +248,7 @@ class Failing(unittest.TestCase):
             file.write(data[:70000])
             file.flush()
             with mock.patch("os.lseek", return_value=len(data)):
-                self.assertRaises(EOFError, imagesize.probe, file.name)
+                self.assertRaisesRegex(EOFError, file.name, imagesize.probe, file.name)
             with mock.patch("os.lseek", return_value=10):
                 self.assertRaises(ImageError, imagesize.probe, file.name)
         self.assertEqual(imagesize.probe(Halting(data, len(data))).size, (7, 5))
@@ -231,3 +277,37 @@ class Failing(unittest.TestCase):
             for _ in range(20):
                 self.assertRaises((OSError, ImageError), imagesize.probe, path)
         self.assertLess(len(os.listdir("/proc/self/fd")), before + 20)
+
+    @unittest.skipIf(sys.version_info < (3, 10), "a handler may run at the beginning of a finally clause")
+    def test_descriptors_are_closed_where_a_signal_handler_raises(self) -> None:
+        class Interrupted(Exception):
+            pass
+
+        armed = False
+        calls: List[Any] = [imagesize.probe, imagesize.spans]
+
+        def interrupt(*_: Any) -> None:
+            nonlocal armed
+            if armed:
+                armed = False
+                raise Interrupted
+
+        handler = signal.signal(signal.SIGALRM, interrupt)
+        with tempfile.NamedTemporaryFile() as file:
+            file.write(GIF)
+            file.flush()
+            before, interrupted = os.listdir("/proc/self/fd"), 0
+            try:
+                for number in range(20000):
+                    try:
+                        armed = True
+                        signal.setitimer(signal.ITIMER_REAL, 2e-6 + number % 400 * 1e-7)
+                        calls[number % 2](file.name)
+                        armed = False
+                    except Interrupted:
+                        interrupted += 1
+            finally:
+                signal.setitimer(signal.ITIMER_REAL, 0)
+                signal.signal(signal.SIGALRM, handler)
+            self.assertEqual(os.listdir("/proc/self/fd"), before)
+            self.assertGreater(interrupted, 100)

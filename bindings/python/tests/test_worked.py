@@ -23,12 +23,19 @@ def rows() -> Iterator[Tuple[bytes, str, str]]:
         yield bytes.fromhex(data.replace("-", "")), line, spans
 
 
+def surprises() -> Iterator[Tuple[bytes, str]]:
+    """The bytes and the line of each input that README says may surprise."""
+    for row in (EXAMPLES / "surprises.tsv").read_text().splitlines()[1:]:
+        _, data, line = row.split("\t")
+        yield bytes.fromhex(data), line
+
+
 def line(call: Callable[..., imagesize.Probed], *arguments: Any) -> str:
     """The line about what a call answers."""
     try:
         found, size = call(*arguments)
     except imagesize.ImageError as error:
-        return f"{error.image_type}: {error}" if error.image_type else str(error)
+        return f"{error.image_type}: {error.text}" if error.image_type else error.text
     return f"{found} {size.width}x{size.height}"
 
 
@@ -67,6 +74,13 @@ class Worked(unittest.TestCase):
                     with self.subTest(data=data, form=type(form)):
                         self.assertEqual(line(imagesize.probe, form), wanted)
 
+    def test_surprises(self) -> None:
+        self.assertEqual(len(list(surprises())), 8)
+        for data, wanted in surprises():
+            self.path.write_bytes(data)
+            with self.subTest(wanted=wanted):
+                self.assertEqual((line(imagesize.probe, data), line(imagesize.probe, self.path)), (wanted, wanted))
+
     def test_parts(self) -> None:
         for data, wanted, _ in rows():
             with self.subTest(data=data):
@@ -87,7 +101,9 @@ class Worked(unittest.TestCase):
                     if found:
                         self.assertEqual(str(imagesize.image_type(form)), found[1])
                     else:
-                        self.assertRaisesRegex(imagesize.ImageError, wanted, imagesize.image_type, form)
+                        with self.assertRaises(imagesize.ImageError) as raised:
+                            imagesize.image_type(form)
+                        self.assertEqual(raised.exception.text, wanted)
 
     def test_threads(self) -> None:
         worked = [(data, wanted) for data, wanted, _ in rows()]

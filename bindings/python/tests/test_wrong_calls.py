@@ -4,8 +4,11 @@ import copy
 import os
 import pathlib
 import pickle
+import re
 import subprocess
 import sys
+import tempfile
+import typing
 import unittest
 from concurrent.futures import ProcessPoolExecutor
 from typing import Any
@@ -50,6 +53,60 @@ class Values(unittest.TestCase):
         for status in (2**32, -1, 31):
             self.assertRaises(ValueError, ImageError, status)
             self.assertRaises(ValueError, imagesize.status_text, status)
+
+    def test_errors_name_the_path_and_the_type(self) -> None:
+        with tempfile.TemporaryDirectory() as folder:
+            path = pathlib.Path(folder) / "photo.jpg"
+            path.write_bytes(b"\xff\xd8\xff\xe0\0\x10JFIF\0\1")
+            with open(path, "rb") as file:
+                forms: Any = (str(path), path, file)
+                for form in forms:
+                    with self.assertRaises(ImageError) as raised:
+                        imagesize.probe(form)
+                    self.assertEqual(str(raised.exception), f"{path}: Jpeg: the file ends before its size")
+                    self.assertEqual(raised.exception.filename, str(path))
+            with self.assertRaises(ImageError) as raised:
+                imagesize.probe(path.read_bytes())
+        self.assertEqual(str(raised.exception), "Jpeg: the file ends before its size")
+        self.assertEqual((raised.exception.text, raised.exception.filename), ("failed to fill whole buffer", None))
+
+    def test_each_error_of_an_image_has_a_message(self) -> None:
+        """But those that no call of the package raises, which have the library's text."""
+        own = [status for status in Status if ImageError(status).message != imagesize.status_text(status)]
+        self.assertEqual(set(Status) - set(own), {Status.ANSWERED, Status.UNKNOWN_TYPE, Status.UNKNOWN_STATUS, Status.BYTES_WANTED})
+
+    def test_type_hints(self) -> None:
+        for name in imagesize.__all__:
+            thing = getattr(imagesize, name)
+            if callable(thing):
+                self.assertIsNotNone(typing.get_type_hints(thing))
+        self.assertIs(typing.get_type_hints(imagesize.probe)["return"], imagesize.Probed)
+        hints = typing.get_type_hints(ImageError.__init__)
+        self.assertEqual(hints["image_type"], typing.Optional[ImageType])
+
+    def test_docstrings_name_members(self) -> None:
+        for enum in (Status, Kind, Compression, imagesize.Family):
+            for name in re.findall("`([A-Z0-9_]+)`", enum.__doc__ or ""):
+                self.assertIn(name, enum.__members__)
+
+    def test_media(self) -> None:
+        for numbers, mime_type, extension in (
+            ((Kind.JPEG, Compression.NO_COMPRESSION), "image/jpeg", ".jpg"),
+            ((Kind.HEIF, Compression.HEIF_AV1), "image/avif", ".avif"),
+            ((Kind.HEIF, Compression.HEIF_HEVC), "image/heic", ".heic"),
+            ((Kind.HEIF, Compression.UNKNOWN_COMPRESSION), "image/heif", ".heif"),
+            ((Kind.ETC2, Compression.PKM_ETC1), None, ".pkm"),
+        ):
+            found = ImageType(*numbers)
+            self.assertEqual((found.mime_type, found.extension), (mime_type, extension))
+
+    def test_each_type_has_an_extension(self) -> None:
+        for kind in Kind:
+            for compression in Compression:
+                try:
+                    self.assertRegex(ImageType(kind, compression).extension, r"^\.\w+$")
+                except ValueError:
+                    pass
 
     def test_each_status_has_a_text(self) -> None:
         self.assertEqual(len({imagesize.status_text(status) for status in Status}), len(Status))

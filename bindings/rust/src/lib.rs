@@ -85,7 +85,7 @@ pub fn size<P: AsRef<Path>>(path: P) -> ImageResult<ImageSize> {
 ///
 /// # Errors
 ///
-/// Those of [`image_type`], [`ImageError::IoError`] of the kind `UnexpectedEof` where the bytes end before the size, and
+/// Those of [`image_type()`], [`ImageError::IoError`] of the kind `UnexpectedEof` where the bytes end before the size, and
 /// [`ImageError::CorruptedImage`] or `IoError` of the kind `InvalidData` where the type's layout is broken.
 ///
 /// ```
@@ -121,7 +121,7 @@ pub fn reader_size<R: BufRead + Seek>(reader: R) -> ImageResult<ImageSize> {
 ///
 /// # Errors
 ///
-/// Those of [`image_type`], and [`ImageError::IoError`] with the reader's own error where one of its calls fails.
+/// Those of [`image_type()`], and [`ImageError::IoError`] with the reader's own error where one of its calls fails.
 ///
 /// ```
 /// use imagesize::{reader_type, ImageType};

@@ -19,6 +19,19 @@ fn rows() -> Vec<(Vec<u8>, String)> {
         .collect()
 }
 
+/// The bytes of each input that README says may surprise, and the line that is printed of it.
+fn surprises() -> Vec<(Vec<u8>, String)> {
+    let path = concat!(env!("CARGO_MANIFEST_DIR"), "/../../examples/surprises.tsv");
+    let text = fs::read_to_string(path).expect("the inputs that may surprise");
+    text.lines()
+        .filter(|line| !line.starts_with('#'))
+        .map(|row| {
+            let cells: Vec<&str> = row.split('\t').collect();
+            (bytes(cells[1]), cells[2].to_string())
+        })
+        .collect()
+}
+
 /// The bytes of a text in hex, which is `-` for none.
 fn bytes(hex: &str) -> Vec<u8> {
     let digits = hex.strip_prefix('-').unwrap_or(hex);
@@ -87,6 +100,16 @@ impl Drop for Scratch {
 fn bytes_have_the_worked_answers() {
     for (data, wanted) in rows() {
         assert_eq!(line(image_type(&data), blob_size(&data)), wanted);
+    }
+}
+
+#[test]
+fn what_may_surprise_is_as_the_readme_says() {
+    assert_eq!(surprises().len(), 8);
+    for (data, wanted) in surprises() {
+        assert_eq!(line(image_type(&data), blob_size(&data)), wanted);
+        let cursor = || Cursor::new(&data);
+        assert_eq!(line(reader_type(cursor()), reader_size(cursor())), wanted);
     }
 }
 

@@ -1,0 +1,109 @@
+"""The program `python -m imagesize_proved`, by what it prints, its status, and its line on a terminal."""
+
+import io
+import json
+import os
+import pathlib
+import subprocess
+import sys
+import tempfile
+import unittest
+from typing import Any, List
+from unittest import mock
+
+import imagesize_proved
+from imagesize_proved import __main__ as program
+
+from . import GIF
+
+PACKAGE = pathlib.Path(imagesize_proved.__file__).resolve().parent.parent
+CUT = b"\xff\xd8\xff\xe0\0\x10JFIF\0\1"
+
+
+class Terminal(io.StringIO):
+    def isatty(self) -> bool:
+        return True
+
+
+class Program(unittest.TestCase):
+    def setUp(self) -> None:
+        folder = tempfile.TemporaryDirectory()
+        self.addCleanup(folder.cleanup)
+        self.folder = pathlib.Path(folder.name)
+        (self.folder / "b").mkdir()
+        for name, data in (("a.gif", GIF), ("c.jpg", CUT), ("b/d.gif", GIF), ("b/e.txt", b"no image, but a text")):
+            (self.folder / name).write_bytes(data)
+
+    def run_it(self, *arguments: str, stdout: int = subprocess.PIPE) -> "subprocess.CompletedProcess[str]":
+        command = [sys.executable, "-m", "imagesize_proved", *arguments]
+        environment = {**os.environ, "PYTHONPATH": str(PACKAGE)}
+        return subprocess.run(command, cwd=self.folder, env=environment, stdout=stdout, stderr=subprocess.PIPE, text=True)
+
+    def test_table(self) -> None:
+        said = self.run_it("a.gif", "c.jpg", "none", "b")
+        self.assertEqual(said.stdout.splitlines(), [
+            "Gif                 640x480  a.gif",
+            "Jpeg                      -  c.jpg: the file ends before its size",
+            "-                         -  none: No such file or directory",
+            "-                         -  b: Is a directory",
+        ])
+        self.assertEqual(said.stderr, "")
+
+    def test_status(self) -> None:
+        for arguments, status in (("a.gif",), 0), (("a.gif", "b/d.gif"), 0), (("a.gif", "c.jpg"), 1), (("none",), 1), ((), 2):
+            self.assertEqual(self.run_it(*arguments).returncode, status, arguments)
+            self.assertEqual(self.run_it("--json", *arguments).returncode, status, arguments)
+
+    def test_json(self) -> None:
+        self.assertEqual(json.loads(self.run_it("--json", "--spans", "a.gif", "c.jpg").stdout), [
+            {"path": "a.gif", "type": "Gif", "compression": None, "mime_type": "image/gif", "width": 640, "height": 480,
+             "status": None, "error": None, "spans": [[0, 12], [6, 2], [8, 2]]},
+            {"path": "c.jpg", "type": "Jpeg", "compression": None, "mime_type": "image/jpeg", "width": None, "height": None,
+             "status": "END_OF_INPUT", "error": "the file ends before its size", "spans": [[0, 12], [2, 2], [4, 2]]},
+        ])
+        os.mkdir(self.folder / "empty")
+        self.assertEqual(self.run_it("--json", "--recursive", "empty").stdout, "[]\n")
+
+    def test_recursive(self) -> None:
+        rows = json.loads(self.run_it("--json", "--recursive", ".").stdout)
+        self.assertEqual([row["path"] for row in rows], ["./a.gif", "./c.jpg", "./b/d.gif", "./b/e.txt"])
+        self.assertEqual([row["status"] for row in rows], [None, "END_OF_INPUT", None, "NOT_SUPPORTED"])
+
+    def test_folder_that_cannot_be_read(self) -> None:
+        def walk(folder: str, onerror: Any) -> Any:
+            onerror(PermissionError(13, "Permission denied", folder))
+            return iter(())
+
+        with mock.patch("os.walk", walk):
+            self.assertEqual(list(program.files([str(self.folder)], True)), [str(self.folder)])
+
+    def test_spans(self) -> None:
+        self.assertEqual(self.run_it("--spans", "a.gif").stdout.splitlines()[1:], ["  0+12", "  6+2", "  8+2"])
+
+    def test_names_that_are_no_text(self) -> None:
+        name = os.fsdecode(b"a\xff\n.gif")
+        (self.folder / name).write_bytes(GIF)
+        self.assertEqual(self.run_it(name).stdout, "Gif                 640x480  a\\udcff\\n.gif\n")
+        self.assertEqual(json.loads(self.run_it("--json", name).stdout)[0]["path"], name)
+
+    def test_output_that_is_closed(self) -> None:
+        reader, writer = os.pipe()
+        os.close(reader)
+        said = self.run_it("a.gif", stdout=writer)
+        os.close(writer)
+        self.assertEqual((said.returncode, said.stderr), (1, ""))
+
+    def test_version(self) -> None:
+        self.assertEqual(self.run_it("--version").stdout, f"{imagesize_proved.__version__}\n")
+
+    def test_progress(self) -> None:
+        def written(seconds: List[float], stream: io.StringIO) -> str:
+            clock = iter(seconds)
+            with mock.patch("time.monotonic", lambda: next(clock)), mock.patch("sys.stderr", stream):
+                list(program.described(iter(["a.gif", "b.gif"]), False))
+            return stream.getvalue()
+
+        self.assertEqual(written([0, 0.5, 0.9], Terminal()), "")
+        self.assertEqual(written([0, 0.5, 1.2], Terminal()), "\r2: b.gif\x1b[K\r\x1b[K")
+        self.assertEqual(written([0, 1.2, 1.25], Terminal()), "\r1: a.gif\x1b[K\r\x1b[K")
+        self.assertEqual(written([0, 1.2, 1.5], io.StringIO()), "")

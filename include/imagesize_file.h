@@ -1,0 +1,216 @@
+/*
+ * Type and size of the image in a file, over the calls of imagesize.h. Only the blocks of the file are read that the result
+ * depends on. All of it is in this header; nothing more is linked than libimagesize and the C library.
+ *
+ *     imagesize_image image;
+ *     uint32_t status = imagesize_path_probe("photo.jpg", &image);
+ *     if (status == IMAGESIZE_ANSWERED) {
+ *         printf("%llux%llu\n", (unsigned long long)image.width, (unsigned long long)image.height);
+ *     }
+ *
+ * Each call returns a status: that of imagesize_probe over all bytes of the file, or one of these three.
+ *  - IMAGESIZE_FAULT: the file cannot be opened or read. `errno` says why; it is 0 if the file became shorter meanwhile.
+ *  - IMAGESIZE_BUDGET_SPENT: the result needs more than IMAGESIZE_FILE_MOST bytes.
+ *  - IMAGESIZE_OUT_OF_MEMORY: `malloc` or `realloc` returned NULL.
+ *
+ * The call writes all of `image`. The type is 0 if none was found. Width and height are 0 if the status is not
+ * IMAGESIZE_ANSWERED; the type may be known then.
+ *
+ * The calls over paths and descriptors need POSIX.1-2008. They are here if _POSIX_C_SOURCE is 200809L or more, as by default in
+ * gcc and clang; with -std=c11 define it before the first #include. These functions are tested, and not proved.
+ */
+#ifndef IMAGESIZE_FILE_H
+#define IMAGESIZE_FILE_H
+
+#include "imagesize.h"
+
+#include <errno.h>
+#include <stdio.h>
+#include <stdlib.h>
+
+#if defined _POSIX_C_SOURCE && _POSIX_C_SOURCE >= 200809L
+#include <fcntl.h>
+#include <sys/stat.h>
+#include <unistd.h>
+#endif
+
+#ifdef __cplusplus
+extern "C" {
+#endif
+
+/* The bytes of a block, the bytes that one call reads at most, and the spans apart from one another after which blocks grow. */
+enum { IMAGESIZE_FILE_BLOCK = 4096, IMAGESIZE_FILE_MOST = 64 << 20, IMAGESIZE_FILE_FEW = 64 };
+
+/* What a file is: the numbers of imagesize.h for type and compression, and the size in pixels. */
+typedef struct imagesize_image {
+    uint32_t type, compression;
+    uint64_t width, height;
+} imagesize_image;
+
+/* Reads `length` bytes from an offset on, all of them. Returns IMAGESIZE_ANSWERED, or a status of its own such as IMAGESIZE_FAULT. */
+typedef uint32_t imagesize_read(void *reader, uint8_t *bytes, size_t length, uint64_t offset);
+
+/* The parts of a file that were read. */
+struct imagesize_file_known {
+    uint8_t *bytes;
+    imagesize_span *spans;
+    size_t length, count, bytes_room, spans_room;
+};
+
+/* A buffer with room for so many items; NULL if there is no memory, and then the old buffer stays. */
+static inline void *imagesize_file_grown(void *buffer, size_t *room, size_t items, size_t item)
+{
+    if (items <= *room) {
+        return buffer;
+    }
+    size_t larger = 2 * items;
+    void *grown = realloc(buffer, larger * item);
+    if (grown != NULL) {
+        *room = larger;
+    }
+    return grown;
+}
+
+/* The block around a part. On long walks it is as long as all that is known, so that they take few rounds. */
+static inline imagesize_span imagesize_file_block(const struct imagesize_file_known *known, imagesize_span wanted, uint64_t total)
+{
+    const imagesize_span *last = known->spans + known->count - (known->count > 0);
+    imagesize_span block = {wanted.start - wanted.start % IMAGESIZE_FILE_BLOCK, 0};
+    uint64_t end = wanted.start + wanted.len, grown = block.start;
+    if (known->count > 0 && (last->start + last->len == block.start || known->count > IMAGESIZE_FILE_FEW)) {
+        grown += known->length < IMAGESIZE_FILE_MOST - known->length ? known->length : IMAGESIZE_FILE_MOST - known->length;
+    }
+    end = end > grown ? end : grown;
+    end += (IMAGESIZE_FILE_BLOCK - end % IMAGESIZE_FILE_BLOCK) % IMAGESIZE_FILE_BLOCK;
+    block.len = (end < total ? end : total) - block.start;
+    return block;
+}
+
+/* Reads the block around a part. */
+static inline uint32_t imagesize_file_fetch(struct imagesize_file_known *known, void *reader, imagesize_read *read,
+                                            imagesize_span wanted, uint64_t total)
+{
+    imagesize_span block = imagesize_file_block(known, wanted, total);
+    if (block.len > IMAGESIZE_FILE_MOST - known->length) {
+        return IMAGESIZE_BUDGET_SPENT;
+    }
+    void *bytes = imagesize_file_grown(known->bytes, &known->bytes_room, known->length + (size_t)block.len, 1);
+    known->bytes = bytes != NULL ? (uint8_t *)bytes : known->bytes;
+    void *spans = imagesize_file_grown(known->spans, &known->spans_room, known->count + 1, sizeof *known->spans);
+    known->spans = spans != NULL ? (imagesize_span *)spans : known->spans;
+    if (bytes == NULL || spans == NULL) {
+        return IMAGESIZE_OUT_OF_MEMORY;
+    }
+    uint32_t status = read(reader, known->bytes + known->length, (size_t)block.len, block.start);
+    if (status == IMAGESIZE_ANSWERED) {
+        known->spans[known->count++] = block;
+        known->length += (size_t)block.len;
+    }
+    return status;
+}
+
+/* Type and size of the image in an input of `total` bytes, fewer than 2^63, of which `read` gives some. */
+static inline uint32_t imagesize_reader_probe(void *reader, imagesize_read *read, uint64_t total, imagesize_image *image)
+{
+    struct imagesize_file_known known = {(uint8_t *)malloc(IMAGESIZE_FILE_BLOCK), (imagesize_span *)malloc(sizeof(imagesize_span)), 0,
+                                         0, IMAGESIZE_FILE_BLOCK, 1};
+    imagesize_span wanted = {0, 0};
+    uint32_t status = known.bytes != NULL && known.spans != NULL ? IMAGESIZE_ANSWERED : IMAGESIZE_OUT_OF_MEMORY;
+    image->type = image->compression = 0;
+    image->width = image->height = 0;
+    while (status == IMAGESIZE_ANSWERED) {
+        status = imagesize_parts_probe(known.bytes, known.length, known.spans, known.count, total, &image->type, &image->compression,
+                                       &image->width, &image->height, &wanted);
+        if (status != IMAGESIZE_BYTES_WANTED) {
+            break;
+        }
+        status = imagesize_file_fetch(&known, reader, read, wanted, total);
+    }
+    free(known.bytes);
+    free(known.spans);
+    return status;
+}
+
+static inline uint32_t imagesize_stdio_read(void *reader, uint8_t *bytes, size_t length, uint64_t offset)
+{
+    FILE *file = (FILE *)reader;
+    errno = 0;
+    return fseek(file, (long)offset, SEEK_SET) == 0 && fread(bytes, 1, length, file) == length ? IMAGESIZE_ANSWERED : IMAGESIZE_FAULT;
+}
+
+/* Type and size of the image in an open stream that can seek. The call reads from its first byte on, and keeps its position. */
+static inline uint32_t imagesize_stdio_probe(FILE *file, imagesize_image *image)
+{
+    static const imagesize_image none = {0, 0, 0, 0};
+    long position = ftell(file), total = -1;
+    *image = none;
+    if (position < 0 || fseek(file, 0, SEEK_END) != 0 || (total = ftell(file)) < 0) {
+        return IMAGESIZE_FAULT;
+    }
+    uint32_t status = imagesize_reader_probe(file, imagesize_stdio_read, (uint64_t)total, image);
+    if (fseek(file, position, SEEK_SET) != 0) {
+        return IMAGESIZE_FAULT;
+    }
+    return status;
+}
+
+#if defined _POSIX_C_SOURCE && _POSIX_C_SOURCE >= 200809L
+
+static inline uint32_t imagesize_fd_read(void *reader, uint8_t *bytes, size_t length, uint64_t offset)
+{
+    while (length > 0) {
+        ssize_t got = pread(*(int *)reader, bytes, length, (off_t)offset);
+        if (got == 0) {
+            errno = 0;
+        }
+        if (got == 0 || (got < 0 && errno != EINTR)) {
+            return IMAGESIZE_FAULT;
+        }
+        if (got > 0) {
+            bytes += got;
+            length -= (size_t)got;
+            offset += (uint64_t)got;
+        }
+    }
+    return IMAGESIZE_ANSWERED;
+}
+
+/* Type and size of the image in an open regular file. The file's position is neither used nor changed. */
+static inline uint32_t imagesize_fd_probe(int file, imagesize_image *image)
+{
+    static const imagesize_image none = {0, 0, 0, 0};
+    struct stat about;
+    *image = none;
+    if (fstat(file, &about) != 0) {
+        return IMAGESIZE_FAULT;
+    }
+    if (!S_ISREG(about.st_mode)) {
+        errno = S_ISDIR(about.st_mode) ? EISDIR : ESPIPE;
+        return IMAGESIZE_FAULT;
+    }
+    return imagesize_reader_probe(&file, imagesize_fd_read, (uint64_t)about.st_size, image);
+}
+
+/* Type and size of the image in the regular file at a path. A pipe without a writer is an error, and is not waited for. */
+static inline uint32_t imagesize_path_probe(const char *path, imagesize_image *image)
+{
+    static const imagesize_image none = {0, 0, 0, 0};
+    int file = open(path, O_RDONLY | O_NONBLOCK | O_CLOEXEC);
+    *image = none;
+    if (file < 0) {
+        return IMAGESIZE_FAULT;
+    }
+    uint32_t status = imagesize_fd_probe(file, image);
+    int why = errno;
+    close(file);
+    errno = why;
+    return status;
+}
+
+#endif
+
+#ifdef __cplusplus
+}
+#endif
+
+#endif
