@@ -132,6 +132,8 @@ def names():
     """Each name that the sources define or use, without their comments."""
     found = set()
     for path, text in source((".rt", ".antt", ".rs", ".py", ".js", ".mjs", ".ts", ".h", ".c", ".toml", ".json", ".tsv")).items():
+        if path == "docs/check.py":
+            continue
         if path.endswith(".antt"):
             text = re.sub(r"--.*|^(?:pub )?use .*", "", text, flags=re.M)
         elif path.endswith(".rt"):
@@ -197,8 +199,8 @@ def labels(name):
 
 def defined(page, text):
     """Names in the table of definitions of PROMISES.md that no specification defines."""
-    table = re.search(r"^\| Name \| .*?\n\n", text, re.S | re.M) if page.name == "PROMISES.md" else None
-    for row in table[0].split("\n")[2:] if table else ():
+    tables = re.findall(r"^\| Name \| .*\n\|-.*\n((?:\|.*\n)*)", text, re.M) if page.name == "PROMISES.md" else ()
+    for row in "".join(tables).split("\n"):
         for name in re.findall(r"`(\w+)`", row.split("|")[1] if "|" in row else ""):
             if not count(rf"^(?:abbrev |record |data |pub |  pub )*{name}\b", ".antt"):
                 yield f"no definition {name} in a specification"
@@ -333,7 +335,7 @@ PLANTED = {
     commands: ("README.md", "`rt provee`, `examples/run --not-there`"),
     mutations: ("docs/PROMISES.md", "| a | Mutations |\n|---|---|\n| b | `no_such_mutation` |"),
     definitions: ("docs/PROVED.md", "`CountsNothingAtAll`"),
-    defined: ("docs/PROMISES.md", "\n| `no_such_name` | nothing | nowhere |\n"),
+    defined: ("docs/PROMISES.md", "| Name | What |\n|---|---|\n| `no_such_name` | nothing |\n"),
     clauses: ("docs/PROVED.md", "`value` and `stopped` of `blob_size`"),
     calling: ("CALLING.md", None),
     numbers: ("README.md", "26 formats"),
