@@ -202,7 +202,8 @@ def defined(page, text):
     tables = re.findall(r"^\| Name \| .*\n\|-.*\n((?:\|.*\n)*)", text, re.M) if page.name == "PROMISES.md" else ()
     for row in "".join(tables).split("\n"):
         for name in re.findall(r"`(\w+)`", row.split("|")[1] if "|" in row else ""):
-            if not count(rf"^(?:abbrev |record |data |pub |  pub )*{name}\b", ".antt"):
+            if not count(rf"^(?:abbrev |record |data |unfoldable |pub |  pub )*{name}\b", ".antt") \
+                    and not count(rf"^pub (?:struct|enum|trait) {name}\b", ".rt"):
                 yield f"no definition {name} in a specification"
 
 
