@@ -1,25 +1,25 @@
 /*
- * The type of an image and its width and height in pixels, from a few bytes, with no pixel decoded.
+ * The type of an image, and its width and height in pixels, from a few bytes. No pixel is decoded.
  *
- * Each call is proved: it returns, reads no byte but those that are lent, writes nowhere but where it is said here, takes no
- * memory, keeps nothing between two calls, and answers what docs/LAYOUTS.md says. docs/PROMISES.md has the promises. Calls may
- * run at the same time on several threads, where none writes what another reads.
+ * Each call is proved. It returns, and its result is the one that docs/LAYOUTS.md defines. It reads only the buffers that the
+ * caller passes, and writes only what is said here. It allocates nothing, and keeps nothing between two calls. Calls may run
+ * at the same time on several threads, if none writes what another reads. docs/PROMISES.md lists the promises.
  *
- * What a caller owes, since nothing can check it:
- *  - A pointer is never NULL and is aligned as its type is. This holds beside a length of 0, where any such pointer will do, and
- *    of an answer that is not wanted: the calls are proved over references, which are never NULL, and no call tests for it.
- *  - Behind a pointer to bytes, to text or to spans stand as many items as the length beside it says, fewer than 2^63 bytes in all;
- *    what is written to overlaps nothing else that is lent to the call. Text and spans are initialised.
+ * The caller must keep these rules, which the library cannot check:
+ *  - A pointer must be aligned for its type and must not be NULL, even if the length is 0 or the result is not needed. No call
+ *    tests for NULL, since the calls are proved over references.
+ *  - A buffer of bytes, text or spans must have as many items as its length says, and fewer than 2^63 bytes.
+ *  - A buffer that is written must overlap no other buffer of the call. Text and spans must be initialised.
  *
- * Each call answers a status: IMAGESIZE_ANSWERED, or one of its own for each refusal. What a call does not say that it writes
- * stays as it was, beside a refusal too.
+ * Each call returns a status: IMAGESIZE_ANSWERED, or a number for each error. A call changes only what it says that it writes,
+ * also when it returns an error.
  *
- * A text is of ASCII characters with no zero behind it. It is written where the buffer has room for all of it, and its length is
- * told either way; a buffer that is too small (IMAGESIZE_BUFFER_TOO_SMALL) stays as it was. The same holds of spans. A buffer
- * of length 0 is a way to ask for the length.
+ * A text is ASCII, without a zero at its end. It is written if the buffer is long enough for all of it. Its length is written
+ * in either case. If the buffer is too small, the status is IMAGESIZE_BUFFER_TOO_SMALL and the buffer does not change. The same
+ * is true for spans. To ask for the length, pass a buffer of length 0.
  *
- * The library is built for Linux on x86-64 processors that have the instructions of x86-64-v2, as nearly all since 2009. It asks
- * the C library for memcpy, memmove and memset alone.
+ * The library runs on Linux on x86-64 processors with the instructions of x86-64-v2, which nearly all have since 2009. It uses
+ * memcpy, memmove and memset of the C library, and nothing else.
  */
 #ifndef IMAGESIZE_H
 #define IMAGESIZE_H
@@ -31,39 +31,39 @@
 extern "C" {
 #endif
 
-/* What a call answers. */
+/* What a call returns. */
 enum imagesize_status {
-    IMAGESIZE_ANSWERED = 0, /* the call is answered */
-    IMAGESIZE_NOT_SUPPORTED = 1, /* the bytes are of no type that is known */
+    IMAGESIZE_ANSWERED = 0, /* success */
+    IMAGESIZE_NOT_SUPPORTED = 1, /* the bytes are of no known type */
     IMAGESIZE_CORRUPTED_IMAGE = 2, /* the type is known, and its records are malformed, or end before the size */
     IMAGESIZE_FAULT = 3, /* a file cannot be read; only the calls of imagesize_file.h return it */
-    IMAGESIZE_END_OF_INPUT = 4, /* the bytes end before some that the layout needs */
+    IMAGESIZE_END_OF_INPUT = 4, /* the bytes end before a byte that the layout needs */
     IMAGESIZE_NOT_ENOUGH_DATA = 5, /* a HEIF property list holds no image size */
     IMAGESIZE_BUDGET_SPENT = 6, /* too many bytes of a file are needed; only the calls of imagesize_file.h return it */
     IMAGESIZE_OUT_OF_MEMORY = 7, /* there is no memory; only the calls of imagesize_file.h return it */
-    IMAGESIZE_NO_DELIMITER = 8, /* a text has no delimiter within the bytes that it may have */
-    IMAGESIZE_NOT_UTF8 = 9, /* a text is no UTF-8 */
-    IMAGESIZE_INVALID_HEIF_BOX_SIZE = 10, /* a HEIF box is smaller than its own head */
-    IMAGESIZE_INVALID_JXL_BOX_SIZE = 11, /* a JPEG XL box is smaller than its own head */
+    IMAGESIZE_NO_DELIMITER = 8, /* a text has no delimiter within its greatest length */
+    IMAGESIZE_NOT_UTF8 = 9, /* a text is not UTF-8 */
+    IMAGESIZE_INVALID_HEIF_BOX_SIZE = 10, /* a HEIF box is smaller than its own header */
+    IMAGESIZE_INVALID_JXL_BOX_SIZE = 11, /* a JPEG XL box is smaller than its own header */
     IMAGESIZE_INVALID_JXL_SIGNATURE = 12, /* a JPEG XL codestream does not begin with its signature */
     IMAGESIZE_INVALID_TIFF_HEADER = 13, /* a TIFF has no known byte order or version */
     IMAGESIZE_BIG_TIFF_OFFSET_SIZE = 14, /* a BigTIFF has offsets of another size than 8 bytes */
     IMAGESIZE_INVALID_BIG_TIFF_HEADER = 15, /* the two bytes of a BigTIFF that are always zero are not */
-    IMAGESIZE_INVALID_IFD_OFFSET = 16, /* a TIFF's directory stands at place 0 */
-    IMAGESIZE_IFD_TYPE_FOR_STANDARD_TIFF = 17, /* a TIFF entry has a field type that only BigTIFF knows */
-    IMAGESIZE_INVALID_IFD_TYPE = 18, /* a TIFF entry has a field type that no TIFF knows */
+    IMAGESIZE_INVALID_IFD_OFFSET = 16, /* a TIFF's directory is at offset 0 */
+    IMAGESIZE_IFD_TYPE_FOR_STANDARD_TIFF = 17, /* a TIFF entry has a field type that only BigTIFF has */
+    IMAGESIZE_INVALID_IFD_TYPE = 18, /* a TIFF entry has an unknown field type */
     IMAGESIZE_INVALID_IFD_VALUE_LENGTH = 19, /* the bytes end within a TIFF entry's value */
     IMAGESIZE_NO_DIMENSIONS_IN_IFD = 20, /* a TIFF directory gives no width or no height */
-    IMAGESIZE_INVALID_VP8_TAG = 21, /* a WebP's first chunk is none that is known */
+    IMAGESIZE_INVALID_VP8_TAG = 21, /* a WebP's first chunk is unknown */
     IMAGESIZE_DATA_WINDOW_NOT_FOUND = 22, /* an EXR header ends before a data window */
     IMAGESIZE_INVALID_HDR_IDENTIFIER = 23, /* an HDR does not begin with its identifier */
-    IMAGESIZE_INVALID_HDR_DIMENSIONS_LINE = 24, /* an HDR's line of sizes has not four words */
-    IMAGESIZE_HDR_DIMENSIONS_NOT_FOUND = 25, /* one of the sizes in an HDR's line is no number */
-    IMAGESIZE_PNM_DIMENSIONS_NOT_FOUND = 26, /* the width or the height of a PNM is no number */
-    IMAGESIZE_BUFFER_TOO_SMALL = 27, /* the answer has more items than the buffer has room for */
+    IMAGESIZE_INVALID_HDR_DIMENSIONS_LINE = 24, /* an HDR's line of sizes does not have four words */
+    IMAGESIZE_HDR_DIMENSIONS_NOT_FOUND = 25, /* one of the sizes in an HDR's line is not a number */
+    IMAGESIZE_PNM_DIMENSIONS_NOT_FOUND = 26, /* the width or the height of a PNM is not a number */
+    IMAGESIZE_BUFFER_TOO_SMALL = 27, /* the result has more items than the buffer */
     IMAGESIZE_UNKNOWN_TYPE = 28, /* no type has these numbers */
     IMAGESIZE_UNKNOWN_STATUS = 29, /* no status has this number */
-    IMAGESIZE_BYTES_WANTED = 30 /* a call over parts needs another part of the input; no other call answers it */
+    IMAGESIZE_BYTES_WANTED = 30 /* a call over parts needs another part of the input; no other call returns it */
 };
 
 /* The types of images. */
@@ -90,7 +90,7 @@ enum imagesize_type_number {
     IMAGESIZE_PSD = 20, /* Photoshop document */
     IMAGESIZE_QOI = 21, /* quite OK image */
     IMAGESIZE_TGA = 22, /* Truevision TGA */
-    IMAGESIZE_TIFF = 23, /* TIFF, BigTIFF among them */
+    IMAGESIZE_TIFF = 23, /* TIFF, with BigTIFF */
     IMAGESIZE_VTF = 24, /* Valve texture */
     IMAGESIZE_WEBP = 25 /* WebP */
 };
@@ -98,7 +98,7 @@ enum imagesize_type_number {
 /* The compressions of the types that have one. */
 enum imagesize_compression_number {
     IMAGESIZE_NO_COMPRESSION = 0, /* the type has none */
-    IMAGESIZE_UNKNOWN_COMPRESSION = 1, /* the type has one, and it is none of those below */
+    IMAGESIZE_UNKNOWN_COMPRESSION = 1, /* the type has one, which is not one of those below */
     IMAGESIZE_ATC_RGB = 2, /* ATC, from here on */
     IMAGESIZE_ATC_RGBA_EXPLICIT = 3,
     IMAGESIZE_ATC_RGBA_INTERPOLATED = 4,
@@ -135,67 +135,71 @@ enum imagesize_compression_number {
 
 /* What compressions have in common, across types. */
 enum imagesize_family_number {
-    IMAGESIZE_NO_FAMILY = 0, /* no texture, or its compression is not known */
+    IMAGESIZE_NO_FAMILY = 0, /* not a texture, or its compression is unknown */
     IMAGESIZE_FAMILY_BLOCK_COMPRESSION = 1, /* BC1 to BC7 */
     IMAGESIZE_FAMILY_ETC = 2, /* ETC1 and ETC2 */
     IMAGESIZE_FAMILY_EAC = 3, /* EAC of one or two channels */
     IMAGESIZE_FAMILY_PVRTC = 4, /* PVRTC */
     IMAGESIZE_FAMILY_ASTC = 5, /* ASTC */
     IMAGESIZE_FAMILY_ATC = 6, /* ATC */
-    IMAGESIZE_FAMILY_UNCOMPRESSED = 7 /* pixels as they are */
+    IMAGESIZE_FAMILY_UNCOMPRESSED = 7 /* no compression */
 };
 
-/* Some of the bytes: `len` of them, from place `start` on. Places count bytes from 0. */
+/* A range of bytes: `len` bytes from offset `start`. Offsets count from 0. */
 typedef struct imagesize_span {
     uint64_t start;
     uint64_t len;
 } imagesize_span;
 
 /*
- * Type and compression of the image whose first bytes these are. Twelve bytes tell most types; a PVR, a DDS, a PKM or an ATC has
- * its compression behind them, a HEIF its brands, and a TGA its footer at the end of all its bytes.
+ * Detects the type from the first bytes, with its compression if the type has one. Twelve bytes are enough for most types, and
+ * for the compression of a PKM and an ATC. A PVR and a DDS have their compression after these, a HEIF may have its brand there,
+ * and a TGA has its footer at the end of the file.
  *
- * Refusals: IMAGESIZE_NOT_SUPPORTED, and IMAGESIZE_END_OF_INPUT under 12 bytes.
+ * Errors: IMAGESIZE_NOT_SUPPORTED, and IMAGESIZE_END_OF_INPUT if there are fewer than 12 bytes.
  */
 uint32_t imagesize_type(const uint8_t *bytes, size_t length, uint32_t *type, uint32_t *compression);
 
 /*
- * Width and height, in pixels, of the image that these bytes hold: all bytes of its file, or a front of them.
+ * Reads width and height, in pixels. The bytes are those of the whole file, or its first bytes.
  *
- * A size of a front is that of the whole, but for three types. A front of a HEIF or of an icon can have another size: of the
- * 24 bytes 00 00 01 00 FC FF 80 20 00 DA 26 00 3D FF E9 FF 13 9A FF B8 0F 93 80 00 the first 12 are an icon of 128x32, and all
- * are one of 128x256. A TGA can be told by its footer alone, which only the whole has. imagesize_parts_probe answers for the
- * whole from a few parts of it.
+ * The size that the first bytes give is that of the whole file, except for three types. The first bytes of a HEIF or an icon
+ * can give another size. Take these 24 bytes as an example: the first 12 are an icon of 128x32, and all of them one of 128x256.
  *
- * Refusals: those of imagesize_type, IMAGESIZE_END_OF_INPUT where the bytes end before the size, and the refusals of the
- * type's layout, which stand above by their type.
+ *     00 00 01 00 FC FF 80 20 00 DA 26 00 3D FF E9 FF 13 9A FF B8 0F 93 80 00
  *
- * Of a front, more bytes may cure these: IMAGESIZE_END_OF_INPUT of any type, IMAGESIZE_INVALID_IFD_VALUE_LENGTH of a TIFF,
- * IMAGESIZE_NOT_ENOUGH_DATA of a HEIF, IMAGESIZE_CORRUPTED_IMAGE of a JPEG XL, and IMAGESIZE_NOT_SUPPORTED, which may become
- * a TGA.
+ * A TGA may need its footer, which only the whole file has. imagesize_probe_parts gives the result of the whole file from a few
+ * parts of it.
+ *
+ * Errors: those of imagesize_type, IMAGESIZE_END_OF_INPUT if the bytes end before the size, and the errors of the type's layout,
+ * which are listed above.
+ *
+ * With more bytes of the file, these errors may disappear: IMAGESIZE_END_OF_INPUT for every type,
+ * IMAGESIZE_INVALID_IFD_VALUE_LENGTH for a TIFF, IMAGESIZE_NOT_ENOUGH_DATA for a HEIF, IMAGESIZE_CORRUPTED_IMAGE for a JPEG XL,
+ * and IMAGESIZE_NOT_SUPPORTED, which may become a TGA.
  */
 uint32_t imagesize_size(const uint8_t *bytes, size_t length, uint64_t *width, uint64_t *height);
 
 /*
- * Both at once. The status is that of imagesize_size. Type and compression are written where imagesize_type would write them,
- * so also beside a refusal of the size alone.
+ * Reads both. The status is that of imagesize_size. Type and compression are written whenever imagesize_type would write them,
+ * also if only the size has an error.
  */
 uint32_t imagesize_probe(const uint8_t *bytes, size_t length, uint32_t *type, uint32_t *compression,
                          uint64_t *width, uint64_t *height);
 
 /*
- * Type and size of the image in an input of `total` bytes, of which some parts are known; or a part that it needs.
+ * Reads type and size of an input of `total` bytes from the parts that are known, or asks for another part.
  *
- * The parts are `count` spans of the input, in any order; they may overlap, and there may be none. `bytes` are those of the
- * spans, one span behind another. What of a span lies behind the end of the input has no bytes.
+ * The parts are `count` spans of the input. They may be in any order, overlap, or be empty, and there may be none. `bytes` has
+ * the bytes of all spans, one span after another. Leave out the bytes of a span that lie past the end of the input.
  *
- * Where another part is needed the status is IMAGESIZE_BYTES_WANTED, and `wanted` alone is written. It has at least one byte
- * and lies within the input. Its first byte is one that the answer rests on and no part has; of all types but OpenEXR, Radiance
- * and the portable bitmaps the answer rests on each of its bytes. A call that has the first byte too gets further; a caller may
- * fetch all of it, or a block around it.
+ * If another part is needed, the status is IMAGESIZE_BYTES_WANTED, and only `wanted` is written. It has at least one byte and
+ * lies within the input. Its first byte is one that the result depends on and that no part has. For text formats (OpenEXR,
+ * Radiance and the portable bitmaps), only this byte is certain to be needed. For all others, each byte of it is needed. The
+ * caller may fetch all of `wanted`, or a block around it; the next call gets further if the first byte is there.
  *
- * Else status, type, compression, width and height are those of imagesize_probe over the whole input, and `wanted` stays as it
- * was. So it is where the parts have every byte that the answer rests on.
+ * Otherwise status, type, compression, width and height are those of imagesize_probe over the whole input, and `wanted` does
+ * not change. This is certain once the parts have every byte that the result depends on.
  *
  *     uint8_t bytes[4096];
  *     imagesize_span parts[64], wanted;
@@ -209,10 +213,11 @@ uint32_t imagesize_probe(const uint8_t *bytes, size_t length, uint32_t *type, ui
  *         length += wanted.len;
  *     }
  *
- * imagesize_file.h does so over files, in blocks of 4096 bytes.
+ * imagesize_file.h reads files in this way, in blocks of 4096 bytes.
  *
- * Nothing is said of parts that no input has (two bytes for one place, fewer bytes than the spans have, or more), nor of a
- * total of 2^63 bytes or more, but that the call returns a status, and that a wanted part lies within `total`.
+ * If two parts give different values for one byte, the first part counts. If there are fewer bytes than the spans have, the last
+ * bytes are unknown. Bytes that are left over are not read. For a total of 2^63 bytes or more the result is unspecified. The call
+ * still returns, and a requested part lies within `total`.
  *
  * The library exports the call by its old name, imagesize_probe_parts, which programs may use too.
  */
@@ -221,58 +226,58 @@ uint32_t imagesize_parts_probe(const uint8_t *bytes, size_t length, const images
                                uint32_t *type, uint32_t *compression, uint64_t *width, uint64_t *height, imagesize_span *wanted);
 
 /*
- * The type alone, and its compression, from the parts of an input; or a part that it needs. The parts are lent as to
- * imagesize_parts_probe, and `wanted` is written as there; it is one that the type rests on.
+ * Reads the type and its compression from the parts of an input, or asks for another part. The parts are passed as to
+ * imagesize_parts_probe. `wanted` is written as there, and is a part that the type depends on.
  *
- * Else status, type and compression are those of imagesize_type over the whole input.
+ * Otherwise status, type and compression are those of imagesize_type over the whole input.
  */
 uint32_t imagesize_parts_type(const uint8_t *bytes, size_t length, const imagesize_span *spans, size_t count, uint64_t total,
                               uint32_t *type, uint32_t *compression, imagesize_span *wanted);
 
 /*
- * The size of the image in an input of which these parts are known, read as the type that has these two numbers; or a part that
- * it needs. The input may be of another type, whose bytes are read as those of this one. The compression changes no size.
+ * Reads the size of an input, as the type with these two numbers, from the parts that are known; or asks for another part. The
+ * input may be of another type: its bytes are read as those of this type. The compression does not change the size.
  *
- * The parts are lent as to imagesize_parts_probe, and `wanted` is written as there; it is one that this size rests on. Else
- * the status says whether the whole input has a size of this type, or why it has none.
+ * The parts are passed as to imagesize_parts_probe. `wanted` is written as there, and is a part that this size depends on.
+ * Otherwise the status says whether the whole input has a size of this type, or why it has none.
  *
- * Refusals: IMAGESIZE_UNKNOWN_TYPE where no type has these numbers, IMAGESIZE_END_OF_INPUT where the input ends before the size,
- * and the refusals of the type's layout.
+ * Errors: IMAGESIZE_UNKNOWN_TYPE if no type has these numbers, IMAGESIZE_END_OF_INPUT if the input ends before the size, and the
+ * errors of the type's layout.
  */
 uint32_t imagesize_parts_size(uint32_t type, uint32_t compression, const uint8_t *bytes, size_t length, const imagesize_span *spans,
                               size_t count, uint64_t total, uint64_t *width, uint64_t *height, imagesize_span *wanted);
 
 /*
- * The bytes that type and size rest on, a span for each reading, in their order, repeats kept. Every other input of this length
- * that has the same bytes there has the same type and size, or the same refusal. `count` is told how many spans there are; at
- * most `room` are written. An ordinary image has a few or some dozens, and one made for it about as many as it has bytes.
+ * Lists the bytes that type and size depend on: a span for each read, in order, with repeats. Every other input of this length
+ * with the same bytes there has the same type and size, or the same error. `count` is set to the number of spans. At most `room`
+ * spans are written. An ordinary image has from a few to some dozens of spans. A hostile one has about as many as it has bytes.
  *
- * It is answered also where the size is refused. Refusal: IMAGESIZE_BUFFER_TOO_SMALL.
+ * The spans are written also if the size has an error. Error: IMAGESIZE_BUFFER_TOO_SMALL.
  */
 uint32_t imagesize_spans(const uint8_t *bytes, size_t length, imagesize_span *spans, size_t room, size_t *count);
 
 /*
- * The name of a type, as "Gif"; of its compression, as "Bc7", which is empty where it has none; and of its container, as "KTX2",
- * which is empty where it has none. `written` is told the length of the text in bytes.
+ * Writes the name of a type, such as "Gif"; of its compression, such as "Bc7"; or of its container, such as "KTX2". A type without
+ * a compression or a container has an empty text. `written` is set to the length of the text in bytes.
  *
- * Refusals: IMAGESIZE_UNKNOWN_TYPE where no type has these two numbers, and nothing is told then; IMAGESIZE_BUFFER_TOO_SMALL.
+ * Errors: IMAGESIZE_UNKNOWN_TYPE if no type has these two numbers, and then nothing is written; IMAGESIZE_BUFFER_TOO_SMALL.
  */
 uint32_t imagesize_type_name(uint32_t type, uint32_t compression, char *text, size_t room, size_t *written);
 uint32_t imagesize_compression_name(uint32_t type, uint32_t compression, char *text, size_t room, size_t *written);
 uint32_t imagesize_container_format(uint32_t type, uint32_t compression, char *text, size_t room, size_t *written);
 
 /*
- * The text of a status, for people. The text of IMAGESIZE_NO_DELIMITER and of the two refused box sizes names no number.
+ * Writes the text of a status, for people. The texts of IMAGESIZE_NO_DELIMITER and of the two invalid box sizes have no number.
  *
- * Refusals: IMAGESIZE_UNKNOWN_STATUS, and nothing is told then; IMAGESIZE_BUFFER_TOO_SMALL.
+ * Errors: IMAGESIZE_UNKNOWN_STATUS, and then nothing is written; IMAGESIZE_BUFFER_TOO_SMALL.
  */
 uint32_t imagesize_status_text(uint32_t status, char *text, size_t room, size_t *written);
 
 /*
- * The family of a type's compression; whether it is one of the block compressions, 1 or 0; and whether the type's container
- * can hold several families, 1 or 0.
+ * Gives the family of a type's compression; whether it is a block compression (1 or 0); and whether the type's container can hold
+ * several families (1 or 0).
  *
- * Refusal: IMAGESIZE_UNKNOWN_TYPE where no type has these two numbers, and nothing is told then.
+ * Error: IMAGESIZE_UNKNOWN_TYPE if no type has these two numbers, and then nothing is written.
  */
 uint32_t imagesize_compression_family(uint32_t type, uint32_t compression, uint32_t *family);
 uint32_t imagesize_is_block_compressed(uint32_t type, uint32_t compression, uint32_t *answer);
