@@ -40,9 +40,10 @@ export async function inspect(input, found) {
   shown.names = namesOf(result.kind, trace, result.total);
   part('zoom').value = 0;
   part('zoom').max = Math.max(0, Math.ceil(Math.log2(result.total / 64)));
-  part('listing').textContent = `The result depends on ${count(trace.length, 'field')}, in this order`;
+  part('listing').textContent = `The result depends on ${count(trace.length, 'field')}`;
   part('steps').replaceChildren();
   part('hex').replaceChildren();
+  part('steps').scrollTop = 0;
   await list();
   choose(0);
 }

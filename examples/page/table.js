@@ -47,8 +47,14 @@ export function startTable(open) {
   part('json').addEventListener('click', () => copy(json(), part('json')));
   part('clear').addEventListener('click', clear);
   part('further').addEventListener('click', drawMore);
-  new IntersectionObserver(([{ isIntersecting }]) => { if (isIntersecting) drawMore(); }, { root: part('scroll'), rootMargin: '400px' })
-    .observe(part('further'));
+  // It is observed anew after each page: it may come into view again before the browser saw it leave.
+  const nearing = new IntersectionObserver((entries) => {
+    if (!entries.some(({ isIntersecting }) => isIntersecting)) return;
+    drawMore();
+    nearing.unobserve(part('further'));
+    nearing.observe(part('further'));
+  }, { root: part('scroll'), rootMargin: '400px' });
+  nearing.observe(part('further'));
   part('rows').addEventListener('click', ({ target }) => {
     const row = target.closest('tr');
     if (row) open(images[Number(row.dataset.image)]);

@@ -112,6 +112,16 @@ test('later ranges are fetched where the first address led to', async () => {
   });
 });
 
+test('a later range that leads elsewhere changes no address', async () => {
+  await withServer((request, response, index) => {
+    if (index === 2) response.writeHead(302, { Location: '/moved' }).end();
+    else giveRange(request, response, jpeg);
+  }, async (url, requests) => {
+    assert.equal((await probeUrl(url)).width, 7);
+    assert.deepEqual(requests.map((request) => request.url), ['/image', '/image', '/moved', ...Array(3).fill('/image')]);
+  });
+});
+
 test('a server without ranges is read up to the answer, and then left', async () => {
   const front = jpegBehind(1, 60000);
   for (const headers of [{}, { 'Content-Length': 10_000_000 }]) {
@@ -230,6 +240,10 @@ test('another range than the one that was asked for is refused', async () => {
   for (const range of [`bytes 4096-8191/${jpeg.length}`, `bytes 0-8191/${jpeg.length}`, 'bytes 0-4095/50']) {
     assert.equal((await refused((_, response) => say(response, range, jpeg.subarray(0, 4096)))).code, 'WRONG_RANGE', range);
   }
+  // The first block would have the size, and the range says that it is longer.
+  const short = Buffer.concat([jpegBehind(0, 4), Buffer.alloc(8192)]);
+  const longer = await refused((_, response) => say(response, `bytes 0-8191/${short.length}`, short.subarray(0, 4096)));
+  assert.equal(longer.code, 'WRONG_RANGE');
 });
 
 test('a range of which nothing is told is refused', async () => {
@@ -242,14 +256,16 @@ test('a range of which nothing is told is refused', async () => {
 test('a body that goes on for ever behind its range is refused, and left', async () => {
   const leaving = new EventEmitter();
   const closed = once(leaving, 'close', { signal: AbortSignal.timeout(10000) });
-  const error = await refused((_, response) => {
+  await withServer((_, response) => {
     response.on('close', () => leaving.emit('close'));
     response.writeHead(206, { 'Content-Range': 'bytes 0-4095/4096' });
     response.write(jpegBehind(0, 4));
     writeForever(response);
+  }, async (url) => {
+    await assert.rejects(probeUrl(url), { code: 'WRONG_RANGE' });
+    // The server closes its connections after this, so the client has to leave first.
+    await closed;
   });
-  assert.equal(error.code, 'WRONG_RANGE');
-  await closed;
 });
 
 test('an input that changes between two ranges is refused', async () => {

@@ -69,6 +69,7 @@ async function withPage(use, prepare = async () => {}, loaded = LOADED) {
     return await withServe((address) => withTab(async (tab) => {
       for (const domain of ['Page', 'Runtime', 'Network', 'DOM', 'Log']) await tab.send(`${domain}.enable`);
       await tab.send('Page.addScriptToEvaluateOnNewDocument', { source: COUNTER });
+      await tab.send('Emulation.setScrollbarsHidden', { hidden: true });
       await viewport(tab, 1280, 900);
       await prepare(tab);
       await tab.send('Page.navigate', { url: address.href });
@@ -140,10 +141,10 @@ async function viewport(tab, width, height) {
 }
 
 async function screenshot(tab, name, [width, height], scheme) {
-  await tab.send('Emulation.setScrollbarsHidden', { hidden: true });
   await viewport(tab, width, height);
   await tab.send('Emulation.setEmulatedMedia', { features: [{ name: 'prefers-color-scheme', value: scheme }] });
   await tab.value('scrollTo(0, 0); dispatchEvent(new Event("resize")); document.activeElement.blur()');
+  await tab.value('new Promise((resolve) => { requestAnimationFrame(() => requestAnimationFrame(() => setTimeout(resolve, 200))); })');
   const { data } = await tab.send('Page.captureScreenshot', { captureBeyondViewport: true });
   mkdirSync(out, { recursive: true });
   writeFileSync(join(out, `page-${name}.png`), Buffer.from(data, 'base64'));
@@ -240,7 +241,7 @@ test('the page', async (t) => {
       assert.deepEqual(answers.map(({ wrong }) => wrong), [false, false, false, false, false, true]);
       assert.equal(answers[0].cost, '12 kB of 94 kB read, in 3 steps');
       assert.deepEqual(answers[0].steps.slice(-4), ['segment length', 'marker: frame', 'height', 'width']);
-      assert.equal(answers[0].listing, `The result depends on ${answers[0].steps.length} fields, in this order`);
+      assert.equal(answers[0].listing, `The result depends on ${answers[0].steps.length} fields`);
       assert.deepEqual(await tab.value(ROWS), []);
     });
 
@@ -398,8 +399,12 @@ test('the page', async (t) => {
       mkdirSync(many);
       const paths = Array.from({ length: 2000 }, (_, index) => join(many, `${index}.jpg`));
       paths.forEach((path, index) => writeFileSync(path, index % 10 ? jpegBehind(1 + (index % 7), 40) : 'no image'));
-      await tab.value(`globalThis.longest = 0; globalThis.values = []; globalThis.said = [];
-        new PerformanceObserver((list) => { for (const { duration } of list.getEntries()) longest = Math.max(longest, duration); }).observe({ type: 'longtask' });
+      await tab.value(`globalThis.longest = 0; globalThis.values = []; globalThis.said = []; globalThis.chosen = Infinity;
+        // What the browser itself does before it tells the page of 2,000 files does not count.
+        document.getElementById('files').addEventListener('change', () => { chosen = performance.now(); }, true);
+        new PerformanceObserver((list) => {
+          for (const { startTime, duration } of list.getEntries()) longest = Math.max(longest, Math.min(duration, startTime + duration - chosen));
+        }).observe({ type: 'longtask' });
         new MutationObserver(() => { if (!document.getElementById('running').hidden) values.push(document.getElementById('progress').value); })
           .observe(document.getElementById('sofar'), { childList: true });
         new MutationObserver(() => said.push(${text('status')})).observe(document.getElementById('status'), { childList: true })`);
@@ -457,6 +462,7 @@ test('the page', async (t) => {
       for (const [offset, value] of [[2, 58], [10, 54], [14, 40], [18, 1], [22, 1], [26, 1 | (24 << 16)], [34, 4]]) bitmap.writeUInt32LE(value, offset);
       bitmap.set([10, 120, 250], 54);
       await choose(tab, writeInputs(folder, [bitmap, 'no image', jpegBehind(1, 40)].map((bytes) => ({ bytes }))));
+      await tab.value(`document.getElementById('many').scrollIntoView()`);
       await tab.until(`document.querySelectorAll('#rows canvas').length === 1`);
       const [type, pixel] = await tab.value(`(async () => {
         const picture = document.querySelector('#rows canvas');
@@ -537,9 +543,9 @@ test('the page', async (t) => {
       const named = (role) => nodes.filter((node) => node.role?.value === role && !node.ignored).map(({ name }) => name?.value ?? '');
       assert.ok(named('button').every((name) => name !== '') && named('button').includes('Scramble every other byte'));
       assert.ok(named('image').concat(named('img')).some((name) => /^The whole file to scale: the result depends on 14 fields/.test(name)));
-      assert.deepEqual(named('heading'), ['Which bytes tell the size of an image?', 'JPEG with segments', 'The result depends on 14 fields, in this order']);
+      assert.deepEqual(named('heading'), ['Which bytes tell the size of an image?', 'JPEG with segments', 'The result depends on 14 fields']);
       assert.ok(named('slider').includes('Zoom') && named('region').includes('Bytes in hex'));
-      assert.equal(named('list').includes('The result depends on 14 fields, in this order'), true);
+      assert.equal(named('list').includes('The result depends on 14 fields'), true);
       // What is said without being asked for.
       const live = await tab.value(`['status', 'answer', 'outcome'].map((id) => document.getElementById(id).closest('[role=status], [aria-live=polite], output')?.checkVisibility())`);
       assert.deepEqual(live, [true, true, true]);
@@ -560,7 +566,7 @@ test('the page', async (t) => {
     await t.test('is walked by the tabulator from the top to the bottom', async () => {
       await choose(tab, [join(folder, 'many', '1.jpg'), join(folder, 'many', '2.jpg')]);
       await tab.until(`${text('name')} === '1.jpg'`);
-      await tab.value(`document.activeElement.blur(); scrollTo(0, 0); getSelection().collapse(document.body, 0)`);
+      await tab.value(`document.querySelector('#samples button').focus()`);
       const walked = [];
       for (let at = 0; at < 80; at += 1) {
         await key(tab, 'Tab');
