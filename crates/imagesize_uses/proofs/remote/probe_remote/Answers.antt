@@ -1,6 +1,6 @@
 use Rattle.std.proofs.Common.{◌++◌, refl, ap, ◌∙◌, rules}
 use Rattle.imagesize_source.specs.Input.{part}
-use Rattle.imagesize_uses.proofs.Rounds.{begun, few_by, fetched, smaller}
+use Rattle.imagesize_uses.proofs.Rounds.{begun, few_by, fetched, smaller, some_place}
 use Rattle.imagesize_uses.proofs.remote.probe_remote.Goals as goal
 
 pub rounds-init : goal.rounds-init
@@ -35,3 +35,13 @@ pub returns-in_err-extend_from_slice-in-Wanted-clause-few : goal.returns-in_err-
 returns-in_err-extend_from_slice-in-Wanted-clause-few g c =
     few_by c.in-Wanted.span c.rounds.invariant.1 c.deref-in-rounds.ensures.value c.deref.ensures.value
     (c.in-Wanted.ensures.says (g.R.Remote.input c.args.remote.now)) c.in-Wanted.ensures.fits c.fetch_part.ensures.counts
+
+pub returns-in_err-fetch_part-in-Wanted-clause-some : goal.returns-in_err-fetch_part-in-Wanted-clause-some
+returns-in_err-fetch_part-in-Wanted-clause-some g c =
+    some_place c.in-Wanted.span c.rounds.invariant.1 c.deref-in-rounds.ensures.value c.deref.ensures.value
+    (c.in-Wanted.ensures.says (g.R.Remote.input c.args.remote.now)) c.in-Wanted.ensures.fits
+
+pub returns-in_err-extend_from_slice-in-Wanted-clause-some : goal.returns-in_err-extend_from_slice-in-Wanted-clause-some
+returns-in_err-extend_from_slice-in-Wanted-clause-some g c =
+    some_place c.in-Wanted.span c.rounds.invariant.1 c.deref-in-rounds.ensures.value c.deref.ensures.value
+    (c.in-Wanted.ensures.says (g.R.Remote.input c.args.remote.now)) c.in-Wanted.ensures.fits
