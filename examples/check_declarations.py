@@ -39,10 +39,14 @@ BOUND = {
 }
 # A parameter that the header calls otherwise: by its name and its type in C.
 RENAMED = {"number": "type", "kind": "type", ("length", "size_t *"): "written"}
+# A parameter that is a text: bytes in the library, and characters in C.
+TEXT = "text"
 
 
 def named(name, kind):
     """A parameter as the header writes it."""
+    if name == TEXT:
+        kind = kind.replace("uint8_t", "char")
     name = RENAMED.get((name, kind), RENAMED.get(name, name))
     return f"{kind}{name}" if kind.endswith("*") else f"{kind} {name}"
 
