@@ -1,7 +1,10 @@
 /** A type of image. */
 export type Kind =
+  // by bindings/lists.py: types
   | 'Aseprite' | 'Astc' | 'Atc' | 'Bmp' | 'Dds' | 'Eac' | 'Etc2' | 'Exr' | 'Farbfeld' | 'Gif' | 'Hdr' | 'Heif' | 'Ico'
-  | 'Ilbm' | 'Jpeg' | 'Jxl' | 'Ktx2' | 'Pnm' | 'Pvrtc' | 'Psd' | 'Qoi' | 'Tga' | 'Tiff' | 'Vtf' | 'Webp';
+  | 'Ilbm' | 'Jpeg' | 'Jxl' | 'Ktx2' | 'Pnm' | 'Pvrtc' | 'Psd' | 'Qoi' | 'Tga' | 'Tiff' | 'Vtf' | 'Webp'
+  // end of the list
+  ;
 
 /** A compression, of those types that have several. */
 export type Compression =
@@ -118,21 +121,22 @@ export function probeFile(path: string | URL, options?: Options): Promise<Image 
 
 /** Why an image has no size. */
 export type RefusalCode =
-  /** The bytes are of no type that is known. */
+  // by bindings/lists.py: errors
+  /** The bytes are of no known type. */
   | 'NOT_SUPPORTED'
-  /** The type is known, and its records end before one gives the size. */
+  /** The type is known, and its records are malformed, or end before the size. */
   | 'CORRUPTED_IMAGE'
-  /** The bytes end before some that the layout needs. */
+  /** The bytes end before a byte that the layout needs. */
   | 'END_OF_INPUT'
   /** A HEIF property list holds no image size. */
   | 'NOT_ENOUGH_DATA'
-  /** A text has no delimiter within the bytes that it may have. */
+  /** A text has no delimiter within its greatest length. */
   | 'NO_DELIMITER'
-  /** A text is no UTF-8. */
+  /** A text is not UTF-8. */
   | 'NOT_UTF8'
-  /** A HEIF box is smaller than its own head. */
+  /** A HEIF box is smaller than its own header. */
   | 'INVALID_HEIF_BOX_SIZE'
-  /** A JPEG XL box is smaller than its own head. */
+  /** A JPEG XL box is smaller than its own header. */
   | 'INVALID_JXL_BOX_SIZE'
   /** A JPEG XL codestream does not begin with its signature. */
   | 'INVALID_JXL_SIGNATURE'
@@ -142,28 +146,29 @@ export type RefusalCode =
   | 'BIG_TIFF_OFFSET_SIZE'
   /** The two bytes of a BigTIFF that are always zero are not. */
   | 'INVALID_BIG_TIFF_HEADER'
-  /** A TIFF's directory stands at place 0. */
+  /** A TIFF's directory is at offset 0. */
   | 'INVALID_IFD_OFFSET'
-  /** A TIFF entry has a field type that only BigTIFF knows. */
+  /** A TIFF entry has a field type that only BigTIFF has. */
   | 'IFD_TYPE_FOR_STANDARD_TIFF'
-  /** A TIFF entry has a field type that no TIFF knows. */
+  /** A TIFF entry has an unknown field type. */
   | 'INVALID_IFD_TYPE'
   /** The bytes end within a TIFF entry's value. */
   | 'INVALID_IFD_VALUE_LENGTH'
   /** A TIFF directory gives no width or no height. */
   | 'NO_DIMENSIONS_IN_IFD'
-  /** A WebP's first chunk is none that is known. */
+  /** A WebP's first chunk is unknown. */
   | 'INVALID_VP8_TAG'
   /** An EXR header ends before a data window. */
   | 'DATA_WINDOW_NOT_FOUND'
   /** An HDR does not begin with its identifier. */
   | 'INVALID_HDR_IDENTIFIER'
-  /** An HDR's line of sizes has not four words. */
+  /** An HDR's line of sizes does not have four words. */
   | 'INVALID_HDR_DIMENSIONS_LINE'
-  /** The sizes in an HDR's line are no numbers. */
+  /** One of the sizes in an HDR's line is not a number. */
   | 'HDR_DIMENSIONS_NOT_FOUND'
-  /** The words of a PNM's size are no numbers. */
+  /** The width or the height of a PNM is not a number. */
   | 'PNM_DIMENSIONS_NOT_FOUND'
+  // end of the list
   /** A side has 2^53 pixels or more, which a number does not hold. */
   | 'SIDE_TOO_LARGE';
 

@@ -13,6 +13,7 @@ from ._library import number, text
 class Status(IntEnum):
     """What a call of the library answers: `ANSWERED`, or why it has no answer. The numbers are those of `imagesize.h`."""
 
+    # by bindings/lists.py: statuses
     ANSWERED = 0
     NOT_SUPPORTED = 1
     CORRUPTED_IMAGE = 2
@@ -44,42 +45,46 @@ class Status(IntEnum):
     UNKNOWN_TYPE = 28
     UNKNOWN_STATUS = 29
     BYTES_WANTED = 30
+    # end of the list
 
 
 _MESSAGES: Dict[Status, str] = {
+    # by bindings/lists.py: messages
     Status.NOT_SUPPORTED: "the bytes are of no known image type",
     Status.CORRUPTED_IMAGE: "the records are malformed, or end before the size",
     Status.FAULT: "the bytes cannot be read",
     Status.END_OF_INPUT: "the file ends before its size",
-    Status.NOT_ENOUGH_DATA: "no property of the image is its size",
+    Status.NOT_ENOUGH_DATA: "a HEIF property list holds no image size",
     Status.BUDGET_SPENT: "the size needs more bytes than the budget",
     Status.OUT_OF_MEMORY: "there is not enough memory",
     Status.NO_DELIMITER: "a word, a line or a name is too long",
     Status.NOT_UTF8: "a text is not UTF-8",
-    Status.INVALID_HEIF_BOX_SIZE: "a box is smaller than its own header",
-    Status.INVALID_JXL_BOX_SIZE: "a box is smaller than its own header",
-    Status.INVALID_JXL_SIGNATURE: "the codestream has a wrong signature",
-    Status.INVALID_TIFF_HEADER: "the header has no known byte order or version",
-    Status.BIG_TIFF_OFFSET_SIZE: "the offsets of a BigTIFF are not 8 bytes long",
-    Status.INVALID_BIG_TIFF_HEADER: "two bytes of the header that are always 0 are not 0",
-    Status.INVALID_IFD_OFFSET: "the directory is at offset 0",
-    Status.IFD_TYPE_FOR_STANDARD_TIFF: "an entry has a field type that only a BigTIFF may have",
-    Status.INVALID_IFD_TYPE: "an entry has an unknown field type",
-    Status.INVALID_IFD_VALUE_LENGTH: "the file ends within the value of an entry",
-    Status.NO_DIMENSIONS_IN_IFD: "the directory has no width or no height",
-    Status.INVALID_VP8_TAG: "the first chunk is of an unknown kind",
-    Status.DATA_WINDOW_NOT_FOUND: "the header has no data window",
-    Status.INVALID_HDR_IDENTIFIER: "the first line is not that of a Radiance image",
-    Status.INVALID_HDR_DIMENSIONS_LINE: "the line of the size does not have four words",
-    Status.HDR_DIMENSIONS_NOT_FOUND: "the width or the height is not a number",
-    Status.PNM_DIMENSIONS_NOT_FOUND: "the width or the height is not a number",
+    Status.INVALID_HEIF_BOX_SIZE: "a HEIF box is smaller than its own header",
+    Status.INVALID_JXL_BOX_SIZE: "a JPEG XL box is smaller than its own header",
+    Status.INVALID_JXL_SIGNATURE: "a JPEG XL codestream does not begin with its signature",
+    Status.INVALID_TIFF_HEADER: "a TIFF has no known byte order or version",
+    Status.BIG_TIFF_OFFSET_SIZE: "a BigTIFF has offsets of another size than 8 bytes",
+    Status.INVALID_BIG_TIFF_HEADER: "the two bytes of a BigTIFF that are always zero are not",
+    Status.INVALID_IFD_OFFSET: "a TIFF's directory is at offset 0",
+    Status.IFD_TYPE_FOR_STANDARD_TIFF: "a TIFF entry has a field type that only BigTIFF has",
+    Status.INVALID_IFD_TYPE: "a TIFF entry has an unknown field type",
+    Status.INVALID_IFD_VALUE_LENGTH: "the bytes end within a TIFF entry's value",
+    Status.NO_DIMENSIONS_IN_IFD: "a TIFF directory gives no width or no height",
+    Status.INVALID_VP8_TAG: "a WebP's first chunk is unknown",
+    Status.DATA_WINDOW_NOT_FOUND: "an EXR header ends before a data window",
+    Status.INVALID_HDR_IDENTIFIER: "an HDR does not begin with its identifier",
+    Status.INVALID_HDR_DIMENSIONS_LINE: "an HDR's line of sizes does not have four words",
+    Status.HDR_DIMENSIONS_NOT_FOUND: "one of the sizes in an HDR's line is not a number",
+    Status.PNM_DIMENSIONS_NOT_FOUND: "the width or the height of a PNM is not a number",
     Status.BUFFER_TOO_SMALL: "there are more spans than the limit",
+    # end of the list
 }
 
 
 class Kind(IntEnum):
     """The types of images, without their compressions."""
 
+    # by bindings/lists.py: types
     ASEPRITE = 1
     ASTC = 2
     ATC = 3
@@ -105,6 +110,7 @@ class Kind(IntEnum):
     TIFF = 23
     VTF = 24
     WEBP = 25
+    # end of the list
 
 
 class Compression(IntEnum):
@@ -113,6 +119,7 @@ class Compression(IntEnum):
     `UNKNOWN_COMPRESSION` is a compression that is none of the others.
     """
 
+    # by bindings/lists.py: compressions
     NO_COMPRESSION = 0
     UNKNOWN_COMPRESSION = 1
     ATC_RGB = 2
@@ -147,11 +154,13 @@ class Compression(IntEnum):
     PVR_ETC2_RGB_A1 = 31
     PVR_EAC_R11 = 32
     PVR_EAC_RG11 = 33
+    # end of the list
 
 
 class Family(IntEnum):
     """What compressions have in common, across types."""
 
+    # by bindings/lists.py: families
     BLOCK_COMPRESSION = 1
     ETC = 2
     EAC = 3
@@ -159,6 +168,7 @@ class Family(IntEnum):
     ASTC = 5
     ATC = 6
     UNCOMPRESSED = 7
+    # end of the list
 
 
 _MEDIA: Dict[Kind, Tuple[Optional[str], str]] = {

@@ -70,6 +70,7 @@ types! {
     ///
     /// The order of two types is that of the list below, then that of their compressions.
     pub enum ImageType {
+        // by bindings/lists.py: types
         /// Animated sprites of the editor Aseprite.
         Aseprite = 1,
         /// Adaptive scalable texture compression.
@@ -92,7 +93,7 @@ types! {
         Gif = 10,
         /// Radiance RGBE.
         Hdr = 11,
-        /// The containers of HEIC and AVIF.
+        /// HEIC and AVIF.
         Heif(Compression) = 12,
         /// Windows icon.
         Ico = 13,
@@ -104,7 +105,7 @@ types! {
         Jxl = 16,
         /// Khronos texture, version 2.
         Ktx2 = 17,
-        /// The portable bitmaps: PBM, PGM and PPM.
+        /// PBM, PGM and PPM.
         Pnm = 18,
         /// PowerVR texture.
         Pvrtc(PvrtcCompression) = 19,
@@ -114,12 +115,13 @@ types! {
         Qoi = 21,
         /// Truevision TGA.
         Tga = 22,
-        /// Tagged image file, BigTIFF among them.
+        /// TIFF, with BigTIFF.
         Tiff = 23,
         /// Valve texture.
         Vtf = 24,
         /// WebP.
         Webp = 25,
+        // end of the list
     }
 }
 
