@@ -11,7 +11,7 @@ from ._library import number, text
 
 
 class Status(IntEnum):
-    """What a call of the library answers: `ANSWERED`, or why it has no answer. The numbers are those of `imagesize.h`."""
+    """What a call of the library returns: `ANSWERED`, or an error. The numbers are the same as in `imagesize.h`."""
 
     # by bindings/lists.py: statuses
     ANSWERED = 0
@@ -212,7 +212,7 @@ class Size(NamedTuple):
 
 
 class Span(NamedTuple):
-    """Some of the bytes: `len` of them, from place `start` on. Places count bytes from 0."""
+    """A range of bytes: `len` bytes from offset `start`. Offsets count from 0."""
 
     start: int
     len: int
@@ -220,10 +220,10 @@ class Span(NamedTuple):
 
 @dataclasses.dataclass(frozen=True, order=True)
 class ImageType:
-    """A type of image, with its compression where the kind has several.
+    """A type of image, with its compression if the type has one.
 
-    It prints as its name, with that of its compression in parentheses, as "Gif" or "Dds(Bc7)". Raises `ValueError` where no type
-    has the two.
+    It prints as its name, with the name of its compression in parentheses, such as "Gif" or "Dds(Bc7)". Raises `ValueError` if no
+    type has this compression.
     """
 
     kind: Kind
@@ -242,27 +242,27 @@ class ImageType:
 
     @property
     def compression_name(self) -> Optional[str]:
-        """The name of the compression, where the kind has several."""
+        """The name of the compression, or None if the type has none."""
         return self._text("imagesize_compression_name") or None
 
     @property
     def mime_type(self) -> Optional[str]:
-        """The MIME type, as "image/jpeg"; None for a type that has none. A HEIF with AV1 is "image/avif", with HEVC "image/heic"."""
+        """The MIME type, such as "image/jpeg", or None. A HEIF with AV1 is "image/avif", and with HEVC "image/heic"."""
         return self._media[0]
 
     @property
     def extension(self) -> str:
-        """The usual extension of a file of this type, with its dot, as ".jpg"."""
+        """The usual extension of a file of this type, with its dot, such as ".jpg"."""
         return self._media[1]
 
     @property
     def container_format(self) -> Optional[str]:
-        """The name of the container, for types whose images stand in one."""
+        """The name of the container, for types whose images are in one; otherwise None."""
         return self._text("imagesize_container_format") or None
 
     @property
     def compression_family(self) -> Optional[Family]:
-        """What the compression has in common with that of other types; None where it is not known, and for no texture."""
+        """The family of the compression, across types; None if the compression is unknown, or the type is not a texture."""
         family = self._number("imagesize_compression_family")
         return Family(family) if family else None
 
@@ -299,10 +299,11 @@ class Probed(NamedTuple):
 
 
 class ImageError(Exception):
-    """An image has no type or no size. It prints as a message for people, as "photo.jpg: Jpeg: the file ends before its size".
+    """An image has no type or no size. It prints as a message for people, such as "photo.jpg: Jpeg: the file ends
+    before its size".
 
-    `status` says why, and `message` says it in words. `text` is the library's own text of the status. `image_type` is the type
-    where one was found, and `filename` the path where there is one; both can be None.
+    `status` says why, and `message` says it in words. `text` is the library's own text for the status. `image_type` is the type
+    if one was found, and `filename` the path if there is one; both can be None.
     """
 
     def __init__(self, status: int, image_type: Optional[ImageType] = None, filename: Optional[str] = None) -> None:
@@ -313,12 +314,12 @@ class ImageError(Exception):
 
     @property
     def message(self) -> str:
-        """Why there is no answer, in words."""
+        """Why there is no size, in words."""
         return _MESSAGES.get(self.status) or self.text
 
     @property
     def text(self) -> str:
-        """The library's own text of the status, as "failed to fill whole buffer"."""
+        """The library's own text for the status, such as "failed to fill whole buffer"."""
         return status_text(self.status)
 
     def __str__(self) -> str:
@@ -329,7 +330,7 @@ class ImageError(Exception):
 
 
 def status_text(status: int) -> str:
-    """The text of a status. Raises `ValueError` where there is none of this number."""
+    """The library's text for a status. Raises `ValueError` if no status has this number."""
     return _text("imagesize_status_text", Status(status)) or ""
 
 
