@@ -20,9 +20,9 @@ extern "C" {
     ) -> u32;
 }
 
-/// The name that the library gives a type, as "Gif" or "Dds(Bc7)"; empty where no type has the numbers.
+/// The name that the library gives a type, such as "Gif" or "Dds(Bc7)"; empty if no type has the numbers.
 fn library_name(kind: u32, compression: u32) -> String {
-    // SAFETY: the pointers are those that `text` lends.
+    // SAFETY: `text` passes valid pointers.
     let [name, way] = [imagesize_type_name, imagesize_compression_name].map(|call| {
         sys::text(|text, room, written| unsafe { call(kind, compression, text, room, written) })
     });
