@@ -31,9 +31,10 @@ LONGEST = 30
 # Words of the proofs that no reader knows. Code and headings of tables of code are not read.
 OLD = (r"places?|rooms?|lent|lends?|lending|hand(?:s|ed)? over|told|taken|answers?|answered|refusals?|halts?|marks|bytes that follow|"
        r"kinds?|worked inputs?|edits?|the gate|cures?|cured|behind|wants|wanted|stands?|chains?|that of a|those of a|so it is|(?<!each )of which")
-REWRITTEN = {"README.md", "CALLING.md", "CONTRIBUTING.md", "SECURITY.md", "include/imagesize.h", "docs/ARCHITECTURE.md",
+REWRITTEN = {"README.md", "CALLING.md", "CONTRIBUTING.md", "SECURITY.md", "include/imagesize.h", "bindings/c/README.md",
+             "bindings/js/README.md", "bindings/python/README.md", "bindings/rust/README.md", "docs/ARCHITECTURE.md",
              "docs/CHAINS.md", "docs/COMPARISON.md", "docs/DECISIONS.md", "docs/DIFFERENCES.md", "docs/LAYOUTS.md", "docs/PARTS.md",
-             "docs/PROMISES.md", "docs/PROVED.md", "docs/REMOTE.md", "docs/VERSIONS.md"}
+             "docs/PROMISES.md", "docs/PROVED.md", "docs/RELEASING.md", "docs/REMOTE.md", "docs/VERSIONS.md"}
 # Commands of the kit, by `rt`; those of a shell that a page may name are not looked at.
 RT = set("ci must-fail selftest doc version new check verdict lib run test try fmt tidy plant all expand lemma seed names".split())
 
