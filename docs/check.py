@@ -5,8 +5,8 @@
     python3 docs/check.py --write        writes the contracts in CALLING.md anew from the sources
     python3 docs/check.py --self-test    plants a mistake for each check, and fails if one is not found
 
-It checks links, names of files, commands, mutations, definitions and clauses, the contracts in CALLING.md, numbers, and the length
-of sentences. A page of REWRITTEN has none of the words in OLD.
+It checks links, names of files, commands, mutations, definitions and clauses, the contracts in CALLING.md, numbers, worked
+diffs, and the length of sentences. A page of REWRITTEN has none of the words in OLD.
 """
 
 import functools
@@ -31,8 +31,11 @@ LONGEST = 30
 # Words of the proofs that no reader knows. Code and headings of tables of code are not read.
 OLD = (r"places?|rooms?|lent|lends?|lending|hand(?:s|ed)? over|told|taken|answers?|answered|refusals?|halts?|marks|bytes that follow|"
        r"kinds?|worked inputs?|edits?|the gate|cures?|cured|behind|wants|wanted|stands?|chains?|that of a|those of a|so it is|(?<!each )of which")
-REWRITTEN = {"README.md", "CALLING.md", "CONTRIBUTING.md", "SECURITY.md", "include/imagesize.h", "docs/ARCHITECTURE.md",
-             "docs/COMPARISON.md", "docs/DIFFERENCES.md", "docs/REMOTE.md", "docs/VERSIONS.md"}
+REWRITTEN = {"README.md", "CALLING.md", "CONTRIBUTING.md", "SECURITY.md", "include/imagesize.h", "bindings/c/README.md",
+             "bindings/js/README.md", "bindings/python/README.md", "bindings/rust/README.md", "docs/ARCHITECTURE.md",
+             "docs/CHAINS.md", "docs/COMPARISON.md", "docs/DECISIONS.md", "docs/DIFFERENCES.md", "docs/LAYOUTS.md", "docs/PARTS.md",
+             "docs/PROMISES.md", "docs/PROVED.md", "docs/RELEASING.md", "docs/REMOTE.md", "docs/TESTED.md",
+             "docs/VERSIONS.md"}
 # Commands of the kit, by `rt`; those of a shell that a page may name are not looked at.
 RT = set("ci must-fail selftest doc version new check verdict lib run test try fmt tidy plant all expand lemma seed names".split())
 
@@ -288,6 +291,21 @@ def length(page, text):
         yield f"{len(text.splitlines())} lines, of at most {most}"
 
 
+DIFF = re.compile(r"^```diff\n(.*?)^```$", re.M | re.S)
+
+
+def diffs(page, text):
+    """Lines of a worked diff that their file does not have."""
+    for block in DIFF.findall(text):
+        has, name = (), "no file"
+        for line in block.split("\n"):
+            if line.startswith("+++ "):
+                name = line[4:]
+                has = (TOP / name).read_text().split("\n") if (TOP / name).exists() else ()
+            elif line.startswith("+") and line[1:] not in has:
+                yield f"{name} has no line {line[1:].strip()}"
+
+
 def prose(page, text):
     """The text of a page without code, or the comments of the header."""
     if page.suffix == ".h":
@@ -329,7 +347,7 @@ def words(page, text):
             yield f"the project's own word: {word}"
 
 
-CHECKS = (links, files, commands, mutations, definitions, defined, clauses, calling, numbers, length, long_sentences, words)
+CHECKS = (links, files, commands, mutations, definitions, defined, clauses, calling, numbers, length, diffs, long_sentences, words)
 # A mistake for each check: the page that it is planted on, and the text.
 PLANTED = {
     links: ("README.md", "[a page](docs/NOT_THERE.md)"),
@@ -342,6 +360,7 @@ PLANTED = {
     calling: ("CALLING.md", None),
     numbers: ("README.md", "26 formats"),
     length: ("README.md", "\n" * 81),
+    diffs: ("CONTRIBUTING.md", "```diff\n+++ docs/check.py\n+no such line\n```"),
     long_sentences: ("README.md", "It is " + "very " * 40 + "long."),
     words: ("README.md", "A refusal at its place."),
 }

@@ -1,6 +1,6 @@
 /*
  * Prints the type and the size of each image file that is named, as image does, and reads no more of a file than the blocks
- * that its answer rests on.
+ * that its result depends on.
  *
  *     blocks [--stdio] FILE..
  *

@@ -1,8 +1,8 @@
-"""Runs the examples over the worked inputs.
+"""Runs the examples over the test vectors.
 
     python3 check.py FOLDER
 
-FOLDER has the programs `image` and `blocks`, the shared library, and the worked inputs that expand.py writes, as `run` builds
+FOLDER has the programs `image` and `blocks`, the shared library, and the test vectors that expand.py writes, as `run` builds
 them. To these come the inputs of surprises.tsv, of which the READMEs say what they may not seem to be.
 """
 
@@ -16,7 +16,7 @@ HERE = pathlib.Path(__file__).resolve().parent
 
 
 def rows(out):
-    """The bytes, the line and the spans of each worked input."""
+    """The bytes, the line and the spans of each test vector."""
     for row in pathlib.Path(out, "worked.tsv").read_text().splitlines():
         data, line, spans = row.split("\t")
         yield bytes.fromhex("" if data == "-" else data), line, spans
@@ -38,7 +38,7 @@ def wanted(line, spans):
 
 
 def check_examples(out):
-    """Both examples print the worked answers."""
+    """Both examples print the results of the test vectors."""
     count = 0
     with tempfile.TemporaryDirectory() as folder:
         for with_spans in (True, False):
@@ -53,11 +53,11 @@ def check_examples(out):
             for command in ([f"{out}/image"], [sys.executable, str(HERE / "image.py")]):
                 got = printed(command, names, with_spans)
                 assert got == want, differs(got, want)
-    print(f"{count} worked inputs: both examples print their answers")
+    print(f"{count} test vectors: both examples print their answers")
 
 
 def check_blocks(out):
-    """The example that reads blocks alone prints the worked answers too."""
+    """The example that reads blocks alone prints the results of the test vectors too."""
     with tempfile.TemporaryDirectory() as folder:
         names, want = [], ""
         for index, (data, line, _) in enumerate(rows(out)):
@@ -68,7 +68,7 @@ def check_blocks(out):
         for option in ([], ["--stdio"]):
             got = printed([f"{out}/blocks", *option], names, False)
             assert got == want, differs(got, want)
-    print(f"{len(names)} worked inputs by blocks: their answers")
+    print(f"{len(names)} test vectors by blocks: their answers")
 
 
 def check_pipe(out):

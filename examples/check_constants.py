@@ -82,14 +82,14 @@ def plain(name):
 
 
 def compare(title, named, wanted):
-    """The names of a list have the numbers that are wanted, and no name is missing or too many."""
+    """Asserts that a list has the expected names with the expected numbers, and no others."""
     named, wanted = ({plain(name): number for name, number in names.items()} for names in (named, wanted))
     wrong = sorted(name for name in named.keys() | wanted.keys() if named.get(name) != wanted.get(name))
     assert not wrong, f"{title}: " + ", ".join(f"{name} is {named.get(name)} and not {wanted.get(name)}" for name in wrong)
 
 
 class Library:
-    """The calls of the library that name its numbers. Each answers None where the library knows no such number."""
+    """The calls of the library that name its numbers. Each returns None if the library knows no such number."""
 
     def __init__(self, path):
         self.library = ctypes.CDLL(str(pathlib.Path(path).resolve()))

@@ -1,4 +1,4 @@
-"""Runs the program and that of `size` as a user does, and counts the work behind an answer: what no proof and no test sees.
+"""Runs the program and that of `size` as a user does, and counts the work for a result: what no proof and no test sees.
 
     python3 check_work.py FOLDER PROBE SIZES
 
@@ -22,9 +22,9 @@ USAGE = "usage: imagesize_probe [--spans] FILE...\n"
 
 GIF = b"GIF89ad\0d\0\0\0"
 SEGMENTS = 1000
-# A JPEG of 7 by 5 pixels behind empty segments, with a megabyte behind its frame.
+# A JPEG of 7 by 5 pixels after empty segments, with a megabyte after its frame.
 LONG_JPEG = b"\xff\xd8" + b"\xff\xe0\0\x02" * SEGMENTS + b"\xff\xc0\0\x11\x08\0\x05\0\x07" + bytes(1 << 20)
-# An HDR and a PNM of 7 by 5 pixels behind long lines.
+# An HDR and a PNM of 7 by 5 pixels after long lines.
 LONG_HDR = b"#?RADIANCE\n" + (b"a" * 249 + b"\n") * 1000 + b"-Y 5 +X 7\n"
 LONG_PNM = b"P6\n" + (b"#" + b" c" * 400 + b"\n") * 200 + b"7 5\n255\n"
 FILES = {
@@ -71,7 +71,7 @@ def limited(limit, most, *command, **settings):
 
 
 def check_files(probe, sizes):
-    """Each file is closed behind its size, and the buffer is a small one."""
+    """Each file is closed after its size was read, and the buffer is small."""
     sized = "tiny.gif: Gif 100x100\n"
     for command, line in [
         ([sizes], "100x100\n"),
@@ -85,7 +85,7 @@ def check_files(probe, sizes):
 
 
 def check_memory(probe):
-    """Of a file of 2 GiB that is refused no more is loaded than of the longest whose spans are shown, and the output's buffer is small."""
+    """A file of 2 GiB, which is too long, loads no more than the longest file whose spans are shown, and the output's buffer is small."""
     with open("sparse.bin", "wb") as sparse:
         sparse.truncate(2 << 30)
     want = "sparse.bin: error: file is longer than 16777216 bytes\n", "", 1
@@ -101,7 +101,7 @@ def check_memory(probe):
 
 
 def traced(command, name):
-    """The system calls of a command from the first time on that it opens a file: each with its arguments and its answer."""
+    """The system calls of a command from the first time on that it opens a file: each with its arguments and its result."""
     calls = "trace=open,openat,read,pread64,readv,lseek,write,writev"
     with tempfile.NamedTemporaryFile("r") as log:
         subprocess.run(["strace", "-f", "-o", log.name, "-e", calls, *command], stdout=subprocess.DEVNULL, check=False)
@@ -140,7 +140,7 @@ def collected(program, function, *arguments):
 
 
 def check_instructions(folder, probe):
-    """The bytes behind the size are not looked at, and each segment and each byte of a text once, by a call and by the program."""
+    """The bytes after the size are not read. Each segment and each byte of a text is read once, by a call and by the program."""
     program = f"{folder}/image_counted"
     sources = [f"-I{HERE.parent}/include", f"{HERE}/image.c", f"{folder}/libimagesize.a"]
     subprocess.run([os.environ.get("CC", "cc"), "-O1", "-o", program, *sources], check=True)

@@ -1,4 +1,4 @@
-"""Writes the worked inputs as the examples and the bindings read them.
+"""Writes the test vectors as the examples and the bindings read them.
 
     python3 expand.py TABLE OUT
 
@@ -12,7 +12,7 @@ import sys
 
 LONG = 5_000
 
-# The library for C has one text for each refusal, without its numbers.
+# The library for C has one text for each error, without its numbers.
 PLAIN = (
     (r"Invalid heif box size: \d+", "Invalid heif box size"),
     (r"Invalid size for .{4} box: \d+", "Invalid size for a JXL box"),
@@ -21,7 +21,7 @@ PLAIN = (
 
 
 def bytes_of(cell):
-    """The bytes that a cell writes by groups, of which some stand many times."""
+    """The bytes that a cell writes as groups, some of which are repeated."""
     found = bytearray()
     for group in cell.replace("-", "").split():
         digits, _, times = group.partition("*")
@@ -30,7 +30,7 @@ def bytes_of(cell):
 
 
 def line_of(kind, answer):
-    """The line that is printed of a type and a size, or of a refusal."""
+    """The line that is printed for a type and a size, or for an error."""
     if re.fullmatch(r"\d+x\d+", answer):
         return f"{kind} {answer}"
     for text, plain in PLAIN:

@@ -3,8 +3,9 @@
  *
  *     image [--spans] FILE..
  *
- * A line for each file, as "Gif 100x100", "Jpeg: failed to fill whole buffer" or "Could not decode image"; with --spans below
- * it the bytes that this rests on, as "  0+12" for twelve bytes from place 0 on. The status is 0 where each file was read.
+ * It prints a line for each file, such as "Gif 100x100", "Jpeg: failed to fill whole buffer" or "Could not decode image". With
+ * --spans it prints below it the spans that this depends on, such as "  0+12" for twelve bytes from offset 0. The status is 0 if
+ * every file could be read.
  */
 #include "print.h"
 
@@ -18,7 +19,7 @@ static void print_image(const uint8_t *bytes, size_t length)
     print_answer(&answer);
 }
 
-/* Asks for the count first, and then lends room for just so many. */
+/* Asks for the count first, and then passes a buffer of that length. */
 static int print_spans(const uint8_t *bytes, size_t length)
 {
     imagesize_span none = {0, 0};
@@ -37,7 +38,7 @@ static int print_spans(const uint8_t *bytes, size_t length)
     return 0;
 }
 
-/* All bytes of a file, in memory that the caller frees; NULL where they cannot be read. */
+/* All bytes of a file, in memory that the caller frees; NULL if they cannot be read. */
 static uint8_t *read_file(const char *name, size_t *length)
 {
     FILE *file = fopen(name, "rb");

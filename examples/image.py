@@ -2,8 +2,8 @@
 
     python3 image.py [--spans] FILE..
 
-The lines are those of image.c: "Gif 100x100", "Jpeg: failed to fill whole buffer" or "Could not decode image"; with --spans
-below it the bytes that this rests on, as "  0+12" for twelve bytes from place 0 on.
+It prints the same lines as image.c: "Gif 100x100", "Jpeg: failed to fill whole buffer" or "Could not decode image". With --spans
+it prints below it the spans that this depends on, such as "  0+12" for twelve bytes from offset 0.
 """
 
 from __future__ import annotations

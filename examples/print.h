@@ -35,7 +35,7 @@ static void print_type(uint32_t type, uint32_t compression)
     }
 }
 
-/* What a probe answers and tells. Of no type the number is 0. */
+/* The status and the results of a probe. The type is 0 if none was found. */
 struct answer {
     uint32_t status, type, compression;
     uint64_t width, height;

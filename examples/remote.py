@@ -1,9 +1,9 @@
-"""Prints the type and the size of each image behind a URL, or why it has none, with the requests made and the bytes fetched.
+"""Prints the type and the size of the image at each URL, or why it has none, with the requests made and the bytes fetched.
 
     python3 remote.py URL..
 
-The lines are "https://example.org/photo.jpg: Jpeg 640x480 (2 requests, 8192 of 2000000 bytes)". Only ranges of a file are asked for,
-as the library wants them, and at most a mebibyte of it. The status is 1 where an image was refused, and 2 where none was named.
+A line looks like "https://example.org/photo.jpg: Jpeg 640x480 (2 requests, 8192 of 2000000 bytes)". Only the ranges that the library
+needs are requested, and at most 1 MiB of a file. The status is 1 if an image has no size, and 2 if no URL was named.
 """
 
 from __future__ import annotations
@@ -32,7 +32,7 @@ class RemoteError(Exception):
 
 
 class Remote:
-    """A file behind a URL, of which ranges are fetched. Its length is known from the first."""
+    """A file at a URL. Only ranges of it are fetched; the first response has its length."""
 
     def __init__(self, url: str) -> None:
         self.url = url
@@ -110,7 +110,7 @@ def line(url: str) -> Tuple[bool, str]:
 
 
 def main(urls: List[str]) -> int:
-    """Prints the lines, and answers the status."""
+    """Prints the lines, and returns the status."""
     refused = False
     for url in urls:
         sized, said = line(url)

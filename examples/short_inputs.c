@@ -1,6 +1,6 @@
 /*
  * Calls the library over a hundred thousand short inputs, in eight threads at once. Each input ends at a page that cannot be
- * read, and so does each buffer: a call that reads or writes behind what it is lent faults. Then over what a caller may do wrong.
+ * read, and so does each buffer: a call that reads or writes past a buffer of the caller faults. Then over what a caller may do wrong.
  *
  *     short_inputs
  *
@@ -29,7 +29,7 @@ static void expect(int holds, const char *what)
     }
 }
 
-/* The end of memory behind which nothing can be read or written. */
+/* The end of memory, after which nothing can be read or written. */
 static uint8_t *guarded_end(void)
 {
     size_t page = (size_t)sysconf(_SC_PAGESIZE), room = PAGES * page;
@@ -68,7 +68,7 @@ static const struct front {
     {"\0\0\x02\0\0\0\0\0\0\0\0\0\x03\0\x04\0\x18\0", 18}, {"VTF\0", 4}, {"\xABKTX 20\xBB\r\n\x1A\n", 12},
 };
 
-/* A short input, at the end of a worker's room. Its length is returned. */
+/* Writes a short input at the end of a worker's buffer, and returns its length. */
 static size_t short_input(struct worker *worker)
 {
     size_t length = random_number(worker) % (LONGEST + 1);
@@ -82,7 +82,7 @@ static size_t short_input(struct worker *worker)
     return length;
 }
 
-/* What a call answers, and what it tells. The numbers are no answers until it tells others. */
+/* The status and the results of a call. The initial numbers are not possible results. */
 struct answer {
     uint32_t status, type, compression;
     uint64_t width, height;
@@ -103,14 +103,14 @@ static struct answer probe(const uint8_t *bytes, size_t length)
     return a;
 }
 
-/* It answers, or refuses bytes: no reader was asked, and no memory. */
+/* The status is success or an error of the bytes: there is no reader, and no memory is allocated. */
 static int is_of_bytes(uint32_t status)
 {
     return status < IMAGESIZE_BUFFER_TOO_SMALL && status != IMAGESIZE_FAULT && status != IMAGESIZE_BUDGET_SPENT
            && status != IMAGESIZE_OUT_OF_MEMORY;
 }
 
-/* The calls for type and size alone answer as the one for both. */
+/* The calls for type and size alone return the same as the call for both. */
 static void calls_agree(const uint8_t *bytes, size_t length, const struct answer *both)
 {
     expect(is_of_bytes(both->status), "a probe answers a refusal of bytes");
@@ -135,7 +135,7 @@ static void spans_lie_within(struct worker *worker, size_t length)
     }
 }
 
-/* What is asked of the parts of an input: both, the type alone, or the size by the type that the answer has already. */
+/* What a call over parts returns: both, the type alone, or the size by the type that is already known. */
 enum asked { BOTH, TYPE, SIZE };
 
 /* A call over so many parts that a worker holds. */
@@ -169,7 +169,7 @@ static struct answer ask_parts(struct worker *worker, enum asked asked, struct a
     return a;
 }
 
-/* From no part on, with each part that is wanted added, the answer is the right one. */
+/* Starting without parts, and adding each requested part, gives the right result. */
 static void parts_lead_to(struct worker *worker, enum asked asked, struct answer before, size_t length, const struct answer *right)
 {
     imagesize_span parts[SPANS], wanted = {0, 0};
@@ -187,7 +187,7 @@ static void parts_lead_to(struct worker *worker, enum asked asked, struct answer
     expect(0, "a call over parts ends");
 }
 
-/* The type alone is told as beside the size, and the size by it as beside the type. */
+/* The type alone, and the size by it, are the same as in the call for both. */
 static void parts_lead_to_each(struct worker *worker, size_t length, const struct answer *whole)
 {
     parts_lead_to(worker, BOTH, nothing_told, length, whole);

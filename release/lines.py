@@ -1,4 +1,4 @@
-"""Gives a program the worked inputs as files, and compares the line that it prints of each.
+"""Gives a program the test vectors as files, and compares the line that it prints of each.
 
     python3 lines.py WORKED [--named|--numbers] COMMAND..
 
@@ -20,7 +20,7 @@ import expand  # noqa: E402
 
 
 def rows(worked):
-    """The bytes and the line of each worked input, and of those that may surprise."""
+    """The bytes and the line of each test vector, and of those that may surprise."""
     for row in pathlib.Path(worked).read_text().splitlines():
         data, line, _ = row.split("\t")
         yield bytes.fromhex(data.replace("-", "")), line

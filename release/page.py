@@ -1,4 +1,4 @@
-"""Opens a page of the unpacked package ./package in a browser, $CHROMIUM, with the worked inputs, and reads what it found.
+"""Opens a page of the unpacked package ./package in a browser, $CHROMIUM, with the test vectors, and reads what it found.
 
     python3 page.py WORKED PAGE
 """

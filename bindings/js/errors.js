@@ -1,9 +1,9 @@
-/** Why an input has no answer. */
+/** Why an input has no result. */
 export class ImageError extends Error {
   /**
    * @param {string} code what went wrong, in capitals
    * @param {string} message the same for people
-   * @param {object} [details] `cause`, and what was found out before
+   * @param {object} [details] `cause`, and what is known about the input
    */
   constructor(code, message, { cause, ...found } = {}) {
     super(message, cause === undefined ? undefined : { cause });

@@ -1,4 +1,4 @@
-// An input behind HTTP. Ranges of it are fetched, or its beginning if the server gives no ranges.
+// An input at an HTTP address. Ranges of it are fetched, or its beginning if the server gives no ranges.
 
 import { Body } from './body.js';
 import { ImageError } from './errors.js';
@@ -58,7 +58,7 @@ export class Remote {
     this.whole = body;
   }
 
-  // Each answer is of the same version of the input, as far as the server tells one from another. If the first request was
+  // Each response has the same version of the input, as far as the server distinguishes them. If the first request was
   // redirected, later ranges are fetched from the new address.
   #checkVersion({ headers, url }, total) {
     const version = JSON.stringify([headers.get('ETag'), headers.get('Last-Modified'), total]);
@@ -69,7 +69,7 @@ export class Remote {
   }
 }
 
-// Which bytes an answer says that it has, and of how many. It has none where the input ends before the start that was asked.
+// Which bytes a response says that it has, and of how many. It has none if the input ends before the requested start.
 function rangeOf(response, start) {
   const { status, headers } = response;
   const range = headers.get('Content-Range') ?? '';

@@ -25,18 +25,18 @@ export function probe(data) {
   }
 }
 
-/** The spans of the readings that the answer of `probe` rests on. */
+/** The spans that the result of `probe` depends on. */
 export function spans(data, { limit = MOST_SPANS } = {}) {
   return library().spans(bytesIn(data), limit);
 }
 
-/** Type and size of the image in a `Blob` or a `File`, of which a few slices are read. */
+/** Type and size of the image in a `Blob` or a `File`. Only a few slices are read. */
 export async function probeBlob(blob, options) {
   const read = async ({ start, end }) => new Uint8Array(await blob.slice(start, end).arrayBuffer());
   return probeSource({ total: blob.size, read }, 64 * MEBIBYTE, options);
 }
 
-/** Type and size of the image in a file, of which a few blocks are read; in Node alone. */
+/** Type and size of the image in a file. Only a few blocks are read. It works only in Node. */
 export async function probeFile(path, options) {
   const { open, stat } = globalThis.process.getBuiltinModule('node:fs/promises');
   if (!(await stat(path)).isFile()) throw new ImageError('NOT_A_FILE', `${path} is no regular file`);
@@ -49,7 +49,7 @@ export async function probeFile(path, options) {
   }
 }
 
-/** Type and size of the image at an address, of which a few ranges are fetched. */
+/** Type and size of the image at an address. Only a few ranges are fetched. */
 export async function probeUrl(url, options) {
   return probeSource(new Remote(url, options?.signal), MEBIBYTE, options);
 }
@@ -64,7 +64,7 @@ async function readBlock(file, { start, end }) {
   return buffer.subarray(0, length);
 }
 
-// Type and size of the image in a source: its `read` gives the bytes of a block, and its `total` is known behind the first.
+// Type and size of the image in a source: its `read` gives the bytes of a block, and its `total` is known after the first block.
 async function probeSource(source, most, { signal, maxBytes = most, trace = false } = {}) {
   library();
   const parts = new Parts();
@@ -94,7 +94,7 @@ async function answerOf(source, parts, maxBytes, signal) {
   }
 }
 
-// The answer of an input that comes as a stream. While its length is not known, the probe gets the greatest length. Its answer then
+// The result of an input that comes as a stream. While its length is not known, the probe gets the greatest length. Its result then
 // depends only on bytes that came, and holds for every input that begins with them.
 async function answerOfWhole(source, parts, maxBytes) {
   const { whole } = source;
@@ -112,7 +112,7 @@ async function answerOfWhole(source, parts, maxBytes) {
   }
 }
 
-// The spans of an answer with their bytes; null where there are too many, or too little memory for an input of this length.
+// The spans of a result with their bytes; null if there are too many, or too little memory for an input of this length.
 async function traceOf(parts, total) {
   try {
     const found = await library().spansOfParts(parts, total < Infinity ? total : parts.length, MOST_SPANS);

@@ -2,14 +2,16 @@
 
 import { ImageError } from './errors.js';
 
-/** What a call answers, by its number in include/imagesize.h. */
+/** What a call returns, by its number in include/imagesize.h. */
 export const STATUSES = [
-  'ANSWERED', 'NOT_SUPPORTED', 'CORRUPTED_IMAGE', 'FAULT', 'END_OF_INPUT', 'NOT_ENOUGH_DATA', 'BUDGET_SPENT', 'OUT_OF_MEMORY',
-  'NO_DELIMITER', 'NOT_UTF8', 'INVALID_HEIF_BOX_SIZE', 'INVALID_JXL_BOX_SIZE', 'INVALID_JXL_SIGNATURE', 'INVALID_TIFF_HEADER',
-  'BIG_TIFF_OFFSET_SIZE', 'INVALID_BIG_TIFF_HEADER', 'INVALID_IFD_OFFSET', 'IFD_TYPE_FOR_STANDARD_TIFF', 'INVALID_IFD_TYPE',
-  'INVALID_IFD_VALUE_LENGTH', 'NO_DIMENSIONS_IN_IFD', 'INVALID_VP8_TAG', 'DATA_WINDOW_NOT_FOUND', 'INVALID_HDR_IDENTIFIER',
-  'INVALID_HDR_DIMENSIONS_LINE', 'HDR_DIMENSIONS_NOT_FOUND', 'PNM_DIMENSIONS_NOT_FOUND', 'BUFFER_TOO_SMALL', 'UNKNOWN_TYPE',
-  'UNKNOWN_STATUS', 'BYTES_WANTED',
+  // by bindings/lists.py: statuses
+  'ANSWERED', 'NOT_SUPPORTED', 'CORRUPTED_IMAGE', 'FAULT', 'END_OF_INPUT', 'NOT_ENOUGH_DATA', 'BUDGET_SPENT',
+  'OUT_OF_MEMORY', 'NO_DELIMITER', 'NOT_UTF8', 'INVALID_HEIF_BOX_SIZE', 'INVALID_JXL_BOX_SIZE', 'INVALID_JXL_SIGNATURE',
+  'INVALID_TIFF_HEADER', 'BIG_TIFF_OFFSET_SIZE', 'INVALID_BIG_TIFF_HEADER', 'INVALID_IFD_OFFSET',
+  'IFD_TYPE_FOR_STANDARD_TIFF', 'INVALID_IFD_TYPE', 'INVALID_IFD_VALUE_LENGTH', 'NO_DIMENSIONS_IN_IFD', 'INVALID_VP8_TAG',
+  'DATA_WINDOW_NOT_FOUND', 'INVALID_HDR_IDENTIFIER', 'INVALID_HDR_DIMENSIONS_LINE', 'HDR_DIMENSIONS_NOT_FOUND',
+  'PNM_DIMENSIONS_NOT_FOUND', 'BUFFER_TOO_SMALL', 'UNKNOWN_TYPE', 'UNKNOWN_STATUS', 'BYTES_WANTED',
+  // end of the list
 ];
 const ANSWERED = 0;
 const BYTES_WANTED = 30;
@@ -17,7 +19,7 @@ const BYTES_WANTED = 30;
 const PAGE = 65536;
 const SPAN = 16;
 
-// Where the answers of a call stand behind the base of the free memory, and where what is lent begins.
+// The offsets of a call's results from the base of the free memory, and the offset of the buffers that it gets.
 const AT = { type: 0, compression: 4, width: 8, height: 16, wanted: 24, count: 40, lent: 48 };
 const TEXT_ROOM = 256;
 
@@ -45,7 +47,7 @@ export class Library {
   }
 
   /**
-   * What the known parts of an input of `total` bytes tell: `{ wanted }`, a span that is needed, `{ image }` or `{ error }`.
+   * The result for the known parts of an input of `total` bytes: `{ wanted }`, a span that is needed, `{ image }` or `{ error }`.
    */
   probeParts(parts, total) {
     const { pieces, length } = parts;
@@ -62,14 +64,14 @@ export class Library {
     return status === BYTES_WANTED ? { wanted: this.#span(AT.wanted) } : this.#told(status);
   }
 
-  /** The spans of the readings that type and size of these bytes rest on, where there are at most so many. */
+  /** The spans that type and size of these bytes depend on, if there are at most so many. */
   spans(bytes, most) {
     return this.#spansOf([{ start: 0, bytes }], bytes.length, most);
   }
 
   /**
-   * The same of an input of `total` bytes, whose answer its known parts tell: they rest on none of the others. It stands in a
-   * memory of its own, of which the engine holds only the pages that are written.
+   * The spans of an input of `total` bytes, if its known parts give the result: then no other bytes matter. The input is in a
+   * memory of its own, and the engine allocates only the pages that are written.
    */
   async spansOfParts(parts, total, most) {
     const apart = new Library(this.#module, await WebAssembly.instantiate(this.#module));
@@ -94,7 +96,7 @@ export class Library {
     return this.#number(AT.count);
   }
 
-  // Makes room for so many bytes behind the base, and renews the views of a memory that has grown.
+  // Makes the memory at least so many bytes long after the base, and renews the views of a memory that has grown.
   #lend(size) {
     const missing = this.#base + size - this.#memory.buffer.byteLength;
     if (missing > 0) grow(this.#memory, Math.ceil(missing / PAGE));
@@ -108,7 +110,7 @@ export class Library {
     return BigInt(this.#base + at);
   }
 
-  // The bytes of pieces, one piece behind another.
+  // The bytes of pieces, one piece after another.
   #putPieces(at, pieces) {
     let place = this.#base + at;
     for (const { bytes } of pieces) {
@@ -152,7 +154,7 @@ export class Library {
     return { error: new ImageError('SIDE_TOO_LARGE', 'A side has 2^53 pixels or more', { kind, compression }) };
   }
 
-  // The names of the type and the compression that were told.
+  // The names of the type and the compression that the call wrote.
   #named() {
     const type = this.#view.getUint32(this.#base + AT.type, true);
     const compression = this.#view.getUint32(this.#base + AT.compression, true);
@@ -170,7 +172,7 @@ export class Library {
     return this.#texts[status];
   }
 
-  // The text of a call, all of which are shorter than the room.
+  // The text of a call. All texts are shorter than the buffer.
   #text(call, ...numbers) {
     call(...numbers, this.#pointer(AT.lent), BigInt(TEXT_ROOM), this.#pointer(AT.count));
     const start = this.#base + AT.lent;

@@ -1,14 +1,14 @@
-// How a probe goes on: which block of an input is read next, until the parts that are known tell type and size.
+// How a probe continues: which block of an input is read next, until the known parts give type and size.
 
 import { ImageError } from './errors.js';
 
 // Blocks begin at multiples of so many bytes.
 const BLOCK = 4096;
 
-// Behind so many each block is twice as long as the one before, so that an input of any length is read in a few more.
+// After so many each block is twice as long as the one before, so that an input of any length is read in a few more.
 const SINGLE_BLOCKS = 16;
 
-// A stream is probed so many times as soon as the wanted bytes came, and then more rarely.
+// A stream is probed so many times as soon as the requested bytes are there, and then more rarely.
 const SINGLE_PROBES = 64;
 
 /** The parts of an input that are known. */
@@ -49,8 +49,8 @@ export function firstBlock(most) {
 }
 
 /**
- * The block to read next: the wanted span in blocks of 4 KiB, or more of them after many reads, within the input and the
- * bytes that may still be read.
+ * The block to read next: the requested span in blocks of 4 KiB, or more of them after many reads. It lies within the input and
+ * within the bytes that may still be read.
  */
 export function nextBlock(wanted, total, parts, most) {
   const start = Math.floor(wanted.start / BLOCK) * BLOCK;
@@ -62,8 +62,8 @@ export function nextBlock(wanted, total, parts, most) {
 }
 
 /**
- * How many bytes of a stream have to come before the next probe: those up to the end of the wanted span. After many probes it is
- * also twice as many as came, so that all probes together cost a few times what the last one does.
+ * How many bytes of a stream must be there before the next probe: all up to the end of the requested span. After many probes it is
+ * also twice as many as are there, so that all probes together cost a few times as much as the last one.
  */
 export function nextEnd(wanted, total, parts, most, probes) {
   const within = total < Infinity ? wanted.start < most : parts.length < most;

@@ -1,4 +1,4 @@
-"""Builds the wheel, an editable wheel and the sdist, for pip. It is of the standard library alone, so that pip needs no network.
+"""Builds the wheel, an editable wheel and the sdist, for pip. It uses only the standard library, so that pip needs no network.
 
 The shared library is the one in the package's folder, as in an sdist, or else that of `examples/run build`, which is run where it
 has not been. Files carry the time in the environment's SOURCE_DATE_EPOCH, or else that of 1980, so that a build can be repeated.
@@ -96,7 +96,7 @@ def digest(data: bytes) -> str:
 
 
 def package() -> Files:
-    """Each file of the package, with its place."""
+    """Each file of the package, with its path."""
     sources = sorted((HERE / PACKAGE).glob("*.py")) + [HERE / PACKAGE / "py.typed"]
     return [(f"{PACKAGE}/{source.name}", source.read_bytes()) for source in sources] + [(f"{PACKAGE}/{LIBRARY}", library())]
 

@@ -1,4 +1,4 @@
-// What the tests share: the worked inputs, inputs with their size far behind their beginning, and a server of ranges.
+// What the tests share: the test vectors, inputs with their size far after their beginning, and a server of ranges.
 
 import { readFileSync } from 'node:fs';
 import { createServer } from 'node:http';
@@ -8,7 +8,7 @@ import { ImageError } from '../imagesize.js';
 const lineHere = (line) => line.replace(/ (\d+)x(\d+)$/, (size, width, height) =>
   Math.max(width, height) >= 2 ** 53 ? ': A side has 2^53 pixels or more' : size);
 
-/** The bytes, the line and the spans of each worked input. */
+/** The bytes, the line and the spans of each test vector. */
 export const worked = readFileSync(new URL('../../../examples/out/worked.tsv', import.meta.url), 'utf8')
   .split('\n')
   .filter((row) => row)

@@ -1,4 +1,4 @@
-// Every worked input, by each call, has the answer of the table.
+// Every test vector, by each call, has the result of the table.
 
 import assert from 'node:assert/strict';
 import { mkdtemp, rm, writeFile } from 'node:fs/promises';

@@ -1,4 +1,4 @@
-"""The calls, over bytes, paths and open files, and over whatever else gives some bytes of an input."""
+"""The calls, over bytes, paths and open files, and over functions that fetch some bytes of an input."""
 
 from __future__ import annotations
 
@@ -32,7 +32,7 @@ Image = Union[BytesLike, str, _Path, BinaryFile]
 T = TypeVar("T")
 
 LIMIT = 1 << 16
-"""The spans that are told at most, where a call names no other number."""
+"""How many spans are returned at most, by default."""
 
 _FLAGS = (os.O_RDONLY | os.O_NONBLOCK,)  # so that a pipe without a writer does not wait
 

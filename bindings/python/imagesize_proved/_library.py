@@ -13,7 +13,7 @@ from array import array
 from typing import List, Optional, Tuple, Union
 
 Told = Tuple[int, List[int]]
-"""A status, and the numbers of type and compression, width and height, and start and length of what is wanted."""
+"""A status, and the numbers of type and compression, width and height, and start and length of the requested span."""
 
 _HERE = pathlib.Path(__file__).resolve().parent
 _PACKED = _HERE / "libimagesize.so"
@@ -54,7 +54,7 @@ _probe_front = ctypes.PyDLL(_LIBRARY._name).imagesize_probe_parts  # over one bl
 
 
 class _Room:
-    """What is lent to a call beside the bytes. A room is used again, since to make one takes longer than a call."""
+    """The buffers of a call besides the bytes. They are used again, since making them takes longer than a call."""
 
     def __init__(self) -> None:
         self.numbers = (ctypes.c_uint64 * 6)()
@@ -123,7 +123,7 @@ def probe_parts(known: bytes, spans: "array[int]", total: int) -> Told:
 
 
 def spans_of(data: Union[bytes, ctypes.c_char], length: int, limit: int) -> Tuple[int, List[int]]:
-    """A status, and start and length of each span that an answer rests on. More spans than `limit` are an error."""
+    """A status, and start and length of each span that a result depends on. More spans than `limit` are an error."""
     place = data if isinstance(data, bytes) else ctypes.byref(data)
     size, count = ctypes.c_size_t(length), ctypes.c_size_t()
     status = _spans(place, size, (ctypes.c_uint64 * 2)(), ctypes.c_size_t(), ctypes.byref(count))

@@ -1,4 +1,4 @@
-"""The parts of an input that are known, of which the library answers, or says what it still needs."""
+"""The known parts of an input, from which the library returns a result, or the span that it still needs."""
 
 from __future__ import annotations
 
@@ -19,7 +19,7 @@ else:  # which takes no parameter before Python 3.12
 BytesLike = Union[bytes, bytearray, memoryview, mmap.mmap, _Array]
 
 BLOCK = 4096
-"""The bytes of a block. What is wanted is fetched with the blocks around it."""
+"""The bytes of a block. A requested span is fetched with the blocks around it."""
 
 BUDGET = 64 << 20
 """The bytes that are fetched at most, where a call names no other number."""
@@ -52,10 +52,10 @@ def first_block(total: int, budget: int) -> int:
 
 
 class Parts:
-    """The parts of an input of `total` bytes that are known, beginning with its first block, of which the library may have told.
+    """The known parts of an input of `total` bytes, beginning with its first block. `told` may be the library's result for that.
 
-    Wanted are `length` bytes from place `start` on. Where `length` is 0 no more are wanted, and `told` stands: the library's answer,
-    or `SPENT` where it wants more than `budget` bytes.
+    The caller fetches `length` bytes from offset `start` and passes them to `add`. If `length` is 0, `told` is the final result:
+    the library's, or `SPENT` if more than `budget` bytes are needed.
     """
 
     __slots__ = ("total", "budget", "known", "spans", "rounds", "start", "last", "length", "told")
@@ -72,7 +72,7 @@ class Parts:
         self._go_on()
 
     def add(self, data: BytesLike) -> None:
-        """Takes the bytes that are wanted. Raises `EOFError` where there are fewer, and `ValueError` where there are more."""
+        """Adds the requested bytes. Raises `EOFError` if there are fewer, and `ValueError` if there are more."""
         self.known += self._taken(data)
         if self.start == self.spans[-2] + self.spans[-1]:
             self.spans[-1] += self.length

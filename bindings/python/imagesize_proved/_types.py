@@ -11,8 +11,9 @@ from ._library import number, text
 
 
 class Status(IntEnum):
-    """What a call of the library answers: `ANSWERED`, or why it has no answer. The numbers are those of `imagesize.h`."""
+    """What a call of the library returns: `ANSWERED`, or an error. The numbers are the same as in `imagesize.h`."""
 
+    # by bindings/lists.py: statuses
     ANSWERED = 0
     NOT_SUPPORTED = 1
     CORRUPTED_IMAGE = 2
@@ -44,42 +45,46 @@ class Status(IntEnum):
     UNKNOWN_TYPE = 28
     UNKNOWN_STATUS = 29
     BYTES_WANTED = 30
+    # end of the list
 
 
 _MESSAGES: Dict[Status, str] = {
+    # by bindings/lists.py: messages
     Status.NOT_SUPPORTED: "the bytes are of no known image type",
     Status.CORRUPTED_IMAGE: "the records are malformed, or end before the size",
     Status.FAULT: "the bytes cannot be read",
     Status.END_OF_INPUT: "the file ends before its size",
-    Status.NOT_ENOUGH_DATA: "no property of the image is its size",
+    Status.NOT_ENOUGH_DATA: "a HEIF property list holds no image size",
     Status.BUDGET_SPENT: "the size needs more bytes than the budget",
     Status.OUT_OF_MEMORY: "there is not enough memory",
     Status.NO_DELIMITER: "a word, a line or a name is too long",
     Status.NOT_UTF8: "a text is not UTF-8",
-    Status.INVALID_HEIF_BOX_SIZE: "a box is smaller than its own header",
-    Status.INVALID_JXL_BOX_SIZE: "a box is smaller than its own header",
-    Status.INVALID_JXL_SIGNATURE: "the codestream has a wrong signature",
-    Status.INVALID_TIFF_HEADER: "the header has no known byte order or version",
-    Status.BIG_TIFF_OFFSET_SIZE: "the offsets of a BigTIFF are not 8 bytes long",
-    Status.INVALID_BIG_TIFF_HEADER: "two bytes of the header that are always 0 are not 0",
-    Status.INVALID_IFD_OFFSET: "the directory is at offset 0",
-    Status.IFD_TYPE_FOR_STANDARD_TIFF: "an entry has a field type that only a BigTIFF may have",
-    Status.INVALID_IFD_TYPE: "an entry has an unknown field type",
-    Status.INVALID_IFD_VALUE_LENGTH: "the file ends within the value of an entry",
-    Status.NO_DIMENSIONS_IN_IFD: "the directory has no width or no height",
-    Status.INVALID_VP8_TAG: "the first chunk is of an unknown kind",
-    Status.DATA_WINDOW_NOT_FOUND: "the header has no data window",
-    Status.INVALID_HDR_IDENTIFIER: "the first line is not that of a Radiance image",
-    Status.INVALID_HDR_DIMENSIONS_LINE: "the line of the size does not have four words",
-    Status.HDR_DIMENSIONS_NOT_FOUND: "the width or the height is not a number",
-    Status.PNM_DIMENSIONS_NOT_FOUND: "the width or the height is not a number",
+    Status.INVALID_HEIF_BOX_SIZE: "a HEIF box is smaller than its own header",
+    Status.INVALID_JXL_BOX_SIZE: "a JPEG XL box is smaller than its own header",
+    Status.INVALID_JXL_SIGNATURE: "a JPEG XL codestream does not begin with its signature",
+    Status.INVALID_TIFF_HEADER: "a TIFF has no known byte order or version",
+    Status.BIG_TIFF_OFFSET_SIZE: "a BigTIFF has offsets of another size than 8 bytes",
+    Status.INVALID_BIG_TIFF_HEADER: "the two bytes of a BigTIFF that are always zero are not",
+    Status.INVALID_IFD_OFFSET: "a TIFF's directory is at offset 0",
+    Status.IFD_TYPE_FOR_STANDARD_TIFF: "a TIFF entry has a field type that only BigTIFF has",
+    Status.INVALID_IFD_TYPE: "a TIFF entry has an unknown field type",
+    Status.INVALID_IFD_VALUE_LENGTH: "the bytes end within a TIFF entry's value",
+    Status.NO_DIMENSIONS_IN_IFD: "a TIFF directory gives no width or no height",
+    Status.INVALID_VP8_TAG: "a WebP's first chunk is unknown",
+    Status.DATA_WINDOW_NOT_FOUND: "an EXR header ends before a data window",
+    Status.INVALID_HDR_IDENTIFIER: "an HDR does not begin with its identifier",
+    Status.INVALID_HDR_DIMENSIONS_LINE: "an HDR's line of sizes does not have four words",
+    Status.HDR_DIMENSIONS_NOT_FOUND: "one of the sizes in an HDR's line is not a number",
+    Status.PNM_DIMENSIONS_NOT_FOUND: "the width or the height of a PNM is not a number",
     Status.BUFFER_TOO_SMALL: "there are more spans than the limit",
+    # end of the list
 }
 
 
 class Kind(IntEnum):
     """The types of images, without their compressions."""
 
+    # by bindings/lists.py: types
     ASEPRITE = 1
     ASTC = 2
     ATC = 3
@@ -105,6 +110,7 @@ class Kind(IntEnum):
     TIFF = 23
     VTF = 24
     WEBP = 25
+    # end of the list
 
 
 class Compression(IntEnum):
@@ -113,6 +119,7 @@ class Compression(IntEnum):
     `UNKNOWN_COMPRESSION` is a compression that is none of the others.
     """
 
+    # by bindings/lists.py: compressions
     NO_COMPRESSION = 0
     UNKNOWN_COMPRESSION = 1
     ATC_RGB = 2
@@ -147,11 +154,13 @@ class Compression(IntEnum):
     PVR_ETC2_RGB_A1 = 31
     PVR_EAC_R11 = 32
     PVR_EAC_RG11 = 33
+    # end of the list
 
 
 class Family(IntEnum):
     """What compressions have in common, across types."""
 
+    # by bindings/lists.py: families
     BLOCK_COMPRESSION = 1
     ETC = 2
     EAC = 3
@@ -159,6 +168,7 @@ class Family(IntEnum):
     ASTC = 5
     ATC = 6
     UNCOMPRESSED = 7
+    # end of the list
 
 
 _MEDIA: Dict[Kind, Tuple[Optional[str], str]] = {
@@ -202,7 +212,7 @@ class Size(NamedTuple):
 
 
 class Span(NamedTuple):
-    """Some of the bytes: `len` of them, from place `start` on. Places count bytes from 0."""
+    """A range of bytes: `len` bytes from offset `start`. Offsets count from 0."""
 
     start: int
     len: int
@@ -210,10 +220,10 @@ class Span(NamedTuple):
 
 @dataclasses.dataclass(frozen=True, order=True)
 class ImageType:
-    """A type of image, with its compression where the kind has several.
+    """A type of image, with its compression if the type has one.
 
-    It prints as its name, with that of its compression in parentheses, as "Gif" or "Dds(Bc7)". Raises `ValueError` where no type
-    has the two.
+    It prints as its name, with the name of its compression in parentheses, such as "Gif" or "Dds(Bc7)". Raises `ValueError` if no
+    type has this compression.
     """
 
     kind: Kind
@@ -232,27 +242,27 @@ class ImageType:
 
     @property
     def compression_name(self) -> Optional[str]:
-        """The name of the compression, where the kind has several."""
+        """The name of the compression, or None if the type has none."""
         return self._text("imagesize_compression_name") or None
 
     @property
     def mime_type(self) -> Optional[str]:
-        """The MIME type, as "image/jpeg"; None for a type that has none. A HEIF with AV1 is "image/avif", with HEVC "image/heic"."""
+        """The MIME type, such as "image/jpeg", or None. A HEIF with AV1 is "image/avif", and with HEVC "image/heic"."""
         return self._media[0]
 
     @property
     def extension(self) -> str:
-        """The usual extension of a file of this type, with its dot, as ".jpg"."""
+        """The usual extension of a file of this type, with its dot, such as ".jpg"."""
         return self._media[1]
 
     @property
     def container_format(self) -> Optional[str]:
-        """The name of the container, for types whose images stand in one."""
+        """The name of the container, for types whose images are in one; otherwise None."""
         return self._text("imagesize_container_format") or None
 
     @property
     def compression_family(self) -> Optional[Family]:
-        """What the compression has in common with that of other types; None where it is not known, and for no texture."""
+        """The family of the compression, across types; None if the compression is unknown, or the type is not a texture."""
         family = self._number("imagesize_compression_family")
         return Family(family) if family else None
 
@@ -289,10 +299,11 @@ class Probed(NamedTuple):
 
 
 class ImageError(Exception):
-    """An image has no type or no size. It prints as a message for people, as "photo.jpg: Jpeg: the file ends before its size".
+    """An image has no type or no size. It prints as a message for people, such as "photo.jpg: Jpeg: the file ends
+    before its size".
 
-    `status` says why, and `message` says it in words. `text` is the library's own text of the status. `image_type` is the type
-    where one was found, and `filename` the path where there is one; both can be None.
+    `status` says why, and `message` says it in words. `text` is the library's own text for the status. `image_type` is the type
+    if one was found, and `filename` the path if there is one; both can be None.
     """
 
     def __init__(self, status: int, image_type: Optional[ImageType] = None, filename: Optional[str] = None) -> None:
@@ -303,12 +314,12 @@ class ImageError(Exception):
 
     @property
     def message(self) -> str:
-        """Why there is no answer, in words."""
+        """Why there is no size, in words."""
         return _MESSAGES.get(self.status) or self.text
 
     @property
     def text(self) -> str:
-        """The library's own text of the status, as "failed to fill whole buffer"."""
+        """The library's own text for the status, such as "failed to fill whole buffer"."""
         return status_text(self.status)
 
     def __str__(self) -> str:
@@ -319,7 +330,7 @@ class ImageError(Exception):
 
 
 def status_text(status: int) -> str:
-    """The text of a status. Raises `ValueError` where there is none of this number."""
+    """The library's text for a status. Raises `ValueError` if no status has this number."""
     return _text("imagesize_status_text", Status(status)) or ""
 
 

@@ -1,4 +1,4 @@
-"""Every worked input through every call, equal to the table."""
+"""Every test vector through every call, equal to the table."""
 
 import array
 import asyncio
@@ -17,7 +17,7 @@ from . import EXAMPLES
 
 
 def rows() -> Iterator[Tuple[bytes, str, str]]:
-    """The bytes, the line and the spans of each worked input."""
+    """The bytes, the line and the spans of each test vector."""
     for row in (EXAMPLES / "out" / "worked.tsv").read_text().splitlines():
         data, line, spans = row.split("\t")
         yield bytes.fromhex(data.replace("-", "")), line, spans

@@ -141,6 +141,6 @@ pub enum CompressionFamily {
     Astc,
     /// ATC.
     Atc,
-    /// Pixels as they are.
+    /// No compression.
     Uncompressed,
 }

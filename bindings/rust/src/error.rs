@@ -1,27 +1,27 @@
-//! Why a call has no answer.
+//! Why a call has no result.
 
 use crate::sys;
 use std::error::Error;
 use std::fmt;
 use std::io;
 
-/// An answer of the type `T`, or why there is none.
+/// A `T`, or the error.
 pub type ImageResult<T> = Result<T, ImageError>;
 
 /// Why some bytes have no type or no size.
 #[derive(Debug)]
 pub enum ImageError {
-    /// The bytes are of no type that is known.
+    /// The bytes are of no known type.
     NotSupported,
-    /// The type is known, and its records end before one gives the size.
+    /// The type is known, and its records are malformed, or end before the size.
     CorruptedImage,
-    /// A call of the reader failed, and this is its error; or the image's bytes are refused, and its kind is `UnexpectedEof`
-    /// where they end too early, and `InvalidData` where they break their layout.
+    /// A call of the reader failed, and this is its error. Or the bytes have no size: the kind is `UnexpectedEof` if they end
+    /// too early, and `InvalidData` if they break the layout of their type.
     IoError(io::Error),
 }
 
 impl ImageError {
-    /// The error of a status that the library answered.
+    /// The error for a status that the library returned.
     pub(crate) fn of_status(status: u32) -> ImageError {
         let kind = match status {
             sys::NOT_SUPPORTED => return ImageError::NotSupported,

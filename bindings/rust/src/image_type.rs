@@ -1,4 +1,4 @@
-//! The types of images, and what a type says of compression and container.
+//! The types of images, with their compressions and containers.
 
 use crate::compression::{
     AtcCompression, Compression, CompressionFamily, DdsCompression, PkmCompression,
@@ -66,10 +66,11 @@ macro_rules! types {
 }
 
 types! {
-    /// A type of image, with its compression where a type has several.
+    /// A type of image, with its compression if the type has one.
     ///
-    /// The order of two types is that of the list below, then that of their compressions.
+    /// Types are ordered as in the list below, and values of one type by their compressions.
     pub enum ImageType {
+        // by bindings/lists.py: types
         /// Animated sprites of the editor Aseprite.
         Aseprite = 1,
         /// Adaptive scalable texture compression.
@@ -92,7 +93,7 @@ types! {
         Gif = 10,
         /// Radiance RGBE.
         Hdr = 11,
-        /// The containers of HEIC and AVIF.
+        /// HEIC and AVIF.
         Heif(Compression) = 12,
         /// Windows icon.
         Ico = 13,
@@ -104,7 +105,7 @@ types! {
         Jxl = 16,
         /// Khronos texture, version 2.
         Ktx2 = 17,
-        /// The portable bitmaps: PBM, PGM and PPM.
+        /// PBM, PGM and PPM.
         Pnm = 18,
         /// PowerVR texture.
         Pvrtc(PvrtcCompression) = 19,
@@ -114,12 +115,13 @@ types! {
         Qoi = 21,
         /// Truevision TGA.
         Tga = 22,
-        /// Tagged image file, BigTIFF among them.
+        /// TIFF, with BigTIFF.
         Tiff = 23,
         /// Valve texture.
         Vtf = 24,
         /// WebP.
         Webp = 25,
+        // end of the list
     }
 }
 
@@ -127,14 +129,14 @@ types! {
 const CONTAINERS: [&str; 6] = ["ASTC", "DDS", "HEIF", "KTX2", "PKM", "PowerVR"];
 
 impl ImageType {
-    /// The size in pixels of the image that a reader holds from its beginning on, wherever the reader stands, read as this type.
+    /// Reads the size in pixels from the beginning of a reader, as a size of this type. The reader may be at any offset.
     ///
-    /// The bytes may be of another type, and are read as those of this one. The compression of the type does not matter. The
-    /// reader's place after the call is not stated.
+    /// The bytes may be of another type; they are still read by the layout of this one. The compression of the type does not
+    /// matter. The reader's offset after the call is unspecified.
     ///
     /// # Errors
     ///
-    /// Those of [`reader_size`](crate::reader_size) but for the type's.
+    /// The errors of [`reader_size`](crate::reader_size), except those about the type.
     ///
     /// ```
     /// use imagesize::ImageType;
@@ -148,8 +150,8 @@ impl ImageType {
         Input::whole(reader)?.size_as(self)
     }
 
-    /// What the image's compression has in common with that of other types. It is `None` for types that are no textures, and
-    /// where the compression is not known.
+    /// The family of the compression, across types. It is `None` if the type is not a texture, or if the compression is
+    /// unknown.
     ///
     /// ```
     /// use imagesize::{CompressionFamily, DdsCompression, ImageType};
@@ -181,7 +183,7 @@ impl ImageType {
         sys::is_block_compressed(self.numbers())
     }
 
-    /// The name of the container, for types whose images stand in one.
+    /// The name of the container, for types whose images are in one.
     ///
     /// ```
     /// use imagesize::ImageType;

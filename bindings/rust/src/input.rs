@@ -1,4 +1,4 @@
-//! An input that is fetched in blocks, each where the library wants one.
+//! An input that is fetched in the blocks that the library requests.
 
 use crate::sys::{self, Parts, Span, Told};
 use crate::{ImageError, ImageResult, ImageSize, ImageType};
@@ -8,34 +8,34 @@ use std::io::{Read, Seek, SeekFrom};
 /// Blocks begin and end at multiples of this, or where the input ends.
 const BLOCK: u64 = 4096;
 
-/// With a wanted byte come so many behind it, since the readings of one record stand together.
+/// With a requested byte so many after it are fetched, since the fields of one record are close together.
 const AHEAD: u64 = 64;
 
-/// Where more spans than these stand apart from one another, the next blocks grow.
+/// After more spans than these that are apart from one another, the next blocks grow.
 const FEW_SPANS: usize = 64;
 
-/// A call that holds so many bytes fetches no more.
+/// A call that has fetched so many bytes fetches no more.
 const MOST_BYTES: usize = 64 << 20;
 
-/// The bytes with which each image begins, and which are wanted first.
+/// The first bytes of each image, which are fetched first.
 const FIRST: Span = Span { start: 0, len: 12 };
 
-/// What a reader holds from a place on, as far as it was fetched.
+/// The bytes of a reader from an offset on, as far as they are fetched.
 pub(crate) struct Input<R> {
     reader: R,
-    /// The place in the reader at which the input begins.
+    /// The offset in the reader at which the input begins.
     base: u64,
-    /// The place in the reader at which it stands.
+    /// The reader's present offset.
     place: u64,
     /// The length of the input.
     total: u64,
-    /// The bytes that were fetched: those of the spans, one span's behind another's.
+    /// The bytes of all spans, one span after another.
     bytes: Vec<u8>,
     spans: Vec<Span>,
 }
 
 impl Input<File> {
-    /// A file that was opened. What is no regular file is asked for its length by a seek, which a pipe refuses.
+    /// A file that was opened. If it is not a regular file, a seek gives its length, which fails for a pipe.
     pub(crate) fn of_file(file: File) -> ImageResult<Input<File>> {
         let metadata = file.metadata()?;
         if metadata.is_file() {
@@ -47,14 +47,14 @@ impl Input<File> {
 }
 
 impl<R: Read + Seek> Input<R> {
-    /// What a reader holds from its place on.
+    /// The bytes of a reader from its present offset on.
     pub(crate) fn from_here(mut reader: R) -> ImageResult<Input<R>> {
         let base = reader.stream_position()?;
         let end = reader.seek(SeekFrom::End(0))?;
         Ok(Input::new(reader, base, end, end))
     }
 
-    /// All that a reader holds.
+    /// All bytes of a reader.
     pub(crate) fn whole(mut reader: R) -> ImageResult<Input<R>> {
         let end = reader.seek(SeekFrom::End(0))?;
         Ok(Input::new(reader, 0, end, end))
@@ -88,9 +88,9 @@ impl<R: Read + Seek> Input<R> {
             .size()
     }
 
-    /// What a call tells of the input, by the bytes that it wants.
+    /// The result of a call over parts. The bytes that it requests are fetched.
     ///
-    /// Each round fetches a byte that was not known, since the library wants no others, so there is an end.
+    /// Each round fetches a byte that was not known, since the library requests no others. So the loop ends.
     fn ask(mut self, call: impl Fn(&[u8], &[Span], u64) -> Parts) -> ImageResult<Told> {
         let mut wanted = FIRST;
         loop {
@@ -123,8 +123,8 @@ impl<R: Read + Seek> Input<R> {
         Ok(())
     }
 
-    /// The block around a span. It is as long as all that is held where it goes on from the last one, or where many stand apart,
-    /// so that a long walk takes few rounds.
+    /// The block around a span. If it continues the last one, or if many spans are apart, it is as long as all bytes so far, so
+    /// that a long walk takes few rounds.
     fn block(&self, wanted: Span) -> Span {
         let start = wanted.start - wanted.start % BLOCK;
         let goes_on = matches!(self.spans.last(), Some(last) if last.start + last.len == start);

@@ -6,12 +6,12 @@
 //! # Ok::<(), imagesize::ImageError>(())
 //! ```
 //!
-//! The names are those of the crate `imagesize` 0.15, without PNG. The answers come from a C library in which each function is
-//! proved; this package fetches the bytes that the library asks for, and is tested.
+//! The names are those of the crate `imagesize` 0.15, without PNG. The results come from a C library in which each function is
+//! proved. This package fetches the bytes that the library requests, and is tested.
 //!
-//! [`size`] and the calls over a reader fetch blocks of 4096 bytes around the bytes that the answer rests on, and never the
-//! whole of a large file. A walk over very many records is met with larger blocks; where it wants more after 64 MiB, the
-//! call is refused.
+//! [`size`] and the calls over a reader fetch blocks of 4096 bytes around the bytes that the result depends on. They never read
+//! the whole of a large file. For very many records the blocks become larger. If more is needed after 64 MiB, the call returns
+//! an error.
 
 #![warn(missing_docs)]
 
@@ -37,16 +37,16 @@ use std::fs::File;
 use std::io::{BufRead, Seek};
 use std::path::Path;
 
-/// The type of the image whose first bytes these are, and its compression where the type has several: `Unknown` where the
-/// bytes do not tell it.
+/// Detects the image type from the first bytes, with its compression if the type has one. The compression is `Unknown` if the
+/// bytes do not have it.
 ///
-/// Twelve bytes tell most types. A texture has its compression behind them, a HEIF its brands, and a TGA its footer at the
-/// end of all its bytes.
+/// Twelve bytes are enough for most types, and for the compression of a PKM and an ATC. A PVR and a DDS have their compression
+/// after these, a HEIF may have its brand there, and a TGA has its footer at the end of the file.
 ///
 /// # Errors
 ///
-/// [`ImageError::NotSupported`] where the bytes are of no type that is known, and [`ImageError::IoError`] of the kind
-/// `UnexpectedEof` under 12 bytes.
+/// [`ImageError::NotSupported`] if the bytes are of no known type, and [`ImageError::IoError`] with the kind `UnexpectedEof` if
+/// there are fewer than 12 bytes.
 ///
 /// ```
 /// use imagesize::{image_type, ImageType};
@@ -59,13 +59,13 @@ pub fn image_type(header: &[u8]) -> ImageResult<ImageType> {
     sys::image_type(header).image_type()
 }
 
-/// The size in pixels of the image in a file.
+/// Reads the size of the image in a file, in pixels.
 ///
-/// The file is opened, and blocks of it are read around the bytes that tell the size.
+/// The call opens the file, and reads only blocks around the bytes that the size depends on.
 ///
 /// # Errors
 ///
-/// Those of [`reader_size`], and [`ImageError::IoError`] with the error of the system where the file cannot be opened.
+/// The errors of [`reader_size`], and [`ImageError::IoError`] with the error of the system if the file cannot be opened.
 ///
 /// ```
 /// # let path = std::env::temp_dir().join(format!("imagesize-doc-{}.gif", std::process::id()));
@@ -79,14 +79,14 @@ pub fn size<P: AsRef<Path>>(path: P) -> ImageResult<ImageSize> {
     Input::of_file(File::open(path)?)?.probe()?.size()
 }
 
-/// The size in pixels of the image that these bytes hold: all bytes of its file, or a front of them.
+/// Reads the size of an image from its bytes, in pixels: all bytes of its file, or its first bytes.
 ///
-/// A front of a HEIF or of an icon can tell another size than the whole does.
+/// The first bytes of a HEIF or an icon can give another size than the whole file.
 ///
 /// # Errors
 ///
-/// Those of [`image_type()`], [`ImageError::IoError`] of the kind `UnexpectedEof` where the bytes end before the size, and
-/// [`ImageError::CorruptedImage`] or `IoError` of the kind `InvalidData` where the type's layout is broken.
+/// The errors of [`image_type()`], [`ImageError::IoError`] with the kind `UnexpectedEof` if the bytes end before the size, and
+/// [`ImageError::CorruptedImage`] or `IoError` with the kind `InvalidData` if the bytes break the type's layout.
 ///
 /// ```
 /// let size = imagesize::blob_size(b"GIF89a\x80\x02\xe0\x01\0\0")?;
@@ -97,14 +97,14 @@ pub fn blob_size(data: &[u8]) -> ImageResult<ImageSize> {
     sys::image_size(data).size()
 }
 
-/// The size in pixels of the image that begins where a reader stands.
+/// Reads the size of the image that begins at the reader's offset, in pixels.
 ///
-/// A reader can be lent as `&mut reader`. Its place after the call is not stated.
+/// A reader can be passed as `&mut reader`. Its offset after the call is unspecified.
 ///
 /// # Errors
 ///
-/// Those of [`blob_size`], and [`ImageError::IoError`] with the reader's own error where one of its calls fails. Its kind is
-/// `UnexpectedEof` where the reader gives fewer bytes than it told, and `InvalidData` where more is wanted after 64 MiB.
+/// The errors of [`blob_size`], and [`ImageError::IoError`] with the reader's own error if one of its calls fails. The kind is
+/// `UnexpectedEof` if the reader gives fewer bytes than it reported, and `InvalidData` if more is needed after 64 MiB.
 ///
 /// ```
 /// use std::io::Cursor;
@@ -117,11 +117,11 @@ pub fn reader_size<R: BufRead + Seek>(reader: R) -> ImageResult<ImageSize> {
     Input::from_here(reader)?.probe()?.size()
 }
 
-/// The type of the image that begins where a reader stands.
+/// Detects the type of the image that begins at the reader's offset.
 ///
 /// # Errors
 ///
-/// Those of [`image_type()`], and [`ImageError::IoError`] with the reader's own error where one of its calls fails.
+/// The errors of [`image_type()`], and [`ImageError::IoError`] with the reader's own error if one of its calls fails.
 ///
 /// ```
 /// use imagesize::{reader_type, ImageType};

@@ -1,4 +1,4 @@
-//! The calls of the C library, as `include/imagesize.h` declares them, each behind a safe function.
+//! The calls of the C library, as `include/imagesize.h` declares them, each with a safe function around it.
 
 use crate::{ImageError, ImageResult, ImageSize, ImageType};
 
@@ -13,7 +13,7 @@ pub(crate) const BYTES_WANTED: u32 = 30;
 /// The longest text of the library has fewer bytes.
 const TEXT_ROOM: usize = 128;
 
-/// Some of an input's bytes: `len` of them, from place `start` on. Places count bytes from 0.
+/// A range of an input's bytes: `len` bytes from offset `start`. Offsets count from 0.
 #[repr(C)]
 #[derive(Clone, Copy, Debug, Default)]
 pub(crate) struct Span {
@@ -80,7 +80,7 @@ extern "C" {
     ) -> u32;
 }
 
-/// What a call told: its status, and the numbers that it wrote. Those that it left as they were are 0.
+/// The results of a call: its status, and the numbers that it wrote. A number that it did not write is 0.
 #[derive(Default)]
 pub(crate) struct Told {
     status: u32,
@@ -91,7 +91,7 @@ pub(crate) struct Told {
 }
 
 impl Told {
-    /// The type, which is told beside a refusal of the size too.
+    /// The type, which may be known although the size has an error.
     pub(crate) fn image_type(&self) -> ImageResult<ImageType> {
         ImageType::numbered(self.kind, self.compression)
             .ok_or_else(|| ImageError::of_status(self.status))
@@ -110,9 +110,9 @@ impl Told {
     }
 }
 
-/// What the known parts of an input tell.
+/// The result of a call over parts.
 pub(crate) enum Parts {
-    /// What was asked for, or why the input has none.
+    /// The result, or the error of the input.
     Told(Told),
     /// A part that is not known yet, within the input.
     Wanted(Span),
@@ -127,7 +127,7 @@ impl Parts {
     }
 }
 
-/// The type that an image's first bytes tell.
+/// Detects the type from the first bytes of an image.
 pub(crate) fn image_type(bytes: &[u8]) -> Told {
     let mut told = Told::default();
     // SAFETY: the pointers come from a slice of this length and from two numbers, which nothing else holds.
@@ -157,8 +157,8 @@ pub(crate) fn image_size(bytes: &[u8]) -> Told {
     told
 }
 
-/// Type and size of the image in an input of `total` bytes, of which those of the spans are known: `bytes` has them, one span's
-/// behind another's.
+/// Type and size of the image in an input of `total` bytes, of which only the spans are known. `bytes` has the bytes of all
+/// spans, one span after another.
 pub(crate) fn probe_parts(bytes: &[u8], spans: &[Span], total: u64) -> Parts {
     let mut told = Told::default();
     let mut wanted = Span::default();
@@ -229,19 +229,19 @@ pub(crate) fn parts_size(
 
 /// The text of a status.
 pub(crate) fn status_text(status: u32) -> String {
-    // SAFETY: the pointers are those that `text` lends.
+    // SAFETY: `text` passes valid pointers.
     text(|text, room, written| unsafe { imagesize_status_text(status, text, room, written) })
 }
 
-/// The name of a type's container, which is empty where it has none.
+/// The name of a type's container, which is empty if it has none.
 pub(crate) fn container_format((kind, compression): (u32, u32)) -> String {
-    // SAFETY: the pointers are those that `text` lends.
+    // SAFETY: `text` passes valid pointers.
     text(|text, room, written| unsafe {
         imagesize_container_format(kind, compression, text, room, written)
     })
 }
 
-/// The number of the family of a type's compression; 0 where it has none.
+/// The number of the family of a type's compression; 0 if it has none.
 pub(crate) fn compression_family((kind, compression): (u32, u32)) -> u32 {
     let mut family = 0;
     // SAFETY: the pointer comes from a number that nothing else holds.
@@ -265,7 +265,7 @@ pub(crate) fn is_multi_compression_container((kind, compression): (u32, u32)) ->
     answer == 1
 }
 
-/// The text that a call writes where it is lent room: a pointer to it, how long it is, and where the text's length is told.
+/// The text that a call writes. The call gets a pointer to a buffer, the buffer's length, and a pointer for the text's length.
 pub(crate) fn text(call: impl FnOnce(*mut u8, usize, *mut usize) -> u32) -> String {
     let (mut room, mut written) = ([0; TEXT_ROOM], 0);
     match call(room.as_mut_ptr(), room.len(), &mut written) {

@@ -1,4 +1,4 @@
-//! Each worked input of the repository, through each call.
+//! Each test vector of the repository, through each call.
 
 use imagesize::{blob_size, image_type, reader_size, reader_type, size};
 use imagesize::{AtcCompression, ImageError, ImageResult, ImageSize, ImageType};
@@ -6,10 +6,10 @@ use std::fs::{self, File};
 use std::io::{self, BufRead, BufReader, Cursor, ErrorKind, Read, Seek, SeekFrom};
 use std::path::PathBuf;
 
-/// The bytes of each worked input, and the line that is printed of it.
+/// The bytes of each test vector, and the line that is printed of it.
 fn rows() -> Vec<(Vec<u8>, String)> {
     let path = concat!(env!("CARGO_MANIFEST_DIR"), "/../../examples/out/worked.tsv");
-    let text = fs::read_to_string(path).expect("the worked inputs, which examples/run writes");
+    let text = fs::read_to_string(path).expect("the test vectors, which examples/run writes");
     text.lines()
         .map(|row| {
             let mut cells = row.split('\t');
