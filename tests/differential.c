@@ -361,7 +361,7 @@ static void put_jxl(struct input *to)
         if (once_in(4)) {
             put_big(to, once_in(8) ? below(20) : 1, 4);
             put(to, name, 4);
-            put_big(to, once_in(8) ? edge() : content + 16, 8);
+            put_big(to, once_in(8) ? once_in(2) ? below(20) : edge() : content + 16, 8);
         } else {
             put_big(to, once_in(8) ? below(9) : content + 8, 4);
             put(to, name, 4);
@@ -784,12 +784,13 @@ static struct memory {
 static ssize_t read_memory(int file, void *bytes, size_t length, off_t offset)
 {
     uint64_t at = (uint64_t)offset, total = memory.of->length;
-    memory.beyond |= file != 7 || length == 0 || at >= total || length > total - at;
+    memory.beyond |= file != 7 || length == 0 || at >= total || length > total - at || memory.reads > 2 * total;
     if (memory.beyond || ++memory.reads == memory.failing) {
-        errno = memory.failure;
+        errno = memory.failure ? memory.failure : ERANGE;
         return memory.failure ? -1 : 0;
     }
     if (memory.cut && once_in(4)) {
+        memory.reads--;
         errno = EINTR;
         return -1;
     }
@@ -798,7 +799,7 @@ static ssize_t read_memory(int file, void *bytes, size_t length, off_t offset)
     return (ssize_t)length;
 }
 
-/* What imagesize_file.h finds in a file. Where a read is beyond the input its status is STATUSES. */
+/* What imagesize_file.h finds in a file. Where a read is beyond the input, or there are too many, its status is STATUSES. */
 static struct answer probe_file(const struct input *of, size_t failing, int failure, bool cut)
 {
     int file = 7;
