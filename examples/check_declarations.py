@@ -59,8 +59,9 @@ def plain(text):
 
 
 def declared(header):
-    """The functions that the header declares: each name with its parameters."""
-    found = re.findall(r"uint32_t (\w+)\(([^)]*)\);", header)
+    """The functions that the header declares: each name with its parameters. A name that is defined as another is that one."""
+    others = dict(re.findall(r"#define (imagesize_\w+) (imagesize_\w+)", header))
+    found = [(others.get(name, name), listed) for name, listed in re.findall(r"uint32_t (\w+)\(([^)]*)\);", header)]
     assert len(found) == len(dict(found)) == header.count(");"), "a function is declared twice, or in a form that is not read"
     return {name: [part.strip() for part in listed.split(",")] for name, listed in found}
 
