@@ -361,7 +361,7 @@ static void put_jxl(struct input *to)
         if (once_in(4)) {
             put_big(to, once_in(8) ? below(20) : 1, 4);
             put(to, name, 4);
-            put_big(to, once_in(8) ? once_in(2) ? below(20) : edge() : content + 16, 8);
+            put_big(to, once_in(8) ? once_in(2) ? below(3) : edge() : content + 16, 8);
         } else {
             put_big(to, once_in(8) ? below(9) : content + 8, 4);
             put(to, name, 4);
