@@ -11,6 +11,7 @@ import { fileURLToPath } from 'node:url';
 import { Worker } from 'node:worker_threads';
 import { ImageError, probe, probeBlob, probeFile, spans } from '../imagesize.js';
 import { Library } from '../library.js';
+import { firstBlock, nextBlock, nextEnd } from '../parts.js';
 import { iconOf, jpegBehind, tiffBehind } from './support.js';
 
 const gif = new TextEncoder().encode('GIF89ad\0\x32\0\0\0');
@@ -94,6 +95,31 @@ test('what may surprise is as the README says', () => {
 test('large bytes are answered by a few blocks of them, and no memory grows', () => {
   const tiff = tiffBehind(50_000_000);
   withGrow(assert.fail, () => assert.deepEqual(probe(tiff), { kind: 'Tiff', compression: null, width: 5, height: 7 }));
+});
+
+test('which bytes are read next', () => {
+  const known = (count, length) => ({ pieces: Array(count), length });
+  const next = (...all) => { const { start, end } = nextBlock(...all); return [start, end]; };
+  const far = { start: 1_000_000, len: 4 };
+  assert.deepEqual(firstBlock(Infinity), { start: 0, end: 4096 });
+  assert.deepEqual(firstBlock(4095), { start: 0, end: 4095 });
+  for (const [count, blocks] of [[1, 1], [15, 1], [16, 2], [17, 4], [20, 32]]) {
+    assert.deepEqual(next(far, Infinity, known(count, 0), Infinity), [999_424, 999_424 + 4096 * blocks], `${count} blocks are known`);
+  }
+  assert.deepEqual(next({ start: 8190, len: 4 }, Infinity, known(1, 0), Infinity), [4096, 12_288]);
+  assert.deepEqual(next(far, 1_000_100, known(1, 0), Infinity), [999_424, 1_000_100]);
+  assert.deepEqual(next(far, Infinity, known(1, 4096), 4096 + 577), [999_424, 1_000_001]);
+  assert.throws(() => next(far, Infinity, known(1, 4096), 4096 + 576), { code: 'LIMIT_REACHED' });
+});
+
+test('how far a stream is read', () => {
+  const far = { start: 1000, len: 8 };
+  const end = (length, most, probes, total = 5000) => nextEnd(far, total, { length }, most, probes);
+  assert.deepEqual([end(900, 9000, 63), end(900, 9000, 64), end(100, 9000, 64), end(900, 1500, 64)], [1008, 1800, 1008, 1500]);
+  assert.equal(end(900, 1001, 1), 1001);
+  assert.equal(end(999, 1000, 1, Infinity), 1000);
+  assert.throws(() => end(900, 1000, 1), { code: 'LIMIT_REACHED' });
+  assert.throws(() => end(1000, 1000, 1, Infinity), { code: 'LIMIT_REACHED' });
 });
 
 // The buffers that a call of the library is passed: where each begins, how many bytes it has, and how it is aligned.
