@@ -17,7 +17,7 @@ PASSED = {
     "u64": ("uint64_t",),
     "&[u8]": ("const uint8_t *", "size_t length"),
     "&[Span]": ("const imagesize_span *", "size_t count"),
-    "&mut [u8]": ("uint8_t *", "size_t room"),
+    "&mut [u8]": ("char *", "size_t room"),
     "&mut [Span]": ("imagesize_span *", "size_t room"),
     "&mut u32": ("uint32_t *",),
     "&mut u64": ("uint64_t *",),
@@ -31,7 +31,7 @@ BOUND = {
     "usize": "size_t",
     "*const u8": "const uint8_t *",
     "*const Span": "const imagesize_span *",
-    "*mut u8": "uint8_t *",
+    "*mut u8": "char *",
     "*mut u32": "uint32_t *",
     "*mut u64": "uint64_t *",
     "*mut usize": "size_t *",
@@ -39,14 +39,10 @@ BOUND = {
 }
 # A parameter that the header calls otherwise: by its name and its type in C.
 RENAMED = {"number": "type", "kind": "type", ("length", "size_t *"): "written"}
-# A parameter that is a text: bytes in the library, and characters in C.
-TEXT = "text"
 
 
 def named(name, kind):
     """A parameter as the header writes it."""
-    if name == TEXT:
-        kind = kind.replace("uint8_t", "char")
     name = RENAMED.get((name, kind), RENAMED.get(name, name))
     return f"{kind}{name}" if kind.endswith("*") else f"{kind} {name}"
 
@@ -63,9 +59,9 @@ def plain(text):
 
 
 def declared(header):
-    """The functions that the header declares: each name with its parameters. A name that is a macro is the name that it stands for."""
-    exported_as = dict(re.findall(r"#define (imagesize_\w+) (imagesize_\w+)", header))
-    found = [(exported_as.get(name, name), listed) for name, listed in re.findall(r"uint32_t (\w+)\(([^)]*)\);", header)]
+    """The functions that the header declares: each name with its parameters. A name that is defined as another is that one."""
+    others = dict(re.findall(r"#define (imagesize_\w+) (imagesize_\w+)", header))
+    found = [(others.get(name, name), listed) for name, listed in re.findall(r"uint32_t (\w+)\(([^)]*)\);", header)]
     assert len(found) == len(dict(found)) == header.count(");"), "a function is declared twice, or in a form that is not read"
     return {name: [part.strip() for part in listed.split(",")] for name, listed in found}
 

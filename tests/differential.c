@@ -18,14 +18,23 @@
  *     local     with every byte outside the spans changed, type, size, error and spans are the same
  *     appended  bytes appended change no size, but that of a HEIF, an icon or a TGA
  *     front     the result of a front is that of the whole, unless the header says that more bytes may change it
- *     parts     fetched as it is wanted, with other bytes or cut short, the result is that of the whole
+ *     parts     fetched as it is wanted, with other bytes or cut short, the result is that of the whole, and nothing else is written
  *     missing   with one byte of the spans missing that byte is wanted; with any other byte missing the result is there
+ *     typed     read as its own type the size is that of the input; read as another type, whole and by parts, it is one size
+ *     read      imagesize_file.h over a file, in blocks of 16 bytes, finds what is in the whole, and reads within the input
+ *     cut       with each read cut short, and now and then interrupted, it finds the same
+ *     failing   where a read fails, or the file ends there, it says so, with errno and without a size, and reads no further
  */
-#include <imagesize.h>
+#define _POSIX_C_SOURCE 200809L
+#include <unistd.h>
+
+/* The header reads memory here. */
+static ssize_t read_memory(int file, void *bytes, size_t length, off_t offset);
+#define pread read_memory
+#include <imagesize_file.h>
+#undef pread
 
 #include <stdbool.h>
-#include <stdio.h>
-#include <stdlib.h>
 #include <string.h>
 #include <time.h>
 
@@ -48,10 +57,13 @@ struct answer {
 };
 
 /* How often each thing was done. */
-enum counter { INPUTS, PROBES, VECTORS, FRONTS_OF_SAMPLES, CHANGES_OF_ONE, CHANGES_OF_TWO, CALLS, LOCAL, APPENDED, FRONT, BY_PARTS, MISSING, COUNTERS };
+enum counter {
+    INPUTS, PROBES, VECTORS, FRONTS_OF_SAMPLES, CHANGES_OF_ONE, CHANGES_OF_TWO, CALLS, LOCAL, APPENDED, FRONT, BY_PARTS, MISSING, TYPED,
+    READ, CUT, FAILING, COUNTERS
+};
 static const char *const counter_names[COUNTERS] = {
     "inputs", "probes", "samples", "fronts of samples", "changes of one byte", "changes of two bytes", "calls", "local",
-    "appended", "front", "parts", "missing",
+    "appended", "front", "parts", "missing", "typed", "read", "cut", "failing",
 };
 static unsigned long long counted[COUNTERS], results[TYPES][STATUSES];
 
@@ -349,7 +361,7 @@ static void put_jxl(struct input *to)
         if (once_in(4)) {
             put_big(to, once_in(8) ? below(20) : 1, 4);
             put(to, name, 4);
-            put_big(to, once_in(8) ? edge() : content + 16, 8);
+            put_big(to, once_in(8) ? once_in(2) ? below(3) : edge() : content + 16, 8);
         } else {
             put_big(to, once_in(8) ? below(9) : content + 8, 4);
             put(to, name, 4);
@@ -624,13 +636,22 @@ static bool add_part(const struct input *of, imagesize_span part)
     return true;
 }
 
+/* What the known parts tell. What the call does not write is 0 then, and its status is STATUSES where it wrote too much. */
 static struct answer probe_known(uint64_t total, imagesize_span *wanted)
 {
-    struct answer found = {0};
+    const uint32_t unwritten = 0xFEFEFEFE;
+    struct answer found = {0, unwritten, unwritten, unwritten, unwritten};
+    const imagesize_span before = *wanted;
     counted[PROBES]++;
     found.status = imagesize_probe_parts(known.bytes, known.length, known.spans, known.count, total, &found.type, &found.compression,
                                          &found.width, &found.height, wanted);
-    return found;
+    bool is_wanted = found.status == IMAGESIZE_BYTES_WANTED, is_typed = found.type != unwritten, is_sized = found.status == IMAGESIZE_ANSWERED;
+    if ((is_wanted && is_typed) || (!is_wanted && (wanted->start != before.start || wanted->len != before.len))
+        || (found.compression != unwritten) != is_typed || (found.width != unwritten) != is_sized || (found.height != unwritten) != is_sized) {
+        return (struct answer){.status = STATUSES};
+    }
+    return (struct answer){found.status, is_typed ? found.type : 0, is_typed ? found.compression : 0, is_sized ? found.width : 0,
+                           is_sized ? found.height : 0};
 }
 
 /* Fetched as it is wanted the result is that of the whole: with up to `around` bytes beside it, or at most `most` bytes a time.
@@ -701,6 +722,117 @@ static bool without_any(const struct input *of, struct answer whole, const image
     return without(of, whole, place, rests_on(spans, count, place));
 }
 
+/* The size as a type by the known parts. The compression of a type that has one does not matter. */
+static struct answer size_known(uint32_t type, uint64_t total, imagesize_span *wanted)
+{
+    struct answer found = {0};
+    for (uint32_t compression = 0; compression < 2; compression++) {
+        counted[PROBES]++;
+        found.status = imagesize_parts_size(type, compression, known.bytes, known.length, known.spans, known.count, total, &found.width,
+                                            &found.height, wanted);
+        if (found.status != IMAGESIZE_UNKNOWN_TYPE) {
+            break;
+        }
+    }
+    return found;
+}
+
+/* The size of a whole input as a type. */
+static struct answer size_as(const struct input *of, uint32_t type)
+{
+    imagesize_span wanted = {0, 0};
+    known.length = known.count = 0;
+    if (of->length) {
+        add_part(of, (imagesize_span){0, of->length});
+    }
+    return size_known(type, of->length, &wanted);
+}
+
+/* Fetched as it is wanted the size as a type is that of the whole, and as its own type that of the input. */
+static bool is_typed(const struct input *of, struct answer whole, uint32_t type)
+{
+    struct answer sized = size_as(of, type);
+    counted[TYPED]++;
+    if (type == whole.type && !(sized.status == whole.status && sized.width == whole.width && sized.height == whole.height)) {
+        return false;
+    }
+    known.length = known.count = 0;
+    for (;;) {
+        imagesize_span wanted = {0, 0};
+        struct answer found = size_known(type, of->length, &wanted);
+        if (found.status != IMAGESIZE_BYTES_WANTED) {
+            return same(sized, found);
+        }
+        if (!within(wanted, of->length)) {
+            return false;
+        }
+        if (!add_part(of, wanted)) {
+            return true;
+        }
+    }
+}
+
+/* A file in memory: how often it was read, the read that fails, with which errno, and whether each read is cut short. */
+static struct memory {
+    const struct input *of;
+    size_t reads, failing;
+    int failure;
+    bool cut, beyond;
+} memory;
+
+/* As pread. Where a read fails without an errno the file ends. */
+static ssize_t read_memory(int file, void *bytes, size_t length, off_t offset)
+{
+    uint64_t at = (uint64_t)offset, total = memory.of->length;
+    memory.beyond |= file != 7 || length == 0 || at >= total || length > total - at || memory.reads > 2 * total;
+    if (memory.beyond || ++memory.reads == memory.failing) {
+        errno = memory.failure ? memory.failure : ERANGE;
+        return memory.failure ? -1 : 0;
+    }
+    if (memory.cut && once_in(4)) {
+        memory.reads--;
+        errno = EINTR;
+        return -1;
+    }
+    length = memory.cut ? 1 + below(length) : length;
+    memcpy(bytes, memory.of->bytes + at, length);
+    return (ssize_t)length;
+}
+
+/* What imagesize_file.h finds in a file. Where a read is beyond the input, or there are too many, its status is STATUSES. */
+static struct answer probe_file(const struct input *of, size_t failing, int failure, bool cut)
+{
+    int file = 7;
+    imagesize_image image = {1, 2, 3, 4};
+    memory = (struct memory){of, 0, failing, failure, cut, false};
+    uint32_t status = imagesize_reader_probe(&file, imagesize_fd_read, of->length, &image);
+    return (struct answer){memory.beyond ? STATUSES : status, image.type, image.compression, image.width, image.height};
+}
+
+/* The name of a law of files that an input breaks, or NULL: each read fails, or with `all` unset one of them. */
+static const char *broken_reads(const struct input *of, struct answer whole, bool all)
+{
+    const struct answer fault = {.status = IMAGESIZE_FAULT};
+    counted[READ]++;
+    counted[CUT]++;
+    if (!same(whole, probe_file(of, 0, 0, false))) {
+        return "read";
+    }
+    size_t reads = memory.reads;
+    if (!same(whole, probe_file(of, 0, 0, true))) {
+        return "cut";
+    }
+    size_t first = all || reads == 0 ? 1 : 1 + below(reads), last = all ? reads : reads ? first : 0;
+    for (size_t failing = first; failing <= last; failing++) {
+        int failure = once_in(2) ? EIO : 0;
+        counted[FAILING]++;
+        if (!same(fault, probe_file(of, failing, failure, false)) || memory.reads != failing || errno != failure) {
+            return "failing";
+        }
+    }
+    return NULL;
+}
+
 static void print_hex(const struct input *of)
 {
     for (size_t at = 0; at < of->length; at++) {
@@ -717,6 +849,11 @@ static void print_sample(const struct input *of, struct answer whole, const imag
     for (size_t at = 0; at < count; at++) {
         printf("%s%llu+%llu", at ? " " : "", (unsigned long long)spans[at].start, (unsigned long long)spans[at].len);
     }
+    printf("\n");
+    uint32_t type = 1 + (uint32_t)below(TYPES - 1);
+    struct answer sized = size_as(of, type);
+    printf("AS\t%u\t%u\t%llu\t%llu\t", type, sized.status, (unsigned long long)sized.width, (unsigned long long)sized.height);
+    print_hex(of);
     printf("\n");
 }
 
@@ -737,7 +874,10 @@ static const char *broken(const struct input *of, bool sample)
     if (sample) {
         print_sample(of, whole, spans, count);
     }
-    return !calls_agree(of, whole)                                                              ? "calls"
+    const char *law = broken_reads(of, whole, false);
+    return law                                                                                  ? law
+        : !is_typed(of, whole, whole.type && once_in(2) ? whole.type : 1 + (uint32_t)below(TYPES - 1)) ? "typed"
+        : !calls_agree(of, whole)                                                               ? "calls"
         : !spans_fit(of, spans, count)                                                          ? "spans"
         : !is_local(of, whole, spans, count)                                                    ? "local"
         : !lasts_with_more(of, whole)                                                           ? "appended"
@@ -747,7 +887,8 @@ static const char *broken(const struct input *of, bool sample)
                                                                                                 : NULL;
 }
 
-/* The same of a whole file, with each of its fronts, and each byte missing on which its result rests, and its neighbours. */
+/* The same of a whole file, with each of its fronts, each read that fails, and each byte missing on which its result rests, and its
+ * neighbours. */
 static const char *broken_file(const struct input *of)
 {
     static imagesize_span spans[SPANS];
@@ -758,6 +899,7 @@ static const char *broken_file(const struct input *of)
         law = front_lasts(of, whole, length) ? NULL : "front";
     }
     law = law ? law : by_parts(of, whole, 0, 1) ? NULL : "parts";
+    law = law ? law : broken_reads(of, whole, true);
     for (size_t at = 0; at < count; at++) {
         for (uint64_t place = spans[at].start ? spans[at].start - 1 : 0; !law && place <= spans[at].start + spans[at].len; place++) {
             law = place >= of->length || without(of, whole, place, rests_on(spans, count, place)) ? NULL : "missing";

@@ -10,6 +10,8 @@ import { after, test } from 'node:test';
 import { fileURLToPath } from 'node:url';
 import { Worker } from 'node:worker_threads';
 import { ImageError, probe, probeBlob, probeFile, spans } from '../imagesize.js';
+import { Library } from '../library.js';
+import { firstBlock, nextBlock, nextEnd } from '../parts.js';
 import { iconOf, jpegBehind, tiffBehind } from './support.js';
 
 const gif = new TextEncoder().encode('GIF89ad\0\x32\0\0\0');
@@ -93,6 +95,76 @@ test('what may surprise is as the README says', () => {
 test('large bytes are answered by a few blocks of them, and no memory grows', () => {
   const tiff = tiffBehind(50_000_000);
   withGrow(assert.fail, () => assert.deepEqual(probe(tiff), { kind: 'Tiff', compression: null, width: 5, height: 7 }));
+});
+
+test('which bytes are read next', () => {
+  const known = (count, length) => ({ pieces: Array(count), length });
+  const next = (...all) => { const { start, end } = nextBlock(...all); return [start, end]; };
+  const far = { start: 1_000_000, len: 4 };
+  assert.deepEqual(firstBlock(Infinity), { start: 0, end: 4096 });
+  assert.deepEqual(firstBlock(4095), { start: 0, end: 4095 });
+  for (const [count, blocks] of [[1, 1], [15, 1], [16, 2], [17, 4], [20, 32]]) {
+    assert.deepEqual(next(far, Infinity, known(count, 0), Infinity), [999_424, 999_424 + 4096 * blocks], `${count} blocks are known`);
+  }
+  assert.deepEqual(next({ start: 8190, len: 4 }, Infinity, known(1, 0), Infinity), [4096, 12_288]);
+  assert.deepEqual(next(far, 1_000_100, known(1, 0), Infinity), [999_424, 1_000_100]);
+  assert.deepEqual(next(far, Infinity, known(1, 4096), 4096 + 577), [999_424, 1_000_001]);
+  assert.throws(() => next(far, Infinity, known(1, 4096), 4096 + 576), { code: 'LIMIT_REACHED' });
+});
+
+test('how far a stream is read', () => {
+  const far = { start: 1000, len: 8 };
+  const end = (length, most, probes, total = 5000) => nextEnd(far, total, { length }, most, probes);
+  assert.deepEqual([end(900, 9000, 63), end(900, 9000, 64), end(100, 9000, 64), end(900, 1500, 64)], [1008, 1800, 1008, 1500]);
+  assert.equal(end(900, 1001, 1), 1001);
+  assert.equal(end(999, 1000, 1, Infinity), 1000);
+  assert.throws(() => end(900, 1000, 1), { code: 'LIMIT_REACHED' });
+  assert.throws(() => end(1000, 1000, 1, Infinity), { code: 'LIMIT_REACHED' });
+});
+
+// The buffers that a call of the library is passed: where each begins, how many bytes it has, and how it is aligned.
+const BUFFERS = {
+  imagesize_probe_parts: ([bytes, length, parts, count, , type, compression, width, height, wanted]) => [
+    [bytes, length, 1], [parts, 16 * count, 8], [type, 4, 4], [compression, 4, 4], [width, 8, 8], [height, 8, 8], [wanted, 16, 8],
+  ],
+  imagesize_spans: ([bytes, length, found, room, count]) => [[bytes, length, 1], [found, 16 * room, 8], [count, 8, 8]],
+};
+
+test('what the library is passed is aligned, apart, and within its memory', () => {
+  const compiled = new WebAssembly.Module(readFileSync(new URL('../out/imagesize.wasm', import.meta.url)));
+  const { exports } = new WebAssembly.Instance(compiled);
+  const passed = [];
+  const noted = (name) => (...numbers) => {
+    const buffers = BUFFERS[name](numbers.map(Number)).filter(([, length]) => length > 0).sort(([a], [b]) => a - b);
+    const ends = [Number(exports.__heap_base.value), ...buffers.map(([start, length]) => start + length)];
+    buffers.forEach(([start, , alignment], index) => assert.ok(start >= ends[index] && start % alignment === 0, `${name} ${buffers}`));
+    assert.ok(ends.at(-1) <= exports.memory.buffer.byteLength, `${name} ${buffers}`);
+    passed.push(numbers.map(Number));
+    return exports[name](...numbers);
+  };
+  const wrapped = Object.fromEntries(Object.keys(BUFFERS).map((name) => [name, noted(name)]));
+  const library = new Library(compiled, { exports: { ...exports, ...wrapped } });
+  const pieces = [{ start: 0, bytes: gif }, { start: 20, bytes: gif.subarray(0, 3) }];
+  isGif(library.probeParts({ pieces, length: 15 }, 40).image);
+  assert.deepEqual(passed[0].filter((_, index) => [1, 3, 4].includes(index)), [15, 2, 40]);
+  assert.equal(library.spans(gif, 3).length, 3);
+  assert.deepEqual(passed.slice(1).map(([, length, , room]) => [length, room]), [[12, 0], [12, 3]]);
+  // These bytes reach to the end of the memory.
+  const full = new Uint8Array(exports.memory.buffer.byteLength - passed[1][0]);
+  full.set(gif);
+  assert.equal(library.spans(full, 3).length, 3);
+});
+
+test('at most 64 MiB of a blob or a file are read, where a call names no other limit', async () => {
+  // A chunk of 4096 bytes behind another.
+  const chunks = Buffer.alloc(66 * 2 ** 20);
+  chunks.write('FORM\0\0\0\0ILBM');
+  for (let at = 12; at + 8 < chunks.length; at += 4096) chunks.writeUInt32BE(4088, at + 4);
+  const path = join(folder, 'chunks.iff');
+  writeFileSync(path, chunks);
+  const limit = { code: 'LIMIT_REACHED', message: 'There is no answer within 67108864 bytes', bytesRead: 67108864 };
+  await assert.rejects(probeBlob(new Blob([chunks])), limit);
+  await assert.rejects(probeFile(path), limit);
 });
 
 // It stands before the tests of memory, since it has one of its own.

@@ -64,6 +64,13 @@ class Program(unittest.TestCase):
         os.mkdir(self.folder / "empty")
         self.assertEqual(self.run_it("--json", "--recursive", "empty").stdout, "[]\n")
 
+    def test_files_that_cannot_be_read(self) -> None:
+        for error, text in (FileNotFoundError(2, "No such file or directory"), "No such file or directory"), (EOFError(), "became shorter"):
+            with mock.patch("imagesize_proved.__main__.probe", side_effect=error):
+                row = program.row_of("a.gif", False)
+            self.assertEqual((row["status"], row["type"], row["width"]), ("FAULT", None, None))
+            self.assertIn(text, row["error"])
+
     def test_recursive(self) -> None:
         rows = json.loads(self.run_it("--json", "--recursive", ".").stdout)
         self.assertEqual([row["path"] for row in rows], ["./a.gif", "./c.jpg", "./b/d.gif", "./b/e.txt"])

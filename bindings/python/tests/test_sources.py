@@ -3,6 +3,7 @@
 import array
 import asyncio
 import errno
+import inspect
 import io
 import os
 import pathlib
@@ -144,6 +145,34 @@ class Reading(unittest.TestCase):
                     self.assertIs(raised.exception.status, Status.BUDGET_SPENT)
             self.assertEqual(image.fetched, [(0, budget)])
 
+    def test_budget_that_is_just_enough(self) -> None:
+        image = Sliced(jpeg(3))
+        image.probe()
+        read = sum(length for _, length in image.fetched)
+        self.assertEqual(image.probe(budget=read), (7, 5))
+        with self.assertRaises(ImageError) as raised:
+            image.probe(budget=read - 1)
+        self.assertIs(raised.exception.status, Status.BUDGET_SPENT)
+
+    def test_budget_of_any_length(self) -> None:
+        """A budget may be longer than any input. It is 64 MiB where a call names no other, and the spans are 65536."""
+
+        async def read(start: int, length: int) -> bytes:
+            return GIF
+
+        with tempfile.NamedTemporaryFile() as file:
+            file.write(GIF)
+            file.flush()
+            forms: List[Any] = [GIF, bytearray(GIF), file.name, file]
+            for form in forms:
+                self.assertEqual(imagesize.probe(form, budget=1 << 64).size, (640, 480))
+        self.assertEqual(Sliced(GIF).probe(budget=1 << 64), (640, 480))
+        self.assertEqual(asyncio.run(imagesize.probe_async(read, 12, budget=1 << 64)).size, (640, 480))
+        calls: List[Any] = [imagesize.probe, imagesize.size, imagesize.image_type, imagesize.probe_with, imagesize.probe_async, imagesize.spans]
+        for call in calls:
+            self.assertEqual(inspect.signature(call).parameters["budget"].default, 67108864)
+        self.assertEqual(inspect.signature(imagesize.spans).parameters["limit"].default, 65536)
+
     def test_budget_is_a_whole_number(self) -> None:
         async def read(start: int, length: int) -> bytes:
             return GIF
@@ -226,8 +255,10 @@ class Failing(unittest.TestCase):
 
         wrong: Any
         for wrong, error in ((-1, "from 0 to"), (1 << 63, "from 0 to"), (1 << 64, "from 0 to"), ("12", "str"), (None, "None")):
+            image = Sliced(GIF)
             with self.assertRaisesRegex((TypeError, ValueError), error):
-                imagesize.probe_with(Sliced(GIF).fetch, wrong)
+                imagesize.probe_with(image.fetch, wrong)
+            self.assertEqual(image.fetched, [])
             with self.assertRaisesRegex((TypeError, ValueError), error):
                 asyncio.run(imagesize.probe_async(read, wrong))
         self.assertEqual(asyncio.run(imagesize.probe_async(read, 12)).size, (640, 480))

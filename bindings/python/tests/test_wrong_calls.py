@@ -1,6 +1,7 @@
 """What a caller may do wrong is refused with an error that says what it is, and nothing else is read."""
 
 import copy
+import ctypes
 import os
 import pathlib
 import pickle
@@ -11,10 +12,11 @@ import tempfile
 import typing
 import unittest
 from concurrent.futures import ProcessPoolExecutor
-from typing import Any
+from typing import Any, Callable, List, Sequence, Tuple
+from unittest import mock
 
 import imagesize_proved as imagesize
-from imagesize_proved import Compression, ImageError, ImageType, Kind, Status
+from imagesize_proved import Compression, ImageError, ImageType, Kind, Status, _library
 
 from . import GIF
 
@@ -150,6 +152,59 @@ class Arguments(unittest.TestCase):
                 imagesize.probe(nothing)
             self.assertEqual((raised.exception.status, raised.exception.image_type), (Status.END_OF_INPUT, None))
             self.assertEqual(imagesize.spans(nothing), [])
+
+
+class Buffers(unittest.TestCase):
+    """What the library is passed: its caller vouches for pointers and lengths, and a result need not show that one is wrong."""
+
+    def passed(self, call: str, use: Callable[[], object]) -> List[Tuple[Any, ...]]:
+        """The arguments of each call of the library that `use` leads to. They are looked at during the call."""
+        found: List[Tuple[Any, ...]] = []
+        before = getattr(_library, call)
+
+        def noted(*arguments: Any) -> Any:
+            found.append(tuple(each.value if hasattr(each, "value") else each for each in arguments))
+            return before(*arguments)
+
+        with mock.patch.object(_library, call, noted):
+            use()
+        return found
+
+    def results(self, references: Sequence[Any], length: int) -> None:
+        """So many references lie in one buffer, each 8 bytes behind the one before, and the buffer ends no sooner than the last."""
+        room = references[0]._obj
+        places = [ctypes.cast(each, ctypes.c_void_p).value or 0 for each in references]
+        self.assertEqual([place - ctypes.addressof(room) for place in places], list(range(0, 8 * len(places), 8)))
+        self.assertGreaterEqual(ctypes.sizeof(room), 8 * len(places) + 8 * (length == 5))
+
+    def test_bytes(self) -> None:
+        for call, use, count in ("_probe", imagesize.probe, 4), ("_type", imagesize.image_type, 2):
+            ((data, length, *references),) = self.passed(call, lambda: use(GIF))
+            self.assertEqual((data, length, len(references)), (GIF, len(GIF), count))
+            self.results(references, count)
+
+    def test_first_block(self) -> None:
+        with tempfile.NamedTemporaryFile() as file:
+            file.write(GIF)
+            file.flush()
+            ((data, length, spans, count, total, *references),) = self.passed("_probe_front", lambda: imagesize.probe(file.name))
+        self.assertEqual((data, length, list(spans), count, total), (GIF, 12, [0, 12], 1, 12))
+        self.assertEqual(len(references), 5)
+        self.results(references, 5)
+
+    def test_parts(self) -> None:
+        image = b"\xff\xd8" + (b"\xff\xe0\xff\xff" + bytes(65533)) * 2 + b"\xff\xc0\0\x11\x08\0\x05\0\x07" + bytes(8)
+        found = self.passed("_probe_parts", lambda: imagesize.probe(bytearray(image)))
+        self.assertEqual(len(found), 2)
+        for number, (data, length, _, count, total, *references) in enumerate(found):
+            self.assertEqual((length, count, total, len(references)), (len(data), 2 + number, len(image), 5))
+            self.results(references, 5)
+
+    def test_spans(self) -> None:
+        (asked, told) = self.passed("_spans", lambda: imagesize.spans(GIF))
+        self.assertEqual((asked[:2], asked[3]), ((GIF, 12), 0))
+        self.assertEqual((told[:2], told[3]), ((GIF, 12), 3))
+        self.assertGreaterEqual(ctypes.sizeof(told[2]), 16 * 3)
 
 
 class Libraries(unittest.TestCase):

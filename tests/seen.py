@@ -1,0 +1,26 @@
+"""What tests/mutants and tests/callers share: the reasons of the mutants that no run sees, and how both end."""
+
+import pathlib
+
+REASONS = pathlib.Path(__file__).resolve().parent / "unseen.tsv"
+
+
+def reasons():
+    """The reason of each mutant that is known to be unseen, by its file, the text of its line, and what is changed there."""
+    rows = (row.split("\t") for row in REASONS.read_text().splitlines() if row and not row.startswith("#"))
+    return {(name, text, how): reason for name, text, how, reason in rows}
+
+
+def told(found, known):
+    """Prints each unseen mutant with its reason. Returns whether each has one, and no other has one.
+
+    `found` has a row for each mutant: its file, its line, the text of the line, what is changed there, and whether it was seen.
+    """
+    keys = [((name, text, how), line, is_seen) for name, line, text, how, is_seen in found]
+    unseen = {key for key, _, is_seen in keys if not is_seen}
+    for key, line, is_seen in keys:
+        if not is_seen:
+            print(f"not seen: {key[0]}:{line}: {key[2]}: {known.get(key, 'NO REASON')}")
+        elif key in known and key not in unseen:
+            print(f"seen, and has a reason: {key[0]}:{line}: {key[2]}")
+    return unseen <= known.keys() and not any(is_seen and key in known.keys() - unseen for key, _, is_seen in keys)
