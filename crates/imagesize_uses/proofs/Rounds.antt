@@ -64,18 +64,19 @@ pub record Fetching (d : List ℕ) (whole : ℕ) (spans : List Span) (bytes : Li
   pub content : bytes_of d spans ≡ bytes
   pub few : now + lacking d spans ≤ before + places (length d) (meaning d 0).marks
 
+-- never more than the marks have
+few_lacking : (d : List ℕ) (spans : List Span) → lacking d spans ≤ places (length d) (meaning d 0).marks
+unfolding lacking
+few_lacking d spans = count_fewer (lacks (meaning d 0).marks spans) (is_covered (meaning d 0).marks) (range_with_len 0 (length d))
+    (λ place has. (and_parts (is_covered (meaning d 0).marks place) (not (is_covered spans place)) has).0)
+
 pub begun : (d : List ℕ) (whole now : ℕ) (spans : List Span) (bytes : List ℕ) → whole ≡ length d → whole < 2 ^ 63 → spans ≡ []
     → bytes ≡ [] → Fetching d whole spans bytes now now
-unfolding lacking
 begun d whole now spans bytes long short none also = record {
   as_long = long;
   short = short;
   content = ap (bytes_of d) none ∙ sym also;
-  few = omega (
-    arith,
-    count_fewer (lacks (meaning d 0).marks spans) (is_covered (meaning d 0).marks) (range_with_len 0 (length d))
-        (λ place has. (and_parts (is_covered (meaning d 0).marks place) (not (is_covered spans place)) has).0),
-  );
+  few = omega (arith, few_lacking d spans);
 }
 
 -- the input has the bytes that the parts know, as the call has them
@@ -141,3 +142,7 @@ module _ {d : List ℕ} {whole : ℕ} {spans others : List Span} {bytes content 
   -- there was a place to fetch
   pub few_by : {later : ℕ} → later ≤ now + 1 → later ≤ before + places (length d) (meaning d 0).marks
   few_by {later} counts = omega (arith, f.few, counts, smaller refl)
+
+  -- and the marks have it
+  pub some_place : 0 < places (length d) (meaning d 0).marks
+  some_place = omega (arith, smaller {more = spans ++ w ∷ []} refl, few_lacking d spans)

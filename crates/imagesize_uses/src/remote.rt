@@ -1,5 +1,5 @@
 //! An input that is fetched, as by range requests, until its type and size are known.
-ghost use Rattle.std.specs.Prelude.{◌≡◌, ℕ, ◌+◌, ◌^◌, ◌<◌, ◌≤◌, ◌++◌, List, Option, Some, length, take, IfOk};
+ghost use Rattle.std.specs.Prelude.{◌≡◌, ℕ, ◌+◌, ◌^◌, ◌<◌, ◌≤◌, ◌++◌, List, Option, Some, length, take, IfErr, IfOk};
 ghost use Rattle.imagesize.specs.Meaning.{meaning};
 ghost use Rattle.imagesize_source.specs.Counts.{places};
 ghost use Rattle.imagesize_source.specs.Input.{part};
@@ -78,6 +78,9 @@ pub fn probe_remote<A: Allocator + Copy, R: Remote>(
 
     // There are no more fetches than the spans of the trace have places, each counted once.
     ensures few { R.fetches remote.new ≤ R.fetches remote.old + places (length (R.input remote.old)) (meaning (R.input remote.old) 0).marks }
+
+    // It ends without an answer only where a byte is wanted: for what is told without any it wants no memory and makes no fetch.
+    ensures some { IfErr result (λ _. 0 < places (length (R.input remote.old)) (meaning (R.input remote.old) 0).marks) }
 {
     let whole = remote.length();
     let mut bytes = Vec::new(alloc);

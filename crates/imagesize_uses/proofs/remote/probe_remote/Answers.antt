@@ -1,6 +1,6 @@
 use Rattle.std.proofs.Common.{◌++◌, refl, ap, ◌∙◌, rules}
 use Rattle.imagesize_source.specs.Input.{part}
-use Rattle.imagesize_uses.proofs.Rounds.{begun, few_by, fetched, has_known, smaller}
+use Rattle.imagesize_uses.proofs.Rounds.{begun, few_by, fetched, has_known, smaller, some_place}
 use Rattle.imagesize_uses.proofs.remote.probe_remote.Goals as goal
 
 pub rounds-init : goal.rounds-init
@@ -41,3 +41,13 @@ returns-in-Found-clause-answer g c =
     let has = has_known c.rounds.invariant.1 c.deref-in-rounds.ensures.value c.deref.ensures.value in
     let is = c.in-Found.ensures.says (g.R.Remote.input c.args.remote.now) has c.rounds.invariant.1.short in
     record { kind = is.0; answer = is.1 }
+
+pub returns-in_err-fetch_part-in-Wanted-clause-some : goal.returns-in_err-fetch_part-in-Wanted-clause-some
+returns-in_err-fetch_part-in-Wanted-clause-some g c =
+    some_place c.in-Wanted.span c.rounds.invariant.1 c.deref-in-rounds.ensures.value c.deref.ensures.value
+    (c.in-Wanted.ensures.says (g.R.Remote.input c.args.remote.now)) c.in-Wanted.ensures.fits
+
+pub returns-in_err-extend_from_slice-in-Wanted-clause-some : goal.returns-in_err-extend_from_slice-in-Wanted-clause-some
+returns-in_err-extend_from_slice-in-Wanted-clause-some g c =
+    some_place c.in-Wanted.span c.rounds.invariant.1 c.deref-in-rounds.ensures.value c.deref.ensures.value
+    (c.in-Wanted.ensures.says (g.R.Remote.input c.args.remote.now)) c.in-Wanted.ensures.fits
