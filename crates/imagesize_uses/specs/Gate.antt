@@ -39,7 +39,7 @@ pub record AdmitsOf (t : Telling) (most : ℕ) (admission : Admission) : Type 0 
   pub too_large : IfTooLarge admission.verdict (λ size. (over_reader t meaning).answer ≡ Ok size)
   pub refused : IfNoSize admission.verdict (λ e. is_fault e ≡ false → (over_reader t meaning).answer ≡ Err e)
   pub whole : t.can_fail ≡ false → admission.verdict ≡ gate_verdict most (over_reader t meaning).answer
-  pub most : admission.taken ≤ total (over_reader t meaning).marks
+  pub takes : admission.taken ≤ total (over_reader t meaning).marks
   pub within : admission.taken ≤ length t.bytes + allowance
 
 abbrev pub Admits : Option Telling → ℕ → Admission → Type 0
@@ -54,11 +54,18 @@ IsFaultOf failure verdict = IfNoSize verdict (λ e. is_fault e ≡ true → IsLa
 abbrev pub limit_of : ℕ → ℕ
 limit_of length = min (length + allowance) (2 ^ 64 - 1)
 
--- Two counts in one number, where the reader below counts: its count, and the bytes that are left. Their sum stays, and it
--- stands above what a call can take, so both are told back by the number.
-abbrev pub limited_count : Option ℕ → ℕ → Option ℕ
-limited_count None left = Some (2 ^ 64 - left)
-limited_count (Some count) left = Some (count + 2 ^ 66 * (count + left))
+-- two numbers in one
+abbrev pub pair : ℕ → ℕ → ℕ
+pair a b = (a + b) * (a + b) + b
+
+-- What stays while a limited reader is read: which reader is below, and its count with what is left, where it counts.
+abbrev pub kept_sum : ℕ → Option ℕ → ℕ → ℕ
+kept_sum reader None left = pair reader 0
+kept_sum reader (Some count) left = pair reader (count + left + 1)
+
+-- The count of a limited reader. What stays stands in it above all that a call can take, so the number tells both.
+abbrev pub limited_count : ℕ → Option ℕ → ℕ → Option ℕ
+limited_count reader count left = Some (2 ^ 64 - left + 2 ^ 66 * kept_sum reader count left)
 
 -- the last failure of a reader that tells its failures, or that behind the limit, where it came later
 abbrev pub limited_failure : Option Error → Option (Option Error) → Option (Option Error)

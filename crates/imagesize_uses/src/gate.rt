@@ -67,22 +67,23 @@ pub struct Limited<'a, R: Told> {
     pub left: u64,
     /// The error of the last call that failed, where that was a read behind the limit.
     pub spent: Option<io::Error>,
+    pub ghost short: { left < 2 ^ 64 },
     pub ghost ends: { is_none spent || nat_eq left 0 ≡ true },
 }
 
 impl<R: Told> Told for Limited<'_, R> {
     ghost telling = { λ r. may_fail (R.telling r.reader.now) };
 
-    // It rises as what is left falls, so no call gives more than was left.
-    ghost count = { λ r. limited_count (R.count r.reader.now) r.left };
+    // It rises as what is left falls, so no call gives more than was left. It also tells the count of the reader below.
+    ghost count = { λ r. limited_count r.reader.ghost_name (R.count r.reader.now) r.left };
 
     ghost failure = { λ r. limited_failure r.spent (R.failure r.reader.now) };
 
     fn read_told(&mut self, room: &mut [u8]) -> Result<usize, Stop>
         ensures bound { IfOk result (λ n. n ≤ length room.new) }
         ensures told { ReadTells (may_fail (R.telling self.old.reader.now)) (may_fail (R.telling self.new.reader.now)) room.new result }
-        ensures counts { limited_count (R.count self.new.reader.now) self.new.left
-            ≡ count_after (limited_count (R.count self.old.reader.now) self.old.left) result }
+        ensures counts { limited_count self.new.reader.ghost_name (R.count self.new.reader.now) self.new.left
+            ≡ count_after (limited_count self.old.reader.ghost_name (R.count self.old.reader.now) self.old.left) result }
         ensures fails { limited_failure self.new.spent (R.failure self.new.reader.now)
             ≡ failure_after_read (limited_failure self.old.spent (R.failure self.old.reader.now)) result }
         // Before the end it fails only where the other reader does: a read is one of it, into no more room than is left.
@@ -104,8 +105,8 @@ impl<R: Told> Told for Limited<'_, R> {
 
     fn seek_told(&mut self, to: SeekFrom) -> io::Result<u64>
         ensures told { SeekTells (may_fail (R.telling self.old.reader.now)) (may_fail (R.telling self.new.reader.now)) to result }
-        ensures counts { limited_count (R.count self.new.reader.now) self.new.left
-            ≡ limited_count (R.count self.old.reader.now) self.old.left }
+        ensures counts { limited_count self.new.reader.ghost_name (R.count self.new.reader.now) self.new.left
+            ≡ limited_count self.old.reader.ghost_name (R.count self.old.reader.now) self.old.left }
         ensures fails { limited_failure self.new.spent (R.failure self.new.reader.now)
             ≡ failure_after (limited_failure self.old.spent (R.failure self.old.reader.now)) result }
         ensures below { SeekTells (R.telling self.old.reader.now) (R.telling self.new.reader.now) to result }
