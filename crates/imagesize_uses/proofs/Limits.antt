@@ -7,7 +7,7 @@ use Rattle.std.proofs.lemmas.Bool.Decides.{nat_tests}
 use Rattle.std.proofs.lemmas.Nat.{mul-le}
 use Rattle.imagesize.specs.Meaning.{meaning}
 use Rattle.imagesize_io.specs.Answers.{IsLast, over_reader}
-use Rattle.imagesize_io.specs.Telling.{Telling, IsHonest, may_fail}
+use Rattle.imagesize_io.specs.Telling.{Telling, may_fail}
 use Rattle.imagesize_source.specs.Reading.{is_fault}
 use Rattle.imagesize_source.specs.declared.error.ImageError.{ImageError}
 use Rattle.imagesize_types.specs.Order.{area_of}
@@ -72,7 +72,7 @@ pub took : (reader other : ℕ) (before after : Option ℕ) (left later taken : 
     → Taken reader other before after left later taken
 took reader other before after left later taken short also few is =
     let sum : 2 ^ 64 - later + 2 ^ 66 * kept_sum other after later ≡ 2 ^ 64 - left + 2 ^ 66 * kept_sum reader before left + taken =
-        ap (λ o. unwrap_or o 0) is in
+    ap (λ o. unwrap_or o 0) is in
     let both = same_rest (kept_sum reader before left) (kept_sum other after later) left later taken short also few sum in
     let kept = kept_same reader other before after left later taken both.1 both.0 in
     record { same = kept.0; rises = kept.1; rest = both.1 }
