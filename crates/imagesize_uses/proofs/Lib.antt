@@ -1,3 +1,4 @@
 pub mod Joins
+pub mod Limits
 pub mod Rounds
 pub mod Spans

@@ -1,14 +1,14 @@
 -- How many places of its marks an input still lacks, of which some parts were fetched.
-use Rattle.std.proofs.Common.{◌≡◌, ℕ, zero, suc, ◌+◌, ◌^◌, ◌<◌, ◌≤◌, Bool, true, false, ◌&&◌, ◌||◌, not, cond, eqb, List, [], ◌∷◌, ◌++◌, length, refl, sym, ap, ◌∙◌, subst, arith}
+use Rattle.std.proofs.Common.{◌≡◌, ℕ, zero, suc, ◌+◌, ◌*◌, ◌^◌, ◌<◌, ◌≤◌, Bool, true, false, ◌&&◌, ◌||◌, not, cond, eqb, List, [], ◌∷◌, ◌++◌, length, refl, sym, ap, ◌∙◌, subst, arith}
 use Rattle.std.proofs.lemmas.Bool.{and_parts}
-use Rattle.std.specs.Prelude.{count_by}
+use Rattle.std.specs.Prelude.{count_by, nat_le, if◌then◌else◌, Result, Ok, Err, IfErr}
 use Rattle.std.specs.List.{range_with_len}
 use Rattle.std.proofs.lemmas.Bool.Decides.{nat_tests}
 use Rattle.std.proofs.lemmas.Grind.{flat_map-append}
 use Rattle.std.proofs.lemmas.List.{append-nil}
 use Rattle.imagesize.specs.Meaning.{meaning}
 use Rattle.imagesize.specs.Parted.{HasKnown, Wants, texts_of}
-use Rattle.imagesize_source.specs.Agreement.{is_covered, has_place}
+use Rattle.imagesize_source.specs.Agreement.{is_covered, has_place, has_whole}
 use Rattle.imagesize_source.specs.Counts.{places}
 use Rattle.imagesize_source.specs.Input.{part}
 use Rattle.imagesize_source.specs.Known.{HasParts, bytes_of}
@@ -16,6 +16,8 @@ use Rattle.imagesize_source.specs.declared.span.Span.{Span}
 use Rattle.imagesize_source.proofs.Counts.{count-cons, count_fewer, tests_fewer}
 use Rattle.imagesize_source.proofs.Known.{unknown_free}
 use Rattle.imagesize.proofs.Wanted.{parts_known}
+use Rattle.imagesize_uses.specs.Remote.{longest, most_at_once}
+use Rattle.std.proofs.lemmas.Nat.{mul-le}
 
 -- ---- counts of places
 
@@ -57,44 +59,67 @@ lacks marks spans place = is_covered marks place && not (is_covered spans place)
 unfoldable pub lacking : List ℕ → List Span → ℕ
 lacking d spans = count_by (lacks (meaning d 0).marks spans) (range_with_len 0 (length d))
 
--- The parts are those of an input of fewer than 2^63 bytes, and there were so many fetches before and behind them.
-pub record Fetching (d : List ℕ) (whole : ℕ) (spans : List Span) (bytes : List ℕ) (before now : ℕ) : Type 0 where
+-- The parts are those of an input of fewer than 2^63 bytes, and there were so many fetches, of so many bytes, before and
+-- behind them.
+pub record Fetching (d : List ℕ) (whole : ℕ) (spans : List Span) (bytes : List ℕ) (before now start asked : ℕ) : Type 0 where
   pub as_long : whole ≡ length d
   pub short : whole < 2 ^ 63
   pub content : bytes_of d spans ≡ bytes
   pub few : now + lacking d spans ≤ before + places (length d) (meaning d 0).marks
+  pub most : asked + lacking d spans * most_at_once d ≤ start + places (length d) (meaning d 0).marks * most_at_once d
 
-pub begun : (d : List ℕ) (whole now : ℕ) (spans : List Span) (bytes : List ℕ) → whole ≡ length d → whole < 2 ^ 63 → spans ≡ []
-    → bytes ≡ [] → Fetching d whole spans bytes now now
+-- never more than the marks have
+few_lacking : (d : List ℕ) (spans : List Span) → lacking d spans ≤ places (length d) (meaning d 0).marks
 unfolding lacking
-begun d whole now spans bytes long short none also = record {
+few_lacking d spans = count_fewer (lacks (meaning d 0).marks spans) (is_covered (meaning d 0).marks) (range_with_len 0 (length d))
+    (λ place has. (and_parts (is_covered (meaning d 0).marks place) (not (is_covered spans place)) has).0)
+
+pub begun : (d : List ℕ) (whole now asked : ℕ) (spans : List Span) (bytes : List ℕ) → whole ≡ length d → whole < 2 ^ 63 → spans ≡ []
+    → bytes ≡ [] → Fetching d whole spans bytes now now asked asked
+begun d whole now asked spans bytes long short none also = record {
   as_long = long;
   short = short;
   content = ap (bytes_of d) none ∙ sym also;
-  few = omega (
-    arith,
-    count_fewer (lacks (meaning d 0).marks spans) (is_covered (meaning d 0).marks) (range_with_len 0 (length d))
-        (λ place has. (and_parts (is_covered (meaning d 0).marks place) (not (is_covered spans place)) has).0),
-  );
+  few = omega (arith, few_lacking d spans);
+  most = (let times = mul-le (lacking d spans) (most_at_once d) (places (length d) (meaning d 0).marks) (most_at_once d) (few_lacking d spans)
+      (omega arith) in omega (arith, times));
 }
 
 -- the input has the bytes that the parts know, as the call has them
-pub has_known : {d : List ℕ} {whole : ℕ} {spans others : List Span} {bytes content : List ℕ} {before now : ℕ}
-    → Fetching d whole spans bytes before now → others ≡ spans → content ≡ bytes → HasKnown d whole others content
+pub has_known : {d : List ℕ} {whole : ℕ} {spans others : List Span} {bytes content : List ℕ} {before now start asked : ℕ}
+    → Fetching d whole spans bytes before now start asked → others ≡ spans → content ≡ bytes → HasKnown d whole others content
 has_known {d} {whole} {spans} {others} {bytes} {content} f same also =
     parts_known d whole others content (record { as_long = sym f.as_long; bytes = ap (bytes_of d) same ∙ f.content ∙ sym also })
 
+-- what lies within one of some spans is no longer than the longest
+longest_has : (marks : List Span) (w : Span) → has_whole marks w ≡ true → w.len ≤ longest marks
+longest_has [] w has = absurd (let no : false ≡ true = has in cc)
+longest_has (s ∷ marks) w has = by_test (nat_le s.start w.start && nat_le (w.start + w.len) (s.start + s.len)) refl (longest_has marks w) has where
+  by_test : (test : Bool) → (nat_le s.start w.start && nat_le (w.start + w.len) (s.start + s.len)) ≡ test
+      → (has_whole marks w ≡ true → w.len ≤ longest marks) → test || has_whole marks w ≡ true → w.len ≤ longest (s ∷ marks)
+  by_test true is behind _ =
+      let both = and_parts (nat_le s.start w.start) (nat_le (w.start + w.len) (s.start + s.len)) is in
+      let low = both.0 in
+      let high = both.1 in
+      let within : w.len ≤ s.len = grind (arith, nat_tests) in
+      omega (arith, within)
+  by_test false is behind rest = (let among = behind rest in omega (arith, among))
+
+suc_times : (a k : ℕ) → (a + 1) * k ≡ a * k + k
+suc_times a k = omega arith
+
 -- a fetch of what is wanted of the parts, as the call has them, leaves fewer places that are lacking
-module _ {d : List ℕ} {whole : ℕ} {spans others : List Span} {bytes content : List ℕ} {before now : ℕ} (w : Span)
-    (f : Fetching d whole spans bytes before now) (same : others ≡ spans) (also : content ≡ bytes)
+module _ {d : List ℕ} {whole : ℕ} {spans others : List Span} {bytes content : List ℕ} {before now start asked : ℕ} (w : Span)
+    (f : Fetching d whole spans bytes before now start asked) (same : others ≡ spans) (also : content ≡ bytes)
     (says : HasKnown d whole others content → whole < 2 ^ 63 → Wants (texts_of d) (meaning d 0).marks whole others content w)
     (fits : (0 < w.len) × (w.start + w.len ≤ whole)) where
   wants : (is_covered (meaning d 0).marks w.start ≡ true) × (is_covered spans w.start ≡ false)
+      × (texts_of d ≡ false → has_whole (meaning d 0).marks w ≡ true)
   wants =
       let has : HasParts d whole others content = record { as_long = sym f.as_long; bytes = ap (bytes_of d) same ∙ f.content ∙ sym also } in
       let is = says (parts_known d whole others content has) f.short in
       let free : is_covered others w.start ≡ false = unknown_free d whole others content w.start has (omega (arith, fits.0, fits.1)) is.1 in
-      (is.0, ap (λ s. is_covered s w.start) (sym same) ∙ free)
+      (is.0, ap (λ s. is_covered s w.start) (sym same) ∙ free, is.2)
 
   pub smaller : {more : List Span} → more ≡ spans ++ w ∷ [] → lacking d more < lacking d spans
   unfolding lacking
@@ -127,17 +152,45 @@ module _ {d : List ℕ} {whole : ℕ} {spans others : List Span} {bytes content 
         and_true : {b : Bool} → b ≡ true → b && true ≡ true
         and_true is = ap (λ b. b && true) is
 
-  pub fetched : {more : List Span} {got : List ℕ} {later : ℕ} → more ≡ spans ++ w ∷ [] → got ≡ bytes ++ part d w.start w.len
-      → later ≤ now + 1 → Fetching d whole more got before later
-  fetched {more} {got} {later} is adds counts = record {
+  -- it is within one mark, or within the input
+  at_once : w.len ≤ most_at_once d
+  at_once = by_test (texts_of d) refl where
+    by_test : (test : Bool) → texts_of d ≡ test → w.len ≤ most_at_once d
+    by_test true is = subst (λ b. w.len ≤ (if b then length d else longest (meaning d 0).marks)) (sym is) (omega (arith, fits.1, f.as_long))
+    by_test false is = subst (λ b. w.len ≤ (if b then length d else longest (meaning d 0).marks)) (sym is)
+        (longest_has (meaning d 0).marks w (wants.2 is))
+
+  -- one place fewer is lacking, so that many more bytes may be asked for
+  fewer_times : {more : List Span} → more ≡ spans ++ w ∷ [] → lacking d more * most_at_once d + most_at_once d ≤ lacking d spans * most_at_once d
+  fewer_times {more} is =
+      let times = mul-le (lacking d more + 1) (most_at_once d) (lacking d spans) (most_at_once d) (omega (arith, smaller is)) (omega arith) in
+      omega (arith, times, suc_times (lacking d more) (most_at_once d))
+
+  pub fetched : {more : List Span} {got : List ℕ} {later further : ℕ} → more ≡ spans ++ w ∷ [] → got ≡ bytes ++ part d w.start w.len
+      → later ≤ now + 1 → further ≤ asked + w.len → Fetching d whole more got before later start further
+  fetched {more} {got} {later} {further} is adds counts asks = record {
     as_long = f.as_long;
     short = f.short;
     content = ap (bytes_of d) is ∙ flat_map-append (λ s. part d s.start s.len) spans (w ∷ [])
         ∙ ap (λ bs. bytes_of d spans ++ bs) (append-nil (part d w.start w.len))
         ∙ ap (λ bs. bs ++ part d w.start w.len) f.content ∙ sym adds;
     few = omega (arith, f.few, counts, smaller is);
+    most = omega (arith, f.most, asks, at_once, fewer_times is);
   }
 
   -- there was a place to fetch
   pub few_by : {later : ℕ} → later ≤ now + 1 → later ≤ before + places (length d) (meaning d 0).marks
   few_by {later} counts = omega (arith, f.few, counts, smaller refl)
+
+  -- of as many bytes
+  pub most_by : {further : ℕ} → further ≤ asked + w.len → further ≤ start + places (length d) (meaning d 0).marks * most_at_once d
+  most_by {further} asks = omega (arith, f.most, asks, at_once, fewer_times {more = spans ++ w ∷ []} refl)
+
+  -- and the marks have it
+  pub some_place : 0 < places (length d) (meaning d 0).marks
+  some_place = omega (arith, smaller {more = spans ++ w ∷ []} refl, few_lacking d spans)
+
+-- what holds of each error
+pub if_err : {X E : Type 0} {P : Type 0} (r : Result X E) → P → IfErr r (λ _. P)
+if_err (Ok _) p = tt
+if_err (Err _) p = p

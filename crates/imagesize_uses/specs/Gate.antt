@@ -1,11 +1,13 @@
 -- What a gate for uploads admits.
-use Rattle.std.specs.Prelude.{◌≡◌, ℕ, ◌+◌, ◌≤◌, nat_le, false, length, if◌then◌else◌, Option, None, Some, Result, Ok, Err, IfOk}
+use Rattle.std.specs.Prelude.{◌≡◌, ℕ, ◌+◌, ◌-◌, ◌*◌, ◌^◌, ◌<◌, ◌≤◌, min, nat_le, true, false, length, if◌then◌else◌, Option, None, Some, Result, Ok, Err, IfOk}
+use Rattle.std.specs.declared.io.Error.{Error}
 use Rattle.imagesize.specs.Meaning.{meaning}
-use Rattle.imagesize_io.specs.Answers.{over_reader}
+use Rattle.imagesize_io.specs.Answers.{IsLast, over_reader}
 use Rattle.imagesize_source.specs.Limits.{allowance}
 use Rattle.imagesize_source.specs.Reading.{is_fault}
 use Rattle.imagesize_io.specs.Telling.{Telling, IsHonest}
 use Rattle.imagesize_source.specs.declared.error.ImageError.{ImageError}
+use Rattle.imagesize_source.specs.State.{total}
 use Rattle.imagesize_types.specs.Order.{area_of}
 use Rattle.imagesize_types.specs.declared.size.ImageSize.{ImageSize}
 use Rattle.imagesize_uses.specs.declared.gate.Admission.{Admission}
@@ -31,14 +33,48 @@ IfNoSize (Err (NoSize e)) P = P e
 
 -- Over an honest reader, an image that is admitted or is too large has the size that is answered, and what is refused
 -- has no size for this reason, or a call failed. Where none fails, the verdict is that on the image. The bytes taken
--- are at most the allowance more than there are.
+-- are at most those of the layouts' spans together, and the allowance more than there are.
 pub record AdmitsOf (t : Telling) (most : ℕ) (admission : Admission) : Type 0 where
   pub image : IfOk admission.verdict (λ size. (over_reader t meaning).answer ≡ Ok size)
   pub too_large : IfTooLarge admission.verdict (λ size. (over_reader t meaning).answer ≡ Ok size)
   pub refused : IfNoSize admission.verdict (λ e. is_fault e ≡ false → (over_reader t meaning).answer ≡ Err e)
   pub whole : t.can_fail ≡ false → admission.verdict ≡ gate_verdict most (over_reader t meaning).answer
+  pub takes : admission.taken ≤ total (over_reader t meaning).marks
   pub within : admission.taken ≤ length t.bytes + allowance
 
 abbrev pub Admits : Option Telling → ℕ → Admission → Type 0
 Admits None most admission = Unit {0}
 Admits (Some t) most admission = IsHonest t → AdmitsOf t most admission
+
+-- a refusal by a fault is that of the reader's last call that failed, where it tells it
+abbrev pub IsFaultOf : Option (Option Error) → Result ImageSize Rejection → Type 0
+IsFaultOf failure verdict = IfNoSize verdict (λ e. is_fault e ≡ true → IsLast failure e)
+
+-- how many bytes of an upload that is said to have this length may be taken
+abbrev pub limit_of : ℕ → ℕ
+limit_of length = min (length + allowance) (2 ^ 64 - 1)
+
+-- two numbers in one
+abbrev pub pair : ℕ → ℕ → ℕ
+pair a b = (a + b) * (a + b) + b
+
+-- What stays while a limited reader is read: which reader is below, and its count with what is left, where it counts.
+abbrev pub kept_sum : ℕ → Option ℕ → ℕ → ℕ
+kept_sum reader None left = pair reader 0
+kept_sum reader (Some count) left = pair reader (count + left + 1)
+
+-- The count of a limited reader. What stays stands in it above all that a call can take, so the number tells both.
+abbrev pub limited_count : ℕ → Option ℕ → ℕ → Option ℕ
+limited_count reader count left = Some (2 ^ 64 - left + 2 ^ 66 * kept_sum reader count left)
+
+-- the last failure of a reader that tells its failures, or that behind the limit, where it came later
+abbrev pub limited_failure : Option Error → Option (Option Error) → Option (Option Error)
+limited_failure spent None = None
+limited_failure None (Some last) = Some last
+limited_failure (Some error) (Some last) = Some (Some error)
+
+-- over an honest reader no call of which has failed, as it tells, the verdict below the limit is that on the image
+abbrev pub Decides : Option Telling → Option (Option Error) → ℕ → ℕ → Admission → Type 0
+Decides None failure limit most admission = Unit {0}
+Decides (Some t) failure limit most admission = IsHonest t → failure ≡ Some None → admission.taken < limit
+    → admission.verdict ≡ gate_verdict most (over_reader t meaning).answer

@@ -1,8 +1,10 @@
 -- What is known of an input that is fetched.
-use Rattle.std.specs.Prelude.{◌≡◌, ℕ, ◌<◌, Option, Result, Ok, Err, IsSomeAnd, IsOkAnd, List}
+use Rattle.std.specs.Prelude.{◌≡◌, ◌⊎◌, ℕ, ◌<◌, max, if◌then◌else◌, Option, Result, Ok, Err, IsSomeAnd, IsOkAnd, List, [], ◌∷◌, length}
 use Rattle.std.specs.Result.{result_ok}
 use Rattle.std.specs.declared.io.Error.{Error}
 use Rattle.imagesize.specs.Meaning.{kind_of, meaning}
+use Rattle.imagesize.specs.Parted.{texts_of}
+use Rattle.imagesize_source.specs.declared.span.Span.{Span}
 use Rattle.imagesize_uses.specs.declared.remote.Interrupted.{Interrupted}
 use Rattle.imagesize_uses.specs.declared.remote.Interrupted.TheVariants.{Failed, Short, Memory}
 use Rattle.imagesize_uses.specs.declared.remote.Probed.{Probed}
@@ -17,9 +19,23 @@ pub record IsOf (d : List ℕ) (probed : Probed) : Type 0 where
   pub kind : probed.kind ≡ result_ok (kind_of d 0).answer
   pub answer : probed.answer ≡ (meaning d 0).answer
 
--- what ended it is the last fetch, where it was one
-abbrev pub Stops : {X : Type 0} → Option Fetch → Result X Interrupted → Type 0
-Stops last (Ok _) = Unit {0}
-Stops last (Err (Failed error)) = IsSomeAnd last (λ fetch. fetch.gave ≡ Err error)
-Stops last (Err Short) = IsSomeAnd last (λ fetch. IsOkAnd fetch.gave (λ count. count < fetch.wanted))
-Stops last (Err Memory) = Unit {0}
+-- the last fetch gave all that it asked for
+abbrev pub GaveAll : Option Fetch → Type 0
+GaveAll last = IsSomeAnd last (λ fetch. fetch.gave ≡ Ok fetch.wanted)
+
+-- What ended it is the last fetch, where it failed or gave too few bytes. Memory is refused where there was no fetch, or
+-- the last one gave all.
+abbrev pub Stops : {X : Type 0} → Option Fetch → Option Fetch → Result X Interrupted → Type 0
+Stops before last (Ok _) = Unit {0}
+Stops before last (Err (Failed error)) = IsSomeAnd last (λ fetch. fetch.gave ≡ Err error)
+Stops before last (Err Short) = IsSomeAnd last (λ fetch. IsOkAnd fetch.gave (λ count. count < fetch.wanted))
+Stops before last (Err Memory) = (last ≡ before) ⊎ GaveAll last
+
+-- how long the longest of these spans is
+abbrev pub longest : List Span → ℕ
+longest [] = 0
+longest (s ∷ spans) = max s.len (longest spans)
+
+-- how many bytes one fetch asks for at most: as many as the longest mark has, and of what is told by texts as there are
+abbrev pub most_at_once : List ℕ → ℕ
+most_at_once d = if texts_of d then length d else longest (meaning d 0).marks

@@ -1,8 +1,8 @@
 //! A gate for uploads: an image is admitted where it has few enough pixels.
-ghost use Rattle.std.specs.Prelude.{◌≡◌, ℕ, ◌*◌, ◌+◌, ◌-◌, ◌^◌, ◌<◌, ◌≤◌, IfOk, IsErr, None, Some, length, option_map, take};
-ghost use Rattle.imagesize_source.specs.Limits.{allowance};
-ghost use Rattle.imagesize_io.specs.Telling.{ReadTells, SeekTells, count_after, may_fail};
-ghost use Rattle.imagesize_uses.specs.Gate.{Admits, IfTooLarge, gate_verdict};
+ghost use Rattle.std.specs.Prelude.{◌≡◌, ℕ, ◌*◌, ◌+◌, ◌-◌, ◌^◌, ◌<◌, ◌≤◌, ◌||◌, IfErr, IfOk, IsErr, None, Some, is_none, length, nat_eq, option_map, take, true};
+ghost use Rattle.imagesize_io.specs.Answers.{Leaves};
+ghost use Rattle.imagesize_io.specs.Telling.{ReadTells, SeekTells, count_after, failure_after, failure_after_read, may_fail};
+ghost use Rattle.imagesize_uses.specs.Gate.{Admits, Decides, IfTooLarge, IsFaultOf, gate_verdict, limit_of, limited_count, limited_failure};
 
 use imagesize::{ImageError, ImageResult, ImageSize, Stop, Told, reader_probe};
 use imagesize_io::reader::ALLOWANCE;
@@ -37,6 +37,8 @@ pub fn admit<R: Told>(reader: &mut R, most_pixels: u64) -> Admission
     ensures few { IfOk result.verdict (λ size. size.width * size.height ≤ most_pixels) }
     ensures many { IfTooLarge result.verdict (λ size. most_pixels < size.width * size.height) }
     ensures counts { R.count reader.new ≡ option_map (λ c. c + result.taken) (R.count reader.old) }
+    ensures fault { IsFaultOf (R.failure reader.new) result.verdict }
+    ensures leaves { Leaves (R.telling reader.old) (R.telling reader.new) }
 {
     let probed = reader_probe(reader);
     Admission {
@@ -63,27 +65,37 @@ pub struct Limited<'a, R: Told> {
     pub reader: &'a mut R,
     /// How many bytes may still be given.
     pub left: u64,
+    /// The error of the last call that failed, where that was a read behind the limit.
+    pub spent: Option<io::Error>,
+    pub ghost short: { left < 2 ^ 64 },
+    pub ghost ends: { is_none spent || nat_eq left 0 ≡ true },
 }
 
 impl<R: Told> Told for Limited<'_, R> {
     ghost telling = { λ r. may_fail (R.telling r.reader.now) };
 
-    // It rises as what is left falls, so no call gives more than was left.
-    ghost count = { λ r. Some (2 ^ 64 - r.left) };
+    // It rises as what is left falls, so no call gives more than was left. It also tells the count of the reader below.
+    ghost count = { λ r. limited_count r.reader.ghost_name (R.count r.reader.now) r.left };
 
-    ghost failure = { λ _. None };
+    ghost failure = { λ r. limited_failure r.spent (R.failure r.reader.now) };
 
     fn read_told(&mut self, room: &mut [u8]) -> Result<usize, Stop>
         ensures bound { IfOk result (λ n. n ≤ length room.new) }
         ensures told { ReadTells (may_fail (R.telling self.old.reader.now)) (may_fail (R.telling self.new.reader.now)) room.new result }
-        ensures counts { Some (2 ^ 64 - self.new.left) ≡ count_after (Some (2 ^ 64 - self.old.left)) result }
+        ensures counts { limited_count self.new.reader.ghost_name (R.count self.new.reader.now) self.new.left
+            ≡ count_after (limited_count self.old.reader.ghost_name (R.count self.old.reader.now) self.old.left) result }
+        ensures fails { limited_failure self.new.spent (R.failure self.new.reader.now)
+            ≡ failure_after_read (limited_failure self.old.spent (R.failure self.old.reader.now)) result }
         // Before the end it fails only where the other reader does: a read is one of it, into no more room than is left.
         ensures below { 0 < self.old.left → ReadTells (R.telling self.old.reader.now) (R.telling self.new.reader.now)
             (take self.old.left room.new) result }
+        ensures last { 0 < self.old.left → R.failure self.new.reader.now ≡ failure_after_read (R.failure self.old.reader.now) result }
         ensures ends { self.old.left ≡ 0 → IsErr result }
     {
         if self.left == 0 {
-            return Err(Stop::Fault(io::Error::other("no more bytes may be taken")));
+            let error = io::Error::other("no more bytes may be taken");
+            self.spent = Some(error);
+            return Err(Stop::Fault(error));
         }
         let most = room.len().min(self.left as usize);
         let given = self.reader.read_told(&mut room[..most])?;
@@ -93,10 +105,17 @@ impl<R: Told> Told for Limited<'_, R> {
 
     fn seek_told(&mut self, to: SeekFrom) -> io::Result<u64>
         ensures told { SeekTells (may_fail (R.telling self.old.reader.now)) (may_fail (R.telling self.new.reader.now)) to result }
-        ensures counts { Some (2 ^ 64 - self.new.left) ≡ Some (2 ^ 64 - self.old.left) }
+        ensures counts { limited_count self.new.reader.ghost_name (R.count self.new.reader.now) self.new.left
+            ≡ limited_count self.old.reader.ghost_name (R.count self.old.reader.now) self.old.left }
+        ensures fails { limited_failure self.new.spent (R.failure self.new.reader.now)
+            ≡ failure_after (limited_failure self.old.spent (R.failure self.old.reader.now)) result }
         ensures below { SeekTells (R.telling self.old.reader.now) (R.telling self.new.reader.now) to result }
     {
-        self.reader.seek_told(to)
+        let place = self.reader.seek_told(to);
+        if place.is_err() {
+            self.spent = None;
+        }
+        place
     }
 }
 
@@ -108,11 +127,17 @@ pub fn admit_within<R: Told>(reader: &mut R, length: u64, most_pixels: u64) -> A
     // Over every reader, also one that lies:
     ensures few { IfOk result.verdict (λ size. size.width * size.height ≤ most_pixels) }
     ensures many { IfTooLarge result.verdict (λ size. most_pixels < size.width * size.height) }
-    ensures limit { result.taken ≤ length + allowance }
+    ensures counts { R.count reader.new ≡ option_map (λ c. c + result.taken) (R.count reader.old) }
+    ensures limit { result.taken ≤ limit_of length }
+
+    // Below the limit a fault is the reader's own, and the image is judged where it tells none.
+    ensures fault { result.taken < limit_of length → IsFaultOf (R.failure reader.new) result.verdict }
+    ensures whole { Decides (R.telling reader.old) (R.failure reader.new) (limit_of length) most_pixels result }
 {
     let mut limited = Limited {
         reader,
         left: length.saturating_add(ALLOWANCE),
+        spent: None,
     };
     admit(&mut limited, most_pixels)
 }

@@ -1,9 +1,9 @@
 //! An input that is fetched, as by range requests, until its type and size are known.
-ghost use Rattle.std.specs.Prelude.{◌≡◌, ℕ, ◌+◌, ◌^◌, ◌<◌, ◌≤◌, ◌++◌, List, Option, Some, length, take, IfOk};
+ghost use Rattle.std.specs.Prelude.{◌≡◌, ℕ, ◌+◌, ◌*◌, ◌^◌, ◌<◌, ◌≤◌, ◌++◌, List, Option, Some, length, take, IfErr, IfOk};
 ghost use Rattle.imagesize.specs.Meaning.{meaning};
 ghost use Rattle.imagesize_source.specs.Counts.{places};
 ghost use Rattle.imagesize_source.specs.Input.{part};
-ghost use Rattle.imagesize_uses.specs.Remote.{Fetch, IsOf, Stops};
+ghost use Rattle.imagesize_uses.specs.Remote.{Fetch, GaveAll, IsOf, Stops, most_at_once};
 ghost use Rattle.imagesize_uses.specs.declared.remote.Interrupted.TheVariants.{Memory};
 
 use crate::cache::bytes_of_span;
@@ -20,6 +20,9 @@ pub trait Remote {
     /// How many fetches there were: each that gave bytes, and those that failed as far as it counts them.
     ghost fetches: { Self → ℕ };
 
+    /// How many bytes they asked for, all together.
+    ghost asked: { Self → ℕ };
+
     /// The last of them.
     ghost last: { Self → Option Fetch };
 
@@ -34,6 +37,7 @@ pub trait Remote {
         ensures bytes { IfOk result (λ n. take n room.new ≡ part (input self.old) place n) }
         ensures same { input self.new ≡ input self.old }
         ensures counts { fetches self.new ≤ fetches self.old + 1 }
+        ensures asks { asked self.new ≤ asked self.old + length room.new }
         ensures each { IfOk result (λ _. fetches self.new ≡ fetches self.old + 1) }
         ensures last { last self.new ≡ Some (record { wanted = length room.new; gave = result }) };
 }
@@ -69,15 +73,23 @@ impl From<AllocError> for Interrupted {
 /// Type and size of the image in an input of which what is needed is fetched, and nothing else.
 ///
 /// Errors: the first fetch that fails or gives too few bytes, and `Interrupted::Memory` where memory for the parts was refused.
+/// No fetch failed before `Interrupted::Memory`, and none gave too few bytes.
 pub fn probe_remote<A: Allocator + Copy, R: Remote>(
     alloc: A,
     remote: &mut R,
 ) -> Result<Probed, Interrupted>
     ensures answer { IfOk result (IsOf (R.input remote.old)) }
-    ensures stops { Stops (R.last remote.new) result }
+    ensures stops { Stops (R.last remote.old) (R.last remote.new) result }
 
     // There are no more fetches than the spans of the trace have places, each counted once.
     ensures few { R.fetches remote.new ≤ R.fetches remote.old + places (length (R.input remote.old)) (meaning (R.input remote.old) 0).marks }
+
+    // Each asks for at most the bytes of one span, where no texts are read.
+    ensures most { R.asked remote.new ≤ R.asked remote.old
+        + places (length (R.input remote.old)) (meaning (R.input remote.old) 0).marks * most_at_once (R.input remote.old) }
+
+    // It ends without an answer only where a byte is wanted: for what is told without any it wants no memory and makes no fetch.
+    ensures some { IfErr result (λ _. 0 < places (length (R.input remote.old)) (meaning (R.input remote.old) 0).marks) }
 {
     let whole = remote.length();
     let mut bytes = Vec::new(alloc);
@@ -103,7 +115,9 @@ fn fetch_part<A: Allocator, R: Remote>(
     ensures same { R.input remote.new ≡ R.input remote.old }
     ensures counts { R.fetches remote.new ≤ R.fetches remote.old + 1 }
     ensures bytes { IfOk result (λ _. bytes.new.items ≡ bytes.old.items ++ part (R.input remote.old) span.now.start span.now.len) }
-    ensures stops { Stops (R.last remote.new) result }
+    ensures asks { R.asked remote.new ≤ R.asked remote.old + span.now.len }
+    ensures whole { IfOk result (λ _. GaveAll (R.last remote.new)) }
+    ensures stops { Stops (R.last remote.old) (R.last remote.new) result }
 {
     let mut room = Vec::new(alloc);
     room.resize(span.len as usize, 0)?;
@@ -121,6 +135,7 @@ pub struct Held<'a> {
     most: usize,
     left: u64,
     fetches: u64,
+    asked: u64,
     wanted: usize,
     gave: io::Result<usize>,
 }
@@ -135,6 +150,7 @@ impl<'a> Held<'a> {
             most,
             left,
             fetches: 0,
+            asked: 0,
             wanted: 0,
             gave: Ok(0),
         }
@@ -153,6 +169,8 @@ impl Remote for Held<'_> {
 
     ghost fetches = { λ h. h.fetches };
 
+    ghost asked = { λ h. h.asked };
+
     ghost last = { λ h. Some (record { wanted = h.wanted; gave = h.gave }) };
 
     fn length(&self) -> u64 {
@@ -161,6 +179,7 @@ impl Remote for Held<'_> {
 
     fn fetch(&mut self, place: u64, room: &mut [u8]) -> io::Result<usize> {
         self.wanted = room.len();
+        self.asked = self.asked.saturating_add(room.len() as u64);
         self.gave = if self.left > 0 && self.fetches < u64::MAX {
             Ok(copy_part(self.bytes, place, self.most, room))
         } else {

@@ -49,6 +49,7 @@ fn a_limited_gate_takes_no_more(rt: HostRuntime) {
     let mut limited = Limited {
         reader: &mut Cursor::new(GIF),
         left: 11,
+        spent: None,
     };
     let admission = admit(&mut limited, 10_000);
     assert!(rt; matches!(admission.verdict, Err(Rejection::NoSize(_))));
