@@ -155,18 +155,6 @@ test('what the library is passed is aligned, apart, and within its memory', () =
   assert.equal(library.spans(full, 3).length, 3);
 });
 
-test('at most 64 MiB of a blob or a file are read, where a call names no other limit', async () => {
-  // A chunk of 4096 bytes behind another.
-  const chunks = Buffer.alloc(66 * 2 ** 20);
-  chunks.write('FORM\0\0\0\0ILBM');
-  for (let at = 12; at + 8 < chunks.length; at += 4096) chunks.writeUInt32BE(4088, at + 4);
-  const path = join(folder, 'chunks.iff');
-  writeFileSync(path, chunks);
-  const limit = { code: 'LIMIT_REACHED', message: 'There is no answer within 67108864 bytes', bytesRead: 67108864 };
-  await assert.rejects(probeBlob(new Blob([chunks])), limit);
-  await assert.rejects(probeFile(path), limit);
-});
-
 // It stands before the tests of memory, since it has one of its own.
 test('a trace has the bytes of a few blocks of a long input, or is null', async () => {
   const tiff = tiffBehind(50_000_000);
@@ -275,6 +263,19 @@ test('a file that is cut while it is read is refused, and closed', async () => {
     prototype.read = before;
   }
   assert.ok(readdirSync('/proc/self/fd').length <= opened);
+});
+
+// It stands behind the tests of memory, which it grows.
+test('at most 64 MiB of a blob or a file are read, where a call names no other limit', async () => {
+  // A chunk of 4096 bytes behind another.
+  const chunks = Buffer.alloc(66 * 2 ** 20);
+  chunks.write('FORM\0\0\0\0ILBM');
+  for (let at = 12; at + 8 < chunks.length; at += 4096) chunks.writeUInt32BE(4088, at + 4);
+  const path = join(folder, 'chunks.iff');
+  writeFileSync(path, chunks);
+  const limit = { code: 'LIMIT_REACHED', message: 'There is no answer within 67108864 bytes', bytesRead: 67108864 };
+  await assert.rejects(probeBlob(new Blob([chunks])), limit);
+  await assert.rejects(probeFile(path), limit);
 });
 
 test('each worker has a library of its own', async () => {

@@ -221,6 +221,17 @@ fn little_of_a_large_input_is_read() {
 }
 
 #[test]
+fn sixty_four_bytes_come_with_a_wanted_one() {
+    for (directory, count) in [(3 * 4096 - 64, 4096), (3 * 4096 - 63, 2 * 4096)] {
+        let mut bytes = tiff(directory - 8);
+        bytes.resize(20_000, 0);
+        let mut reader = Counting::new(bytes);
+        assert_eq!(reader_size(&mut reader).ok(), Some(pixels(5, 7)));
+        assert_eq!(reader.readings, [(0, 4096), (2 * 4096, count)]);
+    }
+}
+
+#[test]
 fn a_type_alone_is_read_from_one_block() {
     let mut reader = Counting::new(jpeg(4, 54_000));
     assert_eq!(reader_type(&mut reader).ok(), Some(ImageType::Jpeg));
