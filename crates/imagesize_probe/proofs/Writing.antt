@@ -176,7 +176,7 @@ whole_lines d name a b sized wrote =
 pub spans_written : (known : Option Files) (bytes name : List ℕ) (a b : Option (List ℕ)) (r : Result Bool Error) →
     Loads known name bytes → IfOk r (ReportsWhole bytes name a b) → IfOk r (WritesSpans known name a b)
 spans_written known bytes name a b (Err e) _ _ = tt
-spans_written None bytes name a b (Ok sized) _ wrote = record { lines = whole_lines bytes name a b sized wrote; told = tt; }
+spans_written None bytes name a b (Ok sized) _ wrote = record { lines = whole_lines bytes name a b sized wrote; told = tt }
 spans_written (Some files) bytes name a b (Ok sized) loads wrote = record {
   lines = whole_lines bytes name a b sized wrote;
   told = behind_read (files name) bytes name a b sized loads wrote;
@@ -189,10 +189,14 @@ lacks_behind (Ok d) name a b sized lacks = inr lacks
 lacks_behind (Err e) name a b sized lacks = inr lacks
 
 refused_spans : (found : Result (List ℕ) ImageError) (name : List ℕ) (e : ImageError) (a b : Option (List ℕ)) (sized : Bool) →
-    (found ≡ Err e) ⊎ (e ≡ IoError Memory) → IfSome (error_text e) (λ text. Appends a b (refused_line name text)) → sized ≡ false →
-    SpansBehind name found a b sized
-refused_spans found name e a b sized (inl is) wrote none = subst (λ x. SpansBehind name x a b sized) (sym is) (inl (wrote, none))
-refused_spans found name e a b sized (inr is) wrote none = lacks_behind found name a b sized (record {
+    (found ≡ Err e) ⊎ (e ≡ IoError Memory) → IfSome (error_text e) (λ text. Appends a b (refused_line name text)) →
+    AppendsLine name a b sized → sized ≡ false → SpansBehind name found a b sized
+refused_spans found name e a b sized (inl is) wrote line none = subst (λ x. SpansBehind name x a b sized) (sym is) (inl (record {
+  text = wrote;
+  line = subst (λ x. AppendsLine name a b x) none line;
+  refused = none;
+}))
+refused_spans found name e a b sized (inr is) wrote line none = lacks_behind found name a b sized (record {
   text = subst (λ x. IfSome (error_text x) (λ text. Appends a b (refused_line name text))) is wrote;
   refused = none;
 })
@@ -202,10 +206,10 @@ pub spans_refused : (known : Option Files) (name : List ℕ) (e : ImageError) (a
     LoadsNone known name e → OnOk r (IfSome (error_text e) (λ text. Appends a b (refused_line name text))) →
     IfOk r (AppendsLine name a b) → IfOk r (λ sized. sized ≡ false) → IfOk r (WritesSpans known name a b)
 spans_refused known name e a b (Err _) _ _ _ _ = tt
-spans_refused None name e a b (Ok sized) _ _ line _ = record { lines = one_line name a b sized line; told = tt; }
+spans_refused None name e a b (Ok sized) _ _ line _ = record { lines = one_line name a b sized line; told = tt }
 spans_refused (Some files) name e a b (Ok sized) none wrote line is = record {
   lines = one_line name a b sized line;
-  told = refused_spans (files name) name e a b sized none wrote is;
+  told = refused_spans (files name) name e a b sized none wrote line is;
 }
 
 -- without the option the lines are exactly those of the names, where it is told what is behind them

@@ -95,11 +95,17 @@ pub record ReportsWhole (d name : List ℕ) (old new : Option (List ℕ)) (sized
   pub long : whole_length < length d → IsTooLong name old new sized
   pub whole : length d ≤ whole_length → ReportsSpans d name old new sized
 
+-- a writer that held these bytes and holds those got one line that says why a name is refused: the stated text, where
+-- there is one
+pub record AppendsRefusal (e : ImageError) (name : List ℕ) (old new : Option (List ℕ)) (sized : Bool) : Type 0 where
+  pub text : IfSome (error_text e) (λ text. Appends old new (refused_line name text))
+  pub line : AppendsLine name old new false
+  pub refused : sized ≡ false
+
 -- the lines of a name, by what is behind it, or the line of want of memory
 abbrev pub SpansBehind : List ℕ → Result (List ℕ) ImageError → Option (List ℕ) → Option (List ℕ) → Bool → Type 0
 SpansBehind name (Ok d) old new sized = ReportsWhole d name old new sized ⊎ LacksMemory name old new sized
-SpansBehind name (Err e) old new sized =
-    (IfSome (error_text e) (λ text. Appends old new (refused_line name text)) × (sized ≡ false)) ⊎ LacksMemory name old new sized
+SpansBehind name (Err e) old new sized = AppendsRefusal e name old new sized ⊎ LacksMemory name old new sized
 
 -- One line of a name, and lines of spans. Where it is told what is behind the name, they are those of that.
 pub record WritesSpans (known : Option Files) (name : List ℕ) (old new : Option (List ℕ)) (sized : Bool) : Type 0 where
