@@ -143,8 +143,8 @@ fn fault_of(error: &ImageError) -> Option<&io::Error>
     }
 }
 
-// Writes the line of a fault. Its text is kept first, since no contract says what an error of `io` prints: at most
-// 256 bytes, and the number of the system's error.
+// Writes the line of a fault. The library does not state the text of an `io::Error`, so the text is stored first, and
+// the contract names what was stored. A message has at most 256 bytes, and the number of the system's error follows it.
 fn write_fault<W: Write>(name: &str, fault: &io::Error, writer: &mut W) -> io::Result<()>
     ensures { OnOk result ((text : List ℕ) × Appends (W.contents writer.old) (W.contents writer.new) (refused_line name.now text)) }
 {
