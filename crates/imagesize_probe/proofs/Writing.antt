@@ -1,12 +1,22 @@
 -- The lines of one name more.
-use Rattle.std.proofs.Common.{◌≡◌, ◌∙◌, ◌≤◌, ap, subst, sym, arith, ℕ, Bool, true, false, ◌||◌, not, List, [], ◌∷◌, ◌++◌, Option, None, Some, Result, Ok, Err, IsOkAnd, IfOk, IfSome, inl, refl, rules, ◌+◌, ◌<◌, length, map, take, get_or, append_assoc}
+use Rattle.std.proofs.Common.{◌≡◌, ◌∙◌, ◌≤◌, ap, subst, sym, arith, ℕ, Bool, true, false, ◌||◌, not, List, [], ◌∷◌, ◌++◌, Option, None, Some, Result, Ok, Err, IsOkAnd, IsSomeAnd, OnOk, IfOk, IfSome, ◌⊎◌, codes, is_ok, option_map, inl, inr, refl, rules, ◌+◌, ◌<◌, length, map, take, get_or, append_assoc}
+use mathlib.Core.Logic.{⊎_elim}
+use Rattle.std.proofs.lemmas.Bool.{cases_lt}
 use Rattle.std.proofs.lemmas.Grind.{take_at_read}
 use Rattle.std.proofs.lemmas.List.{map-append, length-take, take_all}
 use Rattle.std.specs.Io.KnownBytes.{Appends, Keeps}
 use Rattle.std.specs.declared.io.Error.{Error}
+use Rattle.std.specs.Result.{result_ok}
+use Rattle.imagesize.specs.Meaning.{kind_of, meaning}
+use Rattle.imagesize.specs.declared.types.ImageType.{ImageType}
+use Rattle.imagesize_types.specs.declared.size.ImageSize.{ImageSize}
+use Rattle.imagesize_source.specs.Reason.{error_text}
 use Rattle.imagesize_source.specs.declared.error.ImageError.{ImageError}
-use Rattle.imagesize_probe.specs.Line.{ReportsSpans}
-use Rattle.imagesize_probe.specs.Run.{Files, WritesEach, RunsWith, WritesEach, WritesLine, WritesLines, WritesOne, WritesSpans, Loads, ReportsWhole, SpansBehind, line_behind, join_lines, lines_of, is_any_refused, names_in, wants_spans}
+use Rattle.imagesize_source.specs.declared.error.ImageError.TheVariants.{IoError}
+use Rattle.imagesize_source.specs.declared.error.Reason.TheVariants.{Memory}
+use Rattle.imagesize_source.specs.declared.span.Span.{Span}
+use Rattle.imagesize_probe.specs.Line.{answer_line, sized_line, refused_line, span_lines, AppendsLine, AppendsLines, LacksMemory, ReportsSpans}
+use Rattle.imagesize_probe.specs.Run.{Files, WritesEach, RunsWith, WritesLine, WritesLines, WritesOne, WritesSpans, Loads, LoadsNone, IsTooLong, ReportsWhole, SpansBehind, whole_length, line_behind, join_lines, lines_of, is_any_refused, names_in, wants_spans}
 use Rattle.imagesize_probe.specs.Status.{exit_status}
 
 -- a line was written and sent on, and then others
@@ -31,8 +41,8 @@ lines_written : (files : Files) (names : List (List ℕ)) (old new : Option (Lis
 lines_written files [] old new refused (same, none) = (subst (λ x. Appends old x []) (sym same) (wrote_none old), none)
 lines_written files (name ∷ names) old new refused (mid, sent, sized, others, line, kept, rest, some) =
     let behind = lines_written files names sent new others rest in (
-      wrote_both (line_behind name (files name)) (lines_of files names) old mid sent new line.0 kept behind.0,
-      search (rules, some, line.1, behind.1),
+      wrote_both (line_behind name (files name)) (lines_of files names) old mid sent new line.told.0 kept behind.0,
+      search (rules, some, line.told.1, behind.1),
     )
 
 -- one name more of those that were taken
@@ -111,12 +121,96 @@ behind_read : (found : Result (List ℕ) ImageError) (bytes name : List ℕ) (a 
 behind_read (Ok d) bytes name a b sized is wrote = inl (whole_read d bytes name a b sized is wrote)
 behind_read (Err e) bytes name a b sized is wrote = absurd is
 
+-- one line has no spans below it
+one_line : (name : List ℕ) (a b : Option (List ℕ)) (sized : Bool) → AppendsLine name a b sized → AppendsLines name a b sized
+one_line name a b sized wrote = (b, [], wrote, wrote_none b)
+
+-- such lines are a line of the name and lines of spans
+long_lines : (name : List ℕ) (a b : Option (List ℕ)) (sized : Bool) → IsTooLong name a b sized → AppendsLines name a b sized
+long_lines name a b true wrote = absurd (cc)
+long_lines name a b false wrote = (b, [], (codes "file is longer than 16777216 bytes", wrote.text), wrote_none b)
+
+lacking_lines : (name : List ℕ) (a b : Option (List ℕ)) (sized : Bool) → LacksMemory name a b sized → AppendsLines name a b sized
+lacking_lines name a b true wrote = absurd (cc)
+lacking_lines name a b false wrote = (b, [], (codes "Out of memory", wrote.text), wrote_none b)
+
+-- what was appended whole was appended in two parts
+appended_apart : (a c : Option (List ℕ)) (first second : List ℕ) → Appends a c (first ++ second) →
+    (mid : Option (List ℕ)) × Appends a mid first × Appends mid c second
+appended_apart None c first second _ = (None, tt, tt)
+appended_apart (Some a) None first second wrote = absurd wrote
+appended_apart (Some a) (Some c) first second wrote = (Some (a ++ first), refl, search (rules, wrote, append_assoc))
+
+-- the line of an answer is one of its name
+answered_lines : (name : List ℕ) (found : Option ImageType) (r : Result ImageSize ImageError) (spans : List Span)
+    (a b : Option (List ℕ)) (sized : Bool) →
+    IsSomeAnd (option_map (λ text. text ++ span_lines spans) (answer_line name found r)) (Appends a b) → sized ≡ is_ok r →
+    AppendsLines name a b sized
+answered_lines name (Some image) (Ok size) spans a b true wrote _ =
+    let (mid, first, second) = appended_apart a b (sized_line name image size) (span_lines spans) wrote in
+    (mid, spans, (image, size, first), second)
+answered_lines name (Some image) (Ok size) spans a b false wrote is = absurd (cc)
+answered_lines name None (Ok size) spans a b sized wrote is = absurd wrote
+answered_lines name found (Err e) spans a b true wrote is = absurd (cc)
+answered_lines name found (Err e) spans a b false wrote is = refused (error_text e) wrote
+  where
+    refused : (text : Option (List ℕ)) →
+        IsSomeAnd (option_map (λ text. text ++ span_lines spans) (option_map (refused_line name) text)) (Appends a b) →
+        AppendsLines name a b false
+    refused None wrote = absurd wrote
+    refused (Some text) wrote =
+        let (mid, first, second) = appended_apart a b (refused_line name text) (span_lines spans) wrote in
+        (mid, spans, (text, first), second)
+
+traced_lines : (d name : List ℕ) (a b : Option (List ℕ)) (sized : Bool) → ReportsSpans d name a b sized → AppendsLines name a b sized
+traced_lines d name a b sized (inl traced) =
+    answered_lines name (result_ok (kind_of d 0).answer) (meaning d 0).answer (meaning d 0).marks a b sized traced.text traced.size
+traced_lines d name a b sized (inr (_, lacks)) = lacking_lines name a b sized lacks
+
+whole_lines : (d name : List ℕ) (a b : Option (List ℕ)) (sized : Bool) → ReportsWhole d name a b sized → AppendsLines name a b sized
+whole_lines d name a b sized wrote =
+    ⊎_elim (λ long. long_lines name a b sized (wrote.long long)) (λ short. traced_lines d name a b sized (wrote.whole short))
+    (cases_lt whole_length (length d))
+
 -- the lines of what was read of a name
 pub spans_written : (known : Option Files) (bytes name : List ℕ) (a b : Option (List ℕ)) (r : Result Bool Error) →
     Loads known name bytes → IfOk r (ReportsWhole bytes name a b) → IfOk r (WritesSpans known name a b)
 spans_written known bytes name a b (Err e) _ _ = tt
-spans_written None bytes name a b (Ok sized) _ _ = tt
-spans_written (Some files) bytes name a b (Ok sized) loads wrote = behind_read (files name) bytes name a b sized loads wrote
+spans_written None bytes name a b (Ok sized) _ wrote = record { lines = whole_lines bytes name a b sized wrote; told = tt }
+spans_written (Some files) bytes name a b (Ok sized) loads wrote = record {
+  lines = whole_lines bytes name a b sized wrote;
+  told = behind_read (files name) bytes name a b sized loads wrote;
+}
+
+-- want of memory may stand for the lines of whatever is behind a name
+lacks_behind : (found : Result (List ℕ) ImageError) (name : List ℕ) (a b : Option (List ℕ)) (sized : Bool) →
+    LacksMemory name a b sized → SpansBehind name found a b sized
+lacks_behind (Ok d) name a b sized lacks = inr lacks
+lacks_behind (Err e) name a b sized lacks = inr lacks
+
+refused_spans : (found : Result (List ℕ) ImageError) (name : List ℕ) (e : ImageError) (a b : Option (List ℕ)) (sized : Bool) →
+    (found ≡ Err e) ⊎ (e ≡ IoError Memory) → IfSome (error_text e) (λ text. Appends a b (refused_line name text)) →
+    AppendsLine name a b sized → sized ≡ false → SpansBehind name found a b sized
+refused_spans found name e a b sized (inl is) wrote line none = subst (λ x. SpansBehind name x a b sized) (sym is) (inl (record {
+  text = wrote;
+  line = subst (λ x. AppendsLine name a b x) none line;
+  refused = none;
+}))
+refused_spans found name e a b sized (inr is) wrote line none = lacks_behind found name a b sized (record {
+  text = subst (λ x. IfSome (error_text x) (λ text. Appends a b (refused_line name text))) is wrote;
+  refused = none;
+})
+
+-- the line of why nothing was read of a name
+pub spans_refused : (known : Option Files) (name : List ℕ) (e : ImageError) (a b : Option (List ℕ)) (r : Result Bool Error) →
+    LoadsNone known name e → OnOk r (IfSome (error_text e) (λ text. Appends a b (refused_line name text))) →
+    IfOk r (AppendsLine name a b) → IfOk r (λ sized. sized ≡ false) → IfOk r (WritesSpans known name a b)
+spans_refused known name e a b (Err _) _ _ _ _ = tt
+spans_refused None name e a b (Ok sized) _ _ line _ = record { lines = one_line name a b sized line; told = tt }
+spans_refused (Some files) name e a b (Ok sized) none wrote line is = record {
+  lines = one_line name a b sized line;
+  told = refused_spans (files name) name e a b sized none wrote line is;
+}
 
 -- without the option the lines are exactly those of the names, where it is told what is behind them
 plain_lines : (files : Files) (spans : Bool) (names : List (List ℕ)) (old new : Option (List ℕ)) (refused : Bool) → spans ≡ false →

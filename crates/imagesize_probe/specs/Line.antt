@@ -30,6 +30,12 @@ abbrev pub answer_line : List ℕ → Option ImageType → Result ImageSize Imag
 answer_line name found (Ok size) = option_map (λ image. sized_line name image size) found
 answer_line name found (Err e) = option_map (refused_line name) (error_text e)
 
+-- What a writer got that held these bytes and holds those: one line of a name. It shows some size where the name
+-- was sized, and else says some reason.
+abbrev pub AppendsLine : List ℕ → Option (List ℕ) → Option (List ℕ) → Bool → Type 0
+AppendsLine name old new true = (image : ImageType) × (size : ImageSize) × Appends old new (sized_line name image size)
+AppendsLine name old new false = (text : List ℕ) × Appends old new (refused_line name text)
+
 -- the line of a span: its first place, and how many bytes it has
 abbrev pub span_line : Span → List ℕ
 span_line span = codes "  " ++ (decimal span.start ++ (codes "+" ++ (decimal span.len ++ codes "\n")))
@@ -38,6 +44,11 @@ span_line span = codes "  " ++ (decimal span.start ++ (codes "+" ++ (decimal spa
 abbrev pub span_lines : List Span → List ℕ
 span_lines [] = []
 span_lines (span ∷ spans) = span_line span ++ span_lines spans
+
+-- such a line, and then the lines of some spans
+abbrev pub AppendsLines : List ℕ → Option (List ℕ) → Option (List ℕ) → Bool → Type 0
+AppendsLines name old new sized = (mid : Option (List ℕ)) × (spans : List Span) ×
+    AppendsLine name old mid sized × Appends mid new (span_lines spans)
 
 -- the line of a name and of bytes
 abbrev pub line_in : List ℕ → List ℕ → Option (List ℕ)

@@ -5,7 +5,7 @@ use Rattle.std.specs.Result.{result_ok}
 use Rattle.std.specs.Io.KnownBytes.{Appends, Keeps}
 use Rattle.std.specs.declared.io.Error.{Error}
 use Rattle.imagesize.specs.Meaning.{kind_of, meaning}
-use Rattle.imagesize_probe.specs.Line.{answer_line, refused_line, LacksMemory, ReportsSpans}
+use Rattle.imagesize_probe.specs.Line.{answer_line, refused_line, AppendsLine, AppendsLines, LacksMemory, ReportsSpans}
 use Rattle.imagesize_probe.specs.Status.{exit_status}
 use Rattle.imagesize_source.specs.Reason.{error_text}
 use Rattle.imagesize_io.specs.Telling.{Telling, IsHonest}
@@ -60,14 +60,14 @@ abbrev pub is_any_refused : Files → List (List ℕ) → Bool
 is_any_refused files [] = false
 is_any_refused files (name ∷ names) = not (is_sized (files name)) || is_any_refused files names
 
--- What a writer got that held these bytes and holds those: the line of a name, of which was answered whether
--- it was sized; where it is told what is behind it.
-abbrev pub WritesLine : Option Files → List ℕ → Option (List ℕ) → Option (List ℕ) → Bool → Type 0
-WritesLine None name old new sized = Unit {0}
-WritesLine (Some files) name old new sized =
-    IfSome (line_behind name (files name)) (Appends old new) × (sized ≡ is_sized (files name))
+-- What a writer got that held these bytes and holds those: one line of a name, of which was answered whether it was
+-- sized. Where it is told what is behind the name, the line and the answer are those of that.
+pub record WritesLine (known : Option Files) (name : List ℕ) (old new : Option (List ℕ)) (sized : Bool) : Type 0 where
+  pub line : AppendsLine name old new sized
+  pub told : IfSome known (λ files. IfSome (line_behind name (files name)) (Appends old new) × (sized ≡ is_sized (files name)))
 
--- the same of the lines of names, of which was answered whether one was refused: all of them, where each has one
+-- What such a writer got: the lines of names, of which was answered whether one was refused. All of them, where each
+-- has one.
 abbrev pub WritesLines : Files → List (List ℕ) → Option (List ℕ) → Option (List ℕ) → Bool → Type 0
 WritesLines files names old new refused = IfSome (lines_of files names) (Appends old new) × (refused ≡ is_any_refused files names)
 
@@ -95,16 +95,22 @@ pub record ReportsWhole (d name : List ℕ) (old new : Option (List ℕ)) (sized
   pub long : whole_length < length d → IsTooLong name old new sized
   pub whole : length d ≤ whole_length → ReportsSpans d name old new sized
 
+-- a writer that held these bytes and holds those got one line that says why a name is refused: the stated text, where
+-- there is one
+pub record AppendsRefusal (e : ImageError) (name : List ℕ) (old new : Option (List ℕ)) (sized : Bool) : Type 0 where
+  pub text : IfSome (error_text e) (λ text. Appends old new (refused_line name text))
+  pub line : AppendsLine name old new false
+  pub refused : sized ≡ false
+
 -- the lines of a name, by what is behind it, or the line of want of memory
 abbrev pub SpansBehind : List ℕ → Result (List ℕ) ImageError → Option (List ℕ) → Option (List ℕ) → Bool → Type 0
 SpansBehind name (Ok d) old new sized = ReportsWhole d name old new sized ⊎ LacksMemory name old new sized
-SpansBehind name (Err e) old new sized =
-    (IfSome (error_text e) (λ text. Appends old new (refused_line name text)) × (sized ≡ false)) ⊎ LacksMemory name old new sized
+SpansBehind name (Err e) old new sized = AppendsRefusal e name old new sized ⊎ LacksMemory name old new sized
 
--- the same where it is told what is behind the name
-abbrev pub WritesSpans : Option Files → List ℕ → Option (List ℕ) → Option (List ℕ) → Bool → Type 0
-WritesSpans None name old new sized = Unit {0}
-WritesSpans (Some files) name old new sized = SpansBehind name (files name) old new sized
+-- One line of a name, and lines of spans. Where it is told what is behind the name, they are those of that.
+pub record WritesSpans (known : Option Files) (name : List ℕ) (old new : Option (List ℕ)) (sized : Bool) : Type 0 where
+  pub lines : AppendsLines name old new sized
+  pub told : IfSome known (λ files. SpansBehind name (files name) old new sized)
 
 -- the lines of a name: with the option those of its spans too
 abbrev pub WritesOne : Bool → Option Files → List ℕ → Option (List ℕ) → Option (List ℕ) → Bool → Type 0

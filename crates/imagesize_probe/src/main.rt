@@ -2,10 +2,12 @@
 //! that this rests on.
 #![tactic(auto)]
 
-ghost use Rattle.std.specs.Prelude.{◌≡◌, ◌||◌, [], IsTrue, IfOk, IfErr, Option, None};
+ghost use Rattle.std.specs.Prelude.{◌≡◌, ◌||◌, [], IsTrue, IfOk, IfErr, MatchResult, Option, None, Ok, Err};
 ghost use Rattle.std.specs.Io.Buffered.{writer_buffer};
 ghost use Rattle.imagesize_probe.specs.Run.{Files, Loads, LoadsNone};
 ghost use Rattle.imagesize_source.specs.Reading.{is_fault, is_memory};
+ghost use Rattle.imagesize_source.specs.declared.error.ImageError.TheVariants.{IoError};
+ghost use Rattle.imagesize_source.specs.declared.error.Reason.TheVariants.{Memory};
 
 mod report;
 mod run;
@@ -49,6 +51,18 @@ fn buffered<R: Print + AllocGlobal>(rt: &R, capacity: usize) -> BufWriter<Printe
     }
 }
 
+// The reader behind a buffer, where there was memory for the buffer.
+//
+// Errors: want of memory, since nothing else refuses a buffer.
+fn buffered_reader<R>(made: io::Result<BufReader<R>>) -> ImageResult<BufReader<R>>
+    ensures { MatchResult made (λ reader. result ≡ Ok reader) (λ _. result ≡ Err (IoError Memory)) }
+{
+    match made {
+        Ok(reader) => Ok(reader),
+        Err(_) => Err(ImageError::IoError(Reason::Memory)),
+    }
+}
+
 // Opens files.
 #[derive(Drop)]
 struct Disk<'a, R> {
@@ -66,10 +80,8 @@ impl<R: Files + AllocGlobal> Open for Disk<'_, R> {
         ensures refuses { IfErr result (λ e. IsTrue (is_fault e || is_memory e)) }
     {
         let file = fs::open(self.rt, name)?;
-        match BufReader::new(self.rt.alloc(), file) {
-            Ok(reader) => Ok(KeptReader::new(reader)),
-            Err(_) => Err(ImageError::IoError(Reason::Memory)),
-        }
+        let reader = buffered_reader(BufReader::new(self.rt.alloc(), file))?;
+        Ok(KeptReader::new(reader))
     }
 
     fn load(&mut self, name: &str) -> ImageResult<Vec<u8>>

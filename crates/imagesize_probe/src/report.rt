@@ -1,15 +1,18 @@
 //! The line about one image.
-ghost use Rattle.std.specs.Prelude.{◌≡◌, ◌++◌, IfOk, IfSome, IsSome, OnOk, true, false, is_ok};
+ghost use Rattle.std.specs.Prelude.{◌≡◌, ℕ, List, ◌++◌, IfOk, IfSome, IsSome, MatchOption, OnOk, true, false, is_ok};
 ghost use Rattle.std.specs.Io.KnownBytes.{Appends};
-ghost use Rattle.imagesize_probe.specs.Line.{answer_line, sized_line, refused_line, span_line, span_lines, Reports, ReportsSpans};
+ghost use Rattle.imagesize_probe.specs.Line.{answer_line, sized_line, refused_line, span_line, span_lines, AppendsLine, Reports, ReportsSpans};
 ghost use Rattle.imagesize_probe.specs.Status.{exit_status};
 ghost use Rattle.imagesize_source.specs.Reason.{error_text};
+ghost use Rattle.imagesize_source.specs.declared.error.ImageError.TheVariants.{IoError};
+ghost use Rattle.imagesize_source.specs.declared.error.Reason.TheVariants.{Fault};
 
 use imagesize::{
     ImageError, ImageResult, ImageSize, ImageType, Reason, Span, Told, Trace, TypeName, blob_trace,
     reader_probe,
 };
 use std::alloc::Allocator;
+use std::fmt::InlineText;
 use std::io::{self, Write};
 
 /// Writes the line of what a reader holds, `NAME: KIND WxH` or `NAME: error: TEXT`, and returns whether it
@@ -17,7 +20,8 @@ use std::io::{self, Write};
 ///
 /// Errors: those of the writer alone, which may then have got a part of the line.
 pub fn report<R: Told, W: Write>(name: &str, mut reader: R, writer: &mut W) -> io::Result<bool>
-    ensures { IfOk result (Reports (R.telling reader) name.now (W.contents writer.old) (W.contents writer.new)) }
+    ensures line { IfOk result (AppendsLine name.now (W.contents writer.old) (W.contents writer.new)) }
+    ensures told { IfOk result (Reports (R.telling reader) name.now (W.contents writer.old) (W.contents writer.new)) }
 {
     let probed = reader_probe(&mut reader);
     write_line(name, probed.kind, probed.answer, writer)
@@ -88,8 +92,9 @@ fn write_line<W: Write>(
     writer: &mut W,
 ) -> io::Result<bool>
     requires typed { OnOk answer (IsSome kind) }
-    ensures line { OnOk result (IfSome (answer_line name.now kind answer)
+    ensures text { OnOk result (IfSome (answer_line name.now kind answer)
         (Appends (W.contents writer.old) (W.contents writer.new))) }
+    ensures line { IfOk result (AppendsLine name.now (W.contents writer.old) (W.contents writer.new)) }
     ensures sized { IfOk result (λ sized. sized ≡ is_ok answer) }
 {
     match answer {
@@ -116,12 +121,36 @@ fn write_size<W: Write>(
 
 /// Writes the line of a refusal, and returns false.
 pub fn write_refusal<W: Write>(name: &str, error: &ImageError, writer: &mut W) -> io::Result<bool>
-    ensures line { OnOk result (IfSome (error_text error.now)
+    ensures text { OnOk result (IfSome (error_text error.now)
         (λ text. Appends (W.contents writer.old) (W.contents writer.new) (refused_line name.now text))) }
+    ensures line { IfOk result (AppendsLine name.now (W.contents writer.old) (W.contents writer.new)) }
     ensures sized { IfOk result (λ sized. sized ≡ false) }
 {
-    writeln!(writer, "{name}: error: {error}")?;
+    match fault_of(error) {
+        Some(fault) => write_fault(name, fault, writer)?,
+        None => writeln!(writer, "{name}: error: {error}")?,
+    }
     Ok(false)
+}
+
+// The error of a refusal that is a fault. Every other refusal has a text that is stated.
+fn fault_of(error: &ImageError) -> Option<&io::Error>
+    ensures { MatchOption result (IsSome (error_text error.now)) (λ fault. error.now ≡ IoError (Fault fault.now)) }
+{
+    match error {
+        ImageError::IoError(Reason::Fault(fault)) => Some(fault),
+        _ => None,
+    }
+}
+
+// Writes the line of a fault. The library does not state the text of an `io::Error`, so the text is stored first, and
+// the contract names what was stored. A message has at most 256 bytes, and the number of the system's error follows it.
+fn write_fault<W: Write>(name: &str, fault: &io::Error, writer: &mut W) -> io::Result<()>
+    ensures { OnOk result ((text : List ℕ) × Appends (W.contents writer.old) (W.contents writer.new) (refused_line name.now text)) }
+{
+    let kept = InlineText::<512>::of(fault);
+    let text = kept.as_str();
+    writeln!(writer, "{name}: error: {text}")
 }
 
 /// What the program ends with behind so many files: 0 where each was sized.
