@@ -1,12 +1,13 @@
 //! The calls: the size of a slice's bytes or of a reader's.
-ghost use Rattle.std.specs.Prelude.{◌≡◌, ℕ, ◌<◌, ◌≤◌, List, length, ◌++◌, IfOk, IfErr, IfSome, Option, Ok, Err, true, false};
+ghost use Rattle.std.specs.Prelude.{◌≡◌, ℕ, ◌≤◌, List, ◌++◌, IfOk, IfErr, IfSome, Option, Ok, Err, true, false};
 ghost use Rattle.imagesize.specs.Probed.{SpentAll};
 ghost use Rattle.imagesize_io.specs.Answers.{Answers, CountsWithin, IsLast, Leaves};
 ghost use Rattle.imagesize_io.specs.ReaderState.{Opens};
 ghost use Rattle.imagesize_io.specs.Telling.{Telling};
 ghost use Rattle.imagesize_png.specs.Png.{png_of};
 ghost use Rattle.imagesize_source.specs.Agreement.{Agrees};
-ghost use Rattle.imagesize_source.specs.Reading.{budget_spent, end_of_input, is_fault, is_memory, is_stopped};
+ghost use Rattle.imagesize_source.specs.declared.error.ImageError.TheVariants.{NotSupported};
+ghost use Rattle.imagesize_source.specs.Reading.{budget_spent, is_fault, is_memory, is_stopped};
 ghost use Rattle.imagesize_source.specs.State.{total};
 
 use crate::Told;
@@ -39,6 +40,9 @@ pub fn blob_size(data: &[u8]) -> ImageResult<ImageSize>
 
     // Bytes that follow change no size.
     ensures lasts { IfOk result (λ size. (x : List ℕ) → (png_of («data».now ++ x) 0).answer ≡ Ok size) }
+
+    // Bytes that follow make no PNG of what is none.
+    ensures refused { IfErr result (λ e. e ≡ NotSupported → (x : List ℕ) → (png_of («data».now ++ x) 0).answer ≡ Err NotSupported) }
 
     // A slice fails at no reading, has no budget and wants no memory.
     ensures unstopped { is_stopped result ≡ false }
