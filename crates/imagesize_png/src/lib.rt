@@ -6,6 +6,8 @@
 mod calls;
 mod format;
 mod parts;
+#[cfg(test)]
+mod tests;
 
 pub use calls::{blob_size, reader_size};
 pub use format::is_png;
