@@ -6,7 +6,6 @@ use Rattle.imagesize_io.specs.ReaderState.{Opens, start_state}
 use Rattle.imagesize_io.specs.Standing.{drift}
 use Rattle.imagesize_io.specs.Telling.{Telling}
 use Rattle.imagesize_io.specs.declared.reader.Opened.{Opened}
-use Rattle.std.proofs.lemmas.Bool.Decides.{nat_tests}
 use Rattle.imagesize_png.specs.Png.{is_png, png, png_by, png_of, png_sides}
 use Rattle.imagesize_source.proofs.Agreement.{local_layout, without_texts}
 use Rattle.imagesize_source.proofs.Counts.{at_most}

@@ -1,5 +1,5 @@
 -- PNG, by sections 5.2 (PNG signature) and 11.2.2 (IHDR Image header) of the Portable Network Graphics Specification.
-use Rattle.std.specs.Prelude.{ℕ, Bool, if◌then◌else◌, List, [], ◌∷◌, take, ◌==◌}
+use Rattle.std.specs.Prelude.{ℕ, Bool, if◌then◌else◌, List, [], ◌∷◌}
 use Rattle.imagesize_types.specs.Head.{begins}
 use Rattle.imagesize_types.specs.declared.size.ImageSize.{ImageSize}
 use Rattle.imagesize_source.specs.declared.endian.Endian.TheVariants.{Big}

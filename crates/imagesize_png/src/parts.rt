@@ -24,11 +24,7 @@ use imagesize_types::size::ImageSize;
 ///     PartsAnswer::Wanted(span) => assert_eq!((span.start, span.len), (16, 4)),
 /// }
 /// ```
-pub fn parts_size(
-    bytes: &[u8],
-    spans: &[Span],
-    total: u64,
-) -> PartsAnswer<ImageResult<ImageSize>>
+pub fn parts_size(bytes: &[u8], spans: &[Span], total: u64) -> PartsAnswer<ImageResult<ImageSize>>
     // Of each input of that length that has the bytes which these parts know, and there is one:
     ensures says { (d : List ℕ) → HasKnown d total spans.now bytes.now → total < 2 ^ 63
         → SaysOf false (png_of d 0) total spans.now bytes.now result }

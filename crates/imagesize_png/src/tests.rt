@@ -130,31 +130,39 @@ fn each_call_of_a_reader_may_fail(rt: HostRuntime) {
     }
 }
 
+// The signature and the two sides, one behind another, and their spans.
+const KNOWN: &[u8] = b"\x89PNG\r\n\x1a\n\0\0\x02\x80\0\0\x01\xe0";
+
+const SPANS: [Span; 3] = [
+    Span { start: 0, len: 8 },
+    Span { start: 16, len: 4 },
+    Span { start: 20, len: 4 },
+];
+
 #[test]
 fn parts_are_asked_for_in_their_order(rt: HostRuntime) {
-    let mut spans = [Span { start: 0, len: 0 }; 3];
-    let asked = [(0, 8), (16, 4), (20, 4)];
-    let mut bytes = [0u8; 16];
-    let mut length = 0;
-    for (round, (start, len)) in asked.into_iter().enumerate() {
-        match parts_size(&bytes[..length], &spans[..round], 5_000_000) {
-            PartsAnswer::Wanted(span) => assert!(rt; span.start == start && span.len == len),
-            PartsAnswer::Found(_) => assert!(rt; false),
-        }
-        let place = start as usize;
-        let end = length + len as usize;
-        bytes[length..end].copy_from_slice(&PNG[place..place + len as usize]);
-        spans[round] = Span { start, len };
-        length = end;
+    for (length, count) in [(0, 0), (8, 1), (12, 2)] {
+        let answer = parts_size(&KNOWN[..length], &SPANS[..count], 5_000_000);
+        assert!(rt; matches!(answer, PartsAnswer::Wanted(span) if span == SPANS[count]));
     }
-    assert!(rt; matches!(parts_size(&bytes, &spans, 5_000_000), PartsAnswer::Found(Ok(size)) if size.width == 640));
-    assert!(rt; matches!(parts_size(&bytes[..12], &spans[..2], 20), PartsAnswer::Found(answer) if is_end(&answer)));
+    let answer = parts_size(KNOWN, &SPANS, 5_000_000);
+    assert!(rt; matches!(answer, PartsAnswer::Found(Ok(size)) if size.width == 640));
+}
+
+#[test]
+fn parts_tell_where_an_input_is_cut(rt: HostRuntime) {
+    for (total, length, count) in [(0, 0, 0), (8, 8, 1), (16, 8, 1), (20, 12, 2)] {
+        let answer = parts_size(&KNOWN[..length], &SPANS[..count], total);
+        assert!(rt; matches!(answer, PartsAnswer::Found(answer) if is_end(&answer)));
+    }
 }
 
 #[test]
 fn parts_of_other_bytes_are_no_png(rt: HostRuntime) {
     let front = [Span { start: 0, len: 8 }];
     for bytes in OTHERS {
-        assert!(rt; matches!(parts_size(&bytes[..8], &front, 5_000_000), PartsAnswer::Found(answer) if is_unsupported(&answer)));
+        assert!(rt;
+            matches!(parts_size(&bytes[..8], &front, 5_000_000), PartsAnswer::Found(answer) if is_unsupported(&answer))
+        );
     }
 }
