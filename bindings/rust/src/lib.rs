@@ -6,7 +6,7 @@
 //! # Ok::<(), imagesize::ImageError>(())
 //! ```
 //!
-//! The names are those of the crate `imagesize` 0.15, without PNG. The answers come from a C library in which each function is
+//! The names are those of the crate `imagesize` 0.15. PNG is tried first, with the feature `png`, which is on by default. The answers come from a C library in which each function is
 //! proved; this package fetches the bytes that the library asks for, and is tested.
 //!
 //! [`size`] and the calls over a reader fetch blocks of 4096 bytes around the bytes that the answer rests on, and never the
