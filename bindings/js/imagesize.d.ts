@@ -1,7 +1,7 @@
 /** A type of image. */
 export type Kind =
   | 'Aseprite' | 'Astc' | 'Atc' | 'Bmp' | 'Dds' | 'Eac' | 'Etc2' | 'Exr' | 'Farbfeld' | 'Gif' | 'Hdr' | 'Heif' | 'Ico'
-  | 'Ilbm' | 'Jpeg' | 'Jxl' | 'Ktx2' | 'Pnm' | 'Pvrtc' | 'Psd' | 'Qoi' | 'Tga' | 'Tiff' | 'Vtf' | 'Webp';
+  | 'Ilbm' | 'Jpeg' | 'Jxl' | 'Ktx2' | 'Png' | 'Pnm' | 'Pvrtc' | 'Psd' | 'Qoi' | 'Tga' | 'Tiff' | 'Vtf' | 'Webp';
 
 /** A compression, of those types that have several. */
 export type Compression =
