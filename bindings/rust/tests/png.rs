@@ -77,7 +77,10 @@ fn other_bytes_may_be_read_as_a_png() -> ImageResult<()> {
     bytes[..8].fill(7);
     assert!(is_unknown(blob_size(&bytes)));
     assert_eq!(ImageType::Png.reader_size(&mut Cursor::new(&bytes))?, SIZE);
-    assert_eq!(ImageType::Gif.reader_size(&mut Cursor::new(PNG))?.width, 0x0a1a);
+    assert_eq!(
+        ImageType::Gif.reader_size(&mut Cursor::new(PNG))?.width,
+        0x0a1a
+    );
     Ok(())
 }
 
@@ -97,18 +100,15 @@ fn encoded(program: &str, arguments: &[&str], bitmap: &[u8]) -> io::Result<Vec<u
         .stdin(Stdio::piped())
         .stdout(Stdio::piped())
         .spawn()?;
-    encoder
-        .stdin
-        .take()
-        .expect("its input")
-        .write_all(bitmap)?;
+    encoder.stdin.take().expect("its input").write_all(bitmap)?;
     Ok(encoder.wait_with_output()?.stdout)
 }
 
 #[test]
 fn files_of_encoders_have_their_size() -> ImageResult<()> {
     let bitmap = [b"P6 7 5 255\n".as_slice(), &[200; 3 * 7 * 5]].concat();
-    let encoders: [(&str, &[&str]); 2] = [("pnmtopng", &[]), ("/usr/bin/convert", &["pnm:-", "png:-"])];
+    let encoders: [(&str, &[&str]); 2] =
+        [("pnmtopng", &[]), ("/usr/bin/convert", &["pnm:-", "png:-"])];
     for (program, arguments) in encoders {
         if let Ok(bytes) = encoded(program, arguments, &bitmap) {
             let size = blob_size(&bytes)?;
