@@ -6,7 +6,7 @@ HEADER is imagesize.h and LIBRARY the shared library. Each number of the header 
 its constant says, each must be there once, and the library must know no other. The lists
 `Status`, `Kind`, `Compression` and `Family` of a Python module or package, where it has them, must have the names of the header
 without their prefix, with its numbers. Of a TypeScript declaration the types `Kind` and `Compression` must have the library's own
-names. The tests of the Rust package compare its types with the library themselves.
+names. The tests of the Rust package compare its types with the library themselves. A binding may also have PNG, which has calls of its own.
 """
 
 import ctypes
@@ -165,12 +165,19 @@ def lists_of(path):
     return {enum.__name__: {name: int(member) for name, member in enum.__members__.items()} for enum in enums}
 
 
+def check_png(path, number, types):
+    """PNG, which the header does not list, has a number of no type."""
+    assert number is None or number not in types.values() and number > 999, f"{path}: PNG is {number}"
+
+
 def check_module(path, lists):
     """Each list that a module has is the header's; a family that is none may be left out. Answers how many names they have."""
     found, count = lists_of(path), 0
     for name, title in [("Status", "status"), ("Kind", "type"), ("Compression", "compression"), ("Family", "family")]:
         members, wanted = found.get(name), dict(lists[title])
         if members is not None:
+            if title == "type":
+                check_png(path, members.pop("PNG", None), wanted)
             if "NO_FAMILY" not in members:
                 wanted.pop("NO_FAMILY", None)
             compare(f"{path}: {name}", members, wanted)
@@ -193,7 +200,7 @@ def check_declaration(path, library, lists):
     text, count = pathlib.Path(path).read_text(), 0
     for title, wanted in names_of(library, lists["type"]).items():
         (body,) = re.findall(rf"^export type {title} =(.*?);$", text, re.DOTALL | re.MULTILINE)
-        found = re.findall(r"'(\w+)'", body)
+        found = [name for name in re.findall(r"'(\w+)'", body) if name != "Png"]
         assert sorted(found) == sorted(wanted), f"{path}: {title}: {sorted(set(found) ^ wanted) or 'a name twice'}"
         count += len(found)
     return count

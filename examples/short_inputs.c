@@ -300,6 +300,39 @@ static void queries(void)
     expect(imagesize_is_multi_compression_container(IMAGESIZE_GIF, 0, &answer) == IMAGESIZE_ANSWERED && answer == 0, "a GIF is none");
 }
 
+/* A PNG of 640 by 480 and what is cut from it, each before a page that cannot be read; then other bytes with a part of its signature. */
+static void png(uint8_t *end)
+{
+    static const char whole[] = "\x89PNG\r\n\x1a\n\0\0\0\x0dIHDR\0\0\x02\x80\0\0\x01\xe0";
+    static const char *const others[] = {"\x89PNG\r\n\x1a\r 24 bytes of others", "\x89PNG another file", "\x8aMNG\r\n\x1a\n"};
+    imagesize_span all, wanted = {1, 2};
+    uint32_t answer;
+    for (size_t length = 0; length <= 24; length++) {
+        uint64_t width = 7, height = 9;
+        uint32_t status = length < 24 ? IMAGESIZE_END_OF_INPUT : IMAGESIZE_ANSWERED;
+        memcpy(end - length, whole, length);
+        expect(imagesize_png_matches(end - length, length, &answer) == IMAGESIZE_ANSWERED && answer == (length >= 8), "eight bytes tell a PNG");
+        expect(imagesize_png_size(end - length, length, &width, &height) == status
+                   && width == (length < 24 ? 7 : 640) && height == (length < 24 ? 9 : 480), "a PNG's size, or its end");
+        all = (imagesize_span){0, length};
+        expect(imagesize_png_parts_size(end - length, length, &all, 1, length, &width, &height, &wanted) == status
+                   && width == (length < 24 ? 7 : 640) && height == (length < 24 ? 9 : 480) && wanted.start == 1 && wanted.len == 2,
+               "the same of all of it as one part");
+        status = length < 24 ? IMAGESIZE_BYTES_WANTED : IMAGESIZE_ANSWERED;
+        all = (imagesize_span){1, 2};
+        expect(imagesize_png_parts_size(end - length, length, &(imagesize_span){0, length}, 1, 1000, &width, &height, &all) == status
+                   && (length == 24 || (all.start >= length && all.start + all.len <= 24)), "bytes of a longer input are wanted");
+    }
+    for (size_t i = 0; i < sizeof others / sizeof *others; i++) {
+        size_t length = strlen(others[i]);
+        uint64_t width = 7, height = 9;
+        memcpy(end - length, others[i], length);
+        expect(imagesize_png_matches(end - length, length, &answer) == IMAGESIZE_ANSWERED && answer == 0, "no PNG");
+        expect(imagesize_png_size(end - length, length, &width, &height) == IMAGESIZE_NOT_SUPPORTED && width == 7 && height == 9,
+               "no PNG has no size");
+    }
+}
+
 int main(void)
 {
     struct worker workers[THREADS];
@@ -324,6 +357,7 @@ int main(void)
     spans_in_just_enough_room(workers[0].spans_end);
     wrong_calls();
     queries();
+    png(workers[0].bytes_end);
     printf("%d short inputs in %d threads: %s\n", THREADS * INPUTS, THREADS, failures == 0 ? "as they should be" : "NOT as they should be");
     return failures != 0;
 }

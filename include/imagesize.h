@@ -257,6 +257,35 @@ uint32_t imagesize_parts_size(uint32_t type, uint32_t compression, const uint8_t
 uint32_t imagesize_spans(const uint8_t *bytes, size_t length, imagesize_span *spans, size_t room, size_t *count);
 
 /*
+ * PNG has calls of its own. The calls above leave it out, and it has no number. To find PNG too, call one of these first. If it returns
+ * IMAGESIZE_NOT_SUPPORTED, the file is no PNG, and more bytes of it do not change that. Then call one of those above.
+ */
+
+/*
+ * Tests for the signature of PNG, the eight bytes 89 50 4E 47 0D 0A 1A 0A. `answer` is set to 1 if the bytes begin with it, and to 0
+ * if they do not, or if there are fewer than eight. No error.
+ */
+uint32_t imagesize_png_matches(const uint8_t *bytes, size_t length, uint32_t *answer);
+
+/*
+ * Reads width and height of a PNG, in pixels. The bytes are those of the whole file, or its first bytes; 24 are enough. They are the
+ * bytes at offset 16 and 20: a file whose first chunk is not the image header, such as CgBI, has a wrong size.
+ *
+ * Errors: IMAGESIZE_NOT_SUPPORTED if the first eight bytes are not the signature, and IMAGESIZE_END_OF_INPUT if the bytes end before
+ * the signature or before the size.
+ */
+uint32_t imagesize_png_size(const uint8_t *bytes, size_t length, uint64_t *width, uint64_t *height);
+
+/*
+ * Reads width and height of a PNG of `total` bytes from the parts that are known, or asks for another part.
+ *
+ * The parts are passed as to imagesize_parts_probe, and `wanted` is written as there. Each byte of it is needed. Otherwise status,
+ * width and height are those of imagesize_png_size over the whole input.
+ */
+uint32_t imagesize_png_parts_size(const uint8_t *bytes, size_t length, const imagesize_span *spans, size_t count, uint64_t total,
+                                  uint64_t *width, uint64_t *height, imagesize_span *wanted);
+
+/*
  * Writes the name of a type, such as "Gif"; of its compression, such as "Bc7"; or of its container, such as "KTX2". A type without
  * a compression or a container has an empty text. `written` is set to the length of the text in bytes.
  *

@@ -4,7 +4,7 @@ export type Kind =
   | 'Aseprite' | 'Astc' | 'Atc' | 'Bmp' | 'Dds' | 'Eac' | 'Etc2' | 'Exr' | 'Farbfeld' | 'Gif' | 'Hdr' | 'Heif' | 'Ico'
   | 'Ilbm' | 'Jpeg' | 'Jxl' | 'Ktx2' | 'Pnm' | 'Pvrtc' | 'Psd' | 'Qoi' | 'Tga' | 'Tiff' | 'Vtf' | 'Webp'
   // end of the list
-  ;
+  | 'Png';
 
 /** A compression, for the types that have one. */
 export type Compression =

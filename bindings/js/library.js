@@ -25,6 +25,10 @@ const TEXT_ROOM = 256;
 
 const NO_NAMES = { kind: null, compression: null };
 
+// PNG among the numbers of types. The library has calls of its own for PNG, and no number.
+const PNG = 1000;
+const PNG_SIGNATURE = [0x89, 0x50, 0x4e, 0x47, 0x0d, 0x0a, 0x1a, 0x0a];
+
 /** The library in a memory of its own, whose addresses have 32 or 64 bits. */
 export class Library {
   #module;
@@ -34,7 +38,7 @@ export class Library {
   #answers;
   #bytes;
   #view;
-  #names = [];
+  #names = { [PNG]: [{ kind: 'Png', compression: null }] };
   #texts = [];
 
   constructor(module, { exports }) {
@@ -50,23 +54,27 @@ export class Library {
    * The result for the known parts of an input of `total` bytes: `{ wanted }`, a span that is needed, `{ image }` or `{ error }`.
    */
   probeParts(parts, total) {
-    const { pieces, length } = parts;
+    return this.#probe(parts, total, beginsPng(parts.pieces));
+  }
+
+  #probe({ pieces, length }, total, isPng) {
     const bytes = AT.lent + SPAN * pieces.length;
     this.#lend(bytes + length);
     this.#putSpans(AT.lent, pieces);
     this.#putPieces(bytes, pieces);
-    this.#putNumber(AT.type, 0);
+    this.#putNumber(AT.type, isPng ? PNG : 0);
     const { type, compression, width, height, wanted } = this.#answers;
-    const status = this.#calls.imagesize_probe_parts(
-      this.#pointer(bytes), BigInt(length), this.#pointer(AT.lent), BigInt(pieces.length), BigInt(total),
-      type, compression, width, height, wanted,
-    );
+    const known = [this.#pointer(bytes), BigInt(length), this.#pointer(AT.lent), BigInt(pieces.length), BigInt(total)];
+    const status = isPng
+      ? this.#calls.imagesize_png_parts_size(...known, width, height, wanted)
+      : this.#calls.imagesize_probe_parts(...known, type, compression, width, height, wanted);
     return status === BYTES_WANTED ? { wanted: this.#span(AT.wanted) } : this.#told(status);
   }
 
   /** The spans that type and size of these bytes depend on, if there are at most so many. */
   spans(bytes, most) {
-    return this.#spansOf([{ start: 0, bytes }], bytes.length, most);
+    const pieces = [{ start: 0, bytes }];
+    return beginsPng(pieces) ? this.#spansOfPng(bytes, bytes.length, most) : this.#spansOf(pieces, bytes.length, most);
   }
 
   /**
@@ -74,6 +82,7 @@ export class Library {
    * memory of its own, and the engine allocates only the pages that are written.
    */
   async spansOfParts(parts, total, most) {
+    if (beginsPng(parts.pieces)) return this.#spansOfPng(parts.pieces[0].bytes, total, most);
     const apart = new Library(this.#module, await WebAssembly.instantiate(this.#module));
     return apart.#spansOf(parts.pieces, total, most);
   }
@@ -83,10 +92,25 @@ export class Library {
     this.#lend(room);
     for (const { start, bytes } of pieces) this.#bytes.set(bytes, this.#base + AT.lent + start);
     const count = this.#tellSpans(length, room, 0);
-    if (count > most) throw new ImageError('TOO_MANY_SPANS', `The answer rests on ${count} spans, and ${most} are allowed`);
+    checkCount(count, most);
     this.#lend(room + SPAN * count);
     this.#tellSpans(length, room, count);
     return Array.from({ length: count }, (_, index) => this.#span(room + SPAN * index));
+  }
+
+  // The spans of a PNG with these first bytes: what is wanted, one span after another.
+  #spansOfPng(front, total, most) {
+    const known = { pieces: [], length: 0 };
+    const spans = [];
+    for (;;) {
+      const { wanted } = this.#probe(known, total, true);
+      if (!wanted) break;
+      spans.push(wanted);
+      known.pieces.push({ start: wanted.start, bytes: front.subarray(wanted.start, wanted.start + wanted.len) });
+      known.length += wanted.len;
+    }
+    checkCount(spans.length, most);
+    return spans;
   }
 
   #tellSpans(length, room, count) {
@@ -178,6 +202,15 @@ export class Library {
     const start = this.#base + AT.lent;
     return String.fromCharCode(...this.#bytes.subarray(start, start + this.#number(AT.count)));
   }
+}
+
+// Whether the first piece, which begins an input, begins with the signature of PNG.
+function beginsPng([first]) {
+  return first !== undefined && PNG_SIGNATURE.every((byte, index) => first.bytes[index] === byte);
+}
+
+function checkCount(count, most) {
+  if (count > most) throw new ImageError('TOO_MANY_SPANS', `The answer rests on ${count} spans, and ${most} are allowed`);
 }
 
 // The pages of a 32-bit memory are counted by a number, and those of a 64-bit one by a BigInt, or in older engines by a number.

@@ -13,6 +13,8 @@ export const worked = readFileSync(new URL('../../../examples/out/worked.tsv', i
   .split('\n')
   .filter((row) => row)
   .map((row) => row.split('\t'))
+  // A PNG that ends before its size. The table has it as the calls that leave PNG out tell it.
+  .map((row) => (row[0] === '89504e470d0a1a0a0000000d' ? [row[0], 'Png: failed to fill whole buffer', '0+8'] : row))
   .map(([hex, line, spans]) => ({ bytes: Buffer.from(hex === '-' ? '' : hex, 'hex'), line: lineHere(line), spans }));
 
 const named = ({ kind, compression }) => (compression ? `${kind}(${compression})` : kind);

@@ -7,7 +7,7 @@ import os
 import sys
 from typing import TYPE_CHECKING, Awaitable, Callable, List, Optional, Protocol, Tuple, TypeVar, Union
 
-from ._library import Told, probe_front, probe_whole, spans_of, type_of
+from ._library import PNG, Told, png_spans, probe_front, probe_whole, spans_of, type_of
 from ._parts import BLOCK, BUDGET, SPENT, WANTED, BytesLike, Parts, checked, first_block
 from ._types import ImageError, ImageType, Probed, Size, Span, Status, known_type
 
@@ -121,14 +121,22 @@ def spans(image: Image, *, limit: int = LIMIT, budget: int = BUDGET) -> List[Spa
 
 def _spans(image: Image, limit: int, budget: int) -> Tuple[int, List[int]]:
     if type(image) is bytes:
+        if type_of(image)[1][0] == PNG:
+            return _within(limit, png_spans(image, len(image)))
         return spans_of(image, len(image), limit)
     parts = _parts(image, budget)
     if parts.told is SPENT or not parts.total:
         return SPENT[0] if parts.told is SPENT else 0, []
+    if parts.told[1][0] == PNG:
+        return _within(limit, png_spans(parts.known, parts.total))
     filled = parts.filled()
     if filled is None:
         return Status.OUT_OF_MEMORY, []
     return spans_of(ctypes.c_char.from_buffer(filled), parts.total, limit)
+
+
+def _within(limit: int, numbers: List[int]) -> Tuple[int, List[int]]:
+    return (0, numbers) if len(numbers) <= 2 * limit else (Status.BUFFER_TOO_SMALL, [])
 
 
 def _probed(told: Told, image: object = None) -> Probed:

@@ -19,11 +19,19 @@ _HERE = pathlib.Path(__file__).resolve().parent
 _PACKED = _HERE / "libimagesize.so"
 _BUILT = _HERE.joinpath("..", "..", "..", "examples", "out", "libimagesize.so")
 
+PNG = 1000
+"""PNG among the numbers of types. The library has calls of its own for PNG, and no number."""
+
+_WANTED = 30
+
+_SIGNATURE = b"\x89PNG\r\n\x1a\n"
+
 _CALLS = (
     "imagesize_type",
     "imagesize_probe",
     "imagesize_probe_parts",
     "imagesize_spans",
+    "imagesize_png_parts_size",
     "imagesize_type_name",
     "imagesize_compression_name",
     "imagesize_container_format",
@@ -50,6 +58,7 @@ _type = _LIBRARY.imagesize_type
 _probe = _LIBRARY.imagesize_probe
 _probe_parts = _LIBRARY.imagesize_probe_parts
 _spans = _LIBRARY.imagesize_spans
+_png = _LIBRARY.imagesize_png_parts_size
 _probe_front = ctypes.PyDLL(_LIBRARY._name).imagesize_probe_parts  # over one block it is over before another thread would run
 
 
@@ -66,6 +75,7 @@ class _Room:
         self.spans, self.count = ctypes.c_void_p(), ctypes.c_size_t()
         self.of_front = (self.length, self.front, ctypes.c_size_t(1), self.total, *self.told)
         self.of_parts = (self.length, self.spans, self.count, self.total, *self.told)
+        self.of_png = (self.length, self.spans, self.count, self.total, *self.told[2:])
 
 
 _ROOMS: List[_Room] = []
@@ -84,6 +94,8 @@ def _room(length: int, total: int) -> _Room:
 
 def type_of(data: bytes) -> Told:
     """The type of the image in some bytes."""
+    if data.startswith(_SIGNATURE):
+        return 0, [PNG, 0, 0, 0, 0, 0]
     room = _room(len(data), 0)
     told = _type(data, room.length, *room.told[:2]), room.read()
     _ROOMS.append(room)
@@ -92,6 +104,8 @@ def type_of(data: bytes) -> Told:
 
 def probe_whole(data: bytes) -> Told:
     """Type and size of the image in some bytes."""
+    if data.startswith(_SIGNATURE):
+        return _probe_png(data, array("Q", (0, len(data))), len(data))
     room = _room(len(data), 0)
     told = _probe(data, room.length, *room.told[:4]), room.read()
     _ROOMS.append(room)
@@ -100,6 +114,8 @@ def probe_whole(data: bytes) -> Told:
 
 def probe_front(front: bytes, total: int) -> Told:
     """Type and size of the image in an input of `total` bytes, of which the first are known."""
+    if front.startswith(_SIGNATURE):
+        return _probe_png(front, array("Q", (0, len(front))), total)
     try:
         room = _ROOMS.pop()
     except IndexError:
@@ -113,13 +129,42 @@ def probe_front(front: bytes, total: int) -> Told:
 
 
 def probe_parts(known: bytes, spans: "array[int]", total: int) -> Told:
-    """Type and size of the image in an input of `total` bytes, of which some parts are known: start and length of each."""
+    """Type and size of the image in an input of `total` bytes, of which some parts are known: start and length of each.
+
+    The first part has the input's first bytes: eight of them at least, or all.
+    """
+    if known.startswith(_SIGNATURE):
+        return _probe_png(known, spans, total)
     room = _room(len(known), total)
     room.spans.value, numbers = spans.buffer_info()
     room.count.value = numbers // 2
     told = _probe_parts(known, *room.of_parts), room.read()
     _ROOMS.append(room)
     return told
+
+
+def _probe_png(known: bytes, spans: "array[int]", total: int) -> Told:
+    """The size of a PNG, of which some parts are known."""
+    room = _room(len(known), total)
+    room.spans.value, numbers = spans.buffer_info()
+    room.count.value = numbers // 2
+    status = _png(known, *room.of_png)
+    told = room.read()
+    told[:2] = PNG, 0
+    _ROOMS.append(room)
+    return status, told
+
+
+def png_spans(front: bytes, total: int) -> List[int]:
+    """Start and length of each span that the size of a PNG rests on, from its first 24 bytes: what is wanted, one after another."""
+    known, spans = b"", array("Q")
+    status, told = _probe_png(known, spans, total)
+    while status == _WANTED:
+        start, length = told[4:]
+        known += front[start : start + length]
+        spans.extend((start, length))
+        status, told = _probe_png(known, spans, total)
+    return list(spans)
 
 
 def spans_of(data: Union[bytes, ctypes.c_char], length: int, limit: int) -> Tuple[int, List[int]]:

@@ -7,7 +7,7 @@ import functools
 from enum import IntEnum
 from typing import Any, Dict, NamedTuple, Optional, Tuple
 
-from ._library import number, text
+from ._library import PNG as _PNG, number, text
 
 
 class Status(IntEnum):
@@ -111,6 +111,7 @@ class Kind(IntEnum):
     VTF = 24
     WEBP = 25
     # end of the list
+    PNG = _PNG  # which has no number in the library
 
 
 class Compression(IntEnum):
@@ -197,6 +198,7 @@ _MEDIA: Dict[Kind, Tuple[Optional[str], str]] = {
     Kind.TIFF: ("image/tiff", ".tif"),
     Kind.VTF: ("image/vnd.valve.source.texture", ".vtf"),
     Kind.WEBP: ("image/webp", ".webp"),
+    Kind.PNG: ("image/png", ".png"),
 }
 _HEIF_MEDIA = {
     Compression.HEIF_AV1: ("image/avif", ".avif"),
@@ -232,13 +234,13 @@ class ImageType:
     def __post_init__(self) -> None:
         object.__setattr__(self, "kind", Kind(self.kind))
         object.__setattr__(self, "compression", Compression(self.compression))
-        if _text("imagesize_type_name", self.kind, self.compression) is None:
+        if _name(self.kind, self.compression) is None:
             raise ValueError(f"no type is {self.kind!r} with {self.compression!r}")
 
     @property
     def name(self) -> str:
         """The name of the type."""
-        return self._text("imagesize_type_name")
+        return _name(self.kind, self.compression) or ""
 
     @property
     def compression_name(self) -> Optional[str]:
@@ -332,6 +334,12 @@ class ImageError(Exception):
 def status_text(status: int) -> str:
     """The library's text for a status. Raises `ValueError` if no status has this number."""
     return _text("imagesize_status_text", Status(status)) or ""
+
+
+def _name(kind: Kind, compression: Compression) -> Optional[str]:
+    if kind is Kind.PNG:
+        return None if compression else "Png"
+    return _text("imagesize_type_name", kind, compression)
 
 
 _text = functools.lru_cache(maxsize=None)(text)

@@ -35,7 +35,7 @@ macro_rules! of_compression {
     };
 }
 
-/// Defines the types, of which each has the number that `include/imagesize.h` gives it.
+/// Defines the types, of which each has the number that `include/imagesize.h` gives it. PNG has one of its own.
 macro_rules! types {
     (
         $(#[$about:meta])*
@@ -47,17 +47,19 @@ macro_rules! types {
 
         impl $name {
             /// The numbers of the type and of its compression.
+            #[allow(unused_doc_comments)]
             pub(crate) fn numbers(&self) -> (u32, u32) {
                 match self {
-                    $($name::$type $((second!($compression, compression)))? =>
+                    $($(#[$type_about])* $name::$type $((second!($compression, compression)))? =>
                         numbers!($number $(, second!($compression, compression))?),)*
                 }
             }
 
             /// The type that has these numbers.
+            #[allow(unused_doc_comments)]
             pub(crate) fn numbered(kind: u32, compression: u32) -> Option<$name> {
                 match kind {
-                    $($number => of_compression!($name::$type, compression $(, $compression)?),)*
+                    $($(#[$type_about])* $number => of_compression!($name::$type, compression $(, $compression)?),)*
                     _ => None,
                 }
             }
@@ -122,6 +124,9 @@ types! {
         /// WebP.
         Webp = 25,
         // end of the list
+        /// Portable network graphics, with the feature `png`.
+        #[cfg(feature = "png")]
+        Png = 1000,
     }
 }
 

@@ -6,8 +6,9 @@
 //! # Ok::<(), imagesize::ImageError>(())
 //! ```
 //!
-//! The names are those of the crate `imagesize` 0.15, without PNG. The results come from a C library in which each function is
-//! proved. This package fetches the bytes that the library requests, and is tested.
+//! The names are those of the crate `imagesize` 0.15. PNG is tried first, with the feature `png`, which is on by default. The
+//! results come from a C library in which each function is proved. This package fetches the bytes that the library requests, and
+//! is tested.
 //!
 //! [`size`] and the calls over a reader fetch blocks of 4096 bytes around the bytes that the result depends on. They never read
 //! the whole of a large file. For very many records the blocks become larger. If more is needed after 64 MiB, the call returns

@@ -13,6 +13,12 @@ pub(crate) const BYTES_WANTED: u32 = 30;
 /// The longest text of the library has fewer bytes.
 const TEXT_ROOM: usize = 128;
 
+/// The number of PNG, which has calls of its own in the library and no number.
+pub(crate) const PNG: u32 = 1000;
+
+/// The bytes with which each PNG begins.
+const SIGNATURE: &[u8; 8] = b"\x89PNG\r\n\x1a\n";
+
 /// A range of an input's bytes: `len` bytes from offset `start`. Offsets count from 0.
 #[repr(C)]
 #[derive(Clone, Copy, Debug, Default)]
@@ -63,6 +69,22 @@ extern "C" {
         height: *mut u64,
         wanted: *mut Span,
     ) -> u32;
+    fn imagesize_png_size(
+        bytes: *const u8,
+        length: usize,
+        width: *mut u64,
+        height: *mut u64,
+    ) -> u32;
+    fn imagesize_png_parts_size(
+        bytes: *const u8,
+        length: usize,
+        spans: *const Span,
+        count: usize,
+        total: u64,
+        width: *mut u64,
+        height: *mut u64,
+        wanted: *mut Span,
+    ) -> u32;
     fn imagesize_container_format(
         kind: u32,
         compression: u32,
@@ -91,6 +113,14 @@ pub(crate) struct Told {
 }
 
 impl Told {
+    /// The result for a PNG.
+    fn of_png() -> Told {
+        Told {
+            kind: PNG,
+            ..Told::default()
+        }
+    }
+
     /// The type, which may be known although the size has an error.
     pub(crate) fn image_type(&self) -> ImageResult<ImageType> {
         ImageType::numbered(self.kind, self.compression)
@@ -127,8 +157,16 @@ impl Parts {
     }
 }
 
+/// Whether these first bytes are those of a PNG, and the package has the feature for it.
+fn is_png(bytes: &[u8]) -> bool {
+    cfg!(feature = "png") && bytes.starts_with(SIGNATURE)
+}
+
 /// Detects the type from the first bytes of an image.
 pub(crate) fn image_type(bytes: &[u8]) -> Told {
+    if is_png(bytes) {
+        return Told::of_png();
+    }
     let mut told = Told::default();
     // SAFETY: the pointers come from a slice of this length and from two numbers, which nothing else holds.
     told.status = unsafe {
@@ -144,10 +182,15 @@ pub(crate) fn image_type(bytes: &[u8]) -> Told {
 
 /// The size of the image in some bytes.
 pub(crate) fn image_size(bytes: &[u8]) -> Told {
+    let call = if is_png(bytes) {
+        imagesize_png_size
+    } else {
+        imagesize_size
+    };
     let mut told = Told::default();
     // SAFETY: the pointers come from a slice of this length and from two numbers, which nothing else holds.
     told.status = unsafe {
-        imagesize_size(
+        call(
             bytes.as_ptr(),
             bytes.len(),
             &mut told.width,
@@ -157,9 +200,47 @@ pub(crate) fn image_size(bytes: &[u8]) -> Told {
     told
 }
 
+/// The size of a PNG of `total` bytes, from the known parts.
+fn png_size(bytes: &[u8], spans: &[Span], total: u64) -> Parts {
+    let mut told = Told::of_png();
+    let mut wanted = Span::default();
+    // SAFETY: the pointers come from two slices of these lengths, and from numbers and a span that nothing else holds.
+    told.status = unsafe {
+        imagesize_png_parts_size(
+            bytes.as_ptr(),
+            bytes.len(),
+            spans.as_ptr(),
+            spans.len(),
+            total,
+            &mut told.width,
+            &mut told.height,
+            &mut wanted,
+        )
+    };
+    Parts::of(told, wanted)
+}
+
+/// The size of such an input, read as a PNG. The signature is passed as its first bytes: if two parts have a byte, the first counts.
+fn size_as_png(bytes: &[u8], spans: &[Span], total: u64) -> Parts {
+    let front = Span {
+        start: 0,
+        len: total.min(8),
+    };
+    let signature = &SIGNATURE[..front.len as usize];
+    png_size(
+        &[signature, bytes].concat(),
+        &[&[front], spans].concat(),
+        total,
+    )
+}
+
 /// Type and size of the image in an input of `total` bytes, of which only the spans are known. `bytes` has the bytes of all
-/// spans, one span after another.
+/// spans, one span after another. The first span
+/// has the first eight bytes of the input, or all that it has.
 pub(crate) fn probe_parts(bytes: &[u8], spans: &[Span], total: u64) -> Parts {
+    if is_png(bytes) {
+        return png_size(bytes, spans, total);
+    }
     let mut told = Told::default();
     let mut wanted = Span::default();
     // SAFETY: the pointers come from two slices of these lengths, and from numbers and a span that nothing else holds.
@@ -182,6 +263,9 @@ pub(crate) fn probe_parts(bytes: &[u8], spans: &[Span], total: u64) -> Parts {
 
 /// The type alone, of such an input.
 pub(crate) fn parts_type(bytes: &[u8], spans: &[Span], total: u64) -> Parts {
+    if is_png(bytes) {
+        return Parts::Told(Told::of_png());
+    }
     let mut told = Told::default();
     let mut wanted = Span::default();
     // SAFETY: the pointers come from two slices of these lengths, and from numbers and a span that nothing else holds.
@@ -207,6 +291,9 @@ pub(crate) fn parts_size(
     spans: &[Span],
     total: u64,
 ) -> Parts {
+    if kind == PNG {
+        return size_as_png(bytes, spans, total);
+    }
     let mut told = Told::default();
     let mut wanted = Span::default();
     // SAFETY: the pointers come from two slices of these lengths, and from numbers and a span that nothing else holds.

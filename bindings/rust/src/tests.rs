@@ -77,6 +77,15 @@ fn types_have_the_librarys_numbers() {
     assert_eq!(named.len(), header_count("enum imagesize_type_number"));
 }
 
+#[cfg(feature = "png")]
+#[test]
+fn png_has_a_number_that_the_library_has_not() {
+    assert_eq!(ImageType::numbered(sys::PNG, 0), Some(ImageType::Png));
+    assert_eq!(ImageType::Png.numbers(), (sys::PNG, 0));
+    assert_eq!(ImageType::numbered(sys::PNG, 1), None);
+    assert_eq!(library_name(sys::PNG, 0), "");
+}
+
 #[test]
 fn statuses_are_those_of_the_header() {
     let header = header();

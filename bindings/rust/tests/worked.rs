@@ -6,6 +6,9 @@ use std::fs::{self, File};
 use std::io::{self, BufRead, BufReader, Cursor, ErrorKind, Read, Seek, SeekFrom};
 use std::path::PathBuf;
 
+/// A PNG that ends before its size. The table has the result of the calls that leave PNG out.
+const PNG: &[u8] = b"\x89PNG\r\n\x1a\n\0\0\0\r";
+
 /// The bytes of each test vector, and the line that is printed of it.
 fn rows() -> Vec<(Vec<u8>, String)> {
     let path = concat!(env!("CARGO_MANIFEST_DIR"), "/../../examples/out/worked.tsv");
@@ -14,7 +17,12 @@ fn rows() -> Vec<(Vec<u8>, String)> {
         .map(|row| {
             let mut cells = row.split('\t');
             let mut cell = || cells.next().expect("three cells in a row");
-            (bytes(cell()), cell().to_string())
+            match (bytes(cell()), cell()) {
+                (bytes, _) if cfg!(feature = "png") && bytes == PNG => {
+                    (bytes, "Png: failed to fill whole buffer".to_string())
+                }
+                (bytes, line) => (bytes, line.to_string()),
+            }
         })
         .collect()
 }

@@ -7,6 +7,7 @@ mod laws;
 mod numbers;
 pub mod parts;
 pub mod parts_alone;
+pub mod png;
 pub mod queries;
 pub mod spans;
 mod status;

@@ -1,0 +1,31 @@
+-- PNG, by sections 5.2 (PNG signature) and 11.2.2 (IHDR Image header) of the Portable Network Graphics Specification.
+use Rattle.std.specs.Prelude.{ℕ, Bool, if◌then◌else◌, List, [], ◌∷◌}
+use Rattle.imagesize_types.specs.Head.{begins}
+use Rattle.imagesize_types.specs.declared.size.ImageSize.{ImageSize}
+use Rattle.imagesize_source.specs.declared.endian.Endian.TheVariants.{Big}
+use Rattle.imagesize_source.specs.declared.error.ImageError.TheVariants.{NotSupported}
+use Rattle.imagesize_source.specs.Layout.Layout.{field, refuse, «done»}
+use Rattle.imagesize_source.specs.Layout.{Layout, bytes, layout_reads}
+use Rattle.imagesize_source.specs.Reading.{Reads}
+
+-- the signature: 89 50 4E 47 0D 0A 1A 0A
+abbrev pub signature : List ℕ
+signature = 137 ∷ 80 ∷ 78 ∷ 71 ∷ 13 ∷ 10 ∷ 26 ∷ 10 ∷ []
+
+-- whether bytes begin with the signature
+unfoldable pub is_png : List ℕ → Bool
+is_png head = begins signature head
+
+-- the width, then the height, of the image header: the first chunk's data begin at 16
+abbrev pub png_sides : Layout ImageSize
+png_sides = field Big 16 4 (λ width. field Big 20 4 (λ height. done (record { width = width; height = height })))
+
+abbrev pub png_by : Bool → Layout ImageSize
+png_by is = if is then png_sides else refuse NotSupported
+
+-- the size of an input whose signature stands at a place: the offsets of the sides count from the first byte
+abbrev pub png : ℕ → Layout ImageSize
+png place = bytes place 8 (λ head. png_by (is_png head))
+
+abbrev pub png_of : List ℕ → ℕ → Reads ImageSize
+png_of d place = layout_reads d (png place)

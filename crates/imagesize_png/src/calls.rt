@@ -1,0 +1,99 @@
+//! The calls: the size of a slice's bytes or of a reader's.
+ghost use Rattle.std.specs.Prelude.{◌≡◌, ℕ, ◌≤◌, List, ◌++◌, IfOk, IfErr, IfSome, Option, Ok, Err, true, false};
+ghost use Rattle.imagesize.specs.Probed.{SpentAll};
+ghost use Rattle.imagesize_io.specs.Answers.{Answers, CountsWithin, IsLast, Leaves};
+ghost use Rattle.imagesize_io.specs.ReaderState.{Opens};
+ghost use Rattle.imagesize_io.specs.Telling.{Telling};
+ghost use Rattle.imagesize_png.specs.Png.{png_of};
+ghost use Rattle.imagesize_source.specs.Agreement.{Agrees};
+ghost use Rattle.imagesize_source.specs.declared.error.ImageError.TheVariants.{NotSupported};
+ghost use Rattle.imagesize_source.specs.Reading.{budget_spent, is_fault, is_memory, is_stopped};
+ghost use Rattle.imagesize_source.specs.State.{total};
+
+use crate::Told;
+use crate::format::size;
+use imagesize_io::reader::{Opened, Origin, ReaderSource, open};
+use imagesize_source::ImageResult;
+use imagesize_source::source::slice::SliceSource;
+use imagesize_types::size::ImageSize;
+
+/// The size in pixels of the PNG that a slice's bytes hold, or begin with.
+///
+/// Errors: `NotSupported` if the first eight bytes are not the signature, and `EndOfInput` if the bytes end before the
+/// signature or the size. 24 bytes are enough.
+///
+/// ```
+/// use imagesize_png::blob_size;
+///
+/// let size = blob_size(b"\x89PNG\r\n\x1a\n\0\0\0\x0dIHDR\0\0\x02\x80\0\0\x01\xe0")?;
+/// assert_eq!((size.width, size.height), (640, 480));
+/// ```
+pub fn blob_size(data: &[u8]) -> ImageResult<ImageSize>
+    ensures value { result ≡ (png_of «data».now 0).answer }
+
+    // Another input of this length that agrees on the marks has the same size, and the same marks, at every place.
+    ensures local { (place : ℕ) (e : List ℕ) → Agrees «data».now e (png_of «data».now place).marks
+        → png_of e place ≡ png_of «data».now place }
+
+    // The signature and the two sides are all that is read.
+    ensures few { (place : ℕ) → total (png_of «data».now place).marks ≤ 16 }
+
+    // Bytes that follow change no size.
+    ensures lasts { IfOk result (λ size. (x : List ℕ) → (png_of («data».now ++ x) 0).answer ≡ Ok size) }
+
+    // Bytes that follow make no PNG of what is none.
+    ensures refused { IfErr result (λ e. e ≡ NotSupported → (x : List ℕ) → (png_of («data».now ++ x) 0).answer ≡ Err NotSupported) }
+
+    // A slice fails at no reading, has no budget and wants no memory.
+    ensures unstopped { is_stopped result ≡ false }
+{
+    size(&mut SliceSource { bytes: data }, 0)
+}
+
+/// The size in pixels of the PNG in a reader's bytes, whose signature stands at the reader's position.
+///
+/// The offsets of the size count from the first byte, as in `imagesize::reader_size`. The reader's position is unspecified then,
+/// and it may be used again.
+///
+/// Errors: those of `blob_size`, `Fault` if a call of the reader fails, and `BudgetSpent` if more bytes would be read than the
+/// length of the input, as its seeks say, and 64.
+///
+/// ```
+/// use imagesize_png::reader_size;
+/// use std::io::Cursor;
+///
+/// let bytes: &[u8] = b"\x89PNG\r\n\x1a\n\0\0\0\x0dIHDR\0\0\x02\x80\0\0\x01\xe0";
+/// assert_eq!(reader_size(&mut Cursor::new(bytes))?.width, 640);
+/// ```
+pub fn reader_size<R: Told>(reader: &mut R) -> ImageResult<ImageSize>
+    ensures answers { Answers (R.telling reader.old) png_of result }
+    ensures counts { CountsWithin (R.telling reader.old) (R.count reader.old) (R.count reader.new) png_of }
+
+    // Over every reader, also one that tells nothing or lies:
+    ensures spent { IfErr result (λ e. IfSome (budget_spent e) (λ budget. SpentAll (R.count reader.old) (R.count reader.new) budget)) }
+    ensures memory { IfErr result (λ e. is_memory e ≡ false) }
+
+    // A `Fault` carries the error of the last call that failed, and the reader may be used again.
+    ensures fault { IfErr result (λ e. is_fault e ≡ true → IsLast (R.failure reader.new) e) }
+    ensures leaves { Leaves (R.telling reader.old) (R.telling reader.new) }
+{
+    let opened = open(reader, Origin::Place)?;
+    size_opened(reader, opened)
+}
+
+// The size of what a reader holds that was opened.
+fn size_opened<R: Told>(reader: &mut R, opened: Opened) -> ImageResult<ImageSize>
+    ensures answers { (telling : Option Telling) → Opens telling (R.telling reader.old) (Ok opened)
+        → Answers telling png_of result }
+    ensures counts { (telling : Option Telling) → Opens telling (R.telling reader.old) (Ok opened)
+        → CountsWithin telling (R.count reader.old) (R.count reader.new) png_of }
+    ensures spent { IfErr result (λ e. IfSome (budget_spent e) (λ budget. SpentAll (R.count reader.old) (R.count reader.new) budget)) }
+    ensures memory { IfErr result (λ e. is_memory e ≡ false) }
+    ensures fault { IfErr result (λ e. is_fault e ≡ true → IsLast (R.failure reader.new) e) }
+    ensures leaves { (telling : Option Telling) → Opens telling (R.telling reader.old) (Ok opened)
+        → Leaves telling (R.telling reader.new) }
+{
+    let mut source = ReaderSource::new(reader, opened.told);
+    let answer = size(&mut source, opened.place);
+    answer
+}

@@ -1,0 +1,55 @@
+//! PNG, by sections 5.2 (PNG signature) and 11.2.2 (IHDR Image header) of the Portable Network Graphics Specification.
+ghost use Rattle.std.specs.Prelude.{◌≡◌};
+ghost use Rattle.imagesize_png.specs.Png.{is_png, png, png_of};
+ghost use Rattle.imagesize_source.specs.Halts.{RunsOrHalts};
+ghost use Rattle.imagesize_source.specs.Layout.{layout_reads};
+ghost use Rattle.imagesize_source.specs.State.{Runs};
+
+use imagesize_source::halt::with_error;
+use imagesize_source::readings::{read_exact_at, read_u32};
+use imagesize_source::source::Source;
+use imagesize_source::{Endian, Halt, ImageResult};
+use imagesize_types::size::ImageSize;
+
+/// Whether bytes begin with the signature of PNG. Fewer than eight bytes do not.
+///
+/// ```
+/// use imagesize_png::is_png;
+///
+/// assert!(is_png(b"\x89PNG\r\n\x1a\n"));
+/// assert!(!is_png(b"\x89PNG"));
+/// ```
+#[tactic(auto, unfolding(crate::specs::Png::is_png))]
+pub fn is_png(header: &[u8]) -> bool
+    ensures { result ≡ is_png header.now }
+{
+    matches!(
+        header,
+        [0x89, b'P', b'N', b'G', b'\r', b'\n', 0x1A, b'\n', ..]
+    )
+}
+
+/// The size of an input whose signature stands at a place.
+#[inline(always)]
+pub fn size<S: Source>(source: &mut S, place: u64) -> ImageResult<ImageSize>
+    ensures { Runs (S.state source.old) (S.state source.new) result (png_of (S.state source.old).held.input place) }
+{
+    with_error(read_size(source, place), source)
+}
+
+// The width and the height behind the signature, or why there are none.
+#[inline(always)]
+#[tactic(auto, using(imagesize_source::proofs::Runs::steps))]
+fn read_size<S: Source>(source: &mut S, place: u64) -> Result<ImageSize, Halt>
+    ensures { RunsOrHalts (S.state source.old) (S.state source.new) (S.failure source.new) result
+        (layout_reads (S.state source.old).held.input (png place)) }
+{
+    let mut head = [0u8; 8];
+    read_exact_at(source, place, &mut head)?;
+    if !is_png(&head) {
+        return Err(Halt::NotSupported);
+    }
+    let width = read_u32(source, 16, Endian::Big)? as usize;
+    let height = read_u32(source, 20, Endian::Big)? as usize;
+    Ok(ImageSize { width, height })
+}

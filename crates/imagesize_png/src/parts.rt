@@ -1,0 +1,83 @@
+//! The size by parts of an input, of which the caller has no more so far.
+ghost use Rattle.std.specs.Prelude.{◌≡◌, ℕ, ◌^◌, ◌<◌, false, List, None, if◌then◌else◌, option_map};
+ghost use Rattle.imagesize.specs.Parted.{Fits, HasKnown, IfFound, SaysOf, Tells, found_or_wanted, wanted_of};
+ghost use Rattle.imagesize_png.specs.Png.{png_of};
+ghost use Rattle.imagesize_source.specs.Known.{AllKnown};
+ghost use Rattle.imagesize_source.specs.Reading.{is_faulted, is_stopped};
+
+use crate::format::size;
+use crate::{ImageError, ImageResult, Reason, Span};
+use imagesize::PartsAnswer;
+use imagesize_source::source::parts::{Missing, PartsSource};
+use imagesize_types::size::ImageSize;
+
+/// The size in pixels of the PNG in an input of `total` bytes of which these parts are known, or a part that it needs.
+///
+/// The parts are passed as to `imagesize::parts_probe`. The errors are those of `blob_size` over the whole input.
+///
+/// ```
+/// use imagesize_png::{PartsAnswer, Span, parts_size};
+///
+/// let front = [Span { start: 0, len: 8 }];
+/// match parts_size(b"\x89PNG\r\n\x1a\n", &front, 5_000_000) {
+///     PartsAnswer::Found(answer) => println!("{} pixels wide", answer?.width),
+///     PartsAnswer::Wanted(span) => assert_eq!((span.start, span.len), (16, 4)),
+/// }
+/// ```
+pub fn parts_size(bytes: &[u8], spans: &[Span], total: u64) -> PartsAnswer<ImageResult<ImageSize>>
+    // Of each input of that length that has the bytes which these parts know, and there is one:
+    ensures says { (d : List ℕ) → HasKnown d total spans.now bytes.now → total < 2 ^ 63
+        → SaysOf false (png_of d 0) total spans.now bytes.now result }
+
+    // Where the parts know every byte that the size rests on, it is given.
+    ensures complete { (d : List ℕ) → HasKnown d total spans.now bytes.now → total < 2 ^ 63
+        → AllKnown total spans.now bytes.now (png_of d 0).marks → Tells result }
+    ensures fits { Fits total result }
+
+    // No fault, no spent budget and no want of memory is an answer.
+    ensures unstopped { total < 2 ^ 63 → IfFound result (λ answer. is_stopped answer ≡ false) }
+{
+    let mut source = PartsSource::new(spans, bytes, total);
+    size_of_parts(&mut source)
+}
+
+// The size, by readings that begin anew.
+#[inline(always)]
+fn size_of_parts(source: &mut PartsSource<'_>) -> PartsAnswer<ImageResult<ImageSize>>
+    ensures says { (d : List ℕ) → HasKnown d source.old.told source.old.spans.now source.old.bytes.now → source.old.told < 2 ^ 63
+        → SaysOf false (png_of d 0) source.old.told source.old.spans.now source.old.bytes.now result }
+    ensures fits { Fits source.old.told result }
+    ensures unstopped { source.old.told < 2 ^ 63 → IfFound result (λ answer. is_stopped answer ≡ false) }
+{
+    source.forget();
+    let found = size(source, 0);
+    let wanted = missed_part(&found, source.missed);
+    found_or_wanted(found, wanted)
+}
+
+// What was found, where nothing is missed, and else what is surely read.
+#[inline(always)]
+fn found_or_wanted(
+    found: ImageResult<ImageSize>,
+    missed: Option<Missing>,
+) -> PartsAnswer<ImageResult<ImageSize>>
+    ensures { result ≡ found_or_wanted found (option_map (wanted_of false) missed) }
+{
+    match missed {
+        Some(missing) => PartsAnswer::Wanted(Span {
+            start: missing.start,
+            len: missing.sure,
+        }),
+        None => PartsAnswer::Found(found),
+    }
+}
+
+// What is missed, where the answer is a failure.
+fn missed_part(answer: &ImageResult<ImageSize>, missed: Option<Missing>) -> Option<Missing>
+    ensures { result ≡ (if is_faulted answer.now then missed else None) }
+{
+    match answer {
+        Err(ImageError::IoError(Reason::Fault(_))) => missed,
+        _ => None,
+    }
+}
