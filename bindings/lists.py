@@ -98,12 +98,17 @@ def javascript_statuses():
     return textwrap.wrap("".join(f"'{name}', " for name in found), WIDTH, initial_indent="  ", subsequent_indent="  ")
 
 
+# PNG has calls of its own, and no number in the header. The crate lists it before PNM.
+RUST_PNG = ["        /// Portable network graphics, with the feature `png`.", '        #[cfg(feature = "png")]', "        Png = 1000,"]
+
+
 def rust_types():
     """The types, each with its number and what it is."""
     found, lines = constants("type_number"), []
     assert {name for name, (_, comment) in found.items() if comment.endswith(HAS_COMPRESSION)} == set(COMPRESSED)
     for name, (number, comment) in found.items():
         compression = f"({COMPRESSED[name]})" if name in COMPRESSED else ""
+        lines += RUST_PNG if name == "PNM" else []
         lines += [f"        /// {sentence(comment.removesuffix(HAS_COMPRESSION))}", f"        {name.capitalize()}{compression} = {number},"]
     return lines
 

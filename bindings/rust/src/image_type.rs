@@ -107,6 +107,9 @@ types! {
         Jxl = 16,
         /// Khronos texture, version 2.
         Ktx2 = 17,
+        /// Portable network graphics, with the feature `png`.
+        #[cfg(feature = "png")]
+        Png = 1000,
         /// PBM, PGM and PPM.
         Pnm = 18,
         /// PowerVR texture.
@@ -124,9 +127,6 @@ types! {
         /// WebP.
         Webp = 25,
         // end of the list
-        /// Portable network graphics, with the feature `png`.
-        #[cfg(feature = "png")]
-        Png = 1000,
     }
 }
 
