@@ -13,6 +13,9 @@ import sys
 import tempfile
 
 HERE = pathlib.Path(__file__).resolve().parent
+# A PNG that ends before its size. The table has the result of the calls that leave PNG out, and the Python package takes it.
+PNG = b"\x89PNG\r\n\x1a\n\0\0\0\r"
+CUT_PNG = "Png: failed to fill whole buffer", "0+8"
 
 
 def rows(out):
@@ -42,15 +45,16 @@ def check_examples(out):
     count = 0
     with tempfile.TemporaryDirectory() as folder:
         for with_spans in (True, False):
-            names, want = [], ""
+            names, by_c, by_python = [], "", ""
             for index, (data, line, spans) in enumerate(rows(out)):
                 if (spans != "?") == with_spans:
                     name = pathlib.Path(folder) / f"{index}.bin"
                     name.write_bytes(data)
                     names.append(str(name))
-                    want += wanted(line, spans)
+                    by_c += wanted(line, spans)
+                    by_python += wanted(*(CUT_PNG if data == PNG else (line, spans)))
             count += len(names)
-            for command in ([f"{out}/image"], [sys.executable, str(HERE / "image.py")]):
+            for command, want in ([f"{out}/image"], by_c), ([sys.executable, str(HERE / "image.py")], by_python):
                 got = printed(command, names, with_spans)
                 assert got == want, differs(got, want)
     print(f"{count} test vectors: both examples print their answers")
