@@ -11,7 +11,7 @@ import subprocess
 import tempfile
 import unittest
 import zlib
-from typing import List
+from typing import Any, List
 
 import imagesize_proved as imagesize
 from imagesize_proved import Compression, ImageError, ImageType, Kind, Size, Span, Status
@@ -53,7 +53,7 @@ class Pngs(unittest.TestCase):
         with tempfile.TemporaryDirectory() as folder:
             path = pathlib.Path(folder, "a.png")
             path.write_bytes(IMAGE)
-            sources = [IMAGE, bytearray(IMAGE), memoryview(IMAGE), str(path), path, io.BytesIO(IMAGE)]
+            sources: List[Any] = [IMAGE, bytearray(IMAGE), memoryview(IMAGE), str(path), path, io.BytesIO(IMAGE)]
             for source in sources:
                 self.assertEqual(imagesize.probe(source), (PNG, Size(640, 480)))
                 self.assertEqual(imagesize.image_type(source), PNG)
@@ -94,7 +94,8 @@ class Pngs(unittest.TestCase):
 
     def test_others(self) -> None:
         for data in OTHERS:
-            for source in (data, bytearray(data), io.BytesIO(data)):
+            sources: List[Any] = [data, bytearray(data), io.BytesIO(data)]
+            for source in sources:
                 with self.assertRaises(ImageError) as raised:
                     imagesize.probe(source)
                 self.assertEqual((raised.exception.status, raised.exception.image_type), (Status.NOT_SUPPORTED, None))
