@@ -1,10 +1,10 @@
 """Gives a program the test vectors as files, and compares the line that it prints of each.
 
-    python3 lines.py WORKED [--named|--numbers] COMMAND..
+    python3 lines.py WORKED [--named|--package|--numbers] COMMAND..
 
 WORKED is what examples/expand.py writes. With --named the command prints as imagesize_probe does: each line begins with the name of
-its file, an error has no type, and its text may have numbers. With --numbers its numbers are those of JavaScript, and a side of 2^53
-pixels or more is an error.
+its file, an error has no type, and its text may have numbers. With --package it takes PNG, as the packages do. With --numbers it
+does too, its numbers are those of JavaScript, and a side of 2^53 pixels or more is an error.
 """
 
 import pathlib
@@ -27,6 +27,11 @@ def rows(worked):
     for row in (pathlib.Path(expand.__file__).parent / "surprises.tsv").read_text().splitlines()[1:]:
         _, data, line = row.split("\t")
         yield bytes.fromhex(data), line
+
+
+def by_package(data, line):
+    """The line of a package, which takes PNG: the table has the result of the calls that leave PNG out."""
+    return "Png: failed to fill whole buffer" if data.startswith(b"\x89PNG\r\n\x1a\n") else line
 
 
 def by_numbers(line):
@@ -59,7 +64,8 @@ def printed(command, inputs):
 def main(worked, *command):
     option, command = (command[0], command[1:]) if command[0].startswith("--") else ("", command)
     inputs = list(rows(worked))
-    for (name, said), (_, wanted) in zip(printed(command, inputs), inputs):
+    for (name, said), (data, wanted) in zip(printed(command, inputs), inputs):
+        wanted = by_package(data, wanted) if option in ("--package", "--numbers") else wanted
         wanted = by_numbers(wanted) if option == "--numbers" else wanted
         assert is_named(said, name, wanted) if option == "--named" else said == wanted, f"{said!r}, and not {wanted!r}"
     print(f"{len(inputs)} inputs")

@@ -19,7 +19,7 @@ import lines
 
 
 def main(worked, page):
-    inputs = [[list(data), lines.by_numbers(line)] for data, line in lines.rows(worked)]
+    inputs = [[list(data), lines.by_numbers(lines.by_package(data, line))] for data, line in lines.rows(worked)]
     pathlib.Path("inputs.json").write_text(json.dumps(inputs))
     shutil.copy(page, "index.html")
     handler = functools.partial(http.server.SimpleHTTPRequestHandler, directory=os.getcwd())
