@@ -2,6 +2,7 @@ pub mod Agreement
 pub mod Buffer
 pub mod Chain
 pub mod Counts
+pub mod Errors
 pub mod Extension
 pub mod Halts
 pub mod Input
