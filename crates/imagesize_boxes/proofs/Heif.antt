@@ -339,7 +339,7 @@ list_end_by all first place g None is w run =
     (λ held h. list_said all g place held h
     (runs_bind (Err NotEnoughData) (property_at g.left place) (property_or_answer held place) run
     (λ d. answers all g held place d h ∙ ap (λ o. layout_reads d (heif_answer o g.turn)) is) refl
-    (record { budget = tt; memory = λ e. absurd cc; fault = λ e. absurd cc })))
+    (record { budget = λ e. absurd cc; memory = λ e. absurd cc; fault = λ e. absurd cc })))
 list_end_by all first place g (Some size) is w run =
     walks_stop (properties all first) (properties_advance all first) (Amounts all g) w (turn_by g.turn size)
     (λ held h. list_said all g place held h
@@ -358,7 +358,7 @@ none_listed d held left place far = rw (no_part d place 8 far, no_span d place 8
 
 answer_ended : (b : State) (best : Option ImageSize) (turn : Option ℕ)
     → IfErr (ok_or (option_map (turn_by turn) best) NotEnoughData) (EndedBy b)
-answer_ended b None turn = record { budget = tt; memory = λ e. absurd cc; fault = λ e. absurd cc }
+answer_ended b None turn = record { budget = λ e. absurd cc; memory = λ e. absurd cc; fault = λ e. absurd cc }
 answer_ended b (Some size) turn = tt
 
 answer_no_fault : (best : Option ImageSize) (turn : Option ℕ) → is_faulted (ok_or (option_map (turn_by turn) best) NotEnoughData)

@@ -17,7 +17,7 @@ use Rattle.imagesize_source.specs.declared.halt.Halt.TheVariants.{Corrupted, End
 use Rattle.imagesize_source.specs.Chain.{Said, Decided, Next, Advances, chain_at}
 use Rattle.imagesize_source.specs.Layout.{Layout, layout_reads, bind, bytes, bytes_there, accept}
 use Rattle.imagesize_source.specs.Layout.Layout.{field, refuse, done}
-use Rattle.imagesize_source.specs.Reading.{is_fault}
+use Rattle.imagesize_source.specs.Reading.{is_failure}
 use Rattle.imagesize_source.specs.State.{State, Runs, EndedBy, IsSound}
 use Rattle.imagesize_source.proofs.Advances.{Tells, advances}
 use Rattle.imagesize_source.proofs.Reached.{reads_nothing}
@@ -171,10 +171,10 @@ walk_out place front e w run = walks_out jxl_chain jxl_advances (λ pieces. conc
 -- a refusal that ends no call by itself
 abbrev Plainly : {X : Type 0} → Result X Halt → Type 0
 Plainly (Ok x) = Unit {0}
-Plainly (Err e) = (is_fault e ≡ false) × ((b : State) → EndedBy b e)
+Plainly (Err e) = (is_failure e ≡ false) × ((b : State) → EndedBy b e)
 
 plain_corrupted : Plainly {X = ℕ} (Err Corrupted)
-plain_corrupted = (refl, λ b. record { budget = tt; memory = λ e. absurd cc; fault = λ e. absurd cc })
+plain_corrupted = (refl, λ b. record { budget = λ e. absurd cc; memory = λ e. absurd cc; fault = λ e. absurd cc })
 
 plain_found : {X : Type 0} (list : List ℕ) (t : Fields X) → Plainly (found_by (field_at list) t)
 unfolding field_at
@@ -190,7 +190,7 @@ plain_size front =
     on_test Plainly (ltb (length front) 2) (Err Corrupted) _ (λ _. plain_corrupted)
     (λ _. on_test Plainly (has_signature front) (found_by (field_at (bits_of front)) jxl_header) (Err InvalidJxlSignature)
     (λ _. plain_found (bits_of front) jxl_header)
-    (λ _. (refl, λ b. record { budget = tt; memory = λ e. absurd cc; fault = λ e. absurd cc })))
+    (λ _. (refl, λ b. record { budget = λ e. absurd cc; memory = λ e. absurd cc; fault = λ e. absurd cc })))
 
 sized_by : {b : State} (r : Result ImageSize Halt) → IsSound b → Plainly r → Runs b b r (record { answer = r; marks = [] })
 sized_by {b} (Ok size) sound plain = reads_nothing b (Ok size) sound refl tt

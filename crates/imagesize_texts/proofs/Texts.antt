@@ -18,7 +18,7 @@ use Rattle.imagesize_source.specs.Extension.{Plain, Never, Lasts}
 use Rattle.imagesize_source.specs.Input.{span_at, span_of}
 use Rattle.imagesize_source.specs.Layout.{Layout, layout_reads, accept}
 use Rattle.imagesize_source.specs.Layout.Layout.{refuse, «done», field}
-use Rattle.imagesize_source.specs.Reading.{Reads, gives, and_then, go_on, number_at, number_read, refuses, put_behind, text_part, text_read, is_stop, map_answer, is_fault, is_memory, budget_spent, is_stopped, is_faulted}
+use Rattle.imagesize_source.specs.Reading.{Reads, gives, and_then, go_on, number_at, number_read, refuses, put_behind, text_part, text_read, is_stop, map_answer, is_failure, is_memory, is_spent, is_stopped, is_faulted}
 use Rattle.imagesize_source.specs.State.{State, Runs, EndedBy, total}
 use Rattle.imagesize_source.specs.Text.{is_ended, space_before}
 use Rattle.imagesize_source.proofs.Advances.{Tells, Begins}
@@ -35,8 +35,8 @@ use Rattle.imagesize_source.proofs.Parts.{part_length}
 -- a refusal by what was read, and none that ends a call at once
 pub record Harmless (e : Halt) : Type 0 where
   pub goes_on : is_stop e ≡ false
-  pub no_fault : is_fault e ≡ false
-  pub none_spent : budget_spent e ≡ None
+  pub no_fault : is_failure e ≡ false
+  pub none_spent : is_spent e ≡ false
   pub memory : is_memory e ≡ false
 
 -- an answer, or such a refusal
@@ -55,7 +55,7 @@ judged_no_fault (Err e) h = h.no_fault
 judged_ended : {X : Type 0} (b : State) (r : Result X Halt) → Judged r → IfErr r (EndedBy b)
 judged_ended b (Ok x) h = tt
 judged_ended b (Err e) h = record {
-  budget = subst (λ s. IfSome s (λ n. (b.frame.counts ≡ true) × (n ≡ b.frame.budget) × (n ≡ b.taken))) (sym h.none_spent) tt;
+  budget = λ is. absurd (let no = h.none_spent in cc);
   memory = λ is. absurd (let no = h.memory in cc);
   fault = λ is. absurd (let no = h.no_fault in cc);
 }

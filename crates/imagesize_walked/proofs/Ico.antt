@@ -173,7 +173,7 @@ icon_cut count i None below w run =
     walks_out (icon_entries count) (icon_advances count) (Found i None) w Corrupted
     (λ sizes h. more_said count i sizes (6 + 16 * i) below h.many
     (runs_bind (Err Corrupted) (if_there (6 + 16 * i) 2 done) (icon_entry sizes (6 + 16 * i)) run
-    (λ d. answers None sizes d h.largest) refl (record { budget = tt; memory = λ e. absurd cc; fault = λ e. absurd cc })))
+    (λ d. answers None sizes d h.largest) refl (record { budget = λ e. absurd cc; memory = λ e. absurd cc; fault = λ e. absurd cc })))
 icon_cut count i (Some size) below w run =
     walks_stop (icon_entries count) (icon_advances count) (Found i (Some size)) w size
     (λ sizes h. more_said count i sizes (6 + 16 * i) below h.many
@@ -192,7 +192,7 @@ pub icon_done : {a b : State} (count i : ℕ) (best : Option ImageSize) → i �
     → Runs a b (ok_or best Corrupted) (chain_at (icon_entries count) a.held.input)
 icon_done count i None at sound w =
     walks_now (icon_entries count) (icon_advances count) (Found i None) w (Err Corrupted) sound refl
-    (record { budget = tt; memory = λ e. absurd cc; fault = λ e. absurd cc })
+    (record { budget = λ e. absurd cc; memory = λ e. absurd cc; fault = λ e. absurd cc })
     (λ sizes d h. let says = end_said count sizes (6 + 16 * i) None d (h.many ∙ at) h.largest in
     (ap (λ r. verdict r.answer) says, ap (λ r. r.marks) says))
 icon_done count i (Some size) at sound w =

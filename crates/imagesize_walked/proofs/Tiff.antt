@@ -285,7 +285,7 @@ pub tiff_done : {a b : State} (header : Header) (count i : ℕ) (width height : 
     (chain_at (tiff_entries header count) a.held.input)
 tiff_done header count i width height at sound w =
     walks_now (tiff_entries header count) (entries_advance header count) (Known i width height) w (Err NoDimensionsInIfd) sound
-    refl (record { budget = tt; memory = λ e. absurd cc; fault = λ e. absurd cc })
+    refl (record { budget = λ e. absurd cc; memory = λ e. absurd cc; fault = λ e. absurd cc })
     (λ entries d h. let says = end_said header count entries (entry_at header i) d (h.many ∙ at) in
     (ap (λ r. verdict r.answer) says, ap (λ r. r.marks) says))
 

@@ -1,8 +1,8 @@
 //! TIFF, by "TIFF Revision 6.0" (section 2), and BigTIFF, by "The BigTIFF File Format".
-ghost use Rattle.std.specs.Prelude.{◌≡◌, ◌+◌, ◌≤◌, ◌==◌, if◌then◌else◌, take, length};
+ghost use Rattle.std.specs.Prelude.{◌≡◌, ◌+◌, ◌≤◌, ◌==◌, if◌then◌else◌, false, take, length};
 ghost use Rattle.imagesize_walked.specs.Tiff.{byte_order, count_bytes, directory_at, head_bytes, is_tiff, field_type_in, field_type_of, size_if_known, stated_place, tag_in, tiff, tiff_entries, tiff_entry, tiff_head, tiff_header, tiff_value, value_bytes, value_of, version_of};
 ghost use Rattle.imagesize_source.specs.Chain.{chain_at};
-ghost use Rattle.imagesize_source.specs.Reading.{number_read};
+ghost use Rattle.imagesize_source.specs.Reading.{is_stopped, number_read};
 ghost use Rattle.imagesize_source.specs.State.{Runs, Follows, IsSound};
 
 use imagesize_source::readings::{
@@ -322,7 +322,8 @@ enum FieldType {
 // What the value of a field type is. Three field types are those of BigTIFF alone.
 #[inline(always)]
 fn field_type_of(version: Version, field_type: u16) -> Result<FieldType, Halt>
-    ensures { result ≡ field_type_of version field_type }
+    ensures value { result ≡ field_type_of version field_type }
+    ensures goes_on { is_stopped result ≡ false }
 {
     match (field_type, version) {
         (3 | 8, _) => Ok(FieldType::Short),

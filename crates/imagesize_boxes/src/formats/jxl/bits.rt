@@ -3,6 +3,7 @@ ghost use Rattle.std.specs.Prelude.{◌≡◌, ℕ, ◌+◌, ◌*◌, ◌%◌, �
 ghost use Rattle.imagesize_boxes.specs.Walks.{field_in};
 ghost use Rattle.imagesize_source.specs.declared.endian.Endian.TheVariants as endian;
 ghost use Rattle.imagesize_source.specs.Numbers.{number};
+ghost use Rattle.imagesize_source.specs.declared.halt.Halt.TheVariants as halt;
 
 use super::front::MOST;
 

@@ -3,6 +3,7 @@ ghost use Rattle.std.specs.Prelude.{◌≡◌, ℕ, ◌+◌, ◌*◌, ◌^◌, �
 ghost use Rattle.imagesize_boxes.specs.Walks.{found_in};
 ghost use Rattle.imagesize_boxes.specs.Jxl.{exchanges_sides, has_signature, jxl_header, jxl_size, side_fields, side_bits, width_by, width_side};
 ghost use Rattle.imagesize_types.specs.Sides.{exchange_if};
+ghost use Rattle.imagesize_source.specs.declared.halt.Halt.TheVariants as halt;
 
 use super::bits::Bits;
 use super::front::MOST;

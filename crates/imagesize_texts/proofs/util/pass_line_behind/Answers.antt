@@ -1,5 +1,6 @@
 use Rattle.std.proofs.Common.{subst, ℕ, ◌+◌, length}
 use Rattle.imagesize_source.specs.declared.text.Text.TheVariants.{Line}
+use Rattle.imagesize_source.specs.State.{Runs}
 use Rattle.imagesize_texts.specs.Contents.{line_length}
 use Rattle.imagesize_texts.specs.Texts.{length_read}
 use Rattle.imagesize_texts.proofs.Texts.{text_saturated}

@@ -1,6 +1,7 @@
 use Rattle.std.proofs.Common.{subst, ℕ, ◌+◌, arith}
 use Rattle.imagesize_source.specs.Reading.{number_read}
 use Rattle.imagesize_source.proofs.PastTheEnd.{number_saturated}
+use Rattle.imagesize_source.specs.State.{Runs}
 use Rattle.imagesize_texts.proofs.util.read_u32_behind.Goals as goal
 
 pub returns : goal.returns

@@ -2,6 +2,7 @@ use Rattle.std.proofs.Common.{subst, ℕ, ◌+◌, arith}
 use Rattle.imagesize_source.specs.Reading.{number_read}
 use Rattle.imagesize_source.specs.declared.endian.Endian.TheVariants.{Big}
 use Rattle.imagesize_source.proofs.PastTheEnd.{number_saturated}
+use Rattle.imagesize_source.specs.State.{Runs}
 use Rattle.imagesize_boxes.proofs.formats.jxl.boxes.read_long_size.Goals as goal
 
 pub returns : goal.returns
