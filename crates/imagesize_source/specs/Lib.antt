@@ -10,6 +10,7 @@ pub mod Known
 pub mod Layout
 pub mod Limits
 pub mod Numbers
+pub mod Outcome
 pub mod Paying
 pub mod Reading
 pub mod Reason
