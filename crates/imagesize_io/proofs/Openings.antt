@@ -109,22 +109,22 @@ answers_of {X} t a b (Err halt) reads starts h told small = by_stop (is_stop hal
     fault = λ stops. (fault, can);
   })
 
-  by_stop : (s : Bool) → is_stop halt ≡ s → AnswersAs t (outcome_of reads) (with_error b.failure b.frame.budget (Err {A = X} halt))
+  by_stop : (s : Bool) → is_stop halt ≡ s → AnswersAs t (outcome_of reads) (with_error {X = X} b.failure b.frame.budget (Err halt))
   by_stop true stops =
       let only = fault_only t a b halt reads starts h small stops in
       by_failure halt (failed_is halt only.0) (failure_told b.failed b.failure told (h.ended.fault only.0)) only.1
   by_stop false stops = record {
     answer = λ goes_on. ap stated (h.answer (ap (λ k. k.honest) starts.held) stops)
-        ∙ sym (stated_same b.failure b.frame.budget (Err {A = X} halt) stops);
+        ∙ sym (stated_same {X = X} b.failure b.frame.budget (Err halt) stops);
     fault = λ stopped. absurd (
-      let goes = stated_goes_on (Err {A = X} halt) stops in
-      let same = ap (λ r. is_stopped_error r) (stated_same b.failure b.frame.budget (Err {A = X} halt) stops) in
+      let goes = stated_goes_on {X = X} (Err halt) stops in
+      let same = ap (λ r. is_stopped_error r) (stated_same {X = X} b.failure b.frame.budget (Err halt) stops) in
       let no = sym stopped ∙ same ∙ goes in cc
     );
   }
 
 -- where no stop is answered, none came
-error_goes_on : {X : Type 0} (b : State) (r : Result X Halt) → is_some b.failed ≡ true → IfErr r (EndedBy b)
+pub error_goes_on : {X : Type 0} (b : State) (r : Result X Halt) → is_some b.failed ≡ true → IfErr r (EndedBy b)
     → is_stopped_error (with_error b.failure b.frame.budget r) ≡ false → is_stopped r ≡ false
 error_goes_on {X} b (Ok x) told ended goes_on = refl
 error_goes_on {X} b (Err halt) told ended goes_on = by_stop (is_stop halt) refl where
