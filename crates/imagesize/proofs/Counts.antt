@@ -1,9 +1,9 @@
 -- How many bytes a type and its size are read from.
-use Rattle.std.proofs.Common.{ℕ, ◌+◌, ◌≤◌, List, length, Result, Ok, Err, arith}
+use Rattle.std.proofs.Common.{ℕ, ◌+◌, ◌≤◌, List, length, Result, Ok, Err, ◌≡◌, refl, subst, arith}
 use Rattle.imagesize.proofs.Detection.{kind_cost, kind_at_most}
 use Rattle.imagesize.proofs.Ways.{laws_of}
 use Rattle.imagesize.specs.Counts.{cost, most_bytes, most_as, stated_bytes, stated_as}
-use Rattle.imagesize.specs.Meaning.{kind_of, meaning, size_of}
+use Rattle.imagesize.specs.Meaning.{kind_reads, meaning_reads, size_reads}
 use Rattle.imagesize.specs.Types.{in_record, lasts, outside_records, way_of}
 use Rattle.imagesize.specs.Parted.{has_texts}
 use Rattle.imagesize.specs.declared.types.ImageType.{ImageType}
@@ -11,9 +11,10 @@ use Rattle.imagesize.specs.declared.types.ImageType.TheVariants.{Aseprite}
 use Rattle.imagesize_source.proofs.Costs.{bound_of}
 use Rattle.imagesize_source.proofs.Runs.{total-append}
 use Rattle.imagesize_source.proofs.Way.{cost_way}
+use Rattle.imagesize_source.specs.Outcome.{stated}
 use Rattle.imagesize_source.specs.Reading.{go_on}
 use Rattle.imagesize_source.specs.State.{total}
-use Rattle.imagesize_source.specs.declared.error.ImageError.{ImageError}
+use Rattle.imagesize_source.specs.declared.halt.Halt.{Halt}
 use Rattle.imagesize_source.specs.declared.span.Span.{Span}
 
 -- a type is read from no more than it is with what stands outside of the records; one type is named, so that each is tried
@@ -22,37 +23,43 @@ kind_outside Aseprite = omega arith
 kind_outside _ = omega arith
 
 -- with its type, a size is read from at most the bytes of its format
-size_most : (type : ImageType) (d : List ℕ) → kind_cost type + total (size_of type d).marks ≤ most_as (Ok type) d
+size_most : (type : ImageType) (d : List ℕ) → kind_cost type + total (size_reads type d).marks ≤ most_as {E = Halt} (Ok type) d
 size_most type d = cost_way (kind_cost type) (outside_records type) (in_record type) (lasts type) (has_texts type) (way_of type)
     (kind_outside type)
     (laws_of type) d
 
-onward_most : (spans : List Span) (r : Result ImageType ImageError) (d : List ℕ) → total spans ≤ bound_of kind_cost 37 r
-    → total (go_on spans r (λ found. size_of found d)).marks ≤ most_as r d
-onward_most spans (Ok type) d few = omega (arith, total-append spans (size_of type d).marks, few, size_most type d)
+onward_most : (spans : List Span) (r : Result ImageType Halt) (d : List ℕ) → total spans ≤ bound_of kind_cost 37 r
+    → total (go_on spans r (λ found. size_reads found d)).marks ≤ most_as r d
+onward_most spans (Ok type) d few = omega (arith, total-append spans (size_reads type d).marks, few, size_most type d)
 onward_most spans (Err e) d few = omega (arith, few)
 
+-- a type or none, whatever the error is
+same_most : (r : Result ImageType Halt) (d : List ℕ) → most_as r d ≡ most_as (stated r) d
+same_most (Ok type) d = refl
+same_most (Err halt) d = refl
+
 pub cost_most : (d : List ℕ) (place : ℕ) → cost d place ≤ most_bytes d place
-unfolding meaning
-cost_most d place = onward_most (kind_of d place).marks (kind_of d place).answer d (kind_at_most d place)
+unfolding meaning_reads
+cost_most d place = subst (λ n. cost d place ≤ n) (same_most (kind_reads d place).answer d)
+    (onward_most (kind_reads d place).marks (kind_reads d place).answer d (kind_at_most d place))
 
 -- these are at most 41 more than the input has
-most_within : (r : Result ImageType ImageError) (d : List ℕ) → most_as r d ≤ length d + 41
+most_within : {E : Type 0} (r : Result ImageType E) (d : List ℕ) → most_as r d ≤ length d + 41
 most_within (Ok Aseprite) d = omega arith
 most_within (Ok _) d = omega arith
 most_within (Err e) d = omega arith
 
 pub cost_within : (d : List ℕ) (place : ℕ) → cost d place ≤ length d + 41
-cost_within d place = omega (arith, cost_most d place, most_within (kind_of d place).answer d)
+cost_within d place = omega (arith, cost_most d place, most_within (stated (kind_reads d place).answer) d)
 
-pub size_within : (type : ImageType) (d : List ℕ) → total (size_of type d).marks ≤ length d + 41
-size_within type d = omega (arith, size_most type d, most_within (Ok type) d)
+pub size_within : (type : ImageType) (d : List ℕ) → total (size_reads type d).marks ≤ length d + 41
+size_within type d = omega (arith, size_most type d, most_within {E = Halt} (Ok type) d)
 
 -- and at most the bytes that are stated
-most_stated : (r : Result ImageType ImageError) (d : List ℕ) → most_as r d ≤ stated_as r d
+most_stated : {E : Type 0} (r : Result ImageType E) (d : List ℕ) → most_as r d ≤ stated_as r d
 most_stated (Ok Aseprite) d = omega arith
 most_stated (Ok _) d = omega arith
 most_stated (Err e) d = omega arith
 
 pub cost_stated : (d : List ℕ) (place : ℕ) → cost d place ≤ stated_bytes d place
-cost_stated d place = omega (arith, cost_most d place, most_stated (kind_of d place).answer d)
+cost_stated d place = omega (arith, cost_most d place, most_stated (stated (kind_reads d place).answer) d)

@@ -19,7 +19,7 @@ use Rattle.imagesize_fixed.specs.Pkm.{pkm_compression, pkm_compression_of}
 use Rattle.imagesize_fixed.specs.Pvrtc.{is_pvr3, pvrtc_compression, pvrtc_compression_by, pvrtc_format_of}
 use Rattle.imagesize_fixed.specs.Tga.{is_tga}
 use Rattle.imagesize.specs.Kind.{kind, kind_by, with_compression, tga_or_none, first_row}
-use Rattle.imagesize.specs.Meaning.{kind_of}
+use Rattle.imagesize.specs.Meaning.{kind_of, kind_reads}
 use Rattle.imagesize.specs.Types.{lasts, rows, way_of}
 use Rattle.imagesize.specs.declared.types.ImageType.{ImageType}
 use Rattle.imagesize.specs.declared.types.ImageType.TheVariants.{Atc, Dds, Eac, Etc2, Heif, Pvrtc, Tga}
@@ -43,6 +43,9 @@ use Rattle.imagesize_source.proofs.Runs.{runs_then}
 use Rattle.imagesize_source.specs.Reading.{AllOf, PartOf, Reads, TextOf, go_on, bytes_at, bytes_read}
 use Rattle.imagesize_source.specs.State.{State, Runs, total}
 use Rattle.imagesize_source.specs.declared.error.ImageError.{ImageError}
+use Rattle.imagesize_source.specs.declared.halt.Halt.{Halt}
+use Rattle.imagesize_source.specs.Outcome.{stated}
+use Rattle.imagesize_source.proofs.Halts.{stated_ok}
 use Rattle.imagesize_source.specs.declared.span.Span.{Span}
 
 -- how many bytes a type is read from: the first twelve, then those of the compression within it, or of TGA's own test
@@ -87,16 +90,16 @@ pub kind_costs : (n place : ℕ) → CostsBy kind_cost 37 0 (kind n place)
 kind_costs n place = (omega arith, λ head. by_costs n place head (first_row rows head))
 
 -- what a type is read from, by the type that is found
-pub kind_at_most : (d : List ℕ) (place : ℕ) → total (kind_of d place).marks ≤ bound_of kind_cost 37 (kind_of d place).answer
+pub kind_at_most : (d : List ℕ) (place : ℕ) → total (kind_reads d place).marks ≤ bound_of kind_cost 37 (kind_reads d place).answer
 kind_at_most d place = omega (arith, costs kind_cost 37 0 d (kind (length d) place) (kind_costs (length d) place))
 
-few_of : (r : Result ImageType ImageError) → bound_of kind_cost 37 r ≤ 37
+few_of : (r : Result ImageType Halt) → bound_of kind_cost 37 r ≤ 37
 few_of (Ok type) = kind_few type
 few_of (Err e) = omega arith
 
 -- and at most, whatever is found
-pub kind_within : (d : List ℕ) (place : ℕ) → total (kind_of d place).marks ≤ 37
-kind_within d place = omega (arith, kind_at_most d place, few_of (kind_of d place).answer)
+pub kind_within : (d : List ℕ) (place : ℕ) → total (kind_reads d place).marks ≤ 37
+kind_within d place = omega (arith, kind_at_most d place, few_of (kind_reads d place).answer)
 
 -- a type whose size is told in the same way, whatever its compression
 abbrev pub SameWay : ImageType → ImageType → Type 0
@@ -114,7 +117,7 @@ with_alike place head (Dds k) = always_bind (SameWay (Dds k)) dds_compression _ 
 with_alike place head _ = refl
 
 -- an answer behind readings is that behind what they answered
-onward_ok : {X Y : Type 0} (spans : List Span) (r : Result X ImageError) (f : X → Reads Y) (y : Y) → (go_on spans r f).answer ≡ Ok y
+onward_ok : {X Y : Type 0} (spans : List Span) (r : Result X Halt) (f : X → Reads Y) (y : Y) → (go_on spans r f).answer ≡ Ok y
     → (x : X) × (r ≡ Ok x) × ((f x).answer ≡ Ok y)
 onward_ok spans (Ok x) f y is = (x, refl, is)
 onward_ok spans (Err e) f y is = absurd cc
@@ -123,7 +126,7 @@ tga_is : (is : Bool) (d : List ℕ) (type : ImageType) → (layout_reads d (tga_
 tga_is true d type is = cc
 tga_is false d type is = absurd cc
 
-ok_is : {X : Type 0} {x y : X} → ◌≡◌ {A = Result X ImageError} (Ok x) (Ok y) → x ≡ y
+ok_is : {X : Type 0} {x y : X} → ◌≡◌ {A = Result X Halt} (Ok x) (Ok y) → x ≡ y
 ok_is e = cc
 
 -- Where a reading is cut the layout answers u, so that bytes that follow leave any other answer.
@@ -152,7 +155,7 @@ fades u d x (reading (AllOf n) place f) v w h is more = absurd h
 fades {X} u d x (reading (PartOf n) place f) v w h is more = elim (cases_lt (length d - place) n) [
   | inl cut ↦
       let none : f (part d place n) ≡ done u = (h (part d place n)).0 (omega (arith, cut, part_length d place n)) in
-      let untold : ◌≡◌ {A = Result X ImageError} (Ok u) (Ok v) = sym (ap (λ t. (layout_reads d t).answer) none) ∙ is in
+      let untold : ◌≡◌ {A = Result X Halt} (Ok u) (Ok v) = sym (ap (λ t. (layout_reads d t).answer) none) ∙ is in
       inr cc
   | inr all ↦ fades u d x (f (part d place n)) v w (h (part d place n)).1 is
       (ap (λ bs. (layout_reads (d ++ x) (f bs)).answer) (sym (part_kept d x place n all)) ∙ more)
@@ -248,8 +251,8 @@ by_more d x place head (Some found) type is stays =
     (after.0, after.1, after.2 ∙ sym alike, compression_stays d x place head found type after.0 is after.1)
 
 -- behind a type that is kept, bytes that follow leave it, and a compression that is told
-pub kind_more : (d x : List ℕ) (place : ℕ) (type : ImageType) → (kind_of d place).answer ≡ Ok type → keeps type ≡ true
-    → (after : ImageType) × ((kind_of (d ++ x) place).answer ≡ Ok after) × SameWay type after × Stays type after
+pub kind_more : (d x : List ℕ) (place : ℕ) (type : ImageType) → (kind_reads d place).answer ≡ Ok type → keeps type ≡ true
+    → (after : ImageType) × ((kind_reads (d ++ x) place).answer ≡ Ok after) × SameWay type after × Stays type after
 kind_more d x place type is stays =
     let head = onward_ok (span_of d place 12) (bytes_at d place 12) (λ bs. layout_reads d (kind_by (length d) place bs (first_row rows bs))) type
     is in
@@ -267,19 +270,19 @@ lasting : (type : ImageType) → lasts type ≡ true → keeps type ≡ true
 lasting Tga stays = absurd cc
 lasting _ stays = refl
 
-pub way_more : (d x : List ℕ) (place : ℕ) (type : ImageType) → (kind_of d place).answer ≡ Ok type → lasts type ≡ true
-    → (after : ImageType) × ((kind_of (d ++ x) place).answer ≡ Ok after) × SameWay type after
+pub way_more : (d x : List ℕ) (place : ℕ) (type : ImageType) → (kind_reads d place).answer ≡ Ok type → lasts type ≡ true
+    → (after : ImageType) × ((kind_reads (d ++ x) place).answer ≡ Ok after) × SameWay type after
 way_more d x place type is stays = let after = kind_more d x place type is (lasting type stays) in (after.0, after.1, after.2)
 
 pub kind_lasts : (d : List ℕ) (place : ℕ) (r : Result ImageType ImageError) → r ≡ (kind_of d place).answer
     → IfOk r (λ type. IsTrue (keeps type) → (x : List ℕ) → IsOkAnd (kind_of (d ++ x) place).answer (Stays type))
 kind_lasts d place (Ok type) is = λ stays x.
-    let after = kind_more d x place type (sym is) stays in
-    subst (λ (r : Result ImageType ImageError). IsOkAnd r (Stays type)) (sym after.1) after.3
+    let after = kind_more d x place type (stated_ok (kind_reads d place).answer type (sym is)) stays in
+    subst (λ (r : Result ImageType ImageError). IsOkAnd r (Stays type)) (sym (ap stated after.1)) after.3
 kind_lasts d place (Err e) is = tt
 
 -- a head that was read, and the type by it
-pub head_then : {a m b : State} (r : Result ImageType ImageError) (place : ℕ) (head : List ℕ) → length head ≡ 12
+pub head_then : {a m b : State} (r : Result ImageType Halt) (place : ℕ) (head : List ℕ) → length head ≡ 12
     → Runs a m (Ok head) (bytes_read a.held.input place (length head))
     → Runs m b r (layout_reads m.held.input (kind_by (length m.held.input) place head (first_row rows head)))
     → Runs a b r (layout_reads a.held.input (kind (length a.held.input) place))

@@ -3,77 +3,101 @@ use Rattle.std.proofs.Common.{◌≡◌, ℕ, ◌+◌, ◌-◌, ◌^◌, ◌≤�
 use Rattle.std.specs.Prelude.{option_map}
 use Rattle.imagesize.specs.Probed.{SpentAll}
 use Rattle.std.specs.declared.io.Error.{Error}
-use Rattle.imagesize_io.proofs.Openings.{opened_leaves, stop_cases, some_spent, told_last}
+use Rattle.imagesize_io.proofs.Openings.{opened_leaves, stop_cases, told_last}
 use Rattle.imagesize_io.specs.Answers.{IsLast, Leaves}
 use Rattle.imagesize_io.specs.ReaderState.{Opens, start_state}
-use Rattle.imagesize_io.specs.StopOf.{last_failed}
+use Rattle.imagesize_io.specs.StopOf.{kept_error, last_failed}
 use Rattle.imagesize_io.specs.Telling.{Telling}
 use Rattle.imagesize_io.specs.declared.reader.Opened.{Opened}
-use Rattle.imagesize_source.specs.Reading.{Reads, is_fault, is_memory, is_faulted, is_stop, budget_spent, is_stopped}
+use Rattle.imagesize_source.specs.Errors.{is_fault, is_memory as is_memory_error, is_stopped as is_stopped_error, budget_spent}
+use Rattle.imagesize_source.specs.Halts.{error_by, with_error}
+use Rattle.imagesize_source.specs.Outcome.{outcome_of, stated}
+use Rattle.imagesize_source.specs.Reading.{Reads, is_memory, is_faulted, is_stop, is_stopped}
+use Rattle.imagesize_source.specs.declared.halt.Halt.{Halt}
+use Rattle.imagesize_source.proofs.Halts.{error_fault, error_memory, error_spent, stated_goes_on, stated_same}
 use Rattle.imagesize_io.specs.Standing.{behind_of, drift}
 use Rattle.imagesize_source.specs.State.{State, EndedBy, Runs}
 use Rattle.imagesize_source.specs.declared.error.ImageError.{ImageError}
 use Rattle.std.proofs.lemmas.Bool.{false_from_ne_true}
 
-without : (e : ImageError) (records is : Bool) → is_memory e ≡ is → (is_memory e ≡ true → records ≡ true) → records ≡ false
-    → is_memory e ≡ false
-without e records true is wants none = absurd (let on : true ≡ false = sym (wants is) ∙ none in cc)
-without e records false is wants none = is
+without : (h : Halt) (records is : Bool) → is_memory h ≡ is → (is_memory h ≡ true → records ≡ true) → records ≡ false
+    → is_memory h ≡ false
+without h records true is wants none = absurd (let on : true ≡ false = sym (wants is) ∙ none in cc)
+without h records false is wants none = is
 
--- a reader's source records nothing, so no call over it is refused memory
-pub no_memory : {X : Type 0} {a b : State} (r : Result X ImageError) (reads : Reads X) → a.frame.records ≡ false → Runs a b r reads
-    → IfErr r (λ e. is_memory e ≡ false)
-no_memory (Ok x) reads none h = tt
-no_memory {b = b} (Err e) reads none h = without e b.frame.records (is_memory e) refl (λ refused. (h.ended.memory refused).0)
+-- a source that records nothing is refused no memory
+pub unrefused : {X : Type 0} {a b : State} (r : Result X Halt) (reads : Reads X) → a.frame.records ≡ false → Runs a b r reads
+    → IfErr r (λ h. is_memory h ≡ false)
+unrefused (Ok x) reads none h = tt
+unrefused {b = b} (Err halt) reads none h = without halt b.frame.records (is_memory halt) refl (λ refused. (h.ended.memory refused).0)
     (ap (λ f. f.records) h.frame ∙ none)
 
+-- the error that a source keeps is a fault, or none of the stops
+pub record Plain (b : State) : Type 0 where
+  pub memory : is_memory_error b.failure ≡ false
+  pub spent : budget_spent b.failure ≡ None
+
+-- a reader's source records nothing, so no call over it is refused memory
+pub no_memory : {X : Type 0} {a b : State} (r : Result X Halt) (reads : Reads X) → a.frame.records ≡ false → Plain b → Runs a b r reads
+    → IfErr (with_error b.failure b.frame.budget r) (λ e. is_memory_error e ≡ false)
+no_memory (Ok x) reads none plain h = tt
+no_memory {b = b} (Err halt) reads none plain h =
+    error_memory b.failure b.frame.budget halt plain.memory (unrefused (Err halt) reads none h)
+
 -- a source that counts nothing stops a call by a fault, or for want of memory
-pub only_fault : {X : Type 0} {a b : State} (r : Result X ImageError) (reads : Reads X) → a.frame.counts ≡ false
-    → IfErr r (λ e. is_memory e ≡ false) → Runs a b r reads → is_faulted r ≡ false → is_stopped r ≡ false
+pub only_fault : {X : Type 0} {a b : State} (r : Result X Halt) (reads : Reads X) → a.frame.counts ≡ false
+    → IfErr r (λ h. is_memory h ≡ false) → Runs a b r reads → is_faulted r ≡ false → is_stopped r ≡ false
 only_fault (Ok x) reads uncounted memory h no_fault = refl
-only_fault {b = b} (Err e) reads uncounted memory h no_fault = false_from_ne_true (is_stop e) (λ stops. elim (stop_cases e stops) [
+only_fault {b = b} (Err halt) reads uncounted memory h no_fault = false_from_ne_true (is_stop halt) (λ stops. elim (stop_cases halt stops) [
   | inl faults ↦ let no : true ≡ false = sym faults ∙ no_fault in (cc)
   | inr other ↦ elim other [
-    | inl all ↦
-        let counts = (some_spent (budget_spent e) all.0 (λ n. (b.frame.counts ≡ true) × (n ≡ b.frame.budget) × (n ≡ b.taken)) all.1
-        h.ended.budget).0 in
-        let no : true ≡ false = sym counts ∙ ap (λ f. f.counts) h.frame ∙ uncounted in (cc)
+    | inl spent ↦ let no : true ≡ false = sym (h.ended.budget spent).0 ∙ ap (λ f. f.counts) h.frame ∙ uncounted in (cc)
     | inr refused ↦ let no : true ≡ false = sym refused ∙ memory in (cc)
   ]
 ])
 
 -- one that cannot fail stops it for want of memory alone
-pub stops_for_memory : {X : Type 0} {a b : State} (r : Result X ImageError) (reads : Reads X) → a.held.honest ≡ true → a.held.can_fail ≡ false
-    → a.frame.counts ≡ false → IfErr r (λ e. is_memory e ≡ false) → Runs a b r reads → is_stopped r ≡ false
+pub stops_for_memory : {X : Type 0} {a b : State} (r : Result X Halt) (reads : Reads X) → a.held.honest ≡ true → a.held.can_fail ≡ false
+    → a.frame.counts ≡ false → IfErr r (λ h. is_memory h ≡ false) → Runs a b r reads → is_stopped r ≡ false
 stops_for_memory r reads honest sure uncounted memory h = only_fault r reads uncounted memory h
     (false_from_ne_true (is_faulted r) (λ faults. let no : true ≡ false = sym (h.fault honest faults) ∙ sure in (cc)))
 
 -- over a slice that records nothing nothing does
-pub never_stopped : {X : Type 0} {a b : State} (r : Result X ImageError) (reads : Reads X) → a.held.honest ≡ true → a.held.can_fail ≡ false
+pub never_stopped : {X : Type 0} {a b : State} (r : Result X Halt) (reads : Reads X) → a.held.honest ≡ true → a.held.can_fail ≡ false
     → a.frame.counts ≡ false → a.frame.records ≡ false → Runs a b r reads → is_stopped r ≡ false
-never_stopped r reads honest sure uncounted none h = stops_for_memory r reads honest sure uncounted (no_memory r reads none h) h
+never_stopped r reads honest sure uncounted none h = stops_for_memory r reads honest sure uncounted (unrefused r reads none h) h
 
-some_budget : (named : Option ℕ) (budget taken n : ℕ) (counts : Bool) → 64 ≤ budget → n ≡ taken
-    → IfSome named (λ k. (counts ≡ true) × (k ≡ budget) × (k ≡ taken)) → IfSome named (λ k. (k ≡ n) × (64 ≤ k))
-some_budget None budget taken n counts enough same is = tt
-some_budget (Some k) budget taken n counts enough same is = (is.2 ∙ sym same, omega (arith, is.1))
+-- what is answered over a slice is what its readings state, and none of the stops
+pub slice_answer : {X : Type 0} {a b : State} (failure : ImageError) (budget : ℕ) (r : Result X Halt) (reads : Reads X)
+    → a.held.honest ≡ true → is_stopped r ≡ false → Runs a b r reads → with_error failure budget r ≡ (outcome_of reads).answer
+slice_answer failure budget r reads honest goes_on h =
+    stated_same failure budget r goes_on ∙ ap stated (sym (h.answer honest goes_on))
+
+pub slice_unstopped : {X : Type 0} (failure : ImageError) (budget : ℕ) (r : Result X Halt) → is_stopped r ≡ false
+    → is_stopped_error (with_error failure budget r) ≡ false
+slice_unstopped failure budget r goes_on =
+    ap (λ q. is_stopped_error q) (stated_same failure budget r goes_on) ∙ stated_goes_on r goes_on
 
 -- a budget that was spent is what was taken, and at least 64
-pub budget_taken : {X : Type 0} {a b : State} (told n : ℕ) (r : Result X ImageError) (reads : Reads X) → a.frame.budget ≡ min (told + 64)
-    (2 ^ 64 - 1) → Runs a b r reads → n ≡ b.taken → IfErr r (λ e. IfSome (budget_spent e) (λ k. (k ≡ n) × (64 ≤ k)))
-budget_taken told n (Ok x) reads start h took = tt
-budget_taken {b = b} told n (Err e) reads start h took =
+pub budget_taken : {X : Type 0} {a b : State} (told n : ℕ) (r : Result X Halt) (reads : Reads X) → a.frame.budget ≡ min (told + 64)
+    (2 ^ 64 - 1) → Plain b → Runs a b r reads → n ≡ b.taken
+    → IfErr (with_error b.failure b.frame.budget r) (λ e. IfSome (budget_spent e) (λ k. (k ≡ n) × (64 ≤ k)))
+budget_taken told n (Ok x) reads start plain h took = tt
+budget_taken {b = b} told n (Err halt) reads start plain h took =
     let budget : b.frame.budget ≡ min (told + 64) (2 ^ 64 - 1) = ap (λ f. f.budget) h.frame ∙ start in
-    some_budget (budget_spent e) b.frame.budget b.taken n b.frame.counts (omega (arith, budget)) took h.ended.budget
+    error_spent (λ k. (k ≡ n) × (64 ≤ k)) b.failure b.frame.budget halt plain.spent
+    (λ spent. ((h.ended.budget spent).1 ∙ sym took, omega (arith, budget)))
 
 least : (named : Option ℕ) (taken : ℕ) → IfSome named (λ k. (k ≡ taken) × (64 ≤ k)) → IfSome named (λ k. 64 ≤ k)
 least None taken is = tt
 least (Some k) taken is = is.1
 
-pub budget_least : {X : Type 0} {a b : State} (told : ℕ) (r : Result X ImageError) (reads : Reads X) → a.frame.budget ≡ min (told + 64)
-    (2 ^ 64 - 1) → Runs a b r reads → IfErr r (λ e. IfSome (budget_spent e) (λ k. 64 ≤ k))
-budget_least told (Ok x) reads start h = tt
-budget_least {b = b} told (Err e) reads start h = least (budget_spent e) b.taken (budget_taken told b.taken (Err e) reads start h refl)
+pub budget_least : {X : Type 0} {a b : State} (told : ℕ) (r : Result X Halt) (reads : Reads X) → a.frame.budget ≡ min (told + 64)
+    (2 ^ 64 - 1) → Plain b → Runs a b r reads
+    → IfErr (with_error b.failure b.frame.budget r) (λ e. IfSome (budget_spent e) (λ k. 64 ≤ k))
+budget_least told (Ok x) reads start plain h = tt
+budget_least {b = b} told (Err halt) reads start plain h =
+    least (budget_spent (error_by b.failure b.frame.budget halt)) b.taken (budget_taken told b.taken (Err halt) reads start plain h refl)
 
 parts : (p q : ℕ × ℕ) → p ≡ q → (p.0 ≡ q.0) × (p.1 ≡ q.1)
 parts p q same = (ap (λ (x : ℕ × ℕ). x.0) same, ap (λ (x : ℕ × ℕ). x.1) same)
@@ -92,29 +116,38 @@ all_spent None before after taken up is = tt
 all_spent (Some n) before after taken up is = (is.1, up ∙ ap (λ k. option_map (λ c. c + k) before) (sym is.0))
 
 -- a named count rose by all of it
-pub budget_counted : {X : Type 0} {a b : State} (told : ℕ) (before after : Option ℕ) (r : Result X ImageError) (reads : Reads X)
-    → a.frame.budget ≡ min (told + 64) (2 ^ 64 - 1) → a.frame.since ≡ drift before 0 → Runs a b r reads
-    → b.frame.since ≡ drift after b.taken → IfErr r (λ e. IfSome (budget_spent e) (SpentAll before after))
-budget_counted told before after (Ok x) reads start counts h counted = tt
-budget_counted {b = b} told before after (Err e) reads start counts h counted =
-    all_spent (budget_spent e) before after b.taken
+pub budget_counted : {X : Type 0} {a b : State} (told : ℕ) (before after : Option ℕ) (r : Result X Halt) (reads : Reads X)
+    → a.frame.budget ≡ min (told + 64) (2 ^ 64 - 1) → a.frame.since ≡ drift before 0 → Plain b → Runs a b r reads
+    → b.frame.since ≡ drift after b.taken → IfErr (with_error b.failure b.frame.budget r) (λ e. IfSome (budget_spent e) (SpentAll before after))
+budget_counted told before after (Ok x) reads start counts plain h counted = tt
+budget_counted {b = b} told before after (Err halt) reads start counts plain h counted =
+    all_spent (budget_spent (error_by b.failure b.frame.budget halt)) before after b.taken
     (rose before after b.taken (sym counted ∙ ap (λ f. f.since) h.frame ∙ counts))
-    (budget_taken told b.taken (Err e) reads start h refl)
+    (budget_taken told b.taken (Err halt) reads start plain h refl)
 
-told_fault : {X : Type 0} (b : State) (failure : Option (Option Error)) (fault : Option Error) (r : Result X ImageError)
-    → b.failed ≡ Some (last_failed fault failure) → IfErr r (EndedBy b) → IfErr r (λ e. is_fault e ≡ true → IsLast failure e)
-told_fault b failure fault (Ok x) is ended = tt
-told_fault b failure fault (Err e) is ended = λ faults.
-    told_last failure fault e (subst (λ f. IfSome f (λ failed. failed ≡ Some e)) is (ended.fault faults))
+last_told : (b : State) (failure : Option (Option Error)) (fault : Option Error) → b.failed ≡ Some (last_failed fault failure)
+    → IfSome b.failed (λ last. (last ≡ Some b.failure) × (is_fault b.failure ≡ true)) → IsLast failure b.failure
+last_told b failure fault is told =
+    let last = subst (λ f. IfSome f (λ last. (last ≡ Some b.failure) × (is_fault b.failure ≡ true))) is told in
+    told_last failure fault b.failure last.0
 
 -- a failure that ends a call over a reader is the reader's last one
-pub fault_last : {X : Type 0} {a b : State} (failure : Option (Option Error)) (fault : Option Error) (r : Result X ImageError) (reads : Reads X)
-    → b.failed ≡ Some (last_failed fault failure) → Runs a b r reads → IfErr r (λ e. is_fault e ≡ true → IsLast failure e)
-fault_last failure fault r reads is h = told_fault _ failure fault r is h.ended
+pub fault_last : {X : Type 0} {a b : State} (failure : Option (Option Error)) (fault : Option Error) (r : Result X Halt) (reads : Reads X)
+    → b.failed ≡ Some (last_failed fault failure) → Runs a b r reads
+    → IfErr (with_error b.failure b.frame.budget r) (λ e. is_fault e ≡ true → IsLast failure e)
+fault_last failure fault (Ok x) reads is h = tt
+fault_last {b = b} failure fault (Err halt) reads is h = λ faults.
+    let by = error_fault b.failure b.frame.budget halt faults in
+    subst (λ e. IsLast failure e) (sym by.1) (last_told b failure fault is (h.ended.fault by.0))
+
+-- the error that a reader keeps is a fault
+pub kept_plain : (fault : Option Error) (b : State) → b.failure ≡ kept_error fault → Plain b
+kept_plain None b is = record { memory = ap (λ e. is_memory_error e) is; spent = ap (λ e. budget_spent e) is }
+kept_plain (Some e) b is = record { memory = ap (λ e. is_memory_error e) is; spent = ap (λ e. budget_spent e) is }
 
 -- and the reader is left as it was, but for its place and the interruptions that came
 pub leaves_reader : {X : Type 0} {a b : State} (telling mid new : Option Telling) (count : Option ℕ) (home : ℕ) (opened : Opened)
-    (told retries : ℕ) (fault : Option Error) (r : Result X ImageError) (reads : Reads X) → a ≡ start_state mid count home opened.told
+    (told retries : ℕ) (fault : Option Error) (r : Result X Halt) (reads : Reads X) → a ≡ start_state mid count home opened.told
     → b.frame.behind ≡ behind_of told retries fault new → Runs a b r reads → Opens telling mid (Ok opened) → Leaves telling new
 leaves_reader telling mid new count home opened told retries fault r reads start is h opens = opened_leaves telling mid new opened told
     retries fault opens (sym is ∙ ap (λ f. f.behind) h.frame ∙ ap (λ s. s.frame.behind) start)

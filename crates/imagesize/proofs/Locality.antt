@@ -3,7 +3,7 @@ use Rattle.std.proofs.Common.{ℕ, Bool, true, false, List}
 use Rattle.imagesize.proofs.Detection.{kind_cost, kind_costs}
 use Rattle.imagesize.proofs.Ways.{laws_of}
 use Rattle.imagesize.specs.Kind.{kind}
-use Rattle.imagesize.specs.Meaning.{kind_of, size_of, meaning}
+use Rattle.imagesize.specs.Meaning.{kind_reads, size_reads, meaning_reads}
 use Rattle.imagesize.specs.Types.{in_record, lasts, outside_records, way_of}
 use Rattle.imagesize.specs.Parted.{has_texts}
 use Rattle.imagesize.specs.declared.types.ImageType.{ImageType}
@@ -14,11 +14,11 @@ use Rattle.imagesize_source.specs.Layout.{layout_reads}
 use Rattle.imagesize_source.specs.Reading.{Reads}
 
 -- the type sees an input by its marks
-pub local_kind : (place : ℕ) → IsLocal false (λ d. kind_of d place)
+pub local_kind : (place : ℕ) → IsLocal false (λ d. kind_reads d place)
 local_kind place = local_length (λ n d. layout_reads d (kind n place)) (λ n. local_layout (kind n place) (costed_texts false kind_cost 37 0 (kind n place) (kind_costs n place)))
 
 -- and a size does
-pub local_size : (type : ImageType) → IsLocal (has_texts type) (size_of type)
+pub local_size : (type : ImageType) → IsLocal (has_texts type) (size_reads type)
 local_size type = local_way (kind_cost type) (outside_records type) (in_record type) (lasts type) (has_texts type) (way_of type)
     (laws_of type)
 
@@ -28,7 +28,7 @@ widened true r is = is
 widened false r is = λ d e long. alike_more true d e (r d) (r e) (is d e long)
 
 -- an input that agrees with another on its marks has the same type, the same size and the same marks
-pub local_meaning : (place : ℕ) → IsLocal true (λ d. meaning d place)
-unfolding meaning
-local_meaning place = local_then (λ d. kind_of d place) size_of (widened false (λ d. kind_of d place) (local_kind place))
-    (λ type. widened (has_texts type) (size_of type) (local_size type))
+pub local_meaning : (place : ℕ) → IsLocal true (λ d. meaning_reads d place)
+unfolding meaning_reads
+local_meaning place = local_then (λ d. kind_reads d place) size_reads (widened false (λ d. kind_reads d place) (local_kind place))
+    (λ type. widened (has_texts type) (size_reads type) (local_size type))

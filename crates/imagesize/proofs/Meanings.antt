@@ -1,99 +1,115 @@
 -- The size by a type that was found.
-use Rattle.std.proofs.Common.{◌≡◌, ℕ, ◌≤◌, Option, Some, None, Result, Ok, Err, IfSome, true, false, sym, ap, ◌∙◌, subst, arith}
+use Rattle.std.proofs.Common.{◌≡◌, ℕ, ◌≤◌, Option, Some, None, Result, Ok, Err, IfSome, is_some, true, false, refl, sym, ap, ◌∙◌, subst, arith}
 use Rattle.std.specs.Result.{result_ok}
 use Rattle.imagesize.proofs.Counts.{cost_most, cost_stated, cost_within, size_within}
 use Rattle.imagesize.proofs.Detection.{kind_within}
 use Rattle.imagesize.proofs.Short.{no_meaning}
 use Rattle.imagesize.specs.Counts.{cost}
-use Rattle.imagesize.specs.Meaning.{kind_of, meaning, size_of}
+use Rattle.imagesize.specs.Meaning.{kind_of, kind_reads, meaning, meaning_reads, size_of, size_reads}
 use Rattle.imagesize.specs.Probed.{FindsKind, Probes}
 use Rattle.imagesize.specs.declared.calls.Probed.{Probed}
 use Rattle.imagesize_types.specs.declared.size.ImageSize.{ImageSize}
 use Rattle.imagesize.specs.declared.types.ImageType.{ImageType}
-use Rattle.imagesize_io.proofs.Openings.{IsBounded, Began, claim, start_of, start_holds, opened_answers, opened_takes}
+use Rattle.imagesize_io.proofs.Openings.{IsBounded, Began, claim, start_of, start_holds, error_goes_on, opened_answers, opened_takes}
 use Rattle.imagesize_source.proofs.Runs.{runs_then, runs_refused}
-use Rattle.imagesize_io.specs.Answers.{Answers, TakesAs}
+use Rattle.imagesize_io.specs.Answers.{Answers, AnswersAs, TakesAs}
+use Rattle.imagesize_source.specs.Errors.{is_stopped as is_stopped_error}
+use Rattle.imagesize_source.specs.Halts.{with_error}
+use Rattle.imagesize_source.specs.Outcome.{stated}
 use Rattle.imagesize_source.specs.Reading.{is_stopped}
 use Rattle.imagesize_io.specs.ReaderState.{Opens, start_state}
 use Rattle.imagesize_source.specs.State.{State, Runs}
 use Rattle.imagesize_io.specs.Telling.{Telling, IsHonest}
-use Rattle.imagesize_source.specs.declared.error.ImageError.{ImageError}
+use Rattle.imagesize_source.specs.declared.halt.Halt.{Halt}
 use Rattle.imagesize_io.specs.declared.reader.Opened.{Opened}
 
 -- a type that was found, and the size by it
-pub found_then : {a m b : State} (type : ImageType) (r : Result ImageSize ImageError) (place : ℕ)
-    → Runs a m (Ok type) (kind_of a.held.input place) → Runs m b r (size_of type m.held.input) → Runs a b r (meaning a.held.input place)
-unfolding meaning
+pub found_then : {a m b : State} (type : ImageType) (r : Result ImageSize Halt) (place : ℕ)
+    → Runs a m (Ok type) (kind_reads a.held.input place) → Runs m b r (size_reads type m.held.input) → Runs a b r (meaning_reads a.held.input place)
+unfolding meaning_reads
 found_then {a} {m} {b} type r place first second =
-    runs_then (kind_of a.held.input place) (λ found held. size_of found held.input) first second
+    runs_then (kind_reads a.held.input place) (λ found held. size_reads found held.input) first second
 
 -- no type was found
-pub none_found : {a b : State} (e : ImageError) (place : ℕ) → Runs {X = ImageType} a b (Err e) (kind_of a.held.input place)
-    → Runs {X = ImageSize} a b (Err e) (meaning a.held.input place)
-unfolding meaning
-none_found {a} {b} e place h = runs_refused (kind_of a.held.input place) (λ found. size_of found a.held.input) h
+pub none_found : {a b : State} (halt : Halt) (place : ℕ) → Runs {X = ImageType} a b (Err halt) (kind_reads a.held.input place)
+    → Runs {X = ImageSize} a b (Err halt) (meaning_reads a.held.input place)
+unfolding meaning_reads
+none_found {a} {b} halt place h = runs_refused (kind_reads a.held.input place) (λ found. size_reads found a.held.input) h
 
 -- an honest budget is enough for a type and for every size
-bounded_kind : IsBounded kind_of
+bounded_kind : IsBounded kind_reads
 bounded_kind d place = omega (arith, kind_within d place)
 
-bounded_meaning : IsBounded meaning
+bounded_meaning : IsBounded meaning_reads
 bounded_meaning d place = omega (arith, cost_within d place)
 
 -- the type that a reader was found to hold
 pub kind_answers : (telling mid : Option Telling) (count : Option ℕ) (home : ℕ) (opened : Opened) (a b : State)
-    (r : Result ImageType ImageError) → a ≡ start_state mid count home opened.told → Opens telling mid (Ok opened)
-    → Runs a b r (kind_of a.held.input opened.place) → Answers telling kind_of r
-kind_answers telling mid count home opened a b r start opens h =
-    opened_answers telling mid count home opened b r kind_of bounded_kind opens
-    (subst (λ s. Runs s b r (kind_of s.held.input opened.place)) start h)
+    (r : Result ImageType Halt) → a ≡ start_state mid count home opened.told → is_some b.failed ≡ true → Opens telling mid (Ok opened)
+    → Runs a b r (kind_reads a.held.input opened.place) → Answers telling kind_of (with_error b.failure b.frame.budget r)
+kind_answers telling mid count home opened a b r start told opens h =
+    opened_answers telling mid count home opened b r kind_reads bounded_kind told opens
+    (subst (λ s. Runs s b r (kind_reads s.held.input opened.place)) start h)
 
 found_kind : (t : Telling) (mid : Option Telling) (count : Option ℕ) (home told place : ℕ) (a : State) (found : Option ImageType)
-    (r : Result ImageSize ImageError) → IsHonest t → Began t mid told place → a ≡ start_state mid count home told
-    → FindsKind a place found r → (IfSome found (λ type. (kind_of t.bytes t.place).answer ≡ Ok type)) × (is_stopped r ≡ false
-    → found ≡ result_ok (kind_of t.bytes t.place).answer)
+    (r : Result ImageSize Halt) → IsHonest t → Began t mid told place → a ≡ start_state mid count home told
+    → FindsKind a place found r → (IfSome found (λ type. (kind_reads t.bytes t.place).answer ≡ Ok type)) × (is_stopped r ≡ false
+    → found ≡ result_ok (kind_reads t.bytes t.place).answer)
 found_kind t mid count home told place a found r honest began start finds =
     let held : a.held ≡ claim t = ap (λ s. s.held) (start ∙ start_of t mid count home told place began) ∙ start_holds t count home honest
     in
     let is_honest : a.held.honest ≡ true = ap (λ h. h.honest) held in
-    let same : kind_of a.held.input place ≡ kind_of t.bytes t.place = ap (λ h. kind_of h.input place) held ∙ ap (kind_of t.bytes)
+    let same : kind_reads a.held.input place ≡ kind_reads t.bytes t.place = ap (λ h. kind_reads h.input place) held ∙ ap (kind_reads t.bytes)
     began.at in (
       subst (λ reads. IfSome found (λ type. reads.answer ≡ Ok type)) same (finds.right is_honest),
       λ goes_on. finds.whole is_honest goes_on ∙ ap (λ reads. result_ok reads.answer) same,
     )
 
+-- a type is stated as it is read
+stated_kind : (found : Option ImageType) (r : Result ImageType Halt) → IfSome found (λ type. r ≡ Ok type)
+    → IfSome found (λ type. stated r ≡ Ok type)
+stated_kind None r is = tt
+stated_kind (Some type) r is = ap stated is
+
+pub same_kind : (r : Result ImageType Halt) → result_ok r ≡ result_ok (stated r)
+same_kind (Ok type) = refl
+same_kind (Err halt) = refl
+
 -- type, size and count of a reader that was opened
 pub probes_opened : (telling mid : Option Telling) (count : Option ℕ) (home : ℕ) (opened : Opened) (a b : State) (probed : Probed)
-    → a ≡ start_state mid count home opened.told → Opens telling mid (Ok opened)
-    → Runs a b probed.answer (meaning a.held.input opened.place) → FindsKind a opened.place probed.kind probed.answer
-    → probed.taken ≡ b.taken → Probes telling probed
-probes_opened None mid count home opened a b probed start opens h finds took = tt
-probes_opened (Some t) mid count home opened a b probed start opens h finds took = λ honest.
+    (r : Result ImageSize Halt) → probed.answer ≡ with_error b.failure b.frame.budget r → a ≡ start_state mid count home opened.told
+    → is_some b.failed ≡ true → Opens telling mid (Ok opened) → Runs a b r (meaning_reads a.held.input opened.place)
+    → FindsKind a opened.place probed.kind r → probed.taken ≡ b.taken → Probes telling probed
+probes_opened None mid count home opened a b probed r is start told opens h finds took = tt
+probes_opened (Some t) mid count home opened a b probed r is start told opens h finds took = λ honest.
     let began : Began t mid opened.told opened.place = record { at_end = opens.0; length_told = opens.2; at = opens.1 } in
-    let runs = subst (λ s. Runs s b probed.answer (meaning s.held.input opened.place)) start h in
-    let kinds = found_kind t mid count home opened.told opened.place a probed.kind probed.answer honest began start finds in
-    let takes = subst (λ n. TakesAs t (meaning t.bytes t.place) probed.answer n) (sym took)
-    (opened_takes (Some t) mid count home opened b probed.answer meaning opens runs honest) in
+    let runs = subst (λ s. Runs s b r (meaning_reads s.held.input opened.place)) start h in
+    let kinds = found_kind t mid count home opened.told opened.place a probed.kind r honest began start finds in
+    let takes = subst (λ q. TakesAs t (meaning t.bytes t.place) q probed.taken) (sym is)
+    (subst (λ n. TakesAs t (meaning t.bytes t.place) (with_error b.failure b.frame.budget r) n) (sym took)
+    (opened_takes (Some t) mid count home opened b r meaning_reads told opens runs honest)) in
     let few : probed.taken ≤ cost t.bytes t.place = takes.most in
-    let answers = opened_answers (Some t) mid count home opened b probed.answer meaning bounded_meaning opens runs honest in
+    let answers = subst (λ q. AnswersAs t (meaning t.bytes t.place) q) (sym is)
+    (opened_answers (Some t) mid count home opened b r meaning_reads bounded_meaning told opens runs honest) in
     record {
       answer = answers;
       takes = takes;
-      right = kinds.0;
-      whole = kinds.1;
+      right = stated_kind probed.kind (kind_reads t.bytes t.place).answer kinds.0;
+      whole = λ goes_on. kinds.1 (error_goes_on b r told h.ended (sym (ap (λ q. is_stopped_error q) is) ∙ goes_on))
+          ∙ same_kind (kind_reads t.bytes t.place).answer;
       stated = omega (arith, few, cost_stated t.bytes t.place);
       most = omega (arith, few, cost_most t.bytes t.place);
       within = omega (arith, few, cost_within t.bytes t.place);
       short = λ few goes_on. sym (answers.answer goes_on) ∙ no_meaning t.bytes t.place few;
     }
 
-bounded_size : (type : ImageType) → IsBounded (λ d place. size_of type d)
+bounded_size : (type : ImageType) → IsBounded (λ d place. size_reads type d)
 bounded_size type d place = omega (arith, size_within type d)
 
 -- the size that a reader was found to have, read as a type
 pub size_answers : (telling mid : Option Telling) (count : Option ℕ) (home : ℕ) (opened : Opened) (a b : State) (type : ImageType)
-    (r : Result ImageSize ImageError) → a ≡ start_state mid count home opened.told → Opens telling mid (Ok opened)
-    → Runs a b r (size_of type a.held.input) → Answers telling (λ d place. size_of type d) r
-size_answers telling mid count home opened a b type r start opens h =
-    opened_answers telling mid count home opened b r (λ d place. size_of type d) (bounded_size type) opens
-    (subst (λ s. Runs s b r (size_of type s.held.input)) start h)
+    (r : Result ImageSize Halt) → a ≡ start_state mid count home opened.told → is_some b.failed ≡ true → Opens telling mid (Ok opened)
+    → Runs a b r (size_reads type a.held.input) → Answers telling (λ d place. size_of type d) (with_error b.failure b.frame.budget r)
+size_answers telling mid count home opened a b type r start told opens h =
+    opened_answers telling mid count home opened b r (λ d place. size_reads type d) (bounded_size type) told opens
+    (subst (λ s. Runs s b r (size_reads type s.held.input)) start h)

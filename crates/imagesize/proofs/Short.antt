@@ -3,30 +3,36 @@ use Rattle.std.proofs.Common.{◌≡◌, ℕ, ◌+◌, ◌<◌, List, length, Op
 use Rattle.std.proofs.lemmas.Bool.Decides.{nat_tests}
 use Rattle.imagesize.specs.Kind.{first_row, kind_by}
 use Rattle.imagesize.specs.Types.{rows}
-use Rattle.imagesize.specs.Meaning.{kind_of, meaning, size_of}
+use Rattle.imagesize.specs.Meaning.{kind_of, kind_reads, meaning, size_reads}
 use Rattle.imagesize.specs.Short.{Ends}
 use Rattle.imagesize_io.specs.Answers.{Answers}
 use Rattle.imagesize_io.specs.Telling.{Telling}
 use Rattle.imagesize_source.specs.Input.{span_of}
 use Rattle.imagesize_source.specs.Layout.{layout_reads}
-use Rattle.imagesize_source.specs.Reading.{Reads, bytes_at, end_of_input, go_on}
+use Rattle.imagesize_source.specs.Errors.{end_of_input}
+use Rattle.imagesize_source.specs.Outcome.{Outcome, stated}
+use Rattle.imagesize_source.specs.Reading.{bytes_at, go_on}
+use Rattle.imagesize_source.specs.declared.halt.Halt.TheVariants.{Ended}
 use Rattle.imagesize_source.specs.declared.error.ImageError.{ImageError}
 
-no_head : (d : List ℕ) (place : ℕ) → length d < place + 12 → bytes_at d place 12 ≡ Err end_of_input
+no_head : (d : List ℕ) (place : ℕ) → length d < place + 12 → bytes_at d place 12 ≡ Err Ended
 unfolding bytes_at
 no_head d place few = grind (arith, nat_tests)
 
-pub no_kind : (d : List ℕ) (place : ℕ) → length d < place + 12 → (kind_of d place).answer ≡ Err end_of_input
-no_kind d place few =
+no_kind_reads : (d : List ℕ) (place : ℕ) → length d < place + 12 → (kind_reads d place).answer ≡ Err Ended
+no_kind_reads d place few =
     ap (λ r. (go_on (span_of d place 12) r (λ head. layout_reads d (kind_by (length d) place head (first_row rows head)))).answer)
     (no_head d place few)
 
+pub no_kind : (d : List ℕ) (place : ℕ) → length d < place + 12 → (kind_of d place).answer ≡ Err end_of_input
+no_kind d place few = ap stated (no_kind_reads d place few)
+
 pub no_meaning : (d : List ℕ) (place : ℕ) → length d < place + 12 → (meaning d place).answer ≡ Err end_of_input
-unfolding meaning
-no_meaning d place few = ap (λ r. (go_on (kind_of d place).marks r (λ found. size_of found d)).answer) (no_kind d place few)
+unfolding meaning_reads
+no_meaning d place few = ap (λ r. stated (go_on (kind_reads d place).marks r (λ found. size_reads found d)).answer) (no_kind_reads d place few)
 
 -- so does an answer of a reader
-pub answers_end : {X : Type 0} (telling : Option Telling) (reads_of : List ℕ → ℕ → Reads X) (r : Result X ImageError)
+pub answers_end : {X : Type 0} (telling : Option Telling) (reads_of : List ℕ → ℕ → Outcome X) (r : Result X ImageError)
     → ((d : List ℕ) (place : ℕ) → length d < place + 12 → (reads_of d place).answer ≡ Err end_of_input) → Answers telling reads_of r
     → Ends telling r
 answers_end None reads_of r short answers = tt

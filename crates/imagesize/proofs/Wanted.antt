@@ -6,20 +6,25 @@ use Rattle.std.proofs.lemmas.Bool.{cases_lt, or_left, or_right}
 use Rattle.std.specs.Option.{ForSome}
 use Rattle.std.specs.Result.{result_ok}
 use Rattle.std.proofs.lemmas.Bool.Decides.{nat_tests}
-use Rattle.imagesize.specs.Meaning.{kind_of, meaning, size_of}
+use Rattle.imagesize.specs.Meaning.{kind_of, kind_reads, meaning, meaning_reads, size_of, size_reads}
 use Rattle.imagesize.specs.Parted.{Fits, HasKnown, IfFound, IsProbed, Says, SaysOf, Tells, Wants, has_texts, texts_as, texts_of, found_or_wanted, wanted_of, with_type}
 use Rattle.imagesize.specs.declared.parts.PartsAnswer.{PartsAnswer}
 use Rattle.imagesize.specs.declared.parts.PartsAnswer.TheVariants.{Found, Wanted}
 use Rattle.imagesize.specs.declared.types.ImageType.{ImageType}
-use Rattle.imagesize.proofs.Endings.{no_memory, only_fault}
+use Rattle.imagesize.proofs.Endings.{slice_unstopped, unrefused, only_fault}
 use Rattle.imagesize_types.specs.declared.size.ImageSize.{ImageSize}
 use Rattle.imagesize_source.specs.declared.error.ImageError.{ImageError}
+use Rattle.imagesize_source.specs.declared.halt.Halt.{Halt}
 use Rattle.imagesize_source.specs.declared.source.parts.Missing.{Missing}
 use Rattle.imagesize_source.specs.declared.span.Span.{Span}
 use Rattle.imagesize_source.specs.Agreement.{Agrees, IsLocal, Parting, is_covered, has_place, has_whole}
 use Rattle.imagesize_source.specs.Input.{span_at}
 use Rattle.imagesize_source.specs.Known.{AllKnown, HasParts, Lacks, byte_in_parts, byte_of, filled_input, length_within, reaches, parts_state, sure_of}
-use Rattle.imagesize_source.specs.Reading.{Reads, go_on, is_faulted, is_stopped}
+use Rattle.imagesize_source.specs.Errors.{is_stopped as is_stopped_error}
+use Rattle.imagesize_source.specs.Halts.{with_error}
+use Rattle.imagesize_source.specs.Outcome.{outcome_of, stated}
+use Rattle.imagesize_source.specs.Reading.{Reads, go_on, is_faulted}
+use Rattle.imagesize_source.proofs.Halts.{stated_ok, stated_same}
 use Rattle.imagesize_source.specs.State.{State, Runs}
 use Rattle.imagesize_source.proofs.Agreement.{covered-left, covered-one, covered-right, same_by_local}
 use Rattle.imagesize_source.proofs.Runs.{marks_onward}
@@ -74,7 +79,7 @@ later_cut (x ∷ made) (y ∷ seen) rest others m mark same = later (later_cut m
 
 -- The readings f on known parts: what they saw and missed, and their answer.
 pub record Called {X : Type 0} (f : List ℕ → Reads X) (n : ℕ) (spans : List Span) (bytes : List ℕ) (log : List Span) (missed : Option Missing)
-    (r : Result X ImageError) : Type 0 where
+    (r : Result X Halt) : Type 0 where
   pub runs : Runs (parts_state n spans bytes [] None) (parts_state n spans bytes log missed) r (f (filled_input n spans bytes))
   pub seen : AllKnown n spans bytes log
   pub lacks : ForSome missed (Lacks n spans bytes)
@@ -146,12 +151,12 @@ agrees_known d n spans bytes marks has all = record {
 module _ {X : Type 0} (texts : Bool) (f : List ℕ → Reads X) (is_local : IsLocal texts f) (d : List ℕ) (n : ℕ) (spans : List Span) (bytes : List ℕ)
     (has : HasKnown d n spans bytes) (short : n < 2 ^ 63) where
   -- where nothing is missed, it agrees with what was read
-  agreed : (log : List Span) (missed : Option Missing) (r : Result X ImageError) → Called f n spans bytes log missed r → is_faulted r ≡ false
+  agreed : (log : List Span) (missed : Option Missing) (r : Result X Halt) → Called f n spans bytes log missed r → is_faulted r ≡ false
       → Agrees (filled_input n spans bytes) d (f (filled_input n spans bytes)).marks
   agreed log missed r call no_fault =
       let honest = is_short n short in
       let on = only_fault r (f (filled_input n spans bytes)) refl
-      (no_memory r (f (filled_input n spans bytes)) refl call.runs) call.runs no_fault in
+      (unrefused r (f (filled_input n spans bytes)) refl call.runs) call.runs no_fault in
       let marked : log ≡ (f (filled_input n spans bytes)).marks = logged (parts_state n spans bytes log missed)
       (parts_state n spans bytes ([] ++ (f (filled_input n spans bytes)).marks) None) log (f (filled_input n spans bytes)).marks
       (call.runs.state honest on ∙ past-parts n spans bytes [] None (f (filled_input n spans bytes)).marks) refl refl in
@@ -159,14 +164,22 @@ module _ {X : Type 0} (texts : Bool) (f : List ℕ → Reads X) (is_local : IsLo
       (subst (λ l. AllKnown n spans bytes l) marked call.seen)
 
   -- and the answer is its own
-  right : (log : List Span) (missed : Option Missing) (r : Result X ImageError) → Called f n spans bytes log missed r → is_faulted r ≡ false
+  right : (log : List Span) (missed : Option Missing) (r : Result X Halt) → Called f n spans bytes log missed r → is_faulted r ≡ false
       → r ≡ (f d).answer
   right log missed r call no_fault =
       let honest = is_short n short in
       let on = only_fault r (f (filled_input n spans bytes)) refl
-      (no_memory r (f (filled_input n spans bytes)) refl call.runs) call.runs no_fault in
+      (unrefused r (f (filled_input n spans bytes)) refl call.runs) call.runs no_fault in
       let all : f d ≡ f (filled_input n spans bytes) = same_by_local f is_local (filled_input n spans bytes) d (agreed log missed r call no_fault) in
       sym (call.runs.answer honest on) ∙ ap (λ w. w.answer) (sym all)
+
+  -- what is answered is what it states
+  right_stated : (log : List Span) (missed : Option Missing) (failure : ImageError) (budget : ℕ) (r : Result X Halt)
+      → Called f n spans bytes log missed r → is_faulted r ≡ false → with_error failure budget r ≡ (outcome_of (f d)).answer
+  right_stated log missed failure budget r call no_fault =
+      let on = only_fault r (f (filled_input n spans bytes)) refl
+      (unrefused r (f (filled_input n spans bytes)) refl call.runs) call.runs no_fault in
+      stated_same failure budget r on ∙ ap stated (right log missed r call no_fault)
 
   -- what is missed lies in one of its marks, and whole where no texts are read
   wanted_mark : (log : List Span) (s : Span) (made : List Span) (mark : Span) (rest : List Span) → AllKnown n spans bytes log → 0 < s.len
@@ -227,7 +240,7 @@ module _ {X : Type 0} (texts : Bool) (f : List ℕ → Reads X) (is_local : IsLo
       by_cut parts (inr (inr among)) = both (subst (Among mark) (sym parts.there) (among (parts.other ∷ parts.others)))
 
   -- where something is missed, it is wanted
-  wants : (log : List Span) (m : Missing) (r : Result X ImageError) → Called f n spans bytes log (Some m) r → is_faulted r ≡ true
+  wants : (log : List Span) (m : Missing) (r : Result X Halt) → Called f n spans bytes log (Some m) r → is_faulted r ≡ true
       → Wants texts (f d).marks n spans bytes (wanted_of texts m)
   wants log m r call faults =
       let is = (call.runs.misses (is_short n short) faults).told in
@@ -239,14 +252,14 @@ module _ {X : Type 0} (texts : Bool) (f : List ℕ → Reads X) (is_local : IsLo
       )
 
   -- a failure misses something
-  says_wanted : {T : Type 0} (IsSo : T → Type 0) (found : T) (log : List Span) (missed : Option Missing) (r : Result X ImageError)
+  says_wanted : {T : Type 0} (IsSo : T → Type 0) (found : T) (log : List Span) (missed : Option Missing) (r : Result X Halt)
       → Called f n spans bytes log missed r → is_faulted r ≡ true
       → Says texts IsSo (f d).marks n spans bytes (found_or_wanted found (option_map (wanted_of texts) missed))
   says_wanted IsSo found log None r call faults = absurd (call.runs.misses (is_short n short) faults).told
   says_wanted IsSo found log (Some m) r call faults = wants log m r call faults
 
   -- by the code's test
-  pub says : {T : Type 0} (IsSo : T → Type 0) (found : T) (log : List Span) (missed : Option Missing) (r : Result X ImageError)
+  pub says : {T : Type 0} (IsSo : T → Type 0) (found : T) (log : List Span) (missed : Option Missing) (r : Result X Halt)
       → Called f n spans bytes log missed r → (is_faulted r ≡ false → IsSo found)
       → Says texts IsSo (f d).marks n spans bytes (found_or_wanted found (option_map (wanted_of texts) (cond (is_faulted r) missed None)))
   says IsSo found log missed r call is_so = by_test (is_faulted r) refl where
@@ -255,48 +268,60 @@ module _ {X : Type 0} (texts : Bool) (f : List ℕ → Reads X) (is_local : IsLo
     by_test true faults = says_wanted IsSo found log missed r call faults
     by_test false no_fault = is_so no_fault
 
-  pub says_of : (log : List Span) (missed : Option Missing) (r : Result X ImageError) → Called f n spans bytes log missed r
-      → SaysOf texts (f d) n spans bytes (found_or_wanted r (option_map (wanted_of texts) (cond (is_faulted r) missed None)))
-  says_of log missed r call = says (λ answer. answer ≡ (f d).answer) r log missed r call (right log missed r call)
+  pub says_of : (log : List Span) (missed : Option Missing) (failure : ImageError) (budget : ℕ) (r : Result X Halt)
+      → Called f n spans bytes log missed r → SaysOf texts (outcome_of (f d)) n spans bytes
+      (found_or_wanted (with_error failure budget r) (option_map (wanted_of texts) (cond (is_faulted r) missed None)))
+  says_of log missed failure budget r call = says (λ answer. answer ≡ (outcome_of (f d)).answer) (with_error failure budget r) log missed r call
+      (right_stated log missed failure budget r call)
 
 -- ---- the type beside a size
 
 -- what the type wants is wanted
 pub type_wanted : (d : List ℕ) (n : ℕ) (spans : List Span) (bytes : List ℕ) (w : Span) → Wants false (kind_of d 0).marks n spans bytes w
     → Wants (texts_of d) (meaning d 0).marks n spans bytes w
-unfolding meaning
+unfolding meaning_reads
 type_wanted d n spans bytes w wants =
-    let more = marks_onward (kind_of d 0).marks (kind_of d 0).answer (λ found. size_of found d) in (
-      ap (λ s. is_covered s w.start) more.1 ∙ covered-left (kind_of d 0).marks more.0 w.start wants.0,
+    let first : List Span = (kind_reads d 0).marks in
+    let more = marks_onward first (kind_reads d 0).answer (λ found. size_reads found d) in (
+      ap (λ s. is_covered s w.start) more.1 ∙ covered-left first more.0 w.start wants.0,
       wants.1,
-      λ _. ap (λ s. has_whole s w) more.1 ∙ any_left (λ s. leb s.start w.start && leb (w.start + w.len) (s.start + s.len)) (kind_of d 0).marks more.0
+      λ _. ap (λ s. has_whole s w) more.1 ∙ any_left (λ s. leb s.start w.start && leb (w.start + w.len) (s.start + s.len)) first more.0
           (wants.2 refl),
     )
 
+-- an input without a type has no size, by the same error
+no_size : (d : List ℕ) (k : Result ImageType Halt) (e : ImageError) → k ≡ (kind_reads d 0).answer → Err e ≡ stated k
+    → Err e ≡ stated (meaning_reads d 0).answer
+unfolding meaning_reads
+no_size d (Ok type) e same is = absurd cc
+no_size d (Err halt) e same is = is ∙ ap (λ r. stated (go_on (kind_reads d 0).marks r (λ found. size_reads found d)).answer) same
+
 -- a type that is refused is none
 pub type_refused : (d : List ℕ) (e : ImageError) → ◌≡◌ {A = Result ImageType ImageError} (Err e) (kind_of d 0).answer → IsProbed d (None, Err e)
-unfolding meaning
 type_refused d e is = (
   ap (λ (r : Result ImageType ImageError). result_ok r) is,
-  ap (λ r. (go_on (kind_of d 0).marks r (λ found. size_of found d)).answer) is,
+  no_size d (kind_reads d 0).answer e refl is,
 )
 
 -- and a type that is found has its size
 pub type_sized : (d : List ℕ) (n : ℕ) (spans : List Span) (bytes : List ℕ) (type : ImageType) (answer : PartsAnswer (Result ImageSize ImageError))
     → ◌≡◌ {A = Result ImageType ImageError} (Ok type) (kind_of d 0).answer → SaysOf (has_texts type) (size_of type d) n spans bytes answer
     → Says (texts_of d) (IsProbed d) (meaning d 0).marks n spans bytes (with_type type answer)
-unfolding meaning
-type_sized d n spans bytes type (Found answer) is says = (
-  ap (λ (r : Result ImageType ImageError). result_ok r) is,
-  says ∙ ap (λ r. (go_on (kind_of d 0).marks r (λ found. size_of found d)).answer) is,
-)
+unfolding meaning_reads
+type_sized d n spans bytes type (Found answer) is says =
+    let found = stated_ok (kind_reads d 0).answer type (sym is) in (
+      ap (λ (r : Result ImageType ImageError). result_ok r) is,
+      says ∙ ap (λ r. stated (go_on (kind_reads d 0).marks r (λ found. size_reads found d)).answer) (sym found),
+    )
 type_sized d n spans bytes type (Wanted w) is says =
-    let marks : (meaning d 0).marks ≡ (kind_of d 0).marks ++ (size_of type d).marks =
-    ap (λ r. (go_on (kind_of d 0).marks r (λ found. size_of found d)).marks) (sym is) in (
-      ap (λ s. is_covered s w.start) marks ∙ covered-right (kind_of d 0).marks (size_of type d).marks w.start says.0,
+    let found = stated_ok (kind_reads d 0).answer type (sym is) in
+    let first : List Span = (kind_reads d 0).marks in
+    let marks : (meaning_reads d 0).marks ≡ first ++ (size_reads type d).marks =
+    ap (λ r. (go_on first r (λ found. size_reads found d)).marks) found in (
+      ap (λ s. is_covered s w.start) marks ∙ covered-right first (size_reads type d).marks w.start says.0,
       says.1,
-      λ none. ap (λ s. has_whole s w) marks ∙ any_right (λ s. leb s.start w.start && leb (w.start + w.len) (s.start + s.len)) (kind_of d 0).marks
-          (size_of type d).marks (says.2 (ap texts_as is ∙ none)),
+      λ none. ap (λ s. has_whole s w) marks ∙ any_right (λ s. leb s.start w.start && leb (w.start + w.len) (s.start + s.len)) first
+          (size_reads type d).marks (says.2 (ap texts_as is ∙ none)),
     )
 
 pub tells : {T : Type 0} (texts : Bool) (IsSo : T → Type 0) (marks : List Span) (n : ℕ) (spans : List Span) (bytes : List ℕ)
@@ -306,18 +331,20 @@ tells texts IsSo marks n spans bytes (Wanted w) says all = let no : true ≡ fal
 
 -- a failure is never found
 pub unstopped : {X : Type 0} (f : List ℕ → Reads X) (n : ℕ) (spans : List Span) (bytes : List ℕ) (texts : Bool) (log : List Span)
-    (missed : Option Missing) (r : Result X ImageError) → n < 2 ^ 63 → Called f n spans bytes log missed r
-    → IfFound (found_or_wanted r (option_map (wanted_of texts) (cond (is_faulted r) missed None))) (λ answer. is_stopped answer ≡ false)
-unstopped {X} f n spans bytes texts log missed r short call = by_test (is_faulted r) refl missed call where
+    (missed : Option Missing) (failure : ImageError) (budget : ℕ) (r : Result X Halt) → n < 2 ^ 63 → Called f n spans bytes log missed r
+    → IfFound (found_or_wanted (with_error failure budget r) (option_map (wanted_of texts) (cond (is_faulted r) missed None)))
+    (λ answer. is_stopped_error answer ≡ false)
+unstopped {X} f n spans bytes texts log missed failure budget r short call = by_test (is_faulted r) refl missed call where
   by_test : (test : Bool) → is_faulted r ≡ test → (m : Option Missing) → Called f n spans bytes log m r
-      → IfFound (found_or_wanted r (option_map (wanted_of texts) (cond test m None))) (λ answer. is_stopped answer ≡ false)
+      → IfFound (found_or_wanted (with_error failure budget r) (option_map (wanted_of texts) (cond test m None)))
+      (λ answer. is_stopped_error answer ≡ false)
   by_test true faults None c = absurd (c.runs.misses (is_short n short) faults).told
   by_test true faults (Some m) c = tt
-  by_test false no_fault m c =
-      only_fault r (f (filled_input n spans bytes)) refl (no_memory r (f (filled_input n spans bytes)) refl c.runs) c.runs no_fault
+  by_test false no_fault m c = slice_unstopped failure budget r
+      (only_fault r (f (filled_input n spans bytes)) refl (unrefused r (f (filled_input n spans bytes)) refl c.runs) c.runs no_fault)
 
-pub unstopped_type : (type : ImageType) (answer : PartsAnswer (Result ImageSize ImageError)) → IfFound answer (λ r. is_stopped r ≡ false)
-    → IfFound (with_type type answer) (λ found. is_stopped found.1 ≡ false)
+pub unstopped_type : (type : ImageType) (answer : PartsAnswer (Result ImageSize ImageError)) → IfFound answer (λ r. is_stopped_error r ≡ false)
+    → IfFound (with_type type answer) (λ found. is_stopped_error found.1 ≡ false)
 unstopped_type type (Found answer) is = is
 unstopped_type type (Wanted w) is = tt
 
@@ -334,7 +361,7 @@ fits texts n spans bytes missed found false lacks = tt
 
 -- an answer says of each input that has the parts what these readings of it are
 abbrev pub SaysOfEach : {X : Type 0} → Bool → (List ℕ → Reads X) → PartsAnswer (Result X ImageError) → ℕ → List Span → List ℕ → Type 0
-SaysOfEach texts f answer n spans bytes = (d : List ℕ) → HasKnown d n spans bytes → n < 2 ^ 63 → SaysOf texts (f d) n spans bytes answer
+SaysOfEach texts f answer n spans bytes = (d : List ℕ) → HasKnown d n spans bytes → n < 2 ^ 63 → SaysOf texts (outcome_of (f d)) n spans bytes answer
 
 -- what holds of the parts of a source holds of those that it has them from
 pub moved : (P : ℕ → List Span → List ℕ → Type 0) (n m : ℕ) (spans others : List Span) (bytes content : List ℕ) → m ≡ n → others ≡ spans
@@ -346,7 +373,7 @@ pub both_are : (s t : List Span) (xs ys : List ℕ) → ◌≡◌ {A = Option (L
 both_are s t xs ys e = let is : ◌≡◌ {A = List Span × List ℕ} (s, xs) (t, ys) = cc in (ap (λ (p : List Span × List ℕ). p.0) is, ap (λ (p : List Span × List ℕ). p.1) is)
 
 pub called : {X : Type 0} (f : List ℕ → Reads X) (n m k : ℕ) (spans others given : List Span) (bytes content their : List ℕ)
-    (first log : List Span) (before missed : Option Missing) (r : Result X ImageError) → k ≡ n → given ≡ spans → their ≡ bytes → first ≡ []
+    (first log : List Span) (before missed : Option Missing) (r : Result X Halt) → k ≡ n → given ≡ spans → their ≡ bytes → first ≡ []
     → before ≡ None → Runs (parts_state k given their first before) (parts_state m others content log missed) r (f (filled_input k given their))
     → AllKnown m others content log → ForSome missed (Lacks m others content) → Called f n spans bytes log missed r
 called f n m k spans others given bytes content their first log before missed r told is_spans is_bytes none unmissed runs seen lacks =

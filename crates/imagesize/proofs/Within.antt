@@ -19,7 +19,7 @@ use Rattle.imagesize_walked.specs.Jpeg.{jpeg_segments}
 use Rattle.imagesize_walked.specs.Tiff.{count_bytes, tiff, tiff_directory, tiff_entries, tiff_header}
 use Rattle.imagesize.proofs.Counts.{cost_within}
 use Rattle.imagesize.specs.Kind.{kind}
-use Rattle.imagesize.specs.Meaning.{kind_of, meaning, size_of}
+use Rattle.imagesize.specs.Meaning.{kind_reads, meaning_reads, size_reads}
 use Rattle.imagesize.specs.Parted.{IsWithin}
 use Rattle.imagesize.specs.Traced.{AreWithin}
 use Rattle.imagesize.specs.Types.{way_of}
@@ -34,7 +34,7 @@ use Rattle.imagesize_types.specs.declared.size.ImageSize.{ImageSize}
 use Rattle.imagesize_source.specs.State.{total}
 use Rattle.imagesize_source.specs.Way.{Way, Fixed, Recorded, Texts, by_way}
 use Rattle.imagesize_source.specs.declared.endian.Endian.TheVariants.{Big, Little}
-use Rattle.imagesize_source.specs.declared.error.ImageError.{ImageError}
+use Rattle.imagesize_source.specs.declared.halt.Halt.{Halt}
 use Rattle.imagesize_source.specs.declared.span.Span.{Span}
 use Rattle.imagesize_source.proofs.Counts.{text_length}
 use Rattle.imagesize_source.proofs.Parts.{part_length}
@@ -63,7 +63,7 @@ read_within d (PartOf k) place = reading_within d place k
 read_within d (TextOf t k) place = span_within (length d) place (length (text_part d t place k))
     (λ some. omega (arith, some, text_length d t place k, part_length d place k))
 
-onward_within : {X Y : Type 0} (n : ℕ) (spans : List Span) (r : Result X ImageError) (f : X → Reads Y) → AreWithin n spans
+onward_within : {X Y : Type 0} (n : ℕ) (spans : List Span) (r : Result X Halt) (f : X → Reads Y) → AreWithin n spans
     → ((x : X) → AreWithin n (f x).marks) → AreWithin n (go_on spans r f).marks
 onward_within n spans (Ok x) f first rest = All-append (IsWithin n) spans (f x).marks first (rest x)
 onward_within n spans (Err e) f first rest = first
@@ -167,12 +167,12 @@ type_marked Tiff = tiff_within
 type_marked _ = tt
 
 -- the marks of a size, and of a type with it
-size_within : (type : ImageType) (d : List ℕ) → AreWithin (length d) (size_of type d).marks
+size_within : (type : ImageType) (d : List ℕ) → AreWithin (length d) (size_reads type d).marks
 size_within type d = way_within (way_of type) d (type_marked type)
 
-pub meaning_within : (d : List ℕ) (place : ℕ) → AreWithin (length d) (meaning d place).marks
-unfolding meaning
-meaning_within d place = then_within (length d) (kind_of d place) (λ found. size_of found d) (layout_within d (kind (length d) place))
+pub meaning_within : (d : List ℕ) (place : ℕ) → AreWithin (length d) (meaning_reads d place).marks
+unfolding meaning_reads
+meaning_within d place = then_within (length d) (kind_reads d place) (λ found. size_reads found d) (layout_within d (kind (length d) place))
     (λ found. size_within found d)
 
 -- there are no more of them than they are long
@@ -182,8 +182,8 @@ count_within n (s ∷ spans) is =
     let here = is 0 s (omega arith) in let rest = count_within n spans (λ k d below. is (suc k) d (omega (arith, below))) in
     omega (arith, rest, here.0)
 
-pub marks_few : (d : List ℕ) (place : ℕ) → length (meaning d place).marks ≤ length d + 64
-marks_few d place = omega (arith, count_within (length d) (meaning d place).marks (meaning_within d place), cost_within d place)
+pub marks_few : (d : List ℕ) (place : ℕ) → length (meaning_reads d place).marks ≤ length d + 64
+marks_few d place = omega (arith, count_within (length d) (meaning_reads d place).marks (meaning_within d place), cost_within d place)
 
 -- those that a buffer begins with
 pub front_within : (n : ℕ) (marks new rest : List Span) (count again : ℕ) → count ≡ length marks → again ≡ length marks → length new ≡ count

@@ -12,7 +12,6 @@ use Rattle.imagesize_types.specs.declared.compression.PvrtcCompression.TheVarian
 use Rattle.imagesize_source.specs.Limits.{stated_fixed}
 use Rattle.imagesize_source.specs.State.{total}
 use Rattle.imagesize_source.specs.Way.{most_by, stated_by}
-use Rattle.imagesize_source.specs.declared.error.ImageError.{ImageError}
 
 -- the lengths of the marks together, repeats counted
 abbrev pub cost : List ℕ → ℕ → ℕ
@@ -20,7 +19,7 @@ cost d place = total (meaning d place).marks
 
 -- What is stated of it: 41 of a refused type and of a size at fixed places, 64 and 20 for each record that is begun of
 -- a size behind records, and 64 more than the input has of a text.
-abbrev pub stated_as : Result ImageType ImageError → List ℕ → ℕ
+abbrev pub stated_as : {E : Type 0} → Result ImageType E → List ℕ → ℕ
 stated_as (Ok type) d = stated_by (way_of type) d
 stated_as (Err _) d = stated_fixed
 
@@ -28,7 +27,7 @@ abbrev pub stated_bytes : List ℕ → ℕ → ℕ
 stated_bytes d place = stated_as (kind_of d place).answer d
 
 -- the most that is read by the format: 37 bytes where none is found
-abbrev pub most_as : Result ImageType ImageError → List ℕ → ℕ
+abbrev pub most_as : {E : Type 0} → Result ImageType E → List ℕ → ℕ
 most_as (Ok type) d = most_by (outside_records type) (in_record type) (way_of type) d
 most_as (Err _) d = 37
 
@@ -56,6 +55,6 @@ abbrev pub Stays : ImageType → ImageType → Type 0
 Stays found type = (type ≡ found) ⊎ (found ≡ without_compression type)
 
 -- bytes that follow change no size of what was found
-abbrev pub lasts_as : Result ImageType ImageError → Bool
+abbrev pub lasts_as : {E : Type 0} → Result ImageType E → Bool
 lasts_as (Ok type) = lasts type
 lasts_as (Err _) = false

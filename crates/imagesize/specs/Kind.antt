@@ -11,7 +11,7 @@ use Rattle.imagesize.specs.declared.types.ImageType.TheVariants.{Atc, Dds, Eac, 
 use Rattle.imagesize.specs.declared.types.ImageType.{ImageType}
 use Rattle.imagesize_source.specs.Layout.Layout.{refuse, «done»}
 use Rattle.imagesize_source.specs.Layout.{Layout, bind, bytes}
-use Rattle.imagesize_source.specs.declared.error.ImageError.TheVariants.{NotSupported}
+use Rattle.imagesize_source.specs.declared.halt.Halt.TheVariants.{NotSupported}
 
 -- the type of the first row that holds
 abbrev pub first_row : List Row → List ℕ → Option ImageType

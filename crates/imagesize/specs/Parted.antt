@@ -8,7 +8,7 @@ use Rattle.imagesize.specs.declared.types.ImageType.{ImageType}
 use Rattle.imagesize.specs.declared.types.ImageType.TheVariants.{Exr, Hdr, Pnm}
 use Rattle.imagesize_source.specs.Agreement.{is_covered, has_whole}
 use Rattle.imagesize_source.specs.Known.{byte_in_parts}
-use Rattle.imagesize_source.specs.Reading.{Reads}
+use Rattle.imagesize_source.specs.Outcome.{Outcome}
 use Rattle.imagesize_source.specs.declared.error.ImageError.{ImageError}
 use Rattle.imagesize_source.specs.declared.source.parts.Missing.{Missing}
 use Rattle.imagesize_source.specs.declared.span.Span.{Span}
@@ -21,7 +21,7 @@ has_texts Hdr = true
 has_texts Pnm = true
 has_texts _ = false
 
-abbrev pub texts_as : Result ImageType ImageError → Bool
+abbrev pub texts_as : {E : Type 0} → Result ImageType E → Bool
 texts_as (Ok type) = has_texts type
 texts_as (Err _) = false
 
@@ -46,7 +46,7 @@ Says texts IsSo marks n spans content (Found found) = IsSo found
 Says texts IsSo marks n spans content (Wanted w) = Wants texts marks n spans content w
 
 -- what is found is the answer of the readings
-abbrev pub SaysOf : {X : Type 0} → Bool → Reads X → ℕ → List Span → List ℕ → PartsAnswer (Result X ImageError) → Type 0
+abbrev pub SaysOf : {X : Type 0} → Bool → Outcome X → ℕ → List Span → List ℕ → PartsAnswer (Result X ImageError) → Type 0
 SaysOf texts reads n spans content told = Says texts (λ answer. answer ≡ reads.answer) reads.marks n spans content told
 
 -- what holds of what is found

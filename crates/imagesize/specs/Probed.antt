@@ -2,22 +2,23 @@
 use Rattle.std.specs.Prelude.{◌≡◌, ℕ, ◌+◌, ◌≤◌, true, false, length, Option, None, Some, Result, Ok, IfSome, option_map}
 use Rattle.std.specs.Result.{result_ok}
 use Rattle.imagesize.specs.Counts.{most_bytes, stated_bytes}
-use Rattle.imagesize.specs.Meaning.{kind_of, meaning}
+use Rattle.imagesize.specs.Meaning.{kind_of, kind_reads, meaning}
 use Rattle.imagesize.specs.Short.{EndsAs}
 use Rattle.imagesize_types.specs.declared.size.ImageSize.{ImageSize}
 use Rattle.imagesize.specs.declared.types.ImageType.{ImageType}
 use Rattle.imagesize.specs.declared.calls.Probed.{Probed}
 use Rattle.imagesize_source.specs.Limits.{allowance}
-use Rattle.imagesize_source.specs.declared.error.ImageError.{ImageError}
+use Rattle.imagesize_source.specs.declared.halt.Halt.{Halt}
 use Rattle.imagesize_io.specs.Answers.{AnswersAs, TakesAs, over_reader}
-use Rattle.imagesize_source.specs.Reading.{is_stopped}
+use Rattle.imagesize_source.specs.Errors.{is_stopped}
+use Rattle.imagesize_source.specs.Reading.{is_stopped as has_stopped}
 use Rattle.imagesize_source.specs.State.{State}
 use Rattle.imagesize_io.specs.Telling.{Telling, IsHonest}
 
 -- A type that is named is the input's, and where nothing failed it is named if there is one.
-pub record FindsKind (a : State) (place : ℕ) (found : Option ImageType) (r : Result ImageSize ImageError) : Type 0 where
-  pub right : a.held.honest ≡ true → IfSome found (λ type. (kind_of a.held.input place).answer ≡ Ok type)
-  pub whole : a.held.honest ≡ true → is_stopped r ≡ false → found ≡ result_ok (kind_of a.held.input place).answer
+pub record FindsKind (a : State) (place : ℕ) (found : Option ImageType) (r : Result ImageSize Halt) : Type 0 where
+  pub right : a.held.honest ≡ true → IfSome found (λ type. (kind_reads a.held.input place).answer ≡ Ok type)
+  pub whole : a.held.honest ≡ true → has_stopped r ≡ false → found ≡ result_ok (kind_reads a.held.input place).answer
 
 -- Over an honest reader the answer is that of the layouts or a failure, the type named beside it is right, and the
 -- bytes taken are those of their readings, at most as many as are stated, as the format's count, and the allowance more than

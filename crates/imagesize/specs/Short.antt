@@ -1,7 +1,7 @@
 -- Inputs that are too short to be told apart: a type is read from twelve bytes.
 use Rattle.std.specs.Prelude.{◌≡◌, ◌+◌, ◌<◌, false, length, Option, None, Some, Result, Err}
 use Rattle.imagesize_io.specs.Telling.{Telling, IsHonest}
-use Rattle.imagesize_source.specs.Reading.{end_of_input, is_stopped}
+use Rattle.imagesize_source.specs.Errors.{end_of_input, is_stopped}
 use Rattle.imagesize_source.specs.declared.error.ImageError.{ImageError}
 
 -- where fewer than twelve bytes are left at a reader's place, the answer is that the input ends, if no failure is

@@ -2,13 +2,14 @@
 ghost use Rattle.std.specs.Prelude.{◌≡◌, ℕ, ◌+◌, ◌<◌, ◌≤◌, List, length, ◌++◌, IsTrue, IfOk, IsOkAnd, IfErr, IfSome, IsSome, Some, true, false, Option, Ok, Err, option_map};
 ghost use Rattle.imagesize_io.specs.Answers.{Answers, CountsWithin, IsLast, Leaves};
 ghost use Rattle.imagesize_source.specs.Limits.{allowance};
-ghost use Rattle.imagesize_source.specs.Reading.{end_of_input, is_fault, is_memory, budget_spent, is_stopped};
+ghost use Rattle.imagesize_source.specs.Errors.{end_of_input, is_fault, is_memory, budget_spent, is_stopped};
+ghost use Rattle.imagesize_source.specs.Reading.{is_stopped as has_stopped};
 ghost use Rattle.imagesize_source.specs.State.{Runs};
 ghost use Rattle.imagesize_io.specs.ReaderState.{Opens};
 ghost use Rattle.imagesize_io.specs.Telling.{Telling};
 ghost use Rattle.imagesize_source.specs.Agreement.{Agrees};
 ghost use Rattle.imagesize.specs.Counts.{Stays, cost, keeps, lasts_as, most_bytes, stated_bytes};
-ghost use Rattle.imagesize.specs.Meaning.{kind_of, meaning, size_of};
+ghost use Rattle.imagesize.specs.Meaning.{kind_of, meaning, meaning_reads, size_of};
 ghost use Rattle.imagesize.specs.Probed.{FindsKind, Probes, SpentAll};
 ghost use Rattle.imagesize.specs.Short.{Ends};
 
@@ -16,6 +17,8 @@ use crate::formats::{detect, size};
 use crate::types::ImageType;
 use crate::{ImageResult, Told};
 use imagesize_io::reader::{Opened, Origin, ReaderSource, open};
+use imagesize_source::Halt;
+use imagesize_source::halt::with_error;
 use imagesize_source::source::Source;
 use imagesize_source::source::slice::SliceSource;
 use imagesize_types::size::ImageSize;
@@ -55,7 +58,8 @@ pub fn image_type(header: &[u8]) -> ImageResult<ImageType>
     // A slice fails at no reading, has no budget and wants no memory.
     ensures unstopped { is_stopped result ≡ false }
 {
-    detect(&mut SliceSource { bytes: header }, 0)
+    let mut source = SliceSource { bytes: header };
+    with_error(detect(&mut source, 0), &source)
 }
 
 /// The size in pixels of the image that a slice's bytes hold.
@@ -95,13 +99,14 @@ pub fn blob_size(data: &[u8]) -> ImageResult<ImageSize>
     // A slice fails at no reading, has no budget and wants no memory.
     ensures unstopped { is_stopped result ≡ false }
 {
-    probe_slice(data)
+    let source = SliceSource { bytes: data };
+    with_error(probe_slice(data), &source)
 }
 
 // The size that a slice's bytes mean.
-fn probe_slice(data: &[u8]) -> ImageResult<ImageSize>
-    ensures value { result ≡ (meaning «data».now 0).answer }
-    ensures unstopped { is_stopped result ≡ false }
+fn probe_slice(data: &[u8]) -> Result<ImageSize, Halt>
+    ensures value { result ≡ (meaning_reads «data».now 0).answer }
+    ensures unstopped { has_stopped result ≡ false }
 {
     probe(&mut SliceSource { bytes: data }, 0).1
 }
@@ -110,15 +115,15 @@ fn probe_slice(data: &[u8]) -> ImageResult<ImageSize>
 pub(crate) fn probe<S: Source>(
     source: &mut S,
     place: u64,
-) -> (Option<ImageType>, ImageResult<ImageSize>)
+) -> (Option<ImageType>, Result<ImageSize, Halt>)
     ensures runs { Runs (S.state source.old) (S.state source.new) result.1
-        (meaning (S.state source.old).held.input place) }
+        (meaning_reads (S.state source.old).held.input place) }
     ensures kind { FindsKind (S.state source.old) place result.0 result.1 }
     ensures typed { IfOk result.1 (λ _. IsSome result.0) }
 {
     match detect(source, place) {
         Ok(found) => (Some(found), size(source, found)),
-        Err(error) => (None, Err(error)),
+        Err(halt) => (None, Err(halt)),
     }
 }
 
@@ -244,7 +249,9 @@ fn type_opened<R: Told>(reader: &mut R, opened: Opened) -> ImageResult<ImageType
     ensures memory { IfErr result (λ e. is_memory e ≡ false) }
     ensures spent { IfErr result (λ e. IfSome (budget_spent e) (λ budget. allowance ≤ budget)) }
 {
-    detect(&mut ReaderSource::new(reader, opened.told), opened.place)
+    let mut source = ReaderSource::new(reader, opened.told);
+    let found = detect(&mut source, opened.place);
+    with_error(found, &source)
 }
 
 // The size of what a reader holds that was opened, read as this type.
@@ -260,8 +267,8 @@ fn size_opened<R: Told>(kind: ImageType, reader: &mut R, opened: Opened) -> Imag
         → Leaves telling (R.telling reader.new) }
 {
     let mut source = ReaderSource::new(reader, opened.told);
-    let answer = size(&mut source, kind);
-    answer
+    let found = size(&mut source, kind);
+    with_error(found, &source)
 }
 
 // Type and size of what a reader holds that was opened.
@@ -277,11 +284,10 @@ fn probe_opened<R: Told>(reader: &mut R, opened: Opened) -> Probed
         → Leaves telling (R.telling reader.new) }
 {
     let mut source = ReaderSource::new(reader, opened.told);
-    let (kind, answer) = probe(&mut source, opened.place);
-    let taken = source.taken();
+    let (kind, found) = probe(&mut source, opened.place);
     Probed {
         kind,
-        answer,
-        taken,
+        taken: source.taken(),
+        answer: with_error(found, &source),
     }
 }

@@ -1,7 +1,7 @@
 //! The size of the image in a file.
 ghost use Rattle.std.specs.Prelude.{◌≡◌, ◌≤◌, IfErr, IfOk, IfSome, Ok, Err};
 ghost use Rattle.imagesize_source.specs.Limits.{allowance};
-ghost use Rattle.imagesize_source.specs.Reading.{budget_spent};
+ghost use Rattle.imagesize_source.specs.Errors.{budget_spent};
 ghost use Rattle.imagesize_source.specs.declared.error.ImageError.TheVariants as error;
 ghost use Rattle.imagesize_source.specs.declared.error.Reason.TheVariants as reason;
 

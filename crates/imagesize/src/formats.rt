@@ -2,13 +2,11 @@
 ghost use Rattle.std.specs.Prelude.{◌≡◌, length};
 ghost use Rattle.imagesize.specs.Kind.{first_row, kind, kind_by, tga_or_none, with_compression};
 ghost use Rattle.imagesize.specs.Types.{rows};
-ghost use Rattle.imagesize.specs.Meaning.{size_of};
+ghost use Rattle.imagesize.specs.Meaning.{size_reads};
 ghost use Rattle.imagesize_fixed.specs.Tga.{is_tga};
-ghost use Rattle.imagesize_source.specs.Halts.{RunsOrHalts};
-ghost use Rattle.imagesize_source.specs.Layout.{bind, layout_reads};
-ghost use Rattle.imagesize_source.specs.State.{Runs, IsSound};
+ghost use Rattle.imagesize_source.specs.Layout.{bind};
+ghost use Rattle.imagesize_source.specs.State.{Follows, Runs, IsSound};
 
-use crate::ImageResult;
 use crate::types::ImageType;
 use imagesize_boxes::container::heif;
 use imagesize_boxes::formats::jxl;
@@ -17,7 +15,6 @@ use imagesize_fixed::formats::{
     aseprite, astc, bmp, farbfeld, gif, ktx2, psd, qoi, tga, vtf, webp,
 };
 use imagesize_source::Halt;
-use imagesize_source::halt::with_error;
 use imagesize_source::readings::read_exact_at;
 use imagesize_source::source::Source;
 use imagesize_texts::formats::{exr, hdr, pnm};
@@ -29,28 +26,9 @@ use imagesize_walked::formats::{ico, ilbm, jpeg, tiff};
 
 /// The type at a place, by the twelve bytes there.
 #[inline(always)]
-pub(crate) fn detect<S: Source>(source: &mut S, place: u64) -> ImageResult<ImageType>
-    ensures { Runs (S.state source.old) (S.state source.new) result
-        (layout_reads (S.state source.old).held.input (kind (length (S.state source.old).held.input) place)) }
-{
-    with_error(read_kind(source, place), source)
-}
-
-/// The size of the image, read as this type whatever its first bytes are.
-#[inline(always)]
-pub(crate) fn size<S: Source>(source: &mut S, kind: ImageType) -> ImageResult<ImageSize>
-    ensures { Runs (S.state source.old) (S.state source.new) result
-        (size_of kind (S.state source.old).held.input) }
-{
-    with_error(read_size(source, kind), source)
-}
-
-// The type by the twelve bytes at a place, or why there is none.
-#[inline(always)]
 #[tactic(auto, using(imagesize_source::proofs::Runs::steps))]
-fn read_kind<S: Source>(source: &mut S, place: u64) -> Result<ImageType, Halt>
-    ensures { RunsOrHalts (S.state source.old) (S.state source.new) (S.failure source.new) result
-        (layout_reads (S.state source.old).held.input (kind (length (S.state source.old).held.input) place)) }
+pub(crate) fn detect<S: Source>(source: &mut S, place: u64) -> Result<ImageType, Halt>
+    ensures { Follows (S.state source.old) (S.state source.new) result (kind (length (S.state source.old).held.input) place) }
 {
     let mut head = [0u8; 12];
     read_exact_at(source, place, &mut head)?;
@@ -62,7 +40,7 @@ fn read_kind<S: Source>(source: &mut S, place: u64) -> Result<ImageType, Halt>
 #[tactic(auto, using(imagesize_source::proofs::Runs::steps, imagesize_source::proofs::Layouts::binding))]
 fn by_head<S: Source>(source: &mut S, place: u64, head: &[u8; 12]) -> Result<ImageType, Halt>
     requires { IsSound (S.state source.old) }
-    ensures { RunsOrHalts (S.state source.old) (S.state source.new) (S.failure source.new) result
+    ensures { Runs (S.state source.old) (S.state source.new) result
         (layout_reads (S.state source.old).held.input
         (kind_by (length (S.state source.old).held.input) place head.now (first_row rows head.now))) }
 {
@@ -77,8 +55,7 @@ fn by_head<S: Source>(source: &mut S, place: u64, head: &[u8; 12]) -> Result<Ima
 #[tactic(auto, using(imagesize_source::proofs::Runs::steps, imagesize_source::proofs::Layouts::binding))]
 fn tga_or_none<S: Source>(source: &mut S, head: &[u8; 12]) -> Result<ImageType, Halt>
     requires { IsSound (S.state source.old) }
-    ensures { RunsOrHalts (S.state source.old) (S.state source.new) (S.failure source.new) result
-        (layout_reads (S.state source.old).held.input (bind (is_tga (length (S.state source.old).held.input) head.now) tga_or_none)) }
+    ensures { Follows (S.state source.old) (S.state source.new) result (bind (is_tga (length (S.state source.old).held.input) head.now) tga_or_none) }
 {
     if tga::matches(source, head)? {
         return Ok(ImageType::Tga);
@@ -130,8 +107,7 @@ fn with_compression<S: Source>(
     found: ImageType,
 ) -> Result<ImageType, Halt>
     requires { IsSound (S.state source.old) }
-    ensures { RunsOrHalts (S.state source.old) (S.state source.new) (S.failure source.new) result
-        (layout_reads (S.state source.old).held.input (with_compression place head.now found)) }
+    ensures { Follows (S.state source.old) (S.state source.new) result (with_compression place head.now found) }
 {
     match found {
         ImageType::Heif(_)
@@ -154,8 +130,7 @@ fn read_compression<S: Source>(
     found: ImageType,
 ) -> Result<ImageType, Halt>
     requires { IsSound (S.state source.old) }
-    ensures { RunsOrHalts (S.state source.old) (S.state source.new) (S.failure source.new) result
-        (layout_reads (S.state source.old).held.input (with_compression place head.now found)) }
+    ensures { Follows (S.state source.old) (S.state source.new) result (with_compression place head.now found) }
 {
     Ok(match found {
         ImageType::Heif(_) => ImageType::Heif(heif::detect_compression(source, place, head)?),
@@ -182,11 +157,11 @@ fn in_pkm(found: ImageType, compression: PkmCompression) -> ImageType
     }
 }
 
-// The size, by the format of a type.
+/// The size of the image, read as this type whatever its first bytes are.
 #[tactic(auto, using(imagesize_source::proofs::Runs::steps))]
-fn read_size<S: Source>(source: &mut S, kind: ImageType) -> Result<ImageSize, Halt>
-    ensures { RunsOrHalts (S.state source.old) (S.state source.new) (S.failure source.new) result
-        (size_of kind (S.state source.old).held.input) }
+pub(crate) fn size<S: Source>(source: &mut S, kind: ImageType) -> Result<ImageSize, Halt>
+    ensures { Runs (S.state source.old) (S.state source.new) result
+        (size_reads kind (S.state source.old).held.input) }
 {
     match kind {
         ImageType::Aseprite => aseprite::size(source),

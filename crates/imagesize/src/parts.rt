@@ -3,11 +3,15 @@ ghost use Rattle.std.specs.Prelude.{◌≡◌, ℕ, ◌^◌, ◌<◌, false, Lis
 ghost use Rattle.imagesize.specs.Meaning.{kind_of, meaning, size_of};
 ghost use Rattle.imagesize.specs.Parted.{Fits, HasKnown, IfFound, IsProbed, Says, SaysOf, Tells, has_texts, texts_of, found_or_wanted, wanted_of, with_type};
 ghost use Rattle.imagesize_source.specs.Known.{AllKnown};
-ghost use Rattle.imagesize_source.specs.Reading.{is_faulted, is_stopped};
+ghost use Rattle.imagesize_source.specs.Errors.{end_of_input, is_stopped};
+ghost use Rattle.imagesize_source.specs.Halts.{with_error};
+ghost use Rattle.imagesize_source.specs.Reading.{is_faulted};
 
 use crate::formats::{detect, size};
 use crate::types::ImageType;
-use crate::{ImageError, ImageResult, Reason, Span};
+use crate::{ImageResult, Span};
+use imagesize_source::Halt;
+use imagesize_source::halt::with_error;
 use imagesize_source::source::parts::{Missing, PartsSource};
 use imagesize_types::size::ImageSize;
 
@@ -153,8 +157,7 @@ fn type_of(source: &mut PartsSource<'_>) -> PartsAnswer<ImageResult<ImageType>>
 {
     source.forget();
     let found = detect(source, 0);
-    let wanted = missed_part(&found, source.missed);
-    found_or_wanted(found, wanted, false)
+    found_or_wanted(found, source, false)
 }
 
 // The size, read as this type, by readings that begin anew.
@@ -167,19 +170,28 @@ fn size_as(source: &mut PartsSource<'_>, image: ImageType) -> PartsAnswer<ImageR
 {
     source.forget();
     let found = size(source, image);
-    let wanted = missed_part(&found, source.missed);
     let texts = has_texts(&image);
-    found_or_wanted(found, wanted, texts)
+    found_or_wanted(found, source, texts)
 }
 
-// What was found, where nothing is missed.
+// What was found; or what is missed, where a reading failed.
 #[inline(always)]
-fn found_or_wanted<T: Drop>(found: T, missed: Option<Missing>, texts: bool) -> PartsAnswer<T>
-    ensures { result ≡ found_or_wanted found (option_map (wanted_of texts) missed) }
+fn found_or_wanted<T: Drop>(
+    found: Result<T, Halt>,
+    source: &PartsSource<'_>,
+    texts: bool,
+) -> PartsAnswer<ImageResult<T>>
+    ensures { result ≡ found_or_wanted (with_error end_of_input 0 found)
+        (option_map (wanted_of texts) (if is_faulted found then source.now.missed else None)) }
 {
+    let missed = if matches!(found, Err(Halt::Failed)) {
+        source.missed
+    } else {
+        None
+    };
     match missed {
         Some(missing) => PartsAnswer::Wanted(wanted_of(missing, texts)),
-        None => PartsAnswer::Found(found),
+        None => PartsAnswer::Found(with_error(found, source)),
     }
 }
 
@@ -201,16 +213,6 @@ fn has_texts(image: &ImageType) -> bool
     ensures { result ≡ has_texts image.now }
 {
     matches!(image, ImageType::Exr | ImageType::Hdr | ImageType::Pnm)
-}
-
-// What is missed, where the answer is a failure.
-fn missed_part<X>(answer: &ImageResult<X>, missed: Option<Missing>) -> Option<Missing>
-    ensures { result ≡ (if is_faulted answer.now then missed else None) }
-{
-    match answer {
-        Err(ImageError::IoError(Reason::Fault(_))) => missed,
-        _ => None,
-    }
 }
 
 // All that is asked for where texts are read, and else what is surely read.

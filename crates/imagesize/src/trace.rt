@@ -9,7 +9,9 @@ ghost use Rattle.imagesize_source.specs.State.{total};
 
 use crate::calls::probe;
 use crate::types::ImageType;
-use crate::{ImageError, ImageResult, Reason, Span};
+use crate::{ImageResult, Span};
+use imagesize_source::Halt;
+use imagesize_source::halt::with_error;
 use imagesize_source::source::recording::RecordingSource;
 use imagesize_types::size::ImageSize;
 use std::alloc::{AllocError, Allocator};
@@ -57,20 +59,20 @@ pub fn blob_trace<A: Allocator>(alloc: A, data: &[u8]) -> Result<Trace<A>, Alloc
         (x : List ℕ) → (meaning («data».now ++ x) 0).answer ≡ Ok size)) }
 {
     let mut source = RecordingSource::in_memory(alloc, data);
-    let (kind, answer) = probe(&mut source, 0);
-    if lacks_memory(&answer) {
+    let (kind, found) = probe(&mut source, 0);
+    if lacks_memory(&found) {
         return Err(AllocError);
     }
     Ok(Trace {
         kind,
-        answer,
+        answer: with_error(found, &source),
         spans: source.buffer,
     })
 }
 
 // Whether memory was refused.
-fn lacks_memory(answer: &ImageResult<ImageSize>) -> bool
-    ensures { result ≡ lacks_memory answer.now }
+fn lacks_memory(found: &Result<ImageSize, Halt>) -> bool
+    ensures { result ≡ lacks_memory found.now }
 {
-    matches!(answer, Err(ImageError::IoError(Reason::Memory)))
+    matches!(found, Err(Halt::Memory))
 }

@@ -7,8 +7,8 @@ use Rattle.std.proofs.Math.Pow.{mod-mod-pow}
 use Rattle.std.proofs.Math.Seq.{take-append_seam}
 use Rattle.std.proofs.lemmas.Nat.{and_mask, one_shl, pow_pos, mod-pow-add, shr-shr, field_of}
 use Rattle.std.specs.Int.{w128, from_le_bytes}
-use Rattle.imagesize_source.specs.declared.error.ImageError.{ImageError}
-use Rattle.imagesize_source.specs.declared.error.ImageError.TheVariants.{CorruptedImage}
+use Rattle.imagesize_source.specs.declared.halt.Halt.{Halt}
+use Rattle.imagesize_source.specs.declared.halt.Halt.TheVariants.{Corrupted}
 use Rattle.imagesize_source.specs.declared.endian.Endian.TheVariants.{Little}
 use Rattle.imagesize_source.proofs.Numbers.{Eight, are_eight, eight}
 use Rattle.imagesize_source.specs.Numbers.{number, little}
@@ -31,24 +31,24 @@ little_16 bs is =
       on_eights xs ys (eight a b c d e f g h) (eight i j k l m n o p) = omega arith
 
 -- what goes on alike is found alike
-alike : {X Y : Type 0} (r : Result X ImageError) (f g : X → Result Y ImageError) → ((x : X) → f x ≡ g x) → with_found r f ≡ with_found r g
+alike : {X Y : Type 0} (r : Result X Halt) (f g : X → Result Y Halt) → ((x : X) → f x ≡ g x) → with_found r f ≡ with_found r g
 alike (Ok x) f g same = same x
 alike (Err e) f g same = refl
 
-found_twice : {X Y Z : Type 0} (r : Result X ImageError) (f : X → Result Y ImageError) (g : Y → Result Z ImageError)
+found_twice : {X Y Z : Type 0} (r : Result X Halt) (f : X → Result Y Halt) (g : Y → Result Z Halt)
     → with_found r (λ x. with_found (f x) g) ≡ with_found (with_found r f) g
 found_twice (Ok x) f g = refl
 found_twice (Err e) f g = refl
 
 -- what is found by fields that are read alike
-pub found_alike : {X : Type 0} (f g : ℕ → ℕ → Result ℕ ImageError) (t : Fields X) → ((from count : ℕ) → f from count ≡ g from count)
+pub found_alike : {X : Type 0} (f g : ℕ → ℕ → Result ℕ Halt) (t : Fields X) → ((from count : ℕ) → f from count ≡ g from count)
     → found_by f t ≡ found_by g t
 found_alike f g (found x) same = refl
 found_alike f g (bits from count h) same = rw (same from count) (alike (g from count) (λ n. found_by f (h n)) (λ n. found_by g (h n))
     (λ n. found_alike f g (h n) same))
 
 -- what goes on is found behind what it goes on from
-pub found-after : {X Y : Type 0} (field : ℕ → ℕ → Result ℕ ImageError) (t : Fields X) (g : X → Fields Y) → found_by field (bind_fields t g)
+pub found-after : {X Y : Type 0} (field : ℕ → ℕ → Result ℕ Halt) (t : Fields X) (g : X → Fields Y) → found_by field (bind_fields t g)
     ≡ with_found (found_by field t) (λ x. found_by field (g x))
 found-after field (found x) g = refl
 found-after field (bits from count f) g =
@@ -123,7 +123,7 @@ field_same bytes small from count =
     ∙ ap (λ n. n % 2 ^ count) (binary_drop from (bits_of bytes) (are_bits bytes) ∙ ap (λ n. n / 2 ^ from) (binary_of bytes small)) in
     rw (long, value) refl
 
-is_there : (b : Bool) (m n : ℕ) → ◌≡◌ {A = Result ℕ ImageError} (cond b (Ok m) (Err CorruptedImage)) (Ok n) → b ≡ true
+is_there : (b : Bool) (m n : ℕ) → ◌≡◌ {A = Result ℕ Halt} (cond b (Ok m) (Err Corrupted)) (Ok n) → b ≡ true
 is_there true m n is = refl
 is_there false m n is = absurd cc
 
@@ -138,9 +138,9 @@ field_more list more from count n is =
     let rest = length-drop from list in
     let same : take count (drop from (list ++ more)) ≡ take count (drop from list) =
     ap (take count) (drop-append-le from list more (omega arith)) ∙ take-append-le count (drop from list) more (omega arith) in
-    rw (after, same) (ap (λ b. cond b (Ok (binary (take count (drop from list)))) (Err CorruptedImage)) (sym test) ∙ is)
+    rw (after, same) (ap (λ b. cond b (Ok (binary (take count (drop from list)))) (Err Corrupted)) (sym test) ∙ is)
 
-found_on : {X : Type 0} (r : Result ℕ ImageError) (other : Result ℕ ImageError) (f g : ℕ → Result X ImageError) (v : X)
+found_on : {X : Type 0} (r : Result ℕ Halt) (other : Result ℕ Halt) (f g : ℕ → Result X Halt) (v : X)
     → ((n : ℕ) → r ≡ Ok n → other ≡ Ok n) → ((n : ℕ) → f n ≡ Ok v → g n ≡ Ok v) → with_found r f ≡ Ok v → with_found other g ≡ Ok v
 found_on (Ok n) other f g v same rest is = rw (same n refl) (rest n is)
 found_on (Err e) other f g v same rest is = absurd cc

@@ -21,9 +21,8 @@ use Rattle.imagesize_types.specs.Head.{four_at}
 use Rattle.imagesize_types.specs.Largest.{greatest_area, area_if_some}
 use Rattle.imagesize_types.specs.Order.{area_of}
 use Rattle.imagesize_types.specs.declared.size.ImageSize.{ImageSize}
-use Rattle.imagesize_source.specs.declared.error.ImageError.{ImageError}
-use Rattle.imagesize_source.specs.declared.error.ImageError.TheVariants.{CorruptedImage, IoError}
-use Rattle.imagesize_source.specs.declared.error.Reason.TheVariants.{InvalidHeifBoxSize, NotEnoughData}
+use Rattle.imagesize_source.specs.declared.halt.Halt.{Halt}
+use Rattle.imagesize_source.specs.declared.halt.Halt.TheVariants.{Corrupted, Ended, InvalidHeifBoxSize, NotEnoughData}
 use Rattle.imagesize_source.specs.declared.endian.Endian.TheVariants.{Big}
 use Rattle.imagesize_source.specs.Agreement.{IsLocal}
 use Rattle.imagesize_source.specs.Chain.{Said, Decided, Next, Advances, start, verdict, records, chain_from, chain_at, count_behind}
@@ -31,7 +30,7 @@ use Rattle.imagesize_source.specs.Counts.{AtMost}
 use Rattle.imagesize_source.specs.Input.{span_of}
 use Rattle.imagesize_source.specs.Layout.{Layout, bytes, refuse, done, layout_reads, bind, whole}
 use Rattle.imagesize_source.specs.Numbers.{number}
-use Rattle.imagesize_source.specs.Reading.{and_then, bytes_at, bytes_read, number_at, number_read, refuses, end_of_input, is_faulted}
+use Rattle.imagesize_source.specs.Reading.{and_then, bytes_at, bytes_read, number_at, number_read, refuses, is_faulted}
 use Rattle.imagesize_source.specs.State.{State, Runs, EndedBy, total}
 use Rattle.imagesize_source.proofs.Always.{CompressionLaws}
 use Rattle.imagesize_source.proofs.Advances.{Tells, advances}
@@ -61,11 +60,11 @@ big_four bs i h =
 
 -- what holds of each box of a search
 by_searched : (P : Layout (Said (Unit {0}) FoundBox) → Type 0) (tag : List ℕ) (place : ℕ) (head : List ℕ)
-    → P (done (Decided (record { place = place; size = box_size head }))) → P (refuse (IoError (InvalidHeifBoxSize (box_size head))))
+    → P (done (Decided (record { place = place; size = box_size head }))) → P (refuse (InvalidHeifBoxSize (box_size head)))
     → (8 ≤ box_size head → P (done (Next tt (place + box_size head)))) → P (box_searched tag place head)
 by_searched P tag place head found small next =
     on_test P (is_named tag head) (done (Decided (record { place = place; size = box_size head }))) _ (λ _. found)
-    (λ _. on_test P (nat_lt (box_size head) 8) (refuse (IoError (InvalidHeifBoxSize (box_size head))))
+    (λ _. on_test P (nat_lt (box_size head) 8) (refuse (InvalidHeifBoxSize (box_size head)))
     (done (Next tt (place + box_size head))) (λ _. small) (λ no. next (grind (arith, nat_tests))))
 
 search_advances : (tag : List ℕ) (first : ℕ) (d : List ℕ) → Advances (search_for tag first) d
@@ -91,37 +90,37 @@ pub search_stop : {a b end : State} (tag : List ℕ) (first place : ℕ) (found 
 search_stop tag first place found w run = walks_stop (search_for tag first) (search_advances tag first) (λ passed. Unit {0}) w found
     (λ passed _. run)
 
-pub search_out : {a b end : State} (tag : List ℕ) (first place : ℕ) (e : ImageError) → SearchWalks tag first a b place
+pub search_out : {a b end : State} (tag : List ℕ) (first place : ℕ) (e : Halt) → SearchWalks tag first a b place
     → Runs b end (Err e) (layout_reads b.held.input (searched_box tag place)) → Runs a end (Err e) (chain_at (search_for tag first) a.held.input)
 search_out tag first place e w run = walks_out (search_for tag first) (search_advances tag first) (λ passed. Unit {0}) w e
     (λ passed _. run)
 
 pub search_past : {a b : State} (tag : List ℕ) (first place : ℕ) → first < place → SearchWalks tag first a b place → 2 ^ 64 ≤ place
-    → Runs a b (Err end_of_input) (chain_at (search_for tag first) a.held.input)
+    → Runs a b (Err Ended) (chain_at (search_for tag first) a.held.input)
 search_past tag first place behind w far = walks_past (search_for tag first) (search_advances tag first) (λ passed. Unit {0}) w
     (omega arith) (omega arith)
     (λ passed d _ h. bytes_beyond d place 8 (λ head. box_searched tag place head) h (omega arith))
 
-search_beyond : (tag : List ℕ) (d : List ℕ) (place : ℕ) → length d ≤ place → chain_at (search_for tag place) d ≡ refuses end_of_input
+search_beyond : (tag : List ℕ) (d : List ℕ) (place : ℕ) → length d ≤ place → chain_at (search_for tag place) d ≡ refuses Ended
 search_beyond tag d place far =
     let none = bytes_beyond d place 8 (λ head. box_searched tag place head) far (omega arith) in
-    chain_stop (search_for tag place) d (start (search_for tag place)) (Err end_of_input) (ap (λ r. verdict r.answer) none)
-    ∙ ap (λ r. record { answer = Err end_of_input; marks = r.marks }) none
+    chain_stop (search_for tag place) d (start (search_for tag place)) (Err Ended) (ap (λ r. verdict r.answer) none)
+    ∙ ap (λ r. record { answer = Err Ended; marks = r.marks }) none
 
-pub search_saturated : {a b : State} {r : Result FoundBox ImageError} (tag : List ℕ) (place : ℕ)
+pub search_saturated : {a b : State} {r : Result FoundBox Halt} (tag : List ℕ) (place : ℕ)
     → Runs a b r (chain_at (search_for tag (min place (2 ^ 64 - 1))) a.held.input)
     → Runs a b r (chain_at (search_for tag place) a.held.input)
-search_saturated tag place h = saturated_by (λ p d. chain_at (search_for tag p) d) (refuses end_of_input) place
+search_saturated tag place h = saturated_by (λ p d. chain_at (search_for tag p) d) (refuses Ended) place
     (λ d p far. search_beyond tag d p far) h
 
 -- what holds of each property, by its name
-by_named : (P : Layout (Option Property) → Type 0) (left place : ℕ) (head : List ℕ) → P (done None) → P (refuse CorruptedImage)
+by_named : (P : Layout (Option Property) → Type 0) (left place : ℕ) (head : List ℕ) → P (done None) → P (refuse Corrupted)
     → P (bytes (place + 8) 12 (λ content. done (Some (Extents (extents_size content)))))
     → P (bytes (place + 8) 1 (λ content. done (Some (Rotation (slice_index content 0)))))
     → (8 ≤ box_size head → P (done (Some (Skipped (box_size head))))) → P (property_named left place head)
 by_named P left place head end bad extents rotation skipped =
-    on_test P (nat_lt (box_size head) 8) (cond (is_named (codes "mdat") head) (done None) (refuse CorruptedImage)) _
-    (λ _. on_test P (is_named (codes "mdat") head) (done None) (refuse CorruptedImage) (λ _. end) (λ _. bad))
+    on_test P (nat_lt (box_size head) 8) (cond (is_named (codes "mdat") head) (done None) (refuse Corrupted)) _
+    (λ _. on_test P (is_named (codes "mdat") head) (done None) (refuse Corrupted) (λ _. end) (λ _. bad))
     (λ big. on_test P (is_named (codes "ispe") head) (bytes (place + 8) 12 (λ content. done (Some (Extents (extents_size content))))) _
     (λ _. extents)
     (λ _. on_test P (is_named (codes "irot") head) (bytes (place + 8) 1 (λ content. done (Some (Rotation (slice_index content 0))))) _
@@ -129,7 +128,7 @@ by_named P left place head end bad extents rotation skipped =
     (λ _. on_test P (nat_le left (box_size head)) (done None) (done (Some (Skipped (box_size head)))) (λ _. end)
     (λ _. skipped (grind (arith, nat_tests))))))
 
-by_found : (P : Layout (Option Property) → Type 0) (left place : ℕ) (found : Option (List ℕ)) → P (done None) → P (refuse CorruptedImage)
+by_found : (P : Layout (Option Property) → Type 0) (left place : ℕ) (found : Option (List ℕ)) → P (done None) → P (refuse Corrupted)
     → P (bytes (place + 8) 12 (λ content. done (Some (Extents (extents_size content)))))
     → P (bytes (place + 8) 1 (λ content. done (Some (Rotation (slice_index content 0)))))
     → ((size : ℕ) → 8 ≤ size → P (done (Some (Skipped size)))) → P (property_found left place found)
@@ -139,13 +138,13 @@ by_found P left place (Some head) end bad extents rotation skipped = by_named P 
 
 -- and of each way that the list ends
 by_answer : (P : Layout (Said Property ImageSize) → Type 0) (best : Option ImageSize) (turn : Option ℕ)
-    → P (refuse (IoError NotEnoughData)) → ((size : ImageSize) → P (done (Decided size))) → P (heif_answer best turn)
+    → P (refuse NotEnoughData) → ((size : ImageSize) → P (done (Decided size))) → P (heif_answer best turn)
 by_answer P None turn none some = none
 by_answer P (Some size) turn none some = some (turn_by turn size)
 
 -- and of what stands in the list, behind these properties
 by_listed : (P : Layout (Said Property ImageSize) → Type 0) (held : List Property) (left place : ℕ) (found : Option (List ℕ))
-    → ((e : ImageError) → P (refuse e)) → ((size : ImageSize) → P (done (Decided size)))
+    → ((e : Halt) → P (refuse e)) → ((size : ImageSize) → P (done (Decided size)))
     → P (bytes (place + 8) 12 (λ content. done (Next (Extents (extents_size content)) (place + 20))))
     → P (bytes (place + 8) 1 (λ content. done (Next (Rotation (slice_index content 0)) (place + 9))))
     → ((size : ℕ) → 8 ≤ size → P (done (Next (Skipped size) (place + size))))
@@ -153,8 +152,8 @@ by_listed : (P : Layout (Said Property ImageSize) → Type 0) (held : List Prope
 by_listed P held left place found refused decided extents rotation skipped =
     by_found (λ t. P (bind t (property_or_answer held place))) left place found
     (by_answer P (largest_extents (flat_map extents_of held)) (last_or None (flat_map rotations_of held))
-    (refused (IoError NotEnoughData)) decided)
-    (refused CorruptedImage) extents rotation skipped
+    (refused NotEnoughData) decided)
+    (refused Corrupted) extents rotation skipped
 
 properties_advance : (all first : ℕ) (d : List ℕ) → Advances (properties all first) d
 properties_advance all first = advances (properties all first)
@@ -302,7 +301,7 @@ list_start all first a = walks_start (properties all first) (Amounts all (record
           refl;
     })
 
-list_said : {b end : State} {r : Result (Said Property ImageSize) ImageError} (all : ℕ) (g : Gathered) (place : ℕ) (held : List Property)
+list_said : {b end : State} {r : Result (Said Property ImageSize) Halt} (all : ℕ) (g : Gathered) (place : ℕ) (held : List Property)
     → Amounts all g held → Runs b end r (layout_reads b.held.input (bind (property_at g.left place) (property_or_answer held place)))
     → Runs b end r (layout_reads b.held.input (bind (property_at (all - sum_by skipped_bytes held) place) (property_or_answer held place)))
 list_said {b} {end} {r} all g place held h run =
@@ -318,7 +317,7 @@ list_on all first place g property w run =
     (property_or_answer held place) run (λ d. refl) refl tt))
     (λ held h. amounts_on all g held property h)
 
-pub list_out : {a b end : State} (all first place : ℕ) (g : Gathered) (e : ImageError) → ListWalks all first a b place g
+pub list_out : {a b end : State} (all first place : ℕ) (g : Gathered) (e : Halt) → ListWalks all first a b place g
     → Runs {X = Option Property} b end (Err e) (layout_reads b.held.input (property_at g.left place)) → Runs {X = ImageSize} a end (Err e)
     (chain_at (properties all first) a.held.input)
 list_out all first place g e w run =
@@ -334,13 +333,13 @@ answers all g held place d h = ap (λ o. layout_reads d (heif_answer o (last_or 
 -- the list ends
 list_end_by : {a b end : State} (all first place : ℕ) (g : Gathered) (best : Option ImageSize) → g.best ≡ best
     → ListWalks all first a b place g → Runs b end (Ok None) (layout_reads b.held.input (property_at g.left place))
-    → Runs a end (ok_or (option_map (turn_by g.turn) best) (IoError NotEnoughData)) (chain_at (properties all first) a.held.input)
+    → Runs a end (ok_or (option_map (turn_by g.turn) best) NotEnoughData) (chain_at (properties all first) a.held.input)
 list_end_by all first place g None is w run =
-    walks_out (properties all first) (properties_advance all first) (Amounts all g) w (IoError NotEnoughData)
+    walks_out (properties all first) (properties_advance all first) (Amounts all g) w NotEnoughData
     (λ held h. list_said all g place held h
-    (runs_bind (Err (IoError NotEnoughData)) (property_at g.left place) (property_or_answer held place) run
+    (runs_bind (Err NotEnoughData) (property_at g.left place) (property_or_answer held place) run
     (λ d. answers all g held place d h ∙ ap (λ o. layout_reads d (heif_answer o g.turn)) is) refl
-    (record { budget = tt; memory = λ e. absurd cc; fault = λ e. absurd cc })))
+    (record { budget = λ e. absurd cc; memory = λ e. absurd cc; fault = λ e. absurd cc })))
 list_end_by all first place g (Some size) is w run =
     walks_stop (properties all first) (properties_advance all first) (Amounts all g) w (turn_by g.turn size)
     (λ held h. list_said all g place held h
@@ -358,17 +357,17 @@ none_listed : (d : List ℕ) (held : List Property) (left place : ℕ) → lengt
 none_listed d held left place far = rw (no_part d place 8 far, no_span d place 8 far) refl
 
 answer_ended : (b : State) (best : Option ImageSize) (turn : Option ℕ)
-    → IfErr (ok_or (option_map (turn_by turn) best) (IoError NotEnoughData)) (EndedBy b)
-answer_ended b None turn = record { budget = tt; memory = λ e. absurd cc; fault = λ e. absurd cc }
+    → IfErr (ok_or (option_map (turn_by turn) best) NotEnoughData) (EndedBy b)
+answer_ended b None turn = record { budget = λ e. absurd cc; memory = λ e. absurd cc; fault = λ e. absurd cc }
 answer_ended b (Some size) turn = tt
 
-answer_no_fault : (best : Option ImageSize) (turn : Option ℕ) → is_faulted (ok_or (option_map (turn_by turn) best) (IoError NotEnoughData))
+answer_no_fault : (best : Option ImageSize) (turn : Option ℕ) → is_faulted (ok_or (option_map (turn_by turn) best) NotEnoughData)
     ≡ false
 answer_no_fault None turn = refl
 answer_no_fault (Some size) turn = refl
 
 answer_verdict : (d : List ℕ) (best : Option ImageSize) (turn : Option ℕ)
-    → (verdict (layout_reads d (heif_answer best turn)).answer ≡ Some (ok_or (option_map (turn_by turn) best) (IoError NotEnoughData)))
+    → (verdict (layout_reads d (heif_answer best turn)).answer ≡ Some (ok_or (option_map (turn_by turn) best) NotEnoughData))
     × ((layout_reads d (heif_answer best turn)).marks ≡ [])
 answer_verdict d None turn = (refl, refl)
 answer_verdict d (Some size) turn = (refl, refl)
@@ -388,11 +387,11 @@ list_past {a} all first place g behind w far =
     reached_now w.reached (gathered_answer g) (w.sound behind) (answer_no_fault g.best g.turn) (answer_ended _ g.best g.turn)
     (λ honest short. ends_beyond all first place g w.held a.held.input (omega arith) w.known)
 
-pub list_saturated : {a b : State} {r : Result ImageSize ImageError} (all place : ℕ)
+pub list_saturated : {a b : State} {r : Result ImageSize Halt} (all place : ℕ)
     → Runs a b r (chain_at (properties all (min place (2 ^ 64 - 1))) a.held.input)
     → Runs a b r (chain_at (properties all place) a.held.input)
 list_saturated all place h = saturated_by (λ p d. chain_at (properties all p) d)
-    (record { answer = Err (IoError NotEnoughData); marks = [] }) place
+    (record { answer = Err NotEnoughData; marks = [] }) place
     (λ d p far. ends_beyond all p p (record { left = all; best = None; turn = None }) [] d far
     (record {
       left = omega arith;
@@ -519,7 +518,7 @@ properties_spend all place d = chain_onto (properties all place) d ends (propert
           (λ e. tt) (λ size. tt) (omega arith, λ content. omega arith) (omega arith, λ content. omega arith) (λ size big. omega arith),
     ))
 
-version_spends : (d : List ℕ) (place : ℕ) (r : Result (List ℕ) ImageError) → total (span_of d place 4) + left (length d)
+version_spends : (d : List ℕ) (place : ℕ) (r : Result (List ℕ) Halt) → total (span_of d place 4) + left (length d)
     (λ _. Some (place + 4)) r ≤ length d - place
 version_spends d place (Ok version) = omega (arith, total_behind d place 4, total-span_of d place 4)
 version_spends d place (Err e) = omega (arith, total_behind d place 4)

@@ -3,7 +3,7 @@ use Rattle.std.proofs.Common.{false, ◌≡◌, ℕ, ◌+◌, ◌-◌, ◌*◌, 
 use Rattle.std.proofs.lemmas.List.{append-nil, length-append}
 use Rattle.std.proofs.lemmas.List.Folds.{concat-append}
 use Rattle.std.specs.List.{concat}
-use Rattle.imagesize_source.specs.declared.error.ImageError.{ImageError}
+use Rattle.imagesize_source.specs.declared.halt.Halt.{Halt}
 use Rattle.imagesize_source.specs.declared.span.Span.{Span}
 use Rattle.imagesize_source.specs.declared.endian.Endian.TheVariants.{Big}
 use Rattle.imagesize_source.specs.Agreement.{IsLocal}
@@ -153,7 +153,7 @@ Lean : ℕ → List ℕ → Reads (Said (List ℕ) (List ℕ)) → Type 0
 Lean u held r = (piece : List ℕ) (place : ℕ) → r.answer ≡ Ok (Next piece place) → (u + total r.marks ≤ 20 + length piece)
     × (length piece ≤ 16 - length held)
 
-lean_onward : {Y : Type 0} (u n : ℕ) (held : List ℕ) (spans : List Span) (r : Result Y ImageError)
+lean_onward : {Y : Type 0} (u n : ℕ) (held : List ℕ) (spans : List Span) (r : Result Y Halt)
     (f : Y → Reads (Said (List ℕ) (List ℕ))) → total spans ≤ n → ((y : Y) → Lean (u + n) held (f y)) → Lean u held (go_on spans r f)
 unfolding Lean
 lean_onward u n held spans (Ok y) f few each piece place is = let rest = each y piece place is in
@@ -241,7 +241,7 @@ module _ (d : List ℕ) where
       let few = at_most d (32 + (16 - length (concat t.held))) (jxl_box (concat t.held) t.place) (box_few (concat t.held) t.place) in
       omega arith)
 
-  begun_within : (found : Result (Option (List ℕ)) ImageError) (spans : List Span) → total spans ≤ bound_of start_bound 16 found
+  begun_within : (found : Result (Option (List ℕ)) Halt) (spans : List Span) → total spans ≤ bound_of start_bound 16 found
       → total (go_on spans found (codestream d)).marks ≤ 30 + 20 * count_behind found (boxes_behind d)
   begun_within (Ok None) spans few = let boxes = boxes_lean (start jxl_chain) in let all = total-append spans
       (chain_at jxl_chain d).marks in omega arith

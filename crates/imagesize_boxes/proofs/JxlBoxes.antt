@@ -12,26 +12,24 @@ use Rattle.imagesize_boxes.specs.Jxl.{has_signature, jxl_header, jxl_size, piece
 use Rattle.imagesize_boxes.proofs.Fields.{field_front, found_alike}
 use Rattle.imagesize_types.specs.Head.{begins}
 use Rattle.imagesize_types.specs.declared.size.ImageSize.{ImageSize}
+use Rattle.imagesize_source.specs.declared.halt.Halt.{Halt}
+use Rattle.imagesize_source.specs.declared.halt.Halt.TheVariants.{Corrupted, Ended, InvalidJxlBoxSize, InvalidJxlSignature}
 use Rattle.imagesize_source.specs.Chain.{Said, Decided, Next, Advances, chain_at}
-use Rattle.imagesize_source.specs.Halts.{with_error}
 use Rattle.imagesize_source.specs.Layout.{Layout, layout_reads, bind, bytes, bytes_there, accept}
 use Rattle.imagesize_source.specs.Layout.Layout.{field, refuse, done}
-use Rattle.imagesize_source.specs.Reading.{end_of_input, is_fault}
+use Rattle.imagesize_source.specs.Reading.{is_failure}
 use Rattle.imagesize_source.specs.State.{State, Runs, EndedBy, IsSound}
 use Rattle.imagesize_source.proofs.Advances.{Tells, advances}
 use Rattle.imagesize_source.proofs.Reached.{reads_nothing}
 use Rattle.imagesize_source.proofs.Runs.{runs_then}
 use Rattle.imagesize_source.proofs.Tests.{on_test}
 use Rattle.imagesize_source.proofs.Walks.{Walks, walks_start, walks_on, walks_stop, walks_out}
-use Rattle.imagesize_source.specs.declared.error.ImageError.{ImageError}
-use Rattle.imagesize_source.specs.declared.error.ImageError.TheVariants.{CorruptedImage, IoError}
-use Rattle.imagesize_source.specs.declared.error.Reason.TheVariants.{InvalidJxlBoxSize, InvalidJxlSignature}
 use Rattle.imagesize_source.specs.declared.halt.Halt.TheVariants as halt
 use Rattle.imagesize_source.specs.declared.endian.Endian.TheVariants.{Little, Big}
 use Rattle.imagesize_source.specs.Numbers.{number, little}
 
 -- the size by too few bytes, by others than the signature, and by its bits as a number
-pub size_short : (all : List ℕ) (len : ℕ) → len < 2 → jxl_size (take len all) ≡ Err CorruptedImage
+pub size_short : (all : List ℕ) (len : ℕ) → len < 2 → jxl_size (take len all) ≡ Err Corrupted
 unfolding jxl_size
 size_short all len short = let long = length-take len all in let test : ltb (length (take len all)) 2 ≡ true =
     grind (arith, nat_tests) in rw test refl
@@ -40,7 +38,7 @@ taken_signature : (all : List ℕ) (len : ℕ) → 2 ≤ len → has_signature (
 taken_signature all len enough = rw (get_or-take len all 0 0 (omega arith), get_or-take len all 1 0 (omega arith)) refl
 
 pub size_unsigned : (all : List ℕ) (len : ℕ) → 2 ≤ len → len ≤ length all → has_signature all ≡ false → jxl_size (take len all)
-    ≡ Err (IoError InvalidJxlSignature)
+    ≡ Err InvalidJxlSignature
 unfolding jxl_size
 size_unsigned all len enough within other =
     let long = length-take-le len all within in
@@ -66,12 +64,12 @@ size_signed all len n count enough within is small sums counts =
 abbrev pub BoxSays : Type 0
 BoxSays = Layout (Said (List ℕ) (List ℕ))
 
-pub by_checked : (P : BoxSays → Type 0) (place : ℕ) (head : BoxHead) (f : BoxHead → BoxSays) → ((e : ImageError) → P (refuse e))
+pub by_checked : (P : BoxSays → Type 0) (place : ℕ) (head : BoxHead) (f : BoxHead → BoxSays) → ((e : Halt) → P (refuse e))
     → (place + head.size < 2 ^ 64 → (0 < head.size → head.length ≤ head.size) → P (f head)) → P (bind (accept (box_checked place head) done) f)
 by_checked P place head f out on =
-    on_test (λ r. P (bind (accept r done) f)) (ltb (2 ^ 64 - 1) (place + head.size)) (Err CorruptedImage) _ (λ _. out CorruptedImage)
+    on_test (λ r. P (bind (accept r done) f)) (ltb (2 ^ 64 - 1) (place + head.size)) (Err Corrupted) _ (λ _. out Corrupted)
     (λ within. on_test (λ r. P (bind (accept r done) f)) (not (eqb head.size 0) && ltb head.size head.length)
-    (Err (IoError (InvalidJxlBoxSize head.tag head.size))) (Ok head) (λ _. out (IoError (InvalidJxlBoxSize head.tag head.size)))
+    (Err (InvalidJxlBoxSize head.size (number Big head.tag))) (Ok head) (λ _. out (InvalidJxlBoxSize head.size (number Big head.tag)))
     (λ whole. on (grind (arith, nat_tests)) (λ some. grind (arith, nat_tests))))
 
 pub by_head : (P : BoxSays → Type 0) (place : ℕ) (front : List ℕ) (f : BoxHead → BoxSays)
@@ -105,7 +103,7 @@ by_partial P held place head index piece last next =
     (said_behind held place head piece) (λ _. last)
     (λ _. by_end P held place head piece last next)
 
-pub by_content : (P : BoxSays → Type 0) (held : List ℕ) (place : ℕ) (head : BoxHead) → P (codestream_box place head) → P (refuse end_of_input)
+pub by_content : (P : BoxSays → Type 0) (held : List ℕ) (place : ℕ) (head : BoxHead) → P (codestream_box place head) → P (refuse Ended)
     → (4 ≤ box_room head → P (bytes (place + head.length) 4
     (λ index. bind (piece_at (place + (head.length + 4)) (min (box_room head - 4) (16 - length held)))
     (λ piece. done (partial_said held place head index piece)))))
@@ -113,7 +111,7 @@ pub by_content : (P : BoxSays → Type 0) (held : List ℕ) (place : ℕ) (head 
 by_content P held place head whole none partial other =
     on_test P (begins (codes "jxlc") head.tag) (codestream_box place head) _ (λ _. whole)
     (λ _. on_test P (begins (codes "jxlp") head.tag) (partial_box held place head) (done (said_behind held place head []))
-    (λ _. on_test P (ltb (box_room head) 4) (refuse end_of_input) _ (λ _. none) (λ is. partial (grind (arith, nat_tests)))) (λ _. other))
+    (λ _. on_test P (ltb (box_room head) 4) (refuse Ended) _ (λ _. none) (λ is. partial (grind (arith, nat_tests)))) (λ _. other))
 
 content_tells : (held : List ℕ) (place : ℕ) (head : BoxHead) → Tells (λ p. place < p) (box_content held place head)
 content_tells held place head =
@@ -147,7 +145,7 @@ JxlWalks a b place front = Walks jxl_chain (λ pieces. concat pieces ≡ front) 
 pub walk_start : (a : State) → JxlWalks a a 12 []
 walk_start a = walks_start jxl_chain (λ pieces. concat pieces ≡ []) a refl
 
-box_as : {b end : State} {r : Result (Said (List ℕ) (List ℕ)) ImageError} (place : ℕ) (front : List ℕ)
+box_as : {b end : State} {r : Result (Said (List ℕ) (List ℕ)) Halt} (place : ℕ) (front : List ℕ)
     → Runs b end r (layout_reads b.held.input (jxl_box front place)) → (pieces : List (List ℕ)) → concat pieces ≡ front
     → Runs b end r (layout_reads b.held.input (jxl_box (concat pieces) place))
 box_as {b} {end} {r} place front run pieces is = subst (λ held. Runs b end r (layout_reads b.held.input (jxl_box held place))) (sym is) run
@@ -164,45 +162,39 @@ pub walk_stop : {a b end : State} (place : ℕ) (front whole : List ℕ) → Jxl
     (layout_reads b.held.input (jxl_box front place)) → Runs a end (Ok whole) (chain_at jxl_chain a.held.input)
 walk_stop place front whole w run = walks_stop jxl_chain jxl_advances (λ pieces. concat pieces ≡ front) w whole (box_as place front run)
 
-pub walk_out : {a b end : State} (place : ℕ) (front : List ℕ) (e : ImageError) → JxlWalks a b place front
+pub walk_out : {a b end : State} (place : ℕ) (front : List ℕ) (e : Halt) → JxlWalks a b place front
     → Runs b end (Err e) (layout_reads b.held.input (jxl_box front place)) → Runs {X = List ℕ} a end (Err e) (chain_at jxl_chain a.held.input)
 walk_out place front e w run = walks_out jxl_chain jxl_advances (λ pieces. concat pieces ≡ front) w e (box_as place front run)
 
 -- The size by a codestream.
 
 -- a refusal that ends no call by itself
-abbrev Plainly : {X : Type 0} → Result X ImageError → Type 0
+abbrev Plainly : {X : Type 0} → Result X Halt → Type 0
 Plainly (Ok x) = Unit {0}
-Plainly (Err e) = (is_fault e ≡ false) × ((b : State) → EndedBy b e)
+Plainly (Err e) = (is_failure e ≡ false) × ((b : State) → EndedBy b e)
 
-plain_corrupted : Plainly {X = ℕ} (Err CorruptedImage)
-plain_corrupted = (refl, λ b. record { budget = tt; memory = λ e. absurd cc; fault = λ e. absurd cc })
+plain_corrupted : Plainly {X = ℕ} (Err Corrupted)
+plain_corrupted = (refl, λ b. record { budget = λ e. absurd cc; memory = λ e. absurd cc; fault = λ e. absurd cc })
 
 plain_found : {X : Type 0} (list : List ℕ) (t : Fields X) → Plainly (found_by (field_at list) t)
 unfolding field_at
 plain_found list (found x) = tt
 plain_found list (bits from count f) =
     on_test (λ r. Plainly (with_found r (λ n. found_by (field_at list) (f n)))) (leb (from + count) (length list))
-    (Ok (binary (take count (drop from list)))) (Err CorruptedImage)
+    (Ok (binary (take count (drop from list)))) (Err Corrupted)
     (λ _. plain_found list (f (binary (take count (drop from list))))) (λ _. plain_corrupted)
 
 plain_size : (front : List ℕ) → Plainly (jxl_size front)
 unfolding jxl_size
 plain_size front =
-    on_test Plainly (ltb (length front) 2) (Err CorruptedImage) _ (λ _. plain_corrupted)
-    (λ _. on_test Plainly (has_signature front) (found_by (field_at (bits_of front)) jxl_header) (Err (IoError InvalidJxlSignature))
+    on_test Plainly (ltb (length front) 2) (Err Corrupted) _ (λ _. plain_corrupted)
+    (λ _. on_test Plainly (has_signature front) (found_by (field_at (bits_of front)) jxl_header) (Err InvalidJxlSignature)
     (λ _. plain_found (bits_of front) jxl_header)
-    (λ _. (refl, λ b. record { budget = tt; memory = λ e. absurd cc; fault = λ e. absurd cc })))
+    (λ _. (refl, λ b. record { budget = λ e. absurd cc; memory = λ e. absurd cc; fault = λ e. absurd cc })))
 
-sized_by : {b : State} (r : Result ImageSize ImageError) → IsSound b → Plainly r → Runs b b r (record { answer = r; marks = [] })
+sized_by : {b : State} (r : Result ImageSize Halt) → IsSound b → Plainly r → Runs b b r (record { answer = r; marks = [] })
 sized_by {b} (Ok size) sound plain = reads_nothing b (Ok size) sound refl tt
 sized_by {b} (Err e) sound plain = reads_nothing b (Err e) sound plain.0 (plain.1 b)
-
--- what is not there whole is corrupt
-pub none_corrupted : {X : Type 0} (failure : ImageError) (budget : ℕ) (found : Option X)
-    → with_error failure budget (ok_or found halt.Corrupted) ≡ ok_or found CorruptedImage
-none_corrupted failure budget (Some x) = refl
-none_corrupted failure budget None = refl
 
 -- the size by a codestream that was found
 pub sized : {a b : State} (front : List ℕ) → Runs a b (Ok front) (jxl_codestream a.held.input) → Runs a b (jxl_size front)

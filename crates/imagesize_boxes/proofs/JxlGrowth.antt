@@ -5,9 +5,8 @@ use Rattle.std.proofs.lemmas.List.{append-nil, length-append}
 use Rattle.std.proofs.lemmas.List.Concat.{flat_map-append}
 use Rattle.std.specs.List.{concat}
 use Rattle.imagesize_types.specs.declared.size.ImageSize.{ImageSize}
-use Rattle.imagesize_source.specs.declared.error.ImageError.{ImageError}
-use Rattle.imagesize_source.specs.declared.error.ImageError.TheVariants.{CorruptedImage, IoError}
-use Rattle.imagesize_source.specs.declared.error.Reason.TheVariants.{InvalidJxlSignature}
+use Rattle.imagesize_source.specs.declared.halt.Halt.{Halt}
+use Rattle.imagesize_source.specs.declared.halt.Halt.TheVariants.{Corrupted, Ended, InvalidJxlSignature}
 use Rattle.imagesize_source.specs.declared.span.Span.{Span}
 use Rattle.imagesize_source.specs.declared.endian.Endian.{Endian}
 use Rattle.imagesize_source.specs.declared.endian.Endian.TheVariants.{Big}
@@ -16,7 +15,7 @@ use Rattle.imagesize_source.specs.Input.{part, span_of}
 use Rattle.imagesize_source.specs.Layout.{Layout, layout_reads, bind, bytes, bytes_there, accept}
 use Rattle.imagesize_source.specs.Layout.Layout.{field, done}
 use Rattle.imagesize_source.specs.Numbers.{number}
-use Rattle.imagesize_source.specs.Reading.{Reads, go_on, gives, bytes_at, number_at, end_of_input}
+use Rattle.imagesize_source.specs.Reading.{Reads, go_on, gives, bytes_at, number_at}
 use Rattle.imagesize_source.proofs.PastTheEnd.{bytes_beyond}
 use Rattle.imagesize_source.proofs.ChainLaws.{chain_induction}
 use Rattle.imagesize_source.proofs.Chains.{chain_next, chain_stop}
@@ -36,7 +35,7 @@ Grows {X} R r more = (s : X) → r.answer ≡ Ok s → (t : X) × (more.answer �
 grows_given : {X : Type 0} (R : X → X → Type 0) (s t : X) → R s t → Grows R (gives s) (gives t)
 grows_given R s t h u is = let same : s ≡ u = cc in (t, refl, subst (λ v. R v t) same h)
 
-grows_onward : {X Y : Type 0} (R : X → X → Type 0) (spans more : List Span) (r r' : Result Y ImageError) (f g : Y → Reads X)
+grows_onward : {X Y : Type 0} (R : X → X → Type 0) (spans more : List Span) (r r' : Result Y Halt) (f g : Y → Reads X)
     → ((y : Y) → r ≡ Ok y → r' ≡ Ok y) → ((y : Y) → Grows R (f y) (g y)) → Grows R (go_on spans r f) (go_on more r' g)
 grows_onward R spans more (Ok y) r' f g same each s is =
     let rest = each y s is in
@@ -168,7 +167,7 @@ module _ (d x : List ℕ) where
 
 -- A next box that stands behind the end is not there.
 box_gone : (d : List ℕ) (t : Along (List ℕ)) → length d ≤ t.place → chain_from jxl_chain d t ≡ record {
-  answer = Err end_of_input;
+  answer = Err Ended;
   marks = [];
 }
 unfolding box_head
@@ -178,8 +177,8 @@ box_gone d t gone =
     (field Big (t.place + 8) 8 (λ size. accept (box_checked t.place (record { tag = drop 4 front; size = size; length = 16 })) done))
     (accept (box_checked t.place (record { tag = drop 4 front; size = number Big (take 4 front); length = 8 })) done))
     (box_content (concat t.held) t.place)) gone (omega arith) in
-    chain_stop jxl_chain d t (Err end_of_input) (ap (λ r. verdict r.answer) out) ∙ ap (λ r. record {
-      answer = Err end_of_input;
+    chain_stop jxl_chain d t (Err Ended) (ap (λ r. verdict r.answer) out) ∙ ap (λ r. record {
+      answer = Err Ended;
       marks =
           r.marks;
     }) out
@@ -189,9 +188,9 @@ box_there : (d : List ℕ) (t : Along (List ℕ)) (front : List ℕ) → (chain_
 box_there d t front is true test = grind (arith, nat_tests)
 box_there d t front is false test =
     let gone = box_gone d t (grind (arith, nat_tests)) in
-    absurd (let no : ◌≡◌ {A = Result (List ℕ) ImageError} (Err end_of_input) (Ok front) = sym (ap (λ w. w.answer) gone) ∙ is in cc)
+    absurd (let no : ◌≡◌ {A = Result (List ℕ) Halt} (Err Ended) (Ok front) = sym (ap (λ w. w.answer) gone) ∙ is in cc)
 
-decided : (r : Result (Said (List ℕ) (List ℕ)) ImageError) (front : List ℕ) → verdict r ≡ Some (Ok front) → r ≡ Ok (Decided front)
+decided : (r : Result (Said (List ℕ) (List ℕ)) Halt) (front : List ℕ) → verdict r ≡ Some (Ok front) → r ≡ Ok (Decided front)
 decided (Ok (Decided x)) front is = cc
 decided (Ok (Next v place)) front is = absurd cc
 decided (Err e) front is = absurd cc
@@ -244,12 +243,12 @@ either_grows d x (Some found) t h front is =
     (h.0, ap (λ o. (codestream (d ++ x) o).answer) h.1 ∙ ap (λ f. Ok (f ++ h.0)) same)
 
 -- an answer behind an answer
-then_ok : {X Y : Type 0} (r : Result X ImageError) (spans : List Span) (f : X → Reads Y) (y : Y) → (go_on spans r f).answer ≡ Ok y
+then_ok : {X Y : Type 0} (r : Result X Halt) (spans : List Span) (f : X → Reads Y) (y : Y) → (go_on spans r f).answer ≡ Ok y
     → (x : X) × (r ≡ Ok x) × ((f x).answer ≡ Ok y)
 then_ok (Ok x) spans f y is = (x, refl, is)
 then_ok (Err e) spans f y is = absurd cc
 
-then_at : {X Y : Type 0} (r : Result X ImageError) (spans : List Span) (f : X → Reads Y) (x : X) → r ≡ Ok x → (go_on spans r f).answer
+then_at : {X Y : Type 0} (r : Result X Halt) (spans : List Span) (f : X → Reads Y) (x : X) → r ≡ Ok x → (go_on spans r f).answer
     ≡ (f x).answer
 then_at r spans f x is = ap (λ q. (go_on spans q f).answer) is
 
@@ -264,20 +263,20 @@ codestream_grows d x front is =
 -- more bytes leave a size that was found
 size_grows : (front more : List ℕ) (v : ImageSize) → jxl_size front ≡ Ok v → jxl_size (front ++ more) ≡ Ok v
 unfolding jxl_size bits_of
-size_grows [] more v is = absurd (let none : ◌≡◌ {A = Result ImageSize ImageError} (Err CorruptedImage) (Ok v) = is in cc)
-size_grows (a ∷ []) more v is = absurd (let none : ◌≡◌ {A = Result ImageSize ImageError} (Err CorruptedImage) (Ok v) = is in cc)
+size_grows [] more v is = absurd (let none : ◌≡◌ {A = Result ImageSize Halt} (Err Corrupted) (Ok v) = is in cc)
+size_grows (a ∷ []) more v is = absurd (let none : ◌≡◌ {A = Result ImageSize Halt} (Err Corrupted) (Ok v) = is in cc)
 size_grows (a ∷ b ∷ front) more v is =
     let few : ltb (length (a ∷ b ∷ front)) 2 ≡ false = grind (arith, nat_tests) in
     let longer : ltb (length (a ∷ b ∷ (front ++ more))) 2 ≡ false = grind (arith, nat_tests) in
     let joined : bits_of (a ∷ b ∷ (front ++ more)) ≡ bits_of (a ∷ b ∷ front) ++ bits_of more = flat_map-append (λ byte. low_bits 8 byte)
     (a ∷ b ∷ front) more in
-    let was = ap (λ t. cond t (Err CorruptedImage)
+    let was = ap (λ t. cond t (Err Corrupted)
     (cond (has_signature (a ∷ b ∷ front)) (found_by (field_at (bits_of (a ∷ b ∷ front))) jxl_header)
-    (Err (IoError InvalidJxlSignature)))) (sym few) ∙ is in
+    (Err InvalidJxlSignature))) (sym few) ∙ is in
     rw longer (by_signature (has_signature (a ∷ b ∷ front)) was joined) where
       by_signature : (signed : Bool) → cond signed (found_by (field_at (bits_of (a ∷ b ∷ front))) jxl_header)
-          (Err (IoError InvalidJxlSignature)) ≡ Ok v → bits_of (a ∷ b ∷ (front ++ more)) ≡ bits_of (a ∷ b ∷ front) ++ bits_of more
-          → cond signed (found_by (field_at (bits_of (a ∷ b ∷ (front ++ more)))) jxl_header) (Err (IoError InvalidJxlSignature)) ≡ Ok v
+          (Err InvalidJxlSignature) ≡ Ok v → bits_of (a ∷ b ∷ (front ++ more)) ≡ bits_of (a ∷ b ∷ front) ++ bits_of more
+          → cond signed (found_by (field_at (bits_of (a ∷ b ∷ (front ++ more)))) jxl_header) (Err InvalidJxlSignature) ≡ Ok v
       by_signature true was joined = ap (λ bits. found_by (field_at bits) jxl_header) joined ∙ found_more (bits_of (a ∷ b ∷ front))
           (bits_of more) jxl_header v was
       by_signature false was joined = absurd cc

@@ -2,7 +2,7 @@
 use Rattle.std.proofs.Common.{◌≡◌, ◌≢◌, ℕ, false, cond, eqb, List, [], Result, Ok, refl, sym, ap, subst, arith}
 use Rattle.std.proofs.lemmas.Bool.Decides.{nat_tests}
 use Rattle.std.proofs.lemmas.List.{append-nil}
-use Rattle.imagesize_source.specs.declared.error.ImageError.{ImageError}
+use Rattle.imagesize_source.specs.declared.halt.Halt.{Halt}
 use Rattle.imagesize_source.specs.Input.{part, span_of}
 use Rattle.imagesize_source.specs.Reading.{part_read}
 use Rattle.imagesize_source.specs.Layout.{layout_reads, bytes_there}
@@ -17,7 +17,7 @@ unfolding piece_at
 piece_none {a} place sound = reads_nothing a (Ok []) sound refl tt
 
 -- bytes that were read
-pub piece_some : {a b : State} {r : Result (List ℕ) ImageError} (place k n : ℕ) → k ≢ 0 → n ≡ k
+pub piece_some : {a b : State} {r : Result (List ℕ) Halt} (place k n : ℕ) → k ≢ 0 → n ≡ k
     → Runs a b r (part_read a.held.input place n) → Runs a b r (layout_reads a.held.input (piece_at place k))
 unfolding piece_at
 piece_some {a} {b} {r} place k n some long h =

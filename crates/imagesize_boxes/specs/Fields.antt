@@ -1,7 +1,7 @@
 -- Fields of bits, and what is found by them.
+use Rattle.imagesize_source.specs.declared.halt.Halt.{Halt}
+use Rattle.imagesize_source.specs.declared.halt.Halt.TheVariants.{Corrupted}
 use Rattle.std.specs.Prelude.{ℕ, zero, suc, ◌+◌, ◌*◌, ◌/◌, ◌%◌, List, [], ◌∷◌, length, take, drop, nat_le, if◌then◌else◌, Result, Ok, Err, flat_map}
-use Rattle.imagesize_source.specs.declared.error.ImageError.{ImageError}
-use Rattle.imagesize_source.specs.declared.error.ImageError.TheVariants.{CorruptedImage}
 
 -- so many bits of a number, the lowest first
 unfoldable pub low_bits : ℕ → ℕ → List ℕ
@@ -18,8 +18,8 @@ binary [] = 0
 binary (bit ∷ bits) = bit + 2 * binary bits
 
 -- the number of so many bits from one on, where all are there
-unfoldable pub field_at : List ℕ → ℕ → ℕ → Result ℕ ImageError
-field_at bits from count = if nat_le (from + count) (length bits) then Ok (binary (take count (drop from bits))) else Err CorruptedImage
+unfoldable pub field_at : List ℕ → ℕ → ℕ → Result ℕ Halt
+field_at bits from count = if nat_le (from + count) (length bits) then Ok (binary (take count (drop from bits))) else Err Corrupted
 
 -- What is found: a value at once, or by the number of so many bits from one on.
 pub data Fields (X : Type 0) : Type 0 where
@@ -27,12 +27,12 @@ pub data Fields (X : Type 0) : Type 0 where
   bits : ℕ → ℕ → (ℕ → Fields X) → Fields X
 
 -- what goes on from what was found
-abbrev pub with_found : {X Y : Type 0} → Result X ImageError → (X → Result Y ImageError) → Result Y ImageError
+abbrev pub with_found : {X Y : Type 0} → Result X Halt → (X → Result Y Halt) → Result Y Halt
 with_found (Ok x) f = f x
 with_found (Err e) f = Err e
 
 -- what is found, where a field is read so
-abbrev pub found_by : {X : Type 0} → (ℕ → ℕ → Result ℕ ImageError) → Fields X → Result X ImageError
+abbrev pub found_by : {X : Type 0} → (ℕ → ℕ → Result ℕ Halt) → Fields X → Result X Halt
 found_by field (found x) = Ok x
 found_by field (bits from count f) = with_found (field from count) (λ n. found_by field (f n))
 

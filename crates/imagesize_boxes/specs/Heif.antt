@@ -12,8 +12,7 @@ use Rattle.imagesize_types.specs.declared.size.ImageSize.{ImageSize}
 use Rattle.imagesize_boxes.specs.declared.container.heif.FoundBox.{FoundBox}
 use Rattle.imagesize_boxes.specs.declared.container.heif.Property.{Property}
 use Rattle.imagesize_boxes.specs.declared.container.heif.Property.TheVariants.{Extents, Rotation, Skipped}
-use Rattle.imagesize_source.specs.declared.error.ImageError.TheVariants.{CorruptedImage, IoError}
-use Rattle.imagesize_source.specs.declared.error.Reason.TheVariants.{InvalidHeifBoxSize, NotEnoughData}
+use Rattle.imagesize_source.specs.declared.halt.Halt.TheVariants.{Corrupted, InvalidHeifBoxSize, NotEnoughData}
 use Rattle.imagesize_source.specs.declared.endian.Endian.TheVariants.{Big}
 use Rattle.imagesize_source.specs.Chain.{Said, Decided, Next, Chain, chain_at, records, count_behind}
 use Rattle.imagesize_source.specs.Layout.{Layout, bind, bytes, if_there}
@@ -66,7 +65,7 @@ is_named tag head = bytes_eq (four_at 4 head) tag
 abbrev pub box_searched : List ℕ → ℕ → List ℕ → Layout (Said (Unit {0}) FoundBox)
 box_searched tag place head =
     if is_named tag head then done (Decided (record { place = place; size = box_size head }))
-    else if nat_lt (box_size head) 8 then refuse (IoError (InvalidHeifBoxSize (box_size head)))
+    else if nat_lt (box_size head) 8 then refuse (InvalidHeifBoxSize (box_size head))
     else done (Next tt (place + box_size head))
 
 abbrev pub searched_box : List ℕ → ℕ → Layout (Said (Unit {0}) FoundBox)
@@ -84,7 +83,7 @@ extents_size content = record { width = number Big (four_at 4 content); height =
 -- whatever size of 8 or more they have; any other box is passed where it is smaller than the bytes that are left.
 abbrev pub property_named : ℕ → ℕ → List ℕ → Layout (Option Property)
 property_named left place head =
-    if nat_lt (box_size head) 8 then (if is_named (codes "mdat") head then done None else refuse CorruptedImage)
+    if nat_lt (box_size head) 8 then (if is_named (codes "mdat") head then done None else refuse Corrupted)
     else if is_named (codes "ispe") head then bytes (place + 8) 12 (λ content. done (Some (Extents (extents_size content))))
     else if is_named (codes "irot") head then bytes (place + 8) 1 (λ content. done (Some (Rotation (slice_index content 0))))
     else if nat_le left (box_size head) then done None
@@ -138,7 +137,7 @@ turn_by (Some turn) size = exchange_if (turn == 1 || turn == 3) size
 
 -- what is answered at the end of the list
 abbrev pub heif_answer : Option ImageSize → Option ℕ → Layout (Said Property ImageSize)
-heif_answer None turn = refuse (IoError NotEnoughData)
+heif_answer None turn = refuse NotEnoughData
 heif_answer (Some size) turn = done (Decided (turn_by turn size))
 
 -- a property, or by those before it the answer

@@ -4,18 +4,17 @@ use Rattle.std.specs.List.{concat}
 use Rattle.imagesize_boxes.specs.Fields.{Fields, found, bits, bind_fields, found_by, field_at, bits_of}
 use Rattle.imagesize_boxes.specs.declared.formats.jxl.boxes.BoxHead.{BoxHead}
 use Rattle.imagesize_boxes.specs.declared.formats.jxl.header.Side.{Side}
+use Rattle.imagesize_source.specs.declared.halt.Halt.{Halt}
+use Rattle.imagesize_source.specs.declared.halt.Halt.TheVariants.{Corrupted, Ended, InvalidJxlBoxSize, InvalidJxlSignature}
 use Rattle.imagesize_source.specs.Chain.{Said, Decided, Next, Chain, chain_at, records, count_behind}
 use Rattle.imagesize_source.specs.Layout.{Layout, layout_reads, bind, bytes, bytes_there, accept}
 use Rattle.imagesize_source.specs.Layout.Layout.{field, refuse, done}
 use Rattle.imagesize_source.specs.Numbers.{number}
-use Rattle.imagesize_source.specs.Reading.{Reads, gives, and_then, end_of_input}
+use Rattle.imagesize_source.specs.Reading.{Reads, gives, and_then}
 use Rattle.imagesize_source.specs.declared.endian.Endian.TheVariants.{Big}
 use Rattle.imagesize_types.specs.Head.{begins}
 use Rattle.imagesize_types.specs.Sides.{exchange_if}
 use Rattle.imagesize_types.specs.declared.size.ImageSize.{ImageSize}
-use Rattle.imagesize_source.specs.declared.error.ImageError.{ImageError}
-use Rattle.imagesize_source.specs.declared.error.ImageError.TheVariants.{CorruptedImage, IoError}
-use Rattle.imagesize_source.specs.declared.error.Reason.TheVariants.{InvalidJxlBoxSize, InvalidJxlSignature}
 
 -- the signature of a codestream
 abbrev pub has_signature : List ℕ → Bool
@@ -74,11 +73,11 @@ jxl_header = bits 16 1 (λ small.
     bind_fields (exchanges_sides width.end) (λ exchanged. found (exchange_if exchanged (record { width = width.length; height = height.length }))))))
 
 -- the size by the first bytes of a codestream
-unfoldable pub jxl_size : List ℕ → Result ImageSize ImageError
+unfoldable pub jxl_size : List ℕ → Result ImageSize Halt
 jxl_size front =
-    if nat_lt (length front) 2 then Err CorruptedImage
+    if nat_lt (length front) 2 then Err Corrupted
     else if has_signature front then found_by (field_at (bits_of front)) jxl_header
-    else Err (IoError InvalidJxlSignature)
+    else Err InvalidJxlSignature
 
 -- The bytes of a codestream.
 
@@ -87,10 +86,10 @@ unfoldable pub piece_at : ℕ → ℕ → Layout (List ℕ)
 piece_at place count = if count == 0 then done [] else bytes_there place count (λ piece. done piece)
 
 -- a box ends at 2^64-1 at the latest, and not before its head does; an open one has the size 0
-abbrev pub box_checked : ℕ → BoxHead → Result BoxHead ImageError
+abbrev pub box_checked : ℕ → BoxHead → Result BoxHead Halt
 box_checked place head =
-    if nat_lt (2 ^ 64 - 1) (place + head.size) then Err CorruptedImage
-    else if not (head.size == 0) && nat_lt head.size head.length then Err (IoError (InvalidJxlBoxSize head.tag head.size))
+    if nat_lt (2 ^ 64 - 1) (place + head.size) then Err Corrupted
+    else if not (head.size == 0) && nat_lt head.size head.length then Err (InvalidJxlBoxSize head.size (number Big head.tag))
     else Ok head
 
 -- the size and the tag; the size 1 stands for one of eight bytes behind them (ISO/IEC 14496-12, section 4.2)
@@ -120,7 +119,7 @@ partial_said held place head index piece = if length held + length piece == 16 |
 -- a part of the codestream behind its index (box `jxlp`)
 abbrev pub partial_box : List ℕ → ℕ → BoxHead → Layout (Said (List ℕ) (List ℕ))
 partial_box held place head =
-    if nat_lt (box_room head) 4 then refuse end_of_input
+    if nat_lt (box_room head) 4 then refuse Ended
     else bytes (place + head.length) 4 (λ index.
     bind (piece_at (place + (head.length + 4)) (min (box_room head - 4) (16 - length held)))
     (λ piece. done (partial_said held place head index piece)))

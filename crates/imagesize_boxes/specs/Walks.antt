@@ -11,10 +11,9 @@ use Rattle.imagesize_boxes.specs.declared.container.heif.Searched.TheVariants as
 use Rattle.imagesize_boxes.specs.declared.formats.jxl.boxes.BoxHead.{BoxHead}
 use Rattle.imagesize_boxes.specs.declared.formats.jxl.boxes.Found.{Found}
 use Rattle.imagesize_boxes.specs.declared.formats.jxl.boxes.Found.TheVariants.{Whole, Passed}
+use Rattle.imagesize_source.specs.declared.halt.Halt.{Halt}
+use Rattle.imagesize_source.specs.declared.halt.Halt.TheVariants.{Corrupted, NotEnoughData}
 use Rattle.imagesize_source.specs.Chain.{Said, Decided, Next}
-use Rattle.imagesize_source.specs.declared.error.ImageError.{ImageError}
-use Rattle.imagesize_source.specs.declared.error.ImageError.TheVariants.{CorruptedImage, IoError}
-use Rattle.imagesize_source.specs.declared.error.Reason.TheVariants.{NotEnoughData}
 use Rattle.imagesize_types.specs.Largest.{area_if_some}
 use Rattle.imagesize_types.specs.Order.{area_of}
 use Rattle.imagesize_types.specs.declared.size.ImageSize.{ImageSize}
@@ -44,8 +43,8 @@ gathered_with g (Rotation turn) = record g { turn = Some turn }
 gathered_with g (Skipped size) = record g { left = g.left - size }
 
 -- and what they answer at the end of the list
-abbrev pub gathered_answer : Gathered → Result ImageSize ImageError
-gathered_answer g = ok_or (option_map (turn_by g.turn) g.best) (IoError NotEnoughData)
+abbrev pub gathered_answer : Gathered → Result ImageSize Halt
+gathered_answer g = ok_or (option_map (turn_by g.turn) g.best) NotEnoughData
 
 -- what a box of a JPEG XL says
 abbrev pub box_said : Found → Said (List ℕ) (List ℕ)
@@ -69,9 +68,9 @@ pub record IsHead (place : ℕ) (head : BoxHead) : Type 0 where
   pub short : head.length ≤ 16
 
 -- a field of a number, of whose lowest bits so many are there
-abbrev pub field_in : ℕ → ℕ → ℕ → ℕ → Result ℕ ImageError
-field_in number there from count = if nat_le (from + count) there then Ok (number / 2 ^ from % 2 ^ count) else Err CorruptedImage
+abbrev pub field_in : ℕ → ℕ → ℕ → ℕ → Result ℕ Halt
+field_in number there from count = if nat_le (from + count) there then Ok (number / 2 ^ from % 2 ^ count) else Err Corrupted
 
 -- what is found in such a number
-abbrev pub found_in : {X : Type 0} → ℕ → ℕ → Fields X → Result X ImageError
+abbrev pub found_in : {X : Type 0} → ℕ → ℕ → Fields X → Result X Halt
 found_in number there fields = found_by (field_in number there) fields

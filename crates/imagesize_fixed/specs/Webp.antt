@@ -2,9 +2,8 @@
 use Rattle.std.specs.Prelude.{ℕ, Bool, List, codes, ◌+◌, ◌/◌, ◌%◌, ◌^◌, ◌&&◌, ◌==◌, if◌then◌else◌, slice_index}
 use Rattle.imagesize_types.specs.Head.{begins, stands_at}
 use Rattle.imagesize_types.specs.declared.size.ImageSize.{ImageSize}
+use Rattle.imagesize_source.specs.declared.halt.Halt.TheVariants.{InvalidVp8Tag}
 use Rattle.imagesize_source.specs.declared.endian.Endian.TheVariants.{Little}
-use Rattle.imagesize_source.specs.declared.error.ImageError.TheVariants.{IoError}
-use Rattle.imagesize_source.specs.declared.error.Reason.TheVariants.{InvalidVp8Tag}
 use Rattle.imagesize_source.specs.Layout.{Layout, bytes}
 use Rattle.imagesize_source.specs.Layout.Layout.{field, refuse, «done»}
 
@@ -30,7 +29,7 @@ webp_form letter =
     if letter == 0x20 then lossy_webp
     else if letter == 0x4C then lossless_webp
     else if letter == 0x58 then extended_webp
-    else refuse (IoError InvalidVp8Tag)
+    else refuse InvalidVp8Tag
 
 abbrev pub webp : Layout ImageSize
 webp = bytes 12 4 (λ tag. webp_form (slice_index tag 3))

@@ -4,7 +4,7 @@ use Rattle.std.proofs.lemmas.List.{length-append, length-take, length-drop, leng
 use Rattle.std.proofs.Math.Seq.{take-append-add, take-add, drop-append-add, drop-drop}
 use Rattle.std.specs.List.{slice_range}
 use borrow.Rule.Slice.PartMut.{put_mid}
-use Rattle.imagesize_source.specs.declared.error.ImageError.{ImageError}
+use Rattle.imagesize_source.specs.declared.halt.Halt.{Halt}
 use Rattle.imagesize_io.specs.declared.progress.Progress.{Progress}
 use Rattle.imagesize_source.specs.Input.{part}
 use Rattle.imagesize_io.proofs.Standings.{keeps_both}
@@ -160,13 +160,13 @@ filling_done {filled = filled} {room = room} {more = more} {n = n} h read none l
 }
 
 -- Of a failure only that the reader can fail is known.
-stopped_stand : (first now next last : Option Standing) (room more all : List ℕ) (filled : ℕ) (e : ImageError)
+stopped_stand : (first now next last : Option Standing) (room more all : List ℕ) (filled : ℕ) (e : Halt)
     → Filled first now filled room → GivesSome now next more (Err e) → GivesAll first last all (Err e)
 stopped_stand None now next last room more all filled e reached gave = tt
 stopped_stand (Some s) now next last room more all filled e reached gave = subst (λ w. GivesSome w next more (Err e)) reached.0 gave
 
 -- a read that was stopped ends the filling too
-pub filling_stopped : {first : Option Standing} {a b c : Account} {old new newer : Progress} {filled : ℕ} {room more : List ℕ} {e : ImageError}
+pub filling_stopped : {first : Option Standing} {a b c : Account} {old new newer : Progress} {filled : ℕ} {room more : List ℕ} {e : Halt}
     → Filling first (stand b.telling new) a b old new filled room → ReadsOnce new newer b c more (Err e) → length more ≡ length room - filled
     → Fills old newer first (stand c.telling newer) a c (put_mid filled (length room - filled) room more) (Err e)
 filling_stopped {first} {old = old} {newer = newer} {filled = filled} {room = room} {more = more} {e = e} h read long = record {
@@ -195,7 +195,7 @@ gave_rest (Some s) now last room more n k gave fits rest enough long =
       rw (length-put room more n fits long) (omega (arith, gives.2, gave.2, long)),
     )
 
-pub stopped_rest : (first now last : Option Standing) (room more all : List ℕ) (n : ℕ) (e : ImageError) → GivesSome first now room (Ok n)
+pub stopped_rest : (first now last : Option Standing) (room more all : List ℕ) (n : ℕ) (e : Halt) → GivesSome first now room (Ok n)
     → GivesAll now last more (Err e) → GivesAll first last all (Err e)
 stopped_rest None now last room more all n e gave rest = tt
 stopped_rest (Some s) now last room more all n e gave rest = subst (λ w. GivesAll w last more (Err e)) gave.0 rest

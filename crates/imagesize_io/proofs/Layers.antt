@@ -4,7 +4,7 @@ use Rattle.imagesize_source.specs.declared.halt.Halt.{Halt}
 use Rattle.imagesize_source.specs.Input.{part}
 use Rattle.imagesize_io.specs.declared.reader.Ledger.{Ledger}
 use Rattle.imagesize_io.specs.ReaderState.{ReadsAt, kept_window}
-use Rattle.imagesize_io.specs.Standing.{ReadsFrom, stand, with_kept_error}
+use Rattle.imagesize_io.specs.Standing.{ReadsFrom, stand}
 use Rattle.imagesize_io.specs.Telling.{Account}
 use Rattle.imagesize_io.proofs.Standings.{calm_at}
 use Rattle.imagesize_io.proofs.Filling.{length-put}
@@ -82,16 +82,16 @@ module _ {old new : Ledger} {a b : Account} where
   pub stops_behind : {place copied : ℕ} {room before more : List ℕ} {halt : Halt} {r : Result ℕ Halt}
       → Copies old.window.items room before more place copied
       → ReadsFrom old.progress new.progress (stand a.telling old.progress) (stand b.telling new.progress) a b (place + copied) more
-      (with_kept_error new.progress (Err halt)) → new.window.items ≡ old.window.items → r ≡ Err halt
+      (Err halt) → new.window.items ≡ old.window.items → r ≡ Err halt
       → ReadsAt old new a b place (put_mid copied (length room - copied) room more)
-      (with_kept_error new.progress r)
+      r
   stops_behind {place} {copied} {room} {before} {more} {halt} {r} copy read same is =
       subst (λ q. ReadsAt old new a b place (put_mid copied (length room - copied) room more)
-      (with_kept_error new.progress q)) (sym is) (record {
+      q) (sym is) (record {
         bound = tt;
         pays = tt;
         keeps = read.keeps;
-        runs = λ home. behind_stopped (λ n. take n (put_mid copied (length room - copied) room more)) (with_kept_error new.progress (Err halt)) (record {
+        runs = λ home. behind_stopped (λ n. take n (put_mid copied (length room - copied) room more)) (Err halt) (record {
           told = told_by a home old.progress;
           told_after = told_by b home new.progress;
           frame = same_frame a b home old.progress new.progress read.keeps read.since read.behind;
@@ -123,9 +123,9 @@ module _ {old new : Ledger} {a b : Account} where
   pub stops_past : {place : ℕ} {more : List ℕ} {halt : Halt} {r : Result ℕ Halt} → length old.window.items ≤ 32
       → length old.window.items ≤ place → 0 < length more
       → ReadsFrom old.progress new.progress (stand a.telling old.progress) (stand b.telling new.progress) a b place more
-      (with_kept_error new.progress (Err halt)) → new.window.items ≡ old.window.items → r ≡ Err halt
-      → ReadsAt old new a b place more (with_kept_error new.progress r)
+      (Err halt) → new.window.items ≡ old.window.items → r ≡ Err halt
+      → ReadsAt old new a b place more r
   stops_past {place} {more} {halt} {r} small behind some read same is =
       let here : place + 0 ≡ place = omega arith in
-      subst (λ l. ReadsAt old new a b place l (with_kept_error new.progress r)) (put_whole more)
+      subst (λ l. ReadsAt old new a b place l r) (put_whole more)
       (stops_behind (none_copied small behind some) (rw here read) same is)

@@ -1,17 +1,21 @@
 -- From the state of a source to what a call answers to its reader.
-use Rattle.std.proofs.Common.{◌≡◌, ℕ, ◌+◌, ◌-◌, ◌^◌, ◌<◌, ◌≤◌, ◌⊎◌, inl, inr, min, Bool, true, false, ◌||◌, cond, List, length, leb, ltb, eqb, Option, Some, None, Result, Ok, Err, IfSome, refl, sym, ap, ◌∙◌, subst, arith}
+use Rattle.std.proofs.Common.{◌≡◌, ℕ, ◌+◌, ◌-◌, ◌^◌, ◌<◌, ◌≤◌, ◌⊎◌, inl, inr, min, Bool, true, false, ◌||◌, cond, List, length, leb, ltb, eqb, Option, Some, None, is_some, Result, Ok, Err, IfErr, IfSome, refl, sym, ap, ◌∙◌, subst, arith}
 use Rattle.std.proofs.lemmas.Bool.Decides.{nat_tests}
 use Rattle.imagesize_source.specs.declared.error.ImageError.{ImageError}
-use Rattle.imagesize_source.specs.declared.error.ImageError.TheVariants.{NotSupported, CorruptedImage, IoError}
-use Rattle.imagesize_source.specs.declared.error.Reason.TheVariants.{Fault, BudgetSpent, Memory}
+use Rattle.imagesize_source.specs.declared.halt.Halt.{Halt}
+use Rattle.imagesize_source.specs.declared.halt.Halt.TheVariants.{Failed, Memory, Spent}
+use Rattle.imagesize_source.specs.Errors.{is_fault, is_stopped as is_stopped_error}
+use Rattle.imagesize_source.specs.Halts.{error_by, with_error}
+use Rattle.imagesize_source.specs.Outcome.{outcome_of, stated}
+use Rattle.imagesize_source.proofs.Halts.{failed_is, stated_goes_on, stated_same}
 use Rattle.imagesize_io.specs.declared.reader.Opened.{Opened}
 use Rattle.std.specs.declared.io.Error.{Error}
-use Rattle.imagesize_io.specs.Answers.{AnswersAs, TakesAs, Answers, IsLast, LeftAs, Leaves, Takes, over_reader}
+use Rattle.imagesize_io.specs.Answers.{AnswersAs, TakesAs, Answers, IsLast, LeftAs, Leaves, Takes}
 use Rattle.imagesize_io.specs.Standing.{behind_of, in_all}
 use Rattle.imagesize_io.specs.StopOf.{fault_of, last_failed}
-use Rattle.imagesize_source.specs.Reading.{Reads, is_fault, is_stop, is_memory, budget_spent}
+use Rattle.imagesize_source.specs.Reading.{Reads, is_failure, is_stop, is_stopped, is_memory, is_spent}
 use Rattle.imagesize_io.specs.ReaderState.{start_state, Opens}
-use Rattle.imagesize_source.specs.State.{Behind, State, Held, Runs, state_after, total}
+use Rattle.imagesize_source.specs.State.{Behind, EndedBy, State, Held, Runs, state_after, total}
 use Rattle.imagesize_io.specs.Telling.{Telling, IsHonest, at_place}
 use Rattle.imagesize_source.proofs.Counts.{places_past}
 
@@ -50,16 +54,11 @@ start_holds t count home honest =
     rw (waits, short, same, none) refl
 
 -- a stop is a failure, a spent budget or refused memory
-pub stop_cases : (e : ImageError) → is_stop e ≡ true → (is_fault e ≡ true) ⊎ (((n : ℕ) × (budget_spent e ≡ Some n)) ⊎ (is_memory e ≡ true))
-stop_cases NotSupported stops = absurd cc
-stop_cases CorruptedImage stops = absurd cc
-stop_cases (IoError (Fault f)) stops = inl refl
-stop_cases (IoError (BudgetSpent n)) stops = inr (inl (n, refl))
-stop_cases (IoError Memory) stops = inr (inr refl)
-stop_cases (IoError _) stops = absurd cc
-
-pub some_spent : (o : Option ℕ) (n : ℕ) (P : ℕ → Type 0) → o ≡ Some n → IfSome o P → P n
-some_spent o n P is h = subst (λ v. IfSome v P) is h
+pub stop_cases : (h : Halt) → is_stop h ≡ true → (is_failure h ≡ true) ⊎ ((is_spent h ≡ true) ⊎ (is_memory h ≡ true))
+stop_cases Failed stops = inl refl
+stop_cases Spent stops = inr (inl refl)
+stop_cases Memory stops = inr (inr refl)
+stop_cases _ stops = absurd cc
 
 -- what is known of a state that a call began with, over an honest reader
 record Starts (t : Telling) (a : State) : Type 0 where
@@ -70,43 +69,87 @@ record Starts (t : Telling) (a : State) : Type 0 where
   front : a.front ≡ 0
   taken : a.taken ≡ 0
 
-fault_only : {X : Type 0} (t : Telling) (a b : State) (e : ImageError) (reads : Reads X) → Starts t a → Runs {X = X} a b (Err e) reads
-    → total reads.marks < length t.bytes + 64 → is_stop e ≡ true → (is_fault e ≡ true) × (t.can_fail ≡ true)
-fault_only {X} t a b e reads starts h small stops =
+fault_only : {X : Type 0} (t : Telling) (a b : State) (h : Halt) (reads : Reads X) → Starts t a → Runs {X = X} a b (Err h) reads
+    → total reads.marks < length t.bytes + 64 → is_stop h ≡ true → (is_failure h ≡ true) × (t.can_fail ≡ true)
+fault_only {X} t a b h reads starts run small stops =
     let honest : a.held.honest ≡ true = ap (λ k. k.honest) starts.held in
-    elim (stop_cases e stops) [
-      | inl faults ↦ (faults, sym (ap (λ k. k.can_fail) starts.held) ∙ h.fault honest faults)
+    elim (stop_cases h stops) [
+      | inl faults ↦ (faults, sym (ap (λ k. k.can_fail) starts.held) ∙ run.fault honest faults)
       | inr other ↦ elim other [
-        | inl spent_all ↦
-            let named = some_spent (budget_spent e) spent_all.0 (λ n. (b.frame.counts ≡ true) × (n ≡ b.frame.budget) × (n ≡ b.taken))
-            spent_all.1 h.ended.budget in
-            absurd (omega (arith, named.1, named.2, ap (λ f. f.budget) h.frame, starts.budget, starts.taken, h.within honest, small))
+        | inl spent ↦
+            let all = run.ended.budget spent in
+            absurd (omega (arith, all.1, ap (λ f. f.budget) run.frame, starts.budget, starts.taken, run.within honest, small))
         | inr refused ↦
-            let on : b.frame.records ≡ true = (h.ended.memory refused).0 in
-            let off : b.frame.records ≡ false = ap (λ f. f.records) h.frame ∙ starts.records in
+            let on : b.frame.records ≡ true = (run.ended.memory refused).0 in
+            let off : b.frame.records ≡ false = ap (λ f. f.records) run.frame ∙ starts.records in
             absurd cc
       ]
     ]
 
-answers_of : {X : Type 0} (t : Telling) (a b : State) (r : Result X ImageError) (reads : Reads X) → Starts t a → Runs a b r reads
-    → total reads.marks < length t.bytes + 64 → AnswersAs t reads r
-answers_of {X} t a b (Ok x) reads starts h small = record {
-  answer = λ goes_on. h.answer (ap (λ k. k.honest) starts.held) goes_on;
+failure_told : (failed : Option (Option ImageError)) (failure : ImageError) → is_some failed ≡ true
+    → IfSome failed (λ last. (last ≡ Some failure) × (is_fault failure ≡ true)) → is_fault failure ≡ true
+failure_told None failure some is = absurd cc
+failure_told (Some last) failure some is = is.1
+
+fault_stops : (e : ImageError) → is_fault e ≡ true → is_stopped_error {X = Unit {0}} (Err e) ≡ true
+fault_stops e is = rw is refl
+
+answers_of : {X : Type 0} (t : Telling) (a b : State) (r : Result X Halt) (reads : Reads X) → Starts t a → Runs a b r reads
+    → is_some b.failed ≡ true → total reads.marks < length t.bytes + 64
+    → AnswersAs t (outcome_of reads) (with_error b.failure b.frame.budget r)
+answers_of {X} t a b (Ok x) reads starts h told small = record {
+  answer = λ goes_on. ap stated (h.answer (ap (λ k. k.honest) starts.held) refl);
   fault = λ stops. absurd cc;
 }
-answers_of {X} t a b (Err e) reads starts h small = record {
-  answer = λ goes_on. h.answer (ap (λ k. k.honest) starts.held) goes_on;
-  fault = λ stops. fault_only t a b e reads starts h small stops;
-}
+answers_of {X} t a b (Err halt) reads starts h told small = by_stop (is_stop halt) refl where
+  by_failure : (k : Halt) → k ≡ Failed → is_fault b.failure ≡ true → t.can_fail ≡ true
+      → AnswersAs t (outcome_of reads) (Err (error_by b.failure b.frame.budget k))
+  by_failure k is fault can = subst (λ k. AnswersAs t (outcome_of reads) (Err (error_by b.failure b.frame.budget k))) (sym is) (record {
+    answer = λ goes_on. absurd (let stops = fault_stops b.failure fault in let no = sym goes_on ∙ stops in cc);
+    fault = λ stops. (fault, can);
+  })
 
-takes_of : {X : Type 0} (t : Telling) (a b : State) (r : Result X ImageError) (reads : Reads X) → Starts t a → Runs a b r reads
-    → TakesAs t reads r b.taken
-takes_of {X} t a b r reads starts h =
+  by_stop : (s : Bool) → is_stop halt ≡ s → AnswersAs t (outcome_of reads) (with_error {X = X} b.failure b.frame.budget (Err halt))
+  by_stop true stops =
+      let only = fault_only t a b halt reads starts h small stops in
+      by_failure halt (failed_is halt only.0) (failure_told b.failed b.failure told (h.ended.fault only.0)) only.1
+  by_stop false stops = record {
+    answer = λ goes_on. ap stated (h.answer (ap (λ k. k.honest) starts.held) stops)
+        ∙ sym (stated_same {X = X} b.failure b.frame.budget (Err halt) stops);
+    fault = λ stopped. absurd (
+        let goes = stated_goes_on {X = X} (Err halt) stops in
+        let same = ap (λ r. is_stopped_error r) (stated_same {X = X} b.failure b.frame.budget (Err halt) stops) in
+        let no = sym stopped ∙ same ∙ goes in cc
+        );
+  }
+
+-- where no stop is answered, none came
+pub error_goes_on : {X : Type 0} (b : State) (r : Result X Halt) → is_some b.failed ≡ true → IfErr r (EndedBy b)
+    → is_stopped_error (with_error b.failure b.frame.budget r) ≡ false → is_stopped r ≡ false
+error_goes_on {X} b (Ok x) told ended goes_on = refl
+error_goes_on {X} b (Err halt) told ended goes_on = by_stop (is_stop halt) refl where
+  stopped : (k : Halt) → is_stop k ≡ true → (is_failure k ≡ true → is_fault b.failure ≡ true)
+      → is_stopped_error {X = X} (Err (error_by b.failure b.frame.budget k)) ≡ true
+  stopped Failed stops fault = fault_stops b.failure (fault refl)
+  stopped Spent stops fault = refl
+  stopped Memory stops fault = refl
+  stopped _ stops fault = absurd cc
+
+  by_stop : (s : Bool) → is_stop halt ≡ s → is_stop halt ≡ false
+  by_stop true stops = absurd (
+      let is = stopped halt stops (λ fails. failure_told b.failed b.failure told (ended.fault fails)) in let no = sym is ∙ goes_on in cc
+      )
+  by_stop false stops = stops
+
+takes_of : {X : Type 0} (t : Telling) (a b : State) (r : Result X Halt) (reads : Reads X) → Starts t a → Runs a b r reads
+    → is_some b.failed ≡ true → TakesAs t (outcome_of reads) (with_error b.failure b.frame.budget r) b.taken
+takes_of {X} t a b r reads starts h told =
     let honest : a.held.honest ≡ true = ap (λ k. k.honest) starts.held in
     record {
       most = omega (arith, h.within honest, starts.taken);
       least = λ goes_on.
-          let after : b.taken ≡ (state_after a reads.marks).taken = ap (λ s. s.taken) (h.state honest goes_on) in
+          let runs_on = error_goes_on b r told (h.ended) goes_on in
+          let after : b.taken ≡ (state_after a reads.marks).taken = ap (λ s. s.taken) (h.state honest runs_on) in
           omega (arith, after, places_past (length t.bytes) a reads.marks starts.counts starts.front, starts.taken);
     }
 
@@ -141,9 +184,9 @@ start_of t mid count home told place h = ap (λ m. start_state m count home told
     ∙ ap (λ n. start_state (Some (at_place t (length t.bytes))) count home n) h.length_told
 
 runs_of : {X : Type 0} (t : Telling) (mid : Option Telling) (count : Option ℕ) (home told place : ℕ) (b : State)
-    (r : Result X ImageError) (reads_of : List ℕ → ℕ → Reads X) → IsHonest t → Began t mid told place
+    (r : Result X Halt) (reads_of : List ℕ → ℕ → Reads X) → IsHonest t → Began t mid told place
     → Runs (start_state mid count home told) b r (over_state (start_state mid count home told) reads_of place)
-    → Runs (start_state (Some (at_place t (length t.bytes))) count home (length t.bytes)) b r (over_reader t reads_of)
+    → Runs (start_state (Some (at_place t (length t.bytes))) count home (length t.bytes)) b r (reads_of t.bytes t.place)
 runs_of t mid count home told place b r reads_of honest began h =
     let a = start_state (Some (at_place t (length t.bytes))) count home (length t.bytes) in
     let begun : Runs a b r (over_state a reads_of place) = subst (λ s. Runs s b r (over_state s reads_of place))
@@ -154,25 +197,25 @@ runs_of t mid count home told place b r reads_of honest began h =
 
 -- what a call that ran behind an opening answers
 pub opened_answers : {X : Type 0} (telling mid : Option Telling) (count : Option ℕ) (home : ℕ) (opened : Opened) (b : State)
-    (r : Result X ImageError) (reads_of : List ℕ → ℕ → Reads X) → IsBounded reads_of → Opens telling mid (Ok opened)
+    (r : Result X Halt) (reads_of : List ℕ → ℕ → Reads X) → IsBounded reads_of → is_some b.failed ≡ true → Opens telling mid (Ok opened)
     → Runs (start_state mid count home opened.told) b r (over_state (start_state mid count home opened.told) reads_of opened.place)
-    → Answers telling reads_of r
-opened_answers None mid count home opened b r reads_of bounded opens h = tt
-opened_answers (Some t) mid count home opened b r reads_of bounded opens h = λ honest.
+    → Answers telling (λ d place. outcome_of (reads_of d place)) (with_error b.failure b.frame.budget r)
+opened_answers None mid count home opened b r reads_of bounded told opens h = tt
+opened_answers (Some t) mid count home opened b r reads_of bounded told opens h = λ honest.
     let began : Began t mid opened.told opened.place = record { at_end = opens.0; length_told = opens.2; at = opens.1 } in
-    answers_of t _ b r (over_reader t reads_of) (starts_at t count home honest) (runs_of t mid count home opened.told opened.place b r
-    reads_of honest began h) (bounded t.bytes t.place)
+    answers_of t _ b r (reads_of t.bytes t.place) (starts_at t count home honest) (runs_of t mid count home opened.told opened.place b r
+    reads_of honest began h) told (bounded t.bytes t.place)
 
 -- and what it took
 pub opened_takes : {X : Type 0} (telling mid : Option Telling) (count : Option ℕ) (home : ℕ) (opened : Opened) (b : State)
-    (r : Result X ImageError) (reads_of : List ℕ → ℕ → Reads X) → Opens telling mid (Ok opened)
+    (r : Result X Halt) (reads_of : List ℕ → ℕ → Reads X) → is_some b.failed ≡ true → Opens telling mid (Ok opened)
     → Runs (start_state mid count home opened.told) b r (over_state (start_state mid count home opened.told) reads_of opened.place)
-    → Takes telling reads_of r b.taken
-opened_takes None mid count home opened b r reads_of opens h = tt
-opened_takes (Some t) mid count home opened b r reads_of opens h = λ honest.
+    → Takes telling (λ d place. outcome_of (reads_of d place)) (with_error b.failure b.frame.budget r) b.taken
+opened_takes None mid count home opened b r reads_of told opens h = tt
+opened_takes (Some t) mid count home opened b r reads_of told opens h = λ honest.
     let began : Began t mid opened.told opened.place = record { at_end = opens.0; length_told = opens.2; at = opens.1 } in
-    takes_of t _ b r (over_reader t reads_of) (starts_at t count home honest) (runs_of t mid count home opened.told opened.place b r
-    reads_of honest began h)
+    takes_of t _ b r (reads_of t.bytes t.place) (starts_at t count home honest) (runs_of t mid count home opened.told opened.place b r
+    reads_of honest began h) told
 
 -- A reader that cannot open stays as it was, but for its place.
 pub fails_leaves : (telling new : Option Telling) (e : ImageError) → Opens telling new (Err e) → Leaves telling new

@@ -1,11 +1,11 @@
 -- How a reader stands after its calls.
 use Rattle.std.proofs.Common.{◌≡◌, ℕ, ◌+◌, ◌-◌, ◌^◌, ◌<◌, ◌≤◌, min, Bool, true, false, cond, List, length, Option, Some, None, Ok, Err, IfSome, refl, sym, ap, ◌∙◌, subst, arith}
 use Rattle.std.proofs.lemmas.Bool.Decides.{nat_tests}
-use Rattle.imagesize_source.specs.declared.error.ImageError.{ImageError}
+use Rattle.imagesize_source.specs.declared.halt.Halt.{Halt}
 use Rattle.imagesize_io.specs.declared.progress.Progress.{Progress}
 use Rattle.imagesize_source.specs.Input.{part}
 use Rattle.std.specs.declared.io.Error.{Error}
-use Rattle.imagesize_io.specs.StopOf.{last_failed}
+use Rattle.imagesize_io.specs.StopOf.{failures_of}
 use Rattle.imagesize_io.specs.Telling.{Account, ReadTells, Telling}
 use Rattle.imagesize_io.specs.Standing.{Standing, behind_of, steady, in_step, stand_of, stand, GivesAll, GoesTo, GivesFrom, KeepsCounts, Tries}
 
@@ -55,7 +55,7 @@ from_there (Some s) mid telling p place at n b room goes on gives =
     (all.0 ∙ ap (λ k. Some (record s { place = k })) (sym (place_at telling p _ all.0)), all.1, all.2)
 
 -- a failure behind a place that was reached
-pub fails_there : (first mid new last : Option Standing) (place at now : ℕ) (b : Bool) (room : List ℕ) (e : ImageError)
+pub fails_there : (first mid new last : Option Standing) (place at now : ℕ) (b : Bool) (room : List ℕ) (e : Halt)
     → GoesTo first mid place at (Ok b) → b ≡ true → GivesAll mid new room (Err e) → GivesFrom first last place now room (Err e)
 fails_there None mid new last place at now b room e goes on gives = tt
 fails_there (Some s) mid new last place at now b room e goes on gives =
@@ -91,14 +91,14 @@ calm_in told place None s e = refl
 calm_in told place (Some error) s e = absurd (let off : in_step told place (Some error) s ≡ false = grind (arith, nat_tests) in cc)
 
 none_kept : (fault fault' : Option Error) (failure failure' : Option (Option Error)) → fault ≡ None → fault' ≡ fault
-    → last_failed fault' failure' ≡ last_failed fault failure
+    → failures_of fault' failure' ≡ failures_of fault failure
 none_kept fault fault' failure failure' none same = rw (same, none) refl
 
 -- so a call that does not fail changes nothing of the last failure
 pub calm_at : (a b : Account) (p q : Progress) → q.fault ≡ p.fault
-    → IfSome (stand a.telling p) (λ _. last_failed q.fault b.failure ≡ last_failed p.fault a.failure)
+    → IfSome (stand a.telling p) (λ _. failures_of q.fault b.failure ≡ failures_of p.fault a.failure)
 calm_at a b p q same = by_stand (stand a.telling p) refl where
-  by_stand : (st : Option Standing) → stand a.telling p ≡ st → IfSome st (λ _. last_failed q.fault b.failure ≡ last_failed p.fault a.failure)
+  by_stand : (st : Option Standing) → stand a.telling p ≡ st → IfSome st (λ _. failures_of q.fault b.failure ≡ failures_of p.fault a.failure)
   by_stand None is = tt
   by_stand (Some s) is = none_kept p.fault q.fault a.failure b.failure
       (calm_in p.told p.place p.fault s (in_step_at a.telling p s is)) same

@@ -7,7 +7,7 @@ use Rattle.std.proofs.lemmas.List.{append-nil, length-append, length-drop, lengt
 use Rattle.std.proofs.lemmas.Slice.{take-put_mid, take-put_mid_below}
 use borrow.Rule.Slice.PartMut.{put_mid}
 use Rattle.std.specs.Char.{is_ascii_whitespace}
-use Rattle.imagesize_source.specs.declared.error.ImageError.{ImageError}
+use Rattle.imagesize_source.specs.declared.halt.Halt.{Halt}
 use Rattle.imagesize_source.specs.declared.span.Span.{Span}
 use Rattle.imagesize_source.specs.declared.text.Text.{Text}
 use Rattle.imagesize_source.specs.declared.text.Text.TheVariants.{Line, Word}
@@ -18,7 +18,7 @@ use Rattle.imagesize_source.specs.State.{State, Runs, IsSound, total, state_afte
 use Rattle.imagesize_io.specs.declared.progress.Progress.{Progress}
 use Rattle.imagesize_io.specs.ReaderState.{reader_frame, reader_state}
 use Rattle.imagesize_io.specs.Standing.{stand}
-use Rattle.imagesize_io.specs.StopOf.{last_failed}
+use Rattle.imagesize_io.specs.StopOf.{Failures, failures_of}
 use Rattle.imagesize_io.specs.Telling.{Account}
 use Rattle.imagesize_source.specs.Text.{delimits, front_through, text_front, ends}
 use Rattle.imagesize_source.proofs.Counts.{total-span_at, total-span_of, total_there}
@@ -239,7 +239,7 @@ module _ {a b : State} {t : Text} {place count k : ℕ} {begun : Bool} {got : Li
       no_mark honest = ap (λ d. span_of d next 1) (same_input honest) ∙ no_span a.held.input next 1 (end_there run honest)
 
     -- a failure on the way
-    pub taking_stopped : {e : ImageError} → count < k → Runs b c (Err e) (part_read b.held.input next 1) → IsSound a → c.missed ≡ None
+    pub taking_stopped : {e : Halt} → count < k → Runs b c (Err e) (part_read b.held.input next 1) → IsSound a → c.missed ≡ None
         → Runs a c (Err e) (text_read a.held.input t place k)
     taking_stopped {e} more run sound untold = record {
       sound = sound;
@@ -373,7 +373,7 @@ one_read {b} {c} d more got next n one is run = subst (λ k. Runs b c (Ok got) (
 
 -- a reader tells the true length where it is honest
 pub reader_sound : (a : Account) (home : ℕ) (p : Progress) (window : List ℕ) → IsSound (reader_state a home p window)
-reader_sound a home p window = sound_at (reader_frame a home p) (stand a.telling p) (last_failed p.fault a.failure) window p.taken
+reader_sound a home p window = sound_at (reader_frame a home p) (stand a.telling p) (failures_of p.fault a.failure) window p.taken
     (told_by a home p)
 
 -- a room of one byte
@@ -431,7 +431,7 @@ module _ {a b : State} {t : Text} {place count : ℕ} {begun : Bool} (room : Lis
         (taking_ends h next next_is (one_read b.held.input more [] next n one (ap (λ j. take j more) none) run) sound))
 
   -- a failure
-  pub text_stopped : {c : State} {e : ImageError} (next m : ℕ) (more : List ℕ) → next ≡ min (place + count) (2 ^ 64 - 1)
+  pub text_stopped : {c : State} {e : Halt} (next m : ℕ) (more : List ℕ) → next ≡ min (place + count) (2 ^ 64 - 1)
       → count < length room → m ≡ 1 → length more ≡ 1 → Runs b c (Err e) (part_read b.held.input next (length more)) → IsSound a → c.missed ≡ None
       → Runs a c (Err e) (text_read a.held.input t place (length (put_mid count m room more)))
   text_stopped {c} {e} next m more next_is fits is_one one run sound untold =

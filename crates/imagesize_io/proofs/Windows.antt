@@ -3,15 +3,17 @@ use Rattle.std.proofs.Common.{◌≡◌, ◌≢◌, ℕ, ◌+◌, ◌-◌, ◌^�
 use Rattle.std.proofs.lemmas.Bool.Decides.{nat_tests}
 use Rattle.std.proofs.lemmas.List.{length-append, length-take, length-drop, take-append-le, drop-append-le, take-append-drop, append_assoc, append-nil, take_min, drop_all, take_all}
 use Rattle.std.proofs.Math.Seq.{drop-append-add, take-nil, drop-drop, take-take}
-use Rattle.imagesize_source.specs.declared.error.ImageError.{ImageError}
+use Rattle.imagesize_source.specs.declared.halt.Halt.{Halt}
 use Rattle.imagesize_source.specs.declared.span.Span.{Span}
 use Rattle.imagesize_io.specs.declared.progress.Progress.{Progress}
-use Rattle.imagesize_io.specs.StopOf.{last_failed}
+use Rattle.std.specs.declared.io.Error.{Error}
+use Rattle.imagesize_io.specs.StopOf.{Failures, failures_of, kept_error, last_failed}
+use Rattle.imagesize_source.specs.Errors.{is_fault}
 use Rattle.imagesize_io.specs.Telling.{Account, Telling}
 use Rattle.imagesize_source.proofs.Layouts.{no_part}
 use Rattle.imagesize_io.proofs.Standings.{told_at}
 use Rattle.imagesize_source.specs.Input.{part, span_at, span_of}
-use Rattle.imagesize_source.specs.Reading.{part_read, map_answer, is_fault, is_stop, budget_spent}
+use Rattle.imagesize_source.specs.Reading.{part_read, map_answer, is_failure, is_stop, is_spent}
 use Rattle.imagesize_io.specs.ReaderState.{held_at, no_claim, with_window, kept_window, state_at, reader_frame}
 use Rattle.imagesize_io.specs.Standing.{Standing, GivesFrom, behind, stand, drift, KeepsCounts, StopsBy}
 use borrow.Rule.Slice.PartMut.{put_mid}
@@ -43,7 +45,7 @@ holds s w honest =
     let fits = honest_if (leb (length w) (length s.bytes)) _ honest in
     (leb_is (length w) (length s.bytes) fits, rw fits refl)
 
-pub sound_at : (f : Frame) (st : Option Standing) (z : Option ImageError) (w : List ℕ) (taken : ℕ) → ToldBy f st
+pub sound_at : (f : Frame) (st : Option Standing) (z : Failures) (w : List ℕ) (taken : ℕ) → ToldBy f st
     → IsSound (state_at f st z w taken)
 sound_at f None z w taken told honest = absurd cc
 sound_at f (Some s) z w taken told honest =
@@ -141,7 +143,7 @@ in_window_answer (Some s) w room old place n count copied all kept honest =
     ∙ sym copied
     ∙ sym (take_all n room (omega arith))
 
-in_window_state : (f : Frame) (st : Option Standing) (z : Option ImageError) (w : List ℕ) (taken place k : ℕ) → f.counts ≡ true
+in_window_state : (f : Frame) (st : Option Standing) (z : Failures) (w : List ℕ) (taken place k : ℕ) → f.counts ≡ true
     → k ≤ length w - place → (held_at st w).honest ≡ true
     → state_at f st z w taken ≡ state_after (state_at f st z w taken) (span_of (held_at st w).input place k)
 unfolding span_of
@@ -157,7 +159,7 @@ in_window_state f (Some s) z w taken place k counts fits honest =
     ∙ ap (λ n. record a { front = n; taken = taken + new_bytes (length w) place k }) (kept_front (length w) place k fits)
     ∙ ap (λ t. record a { taken = t }) same)
 
-pub in_window : (f : Frame) (st : Option Standing) (z : Option ImageError) (w room old : List ℕ) (taken place n : ℕ) → ToldBy f st
+pub in_window : (f : Frame) (st : Option Standing) (z : Failures) (w room old : List ℕ) (taken place n : ℕ) → ToldBy f st
     → f.counts ≡ true → n ≡ min (length old) (length w - place) → room ≡ part w place (length old) ++ drop n old → n ≡ length room
     → length room ≡ length old → Runs (state_at f st z w taken) (state_at f st z w taken) (Ok (take (length room) room))
     (part_read (held_at st w).input place (length room))
@@ -241,13 +243,13 @@ grown_if w d more place k copied n false at small fits count short gave n_fits =
 }
 
 -- states that agree in each part
-together : (f f' : Frame) (h h' : Held) (m m' t t' : ℕ) (z z' : Option ImageError) → f ≡ f' → h ≡ h' → m ≡ m' → t ≡ t' → z ≡ z'
-    → ◌≡◌ {A = State} (record { frame = f; held = h; front = m; taken = t; recorded = None; missed = None; failed = Some z })
-    (record { frame = f'; held = h'; front = m'; taken = t'; recorded = None; missed = None; failed = Some z' })
+together : (f f' : Frame) (h h' : Held) (m m' t t' : ℕ) (z z' : Failures) → f ≡ f' → h ≡ h' → m ≡ m' → t ≡ t' → z ≡ z'
+    → ◌≡◌ {A = State} (record { frame = f; held = h; front = m; taken = t; recorded = None; missed = None; failure = z.kept; failed = Some z.last })
+    (record { frame = f'; held = h'; front = m'; taken = t'; recorded = None; missed = None; failure = z'.kept; failed = Some z'.last })
 together f f' h h' m m' t t' z z' p q r s e = cc
 
 -- the source after a reading that went on behind the window
-behind_state : (f f' : Frame) (s : Standing) (z z' : Option ImageError) (w w' : List ℕ) (taken taken' place now k copied n : ℕ)
+behind_state : (f f' : Frame) (s : Standing) (z z' : Failures) (w w' : List ℕ) (taken taken' place now k copied n : ℕ)
     → f.counts ≡ true → f' ≡ f → z' ≡ z → length w ≤ length s.bytes → Grown w w' s.bytes place (copied + n) → (held_at (Some s) w).honest ≡ true
     → copied ≡ min k (length w - place) → n ≡ min (k - copied) (length s.bytes - (place + copied)) → copied < k → taken' ≡ taken + n
     → state_at f' (Some (record s { place = now })) z' w' taken' ≡ state_after (state_at f (Some s) z w taken)
@@ -265,7 +267,7 @@ behind_state f f' s z z' w w' taken taken' place now k copied n counts frame fai
     ∙ sym (ap (λ m. state_after a (span_at place m)) all ∙ past-span a place (copied + n) counts refl)
 
 -- A reading that the window does not hold: it copied what the window has, and got n bytes more.
-pub record Behind (f f' : Frame) (st st' : Option Standing) (z z' : Option ImageError) (w w' room old more : List ℕ)
+pub record Behind (f f' : Frame) (st st' : Option Standing) (z z' : Failures) (w w' room old more : List ℕ)
     (taken taken' place now copied n : ℕ) : Type 0 where
   pub told : ToldBy f st
   pub told_after : ToldBy f' st'
@@ -292,7 +294,7 @@ behind_grown s st' w w' more place now k copied n small fits count short gives w
     (grown_if w s.bytes more place k copied n (eqb (place + copied) (length w)) refl small fits count short gives.1
     (omega (arith, gives.2)))
 
-behind_runs_answer : (f f' : Frame) (st st' : Option Standing) (z z' : Option ImageError) (w w' room old more : List ℕ)
+behind_runs_answer : (f f' : Frame) (st st' : Option Standing) (z z' : Failures) (w w' room old more : List ℕ)
     (taken taken' place now copied n : ℕ) → Behind f f' st st' z z' w w' room old more taken taken' place now copied n → (held_at st w).honest ≡ true
     → part (held_at st w).input place (length room) ≡ take (copied + n) (put_mid copied (length room - copied) room more)
 behind_runs_answer f f' None st' z z' w w' room old more taken taken' place now copied n h honest = absurd cc
@@ -300,7 +302,7 @@ behind_runs_answer f f' (Some s) st' z z' w w' room old more taken taken' place 
     ap (λ d. part d place (length room)) (input_is s w honest)
     ∙ behind_answer s st' w room old more place now copied n h.count h.front h.kept h.short h.gives h.enough h.long
 
-behind_runs_state : (f f' : Frame) (st st' : Option Standing) (z z' : Option ImageError) (w w' room old more : List ℕ)
+behind_runs_state : (f f' : Frame) (st st' : Option Standing) (z z' : Failures) (w w' room old more : List ℕ)
     (taken taken' place now copied n : ℕ) → Behind f f' st st' z z' w w' room old more taken taken' place now copied n → (held_at st w).honest ≡ true → state_at f' st' z' w' taken'
     ≡ state_after (state_at f st z w taken) (span_of (held_at st w).input place (length room))
 behind_runs_state f f' None st' z z' w w' room old more taken taken' place now copied n h honest = absurd cc
@@ -323,7 +325,7 @@ within_claim (Some s) w taken taken' place copied k rest count left within hones
     place k ∙ ap (λ n. min k (n - place)) long in
     omega (arith, all, within, count, left)
 
-pub behind_window : {f f' : Frame} {st st' : Option Standing} {z z' : Option ImageError} {w w' room old more : List ℕ}
+pub behind_window : {f f' : Frame} {st st' : Option Standing} {z z' : Failures} {w w' room old more : List ℕ}
     {taken taken' place now copied n : ℕ} → Behind f f' st st' z z' w w' room old more taken taken' place now copied n
     → Runs (state_at f st z w taken) (state_at f' st' z' w' taken')
     (Ok (take (copied + n) (put_mid copied (length room - copied) room more)))
@@ -347,14 +349,14 @@ behind_window {f} {f'} {st} {st'} {z} {z'} {w} {w'} {room} {old} {more} {taken} 
       ended = tt;
     })
 
-fails_claim : (st st' : Option Standing) (w more : List ℕ) (place now : ℕ) (e : ImageError) → GivesFrom st st' place now more (Err e)
-    → (held_at st w).honest ≡ true → is_fault e ≡ true → (held_at st w).can_fail ≡ true
+fails_claim : (st st' : Option Standing) (w more : List ℕ) (place now : ℕ) (e : Halt) → GivesFrom st st' place now more (Err e)
+    → (held_at st w).honest ≡ true → is_failure e ≡ true → (held_at st w).can_fail ≡ true
 fails_claim None st' w more place now e gives honest faults = absurd cc
 fails_claim (Some s) st' w more place now e gives honest faults = ap (λ h. h.can_fail) (holds s w honest).1 ∙ gives faults
 
 -- A reading behind the window that was stopped.
-pub record Halted (f f' : Frame) (st st' : Option Standing) (z z' : Option ImageError) (w w' room old more : List ℕ)
-    (taken taken' place now copied : ℕ) (e : ImageError) : Type 0 where
+pub record Halted (f f' : Frame) (st st' : Option Standing) (z z' : Failures) (w w' room old more : List ℕ)
+    (taken taken' place now copied : ℕ) (e : Halt) : Type 0 where
   pub told : ToldBy f st
   pub told_after : ToldBy f' st'
   pub frame : f' ≡ f
@@ -368,8 +370,8 @@ pub record Halted (f f' : Frame) (st st' : Option Standing) (z z' : Option Image
   pub stops : is_stop e ≡ true
   pub ended : EndedBy (state_at f' st' z' w' taken') e
 
-halted : {f f' : Frame} {st st' : Option Standing} {z z' : Option ImageError} {w w' room old more : List ℕ}
-    {taken taken' place now copied : ℕ} {e : ImageError} (value : ℕ → List ℕ)
+halted : {f f' : Frame} {st st' : Option Standing} {z z' : Failures} {w w' room old more : List ℕ}
+    {taken taken' place now copied : ℕ} {e : Halt} (value : ℕ → List ℕ)
     → Halted f f' st st' z z' w w' room old more taken taken' place now copied e → Runs (state_at f st z w taken)
     (state_at f' st' z' w' taken') (map_answer value (Err e)) (part_read (held_at st w).input place (length room))
 halted {f} {f'} {st} {st'} {z} {z'} {w} {w'} {room} {old} {more} {taken} {taken'} {place} {now} {copied} {e} value h = record {
@@ -386,8 +388,8 @@ halted {f} {f'} {st} {st'} {z} {z'} {w} {w'} {room} {old} {more} {taken} {taken'
   ended = h.ended;
 }
 
-pub behind_stopped : {f f' : Frame} {st st' : Option Standing} {z z' : Option ImageError} {w w' room old more : List ℕ}
-    {taken taken' place now copied : ℕ} {e : ImageError} (value : ℕ → List ℕ) (r : Result ℕ ImageError)
+pub behind_stopped : {f f' : Frame} {st st' : Option Standing} {z z' : Failures} {w w' room old more : List ℕ}
+    {taken taken' place now copied : ℕ} {e : Halt} (value : ℕ → List ℕ) (r : Result ℕ Halt)
     → Halted f f' st st' z z' w w' room old more taken taken' place now copied e → r ≡ Err e
     → Runs (state_at f st z w taken) (state_at f' st' z' w' taken') (map_answer value r)
     (part_read (held_at st w).input place (length (put_mid copied (length room - copied) room more)))
@@ -438,18 +440,19 @@ pub same_frame : (a b : Account) (home : ℕ) (p p' : Progress) → KeepsCounts 
 same_frame a b home p p' keeps since same =
     same_frames p'.told p.told p'.budget p.budget home _ _ _ _ keeps.told keeps.budget since same
 
-paid_by : (f : Frame) (taken : ℕ) (spent : Option ℕ) → f.counts ≡ true → IfSome spent (λ n. (n ≡ f.budget) × (n ≡ taken))
-    → IfSome spent (λ n. (f.counts ≡ true) × (n ≡ f.budget) × (n ≡ taken))
-paid_by f taken None counts named = tt
-paid_by f taken (Some n) counts named = (counts, named.0, named.1)
+-- the error that is kept of a failure is a fault
+kept_fault : (fault : Option Error) (failure : Option (Option Error)) → last_failed fault failure ≡ Some (kept_error fault)
+    → is_fault (kept_error fault) ≡ true
+kept_fault None failure is = absurd cc
+kept_fault (Some e) failure is = refl
 
 -- a stop of the reader is one of the source
-pub ended_by : (a : Account) (home : ℕ) (p : Progress) (st : Option Standing) (w : List ℕ) (e : ImageError) → StopsBy p a.failure e
-    → EndedBy (state_at (reader_frame a home p) st (last_failed p.fault a.failure) w p.taken) e
+pub ended_by : (a : Account) (home : ℕ) (p : Progress) (st : Option Standing) (w : List ℕ) (e : Halt) → StopsBy p a.failure e
+    → EndedBy (state_at (reader_frame a home p) st (failures_of p.fault a.failure) w p.taken) e
 ended_by a home p st w e stops = record {
-  budget = paid_by (reader_frame a home p) p.taken (budget_spent e) refl stops.budget;
-  memory = λ refused. absurd cc;
-  fault = stops.fault;
+  budget = λ spent. (refl, stops.budget spent);
+  memory = λ refused. absurd (let no = sym refused ∙ stops.memory in cc);
+  fault = λ failed. (stops.fault failed, kept_fault p.fault a.failure (stops.fault failed));
 }
 
 end_answer : (f : Frame) (st : Option Standing) (w : List ℕ) (place k : ℕ) → ToldBy f st → f.told < place → (held_at st w).honest ≡ true
@@ -460,7 +463,7 @@ end_answer f (Some s) w place k told far honest =
     (holds s w honest).0 in
     no_part (held_at (Some s) w).input place k (omega (arith, long, told.0, far))
 
-end_state : (f : Frame) (st : Option Standing) (z : Option ImageError) (w : List ℕ) (taken place k : ℕ) → ToldBy f st → f.told < place
+end_state : (f : Frame) (st : Option Standing) (z : Failures) (w : List ℕ) (taken place k : ℕ) → ToldBy f st → f.told < place
     → (held_at st w).honest ≡ true
     → state_at f st z w taken ≡ state_after (state_at f st z w taken) (span_of (held_at st w).input place k)
 unfolding span_of span_at state_after
@@ -472,7 +475,7 @@ end_state f (Some s) z w taken place k told far honest =
     sym (ap (λ n. state_after (state_at f (Some s) z w taken) (span_at place n)) none)
 
 -- a reading above the told length sees nothing, and changes nothing
-pub behind_end : {f : Frame} (st : Option Standing) (z : Option ImageError) (w : List ℕ) (taken place k : ℕ) → ToldBy f st → f.told < place
+pub behind_end : {f : Frame} (st : Option Standing) (z : Failures) (w : List ℕ) (taken place k : ℕ) → ToldBy f st → f.told < place
     → Runs (state_at f st z w taken) (state_at f st z w taken) (Ok []) (part_read (held_at st w).input place k)
 behind_end {f} st z w taken place k told far = record {
   sound = sound_at f st z w taken told;

@@ -8,9 +8,9 @@ use Rattle.imagesize_io.specs.declared.progress.Progress.{Progress}
 use Rattle.imagesize_source.specs.Limits.{allowance, most_held}
 use Rattle.imagesize_io.specs.declared.reader.Ledger.{Ledger}
 use Rattle.imagesize_source.specs.Reading.{part_read, text_read, map_answer}
-use Rattle.imagesize_io.specs.StopOf.{last_failed}
+use Rattle.imagesize_io.specs.StopOf.{Failures, failures_of}
 use Rattle.imagesize_io.specs.Telling.{Account, Fails, Telling, at_place}
-use Rattle.imagesize_io.specs.Standing.{Standing, KeepsCounts, behind, behind_of, steady, stand_of, stand, drift, with_kept_error}
+use Rattle.imagesize_io.specs.Standing.{Standing, KeepsCounts, behind, behind_of, steady, stand_of, stand, drift}
 use Rattle.imagesize_source.specs.State.{State, Frame, Held, Runs}
 
 -- no claim
@@ -42,20 +42,21 @@ reader_frame a home p = record {
 }
 
 -- a reader as a source
-abbrev pub state_at : Frame → Option Standing → Option ImageError → List ℕ → ℕ → State
-state_at frame standing failed window taken = record {
+abbrev pub state_at : Frame → Option Standing → Failures → List ℕ → ℕ → State
+state_at frame standing failures window taken = record {
   frame = frame;
   held = held_at standing window;
   front = length window;
   taken = taken;
   recorded = None;
   missed = None;
-  failed = Some failed;
+  failure = failures.kept;
+  failed = Some failures.last;
 }
 
 abbrev pub reader_state : Account → ℕ → Progress → List ℕ → State
 reader_state a home p window =
-    state_at (reader_frame a home p) (stand a.telling p) (last_failed p.fault a.failure) window p.taken
+    state_at (reader_frame a home p) (stand a.telling p) (failures_of p.fault a.failure) window p.taken
 
 -- the window after bytes came from a place on: it takes in those that follow it, up to its length
 abbrev pub kept_window : List ℕ → ℕ → List ℕ → List ℕ
@@ -82,10 +83,10 @@ start_state telling count home told = state_at
       behind = behind_of told 0 None telling;
       parts = None;
     })
-    (stand_of told told None (steady telling 0)) None [] 0
+    (stand_of told told None (steady telling 0)) (failures_of None None) [] 0
 
 -- What a reading from a place on did, over every reader: it saw what the window has of it, and what follows from the reader.
-pub record ReadsAt (old new : Ledger) (a b : Account) (place : ℕ) (room : List ℕ) (r : Result ℕ ImageError) : Type 0 where
+pub record ReadsAt (old new : Ledger) (a b : Account) (place : ℕ) (room : List ℕ) (r : Result ℕ Halt) : Type 0 where
   pub bound : IfOk r (λ n. n ≤ length room)
   pub pays : IfOk r (λ n. 0 < n → max old.progress.told most_held < place → (old.progress.taken < new.progress.taken)
       × (new.progress.taken ≤ old.progress.budget))
@@ -98,7 +99,7 @@ pub record ReadsAt (old new : Ledger) (a b : Account) (place : ℕ) (room : List
 -- the end of the input, and makes no call of the reader.
 pub record ReadsOn {R : Type 0} (reader reader' : R) (old new : Ledger) (a b : Account) (place : ℕ) (room : List ℕ)
     (r : Result ℕ Halt) : Type 0 where
-  pub reads : ReadsAt old new a b place room (with_kept_error new.progress r)
+  pub reads : ReadsAt old new a b place room r
   pub present : place ≤ old.progress.told → IfOk r (λ n. new.present ≡ min (place + n) (2 ^ 64 - 1))
   pub goes_on : place ≡ old.present → IfOk r (λ n. new.present ≡ min (place + n) (2 ^ 64 - 1))
   pub ends : old.progress.told < place → place ≢ old.present → (r ≡ Ok 0) × (reader' ≡ reader) × (new.present ≡ old.present)
@@ -110,5 +111,5 @@ pub record ReadsText (old new : Ledger) (a b : Account) (text : Text) (place : �
   pub pays : IfOk r (λ n. 0 < n → max old.progress.told most_held < place → old.progress.taken < new.progress.taken)
   pub runs : (home : ℕ) → Runs (reader_state a home old.progress old.window.items)
       (reader_state b home new.progress new.window.items)
-      (map_answer (λ n. take n room) (with_kept_error new.progress r))
+      (map_answer (λ n. take n room) r)
       (text_read (held_at (stand a.telling old.progress) old.window.items).input text place (length room))

@@ -1,14 +1,12 @@
 -- What a reader claims, as far as the numbers kept beside it agree with what it tells.
 use Rattle.std.specs.Prelude.{◌≡◌, ℕ, ◌+◌, ◌-◌, ◌^◌, ◌<◌, ◌≤◌, min, Bool, true, false, ◌||◌, ◌&&◌, not, List, length, take, nat_le, nat_lt, ◌==◌, if◌then◌else◌, Option, None, Some, is_none, Result, Ok, Err, IfSome, IfOk, IfErr, OnOk, IsSomeAnd, option_map, ⊤}
-use Rattle.imagesize_source.specs.declared.error.ImageError.{ImageError}
 use Rattle.imagesize_source.specs.declared.halt.Halt.{Halt}
 use Rattle.imagesize_source.specs.Limits.{most_retries}
 use Rattle.imagesize_io.specs.declared.progress.Progress.{Progress}
 use Rattle.std.specs.declared.io.Error.{Error}
-use Rattle.imagesize_source.specs.Halts.{error_by, with_error}
 use Rattle.imagesize_io.specs.StopOf.{kept_error, last_failed}
 use Rattle.imagesize_source.specs.Input.{part}
-use Rattle.imagesize_source.specs.Reading.{is_fault, is_memory, is_stop, budget_spent}
+use Rattle.imagesize_source.specs.Reading.{is_failure, is_memory, is_stop, is_spent}
 use Rattle.imagesize_source.specs.State.{Behind}
 use Rattle.imagesize_io.specs.Telling.{Account, Telling, bytes_given}
 
@@ -58,63 +56,49 @@ behind telling p = behind_of p.told p.retries p.fault telling
 
 -- what a read did that went on from where a reader stands: as much as it gave was the next of the bytes, at
 -- least one where there is one and there is room; a failure comes only from a reader that can fail
-abbrev pub GivesSome : Option Standing → Option Standing → List ℕ → Result ℕ ImageError → Type 0
+abbrev pub GivesSome : Option Standing → Option Standing → List ℕ → Result ℕ Halt → Type 0
 GivesSome None new room r = ⊤
 GivesSome (Some s) new room (Ok n) =
     (new ≡ Some (advance_standing s n)) × (take n room ≡ part s.bytes s.place n) × (n ≤ length s.bytes - s.place)
     × (0 < length room → s.place < length s.bytes → 0 < n)
-GivesSome (Some s) new room (Err e) = is_fault e ≡ true → s.can_fail ≡ true
+GivesSome (Some s) new room (Err halt) = is_failure halt ≡ true → s.can_fail ≡ true
 
 -- the same of a read that goes on until the room is full or the bytes end
-abbrev pub GivesAll : Option Standing → Option Standing → List ℕ → Result ℕ ImageError → Type 0
+abbrev pub GivesAll : Option Standing → Option Standing → List ℕ → Result ℕ Halt → Type 0
 GivesAll None new room r = ⊤
 GivesAll (Some s) new room (Ok n) =
     (new ≡ Some (advance_standing s n)) × (take n room ≡ part s.bytes s.place n) × (n ≡ min (length room) (length s.bytes - s.place))
-GivesAll (Some s) new room (Err e) = is_fault e ≡ true → s.can_fail ≡ true
+GivesAll (Some s) new room (Err halt) = is_failure halt ≡ true → s.can_fail ≡ true
 
 -- what a seek did from where a reader stands: it stands at the place now, or the place is behind its bytes
-abbrev pub GoesTo : Option Standing → Option Standing → ℕ → ℕ → Result Bool ImageError → Type 0
+abbrev pub GoesTo : Option Standing → Option Standing → ℕ → ℕ → Result Bool Halt → Type 0
 GoesTo None new place now r = ⊤
 GoesTo (Some s) new place now (Ok true) = (new ≡ Some (record s { place = place })) × (now ≡ place)
 GoesTo (Some s) new place now (Ok false) = (new ≡ Some s) × (length s.bytes < place) × (now ≡ s.place)
-GoesTo (Some s) new place now (Err e) = is_fault e ≡ true → s.can_fail ≡ true
+GoesTo (Some s) new place now (Err halt) = is_failure halt ≡ true → s.can_fail ≡ true
 
 -- what a read from a place on did, until the room is full or the bytes end
-abbrev pub GivesFrom : Option Standing → Option Standing → ℕ → ℕ → List ℕ → Result ℕ ImageError → Type 0
+abbrev pub GivesFrom : Option Standing → Option Standing → ℕ → ℕ → List ℕ → Result ℕ Halt → Type 0
 GivesFrom None new place now room r = ⊤
 GivesFrom (Some s) new place now room (Ok n) =
     (new ≡ Some (record s { place = now })) × (take n room ≡ part s.bytes place n) × (n ≡ min (length room) (length s.bytes - place))
-GivesFrom (Some s) new place now room (Err e) = is_fault e ≡ true → s.can_fail ≡ true
+GivesFrom (Some s) new place now room (Err halt) = is_failure halt ≡ true → s.can_fail ≡ true
 
 -- a reader that tells itself still does, and each interruption of it that came was counted as a try
 abbrev pub Tries : Option Telling → ℕ → Option Telling → ℕ → Type 0
 Tries None tries new tries' = ⊤
 Tries (Some t) tries new tries' = IsSomeAnd new (λ u. t.interruptions + tries ≤ u.interruptions + tries')
 
--- the error that a halt ends a call with
-abbrev pub error_at : Progress → Halt → ImageError
-error_at p halt = error_by (kept_error p.fault) p.budget halt
-
--- an answer, with the error of its halt
-abbrev pub with_kept_error : {X : Type 0} → Progress → Result X Halt → Result X ImageError
-with_kept_error p r = with_error (kept_error p.fault) p.budget r
-
--- the bytes that a read gave, or the error that is kept
-abbrev pub given_or : Option Error → Result ℕ Halt → Result ℕ ImageError
-given_or fault (Ok n) = Ok n
-given_or fault (Err halt) = Err (kept_error fault)
-
 -- by how much a count is above a number, and below it
 abbrev pub drift : Option ℕ → ℕ → Option (ℕ × ℕ)
 drift count taken = option_map (λ c. (c - taken, taken - c)) count
 
--- Only a failure or a spent budget stops a read: the budget that is named is the one that was taken, and the failure is
--- the last one.
-pub record StopsBy (p : Progress) (failure : Option (Option Error)) (e : ImageError) : Type 0 where
-  pub stops : is_stop e ≡ true
-  pub memory : is_memory e ≡ false
-  pub budget : IfSome (budget_spent e) (λ n. (n ≡ p.budget) × (n ≡ p.taken))
-  pub fault : is_fault e ≡ true → last_failed p.fault failure ≡ Some e
+-- Only a failure or a spent budget stops a read: the budget is what was taken, and the failure is the last one.
+pub record StopsBy (p : Progress) (failure : Option (Option Error)) (halt : Halt) : Type 0 where
+  pub stops : is_stop halt ≡ true
+  pub memory : is_memory halt ≡ false
+  pub budget : is_spent halt ≡ true → p.budget ≡ p.taken
+  pub fault : is_failure halt ≡ true → last_failed p.fault failure ≡ Some (kept_error p.fault)
 
 -- What a call leaves of the numbers beside the reader. Tries are never forgotten, and never more than `most_retries`.
 pub record KeepsCounts (old new : Progress) : Type 0 where
@@ -125,7 +109,7 @@ pub record KeepsCounts (old new : Progress) : Type 0 where
   pub limit : old.retries ≤ most_retries → new.retries ≤ most_retries
 
 -- what one read from where a reader stands did
-pub record ReadsOnce (old new : Progress) (a b : Account) (room : List ℕ) (r : Result ℕ ImageError) : Type 0 where
+pub record ReadsOnce (old new : Progress) (a b : Account) (room : List ℕ) (r : Result ℕ Halt) : Type 0 where
   pub bound : IfOk r (λ n. n ≤ length room)
   pub stand : GivesSome (stand a.telling old) (stand b.telling new) room r
   pub taken : new.taken ≡ old.taken + bytes_given r
@@ -138,7 +122,7 @@ pub record ReadsOnce (old new : Progress) (a b : Account) (room : List ℕ) (r :
   pub stops : IfErr r (StopsBy new b.failure)
 
 -- what reads from where a reader stands did, one after another until the room is full or the bytes end
-pub record Fills (old new : Progress) (before after : Option Standing) (a b : Account) (room : List ℕ) (r : Result ℕ ImageError)
+pub record Fills (old new : Progress) (before after : Option Standing) (a b : Account) (room : List ℕ) (r : Result ℕ Halt)
     : Type 0 where
   pub bound : IfOk r (λ n. n ≤ length room)
   pub stand : GivesAll before after room r
@@ -153,7 +137,7 @@ pub record Fills (old new : Progress) (before after : Option Standing) (a b : Ac
 
 -- what a reading from a place on did, over every reader
 pub record ReadsFrom (old new : Progress) (before after : Option Standing) (a b : Account) (place : ℕ) (room : List ℕ)
-    (r : Result ℕ ImageError) : Type 0 where
+    (r : Result ℕ Halt) : Type 0 where
   pub bound : IfOk r (λ n. n ≤ length room)
   pub stand : GivesFrom before after place new.place room r
   pub stands : IfOk r (λ n. place ≤ old.told → new.place ≡ min (place + n) (2 ^ 64 - 1))

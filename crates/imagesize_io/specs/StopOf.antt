@@ -10,7 +10,7 @@ use Rattle.imagesize_source.specs.declared.error.Reason.TheVariants.{Fault as Fa
 use Rattle.imagesize_source.specs.declared.halt.Halt.{Halt}
 use Rattle.imagesize_source.specs.declared.halt.Halt.TheVariants.{Failed}
 use Rattle.imagesize_source.specs.Limits.{most_retries}
-use Rattle.imagesize_source.specs.Reading.{end_of_input}
+use Rattle.imagesize_source.specs.Errors.{end_of_input}
 use Rattle.imagesize_io.specs.declared.told.Stop.{Stop}
 use Rattle.imagesize_io.specs.declared.told.Stop.TheVariants.{Interrupted, Fault}
 
@@ -46,6 +46,14 @@ abbrev pub last_failed : Option Error → Option (Option Error) → Option Image
 last_failed None failure = None
 last_failed (Some e) None = Some (fault_of e)
 last_failed (Some e) (Some last) = option_map fault_of last
+
+-- what a source tells of its failures: the error that is kept, and the last one
+pub record Failures : Type 0 where
+  pub kept : ImageError
+  pub last : Option ImageError
+
+abbrev pub failures_of : Option Error → Option (Option Error) → Failures
+failures_of fault failure = record { kept = kept_error fault; last = last_failed fault failure }
 
 -- a call that failed halts the reading, and no other does
 abbrev pub halt_if_failed : {X : Type 0} → Result X Error → Result X Halt

@@ -1,10 +1,10 @@
 //! A reader as a source.
 ghost use Rattle.std.specs.Prelude.{◌≡◌, IfErr, true, false};
-ghost use Rattle.imagesize_source.specs.Reading.{is_fault, is_memory};
+ghost use Rattle.imagesize_source.specs.Errors.{is_fault, is_memory};
 ghost use Rattle.imagesize_io.specs.ReaderState.{reader_state, start_state, Opens};
 ghost use Rattle.imagesize_io.specs.Answers.{IsLast};
 ghost use Rattle.imagesize_io.specs.Telling.{SeekTells, account};
-ghost use Rattle.imagesize_io.specs.Standing.{error_at};
+ghost use Rattle.imagesize_source.specs.Halts.{error_by};
 ghost use Rattle.imagesize_io.specs.StopOf.{kept_error};
 
 mod filling;
@@ -65,8 +65,6 @@ impl<'a, R: Told> ReaderSource<'a, R> {
 impl<R: Told> Source for ReaderSource<'_, R> {
     ghost state = { λ s. reader_state (account R.telling R.count R.failure s.reader.now) s.reader.ghost_name s.ledger.progress
         s.ledger.window.items };
-
-    ghost failure = { λ s. kept_error s.ledger.progress.fault };
 
     #[inline]
     fn told(&self) -> u64 {
@@ -150,7 +148,7 @@ fn seek<R: Told>(reader: &mut R, to: SeekFrom) -> ImageResult<u64>
 #[cold]
 #[inline(never)]
 fn refusal_of(halt: Halt, progress: &Progress) -> ImageError
-    ensures { result ≡ error_at progress.now halt }
+    ensures { result ≡ error_by (kept_error progress.now.fault) progress.now.budget halt }
 {
     let failure = match progress.fault {
         Some(error) => Reason::Fault(error),

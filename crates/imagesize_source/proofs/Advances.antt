@@ -1,6 +1,6 @@
 -- How a chain is seen to advance: by the layouts of its records.
 use Rattle.std.proofs.Common.{◌≡◌, ℕ, ◌<◌, ◌≤◌, List, [], ◌∷◌, length, Result, Ok, Err, refl, sym, ap, ◌∙◌, subst, arith}
-use Rattle.imagesize_source.specs.declared.error.ImageError.{ImageError}
+use Rattle.imagesize_source.specs.declared.halt.Halt.{Halt}
 use Rattle.imagesize_source.specs.declared.span.Span.{Span}
 use Rattle.imagesize_source.specs.Chain.{Said, Decided, Next, Chain, Advances}
 use Rattle.imagesize_source.specs.Input.{span_of}
@@ -33,7 +33,7 @@ Begins q (refuse e) = Unit {0}
 Begins q (field order place k f) = (q ≤ place) × (0 < k)
 Begins q (reading r place f) = (q ≤ place) × OrSome r (Tells (λ _. ⊥) (f []))
 
-onward_tells : {C X Y : Type 0} (P : Type 0) (spans : List Span) (r : Result Y ImageError) (f : Y → Reads (Said C X)) (s : Said C X)
+onward_tells : {C X Y : Type 0} (P : Type 0) (spans : List Span) (r : Result Y Halt) (f : Y → Reads (Said C X)) (s : Said C X)
     → (go_on spans r f).answer ≡ Ok s → ((y : Y) → r ≡ Ok y → (f y).answer ≡ Ok s → P) → P
 onward_tells P spans (Ok y) f s is each = each y refl is
 onward_tells P spans (Err e) f s is each = absurd cc

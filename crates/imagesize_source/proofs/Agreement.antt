@@ -3,7 +3,7 @@ use Rattle.std.proofs.Common.{◌≡◌, ℕ, zero, suc, ◌+◌, ◌-◌, ◌<�
 use Rattle.std.proofs.lemmas.List.{append-nil, length-take, take-take, length-drop, get_or-take, get_or-drop, ext_get_or}
 use Rattle.std.proofs.Math.Seq.{take-append_seam}
 use Rattle.std.proofs.lemmas.Bool.Decides.{nat_tests}
-use Rattle.imagesize_source.specs.declared.error.ImageError.{ImageError}
+use Rattle.imagesize_source.specs.declared.halt.Halt.{Halt}
 use Rattle.imagesize_source.specs.declared.span.Span.{Span}
 use Rattle.imagesize_source.specs.declared.endian.Endian.{Endian}
 use Rattle.std.proofs.lemmas.Bool.{cases_lt}
@@ -111,13 +111,13 @@ same_reading d e (PartOf k) place a = rw (same_span d e place k a.as_long, same_
 same_reading d e (TextOf t k) place a = ap (λ bs. record { answer = Ok bs; marks = span_at place (length bs) }) (same_text d e t place k a)
 
 -- what goes on from an answer rests on its spans
-pub agrees_first : {d e : List ℕ} {X Y : Type 0} (spans : List Span) (r : Result X ImageError) (f : X → Reads Y)
+pub agrees_first : {d e : List ℕ} {X Y : Type 0} (spans : List Span) (r : Result X Halt) (f : X → Reads Y)
     → Agrees d e (go_on spans r f).marks → Agrees d e spans
 agrees_first spans (Ok x) f a = agrees-left spans (f x).marks a
 agrees_first spans (Err e) f a = a
 
 -- what goes on is the same, where it is so behind each answer
-pub onward_local : {d e : List ℕ} {X Y : Type 0} (spans : List Span) (r : Result X ImageError) (f g : X → Reads Y)
+pub onward_local : {d e : List ℕ} {X Y : Type 0} (spans : List Span) (r : Result X Halt) (f g : X → Reads Y)
     → Agrees d e (go_on spans r f).marks → ((x : X) → Agrees d e (f x).marks → g x ≡ f x) → go_on spans r g ≡ go_on spans r f
 onward_local spans (Ok x) f g a same = ap (put_behind spans) (same x (agrees-right spans (f x).marks a))
 onward_local spans (Err e) f g a same = refl
@@ -235,7 +235,7 @@ alike_part d e place k long = elim (differ (part d place k) (part e place k) (pa
 ]
 
 -- and so is what is made of them
-alike_made : {texts : Bool} {X : Type 0} (f : List ℕ → ℕ → Result X ImageError) (d e : List ℕ) (place k : ℕ) → length e ≡ length d
+alike_made : {texts : Bool} {X : Type 0} (f : List ℕ → ℕ → Result X Halt) (d e : List ℕ) (place k : ℕ) → length e ≡ length d
     → (part e place k ≡ part d place k → f e place ≡ f d place)
     → Alike texts d e (record { answer = f d place; marks = span_of d place k }) (record { answer = f e place; marks = span_of e place k })
 alike_made f d e place k long same = elim (alike_part d e place k long) [
@@ -395,7 +395,7 @@ alike_then d e p q f g (inr parts) rest =
 alike_then {texts} {X} {Y} d e p q f g (inl same) rest =
     subst (λ w. Alike texts d e (and_then p f) (and_then w g)) (sym same) (by_answer p.answer refl)
   where
-    by_answer : (r : Result X ImageError) → p.answer ≡ r → Alike texts d e (go_on p.marks r f) (go_on p.marks r g)
+    by_answer : (r : Result X Halt) → p.answer ≡ r → Alike texts d e (go_on p.marks r f) (go_on p.marks r g)
     by_answer (Err x) is = inl refl
     by_answer (Ok x) is = elim (rest x is (ap (λ w. w.answer) same ∙ is)) [
       | inl rest_same ↦ inl (ap (put_behind p.marks) rest_same)

@@ -3,7 +3,7 @@ use Rattle.std.proofs.Common.{◌≡◌, ℕ, ◌+◌, ◌-◌, ◌*◌, ◌<◌
 use Rattle.std.proofs.Math.Nat.{add-zero}
 use Rattle.std.proofs.lemmas.Bool.Decides.{nat_tests}
 use Rattle.std.proofs.lemmas.List.{get_or-take, get_or-drop}
-use Rattle.imagesize_source.specs.declared.error.ImageError.{ImageError}
+use Rattle.imagesize_source.specs.declared.halt.Halt.{Halt}
 use Rattle.imagesize_source.specs.declared.span.Span.{Span}
 use Rattle.imagesize_source.specs.declared.endian.Endian.{Endian}
 use Rattle.imagesize_source.specs.declared.endian.Endian.TheVariants.{Big}
@@ -56,8 +56,8 @@ big_pair d place v is =
     omega arith
 
 -- what holds behind an answer and behind a refusal holds of what goes on
-pub on_answer : {X Y : Type 0} (P : Reads Y → Type 0) (spans : List Span) (r : Result X ImageError) (f : X → Reads Y)
-    → ((x : X) → r ≡ Ok x → P (put_behind spans (f x))) → ((e : ImageError) → r ≡ Err e → P (record { answer = Err e; marks = spans }))
+pub on_answer : {X Y : Type 0} (P : Reads Y → Type 0) (spans : List Span) (r : Result X Halt) (f : X → Reads Y)
+    → ((x : X) → r ≡ Ok x → P (put_behind spans (f x))) → ((e : Halt) → r ≡ Err e → P (record { answer = Err e; marks = spans }))
     → P (go_on spans r f)
 on_answer P spans (Ok x) f answered refused = answered x refl
 on_answer P spans (Err e) f answered refused = refused e refl

@@ -1,7 +1,7 @@
 -- What holds of every chain: locality, counts and extension.
 use Rattle.std.proofs.Common.{Bool, ◌≡◌, ℕ, zero, suc, ◌+◌, ◌*◌, ◌<◌, ◌≤◌, List, [], ◌∷◌, ◌++◌, length, Some, Result, Ok, Err, inl, refl, sym, ap, ◌∙◌, subst, arith}
 use Rattle.std.proofs.Math.Nat.{mul-add}
-use Rattle.imagesize_source.specs.declared.error.ImageError.{ImageError}
+use Rattle.imagesize_source.specs.declared.halt.Halt.{Halt}
 use Rattle.imagesize_source.specs.Agreement.{Agrees, Alike, IsLocal}
 use Rattle.imagesize_source.specs.Chain.{Said, Decided, Next, Chain, Along, start, next_record, verdict, records_from, records, chain_from, chain_at, Advances}
 use Rattle.imagesize_source.specs.Counts.{AtMost}
@@ -20,10 +20,10 @@ module _ {C X : Type 0} (c : Chain C X) (d : List ℕ) where
   pub chain_induction : (P : Along C → Type 0) → Advances c d
       → ((t : Along C) (v : C) (place : ℕ) → (next_record c d t).answer ≡ Ok (Next v place)
       → P (record { held = t.held ++ v ∷ []; place = place }) → P t)
-      → ((t : Along C) (r : Result X ImageError) → verdict (next_record c d t).answer ≡ Some r → P t)
+      → ((t : Along C) (r : Result X Halt) → verdict (next_record c d t).answer ≡ Some r → P t)
       → (t : Along C) → P t
   chain_induction P adv on last t = by_fuel (length d) t (omega arith) where
-    by_record : (t : Along C) (r : Result (Said C X) ImageError) → (next_record c d t).answer ≡ r
+    by_record : (t : Along C) (r : Result (Said C X) Halt) → (next_record c d t).answer ≡ r
         → ((u : Along C) → t.place < u.place → t.place < length d → P u) → P t
     by_record t (Ok (Decided x)) is later = last t (Ok x) (ap verdict is)
     by_record t (Ok (Next v place)) is later = on t v place is (later (record { held = t.held ++ v ∷ []; place = place })
@@ -68,7 +68,7 @@ module _ {C X : Type 0} (c : Chain C X) (d e : List ℕ) (adv : Advances c d) (a
   pub chain_local : Agrees d e (chain_at c d).marks → (chain_at c e ≡ chain_at c d) × (records c e ≡ records c d)
   chain_local a = chain_local_from (start c) a
 
-said_is : {A : Type 0} {x y : A} → ◌≡◌ {A = Result A ImageError} (Ok x) (Ok y) → x ≡ y
+said_is : {A : Type 0} {x y : A} → ◌≡◌ {A = Result A Halt} (Ok x) (Ok y) → x ≡ y
 said_is e = cc
 
 -- a chain that advances is local
@@ -91,9 +91,9 @@ local_chain {texts} {C} {X} c adv read d e long = chain_induction c d P (adv d) 
       let same : x ≡ Next v place = said_is (sym also ∙ is) in
       subst (λ y. Alike texts d e (follows c d t.held y) (follows c e t.held y)) (sym same) later)
 
-  last : (t : Along C) (r : Result X ImageError) → verdict (next_record c d t).answer ≡ Some r → P t
+  last : (t : Along C) (r : Result X Halt) → verdict (next_record c d t).answer ≡ Some r → P t
   last t r is = by_record t (λ x also. decided x r (ap verdict (sym also) ∙ is)) where
-    decided : (x : Said C X) (r : Result X ImageError) → verdict (Ok x) ≡ Some r → Alike texts d e (follows c d t.held x) (follows c e t.held x)
+    decided : (x : Said C X) (r : Result X Halt) → verdict (Ok x) ≡ Some r → Alike texts d e (follows c d t.held x) (follows c e t.held x)
     decided (Decided x) r is = inl refl
     decided (Next v place) r is = absurd cc
 
@@ -138,7 +138,7 @@ module _ {C X : Type 0} (c : Chain C X) (d : List ℕ) (adv : Advances c d) wher
       let all : total (chain_from c d t).marks ≡ total (next_record c d t).marks = ap (λ w. total w.marks) (chain_stop c d t r is) in
       let here = each t in omega arith)
 
-verdict_ok : {C X : Type 0} (r : Result (Said C X) ImageError) (y : X) → verdict r ≡ Some (Ok y) → r ≡ Ok (Decided y)
+verdict_ok : {C X : Type 0} (r : Result (Said C X) Halt) (y : X) → verdict r ≡ Some (Ok y) → r ≡ Ok (Decided y)
 verdict_ok (Ok (Decided x)) y is = cc
 verdict_ok (Ok (Next v place)) y is = absurd cc
 verdict_ok (Err e) y is = absurd cc

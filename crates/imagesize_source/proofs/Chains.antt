@@ -5,9 +5,10 @@ use Rattle.std.proofs.Math.Numerals.{add-one}
 use Rattle.std.specs.Prelude.{option_and_then, unwrap_or, flat_map}
 use Rattle.std.specs.List.{position_or_len, range_with_len}
 use Rattle.std.specs.Option.{option_map_or}
-use Rattle.imagesize_source.specs.declared.error.ImageError.{ImageError}
+use Rattle.imagesize_source.specs.declared.halt.Halt.{Halt}
+use Rattle.imagesize_source.specs.declared.halt.Halt.TheVariants.{Ended}
 use Rattle.imagesize_source.specs.Chain.{Said, Decided, Next, Chain, Along, next_record, leads, verdict, trail, verdict_of, marks_of, deciding_record, records_from, chain_from, Advances}
-use Rattle.imagesize_source.specs.Reading.{Reads, put_behind, go_on, and_then, gives, end_of_input}
+use Rattle.imagesize_source.specs.Reading.{Reads, put_behind, go_on, and_then, gives}
 
 -- a list of numbers one higher
 flat_map_shift : {A : Type 0} (f g : ℕ → List A) (a k : ℕ) → ((i : ℕ) → f (i + 1) ≡ g i) → flat_map f (range_with_len (a + 1) k)
@@ -59,7 +60,7 @@ module _ {C X : Type 0} (c : Chain C X) (d : List ℕ) where
   marks_next t u i h = rw add-one (ap (λ o. option_map_or (λ w. (next_record c d w).marks) o []) (trail_next t u i h))
 
   -- a chain that advances has a deciding record before the end and one
-  found_by : (t : Along C) (k : ℕ) (r : Result (Said C X) ImageError) → Advances c d → (next_record c d t).answer ≡ r
+  found_by : (t : Along C) (k : ℕ) (r : Result (Said C X) Halt) → Advances c d → (next_record c d t).answer ≡ r
       → ((u : Along C) → t.place < u.place → t.place < length d → position_or_len (λ i. is_some (verdict_of c d u i))
       (range_with_len 0 k) < k) → position_or_len (λ i. is_some (verdict_of c d t i)) (range_with_len 0 (suc k)) < suc k
   found_by t k (Ok (Decided x)) adv e later =
@@ -119,7 +120,7 @@ module _ {C X : Type 0} (c : Chain C X) (d : List ℕ) where
       let led : leads t.held (next_record c d t).answer ≡ Some u = ap (leads t.held) is in
       let one = deciding_next t u adv led (ap (λ r. is_some (verdict r)) is) (adv t v place is).0 (adv t v place is).1 in
       same_reads (chain_from c d t) (put_behind (next_record c d t).marks (chain_from c d u))
-      (ap (λ o. unwrap_or o (Err end_of_input)) (ap (verdict_of c d t) one ∙ verdict_next t u (deciding_record c d u) led))
+      (ap (λ o. unwrap_or o (Err Ended)) (ap (verdict_of c d t) one ∙ verdict_next t u (deciding_record c d u) led))
       (marks_first t (deciding_record c d t) ∙ ap (λ m. (next_record c d t).marks ++ m)
       (ap (λ n. flat_map (marks_of c d t) (range_with_len 1 n)) one ∙ flat_map_shift (marks_of c d t) (marks_of c d u) 0
       (records_from c d u) (λ i. marks_next t u i led)))
@@ -133,17 +134,17 @@ module _ {C X : Type 0} (c : Chain C X) (d : List ℕ) where
       (adv t v place is).1)
 
   -- a record with a verdict: that verdict, and its marks
-  pub chain_stop : (t : Along C) (r : Result X ImageError) → verdict (next_record c d t).answer ≡ Some r
+  pub chain_stop : (t : Along C) (r : Result X Halt) → verdict (next_record c d t).answer ≡ Some r
       → chain_from c d t ≡ record { answer = r; marks = (next_record c d t).marks }
   unfolding chain_from
   chain_stop t r is =
       let one = deciding_stop t (ap is_some is) in
       same_reads (chain_from c d t) (record { answer = r; marks = (next_record c d t).marks })
-      (ap (λ o. unwrap_or o (Err end_of_input)) (ap (verdict_of c d t) one ∙ is))
+      (ap (λ o. unwrap_or o (Err Ended)) (ap (verdict_of c d t) one ∙ is))
       (ap (λ n. flat_map (marks_of c d t) (range_with_len 0 (n + 1))) one ∙ append-nil (next_record c d t).marks)
 
   -- it is the last
-  pub records_stop : (t : Along C) (r : Result X ImageError) → verdict (next_record c d t).answer ≡ Some r → records_from c d t ≡ 1
+  pub records_stop : (t : Along C) (r : Result X Halt) → verdict (next_record c d t).answer ≡ Some r → records_from c d t ≡ 1
   records_stop t r is = ap (λ n. n + 1) (deciding_stop t (ap is_some is))
 
   -- what follows a record
@@ -151,7 +152,7 @@ module _ {C X : Type 0} (c : Chain C X) (d : List ℕ) where
   follows held (Decided x) = gives x
   follows held (Next v place) = chain_from c d (record { held = held ++ v ∷ []; place = place })
 
-  unfolds_by : (t : Along C) (r : Result (Said C X) ImageError) → Advances c d → (next_record c d t).answer ≡ r
+  unfolds_by : (t : Along C) (r : Result (Said C X) Halt) → Advances c d → (next_record c d t).answer ≡ r
       → chain_from c d t ≡ go_on (next_record c d t).marks r (follows t.held)
   unfolds_by t (Ok (Decided x)) adv is = chain_stop t (Ok x) (ap verdict is) ∙ ap (λ m. record { answer = Ok x; marks = m })
       (sym (append-nil (next_record c d t).marks))

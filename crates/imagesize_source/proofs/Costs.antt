@@ -1,7 +1,7 @@
 -- How many bytes a layout reads, by its answer.
 use Rattle.std.proofs.Common.{◌≡◌, ℕ, ◌+◌, ◌-◌, ◌≤◌, List, Result, Ok, Err, refl, arith}
 use Rattle.imagesize_source.specs.Counts.{AtMost, CostsBy, IfBytes, IfRefused}
-use Rattle.imagesize_source.specs.declared.error.ImageError.{ImageError}
+use Rattle.imagesize_source.specs.declared.halt.Halt.{Halt}
 use Rattle.imagesize_source.specs.declared.span.Span.{Span}
 use Rattle.imagesize_source.specs.Input.{span_of}
 use Rattle.imagesize_source.specs.Layout.{Layout, layout_reads, bind}
@@ -12,12 +12,12 @@ use Rattle.imagesize_source.proofs.Counts.{of_bytes, total-span_of, total_readin
 use Rattle.imagesize_source.proofs.Runs.{total-append}
 
 -- the bound that goes with an answer
-abbrev pub bound_of : {X : Type 0} → (X → ℕ) → ℕ → Result X ImageError → ℕ
+abbrev pub bound_of : {X : Type 0} → (X → ℕ) → ℕ → Result X Halt → ℕ
 bound_of f e (Ok x) = f x
 bound_of f e (Err _) = e
 
 -- what is owed of a reading, one by one
-refused : (P Q : Type 0) {e : ImageError} (d : List ℕ) (r : Reading) (place : ℕ) → IfRefused r P Q → (read_of d r place).answer ≡ Err e → P
+refused : (P Q : Type 0) {e : Halt} (d : List ℕ) (r : Reading) (place : ℕ) → IfRefused r P Q → (read_of d r place).answer ≡ Err e → P
 refused P Q d (AllOf k) place h is = h.0
 refused P Q d (PartOf k) place h is = absurd cc
 refused P Q d (TextOf t k) place h is = absurd cc
@@ -38,8 +38,8 @@ both Few (AllOf k) few p q = (p, q)
 both Few (PartOf k) few p q = q
 both Few (TextOf t k) few p q = absurd few
 
-onward_costs : {X Y : Type 0} (f : Y → ℕ) (e u n : ℕ) (spans : List Span) (r : Result X ImageError) (g : X → Reads Y) → total spans ≤ n
-    → ((x : ImageError) → r ≡ Err x → u + n ≤ e) → ((x : X) → u + n + total (g x).marks ≤ bound_of f e (g x).answer)
+onward_costs : {X Y : Type 0} (f : Y → ℕ) (e u n : ℕ) (spans : List Span) (r : Result X Halt) (g : X → Reads Y) → total spans ≤ n
+    → ((x : Halt) → r ≡ Err x → u + n ≤ e) → ((x : X) → u + n + total (g x).marks ≤ bound_of f e (g x).answer)
     → u + total (go_on spans r g).marks ≤ bound_of f e (go_on spans r g).answer
 onward_costs f e u n spans (Ok x) g few enough next = omega (arith, next x, total-append spans (g x).marks)
 onward_costs f e u n spans (Err r) g few enough next = omega (arith, enough r refl)

@@ -7,7 +7,7 @@ use Rattle.std.specs.Prelude.{count_by}
 use Rattle.std.specs.List.{range_with_len}
 use Rattle.imagesize_source.proofs.Runs.{total-append}
 use Rattle.imagesize_source.proofs.Texts.{front_length}
-use Rattle.imagesize_source.specs.declared.error.ImageError.{ImageError}
+use Rattle.imagesize_source.specs.declared.halt.Halt.{Halt}
 use Rattle.imagesize_source.specs.declared.span.Span.{Span}
 use Rattle.imagesize_source.specs.declared.text.Text.{Text}
 use Rattle.imagesize_source.specs.Agreement.{has_place, is_covered}
@@ -69,7 +69,7 @@ if_bytes (AllOf k) f h = f h
 if_bytes (PartOf k) f h = f h
 if_bytes (TextOf t k) f h = h
 
-onward_at_most : {X Y : Type 0} (spans : List Span) (r : Result X ImageError) (f : X → Reads Y) (n k : ℕ) → total spans ≤ n → n ≤ k
+onward_at_most : {X Y : Type 0} (spans : List Span) (r : Result X Halt) (f : X → Reads Y) (n k : ℕ) → total spans ≤ n → n ≤ k
     → ((x : X) → total (f x).marks ≤ k - n) → total (go_on spans r f).marks ≤ k
 onward_at_most spans (Ok x) f n k here fits rest = let all = total-append spans (f x).marks in let more = rest x in omega arith
 onward_at_most spans (Err e) f n k here fits rest = omega arith
@@ -83,7 +83,7 @@ at_most d k (field order place n f) h = onward_at_most (span_of d place n) (numb
 at_most d k (reading r place f) h = onward_at_most (read_of d r place).marks (read_of d r place).answer (λ bs. layout_reads d (f bs)) (most r) k
     (total_reading d r place) (of_bytes r h).0 (λ bs. at_most d (k - most r) (f bs) ((of_bytes r h).1 bs))
 
-onward_within : {X Y : Type 0} (spans : List Span) (r : Result X ImageError) (f : X → Reads Y) (j k : ℕ) → total spans ≤ j
+onward_within : {X Y : Type 0} (spans : List Span) (r : Result X Halt) (f : X → Reads Y) (j k : ℕ) → total spans ≤ j
     → ((x : X) → r ≡ Ok x → total (f x).marks ≤ k) → total (go_on spans r f).marks ≤ j + k
 onward_within spans (Ok x) f j k one two = let all = total-append spans (f x).marks in let more = two x refl in omega arith
 onward_within spans (Err e) f j k one two = omega arith
@@ -94,7 +94,7 @@ pub then_within : {X Y : Type 0} (r : Reads X) (f : X → Reads Y) (j k : ℕ) �
 then_within r f j k one two = onward_within r.marks r.answer f j k one two
 
 -- what an answer leads to is read from `each` a record, and nothing behind a refusal
-pub begun_cost : {X Y : Type 0} (each : ℕ) (spans : List Span) (r : Result X ImageError) (f : X → Reads Y) (n : X → ℕ) (j k : ℕ)
+pub begun_cost : {X Y : Type 0} (each : ℕ) (spans : List Span) (r : Result X Halt) (f : X → Reads Y) (n : X → ℕ) (j k : ℕ)
     → total spans ≤ j → ((x : X) → total (f x).marks ≤ k + each * n x) → total (go_on spans r f).marks ≤ j + (k + each * count_behind r n)
 begun_cost each spans (Ok x) f n j k here rest = let all = total-append spans (f x).marks in let more = rest x in omega arith
 begun_cost each spans (Err e) f n j k here rest = omega arith

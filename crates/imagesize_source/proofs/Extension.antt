@@ -3,7 +3,8 @@ use Rattle.std.proofs.Common.{◌≡◌, ℕ, zero, suc, ◌-◌, ◌<◌, ◌�
 use Rattle.std.proofs.lemmas.Bool.{cases_lt}
 use Rattle.std.proofs.lemmas.Bool.Decides.{nat_tests}
 use Rattle.std.proofs.lemmas.List.{length-append, length-drop, drop-append-le, take-append-le}
-use Rattle.imagesize_source.specs.declared.error.ImageError.{ImageError}
+use Rattle.imagesize_source.specs.declared.halt.Halt.{Halt}
+use Rattle.imagesize_source.specs.declared.halt.Halt.TheVariants.{Ended}
 use Rattle.imagesize_source.specs.declared.span.Span.{Span}
 use Rattle.imagesize_source.specs.declared.text.Text.{Text}
 use Rattle.imagesize_source.specs.Text.{is_ended, text_front}
@@ -14,7 +15,7 @@ use Rattle.imagesize_source.specs.Input.{part, span_at, span_of}
 use Rattle.imagesize_source.specs.Layout.{Layout, done, refuse, field, reading, layout_reads}
 use Rattle.imagesize_source.specs.Numbers.{number}
 use Rattle.imagesize_source.specs.Extension.{Plain, Never, WhereCut}
-use Rattle.imagesize_source.specs.Reading.{Reads, and_then, number_read, Reading, AllOf, PartOf, TextOf, go_on, put_behind, bytes_at, number_at, text_part, read_of, map_answer, end_of_input}
+use Rattle.imagesize_source.specs.Reading.{Reads, and_then, number_read, Reading, AllOf, PartOf, TextOf, go_on, put_behind, bytes_at, number_at, text_part, read_of, map_answer}
 use Rattle.imagesize_source.proofs.Parts.{part_length}
 
 -- bytes behind the input are not among those that are all there
@@ -32,7 +33,7 @@ unfolding span_of
 span_more d x place k h = let long = length-append d x in let same : min k (length (d ++ x) - place) ≡ min k (length d - place) =
     omega arith in ap (span_at place) same
 
-enough : (b : Bool) (a got : List ℕ) → ◌≡◌ {A = Result (List ℕ) ImageError} (cond b (Ok got) (Err end_of_input)) (Ok a) → b ≡ true
+enough : (b : Bool) (a got : List ℕ) → ◌≡◌ {A = Result (List ℕ) Halt} (cond b (Ok got) (Err Ended)) (Ok a) → b ≡ true
 enough true a got is = refl
 enough false a got is = absurd cc
 
@@ -41,7 +42,7 @@ pub bytes_ok : (d a : List ℕ) (place k : ℕ) → bytes_at d place k ≡ Ok a 
 unfolding bytes_at
 bytes_ok d a place k is = let test = enough (leb k (length d - place)) a (part d place k) is in grind (arith, nat_tests)
 
-seen_ok : (r : Result (List ℕ) ImageError) (order : Endian) (v : ℕ) → map_answer (number order) r ≡ Ok v → (bs : List ℕ) × (r ≡ Ok bs)
+seen_ok : (r : Result (List ℕ) Halt) (order : Endian) (v : ℕ) → map_answer (number order) r ≡ Ok v → (bs : List ℕ) × (r ≡ Ok bs)
 seen_ok (Ok bs) order v is = (bs, refl)
 seen_ok (Err e) order v is = absurd cc
 
@@ -63,7 +64,7 @@ unfolding number_at
 number_more d x order place k h = ap (map_answer (number order)) (bytes_more d x place k h)
 
 -- a layout that is always refused has no answer
-onward_never : {X Y : Type 0} (spans : List Span) (r : Result X ImageError) (f : X → Reads Y) (y : Y) → (go_on spans r f).answer ≡ Ok y
+onward_never : {X Y : Type 0} (spans : List Span) (r : Result X Halt) (f : X → Reads Y) (y : Y) → (go_on spans r f).answer ≡ Ok y
     → ((x : X) → (f x).answer ≡ Ok y → ⊥) → ⊥
 onward_never spans (Ok x) f y is never = never x is
 onward_never spans (Err e) f y is never = absurd cc
@@ -133,12 +134,12 @@ onward_more : {X Y : Type 0} (r r' : Reads X) (f g : X → Reads Y) (y : Y) → 
     → ((x : X) → r.answer ≡ Ok x → (f x).answer ≡ Ok y → r' ≡ r) → ((x : X) → (f x).answer ≡ Ok y → g x ≡ f x)
     → and_then r' g ≡ and_then r f
 onward_more {X} {Y} r r' f g y is same rest = by_answer r.answer refl where
-  by_answer : (a : Result X ImageError) → r.answer ≡ a → and_then r' g ≡ and_then r f
+  by_answer : (a : Result X Halt) → r.answer ≡ a → and_then r' g ≡ and_then r f
   by_answer (Ok x) ok =
       let ends : (f x).answer ≡ Ok y = sym (ap (λ a. (go_on r.marks a f).answer) ok) ∙ is in
       ap (λ w. and_then w g) (same x ok ends) ∙ ap (λ a. go_on r.marks a g) ok ∙ ap (put_behind r.marks) (rest x ends)
       ∙ sym (ap (λ a. go_on r.marks a f) ok)
-  by_answer (Err e) bad = absurd (let no : ◌≡◌ {A = Result Y ImageError} (Err e) (Ok y) = sym (ap (λ a. (go_on r.marks a f).answer) bad)
+  by_answer (Err e) bad = absurd (let no : ◌≡◌ {A = Result Y Halt} (Err e) (Ok y) = sym (ap (λ a. (go_on r.marks a f).answer) bad)
       ∙ is in cc)
 
 -- Extension: where a plain layout has an answer, it has it over the input and any bytes behind it, with the same marks.

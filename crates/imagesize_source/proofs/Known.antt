@@ -9,8 +9,7 @@ use Rattle.std.proofs.lemmas.List.FromFn.{length-map-range_with_len, get_or-map-
 use Rattle.std.proofs.Math.Seq.{drop-cons, take-add, take-append_seam, drop-append_seam}
 use Rattle.std.specs.Char.{is_ascii_whitespace}
 use Rattle.std.specs.declared.io.Error.{Error}
-use Rattle.imagesize_source.specs.declared.error.ImageError.TheVariants.{IoError}
-use Rattle.imagesize_source.specs.declared.error.Reason.TheVariants.{Fault}
+use Rattle.imagesize_source.specs.declared.halt.Halt.TheVariants.{Failed}
 use Rattle.imagesize_source.specs.declared.source.parts.Missing.{Missing}
 use Rattle.imagesize_source.specs.declared.span.Span.{Span}
 use Rattle.imagesize_source.specs.declared.text.Text.{Text}
@@ -211,11 +210,11 @@ module _ (n : ℕ) (spans : List Span) (bytes : List ℕ) (log : List Span) (mis
   })
 
   -- one that misses a byte
-  fails : {X : Type 0} (reads : Reads X) (b : State) (f : Error) (w : Missing) (place m : ℕ)
+  fails : {X : Type 0} (reads : Reads X) (b : State) (w : Missing) (place m : ℕ)
       → b ≡ parts_state n spans bytes (log ++ span_at place (w.start - place)) (Some w) → reads.marks ≡ span_at place m → 0 < m
       → place ≤ w.start → w.start + w.sure ≤ place + m
-      → Runs (parts_state n spans bytes log missed) b (Err (IoError (Fault f))) reads
-  fails {X} reads b f w place m after marks some behind within = subst (λ s. Runs (parts_state n spans bytes log missed) s (Err (IoError (Fault f))) reads)
+      → Runs (parts_state n spans bytes log missed) b (Err Failed) reads
+  fails {X} reads b w place m after marks some behind within = subst (λ s. Runs (parts_state n spans bytes log missed) s (Err Failed) reads)
       (sym after) (record {
         sound = parts_sound n spans bytes log missed;
         sound_after = parts_sound n spans bytes (log ++ span_at place (w.start - place)) (Some w);
@@ -236,7 +235,7 @@ module _ (n : ℕ) (spans : List Span) (bytes : List ℕ) (log : List Span) (mis
             within = within;
           };
         };
-        ended = record { budget = tt; memory = λ is. absurd cc; fault = λ faults. tt };
+        ended = record { budget = λ e. absurd cc; memory = λ is. absurd cc; fault = λ faults. tt };
       })
 
   -- how long a reading of k bytes is
@@ -261,11 +260,11 @@ module _ (n : ℕ) (spans : List Span) (bytes : List ℕ) (log : List Span) (mis
   found_before : (place found : ℕ) (w : Missing) → w.start ≡ place + found → found ≡ w.start - place
   found_before place found w at = omega (arith, at)
 
-  pub parts_missing : (b : State) (f : Error) (k place wanted found : ℕ) (w : Missing) → wanted ≡ min k (n - place) → found < wanted
+  pub parts_missing : (b : State) (k place wanted found : ℕ) (w : Missing) → wanted ≡ min k (n - place) → found < wanted
       → w.start ≡ place + found → w.sure ≡ wanted - found → b ≡ parts_state n spans bytes (log ++ span_at place found) (Some w)
-      → Runs {X = List ℕ} (parts_state n spans bytes log missed) b (Err (IoError (Fault f))) (part_read (filled_input n spans bytes) place k)
-  parts_missing b f k place wanted found w long short at sure after =
-      fails (part_read (filled_input n spans bytes) place k) b f w place wanted
+      → Runs {X = List ℕ} (parts_state n spans bytes log missed) b (Err Failed) (part_read (filled_input n spans bytes) place k)
+  parts_missing b k place wanted found w long short at sure after =
+      fails (part_read (filled_input n spans bytes) place k) b w place wanted
       (after ∙ ap (λ i. parts_state n spans bytes (log ++ span_at place i) (Some w)) (found_before place found w at))
       (span_is place k wanted long) (omega (arith, short)) (omega (arith, at)) (omega (arith, at, sure, short))
 
@@ -312,13 +311,13 @@ module _ (n : ℕ) (spans : List Span) (bytes : List ℕ) (log : List Span) (mis
       (after ∙ ap (λ k. parts_state n spans bytes (log ++ span_at place k) missed) (counts ∙ ap length (sym is)))
       (ap Ok (is ∙ sym got))
 
-  pub parts_text_missing : (b : State) (f : Error) (t : Text) (room : List ℕ) (place k wanted found : ℕ) (w : Missing)
+  pub parts_text_missing : (b : State) (t : Text) (room : List ℕ) (place k wanted found : ℕ) (w : Missing)
       → wanted ≡ min k (n - place) → found ≤ wanted → take found room ≡ part (filled_input n spans bytes) place found
       → leb (suc found) wanted && not (is_ended t (take found room)) ≡ true → w.start ≡ place + found
       → w.sure ≡ 1 → b ≡ parts_state n spans bytes (log ++ span_at place found) (Some w)
-      → Runs {X = List ℕ} (parts_state n spans bytes log missed) b (Err (IoError (Fault f))) (text_read (filled_input n spans bytes) t place k)
+      → Runs {X = List ℕ} (parts_state n spans bytes log missed) b (Err Failed) (text_read (filled_input n spans bytes) t place k)
   unfolding text_part
-  parts_text_missing b f t room place k wanted found w long fits copied cut at sure after =
+  parts_text_missing b t room place k wanted found w long fits copied cut at sure after =
       let d : List ℕ = filled_input n spans bytes in
       let bs : List ℕ = part d place found in
       let short : found < wanted = cut_short (is_ended t (take found room)) cut in
@@ -334,7 +333,7 @@ module _ (n : ℕ) (spans : List Span) (bytes : List ℕ) (log : List Span) (mis
         ap (λ xs. length (text_front t xs)) (whole_text place k wanted found long fits),
       ) in
       let m : ℕ = length (text_front t (part d place k)) in
-      fails (text_read d t place k) b f w place m
+      fails (text_read d t place k) b w place m
       (after ∙ ap (λ i. parts_state n spans bytes (log ++ span_at place i) (Some w)) (found_before place found w at))
       refl (omega (arith, behind)) (omega (arith, at)) (omega (arith, at, sure, behind))
     where

@@ -3,10 +3,8 @@ use Rattle.std.proofs.Common.{◌≡◌, ℕ, ◌+◌, ◌-◌, ◌<◌, ◌≤�
 use Rattle.std.proofs.lemmas.List.{length-take, take_all, drop_all, append-nil}
 use Rattle.std.proofs.Math.Seq.{take-nil}
 use Rattle.std.proofs.lemmas.Bool.Decides.{nat_tests}
-use Rattle.imagesize_source.specs.declared.error.ImageError.{ImageError}
 use Rattle.imagesize_source.specs.declared.span.Span.{Span}
 use Rattle.imagesize_source.specs.declared.halt.Halt.{Halt}
-use Rattle.imagesize_source.specs.Halts.{error_by, with_error}
 use Rattle.imagesize_source.specs.Input.{part, span_of, span_at}
 use Rattle.imagesize_source.specs.Layout.{Layout, layout_reads, bind, whole, if_there, some_where}
 use Rattle.imagesize_source.specs.Layout.Layout.{«done», refuse, field, reading}
@@ -14,13 +12,13 @@ use Rattle.imagesize_source.specs.Reading.{Reads, and_then, gives, go_on, map_an
 use Rattle.imagesize_source.specs.State.{State, Runs, Missed, total, state_after}
 use Rattle.imagesize_source.proofs.Runs.{answered, part_is, runs_refused}
 
-behind-onward : {Y Z : Type 0} (marks more : List Span) (r : Result Y ImageError) (g : Y → Reads Z) → put_behind marks (go_on more r g)
+behind-onward : {Y Z : Type 0} (marks more : List Span) (r : Result Y Halt) (g : Y → Reads Z) → put_behind marks (go_on more r g)
     ≡ go_on (marks ++ more) r g
 behind-onward marks more (Ok y) g = ap (λ m. record { answer = (g y).answer; marks = m }) (sym (append_assoc marks more (g y).marks))
 behind-onward marks more (Err e) g = refl
 
 -- what goes on from an answer that itself goes on
-onward-and_then : {X Y Z : Type 0} (marks : List Span) (r : Result X ImageError) (f : X → Reads Y) (g : Y → Reads Z) (both : X → Reads Z)
+onward-and_then : {X Y Z : Type 0} (marks : List Span) (r : Result X Halt) (f : X → Reads Y) (g : Y → Reads Z) (both : X → Reads Z)
     → ((x : X) → both x ≡ and_then (f x) g) → go_on marks r both ≡ and_then (go_on marks r f) g
 onward-and_then marks (Ok x) f g both is = ap (put_behind marks) (is x) ∙ behind-onward marks (f x).marks (f x).answer g
 onward-and_then marks (Err e) f g both is = refl
@@ -60,16 +58,15 @@ whole_read {a} {b} d room place n fits h = by_test (eqb n (length room)) refl wh
       refl refl tt
 
 -- a reading that was stopped found none
-pub whole_stopped : {X : Type 0} {a b : State} (d : List ℕ) (place k : ℕ) (failure : ImageError) (budget : ℕ)
-    (found : X → Option (List ℕ)) (r : Result X Halt) (why : Halt) → r ≡ Err why
-    → Runs {X = List ℕ} a b (Err (error_by failure budget why)) (part_read d place k)
-    → Runs a b (map_answer found (with_error failure budget r)) (layout_reads d (if_there place k done))
-whole_stopped {a = a} {b = b} d place k failure budget found r why is h =
-    subst (λ s. Runs a b (map_answer found (with_error failure budget s)) (layout_reads d (if_there place k done))) (sym is)
+pub whole_stopped : {X : Type 0} {a b : State} (d : List ℕ) (place k : ℕ) (found : X → Option (List ℕ)) (r : Result X Halt) (why : Halt)
+    → r ≡ Err why → Runs {X = List ℕ} a b (Err why) (part_read d place k)
+    → Runs a b (map_answer found r) (layout_reads d (if_there place k done))
+whole_stopped {a = a} {b = b} d place k found r why is h =
+    subst (λ s. Runs a b (map_answer found s) (layout_reads d (if_there place k done))) (sym is)
     (runs_refused (part_read d place k) (λ bs. gives (whole k bs)) h)
 
 -- readings that are others' where the source is honest
-pub runs_as : {X : Type 0} {a b : State} {r : Result X ImageError} {reads : Reads X} (other : Reads X) → Runs a b r reads
+pub runs_as : {X : Type 0} {a b : State} {r : Result X Halt} {reads : Reads X} (other : Reads X) → Runs a b r reads
     → (a.held.honest ≡ true → reads ≡ other) → Runs a b r other
 runs_as {X} {a} {b} {r} other h same = record {
   sound = h.sound;
@@ -85,7 +82,7 @@ runs_as {X} {a} {b} {r} other h same = record {
 }
 
 -- an honest source tells the length
-pub by_told : {X : Type 0} {a b : State} {r : Result X ImageError} (f : ℕ → Reads X) → Runs a b r (f a.frame.told)
+pub by_told : {X : Type 0} {a b : State} {r : Result X Halt} (f : ℕ → Reads X) → Runs a b r (f a.frame.told)
     → Runs a b r (f (length a.held.input))
 by_told {a} f h = runs_as (f (length a.held.input)) h (λ honest. ap f (h.sound honest).0)
 

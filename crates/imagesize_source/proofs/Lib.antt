@@ -9,6 +9,7 @@ pub mod Chains
 pub mod Costs
 pub mod Counts
 pub mod Extension
+pub mod Halts
 pub mod Known
 pub mod Layouts
 pub mod Lists

@@ -1,7 +1,7 @@
 -- How far a run has come: what is left of its readings.
 use Rattle.std.proofs.Common.{◌≡◌, ℕ, ◌+◌, ◌^◌, ◌<◌, ◌≤◌, true, false, List, [], ◌∷◌, ◌++◌, length, Result, Ok, Err, refl, sym, ap, ◌∙◌, subst, arith, append_assoc, IfErr}
 use Rattle.std.proofs.lemmas.List.{append-nil}
-use Rattle.imagesize_source.specs.declared.error.ImageError.{ImageError}
+use Rattle.imagesize_source.specs.declared.halt.Halt.{Halt}
 use Rattle.imagesize_source.specs.declared.span.Span.{Span}
 use Rattle.imagesize_source.specs.Chain.{Decided, Next, Chain, Along, next_record, chain_from, Advances}
 use Rattle.imagesize_source.specs.Layout.{Layout, layout_reads, bind}
@@ -35,16 +35,16 @@ reached_start a whole = record {
   left = λ honest. refl;
 }
 
-total_onward : {X Y : Type 0} (spans : List Span) (r : Result Y ImageError) (f : Y → Reads X)
+total_onward : {X Y : Type 0} (spans : List Span) (r : Result Y Halt) (f : Y → Reads X)
     → total spans ≤ total (go_on spans r f).marks
 total_onward spans (Ok y) f = let all = total-append spans (f y).marks in omega arith
 total_onward spans (Err e) f = omega arith
 
-onward_at : {X Y : Type 0} (spans : List Span) (r s : Result Y ImageError) (f : Y → Reads X) → r ≡ s → go_on spans r f ≡ go_on spans s f
+onward_at : {X Y : Type 0} (spans : List Span) (r s : Result Y Halt) (f : Y → Reads X) → r ≡ s → go_on spans r f ≡ go_on spans s f
 onward_at spans r s f is = ap (λ q. go_on spans q f) is
 
 -- nothing is read
-pub reads_nothing : {X : Type 0} (b : State) (r : Result X ImageError) → IsSound b → is_faulted r ≡ false → IfErr r (EndedBy b)
+pub reads_nothing : {X : Type 0} (b : State) (r : Result X Halt) → IsSound b → is_faulted r ≡ false → IfErr r (EndedBy b)
     → Runs b b r (record { answer = r; marks = [] })
 unfolding state_after
 reads_nothing b r sound no_fault ended = record {
@@ -85,7 +85,7 @@ module _ {X : Type 0} {a b : State} {whole rest : Reads X} (h : Reached a b whol
   }
 
   -- a run that ends with what was left, or is ended by a refusal on the way
-  ended_by : {end : State} {Y : Type 0} (r : Result X ImageError) (s : Result Y ImageError) (given : Reads Y) → Runs b end s given
+  ended_by : {end : State} {Y : Type 0} (r : Result X Halt) (s : Result Y Halt) (given : Reads Y) → Runs b end s given
       → is_stopped s ≡ is_stopped r → is_faulted s ≡ is_faulted r → IfErr r (EndedBy end)
       → (a.held.honest ≡ true → (more : List Span) × (rest.marks ≡ given.marks ++ more))
       → (a.held.honest ≡ true → total given.marks ≤ total rest.marks) → (a.held.honest ≡ true → given.answer ≡ s
@@ -117,7 +117,7 @@ module _ {X : Type 0} {a b : State} {whole rest : Reads X} (h : Reached a b whol
   }
 
   -- the readings that were left end the run
-  pub reached_end : {end : State} (r : Result X ImageError) (given : Reads X) → Runs b end r given
+  pub reached_end : {end : State} (r : Result X Halt) (given : Reads X) → Runs b end r given
       → (a.held.honest ≡ true → given ≡ rest) → Runs a end r whole
   reached_end r given run same = ended_by r r given run refl refl run.ended
       (λ honest. ([], ap (λ w. w.marks) (sym (same honest)) ∙ sym (append-nil given.marks)))
@@ -125,7 +125,7 @@ module _ {X : Type 0} {a b : State} {whole rest : Reads X} (h : Reached a b whol
       (λ honest is. (ap (λ w. w.answer) (sym (same honest)) ∙ is, ap (λ w. w.marks) (sym (same honest))))
 
   -- nothing more is read, and the answer is known
-  pub reached_now : (r : Result X ImageError) → IsSound b → is_faulted r ≡ false → IfErr r (EndedBy b)
+  pub reached_now : (r : Result X Halt) → IsSound b → is_faulted r ≡ false → IfErr r (EndedBy b)
       → (a.held.honest ≡ true → length a.held.input < 2 ^ 63 → rest ≡ record { answer = r; marks = [] }) → Runs a b r whole
   reached_now r sound no_fault ended same = reached_end r (record { answer = r; marks = [] }) (reads_nothing b r sound no_fault ended)
       (λ honest. sym (same honest (let short = (h.sound sound honest).1 in omega arith)))
@@ -152,7 +152,7 @@ module _ {X Y : Type 0} {a b : State} {whole : Reads X} (reads : Reads Y) (f : Y
     }
 
     -- the next readings were refused
-    pub reached_out : {end : State} (e : ImageError) (given : Reads Y) → Runs b end (Err e) given → (a.held.honest ≡ true → given ≡ reads)
+    pub reached_out : {end : State} (e : Halt) (given : Reads Y) → Runs b end (Err e) given → (a.held.honest ≡ true → given ≡ reads)
         → Runs a end (Err e) whole
     reached_out e given run same = ended_by h (Err e) (Err e) given run refl refl run.ended
         (λ honest. subst (λ (w : Reads Y). (more : List Span) × ((and_then reads f).marks ≡ w.marks ++ more)) (sym (same honest))
@@ -197,12 +197,12 @@ module _ {C X : Type 0} (c : Chain C X) (adv : (d : List ℕ) → Advances c d) 
       (next_record c b.held.input t) refl run read
 
   -- or by one that is refused
-  pub walk_out : {end : State} (e : ImageError) → Runs b end (Err e) (next_record c b.held.input t) → Runs a end (Err e) whole
+  pub walk_out : {end : State} (e : Halt) → Runs b end (Err e) (next_record c b.held.input t) → Runs a end (Err e) whole
   walk_out e run = reached_out (next_record c a.held.input t) (follows c a.held.input t.held) unfolded e (next_record c b.held.input t)
       run read
 
 -- a layout that was read, and what goes on from its answer and reads nothing
-pub runs_bind : {X Y : Type 0} {a b : State} {x : X} (r : Result Y ImageError) (t : Layout X) (f : X → Layout Y)
+pub runs_bind : {X Y : Type 0} {a b : State} {x : X} (r : Result Y Halt) (t : Layout X) (f : X → Layout Y)
     → Runs a b (Ok x) (layout_reads a.held.input t) → ((d : List ℕ) → layout_reads d (f x) ≡ record { answer = r; marks = [] }) → is_faulted r ≡ false
     → IfErr r (EndedBy b) → Runs a b r (layout_reads a.held.input (bind t f))
 runs_bind {X} {Y} {a} {b} {x} r t f first says no_fault ended =
@@ -212,7 +212,7 @@ runs_bind {X} {Y} {a} {b} {x} r t f first says no_fault ended =
     second)
 
 -- a layout that was refused
-pub refused_bind : {X Y : Type 0} {a b : State} {e : ImageError} (t : Layout X) (f : X → Layout Y) → Runs {X = X} a b (Err e)
+pub refused_bind : {X Y : Type 0} {a b : State} {e : Halt} (t : Layout X) (f : X → Layout Y) → Runs {X = X} a b (Err e)
     (layout_reads a.held.input t) → Runs {X = Y} a b (Err e) (layout_reads a.held.input (bind t f))
 refused_bind {X} {Y} {a} {b} {e} t f h = subst (λ w. Runs {X = Y} a b (Err e) w) (sym (over-bind a.held.input t f))
     (runs_refused (layout_reads a.held.input t) (λ v. layout_reads a.held.input (f v)) h)

@@ -1,21 +1,34 @@
 -- How a call's readings follow from those of the calls that it makes.
-use Rattle.std.proofs.Common.{◌≡◌, ℕ, ◌+◌, ◌-◌, ◌<◌, ◌≤◌, min, true, false, List, [], ◌∷◌, ◌++◌, length, take, leb, Result, Ok, Err, zero-add, add_assoc, append_assoc, refl, sym, ap, ◌∙◌, subst, arith, IfErr}
+use Rattle.std.proofs.Common.{◌≡◌, ℕ, ◌+◌, ◌-◌, ◌<◌, ◌≤◌, min, Bool, true, false, ◌||◌, List, [], ◌∷◌, ◌++◌, length, take, leb, Result, Ok, Err, zero-add, add_assoc, append_assoc, refl, sym, ap, ◌∙◌, subst, arith, IfErr}
 use Rattle.std.proofs.lemmas.List.{length-take, take_all, append-nil}
 use Rattle.std.proofs.lemmas.Bool.Decides.{nat_tests}
-use Rattle.imagesize_source.specs.declared.error.ImageError.{ImageError}
 use Rattle.imagesize_source.specs.declared.span.Span.{Span}
 use Rattle.imagesize_source.specs.declared.endian.Endian.{Endian}
 use Rattle.imagesize_source.specs.Input.{part, span_at, span_of}
 use Rattle.imagesize_source.specs.Numbers.{number}
-use Rattle.imagesize_source.specs.Halts.{error_by, with_error}
 use Rattle.imagesize_source.specs.declared.halt.Halt.{Halt}
-use Rattle.imagesize_source.specs.Reading.{Reads, go_on, put_behind, and_then, bytes_at, number_at, part_read, bytes_read, number_read, map_answer, is_stopped, is_faulted, end_of_input}
+use Rattle.imagesize_source.specs.declared.halt.Halt.TheVariants.{Ended}
+use Rattle.imagesize_source.specs.Reading.{Reads, go_on, put_behind, and_then, bytes_at, number_at, part_read, bytes_read, number_read, map_answer, is_stopped, is_faulted, is_stop, is_failure, is_spent, is_memory}
 use Rattle.std.specs.Prelude.{Option, None, Some, IfSome, IsSomeAnd, option_map}
 use Rattle.imagesize_source.specs.State.{State, Held, Runs, EndedBy, Misses, Missed, total, state_after, step}
 use Rattle.imagesize_source.proofs.Parts.{part_length}
 
+or_false : (x y : Bool) → x || y ≡ false → (x ≡ false) × (y ≡ false)
+or_false true y is = absurd cc
+or_false false y is = (refl, is)
+
+-- a refusal that a layout states is none of the ends of a call
+pub plainly_ended : (b : State) (halt : Halt) → is_stop halt ≡ false → EndedBy b halt
+plainly_ended b halt is =
+    let no = or_false (is_failure halt || is_spent halt) (is_memory halt) is in
+    let none = or_false (is_failure halt) (is_spent halt) no.0 in record {
+      budget = λ spent. absurd (let out = sym spent ∙ none.1 in cc);
+      memory = λ refused. absurd (let out = sym refused ∙ no.1 in cc);
+      fault = λ failed. absurd (let out = sym failed ∙ none.0 in cc);
+    }
+
 -- the same readings, answered otherwise where nothing stopped them
-pub answered : {X Y : Type 0} {a b : State} {x : X} {reads : Reads X} (r : Result Y ImageError) (other : Reads Y) → Runs a b (Ok x) reads
+pub answered : {X Y : Type 0} {a b : State} {x : X} {reads : Reads X} (r : Result Y Halt) (other : Reads Y) → Runs a b (Ok x) reads
     → other.marks ≡ reads.marks → (reads.answer ≡ Ok x → other.answer ≡ r) → is_stopped r ≡ false → is_faulted r ≡ false → IfErr r (EndedBy b)
     → Runs a b r other
 answered {a} {b} {x} {reads} r other h marks answer goes_on no_fault ended = record {
@@ -31,7 +44,7 @@ answered {a} {b} {x} {reads} r other h marks answer goes_on no_fault ended = rec
   ended = ended;
 }
 
-pub part_is : {xs ys : List ℕ} → ◌≡◌ {A = Result (List ℕ) ImageError} (Ok xs) (Ok ys) → xs ≡ ys
+pub part_is : {xs ys : List ℕ} → ◌≡◌ {A = Result (List ℕ) Halt} (Ok xs) (Ok ys) → xs ≡ ys
 part_is e = cc
 
 -- all of k bytes are there, or not
@@ -56,22 +69,21 @@ bytes_there {a} {b} d room place k n h long all =
 
 -- a reading that gave too few
 pub bytes_missing : {a b : State} (d room : List ℕ) (place k n : ℕ) → Runs a b (Ok (take n room)) (part_read d place (length room))
-    → length room ≡ k → n < k → Runs a b (Err end_of_input) (bytes_read d place k)
+    → length room ≡ k → n < k → Runs a b (Err Ended) (bytes_read d place k)
 unfolding bytes_at
 bytes_missing {a} {b} d room place k n h long short =
-    answered (Err end_of_input) (bytes_read d place k) h (ap (span_of d place) (sym long))
+    answered (Err Ended) (bytes_read d place k) h (ap (span_of d place) (sym long))
     (λ is.
     let got : length (part d place (length room)) ≡ min n (length room) = ap length (part_is is) ∙ length-take n room in
     let too_few : leb k (length d - place) ≡ false = not_there d place k (rw (← long) (omega arith)) in
     rw too_few refl)
-    refl refl (record { budget = tt; memory = λ e. absurd cc; fault = λ e. absurd cc })
+    refl refl (record { budget = λ e. absurd cc; memory = λ e. absurd cc; fault = λ e. absurd cc })
 
 -- a reading that was stopped gave none
-pub bytes_stopped : {X : Type 0} {a b : State} (d : List ℕ) (place k : ℕ) (failure : ImageError) (budget : ℕ) (bytes : X → List ℕ) (r : Result X Halt)
-    (why : Halt) → r ≡ Err why → Runs {X = List ℕ} a b (Err (error_by failure budget why)) (part_read d place k)
-    → Runs a b (map_answer bytes (with_error failure budget r)) (bytes_read d place k)
-bytes_stopped {a = a} {b = b} d place k failure budget bytes r why is h =
-    subst (λ s. Runs a b (map_answer bytes (with_error failure budget s)) (bytes_read d place k)) (sym is) (record {
+pub bytes_stopped : {X : Type 0} {a b : State} (d : List ℕ) (place k : ℕ) (bytes : X → List ℕ) (r : Result X Halt) (why : Halt)
+    → r ≡ Err why → Runs {X = List ℕ} a b (Err why) (part_read d place k) → Runs a b (map_answer bytes r) (bytes_read d place k)
+bytes_stopped {a = a} {b = b} d place k bytes r why is h =
+    subst (λ s. Runs a b (map_answer bytes s) (bytes_read d place k)) (sym is) (record {
       sound = h.sound;
       sound_after = h.sound_after;
       frame = h.frame;
@@ -92,7 +104,7 @@ number_there {a} {b} d bs order place k v h is =
     answered (Ok v) (number_read d order place k) h refl (λ read. ap (map_answer (number order)) read ∙ ap Ok (sym is)) refl refl tt
 
 -- a refused reading has no number
-pub number_missing : {a b : State} (d : List ℕ) (order : Endian) (place k : ℕ) (e : ImageError) → Runs a b (Err e) (bytes_read d place k)
+pub number_missing : {a b : State} (d : List ℕ) (order : Endian) (place k : ℕ) (e : Halt) → Runs a b (Err e) (bytes_read d place k)
     → Runs a b (Err e) (number_read d order place k)
 unfolding number_at
 number_missing {a} {b} d order place k e h = record {
@@ -185,20 +197,20 @@ past_honest : {X : Type 0} {a m : State} {x : X} {r : Reads X} → Runs a m (Ok 
 past_honest {X} {a} {m} {x} {r} h honest = ap (λ s. s.held) (h.state honest refl) ∙ past-held a r.marks
 
 -- the spans of the readings before are among those of the whole
-total_first : {X Y : Type 0} (spans : List Span) (r : Result X ImageError) (f : X → Reads Y) → total spans ≤ total (go_on spans r f).marks
+total_first : {X Y : Type 0} (spans : List Span) (r : Result X Halt) (f : X → Reads Y) → total spans ≤ total (go_on spans r f).marks
 total_first spans (Ok x) f = omega (arith, total-append spans (f x).marks)
 total_first spans (Err e) f = omega arith
 
 pub missed_past : (a m b : State) (before marks : List Span) → m ≡ state_after a before → Missed m b marks → Missed a b (before ++ marks)
 missed_past a m b before marks is h = missed_behind a m b before marks (ap (λ s. s.recorded) is ∙ past-recorded a before) h
 
-pub missed_first : {X Y : Type 0} (a b : State) (spans : List Span) (r : Result X ImageError) (f : X → Reads Y) → Missed a b spans
+pub missed_first : {X Y : Type 0} (a b : State) (spans : List Span) (r : Result X Halt) (f : X → Reads Y) → Missed a b spans
     → Missed a b (go_on spans r f).marks
 missed_first a b spans (Ok x) f h = missed_before a b spans (f x).marks h
 missed_first a b spans (Err e) f h = h
 
 -- the spans of the readings before are the first of the whole
-pub marks_onward : {X Y : Type 0} (spans : List Span) (r : Result Y ImageError) (f : Y → Reads X)
+pub marks_onward : {X Y : Type 0} (spans : List Span) (r : Result Y Halt) (f : Y → Reads X)
     → (more : List Span) × ((go_on spans r f).marks ≡ spans ++ more)
 marks_onward spans (Ok y) f = ((f y).marks, refl)
 marks_onward spans (Err e) f = ([], sym (append-nil spans))
@@ -206,7 +218,7 @@ marks_onward spans (Err e) f = ([], sym (append-nil spans))
 pub ruleset steps = (past-past, past-none, total-append, append-nil, past-held, missed_past, missed_first)
 
 -- a call that read, and went on from what it found
-pub runs_then : {X Y : Type 0} {a m b : State} {x : X} {y : Result Y ImageError} (r : Reads X) (f : X → Held → Reads Y)
+pub runs_then : {X Y : Type 0} {a m b : State} {x : X} {y : Result Y Halt} (r : Reads X) (f : X → Held → Reads Y)
     → Runs a m (Ok x) r → Runs m b y (f x m.held) → Runs a b y (and_then r (λ v. f v a.held))
 runs_then {X} {Y} {a} {m} {b} {x} {y} r f first second =
     let same = λ (honest : a.held.honest ≡ true). past_honest first honest in
@@ -239,7 +251,7 @@ runs_then {X} {Y} {a} {m} {b} {x} {y} r f first second =
     }
 
 -- a call that was refused goes on from nothing
-pub runs_refused : {X Y : Type 0} {a b : State} {e : ImageError} (r : Reads X) (f : X → Reads Y) → Runs {X = X} a b (Err e) r
+pub runs_refused : {X Y : Type 0} {a b : State} {e : Halt} (r : Reads X) (f : X → Reads Y) → Runs {X = X} a b (Err e) r
     → Runs {X = Y} a b (Err e) (and_then r f)
 runs_refused {X} {Y} {a} {b} {e} r f h = record {
   sound = h.sound;

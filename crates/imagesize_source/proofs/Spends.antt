@@ -1,6 +1,6 @@
 -- Readings that go forward spend the bytes of an input, each byte once.
 use Rattle.std.proofs.Common.{◌≡◌, ℕ, ◌+◌, ◌-◌, ◌≤◌, List, [], ◌∷◌, ◌++◌, length, Option, None, Some, Result, Ok, Err, refl, ap, ◌∙◌, arith}
-use Rattle.imagesize_source.specs.declared.error.ImageError.{ImageError}
+use Rattle.imagesize_source.specs.declared.halt.Halt.{Halt}
 use Rattle.imagesize_source.specs.declared.span.Span.{Span}
 use Rattle.imagesize_source.specs.Chain.{Said, Decided, Next, Chain, Along, start, next_record, verdict, chain_from, chain_at, Advances}
 use Rattle.imagesize_source.specs.Input.{span_of}
@@ -19,7 +19,7 @@ left_of n None = 0
 left_of n (Some place) = n - place
 
 -- how many are left behind an answer, from the place where it goes on
-abbrev pub left : {X : Type 0} → ℕ → (X → Option ℕ) → Result X ImageError → ℕ
+abbrev pub left : {X : Type 0} → ℕ → (X → Option ℕ) → Result X Halt → ℕ
 left n to (Ok x) = left_of n (to x)
 left n to (Err e) = 0
 
@@ -73,7 +73,7 @@ reading_spends d (TextOf t k) place bs is = omega (
   part_length d place k,
 )
 
-onward_spends : {X Y : Type 0} (n q : ℕ) (to : Y → Option ℕ) (spans : List Span) (r : Result X ImageError) (f : X → Reads Y)
+onward_spends : {X Y : Type 0} (n q : ℕ) (to : Y → Option ℕ) (spans : List Span) (r : Result X Halt) (f : X → Reads Y)
     (next : X → ℕ) → total spans ≤ n - q → ((x : X) → r ≡ Ok x → total spans + (n - next x) ≤ n - q)
     → ((x : X) → r ≡ Ok x → Spends n (next x) to (f x)) → Spends n q to (go_on spans r f)
 onward_spends n q to spans (Ok x) f next few here rest = omega (arith, here x refl, rest x refl, total-append spans (f x).marks)
@@ -103,7 +103,7 @@ abbrev pub said_to : {C X : Type 0} → (X → Option ℕ) → Said C X → Opti
 said_to to (Decided x) = to x
 said_to to (Next v place) = Some place
 
-verdict_left : {C X : Type 0} (n : ℕ) (to : X → Option ℕ) (said : Result (Said C X) ImageError) (r : Result X ImageError)
+verdict_left : {C X : Type 0} (n : ℕ) (to : X → Option ℕ) (said : Result (Said C X) Halt) (r : Result X Halt)
     → verdict said ≡ Some r → left n to r ≡ left n (said_to to) said
 verdict_left n to (Ok (Decided x)) r is = let same : r ≡ Ok x = cc in ap (left n to) same
 verdict_left n to (Ok (Next v place)) r is = absurd cc

@@ -1,9 +1,10 @@
 -- A walk along a chain, as a loop keeps it: behind records that are not named, of which something is known.
 use Rattle.std.proofs.Common.{◌≡◌, ℕ, ◌^◌, ◌<◌, ◌≤◌, List, [], ◌∷◌, ◌++◌, length, Some, Result, Ok, Err, IfErr, false, refl, ap, ◌∙◌, arith}
-use Rattle.imagesize_source.specs.declared.error.ImageError.{ImageError}
+use Rattle.imagesize_source.specs.declared.halt.Halt.{Halt}
+use Rattle.imagesize_source.specs.declared.halt.Halt.TheVariants.{Ended}
 use Rattle.imagesize_source.specs.Chain.{Decided, Next, Chain, verdict, chain_from, chain_at, Advances}
 use Rattle.imagesize_source.specs.Layout.{layout_reads}
-use Rattle.imagesize_source.specs.Reading.{refuses, is_faulted, end_of_input}
+use Rattle.imagesize_source.specs.Reading.{refuses, is_faulted}
 use Rattle.imagesize_source.specs.State.{State, Runs, EndedBy, IsSound}
 use Rattle.imagesize_source.proofs.Chains.{chain_stop}
 use Rattle.imagesize_source.proofs.Reached.{Reached, reached_start, reached_now, walk_on, walk_stop, walk_out}
@@ -46,22 +47,22 @@ module _ {C X : Type 0} (c : Chain C X) (adv : (d : List ℕ) → Advances c d) 
   walks_stop x run = walk_stop c adv (record { held = w.held; place = place }) w.reached x (run w.held w.known)
 
   -- or by one that is refused
-  pub walks_out : {end : State} (e : ImageError)
+  pub walks_out : {end : State} (e : Halt)
       → ((held : List C) → P held → Runs b end (Err e) (layout_reads b.held.input (c.said held place)))
       → Runs a end (Err e) (chain_at c a.held.input)
   walks_out e run = walk_out c adv (record { held = w.held; place = place }) w.reached e (run w.held w.known)
 
   -- or at a place beyond every input, where nothing more is read
   pub walks_past : 2 ^ 63 ≤ place → c.first < place → ((held : List C) (d : List ℕ) → P held → length d ≤ place
-      → layout_reads d (c.said held place) ≡ refuses end_of_input) → Runs a b (Err end_of_input) (chain_at c a.held.input)
-  walks_past far some none = reached_now w.reached (Err end_of_input) (w.sound some) refl (record { budget = tt; memory = λ e. absurd cc; fault = λ e. absurd cc })
+      → layout_reads d (c.said held place) ≡ refuses Ended) → Runs a b (Err Ended) (chain_at c a.held.input)
+  walks_past far some none = reached_now w.reached (Err Ended) (w.sound some) refl (record { budget = λ e. absurd cc; memory = λ e. absurd cc; fault = λ e. absurd cc })
       (λ honest short.
       let out = none w.held a.held.input w.known (omega arith) in
-      chain_stop c a.held.input (record { held = w.held; place = place }) (Err end_of_input) (ap (λ r. verdict r.answer) out)
-      ∙ ap (λ r. record { answer = Err end_of_input; marks = r.marks }) out)
+      chain_stop c a.held.input (record { held = w.held; place = place }) (Err Ended) (ap (λ r. verdict r.answer) out)
+      ∙ ap (λ r. record { answer = Err Ended; marks = r.marks }) out)
 
   -- or where nothing more is read, and the record at this place has its verdict
-  pub walks_now : (r : Result X ImageError) → IsSound b → is_faulted r ≡ false → IfErr r (EndedBy b) → ((held : List C) (d : List ℕ) → P held
+  pub walks_now : (r : Result X Halt) → IsSound b → is_faulted r ≡ false → IfErr r (EndedBy b) → ((held : List C) (d : List ℕ) → P held
       → (verdict (layout_reads d (c.said held place)).answer ≡ Some r) × ((layout_reads d (c.said held place)).marks ≡ []))
       → Runs a b r (chain_at c a.held.input)
   walks_now r sound no_fault ended says = reached_now w.reached r sound no_fault ended

@@ -2,10 +2,11 @@
 use Rattle.std.specs.Prelude.{◌≡◌, ℕ, zero, suc, ◌+◌, ◌<◌, List, [], ◌∷◌, ◌++◌, length, Option, None, Some, Result, Ok, Err, is_some, unwrap_or, option_and_then, flat_map}
 use Rattle.std.specs.List.{position_or_len, range_with_len}
 use Rattle.std.specs.Option.{option_map_or}
-use Rattle.imagesize_source.specs.declared.error.ImageError.{ImageError}
+use Rattle.imagesize_source.specs.declared.halt.Halt.{Halt}
+use Rattle.imagesize_source.specs.declared.halt.Halt.TheVariants.{Ended}
 use Rattle.imagesize_source.specs.declared.span.Span.{Span}
 use Rattle.imagesize_source.specs.Layout.{Layout, layout_reads}
-use Rattle.imagesize_source.specs.Reading.{Reads, end_of_input}
+use Rattle.imagesize_source.specs.Reading.{Reads}
 
 -- what a record says: the chain's answer, or what the record holds and the place of the next
 pub data Said (C X : Type 0) : Type 0 where
@@ -30,13 +31,13 @@ abbrev pub next_record : {C X : Type 0} → Chain C X → List ℕ → Along C �
 next_record c d t = layout_reads d (c.said t.held t.place)
 
 -- how far along a record leads; nowhere where it decides or is refused
-abbrev pub leads : {C X : Type 0} → List C → Result (Said C X) ImageError → Option (Along C)
+abbrev pub leads : {C X : Type 0} → List C → Result (Said C X) Halt → Option (Along C)
 leads held (Ok (Decided x)) = None
 leads held (Ok (Next v place)) = Some (record { held = held ++ v ∷ []; place = place })
 leads held (Err e) = None
 
 -- the verdict of a record: what it decides, or its refusal
-abbrev pub verdict : {C X : Type 0} → Result (Said C X) ImageError → Option (Result X ImageError)
+abbrev pub verdict : {C X : Type 0} → Result (Said C X) Halt → Option (Result X Halt)
 verdict (Ok (Decided x)) = Some (Ok x)
 verdict (Ok (Next v place)) = None
 verdict (Err e) = Some (Err e)
@@ -47,7 +48,7 @@ trail c d t zero = Some t
 trail c d t (suc i) = option_and_then (λ u. leads u.held (next_record c d u).answer) (trail c d t i)
 
 -- the verdict of record i
-abbrev pub verdict_of : {C X : Type 0} → Chain C X → List ℕ → Along C → ℕ → Option (Result X ImageError)
+abbrev pub verdict_of : {C X : Type 0} → Chain C X → List ℕ → Along C → ℕ → Option (Result X Halt)
 verdict_of c d t i = option_and_then (λ u. verdict (next_record c d u).answer) (trail c d t i)
 
 -- the marks of record i
@@ -65,7 +66,7 @@ records_from c d t = deciding_record c d t + 1
 -- the verdict of the deciding record, with the marks of the records up to it
 unfoldable pub chain_from : {C X : Type 0} → Chain C X → List ℕ → Along C → Reads X
 chain_from c d t = record {
-  answer = unwrap_or (verdict_of c d t (deciding_record c d t)) (Err end_of_input);
+  answer = unwrap_or (verdict_of c d t (deciding_record c d t)) (Err Ended);
   marks = flat_map (marks_of c d t) (range_with_len 0 (records_from c d t));
 }
 
@@ -73,7 +74,7 @@ abbrev pub records : {C X : Type 0} → Chain C X → List ℕ → ℕ
 records c d = records_from c d (start c)
 
 -- how many of them an answer leads to: behind a refusal none is begun
-abbrev pub count_behind : {X : Type 0} → Result X ImageError → (X → ℕ) → ℕ
+abbrev pub count_behind : {X : Type 0} → Result X Halt → (X → ℕ) → ℕ
 count_behind (Ok x) count = count x
 count_behind (Err e) count = 0
 

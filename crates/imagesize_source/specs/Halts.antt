@@ -6,13 +6,13 @@ use Rattle.imagesize_source.specs.declared.error.ImageError.TheVariants.{Corrupt
 use Rattle.imagesize_source.specs.declared.error.Reason.TheVariants as reason
 use Rattle.imagesize_source.specs.declared.halt.Halt.{Halt}
 use Rattle.imagesize_source.specs.declared.halt.Halt.TheVariants as halt
-use Rattle.imagesize_source.specs.Reading.{Reads, end_of_input}
-use Rattle.imagesize_source.specs.State.{State, Runs}
+use Rattle.imagesize_source.specs.Errors.{end_of_input}
 
 -- the error that a halt ends a call with, where this is the error of a call that failed and this the budget
 abbrev pub error_by : ImageError → ℕ → Halt → ImageError
 error_by failure budget halt.Failed = failure
 error_by failure budget halt.Spent = IoError (reason.BudgetSpent budget)
+error_by failure budget halt.Memory = IoError reason.Memory
 error_by failure budget halt.Ended = end_of_input
 error_by failure budget halt.Corrupted = CorruptedImage
 error_by failure budget halt.NotSupported = NotSupported
@@ -37,11 +37,11 @@ error_by failure budget halt.InvalidHdrDimensionsLine = IoError reason.InvalidHd
 error_by failure budget halt.HdrDimensionsNotFound = IoError reason.HdrDimensionsNotFound
 error_by failure budget halt.PnmDimensionsNotFound = IoError reason.PnmDimensionsNotFound
 
--- an answer, with the error of its halt
+-- the error of a refusal that a layout states, which is none of the stops
+abbrev pub error_of : Halt → ImageError
+error_of = error_by end_of_input 0
+
+-- a result, with the error of its halt
 abbrev pub with_error : {X : Type 0} → ImageError → ℕ → Result X Halt → Result X ImageError
 with_error failure budget (Ok x) = Ok x
 with_error failure budget (Err why) = Err (error_by failure budget why)
-
--- what was read, where a halt may stand for its error
-abbrev pub RunsOrHalts : {X : Type 0} → State → State → ImageError → Result X Halt → Reads X → Type 0
-RunsOrHalts a b failure r reads = Runs a b (with_error failure b.frame.budget r) reads

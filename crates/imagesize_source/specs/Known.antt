@@ -5,6 +5,7 @@ use Rattle.std.specs.List.{range_with_len}
 use Rattle.imagesize_source.specs.declared.source.parts.Missing.{Missing}
 use Rattle.imagesize_source.specs.declared.span.Span.{Span}
 use Rattle.imagesize_source.specs.Agreement.{is_covered}
+use Rattle.imagesize_source.specs.Errors.{end_of_input}
 use Rattle.imagesize_source.specs.Input.{part}
 use Rattle.imagesize_source.specs.State.{State}
 
@@ -59,5 +60,6 @@ parts_state n spans bytes seen missed = record {
   taken = 0;
   recorded = Some seen;
   missed = Some (option_map sure_of missed);
+  failure = end_of_input;
   failed = None;
 }

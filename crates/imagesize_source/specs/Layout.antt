@@ -1,6 +1,6 @@
 -- A layout: which readings an answer rests on, as a tree.
 use Rattle.std.specs.Prelude.{ℕ, Bool, true, false, List, length, nat_le, if◌then◌else◌, Option, None, Some, Result, Ok, Err}
-use Rattle.imagesize_source.specs.declared.error.ImageError.{ImageError}
+use Rattle.imagesize_source.specs.declared.halt.Halt.{Halt}
 use Rattle.imagesize_source.specs.declared.text.Text.{Text}
 use Rattle.imagesize_source.specs.declared.endian.Endian.{Endian}
 use Rattle.imagesize_source.specs.Reading.{Reads, Reading, AllOf, PartOf, TextOf, gives, refuses, and_then, number_read, read_of}
@@ -8,7 +8,7 @@ use Rattle.imagesize_source.specs.Reading.{Reads, Reading, AllOf, PartOf, TextOf
 -- It sees the input by its readings alone: a number of k bytes at a place, or a reading of bytes there.
 pub data Layout (X : Type 0) : Type 0 where
   done : X → Layout X
-  refuse : ImageError → Layout X
+  refuse : Halt → Layout X
   field : Endian → ℕ → ℕ → (ℕ → Layout X) → Layout X
   reading : Reading → ℕ → (List ℕ → Layout X) → Layout X
 
@@ -39,7 +39,7 @@ bind (field order place k f) g = field order place k (λ v. bind (f v) g)
 bind (reading r place f) g = reading r place (λ bs. bind (f bs) g)
 
 -- what goes on where something is accepted; a refusal ends it
-abbrev pub accept : {X Y : Type 0} → Result X ImageError → (X → Layout Y) → Layout Y
+abbrev pub accept : {X Y : Type 0} → Result X Halt → (X → Layout Y) → Layout Y
 accept (Ok x) f = f x
 accept (Err e) f = refuse e
 

@@ -2,6 +2,7 @@ pub mod Agreement
 pub mod Buffer
 pub mod Chain
 pub mod Counts
+pub mod Errors
 pub mod Extension
 pub mod Halts
 pub mod Input
@@ -9,6 +10,7 @@ pub mod Known
 pub mod Layout
 pub mod Limits
 pub mod Numbers
+pub mod Outcome
 pub mod Paying
 pub mod Reading
 pub mod Reason

@@ -1,8 +1,7 @@
 -- What readings answer, and the spans that they saw.
 use Rattle.std.specs.Prelude.{ℕ, ◌-◌, Bool, true, false, ◌||◌, List, [], ◌++◌, length, nat_le, if◌then◌else◌, Result, Ok, Err, Option, None, Some}
-use Rattle.imagesize_source.specs.declared.error.ImageError.{ImageError}
-use Rattle.imagesize_source.specs.declared.error.ImageError.TheVariants.{NotSupported, CorruptedImage, IoError}
-use Rattle.imagesize_source.specs.declared.error.Reason.TheVariants.{EndOfInput, Fault, BudgetSpent, Memory}
+use Rattle.imagesize_source.specs.declared.halt.Halt.{Halt}
+use Rattle.imagesize_source.specs.declared.halt.Halt.TheVariants.{Ended, Failed, Memory, Spent}
 use Rattle.imagesize_source.specs.declared.span.Span.{Span}
 use Rattle.imagesize_source.specs.declared.text.Text.{Text}
 use Rattle.imagesize_source.specs.declared.endian.Endian.{Endian}
@@ -12,14 +11,14 @@ use Rattle.imagesize_source.specs.Text.{text_front}
 
 -- an answer, with the spans of the readings that it rests on, in their order
 pub record Reads (X : Type 0) : Type 0 where
-  pub answer : Result X ImageError
+  pub answer : Result X Halt
   pub marks : List Span
 
 -- an answer that rests on no reading of its own
 abbrev pub gives : {X : Type 0} → X → Reads X
 gives x = record { answer = Ok x; marks = [] }
 
-abbrev pub refuses : {X : Type 0} → ImageError → Reads X
+abbrev pub refuses : {X : Type 0} → Halt → Reads X
 refuses e = record { answer = Err e; marks = [] }
 
 -- readings behind some spans
@@ -27,7 +26,7 @@ abbrev pub put_behind : {X : Type 0} → List Span → Reads X → Reads X
 put_behind marks r = record { answer = r.answer; marks = marks ++ r.marks }
 
 -- what goes on from an answer, behind the spans of its readings; a refusal ends it
-abbrev pub go_on : {X Y : Type 0} → List Span → Result X ImageError → (X → Reads Y) → Reads Y
+abbrev pub go_on : {X Y : Type 0} → List Span → Result X Halt → (X → Reads Y) → Reads Y
 go_on marks (Ok x) f = put_behind marks (f x)
 go_on marks (Err e) f = record { answer = Err e; marks = marks }
 
@@ -35,20 +34,16 @@ abbrev pub and_then : {X Y : Type 0} → Reads X → (X → Reads Y) → Reads Y
 and_then r f = go_on r.marks r.answer f
 
 -- the same answer, its value seen through a function
-abbrev pub map_answer : {X Y : Type 0} → (X → Y) → Result X ImageError → Result Y ImageError
+abbrev pub map_answer : {X Y : Type 0} → (X → Y) → Result X Halt → Result Y Halt
 map_answer f (Ok x) = Ok (f x)
 map_answer f (Err e) = Err e
 
--- the end of the input, as a refusal
-abbrev pub end_of_input : ImageError
-end_of_input = IoError EndOfInput
-
 -- k bytes from a place on, where all are there
-unfoldable pub bytes_at : List ℕ → ℕ → ℕ → Result (List ℕ) ImageError
-bytes_at d place k = if nat_le k (length d - place) then Ok (part d place k) else Err end_of_input
+unfoldable pub bytes_at : List ℕ → ℕ → ℕ → Result (List ℕ) Halt
+bytes_at d place k = if nat_le k (length d - place) then Ok (part d place k) else Err Ended
 
 -- the number of k bytes from a place on, where all are there
-unfoldable pub number_at : List ℕ → Endian → ℕ → ℕ → Result ℕ ImageError
+unfoldable pub number_at : List ℕ → Endian → ℕ → ℕ → Result ℕ Halt
 number_at d order place k = map_answer (number order) (bytes_at d place k)
 
 -- the reading of what is there of k bytes from a place on
@@ -89,40 +84,27 @@ most (AllOf k) = k
 most (PartOf k) = k
 most (TextOf t k) = k
 
--- a failure of the reader, a spent budget and refused memory end a call at once, whatever a layout says
-abbrev pub is_fault : ImageError → Bool
-is_fault NotSupported = false
-is_fault CorruptedImage = false
-is_fault (IoError (Fault _)) = true
-is_fault (IoError _) = false
+-- A call of the reader that failed, a spent budget and refused memory end a call at once, whatever a layout says.
+abbrev pub is_failure : Halt → Bool
+is_failure Failed = true
+is_failure _ = false
 
-abbrev pub is_spent : ImageError → Bool
-is_spent NotSupported = false
-is_spent CorruptedImage = false
-is_spent (IoError (BudgetSpent _)) = true
-is_spent (IoError _) = false
+abbrev pub is_spent : Halt → Bool
+is_spent Spent = true
+is_spent _ = false
 
-abbrev pub is_memory : ImageError → Bool
-is_memory NotSupported = false
-is_memory CorruptedImage = false
-is_memory (IoError Memory) = true
-is_memory (IoError _) = false
+abbrev pub is_memory : Halt → Bool
+is_memory Memory = true
+is_memory _ = false
 
--- the budget that was spent
-abbrev pub budget_spent : ImageError → Option ℕ
-budget_spent NotSupported = None
-budget_spent CorruptedImage = None
-budget_spent (IoError (BudgetSpent n)) = Some n
-budget_spent (IoError _) = None
+abbrev pub is_stop : Halt → Bool
+is_stop halt = is_failure halt || is_spent halt || is_memory halt
 
-abbrev pub is_stop : ImageError → Bool
-is_stop e = is_fault e || is_spent e || is_memory e
-
--- an answer that ends a call at once, and one by a failure of the reader
-abbrev pub is_stopped : {X : Type 0} → Result X ImageError → Bool
+-- a result that ends a call at once, and one by a call of the reader that failed
+abbrev pub is_stopped : {X : Type 0} → Result X Halt → Bool
 is_stopped (Ok _) = false
-is_stopped (Err e) = is_stop e
+is_stopped (Err halt) = is_stop halt
 
-abbrev pub is_faulted : {X : Type 0} → Result X ImageError → Bool
+abbrev pub is_faulted : {X : Type 0} → Result X Halt → Bool
 is_faulted (Ok _) = false
-is_faulted (Err e) = is_fault e
+is_faulted (Err halt) = is_failure halt

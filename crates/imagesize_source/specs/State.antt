@@ -3,8 +3,11 @@ use Rattle.std.specs.Prelude.{◌≡◌, ℕ, ◌+◌, ◌-◌, ◌^◌, ◌<◌
 use Rattle.imagesize_source.specs.Input.{span_at}
 use Rattle.imagesize_source.specs.Limits.{most_held}
 use Rattle.imagesize_source.specs.declared.error.ImageError.{ImageError}
+use Rattle.imagesize_source.specs.declared.halt.Halt.{Halt}
 use Rattle.imagesize_source.specs.declared.span.Span.{Span}
-use Rattle.imagesize_source.specs.Reading.{Reads, is_stopped, is_fault, is_faulted, is_memory, budget_spent}
+use Rattle.imagesize_source.specs.Errors.{end_of_input, is_fault}
+use Rattle.imagesize_source.specs.Layout.{Layout, layout_reads}
+use Rattle.imagesize_source.specs.Reading.{Reads, is_stopped, is_failure, is_faulted, is_memory, is_spent}
 
 -- What never changes of a reader behind a source: its bytes, whether a call of it can fail, and how many interruptions
 -- of it come in all, where that is known.
@@ -33,7 +36,8 @@ pub record Held : Type 0 where
   pub can_fail : Bool
 
 -- A source as a whole: how many of its first bytes it holds, how many bytes it has taken, the spans that it
--- has recorded, and, of a source that tells it, what its last failed reading missed and the error of its last failure.
+-- has recorded, the error that a call of it that fails ends with, and, of a source that tells it, what its last failed
+-- reading missed and the error of its last failure.
 pub record State : Type 0 where
   pub frame : Frame
   pub held : Held
@@ -41,6 +45,7 @@ pub record State : Type 0 where
   pub taken : ℕ
   pub recorded : Option (List Span)
   pub missed : Option (Option Span)
+  pub failure : ImageError
   pub failed : Option (Option ImageError)
 
 -- how many of n bytes from a place on lie behind the first `front`
@@ -73,12 +78,12 @@ total (s ∷ spans) = s.len + total spans
 abbrev pub IsSound : State → Type 0
 IsSound a = a.held.honest ≡ true → (a.frame.told ≡ length a.held.input) × (length a.held.input < 2 ^ 63)
 
--- A spent budget is only answered by a source that counts, and names the bytes taken; refused memory only
--- by one that takes it for spans, and over an input that has a byte. A failure is the last one, where the source tells it.
-pub record EndedBy (b : State) (e : ImageError) : Type 0 where
-  pub budget : IfSome (budget_spent e) (λ n. (b.frame.counts ≡ true) × (n ≡ b.frame.budget) × (n ≡ b.taken))
-  pub memory : is_memory e ≡ true → (b.frame.records ≡ true) × (0 < length b.held.input)
-  pub fault : is_fault e ≡ true → IfSome b.failed (λ failed. failed ≡ Some e)
+-- A spent budget comes only of a source that counts, and is the bytes taken; refused memory only of one that takes it for
+-- spans, and over an input that has a byte. Of a source that tells its failures, a failure is the last one, and a fault.
+pub record EndedBy (b : State) (halt : Halt) : Type 0 where
+  pub budget : is_spent halt ≡ true → (b.frame.counts ≡ true) × (b.frame.budget ≡ b.taken)
+  pub memory : is_memory halt ≡ true → (b.frame.records ≡ true) × (0 < length b.held.input)
+  pub fault : is_failure halt ≡ true → IfSome b.failed (λ failed. (failed ≡ Some b.failure) × (is_fault b.failure ≡ true))
 
 -- A failed call made the first of these spans' readings, saw the next one's bytes up to what it missed, which lies whole
 -- in that span.
@@ -98,7 +103,7 @@ pub record Missed (a b : State) (marks : List Span) : Type 0 where
 -- A call led from one state to another and gave this answer, as these readings say. Where the source is
 -- honest, it has taken no more than the readings' spans; where nothing stopped it, the answer is theirs, and
 -- the state the one past their spans; a failure comes only from a source that can fail.
-pub record Runs {X : Type 0} (a b : State) (r : Result X ImageError) (reads : Reads X) : Type 0 where
+pub record Runs {X : Type 0} (a b : State) (r : Result X Halt) (reads : Reads X) : Type 0 where
   pub sound : IsSound a
   pub sound_after : IsSound b
   pub frame : b.frame ≡ a.frame
@@ -110,6 +115,10 @@ pub record Runs {X : Type 0} (a b : State) (r : Result X ImageError) (reads : Re
   pub misses : a.held.honest ≡ true → is_faulted r ≡ true → Missed a b reads.marks
   pub ended : IfErr r (EndedBy b)
 
+-- the same, of the readings that a layout asks for of the input that the source claims
+abbrev pub Follows : {X : Type 0} → State → State → Result X Halt → Layout X → Type 0
+Follows a b r layout = Runs a b r (layout_reads a.held.input layout)
+
 -- a slice as a source: it counts nothing, records nothing and cannot fail
 abbrev pub slice_state : List ℕ → State
 slice_state d = record {
@@ -119,6 +128,7 @@ slice_state d = record {
   taken = 0;
   recorded = None;
   missed = None;
+  failure = end_of_input;
   failed = None;
 }
 
@@ -132,5 +142,6 @@ recording_state d spans allocates home = record {
   taken = 0;
   recorded = Some spans;
   missed = None;
+  failure = end_of_input;
   failed = None;
 }

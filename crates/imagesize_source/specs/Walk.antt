@@ -1,8 +1,9 @@
 -- What a walk along a chain finds of a record, and the chains that it can follow.
 use Rattle.std.specs.Prelude.{◌≡◌, ℕ, ◌+◌, ◌≤◌, List, [], ◌∷◌, ◌++◌, length}
+use Rattle.imagesize_source.specs.declared.halt.Halt.TheVariants.{Ended}
 use Rattle.imagesize_source.specs.Chain.{Said, Decided, Next, Chain, Advances}
 use Rattle.imagesize_source.specs.Layout.{Layout, layout_reads}
-use Rattle.imagesize_source.specs.Reading.{refuses, end_of_input}
+use Rattle.imagesize_source.specs.Reading.{refuses}
 use Rattle.imagesize_source.specs.declared.walk.Found.{Found}
 use Rattle.imagesize_source.specs.declared.walk.Found.TheVariants as found
 
@@ -23,4 +24,4 @@ chain_of first said = record { first = first; said = said }
 -- each record stands behind the one before, and none behind the end of the input is read
 pub record CanFollow {C X : Type 0} (c : Chain C X) : Type 0 where
   pub advances : (d : List ℕ) → Advances c d
-  pub beyond : (held : List C) (place : ℕ) (d : List ℕ) → length d ≤ place → layout_reads d (c.said held place) ≡ refuses end_of_input
+  pub beyond : (held : List C) (place : ℕ) (d : List ℕ) → length d ≤ place → layout_reads d (c.said held place) ≡ refuses Ended

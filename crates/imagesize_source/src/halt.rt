@@ -10,10 +10,12 @@ use crate::{ImageError, ImageResult, Reason};
 /// kept by the source, and asked of it at last (`with_error`), so that what each reading on the way answers is small.
 #[derive(Clone, Copy, Debug)]
 pub enum Halt {
-    /// A call of the reader failed, or memory was refused.
+    /// A call of the reader failed, or a byte that is wanted is not known.
     Failed,
     /// The budget is spent.
     Spent,
+    /// Memory was refused.
+    Memory,
     /// The input ends before the last of the bytes.
     Ended,
     /// The records end before one gives the size.
@@ -56,6 +58,7 @@ impl Halt {
             Halt::Corrupted => return ImageError::CorruptedImage,
             Halt::Failed => failure,
             Halt::Spent => Reason::BudgetSpent { budget },
+            Halt::Memory => Reason::Memory,
             Halt::Ended => Reason::EndOfInput,
             Halt::NotEnoughData => Reason::NotEnoughData,
             Halt::NoDelimiter { max_size } => Reason::NoDelimiter {
@@ -89,7 +92,7 @@ impl Halt {
 /// The answer of a call, with the error of its halt.
 #[inline(always)]
 pub fn with_error<S: Source, T>(answer: Result<T, Halt>, source: &S) -> ImageResult<T>
-    ensures { result ≡ with_error (S.failure source.now) (S.state source.now).frame.budget answer }
+    ensures { result ≡ with_error (S.state source.now).failure (S.state source.now).frame.budget answer }
 {
     match answer {
         Ok(value) => Ok(value),

@@ -1,6 +1,5 @@
 //! Readings by place: bytes, and numbers of both byte orders.
 ghost use Rattle.std.specs.Prelude.{◌≡◌, ◌+◌, ◌^◌, ◌<◌, ◌≤◌, true, length, IfOk, IfErr, IfSome};
-ghost use Rattle.imagesize_source.specs.Halts.{RunsOrHalts, with_error};
 ghost use Rattle.imagesize_source.specs.Layout.{layout_reads, if_there, some_where};
 ghost use Rattle.imagesize_source.specs.Layout.Layout.{«done»};
 ghost use Rattle.imagesize_source.specs.Paying.{Paid};
@@ -16,7 +15,7 @@ use crate::{Endian, Halt};
 pub fn read_exact_at<S: Source>(source: &mut S, place: u64, room: &mut [u8]) -> Result<(), Halt>
     ensures pays { IfOk result (λ _. 0 < length room.new → Paid (S.state source.old) (S.state source.new) place) }
     ensures runs { Runs (S.state source.old) (S.state source.new)
-        (map_answer (λ _. room.new) (with_error (S.failure source.new) (S.state source.new).frame.budget result))
+        (map_answer (λ _. room.new) result)
         (bytes_read (S.state source.old).held.input place (length room.new)) }
 {
     let count = source.read_at(place, room)?;
@@ -30,7 +29,7 @@ pub fn read_exact_at<S: Source>(source: &mut S, place: u64, room: &mut [u8]) -> 
 #[inline(always)]
 pub fn read_bytes<S: Source, const N: usize>(source: &mut S, place: u64) -> Result<[u8; N], Halt>
     ensures pays { IfOk result (λ bytes. 0 < N → Paid (S.state source.old) (S.state source.new) place) }
-    ensures runs { RunsOrHalts (S.state source.old) (S.state source.new) (S.failure source.new) result
+    ensures runs { Runs (S.state source.old) (S.state source.new) result
         (bytes_read (S.state source.old).held.input place N) }
 {
     let mut room = [0u8; N];
@@ -46,7 +45,7 @@ pub fn read_bytes_behind<S: Source, const N: usize>(
     distance: u64,
 ) -> Result<[u8; N], Halt>
     requires { 0 < N }
-    ensures { RunsOrHalts (S.state source.old) (S.state source.new) (S.failure source.new) result
+    ensures { Runs (S.state source.old) (S.state source.new) result
         (bytes_read (S.state source.old).held.input (place + distance) N) }
 {
     read_bytes::<S, N>(source, place.saturating_add(distance))
@@ -57,7 +56,7 @@ pub fn read_bytes_behind<S: Source, const N: usize>(
 pub fn read_whole_at<S: Source>(source: &mut S, place: u64, room: &mut [u8]) -> Result<bool, Halt>
     ensures pays { IfOk result (λ all. all ≡ true → 0 < length room.new → Paid (S.state source.old) (S.state source.new) place) }
     ensures runs { Runs (S.state source.old) (S.state source.new)
-        (map_answer (some_where room.new) (with_error (S.failure source.new) (S.state source.new).frame.budget result))
+        (map_answer (some_where room.new) result)
         (layout_reads (S.state source.old).held.input (if_there place (length room.new) done)) }
 {
     let count = source.read_at(place, room)?;
@@ -73,7 +72,7 @@ pub fn read_whole_behind<S: Source>(
     room: &mut [u8],
 ) -> Result<bool, Halt>
     ensures { Runs (S.state source.old) (S.state source.new)
-        (map_answer (some_where room.new) (with_error (S.failure source.new) (S.state source.new).frame.budget result))
+        (map_answer (some_where room.new) result)
         (layout_reads (S.state source.old).held.input (if_there (place + distance) (length room.new) done)) }
 {
     read_whole_at(source, place.saturating_add(distance), room)
@@ -86,7 +85,7 @@ pub fn read_if_there<S: Source, const N: usize>(
     place: u64,
 ) -> Result<Option<[u8; N]>, Halt>
     ensures pays { IfOk result (λ found. IfSome found (λ bytes. 0 < N → Paid (S.state source.old) (S.state source.new) place)) }
-    ensures runs { RunsOrHalts (S.state source.old) (S.state source.new) (S.failure source.new) result
+    ensures runs { Runs (S.state source.old) (S.state source.new) result
         (layout_reads (S.state source.old).held.input (if_there place N done)) }
 {
     let mut room = [0u8; N];
@@ -100,7 +99,7 @@ pub fn read_if_there<S: Source, const N: usize>(
 #[inline(always)]
 #[tactic(auto, using(crate::proofs::Runs::number_there, crate::proofs::Runs::number_missing, crate::proofs::Numbers::little_1))]
 pub fn read_u8<S: Source>(source: &mut S, place: u64) -> Result<u8, Halt>
-    ensures { RunsOrHalts (S.state source.old) (S.state source.new) (S.failure source.new) result
+    ensures { Runs (S.state source.old) (S.state source.new) result
         (number_read (S.state source.old).held.input endian.Little place 1) }
 {
     let [byte] = read_bytes::<S, 1>(source, place)?;
@@ -111,7 +110,7 @@ pub fn read_u8<S: Source>(source: &mut S, place: u64) -> Result<u8, Halt>
 #[inline(always)]
 #[tactic(auto, using(crate::proofs::Runs::number_there, crate::proofs::Runs::number_missing))]
 pub fn read_u16<S: Source>(source: &mut S, place: u64, endian: Endian) -> Result<u16, Halt>
-    ensures { RunsOrHalts (S.state source.old) (S.state source.new) (S.failure source.new) result
+    ensures { Runs (S.state source.old) (S.state source.new) result
         (number_read (S.state source.old).held.input endian place 2) }
 {
     let bytes = read_bytes::<S, 2>(source, place)?;
@@ -122,7 +121,7 @@ pub fn read_u16<S: Source>(source: &mut S, place: u64, endian: Endian) -> Result
 #[inline(always)]
 #[tactic(auto, using(crate::proofs::Runs::number_there, crate::proofs::Runs::number_missing))]
 pub fn read_u24<S: Source>(source: &mut S, place: u64, endian: Endian) -> Result<u32, Halt>
-    ensures { RunsOrHalts (S.state source.old) (S.state source.new) (S.failure source.new) result
+    ensures { Runs (S.state source.old) (S.state source.new) result
         (number_read (S.state source.old).held.input endian place 3) }
 {
     let bytes = read_bytes::<S, 3>(source, place)?;
@@ -133,7 +132,7 @@ pub fn read_u24<S: Source>(source: &mut S, place: u64, endian: Endian) -> Result
 #[inline(always)]
 #[tactic(auto, using(crate::proofs::Runs::number_there, crate::proofs::Runs::number_missing))]
 pub fn read_u32<S: Source>(source: &mut S, place: u64, endian: Endian) -> Result<u32, Halt>
-    ensures { RunsOrHalts (S.state source.old) (S.state source.new) (S.failure source.new) result
+    ensures { Runs (S.state source.old) (S.state source.new) result
         (number_read (S.state source.old).held.input endian place 4) }
 {
     let bytes = read_bytes::<S, 4>(source, place)?;
@@ -144,7 +143,7 @@ pub fn read_u32<S: Source>(source: &mut S, place: u64, endian: Endian) -> Result
 #[inline(always)]
 #[tactic(auto, using(crate::proofs::Runs::number_there, crate::proofs::Runs::number_missing))]
 pub fn read_u64<S: Source>(source: &mut S, place: u64, endian: Endian) -> Result<u64, Halt>
-    ensures { RunsOrHalts (S.state source.old) (S.state source.new) (S.failure source.new) result
+    ensures { Runs (S.state source.old) (S.state source.new) result
         (number_read (S.state source.old).held.input endian place 8) }
 {
     let bytes = read_bytes::<S, 8>(source, place)?;
@@ -174,7 +173,7 @@ pub fn read_u16_behind<S: Source>(
     distance: u64,
     endian: Endian,
 ) -> Result<u16, Halt>
-    ensures { RunsOrHalts (S.state source.old) (S.state source.new) (S.failure source.new) result
+    ensures { Runs (S.state source.old) (S.state source.new) result
         (number_read (S.state source.old).held.input endian (place + distance) 2) }
 {
     match place_behind(place, distance) {

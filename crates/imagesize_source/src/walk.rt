@@ -1,7 +1,6 @@
 //! A walk along a chain: its records, read one behind another.
 ghost use Rattle.std.specs.Prelude.{◌≡◌, ℕ, List, [], IfOk};
 ghost use Rattle.imagesize_source.specs.Chain.{Said, chain_at};
-ghost use Rattle.imagesize_source.specs.Halts.{RunsOrHalts, with_error};
 ghost use Rattle.imagesize_source.specs.Layout.{Layout, layout_reads};
 ghost use Rattle.imagesize_source.specs.Paying.{Nears};
 ghost use Rattle.imagesize_source.specs.Reading.{map_answer};
@@ -46,7 +45,7 @@ pub trait Records {
         ensures nears { IfOk result (λ found. Nears (S.state source.old) (S.state source.new) place (said_at place found)) }
         ensures keeps { (held : List Self.Held) → keeps self.old held place → IfOk result (λ found. KeepsOn (keeps self.new) held (said_at place found)) }
         ensures runs { (held : List Self.Held) → keeps self.old held place → Runs (S.state source.old) (S.state source.new)
-            (map_answer (said_at place) (with_error (S.failure source.new) (S.state source.new).frame.budget result))
+            (map_answer (said_at place) result)
             (layout_reads (S.state source.old).held.input (said self.old held place)) };
 }
 
@@ -58,7 +57,7 @@ pub fn walk<S: Source, R: Records + Drop>(
 ) -> Result<R::Answer, Halt>
     requires follows { CanFollow (chain_of first (R.said records)) }
     requires keeps { R.keeps records [] first }
-    ensures { RunsOrHalts (S.state source.old) (S.state source.new) (S.failure source.new) result
+    ensures { Runs (S.state source.old) (S.state source.new) result
         (chain_at (chain_of first (R.said records)) (S.state source.old).held.input) }
 {
     let mut place = first;

@@ -7,8 +7,7 @@ use Rattle.std.specs.Prelude.{◌&&◌}
 use Rattle.std.specs.Int.{w32, cast_signed, from_le_bytes}
 use Rattle.imagesize_types.specs.Head.{four_at}
 use Rattle.imagesize_types.specs.declared.size.ImageSize.{ImageSize}
-use Rattle.imagesize_source.specs.declared.error.ImageError.TheVariants.{IoError}
-use Rattle.imagesize_source.specs.declared.error.Reason.TheVariants.{DataWindowNotFound}
+use Rattle.imagesize_source.specs.declared.halt.Halt.TheVariants.{DataWindowNotFound}
 use Rattle.imagesize_source.specs.declared.endian.Endian.TheVariants.{Little}
 use Rattle.imagesize_source.specs.Agreement.{IsLocal}
 use Rattle.imagesize_source.specs.Chain.{Said, Decided, Next, Advances, chain_at, start, records}
@@ -77,10 +76,10 @@ by_value P place taken is_window size window other =
     (done (Next tt (place + (taken + size)))) (λ _. window) (λ _. other)
 
 -- and of each name
-by_name : (P : Layout (Said (Unit {0}) ImageSize) → Type 0) (room place : ℕ) (name : List ℕ) → P (refuse (IoError DataWindowNotFound))
+by_name : (P : Layout (Said (Unit {0}) ImageSize) → Type 0) (room place : ℕ) (name : List ℕ) → P (refuse DataWindowNotFound)
     → P (line_at 0 (place + (length name + 1)) room (exr_typed place name)) → P (exr_named room place name)
 by_name P room place name none typed =
-    on_test P (eqb (length name) 0) (refuse (IoError DataWindowNotFound)) (line_at 0 (place + (length name + 1)) room
+    on_test P (eqb (length name) 0) (refuse DataWindowNotFound) (line_at 0 (place + (length name + 1)) room
     (exr_typed place name)) (λ _. none) (λ _. typed)
 
 -- how far behind an attribute's place its value stands

@@ -2,9 +2,8 @@
 use Rattle.std.proofs.Common.{◌≡◌, ◌≢◌, ℕ, ◌+◌, ◌<◌, ◌≤◌, List, [], ◌∷◌, ◌++◌, length, Some, None, true, Ok, refl, ap, ◌∙◌, arith}
 use Rattle.std.proofs.lemmas.Bool.Decides.{nat_tests}
 use Rattle.imagesize_types.specs.declared.size.ImageSize.{ImageSize}
-use Rattle.imagesize_source.specs.declared.error.ImageError.{ImageError}
-use Rattle.imagesize_source.specs.declared.error.ImageError.TheVariants.{IoError}
-use Rattle.imagesize_source.specs.declared.error.Reason.TheVariants.{InvalidHdrIdentifier}
+use Rattle.imagesize_source.specs.declared.halt.Halt.{Halt}
+use Rattle.imagesize_source.specs.declared.halt.Halt.TheVariants.{InvalidHdrIdentifier}
 use Rattle.imagesize_source.specs.Agreement.{IsLocal}
 use Rattle.imagesize_source.specs.Chain.{Said, Decided, Next, Advances, chain_at}
 use Rattle.imagesize_source.specs.Extension.{Plain, Lasts}
@@ -24,16 +23,16 @@ use Rattle.imagesize_texts.proofs.Texts.{found_by, line_onto, line_plain, line_t
 
 -- what holds of each line
 by_line : (P : Layout (Said (Unit {0}) ImageSize) → Type 0) (place : ℕ) (text : List ℕ) → ((size : ImageSize) → P (done (Decided size)))
-    → ((e : ImageError) → P (refuse e)) → P (done (Next tt (place + (length text + 1)))) → P (hdr_line place text)
+    → ((e : Halt) → P (refuse e)) → P (done (Next tt (place + (length text + 1)))) → P (hdr_line place text)
 by_line P place text decided refused passed =
     on_test P (is_resolution text) (accept (resolution text) (λ size. done (Decided size))) (done (Next tt (place + (length text + 1))))
     (λ _. found_by P (resolution text) (λ size. done (Decided size)) (λ size _. decided size) refused)
     (λ _. passed)
 
 -- and of the first
-by_identifier : (P : Layout ℕ → Type 0) (text : List ℕ) → P (done (length text + 1)) → P (refuse (IoError InvalidHdrIdentifier))
+by_identifier : (P : Layout ℕ → Type 0) (text : List ℕ) → P (done (length text + 1)) → P (refuse InvalidHdrIdentifier)
     → P (check_identifier text)
-by_identifier P text is none = on_test P (is_identifier text) (done (length text + 1)) (refuse (IoError InvalidHdrIdentifier)) (λ _. is)
+by_identifier P text is none = on_test P (is_identifier text) (done (length text + 1)) (refuse InvalidHdrIdentifier) (λ _. is)
     (λ _. none)
 
 hdr_advances : (first : ℕ) (d : List ℕ) → Advances (hdr_lines first) d

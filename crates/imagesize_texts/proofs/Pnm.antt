@@ -2,7 +2,7 @@
 use Rattle.std.proofs.Common.{◌≡◌, ℕ, ◌+◌, ◌<◌, ◌≤◌, eqb, List, ◌++◌, length, Option, None, true, Ok, Err, ap, ◌∙◌, arith}
 use Rattle.std.specs.Str.{trim}
 use Rattle.imagesize_types.specs.declared.size.ImageSize.{ImageSize}
-use Rattle.imagesize_source.specs.declared.error.ImageError.{ImageError}
+use Rattle.imagesize_source.specs.declared.halt.Halt.{Halt}
 use Rattle.imagesize_source.specs.Agreement.{IsLocal}
 use Rattle.imagesize_source.specs.Chain.{Said, Decided, Advances}
 use Rattle.imagesize_source.specs.Extension.{Plain, Lasts}
@@ -33,7 +33,7 @@ by_word P place w passed comment height =
 
 -- and of the size that the width and the height give
 by_size : (P : Layout (Said (Unit {0}) ImageSize) → Type 0) (width height : Option ℕ) → ((size : ImageSize) → P (done (Decided size)))
-    → ((e : ImageError) → P (accept (Err e) (λ (size : ImageSize). done (Decided size))))
+    → ((e : Halt) → P (accept (Err e) (λ (size : ImageSize). done (Decided size))))
     → P (accept (pnm_size width height) (λ size. done (Decided size)))
 by_size P width height decided refused = found_by P (pnm_size width height) (λ size. done (Decided size)) (λ size _. decided size) refused
 

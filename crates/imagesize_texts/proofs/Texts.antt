@@ -7,21 +7,18 @@ use Rattle.std.specs.Char.{is_ascii_whitespace}
 use Rattle.std.specs.List.{list_any}
 use Rattle.std.specs.Prelude.{◌&&◌}
 use Rattle.std.specs.Str.{is_utf8}
-use Rattle.imagesize_source.specs.declared.error.ImageError.{ImageError}
-use Rattle.imagesize_source.specs.declared.error.ImageError.TheVariants.{IoError}
-use Rattle.imagesize_source.specs.declared.error.Reason.TheVariants.{NoDelimiter, NotUtf8}
 use Rattle.imagesize_source.specs.declared.halt.Halt.{Halt}
+use Rattle.imagesize_source.specs.declared.halt.Halt.TheVariants.{Ended, NoDelimiter, NotUtf8}
 use Rattle.imagesize_source.specs.declared.text.Text.{Text}
 use Rattle.imagesize_source.specs.declared.text.Text.TheVariants.{Line, Word}
 use Rattle.imagesize_source.specs.declared.span.Span.{Span}
 use Rattle.imagesize_source.specs.declared.endian.Endian.{Endian}
 use Rattle.imagesize_source.specs.Chain.{Said}
 use Rattle.imagesize_source.specs.Extension.{Plain, Never, Lasts}
-use Rattle.imagesize_source.specs.Halts.{with_error}
 use Rattle.imagesize_source.specs.Input.{span_at, span_of}
 use Rattle.imagesize_source.specs.Layout.{Layout, layout_reads, accept}
 use Rattle.imagesize_source.specs.Layout.Layout.{refuse, «done», field}
-use Rattle.imagesize_source.specs.Reading.{Reads, gives, and_then, go_on, number_at, number_read, refuses, put_behind, text_part, text_read, is_stop, map_answer, is_fault, is_memory, budget_spent, is_stopped, is_faulted, end_of_input}
+use Rattle.imagesize_source.specs.Reading.{Reads, gives, and_then, go_on, number_at, number_read, refuses, put_behind, text_part, text_read, is_stop, map_answer, is_failure, is_memory, is_spent, is_stopped, is_faulted}
 use Rattle.imagesize_source.specs.State.{State, Runs, EndedBy, total}
 use Rattle.imagesize_source.specs.Text.{is_ended, space_before}
 use Rattle.imagesize_source.proofs.Advances.{Tells, Begins}
@@ -36,43 +33,43 @@ use Rattle.imagesize_texts.specs.Texts.{line_at, passed_line, word, text_as, lin
 use Rattle.imagesize_source.proofs.Parts.{part_length}
 
 -- a refusal by what was read, and none that ends a call at once
-pub record Harmless (e : ImageError) : Type 0 where
+pub record Harmless (e : Halt) : Type 0 where
   pub goes_on : is_stop e ≡ false
-  pub no_fault : is_fault e ≡ false
-  pub none_spent : budget_spent e ≡ None
+  pub no_fault : is_failure e ≡ false
+  pub none_spent : is_spent e ≡ false
   pub memory : is_memory e ≡ false
 
 -- an answer, or such a refusal
-abbrev pub Judged : {X : Type 0} → Result X ImageError → Type 0
+abbrev pub Judged : {X : Type 0} → Result X Halt → Type 0
 Judged (Ok x) = Unit {0}
 Judged (Err e) = Harmless e
 
-judged_goes_on : {X : Type 0} (r : Result X ImageError) → Judged r → is_stopped r ≡ false
+judged_goes_on : {X : Type 0} (r : Result X Halt) → Judged r → is_stopped r ≡ false
 judged_goes_on (Ok x) h = refl
 judged_goes_on (Err e) h = h.goes_on
 
-judged_no_fault : {X : Type 0} (r : Result X ImageError) → Judged r → is_faulted r ≡ false
+judged_no_fault : {X : Type 0} (r : Result X Halt) → Judged r → is_faulted r ≡ false
 judged_no_fault (Ok x) h = refl
 judged_no_fault (Err e) h = h.no_fault
 
-judged_ended : {X : Type 0} (b : State) (r : Result X ImageError) → Judged r → IfErr r (EndedBy b)
+judged_ended : {X : Type 0} (b : State) (r : Result X Halt) → Judged r → IfErr r (EndedBy b)
 judged_ended b (Ok x) h = tt
 judged_ended b (Err e) h = record {
-  budget = subst (λ s. IfSome s (λ n. (b.frame.counts ≡ true) × (n ≡ b.frame.budget) × (n ≡ b.taken))) (sym h.none_spent) tt;
+  budget = λ is. absurd (let no = h.none_spent in cc);
   memory = λ is. absurd (let no = h.memory in cc);
   fault = λ is. absurd (let no = h.no_fault in cc);
 }
 
 -- what is made of a text that was read
-pub text_judged : {X : Type 0} {a b : State} (d : List ℕ) (t : Text) (place k : ℕ) (bs : List ℕ) (f : List ℕ → Result X ImageError)
-    (r : Result X ImageError) → Runs a b (Ok bs) (text_read d t place k) → r ≡ f bs → Judged (f bs) → Runs a b r (text_as d t place k f)
+pub text_judged : {X : Type 0} {a b : State} (d : List ℕ) (t : Text) (place k : ℕ) (bs : List ℕ) (f : List ℕ → Result X Halt)
+    (r : Result X Halt) → Runs a b (Ok bs) (text_read d t place k) → r ≡ f bs → Judged (f bs) → Runs a b r (text_as d t place k f)
 text_judged {X} {a} {b} d t place k bs f r h is fine =
     let fine_r : Judged r = subst Judged (sym is) fine in
     answered r (text_as d t place k f) h refl (λ read. ap f (part_is read) ∙ sym is) (judged_goes_on r fine_r) (judged_no_fault r fine_r)
     (judged_ended b r fine_r)
 
 -- nothing is made of one whose reading was stopped
-pub text_stopped : {X : Type 0} {a b : State} (d : List ℕ) (t : Text) (place k : ℕ) (e : ImageError) (f : List ℕ → Result X ImageError)
+pub text_stopped : {X : Type 0} {a b : State} (d : List ℕ) (t : Text) (place k : ℕ) (e : Halt) (f : List ℕ → Result X Halt)
     → Runs {X = List ℕ} a b (Err e) (text_read d t place k) → Runs {X = X} a b (Err e) (text_as d t place k f)
 text_stopped d t place k e f h = record {
   sound = h.sound;
@@ -88,13 +85,13 @@ text_stopped d t place k e f h = record {
 }
 
 no_end_harmless : (most count : ℕ) → Harmless (no_end most count)
-no_end_harmless most count = on_test Harmless (eqb count most) (IoError (NoDelimiter most)) end_of_input
+no_end_harmless most count = on_test Harmless (eqb count most) (NoDelimiter most) Ended
     (λ _. record { goes_on = refl; no_fault = refl; none_spent = refl; memory = refl })
     (λ _. record { goes_on = refl; no_fault = refl; none_spent = refl; memory = refl })
 
 utf8_judged : (bs : List ℕ) → Judged (utf8 bs)
 unfolding utf8
-utf8_judged bs = on_test Judged (is_utf8 bs) (Ok bs) (Err (IoError NotUtf8)) (λ _. tt)
+utf8_judged bs = on_test Judged (is_utf8 bs) (Ok bs) (Err NotUtf8) (λ _. tt)
     (λ _. record { goes_on = refl; no_fault = refl; none_spent = refl; memory = refl })
 
 line_judged : (delimiter most : ℕ) (bs : List ℕ) → Judged (line_text delimiter most bs)
@@ -107,7 +104,7 @@ unfolding line_length
 length_judged delimiter most bs = on_test Judged (last_passes (λ b. eqb b delimiter) bs) (Ok (length bs)) (Err (no_end most (length bs)))
     (λ _. tt) (λ _. no_end_harmless most (length bs))
 
-seen_judged : {X Y : Type 0} (f : X → Y) (r : Result X ImageError) → Judged r → Judged (map_answer f r)
+seen_judged : {X Y : Type 0} (f : X → Y) (r : Result X Halt) → Judged r → Judged (map_answer f r)
 seen_judged f (Ok x) h = tt
 seen_judged f (Err e) h = h
 
@@ -120,23 +117,23 @@ word_judged bs = on_test Judged (last_passes (λ b. is_word_end b (length bs)) (
 
 -- the three readings of texts, of which each is judged
 module _ {a b : State} (d room : List ℕ) (place most n : ℕ) (long : length room ≡ most) where
-  judged_room : {X : Type 0} (t : Text) (f : List ℕ → Result X ImageError) (r : Result X ImageError) → Runs a b (Ok (take n room))
+  judged_room : {X : Type 0} (t : Text) (f : List ℕ → Result X Halt) (r : Result X Halt) → Runs a b (Ok (take n room))
       (text_read d t place (length room)) → r ≡ f (take n room) → Judged (f (take n room)) → Runs a b r (text_as d t place most f)
   judged_room t f r h is fine = text_judged d t place most (take n room) f r
       (subst (λ k. Runs a b (Ok (take n room)) (text_read d t place k)) long h) is fine
 
-  pub line_runs : (delimiter : ℕ) (r : Result (List ℕ) ImageError) → Runs a b (Ok (take n room))
+  pub line_runs : (delimiter : ℕ) (r : Result (List ℕ) Halt) → Runs a b (Ok (take n room))
       (text_read d (Line delimiter) place (length room)) → r ≡ line_text delimiter most (take n room)
       → Runs a b r (line_read d delimiter place most)
   line_runs delimiter r h is = judged_room (Line delimiter) (line_text delimiter most) r h is (line_judged delimiter most (take n room))
 
-  pub length_runs : (delimiter : ℕ) (r : Result ℕ ImageError) → Runs a b (Ok (take n room))
+  pub length_runs : (delimiter : ℕ) (r : Result ℕ Halt) → Runs a b (Ok (take n room))
       (text_read d (Line delimiter) place (length room)) → r ≡ line_length delimiter most (take n room)
       → Runs a b r (length_read d delimiter place most)
   length_runs delimiter r h is = judged_room (Line delimiter) (line_length delimiter most) r h is
       (length_judged delimiter most (take n room))
 
-pub word_runs : {a b : State} (d room : List ℕ) (place n : ℕ) (r : Result WordRead ImageError) → length room ≡ word_room
+pub word_runs : {a b : State} (d room : List ℕ) (place n : ℕ) (r : Result WordRead Halt) → length room ≡ word_room
     → Runs a b (Ok (take n room)) (text_read d Word place (length room)) → r ≡ word_text (take n room) → Runs a b r (word_read d place)
 word_runs d room place n r long h is = judged_room d room place word_room n long Word word_text r h is (word_judged (take n room))
 
@@ -155,7 +152,7 @@ passes_last p bs is = by_test (ltb 0 (length bs)) refl where
 
 utf8_same : (bs text : List ℕ) → utf8 bs ≡ Ok text → bs ≡ text
 unfolding utf8
-utf8_same bs text = on_test (λ r. r ≡ Ok text → bs ≡ text) (is_utf8 bs) (Ok bs) (Err (IoError NotUtf8)) (λ _ is. cc) (λ _ is. absurd cc)
+utf8_same bs text = on_test (λ r. r ≡ Ok text → bs ≡ text) (is_utf8 bs) (Ok bs) (Err NotUtf8) (λ _ is. cc) (λ _ is. absurd cc)
 
 -- a line takes one byte more than its text has, and the byte that ends it is among them
 pub line_ok : (delimiter most : ℕ) (bs text : List ℕ) → line_text delimiter most bs ≡ Ok text → (length bs ≡ length text + 1)
@@ -178,7 +175,7 @@ length_ok delimiter most bs n = on_test (λ r. r ≡ Ok n → (length bs ≡ n) 
     (λ ends is. (cc, ends))
     (λ _ is. absurd cc)
 
-seen_ok : {X Y : Type 0} (f : X → Y) (r : Result X ImageError) (y : Y) → map_answer f r ≡ Ok y → (x : X) × (y ≡ f x)
+seen_ok : {X Y : Type 0} (f : X → Y) (r : Result X Halt) (y : Y) → map_answer f r ≡ Ok y → (x : X) × (y ≡ f x)
 seen_ok f (Ok x) y is = (x, cc)
 seen_ok f (Err e) y is = absurd cc
 
@@ -206,45 +203,45 @@ below_room last count is = let few : ltb count word_room ≡ true = (and_parts (
 
 -- so what was read of it was paid for
 pub line_pays : {A P : Type 0} (v : A → List ℕ) (delimiter most : ℕ) (room : List ℕ) (n : ℕ) (r : Result A Halt)
-    → ((failure : ImageError) (budget : ℕ) → map_answer v (with_error failure budget r) ≡ line_text delimiter most (take n room))
+    → (map_answer v r ≡ line_text delimiter most (take n room))
     → (0 < n → P) → IfOk r (λ _. P)
 line_pays v delimiter most room n (Ok x) is pays =
-    pays (omega (arith, (line_ok delimiter most (take n room) (v x) (sym (is end_of_input 0))).0, length-take n room))
+    pays (omega (arith, (line_ok delimiter most (take n room) (v x) (sym is)).0, length-take n room))
 line_pays v delimiter most room n (Err why) is pays = tt
 
 pub word_pays : {A P : Type 0} (v : A → WordRead) (room : List ℕ) (n : ℕ) (r : Result A Halt)
-    → ((failure : ImageError) (budget : ℕ) → map_answer v (with_error failure budget r) ≡ word_text (take n room))
+    → (map_answer v r ≡ word_text (take n room))
     → (0 < n → P) → IfOk r (λ _. P)
-word_pays v room n (Ok x) is pays = pays (omega (arith, (word_ok (take n room) (v x) (sym (is end_of_input 0))).1, length-take n room))
+word_pays v room n (Ok x) is pays = pays (omega (arith, (word_ok (take n room) (v x) (sym is)).1, length-take n room))
 word_pays v room n (Err why) is pays = tt
 
 -- a line is no longer than there is room for, and a word takes some bytes, and fewer
 pub length_bound : (delimiter most : ℕ) (room : List ℕ) (n : ℕ) (r : Result ℕ Halt) → length room ≡ most
-    → ((failure : ImageError) (budget : ℕ) → with_error failure budget r ≡ line_length delimiter most (take n room))
+    → (r ≡ line_length delimiter most (take n room))
     → IfOk r (λ count. count ≤ most)
 length_bound delimiter most room n (Ok count) long is = omega (
   arith,
-  (length_ok delimiter most (take n room) count (sym (is end_of_input 0))).0,
+  (length_ok delimiter most (take n room) count (sym is)).0,
   length-take n room,
 )
 length_bound delimiter most room n (Err why) long is = tt
 
 pub line_bound : {A : Type 0} (v : A → List ℕ) (delimiter most : ℕ) (room : List ℕ) (n : ℕ) (r : Result A Halt)
     → length room ≡ most
-    → ((failure : ImageError) (budget : ℕ) → map_answer v (with_error failure budget r) ≡ line_text delimiter most (take n room))
+    → (map_answer v r ≡ line_text delimiter most (take n room))
     → IfOk r (λ text. length (v text) < most)
 line_bound v delimiter most room n (Ok x) long is = omega (
   arith,
-  (line_ok delimiter most (take n room) (v x) (sym (is end_of_input 0))).0,
+  (line_ok delimiter most (take n room) (v x) (sym is)).0,
   length-take n room,
 )
 line_bound v delimiter most room n (Err why) long is = tt
 
 pub word_bound : {A : Type 0} (v : A → WordRead) (room : List ℕ) (n : ℕ) (r : Result A Halt)
-    → ((failure : ImageError) (budget : ℕ) → map_answer v (with_error failure budget r) ≡ word_text (take n room))
+    → (map_answer v r ≡ word_text (take n room))
     → IfOk r (λ w. (0 < (v w).taken) × ((v w).taken < word_room))
 word_bound v room n (Ok x) is =
-    let ok = word_ok (take n room) (v x) (sym (is end_of_input 0)) in
+    let ok = word_ok (take n room) (v x) (sym is) in
     let ends = passes_last (λ b. is_word_end b (length (take n room))) (behind_space (take n room)) ok.2 in
     let few = below_room (last_byte (behind_space (take n room))) (length (take n room)) ends in
     (omega (arith, ok.0, ok.1), omega (arith, ok.0, few))
@@ -282,8 +279,8 @@ unfolding is_ended
 word_ended bs is = ap (list_any is_ascii_whitespace) (drop_space bs) ∙ any_white (length bs) (behind_space bs) is
 
 -- what holds of what goes on and of a refusal
-pub found_by : {X Y : Type 0} (P : Layout Y → Type 0) (r : Result X ImageError) (f : X → Layout Y) → ((x : X) → r ≡ Ok x → P (f x))
-    → ((e : ImageError) → P (refuse e)) → P (accept r f)
+pub found_by : {X Y : Type 0} (P : Layout Y → Type 0) (r : Result X Halt) (f : X → Layout Y) → ((x : X) → r ≡ Ok x → P (f x))
+    → ((e : Halt) → P (refuse e)) → P (accept r f)
 found_by P (Ok x) f goes_on out = goes_on x refl
 found_by P (Err e) f goes_on out = out e
 
@@ -383,12 +380,12 @@ none_left (b ∷ bs) is = absurd (omega arith)
 text_none : (d : List ℕ) (t : Text) (place k : ℕ) → length d ≤ place → text_part d t place k ≡ []
 text_none d t place k h = none_left (text_part d t place k) (omega (arith, text_length d t place k, part_length d place k))
 
-line_none : (delimiter most : ℕ) → 0 < most → line_text delimiter most [] ≡ Err end_of_input
+line_none : (delimiter most : ℕ) → 0 < most → line_text delimiter most [] ≡ Err Ended
 unfolding line_text
 line_none delimiter most some = let test : eqb 0 most ≡ false = grind (arith, nat_tests) in
-    ap (λ b. Err (cond b (IoError (NoDelimiter most)) end_of_input)) test
+    ap (λ b. Err (cond b (NoDelimiter most) Ended)) test
 
-word_none : word_text [] ≡ Err end_of_input
+word_none : word_text [] ≡ Err Ended
 unfolding word_text ended_word
 word_none = refl
 
@@ -398,26 +395,26 @@ over_text d place bs t = put_behind (span_at place (length bs)) (layout_reads d 
 
 -- and a layout that reads one there is refused, with no mark of it
 pub line_beyond : {X : Type 0} (d : List ℕ) (delimiter place most : ℕ) (f : List ℕ → Layout X) → length d ≤ place → 0 < most
-    → layout_reads d (line_at delimiter place most f) ≡ refuses end_of_input
+    → layout_reads d (line_at delimiter place most f) ≡ refuses Ended
 unfolding span_at over_text
 line_beyond d delimiter place most f h some =
     ap (λ bs. over_text d place bs (accept (line_text delimiter most bs) f)) (text_none d (Line delimiter) place most h)
     ∙ ap (λ r. layout_reads d (accept r f)) (line_none delimiter most some)
 
 pub word_beyond : {X : Type 0} (d : List ℕ) (place : ℕ) (f : WordRead → Layout X) → length d ≤ place → layout_reads d (word place f)
-    ≡ refuses end_of_input
+    ≡ refuses Ended
 unfolding span_at over_text
 word_beyond d place f h =
     ap (λ bs. over_text d place bs (accept (word_text bs) f)) (text_none d Word place word_room h)
     ∙ ap (λ r. layout_reads d (accept r f)) word_none
 
-as_beyond : {X : Type 0} (d : List ℕ) (t : Text) (place k : ℕ) (f : List ℕ → Result X ImageError) → length d ≤ place
+as_beyond : {X : Type 0} (d : List ℕ) (t : Text) (place k : ℕ) (f : List ℕ → Result X Halt) → length d ≤ place
     → text_as d t place k f ≡ record { answer = f []; marks = [] }
 unfolding span_at
 as_beyond d t place k f h = ap (λ bs. record { answer = f bs; marks = span_at place (length bs) }) (text_none d t place k h)
 
 -- no input is so long that a text stands beyond 64 bits
-pub text_saturated : {X : Type 0} {a b : State} {r : Result X ImageError} (t : Text) (place k : ℕ) (f : List ℕ → Result X ImageError)
+pub text_saturated : {X : Type 0} {a b : State} {r : Result X Halt} (t : Text) (place k : ℕ) (f : List ℕ → Result X Halt)
     → Runs a b r (text_as a.held.input t (min place (2 ^ 64 - 1)) k f) → Runs a b r (text_as a.held.input t place k f)
 text_saturated t place k f h = saturated_by (λ p d. text_as d t p k f) (record { answer = f []; marks = [] }) place
     (λ d p far. as_beyond d t p k f far) h
@@ -426,15 +423,15 @@ text_saturated t place k f h = saturated_by (λ p d. text_as d t p k f) (record 
 pub lasts_then : {X Y : Type 0} (r : List ℕ → Reads X) (f : X → List ℕ → Reads Y) → Lasts r → ((y : X) → Lasts (f y))
     → Lasts (λ d. and_then (r d) (λ y. f y d))
 lasts_then {X} {Y} r f first rest d x v is = by_answer (r d).answer refl where
-  by_answer : (a : Result X ImageError) → (r d).answer ≡ a → and_then (r (d ++ x)) (λ y. f y (d ++ x)) ≡ and_then (r d) (λ y. f y d)
+  by_answer : (a : Result X Halt) → (r d).answer ≡ a → and_then (r (d ++ x)) (λ y. f y (d ++ x)) ≡ and_then (r d) (λ y. f y d)
   by_answer (Ok y) got =
       let ends : (f y d).answer ≡ Ok v = sym (ap (λ a. (go_on (r d).marks a (λ y. f y d)).answer) got) ∙ is in
       ap (λ w. and_then w (λ y. f y (d ++ x))) (first d x y got) ∙ ap (λ a. go_on (r d).marks a (λ y. f y (d ++ x))) got
       ∙ ap (put_behind (r d).marks) (rest y d x v ends) ∙ sym (ap (λ a. go_on (r d).marks a (λ y. f y d)) got)
-  by_answer (Err e) got = absurd (let no : ◌≡◌ {A = Result Y ImageError} (Err e) (Ok v) =
+  by_answer (Err e) got = absurd (let no : ◌≡◌ {A = Result Y Halt} (Err e) (Ok v) =
       sym (ap (λ a. (go_on (r d).marks a (λ y. f y d)).answer) got) ∙ is in cc)
 
-answered_done : {X : Type 0} (marks : List Span) (a : Result X ImageError) → go_on marks a gives ≡ record { answer = a; marks = marks }
+answered_done : {X : Type 0} (marks : List Span) (a : Result X Halt) → go_on marks a gives ≡ record { answer = a; marks = marks }
 answered_done marks (Ok x) = ap (λ m. record { answer = Ok x; marks = m }) (append-nil marks)
 answered_done marks (Err e) = refl
 

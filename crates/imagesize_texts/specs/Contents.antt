@@ -4,10 +4,9 @@ use Rattle.std.specs.Char.{is_ascii_whitespace, is_whitespace}
 use Rattle.std.specs.List.{slice_split}
 use Rattle.std.specs.Str.{is_utf8, chars, encode_utf8_all, all_ascii_digits}
 use Rattle.std.specs.Str.Parse.{digits_value, without_leading_plus}
-use Rattle.imagesize_source.specs.declared.error.ImageError.{ImageError}
-use Rattle.imagesize_source.specs.declared.error.ImageError.TheVariants.{IoError}
-use Rattle.imagesize_source.specs.declared.error.Reason.TheVariants.{NoDelimiter, NotUtf8}
-use Rattle.imagesize_source.specs.Reading.{map_answer, end_of_input}
+use Rattle.imagesize_source.specs.declared.halt.Halt.{Halt}
+use Rattle.imagesize_source.specs.declared.halt.Halt.TheVariants.{Ended, NoDelimiter, NotUtf8}
+use Rattle.imagesize_source.specs.Reading.{map_answer}
 
 -- the last byte, and the bytes before it
 abbrev pub last_byte : List ℕ → ℕ
@@ -21,19 +20,19 @@ abbrev pub last_passes : (ℕ → Bool) → List ℕ → Bool
 last_passes p bs = nat_lt 0 (length bs) && p (last_byte bs)
 
 -- why a text has no end: none of the first `most` bytes ends it, or the input ends before them
-abbrev pub no_end : ℕ → ℕ → ImageError
-no_end most count = if count == most then IoError (NoDelimiter most) else end_of_input
+abbrev pub no_end : ℕ → ℕ → Halt
+no_end most count = if count == most then (NoDelimiter most) else Ended
 
 -- the bytes as text (RFC 3629, section 3)
-unfoldable pub utf8 : List ℕ → Result (List ℕ) ImageError
-utf8 bs = if is_utf8 bs then Ok bs else Err (IoError NotUtf8)
+unfoldable pub utf8 : List ℕ → Result (List ℕ) Halt
+utf8 bs = if is_utf8 bs then Ok bs else Err NotUtf8
 
 -- the text of a line of at most so many bytes, without the delimiter that ends it
-unfoldable pub line_text : ℕ → ℕ → List ℕ → Result (List ℕ) ImageError
+unfoldable pub line_text : ℕ → ℕ → List ℕ → Result (List ℕ) Halt
 line_text delimiter most bs = if last_passes (λ b. b == delimiter) bs then utf8 (before_last bs) else Err (no_end most (length bs))
 
 -- how many bytes such a line takes, whether or not they are text
-unfoldable pub line_length : ℕ → ℕ → List ℕ → Result ℕ ImageError
+unfoldable pub line_length : ℕ → ℕ → List ℕ → Result ℕ Halt
 line_length delimiter most bs = if last_passes (λ b. b == delimiter) bs then Ok (length bs) else Err (no_end most (length bs))
 
 -- A word: its text, the white space that ends it, and how many bytes it takes, with the white space before it and
@@ -56,7 +55,7 @@ behind_space (b ∷ bs) = if is_ascii_whitespace b then behind_space bs else b �
 abbrev pub word_at : ℕ → List ℕ → List ℕ → WordRead
 word_at count bs text = record { text = text; ended_by = last_byte bs; taken = count }
 
-abbrev pub word_of : ℕ → List ℕ → Result WordRead ImageError
+abbrev pub word_of : ℕ → List ℕ → Result WordRead Halt
 word_of count bs = map_answer (word_at count bs) (utf8 (before_last bs))
 
 -- white space ends it, as one of fewer bytes than there is room for
@@ -64,11 +63,11 @@ abbrev pub is_word_end : ℕ → ℕ → Bool
 is_word_end byte count = is_ascii_whitespace byte && nat_lt count word_room
 
 -- the word that begins these bytes, of so many with the white space before them
-unfoldable pub ended_word : ℕ → List ℕ → Result WordRead ImageError
+unfoldable pub ended_word : ℕ → List ℕ → Result WordRead Halt
 ended_word count bs = if last_passes (λ b. is_word_end b count) bs then word_of count bs else Err (no_end word_room count)
 
 -- a word behind white space
-unfoldable pub word_text : List ℕ → Result WordRead ImageError
+unfoldable pub word_text : List ℕ → Result WordRead Halt
 word_text bs = ended_word (length bs) (behind_space bs)
 
 -- the text is a number of 64 bits: digits, before which one `+` may stand

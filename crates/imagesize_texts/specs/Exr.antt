@@ -3,8 +3,7 @@ use Rattle.std.specs.Prelude.{ℕ, ◌+◌, Bool, ◌&&◌, List, [], ◌∷◌,
 use Rattle.std.specs.Int.{w32, cast_signed}
 use Rattle.imagesize_types.specs.Head.{begins, four_at}
 use Rattle.imagesize_types.specs.declared.size.ImageSize.{ImageSize}
-use Rattle.imagesize_source.specs.declared.error.ImageError.TheVariants.{IoError}
-use Rattle.imagesize_source.specs.declared.error.Reason.TheVariants.{DataWindowNotFound}
+use Rattle.imagesize_source.specs.declared.halt.Halt.TheVariants.{DataWindowNotFound}
 use Rattle.imagesize_source.specs.declared.endian.Endian.TheVariants.{Little}
 use Rattle.imagesize_source.specs.Chain.{Said, Decided, Next, Chain, chain_at, records, count_behind}
 use Rattle.imagesize_source.specs.Layout.{Layout, bytes}
@@ -67,7 +66,7 @@ exr_typed place name type_name =
 -- no name ends the header ("Header")
 abbrev pub exr_named : ℕ → ℕ → List ℕ → Layout (Said (Unit {0}) ImageSize)
 exr_named room place name =
-    if length name == 0 then refuse (IoError DataWindowNotFound)
+    if length name == 0 then refuse DataWindowNotFound
     else line_at 0 (place + (length name + 1)) room (exr_typed place name)
 
 -- an attribute is its name, its type, the size of its value, and the value ("Attribute Layout")

@@ -2,9 +2,8 @@
 use Rattle.std.specs.Prelude.{ℕ, ◌+◌, Bool, List, codes, [], ◌∷◌, ◌++◌, ◌||◌, ◌==◌, length, slice_index_or, if◌then◌else◌, Option, None, Some, Result, Ok, Err}
 use Rattle.imagesize_types.specs.Head.{begins}
 use Rattle.imagesize_types.specs.declared.size.ImageSize.{ImageSize}
-use Rattle.imagesize_source.specs.declared.error.ImageError.{ImageError}
-use Rattle.imagesize_source.specs.declared.error.ImageError.TheVariants.{IoError}
-use Rattle.imagesize_source.specs.declared.error.Reason.TheVariants.{InvalidHdrIdentifier, InvalidHdrDimensionsLine, HdrDimensionsNotFound}
+use Rattle.imagesize_source.specs.declared.halt.Halt.{Halt}
+use Rattle.imagesize_source.specs.declared.halt.Halt.TheVariants.{HdrDimensionsNotFound, InvalidHdrDimensionsLine, InvalidHdrIdentifier}
 use Rattle.imagesize_source.specs.Chain.{Said, Decided, Next, Chain, chain_at}
 use Rattle.imagesize_source.specs.Layout.{Layout, layout_reads, accept}
 use Rattle.imagesize_source.specs.Layout.Layout.{refuse, «done»}
@@ -21,7 +20,7 @@ unfoldable pub is_identifier : List ℕ → Bool
 is_identifier text = begins (codes "#?RADIANCE") text || begins (codes "#?RGBE") text
 
 abbrev pub check_identifier : List ℕ → Layout ℕ
-check_identifier text = if is_identifier text then done (length text + 1) else refuse (IoError InvalidHdrIdentifier)
+check_identifier text = if is_identifier text then done (length text + 1) else refuse InvalidHdrIdentifier
 
 -- how many bytes the first line takes, of 11 at most
 abbrev pub hdr_identifier : Layout ℕ
@@ -32,21 +31,21 @@ unfoldable pub is_resolution : List ℕ → Bool
 is_resolution text = (begins (codes "-Y") text || begins (codes "+Y") text) || (begins (codes "-X") text || begins (codes "+X") text)
 
 -- both numbers, or neither is known
-abbrev pub hdr_size : Option ℕ → Option ℕ → Result ImageSize ImageError
+abbrev pub hdr_size : Option ℕ → Option ℕ → Result ImageSize Halt
 hdr_size (Some height) (Some width) = Ok (record { width = width; height = height })
-hdr_size (Some height) None = Err (IoError HdrDimensionsNotFound)
-hdr_size None width = Err (IoError HdrDimensionsNotFound)
+hdr_size (Some height) None = Err HdrDimensionsNotFound
+hdr_size None width = Err HdrDimensionsNotFound
 
 -- the second and the fourth of four words: two axes, each with its length
 unfoldable pub second_and_fourth : List (List ℕ) → Option (List ℕ × List ℕ)
 second_and_fourth ws = if length ws == 4 then Some (slice_index_or ws 1 [], slice_index_or ws 3 []) else None
 
-abbrev pub hdr_lengths : Option (List ℕ × List ℕ) → Result ImageSize ImageError
-hdr_lengths None = Err (IoError InvalidHdrDimensionsLine)
+abbrev pub hdr_lengths : Option (List ℕ × List ℕ) → Result ImageSize Halt
+hdr_lengths None = Err InvalidHdrDimensionsLine
 hdr_lengths (Some lengths) = hdr_size (number_text lengths.0) (number_text lengths.1)
 
 -- the size by such a line, whatever its axes are: the first length is the height
-abbrev pub resolution : List ℕ → Result ImageSize ImageError
+abbrev pub resolution : List ℕ → Result ImageSize Halt
 resolution text = hdr_lengths (second_and_fourth (words text))
 
 abbrev pub hdr_line : ℕ → List ℕ → Layout (Said (Unit {0}) ImageSize)

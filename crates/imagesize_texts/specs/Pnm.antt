@@ -3,9 +3,8 @@ use Rattle.std.specs.Prelude.{ℕ, ◌+◌, Bool, List, length, codes, nat_le, s
 use Rattle.std.specs.Str.{trim}
 use Rattle.imagesize_types.specs.Head.{begins}
 use Rattle.imagesize_types.specs.declared.size.ImageSize.{ImageSize}
-use Rattle.imagesize_source.specs.declared.error.ImageError.{ImageError}
-use Rattle.imagesize_source.specs.declared.error.ImageError.TheVariants.{IoError}
-use Rattle.imagesize_source.specs.declared.error.Reason.TheVariants.{PnmDimensionsNotFound}
+use Rattle.imagesize_source.specs.declared.halt.Halt.{Halt}
+use Rattle.imagesize_source.specs.declared.halt.Halt.TheVariants.{PnmDimensionsNotFound}
 use Rattle.imagesize_source.specs.Chain.{Said, Decided, Next, Chain, chain_at}
 use Rattle.imagesize_source.specs.Layout.{Layout, accept}
 use Rattle.imagesize_source.specs.Layout.Layout.{«done»}
@@ -27,10 +26,10 @@ unfoldable pub is_blank : List ℕ → Bool
 is_blank text = length (trim text) == 0
 
 -- both numbers, or neither is known
-abbrev pub pnm_size : Option ℕ → Option ℕ → Result ImageSize ImageError
+abbrev pub pnm_size : Option ℕ → Option ℕ → Result ImageSize Halt
 pnm_size (Some width) (Some height) = Ok (record { width = width; height = height })
-pnm_size (Some width) None = Err (IoError PnmDimensionsNotFound)
-pnm_size None height = Err (IoError PnmDimensionsNotFound)
+pnm_size (Some width) None = Err PnmDimensionsNotFound
+pnm_size None height = Err PnmDimensionsNotFound
 
 -- so many bytes at a place say nothing of the size
 abbrev pub pnm_passed : ℕ → ℕ → Layout (Said (Unit {0}) ImageSize)

@@ -1,6 +1,6 @@
 -- Texts as readings: lines of at most so many bytes, and words.
 use Rattle.std.specs.Prelude.{ℕ, List, length, Result}
-use Rattle.imagesize_source.specs.declared.error.ImageError.{ImageError}
+use Rattle.imagesize_source.specs.declared.halt.Halt.{Halt}
 use Rattle.imagesize_source.specs.declared.text.Text.{Text}
 use Rattle.imagesize_source.specs.declared.text.Text.TheVariants.{Line, Word}
 use Rattle.imagesize_source.specs.Input.{span_at}
@@ -22,7 +22,7 @@ abbrev pub word : {X : Type 0} → ℕ → (WordRead → Layout X) → Layout X
 word place f = text Word place word_room (λ bs. accept (word_text bs) f)
 
 -- what is made of a text that was read
-abbrev pub text_as : {X : Type 0} → List ℕ → Text → ℕ → ℕ → (List ℕ → Result X ImageError) → Reads X
+abbrev pub text_as : {X : Type 0} → List ℕ → Text → ℕ → ℕ → (List ℕ → Result X Halt) → Reads X
 text_as d t place k f = record { answer = f (text_part d t place k); marks = span_at place (length (text_part d t place k)) }
 
 -- the readings of these three

@@ -1,12 +1,10 @@
 //! Texts: lines up to a delimiter and words between white space, each of so many bytes at most.
 ghost use Rattle.std.specs.Prelude.{◌≡◌, ℕ, ◌+◌, ◌^◌, ◌<◌, ◌≤◌, codes, length, true, IfOk};
-ghost use Rattle.imagesize_source.specs.Halts.{RunsOrHalts, error_by, with_error};
 ghost use Rattle.imagesize_source.specs.Paying.{Paid};
 ghost use Rattle.imagesize_source.specs.Reading.{number_read, map_answer};
 ghost use Rattle.imagesize_source.specs.State.{Runs};
 ghost use Rattle.imagesize_texts.specs.Contents.{ended_word, is_word_end, line_length, line_text, no_end, number_text, utf8, word_text};
 ghost use Rattle.imagesize_texts.specs.Texts.{length_read, line_read, read_word_of, word_read};
-ghost use Rattle.imagesize_source.specs.declared.error.ImageError.{ImageError};
 
 use imagesize_source::readings::read_u32;
 use imagesize_source::source::Source;
@@ -43,7 +41,7 @@ pub fn read_line_capped<'a, S: Source>(
     ensures bound { IfOk result (λ text. length text.now < length room.old) }
     ensures pays { IfOk result (λ text. Paid (S.state source.old) (S.state source.new) place) }
     ensures runs { Runs (S.state source.old) (S.state source.new)
-        (map_answer (λ text. text.now) (with_error (S.failure source.new) (S.state source.new).frame.budget result))
+        (map_answer (λ text. text.now) result)
         (line_read (S.state source.old).held.input delimiter place (length room.old)) }
 {
     let most = room.len();
@@ -62,7 +60,7 @@ pub fn pass_line_capped<S: Source>(
 ) -> Result<usize, Halt>
     requires { length room.old < 2 ^ 32 }
     ensures bound { IfOk result (λ n. n ≤ length room.old) }
-    ensures runs { RunsOrHalts (S.state source.old) (S.state source.new) (S.failure source.new) result
+    ensures runs { Runs (S.state source.old) (S.state source.new) result
         (length_read (S.state source.old).held.input delimiter place (length room.old)) }
 {
     let most = room.len();
@@ -86,7 +84,7 @@ pub fn read_word<'a, S: Source>(
     ensures bound { IfOk result (λ word. (0 < word.taken) × (word.taken < 1024)) }
     ensures pays { IfOk result (λ word. Paid (S.state source.old) (S.state source.new) place) }
     ensures runs { Runs (S.state source.old) (S.state source.new)
-        (map_answer (λ word. read_word_of word) (with_error (S.failure source.new) (S.state source.new).frame.budget result))
+        (map_answer (λ word. read_word_of word) result)
         (word_read (S.state source.old).held.input place) }
 {
     let count = source.read_text(place, Text::Word, room)?;
@@ -105,7 +103,7 @@ pub fn pass_line_behind<S: Source>(
 ) -> Result<usize, Halt>
     requires { length room.old < 2 ^ 32 }
     ensures bound { IfOk result (λ n. n ≤ length room.old) }
-    ensures runs { RunsOrHalts (S.state source.old) (S.state source.new) (S.failure source.new) result
+    ensures runs { Runs (S.state source.old) (S.state source.new) result
         (length_read (S.state source.old).held.input delimiter (place + distance) (length room.old)) }
 {
     pass_line_capped(source, place.saturating_add(distance), delimiter, room)
@@ -120,7 +118,7 @@ pub fn read_word_behind<'a, S: Source>(
     room: &'a mut [u8; WORD_ROOM],
 ) -> Result<Word<'a>, Halt>
     ensures { Runs (S.state source.old) (S.state source.new)
-        (map_answer (λ word. read_word_of word) (with_error (S.failure source.new) (S.state source.new).frame.budget result))
+        (map_answer (λ word. read_word_of word) result)
         (word_read (S.state source.old).held.input (place + distance)) }
 {
     read_word(source, place.saturating_add(distance), room)
@@ -134,7 +132,7 @@ pub fn read_u32_behind<S: Source>(
     distance: u64,
     endian: Endian,
 ) -> Result<u32, Halt>
-    ensures { RunsOrHalts (S.state source.old) (S.state source.new) (S.failure source.new) result
+    ensures { Runs (S.state source.old) (S.state source.new) result
         (number_read (S.state source.old).held.input endian (place + distance) 4) }
 {
     read_u32(source, place.saturating_add(distance), endian)
@@ -145,8 +143,7 @@ pub fn read_u32_behind<S: Source>(
 #[tactic(auto, unfolding(crate::specs::Contents::line_text))]
 fn line_text(bytes: &[u8], delimiter: u8, most: usize) -> Result<&str, Halt>
     requires { most < 2 ^ 32 }
-    ensures { (failure : ImageError) (budget : ℕ) →
-        map_answer (λ text. text.now) (with_error failure budget result) ≡ line_text delimiter most bytes.now }
+    ensures { map_answer (λ text. text.now) result ≡ line_text delimiter most bytes.now }
 {
     match bytes {
         [text @ .., last] if *last == delimiter => text_of_line(text),
@@ -159,7 +156,7 @@ fn line_text(bytes: &[u8], delimiter: u8, most: usize) -> Result<&str, Halt>
 #[tactic(auto, unfolding(crate::specs::Contents::line_length))]
 fn line_length(bytes: &[u8], delimiter: u8, most: usize) -> Result<usize, Halt>
     requires { most < 2 ^ 32 }
-    ensures { (failure : ImageError) (budget : ℕ) → with_error failure budget result ≡ line_length delimiter most bytes.now }
+    ensures { result ≡ line_length delimiter most bytes.now }
 {
     match bytes {
         [.., last] if *last == delimiter => Ok(bytes.len()),
@@ -171,8 +168,7 @@ fn line_length(bytes: &[u8], delimiter: u8, most: usize) -> Result<usize, Halt>
 #[inline]
 #[tactic(auto, using(crate::proofs::Words::behind_space_is), unfolding(crate::specs::Contents::word_text))]
 fn word_text(bytes: &[u8]) -> Result<Word<'_>, Halt>
-    ensures { (failure : ImageError) (budget : ℕ) →
-        map_answer (λ word. read_word_of word) (with_error failure budget result) ≡ word_text bytes.now }
+    ensures { map_answer (λ word. read_word_of word) result ≡ word_text bytes.now }
 {
     ended_word(bytes.trim_ascii_start(), bytes.len())
 }
@@ -181,8 +177,7 @@ fn word_text(bytes: &[u8]) -> Result<Word<'_>, Halt>
 #[inline]
 #[tactic(auto, unfolding(crate::specs::Contents::ended_word))]
 fn ended_word(bytes: &[u8], taken: usize) -> Result<Word<'_>, Halt>
-    ensures { (failure : ImageError) (budget : ℕ) →
-        map_answer (λ word. read_word_of word) (with_error failure budget result) ≡ ended_word taken bytes.now }
+    ensures { map_answer (λ word. read_word_of word) result ≡ ended_word taken bytes.now }
 {
     match bytes {
         [text @ .., last] if is_word_end(*last, taken) => Ok(Word {
@@ -206,7 +201,7 @@ fn is_word_end(byte: u8, taken: usize) -> bool
 #[inline]
 fn no_end(count: usize, most: usize) -> Halt
     requires { most < 2 ^ 32 }
-    ensures { (failure : ImageError) (budget : ℕ) → error_by failure budget result ≡ no_end most count }
+    ensures { result ≡ no_end most count }
 {
     if count == most {
         return Halt::NoDelimiter {
@@ -219,8 +214,7 @@ fn no_end(count: usize, most: usize) -> Halt
 // The bytes of a word as text. A `#` alone, of which an input can hold the most, needs no test.
 #[inline(always)]
 fn text_of_word(bytes: &[u8]) -> Result<&str, Halt>
-    ensures { (failure : ImageError) (budget : ℕ) →
-        map_answer (λ text. text.now) (with_error failure budget result) ≡ utf8 bytes.now }
+    ensures { map_answer (λ text. text.now) result ≡ utf8 bytes.now }
 {
     if is_hash(bytes) {
         return Ok("#");
@@ -239,8 +233,7 @@ pub fn is_hash(bytes: &[u8]) -> bool
 // The bytes of a line as text. An empty line, of which an input can hold the most, needs no test.
 #[inline(always)]
 fn text_of_line(bytes: &[u8]) -> Result<&str, Halt>
-    ensures { (failure : ImageError) (budget : ℕ) →
-        map_answer (λ text. text.now) (with_error failure budget result) ≡ utf8 bytes.now }
+    ensures { map_answer (λ text. text.now) result ≡ utf8 bytes.now }
 {
     if bytes.is_empty() {
         return Ok("");
@@ -252,8 +245,7 @@ fn text_of_line(bytes: &[u8]) -> Result<&str, Halt>
 #[inline(always)]
 #[tactic(auto, using(crate::proofs::Words::is_text, crate::proofs::Words::no_text))]
 fn text_of(bytes: &[u8]) -> Result<&str, Halt>
-    ensures { (failure : ImageError) (budget : ℕ) →
-        map_answer (λ text. text.now) (with_error failure budget result) ≡ utf8 bytes.now }
+    ensures { map_answer (λ text. text.now) result ≡ utf8 bytes.now }
 {
     match str::from_utf8(bytes) {
         Ok(text) => Ok(text),

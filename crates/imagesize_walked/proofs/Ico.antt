@@ -9,14 +9,12 @@ use Rattle.imagesize_walked.specs.Ico.{ico, icon_entries, icon_entry, icon_answe
 use Rattle.imagesize_types.specs.Largest.{greatest_area, last_largest, area_if_some, later_largest}
 use Rattle.imagesize_types.specs.Order.{area_of}
 use Rattle.imagesize_types.specs.declared.size.ImageSize.{ImageSize}
-use Rattle.imagesize_source.specs.declared.error.ImageError.{ImageError}
-use Rattle.imagesize_source.specs.declared.error.ImageError.TheVariants.{CorruptedImage}
+use Rattle.imagesize_source.specs.declared.halt.Halt.{Halt}
 use Rattle.imagesize_source.specs.declared.halt.Halt.TheVariants.{Corrupted}
 use Rattle.imagesize_source.specs.declared.endian.Endian.TheVariants.{Little}
 use Rattle.imagesize_source.specs.Agreement.{IsLocal}
 use Rattle.imagesize_source.specs.Chain.{Said, Decided, Next, Along, Advances, start, next_record, records, records_from, verdict, chain_at}
 use Rattle.imagesize_source.specs.Counts.{AtMost}
-use Rattle.imagesize_source.specs.Halts.{RunsOrHalts}
 use Rattle.imagesize_source.specs.Input.{span_of}
 use Rattle.imagesize_source.specs.Layout.{Layout, layout_reads, if_there, refuse, done, whole}
 use Rattle.imagesize_source.specs.Reading.{number_at, number_read}
@@ -70,7 +68,7 @@ largest_on best sizes size h = record {
 }
 
 -- what holds of each way that the list ends
-by_answer : (P : Layout (Said ImageSize ImageSize) → Type 0) (best : Option ImageSize) → P (refuse CorruptedImage)
+by_answer : (P : Layout (Said ImageSize ImageSize) → Type 0) (best : Option ImageSize) → P (refuse Corrupted)
     → ((size : ImageSize) → P (done (Decided size))) → P (icon_answer best)
 by_answer P None none some = none
 by_answer P (Some size) none some = some size
@@ -130,7 +128,7 @@ icon_start count a = walks_start (icon_entries count) (Found 0 None) a
     (record { many = refl; largest = record { is = refl; area = refl } })
 
 -- the record of an entry, where there are more
-more_said : {b end : State} {r : Result (Said ImageSize ImageSize) ImageError} (count i : ℕ) (sizes : List ImageSize) (place : ℕ)
+more_said : {b end : State} {r : Result (Said ImageSize ImageSize) Halt} (count i : ℕ) (sizes : List ImageSize) (place : ℕ)
     → i < count → length sizes ≡ i → Runs b end r (layout_reads b.held.input (if_there place 2 (icon_entry sizes place)))
     → Runs b end r (layout_reads b.held.input ((icon_entries count).said sizes place))
 more_said {b} {end} {r} count i sizes place below many run =
@@ -155,7 +153,7 @@ icon_on {a} {b} {end} count i best bytes below w run =
     let at : place + 16 ≡ 6 + 16 * (i + 1) = omega arith in
     subst (λ p. Walks (icon_entries count) (Found (i + 1) (later_largest best (icon_size bytes))) a end p) at on
 
-pub icon_out : {a b end : State} (count i : ℕ) (best : Option ImageSize) (e : ImageError) → i < count → IconWalks count a b i best
+pub icon_out : {a b end : State} (count i : ℕ) (best : Option ImageSize) (e : Halt) → i < count → IconWalks count a b i best
     → Runs {X = Option (List ℕ)} b end (Err e) (layout_reads b.held.input (if_there (6 + 16 * i) 2 done)) → Runs {X = ImageSize} a end (Err e)
     (chain_at (icon_entries count) a.held.input)
 icon_out count i best e below w run =
@@ -168,15 +166,15 @@ answers : (best : Option ImageSize) (sizes : List ImageSize) (d : List ℕ) → 
 answers best sizes d h = ap (λ o. layout_reads d (icon_answer o)) h.is
 
 -- the input ends before an entry
-pub icon_cut : {a b end : State} (failure : ImageError) (count i : ℕ) (best : Option ImageSize) → i < count → IconWalks count a b i best
-    → Runs b end (Ok None) (layout_reads b.held.input (if_there (6 + 16 * i) 2 done)) → RunsOrHalts a end failure (ok_or best Corrupted)
+pub icon_cut : {a b end : State} (count i : ℕ) (best : Option ImageSize) → i < count → IconWalks count a b i best
+    → Runs b end (Ok None) (layout_reads b.held.input (if_there (6 + 16 * i) 2 done)) → Runs a end (ok_or best Corrupted)
     (chain_at (icon_entries count) a.held.input)
-icon_cut failure count i None below w run =
-    walks_out (icon_entries count) (icon_advances count) (Found i None) w CorruptedImage
+icon_cut count i None below w run =
+    walks_out (icon_entries count) (icon_advances count) (Found i None) w Corrupted
     (λ sizes h. more_said count i sizes (6 + 16 * i) below h.many
-    (runs_bind (Err CorruptedImage) (if_there (6 + 16 * i) 2 done) (icon_entry sizes (6 + 16 * i)) run
-    (λ d. answers None sizes d h.largest) refl (record { budget = tt; memory = λ e. absurd cc; fault = λ e. absurd cc })))
-icon_cut failure count i (Some size) below w run =
+    (runs_bind (Err Corrupted) (if_there (6 + 16 * i) 2 done) (icon_entry sizes (6 + 16 * i)) run
+    (λ d. answers None sizes d h.largest) refl (record { budget = λ e. absurd cc; memory = λ e. absurd cc; fault = λ e. absurd cc })))
+icon_cut count i (Some size) below w run =
     walks_stop (icon_entries count) (icon_advances count) (Found i (Some size)) w size
     (λ sizes h. more_said count i sizes (6 + 16 * i) below h.many
     (runs_bind (Ok (Decided size)) (if_there (6 + 16 * i) 2 done) (icon_entry sizes (6 + 16 * i)) run
@@ -190,14 +188,14 @@ end_said count sizes place best d many h =
     sizes d h
 
 -- all entries were read
-pub icon_done : {a b : State} (failure : ImageError) (count i : ℕ) (best : Option ImageSize) → i ≡ count → IsSound b → IconWalks count a b i best
-    → RunsOrHalts a b failure (ok_or best Corrupted) (chain_at (icon_entries count) a.held.input)
-icon_done failure count i None at sound w =
-    walks_now (icon_entries count) (icon_advances count) (Found i None) w (Err CorruptedImage) sound refl
-    (record { budget = tt; memory = λ e. absurd cc; fault = λ e. absurd cc })
+pub icon_done : {a b : State} (count i : ℕ) (best : Option ImageSize) → i ≡ count → IsSound b → IconWalks count a b i best
+    → Runs a b (ok_or best Corrupted) (chain_at (icon_entries count) a.held.input)
+icon_done count i None at sound w =
+    walks_now (icon_entries count) (icon_advances count) (Found i None) w (Err Corrupted) sound refl
+    (record { budget = λ e. absurd cc; memory = λ e. absurd cc; fault = λ e. absurd cc })
     (λ sizes d h. let says = end_said count sizes (6 + 16 * i) None d (h.many ∙ at) h.largest in
     (ap (λ r. verdict r.answer) says, ap (λ r. r.marks) says))
-icon_done failure count i (Some size) at sound w =
+icon_done count i (Some size) at sound w =
     walks_now (icon_entries count) (icon_advances count) (Found i (Some size)) w (Ok size) sound refl tt
     (λ sizes d h. let says = end_said count sizes (6 + 16 * i) (Some size) d (h.many ∙ at) h.largest in
     (ap (λ r. verdict r.answer) says, ap (λ r. r.marks) says))

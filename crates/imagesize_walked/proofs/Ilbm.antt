@@ -2,7 +2,7 @@
 use Rattle.std.proofs.Common.{false, ℕ, ◌+◌, ◌*◌, ◌<◌, ◌≤◌, true, List, length, arith}
 use Rattle.imagesize_walked.specs.Ilbm.{ilbm, ilbm_chunks, ilbm_named, bitmap_header, chunk_bytes, chunk_length, is_bitmap_header, is_body}
 use Rattle.imagesize_types.specs.declared.size.ImageSize.{ImageSize}
-use Rattle.imagesize_source.specs.declared.error.ImageError.TheVariants.{CorruptedImage}
+use Rattle.imagesize_source.specs.declared.halt.Halt.TheVariants.{Corrupted}
 use Rattle.imagesize_source.specs.Agreement.{IsLocal}
 use Rattle.imagesize_source.specs.Chain.{Said, Next, Advances, records}
 use Rattle.imagesize_source.specs.Counts.{AtMost}
@@ -19,11 +19,11 @@ use Rattle.imagesize_source.proofs.Tests.{on_test}
 use Rattle.imagesize_source.proofs.Way.{RecordedLaws, answers_last}
 
 -- what holds of each chunk, by its name
-by_name : (P : Layout (Said (Unit {0}) ImageSize) → Type 0) (place : ℕ) (head : List ℕ) → P (refuse CorruptedImage)
+by_name : (P : Layout (Said (Unit {0}) ImageSize) → Type 0) (place : ℕ) (head : List ℕ) → P (refuse Corrupted)
     → P (bitmap_header place) → P (done (Next tt (place + chunk_bytes (chunk_length head)))) → P (ilbm_named place head)
 by_name P place head body header other =
     on_test P (is_bitmap_header head) (bitmap_header place) _ (λ _. header)
-    (λ _. on_test P (is_body head) (refuse CorruptedImage) (done (Next tt (place + chunk_bytes (chunk_length head)))) (λ _. body)
+    (λ _. on_test P (is_body head) (refuse Corrupted) (done (Next tt (place + chunk_bytes (chunk_length head)))) (λ _. body)
     (λ _. other))
 
 ilbm_advances : (d : List ℕ) → Advances ilbm_chunks d

@@ -6,8 +6,8 @@ use Rattle.std.specs.Prelude.{count_by}
 use Rattle.imagesize_walked.specs.Jpeg.{jpeg, jpeg_segments, jpeg_segment, jpeg_marked, jpeg_frame, jpeg_other, is_own_frame, is_own_end, depth}
 use Rattle.imagesize_walked.specs.Walks.{depth_behind, LeadsTo, LeadsOn, Nested, Stands}
 use Rattle.imagesize_types.specs.declared.size.ImageSize.{ImageSize}
-use Rattle.imagesize_source.specs.declared.error.ImageError.{ImageError}
-use Rattle.imagesize_source.specs.declared.error.ImageError.TheVariants.{CorruptedImage}
+use Rattle.imagesize_source.specs.declared.halt.Halt.{Halt}
+use Rattle.imagesize_source.specs.declared.halt.Halt.TheVariants.{Corrupted}
 use Rattle.imagesize_source.specs.Agreement.{IsLocal}
 use Rattle.imagesize_source.specs.Chain.{Said, Decided, Next, Advances, records, start}
 use Rattle.imagesize_source.specs.Counts.{AtMost}
@@ -19,7 +19,6 @@ use Rattle.imagesize_source.specs.Reading.{Reads, put_behind, bytes_at, number_a
 use Rattle.imagesize_source.specs.Paying.{Nears}
 use Rattle.imagesize_source.specs.State.{State, Runs, total}
 use Rattle.imagesize_source.specs.Walk.{CanFollow, KeepsOn, said_at}
-use Rattle.imagesize_source.specs.declared.halt.Halt.{Halt}
 use Rattle.imagesize_source.specs.declared.walk.Found.{Found}
 use Rattle.imagesize_source.proofs.Advances.{Tells, advances, tells}
 use Rattle.imagesize_source.proofs.PastTheEnd.{bytes_beyond}
@@ -33,13 +32,13 @@ use Rattle.imagesize_source.proofs.Tests.{on_test}
 use Rattle.imagesize_source.proofs.Way.{RecordedLaws, answers_last}
 
 -- what holds of each way that a segment can go
-by_head : (P : Layout (Said ℕ ImageSize) → Type 0) (k place : ℕ) (head : List ℕ) → P (refuse CorruptedImage) → P (jpeg_frame place)
+by_head : (P : Layout (Said ℕ ImageSize) → Type 0) (k place : ℕ) (head : List ℕ) → P (refuse Corrupted) → P (jpeg_frame place)
     → ((marker : ℕ) → P (jpeg_other place marker)) → P (cond (eqb (slice_index head 0) 0xFF) (jpeg_marked k place (slice_index head 1))
-    (refuse CorruptedImage))
+    (refuse Corrupted))
 by_head P k place head none frame other =
-    on_test P (eqb (slice_index head 0) 0xFF) (jpeg_marked k place (slice_index head 1)) (refuse CorruptedImage)
+    on_test P (eqb (slice_index head 0) 0xFF) (jpeg_marked k place (slice_index head 1)) (refuse Corrupted)
     (λ _. on_test P (is_own_frame k (slice_index head 1)) (jpeg_frame place) _ (λ _. frame)
-    (λ _. on_test P (is_own_end k (slice_index head 1)) (refuse CorruptedImage) (jpeg_other place (slice_index head 1)) (λ _. none)
+    (λ _. on_test P (is_own_end k (slice_index head 1)) (refuse Corrupted) (jpeg_other place (slice_index head 1)) (λ _. none)
     (λ _. other (slice_index head 1))))
     (λ _. none)
 
@@ -56,14 +55,14 @@ jpeg_lasts = lasts_chain jpeg_segments jpeg_advances
 marked_at_most : (k place marker : ℕ) → AtMost 4 (jpeg_marked k place marker)
 marked_at_most k place marker =
     on_test (AtMost 4) (is_own_frame k marker) (jpeg_frame place) _ (λ _. (omega arith, λ height. (omega arith, λ width. tt)))
-    (λ _. on_test (AtMost 4) (is_own_end k marker) (refuse CorruptedImage) (jpeg_other place marker) (λ _. tt)
+    (λ _. on_test (AtMost 4) (is_own_end k marker) (refuse Corrupted) (jpeg_other place marker) (λ _. tt)
     (λ _. (omega arith, λ length. tt)))
 
 segment_at_most : (k place : ℕ) → AtMost 6 (jpeg_segment k place)
 segment_at_most k place = (
   omega arith,
   λ head. on_test (AtMost 4) (eqb (slice_index head 0) 0xFF)
-      (jpeg_marked k place (slice_index head 1)) (refuse CorruptedImage) (λ _. marked_at_most k place (slice_index head 1)) (λ _. tt),
+      (jpeg_marked k place (slice_index head 1)) (refuse Corrupted) (λ _. marked_at_most k place (slice_index head 1)) (λ _. tt),
 )
 
 -- what is seen of an input
@@ -118,7 +117,7 @@ stands_on k behind place markers (Ok found) a b h leads nears = stands_next k be
 stands_on k behind place markers (Err why) a b h leads nears = tt
 
 -- it is the segment behind these markers
-pub segment_as : {a b : State} {r : Result (Said ℕ ImageSize) ImageError} (k place : ℕ)
+pub segment_as : {a b : State} {r : Result (Said ℕ ImageSize) Halt} (k place : ℕ)
     → Runs a b r (layout_reads a.held.input (jpeg_segment k place)) → (markers : List ℕ) → Stands k markers place
     → Runs a b r (layout_reads a.held.input (jpeg_segment (depth markers) place))
 segment_as {a} {b} {r} k place run markers h =
@@ -129,7 +128,7 @@ pub jpeg_follows : CanFollow jpeg_segments
 jpeg_follows = record {
   advances = jpeg_advances;
   beyond = λ markers place d h. bytes_beyond d place 2 (λ head. cond (eqb (slice_index head 0) 0xFF)
-      (jpeg_marked (depth markers) place (slice_index head 1)) (refuse CorruptedImage)) h (omega arith);
+      (jpeg_marked (depth markers) place (slice_index head 1)) (refuse Corrupted)) h (omega arith);
 }
 
 -- What may be read from a place on: the bytes there, and 6 more where a segment can begin. A length below 2
@@ -172,11 +171,11 @@ segment_used d k place = on_answer (Used d place) (span_of d place 2) (bytes_at 
     let first : slice_index d place ≡ slice_index head 0 = sym (part_first d place 2 (omega arith)) ∙ ap (λ bs. slice_index bs 0)
     (bytes_is d head place 2 got) in
     let P : Layout (Said ℕ ImageSize) → Type 0 = λ t. Used d place (put_behind (span_of d place 2) (layout_reads d t)) in
-    on_test P (eqb (slice_index head 0) 0xFF) (jpeg_marked k place (slice_index head 1)) (refuse CorruptedImage)
+    on_test P (eqb (slice_index head 0) 0xFF) (jpeg_marked k place (slice_index head 1)) (refuse Corrupted)
     (λ is. let ff : slice_index head 0 ≡ 0xFF = grind (arith, nat_tests) in
     on_test P (is_own_frame k (slice_index head 1)) (jpeg_frame place) _
     (λ _ m next says. absurd (tells (λ _. ⊥) d (jpeg_frame place) m next (λ height width. tt) says))
-    (λ _. on_test P (is_own_end k (slice_index head 1)) (refuse CorruptedImage) (jpeg_other place (slice_index head 1))
+    (λ _. on_test P (is_own_end k (slice_index head 1)) (refuse Corrupted) (jpeg_other place (slice_index head 1))
     (λ _ m next says. absurd cc)
     (λ _. other_used d place (slice_index head 1) begun (first ∙ ff))))
     (λ _ m next says. absurd cc))
@@ -190,7 +189,7 @@ segment_allowed d k place = on_answer (λ w. total w.marks ≤ allowed d place) 
     (bytes_is d head place 2 got) in
     let here = total-span_of d place 2 in
     let P : Layout (Said ℕ ImageSize) → Type 0 = λ t. total (span_of d place 2 ++ (layout_reads d t).marks) ≤ allowed d place in
-    on_test P (eqb (slice_index head 0) 0xFF) (jpeg_marked k place (slice_index head 1)) (refuse CorruptedImage)
+    on_test P (eqb (slice_index head 0) 0xFF) (jpeg_marked k place (slice_index head 1)) (refuse Corrupted)
     (λ is. let ff : slice_index head 0 ≡ 0xFF = grind (arith, nat_tests) in
     let all = total-append (span_of d place 2) (layout_reads d (jpeg_marked k place (slice_index head 1))).marks in
     let rest = at_most d 4 (jpeg_marked k place (slice_index head 1)) (marked_at_most k place (slice_index head 1)) in

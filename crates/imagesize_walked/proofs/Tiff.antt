@@ -13,9 +13,8 @@ use Rattle.imagesize_walked.specs.declared.formats.tiff.FieldType.{FieldType}
 use Rattle.imagesize_walked.specs.declared.formats.tiff.Version.{Version}
 use Rattle.imagesize_walked.specs.declared.formats.tiff.Version.TheVariants.{Tiff, BigTiff}
 use Rattle.imagesize_types.specs.declared.size.ImageSize.{ImageSize}
-use Rattle.imagesize_source.specs.declared.error.ImageError.{ImageError}
-use Rattle.imagesize_source.specs.declared.error.ImageError.TheVariants.{IoError}
-use Rattle.imagesize_source.specs.declared.error.Reason.TheVariants.{InvalidIfdValueLength, NoDimensionsInIfd}
+use Rattle.imagesize_source.specs.declared.halt.Halt.{Halt}
+use Rattle.imagesize_source.specs.declared.halt.Halt.TheVariants.{Ended, InvalidIfdValueLength, NoDimensionsInIfd}
 use Rattle.imagesize_source.specs.declared.endian.Endian.{Endian}
 use Rattle.imagesize_source.specs.Agreement.{IsLocal}
 use Rattle.imagesize_source.specs.Chain.{Said, Decided, Next, Chain, Along, Advances, start, next_record, records, records_from, verdict, chain_at, chain_from}
@@ -25,7 +24,7 @@ use Rattle.imagesize_source.specs.Input.{span_of}
 use Rattle.imagesize_source.specs.Layout.{Layout, layout_reads, bind, whole, accept}
 use Rattle.imagesize_source.specs.Layout.Layout.{field, refuse, «done»}
 use Rattle.imagesize_source.specs.Numbers.{number}
-use Rattle.imagesize_source.specs.Reading.{and_then, go_on, end_of_input, number_at, number_read, refuses, map_answer}
+use Rattle.imagesize_source.specs.Reading.{and_then, go_on, number_at, number_read, refuses, map_answer}
 use Rattle.imagesize_source.specs.State.{State, Runs, IsSound, total}
 use Rattle.imagesize_source.proofs.Advances.{Tells, Begins, advances}
 use Rattle.imagesize_source.proofs.Ahead.{Ahead, chain_ahead}
@@ -44,19 +43,19 @@ use Rattle.imagesize_source.proofs.Walks.{Walks, walks_start, walks_on, walks_st
 use Rattle.imagesize_source.proofs.Lists.{last_push}
 
 -- what holds of a refusal and of what goes on
-by_accepted : {X Y Z : Type 0} (P : Layout Z → Type 0) (r : Result X ImageError) (f : X → Layout Y) (g : Y → Layout Z)
-    → ((e : ImageError) → P (refuse e)) → ((x : X) → P (bind (f x) g)) → P (bind (accept r f) g)
+by_accepted : {X Y Z : Type 0} (P : Layout Z → Type 0) (r : Result X Halt) (f : X → Layout Y) (g : Y → Layout Z)
+    → ((e : Halt) → P (refuse e)) → ((x : X) → P (bind (f x) g)) → P (bind (accept r f) g)
 by_accepted P (Ok x) f g out on = on x
 by_accepted P (Err e) f g out on = out e
 
 -- and of a value that is cut, and of one that is whole
 by_whole : {Y Z : Type 0} (P : Layout Z → Type 0) (found : Option (List ℕ)) (f : List ℕ → Layout Y) (g : Y → Layout Z)
-    → P (refuse (IoError InvalidIfdValueLength)) → ((value : List ℕ) → P (bind (f value) g))
+    → P (refuse InvalidIfdValueLength) → ((value : List ℕ) → P (bind (f value) g))
     → P (bind (bind (accept (whole_value found) done) f) g)
 by_whole P None f g cut on = cut
 by_whole P (Some value) f g cut on = on (take 4 value)
 
-accepted_at_most : {X Y : Type 0} (k : ℕ) (r : Result X ImageError) (f : X → Layout Y) → ((x : X) → AtMost k (f x))
+accepted_at_most : {X Y : Type 0} (k : ℕ) (r : Result X Halt) (f : X → Layout Y) → ((x : X) → AtMost k (f x))
     → AtMost k (accept r f)
 accepted_at_most k (Ok x) f each = each x
 accepted_at_most k (Err e) f each = tt
@@ -79,7 +78,7 @@ record_behind header entries place = bind (tiff_entry header place) (says header
 
 -- what holds where a field type is refused and where its value is read
 by_field_type : (P : Layout (Said Entry ImageSize) → Type 0) (header : Header) (entries : List Entry) (place : ℕ) (head : List ℕ)
-    → ((e : ImageError) → P (refuse e))
+    → ((e : Halt) → P (refuse e))
     → ((field_type : FieldType) → P
     (bind (bind (tiff_value header.version (place + head_bytes header.version))
     (λ value. done (entry_of header head field_type value))) (says header entries place)))
@@ -97,7 +96,7 @@ by_completed P (Some x) entry next stop on = stop x
 
 -- and where the value is cut, where the entry completes the size and where it does not
 by_value : (P : Layout (Said Entry ImageSize) → Type 0) (header : Header) (entries : List Entry) (place : ℕ) (head : List ℕ)
-    (field_type : FieldType) (value : List ℕ) → P (refuse (IoError InvalidIfdValueLength))
+    (field_type : FieldType) (value : List ℕ) → P (refuse InvalidIfdValueLength)
     → ((size : ImageSize) → P (done (Decided size))) → ((entry : Entry) → P (done (Next entry (place + entry_bytes header.version))))
     → P (bind (bind (accept (whole_value (whole (value_bytes header.version) value)) done)
     (λ value. done (entry_of header head field_type value))) (says header entries place))
@@ -109,8 +108,8 @@ by_value P header entries place head field_type value cut stop on =
 
 -- what holds of each record
 by_count : (P : Layout (Said Entry ImageSize) → Type 0) (header : Header) (count : ℕ) (entries : List Entry) (place : ℕ)
-    → P (refuse (IoError NoDimensionsInIfd)) → P (record_behind header entries place) → P ((tiff_entries header count).said entries place)
-by_count P header count entries place end entry = on_test P (eqb (length entries) count) (refuse (IoError NoDimensionsInIfd))
+    → P (refuse NoDimensionsInIfd) → P (record_behind header entries place) → P ((tiff_entries header count).said entries place)
+by_count P header count entries place end entry = on_test P (eqb (length entries) count) (refuse NoDimensionsInIfd)
     (record_behind header entries place) (λ _. end) (λ _. entry)
 
 record_tells : (header : Header) (entries : List Entry) (place : ℕ) → Tells (λ p. place < p) (record_behind header entries place)
@@ -198,33 +197,33 @@ place_on header i place behind_head next at head value =
     omega (arith, at, head, value, entry)
 
 -- no input is so long that an entry stands beyond 64 bits
-entry_beyond : (d : List ℕ) (header : Header) (place : ℕ) → length d ≤ place → layout_reads d (tiff_entry header place) ≡ refuses end_of_input
+entry_beyond : (d : List ℕ) (header : Header) (place : ℕ) → length d ≤ place → layout_reads d (tiff_entry header place) ≡ refuses Ended
 unfolding tiff_entry tiff_head
 entry_beyond d header place h = bytes_beyond d place (head_bytes header.version)
     (λ head. accept (field_type_of header.version (field_type_in header.order (take 4 head)))
     (λ field_type. bind (tiff_value header.version (place + head_bytes header.version))
     (λ value. done (entry_of header (take 4 head) field_type value)))) h (head_some header.version)
 
-entry_saturated : {a b : State} {r : Result Entry ImageError} (header : Header) (place : ℕ)
+entry_saturated : {a b : State} {r : Result Entry Halt} (header : Header) (place : ℕ)
     → Runs a b r (layout_reads a.held.input (tiff_entry header (min place (2 ^ 64 - 1))))
     → Runs a b r (layout_reads a.held.input (tiff_entry header place))
-entry_saturated header place h = saturated_by (λ p d. layout_reads d (tiff_entry header p)) (refuses end_of_input) place
+entry_saturated header place h = saturated_by (λ p d. layout_reads d (tiff_entry header p)) (refuses Ended) place
     (λ d p far. entry_beyond d header p far) h
 
 -- the record of an entry, where there are more
-more_said : {b end : State} {r : Result (Said Entry ImageSize) ImageError} (header : Header) (count i : ℕ) (entries : List Entry)
+more_said : {b end : State} {r : Result (Said Entry ImageSize) Halt} (header : Header) (count i : ℕ) (entries : List Entry)
     (place : ℕ) → i < count → length entries ≡ i → Runs b end r (layout_reads b.held.input (record_behind header entries place))
     → Runs b end r (layout_reads b.held.input ((tiff_entries header count).said entries place))
 more_said {b} {end} {r} header count i entries place below many run =
     let more : eqb (length entries) count ≡ false = grind (arith, nat_tests) in
     subst (λ t. Runs b end r (layout_reads b.held.input t))
-    (sym (ap (λ test. cond test (refuse (IoError NoDimensionsInIfd)) (record_behind header entries place)) more)) run
+    (sym (ap (λ test. cond test (refuse NoDimensionsInIfd) (record_behind header entries place)) more)) run
 
 -- at the entry of an index, whose place is held at the greatest
 module _ {a b : State} (header : Header) (count i : ℕ) (width height : Option ℕ) (below : i < count)
     (w : TiffWalks header count a b i width height) (place : ℕ) (at : place ≡ min (entry_at header i) (2 ^ 64 - 1)) where
   -- the record, by the entry that was read
-  entry_read : {end : State} {r : Result Entry ImageError} → Runs b end r (layout_reads b.held.input (tiff_entry header place))
+  entry_read : {end : State} {r : Result Entry Halt} → Runs b end r (layout_reads b.held.input (tiff_entry header place))
       → Runs b end r (layout_reads b.held.input (tiff_entry header (entry_at header i)))
   entry_read {end} {r} run = entry_saturated header (entry_at header i)
       (subst (λ p. Runs b end r (layout_reads b.held.input (tiff_entry header p))) at run)
@@ -267,7 +266,7 @@ module _ {a b : State} (header : Header) (count i : ℕ) (width height : Option 
       (entry_said entry wide high (Some size) is_wide is_high is run)
 
   -- or where the entry is refused
-  pub tiff_out : {end : State} (e : ImageError) → Runs {X = Entry} b end (Err e) (layout_reads b.held.input (tiff_entry header place))
+  pub tiff_out : {end : State} (e : Halt) → Runs {X = Entry} b end (Err e) (layout_reads b.held.input (tiff_entry header place))
       → Runs {X = ImageSize} a end (Err e) (chain_at (tiff_entries header count) a.held.input)
   tiff_out e run =
       walks_out (tiff_entries header count) (entries_advance header count) (Known i width height) w e
@@ -275,18 +274,18 @@ module _ {a b : State} (header : Header) (count i : ℕ) (width height : Option 
       (refused_bind (tiff_entry header (entry_at header i)) (says header entries (entry_at header i)) (entry_read run)))
 
 end_said : (header : Header) (count : ℕ) (entries : List Entry) (place : ℕ) (d : List ℕ) → length entries ≡ count
-    → layout_reads d ((tiff_entries header count).said entries place) ≡ layout_reads d (refuse (IoError NoDimensionsInIfd))
+    → layout_reads d ((tiff_entries header count).said entries place) ≡ layout_reads d (refuse NoDimensionsInIfd)
 end_said header count entries place d many =
     let all : eqb (length entries) count ≡ true = grind (arith, nat_tests) in
-    ap (λ test. layout_reads d (cond test (refuse (IoError NoDimensionsInIfd)) (record_behind header entries place))) all
+    ap (λ test. layout_reads d (cond test (refuse NoDimensionsInIfd) (record_behind header entries place))) all
 
 -- all entries were read
 pub tiff_done : {a b : State} (header : Header) (count i : ℕ) (width height : Option ℕ) → i ≡ count → IsSound b
-    → TiffWalks header count a b i width height → Runs a b (Err (IoError NoDimensionsInIfd))
+    → TiffWalks header count a b i width height → Runs a b (Err NoDimensionsInIfd)
     (chain_at (tiff_entries header count) a.held.input)
 tiff_done header count i width height at sound w =
-    walks_now (tiff_entries header count) (entries_advance header count) (Known i width height) w (Err (IoError NoDimensionsInIfd)) sound
-    refl (record { budget = tt; memory = λ e. absurd cc; fault = λ e. absurd cc })
+    walks_now (tiff_entries header count) (entries_advance header count) (Known i width height) w (Err NoDimensionsInIfd) sound
+    refl (record { budget = λ e. absurd cc; memory = λ e. absurd cc; fault = λ e. absurd cc })
     (λ entries d h. let says = end_said header count entries (entry_at header i) d (h.many ∙ at) in
     (ap (λ r. verdict r.answer) says, ap (λ r. r.marks) says))
 
@@ -389,7 +388,7 @@ tiff_within d = omega (
 ends_at : (header : Header) (count : ℕ) (d : List ℕ) (t : Along Entry) (entry : Entry) (place : ℕ)
     → (next_record (tiff_entries header count) d t).answer ≡ Ok (Next entry place) → length t.held ≡ count → ⊥
 ends_at header count d t entry place is at =
-    let out : Err (IoError NoDimensionsInIfd) ≡ Ok (Next entry place) =
+    let out : Err NoDimensionsInIfd ≡ Ok (Next entry place) =
     sym (ap (λ r. r.answer) (end_said header count t.held t.place d at)) ∙ is in
     absurd cc
 
@@ -398,7 +397,7 @@ record_cost : (header : Header) (count : ℕ) (entries : List Entry) (place : �
     → AtMost (20 * min 1 (count - length entries)) ((tiff_entries header count).said entries place)
 record_cost header count entries place fits =
     let k : ℕ = 20 * min 1 (count - length entries) in
-    on_test (AtMost k) (eqb (length entries) count) (refuse (IoError NoDimensionsInIfd)) (record_behind header entries place) (λ _. tt)
+    on_test (AtMost k) (eqb (length entries) count) (refuse NoDimensionsInIfd) (record_behind header entries place) (λ _. tt)
     (λ more.
     let below : length entries < count = grind (arith, nat_tests) in
     at_most_more 20 k (record_behind header entries place) (omega arith) (record_at_most header entries place))
@@ -464,7 +463,7 @@ record_plain header entries place = λ head. by_field_type Plain header entries 
       by_value Plain header entries place (take 4 head) field_type value tt (λ size. tt) (λ entry. tt),
     ))
 
-accepted_plain : {X Y : Type 0} (r : Result X ImageError) (f : X → Layout Y) → ((x : X) → Plain (f x)) → Plain (accept r f)
+accepted_plain : {X Y : Type 0} (r : Result X Halt) (f : X → Layout Y) → ((x : X) → Plain (f x)) → Plain (accept r f)
 accepted_plain (Ok x) f each = each x
 accepted_plain (Err e) f each = tt
 
@@ -493,7 +492,7 @@ count_more d x order place k count is = ap (map_answer (number order)) (bytes_mo
 directory_lasts : (d x : List ℕ) (header : Header) (size : ImageSize) → (tiff_directory d header).answer ≡ Ok size
     → (tiff_directory (d ++ x) header).answer ≡ Ok size
 directory_lasts d x header size = by_count_read (number_at d header.order header.directory (count_bytes header.version)) refl where
-  by_count_read : (r : Result ℕ ImageError) → number_at d header.order header.directory (count_bytes header.version) ≡ r
+  by_count_read : (r : Result ℕ Halt) → number_at d header.order header.directory (count_bytes header.version) ≡ r
       → (go_on (span_of d header.directory (count_bytes header.version)) r (λ count. chain_at (tiff_entries header count) d)).answer
       ≡ Ok size → (tiff_directory (d ++ x) header).answer ≡ Ok size
   by_count_read (Ok count) read is =
@@ -507,7 +506,7 @@ directory_lasts d x header size = by_count_read (number_at d header.order header
 -- bytes that follow change no size
 pub tiff_lasts : (d x : List ℕ) (size : ImageSize) → (tiff d).answer ≡ Ok size → (tiff (d ++ x)).answer ≡ Ok size
 tiff_lasts d x size = by_header (layout_reads d tiff_header).answer refl where
-  by_header : (r : Result Header ImageError) → (layout_reads d tiff_header).answer ≡ r
+  by_header : (r : Result Header Halt) → (layout_reads d tiff_header).answer ≡ r
       → (go_on (layout_reads d tiff_header).marks r (tiff_directory d)).answer ≡ Ok size → (tiff (d ++ x)).answer ≡ Ok size
   by_header (Ok header) read is =
       let same = more d x tiff_header header header_plain read in
@@ -518,7 +517,7 @@ tiff_lasts d x size = by_header (layout_reads d tiff_header).answer refl where
 -- an entry is of bytes alone
 entry_of_bytes : (header : Header) (count : ℕ) (entries : List Entry) (place : ℕ) → AllRead false ((tiff_entries header count).said entries place)
 entry_of_bytes header count entries place =
-    on_test (AllRead false) (eqb (length entries) count) (refuse (IoError NoDimensionsInIfd)) (record_behind header entries place) (λ _. tt)
+    on_test (AllRead false) (eqb (length entries) count) (refuse NoDimensionsInIfd) (record_behind header entries place) (λ _. tt)
     (λ _. without_texts false 20 (record_behind header entries place) (record_at_most header entries place))
 
 -- what is seen of an input

@@ -3,7 +3,7 @@ use Rattle.std.specs.Prelude.{ℕ, ◌+◌, ◌==◌, min, Bool, List, [], ◌�
 use Rattle.imagesize_types.specs.Head.{begins}
 use Rattle.imagesize_types.specs.Largest.{last_largest}
 use Rattle.imagesize_types.specs.declared.size.ImageSize.{ImageSize}
-use Rattle.imagesize_source.specs.declared.error.ImageError.TheVariants.{CorruptedImage}
+use Rattle.imagesize_source.specs.declared.halt.Halt.TheVariants.{Corrupted}
 use Rattle.imagesize_source.specs.declared.endian.Endian.TheVariants.{Little}
 use Rattle.imagesize_source.specs.Chain.{Said, Decided, Next, Chain, chain_at, records, count_behind}
 use Rattle.imagesize_source.specs.Layout.{Layout, if_there}
@@ -25,7 +25,7 @@ icon_size bytes = record { width = icon_side (slice_index bytes 0); height = ico
 -- what is answered at the end of the list: of the entries that are there those of greatest area, and of these
 -- the last
 abbrev pub icon_answer : Option ImageSize → Layout (Said ImageSize ImageSize)
-icon_answer None = refuse CorruptedImage
+icon_answer None = refuse Corrupted
 icon_answer (Some size) = done (Decided size)
 
 -- an entry, behind those of these sizes: 16 bytes; the end of the input ends the list

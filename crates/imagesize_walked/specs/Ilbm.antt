@@ -2,7 +2,7 @@
 use Rattle.std.specs.Prelude.{ℕ, ◌+◌, ◌%◌, Bool, List, codes, drop, ◌||◌, ◌&&◌, if◌then◌else◌}
 use Rattle.imagesize_types.specs.Head.{begins, stands_at}
 use Rattle.imagesize_types.specs.declared.size.ImageSize.{ImageSize}
-use Rattle.imagesize_source.specs.declared.error.ImageError.TheVariants.{CorruptedImage}
+use Rattle.imagesize_source.specs.declared.halt.Halt.TheVariants.{Corrupted}
 use Rattle.imagesize_source.specs.declared.endian.Endian.TheVariants.{Big}
 use Rattle.imagesize_source.specs.Chain.{Said, Decided, Next, Chain, chain_at}
 use Rattle.imagesize_source.specs.Layout.{Layout, bytes}
@@ -38,7 +38,7 @@ chunk_length head = number Big (drop 4 head)
 abbrev pub ilbm_named : ℕ → List ℕ → Layout (Said (Unit {0}) ImageSize)
 ilbm_named place head =
     if is_bitmap_header head then bitmap_header place
-    else if is_body head then refuse CorruptedImage
+    else if is_body head then refuse Corrupted
     else done (Next tt (place + chunk_bytes (chunk_length head)))
 
 abbrev pub ilbm_chunk : ℕ → Layout (Said (Unit {0}) ImageSize)

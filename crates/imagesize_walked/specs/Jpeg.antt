@@ -2,7 +2,7 @@
 use Rattle.std.specs.Prelude.{ℕ, ◌+◌, ◌-◌, Bool, ◌&&◌, ◌||◌, not, List, [], ◌∷◌, ◌==◌, nat_le, if◌then◌else◌, slice_index, count_by}
 use Rattle.imagesize_types.specs.Head.{begins}
 use Rattle.imagesize_types.specs.declared.size.ImageSize.{ImageSize}
-use Rattle.imagesize_source.specs.declared.error.ImageError.TheVariants.{CorruptedImage}
+use Rattle.imagesize_source.specs.declared.halt.Halt.TheVariants.{Corrupted}
 use Rattle.imagesize_source.specs.declared.endian.Endian.TheVariants.{Big}
 use Rattle.imagesize_source.specs.Chain.{Said, Decided, Next, Chain, chain_at}
 use Rattle.imagesize_source.specs.Layout.{Layout, bytes}
@@ -49,13 +49,13 @@ is_own_end depth marker = depth == 0 && marker == 0xD9
 abbrev pub jpeg_marked : ℕ → ℕ → ℕ → Layout (Said ℕ ImageSize)
 jpeg_marked depth place marker =
     if is_own_frame depth marker then jpeg_frame place
-    else if is_own_end depth marker then refuse CorruptedImage
+    else if is_own_end depth marker then refuse Corrupted
     else jpeg_other place marker
 
 -- a segment begins with FF and its marker (B.1.1.2)
 abbrev pub jpeg_segment : ℕ → ℕ → Layout (Said ℕ ImageSize)
 jpeg_segment depth place = bytes place 2 (λ head.
-    if slice_index head 0 == 0xFF then jpeg_marked depth place (slice_index head 1) else refuse CorruptedImage)
+    if slice_index head 0 == 0xFF then jpeg_marked depth place (slice_index head 1) else refuse Corrupted)
 
 -- the segments behind the start of the image, which hold their markers
 abbrev pub jpeg_segments : Chain ℕ ImageSize

@@ -10,14 +10,11 @@ use Rattle.imagesize_walked.specs.declared.formats.tiff.FieldType.{FieldType}
 use Rattle.imagesize_walked.specs.declared.formats.tiff.FieldType.TheVariants.{Short, Long, Other}
 use Rattle.imagesize_walked.specs.declared.formats.tiff.Version.{Version}
 use Rattle.imagesize_walked.specs.declared.formats.tiff.Version.TheVariants.{Tiff, BigTiff}
-use Rattle.imagesize_source.specs.declared.error.ImageError.{ImageError}
-use Rattle.imagesize_source.specs.declared.error.ImageError.TheVariants.{IoError}
-use Rattle.imagesize_source.specs.declared.error.Reason.TheVariants.{InvalidTiffHeader, BigTiffOffsetSize, InvalidBigTiffHeader, InvalidIfdOffset, IfdTypeForStandardTiff, InvalidIfdType, InvalidIfdValueLength, NoDimensionsInIfd}
 use Rattle.imagesize_source.specs.declared.halt.Halt.{Halt}
+use Rattle.imagesize_source.specs.declared.halt.Halt.TheVariants.{BigTiffOffsetSize, IfdTypeForStandardTiff, InvalidBigTiffHeader, InvalidIfdOffset, InvalidIfdType, InvalidIfdValueLength, InvalidTiffHeader, NoDimensionsInIfd}
 use Rattle.imagesize_source.specs.declared.endian.Endian.{Endian}
 use Rattle.imagesize_source.specs.declared.endian.Endian.TheVariants.{Little, Big}
 use Rattle.imagesize_source.specs.Chain.{Said, Decided, Next, Chain, chain_at, records, count_behind}
-use Rattle.imagesize_source.specs.Halts.{error_by}
 use Rattle.imagesize_source.specs.Layout.{Layout, layout_reads, bind, bytes, if_there, accept}
 use Rattle.imagesize_source.specs.Layout.Layout.{field, refuse, «done»}
 use Rattle.imagesize_source.specs.Numbers.{number}
@@ -28,30 +25,25 @@ unfoldable pub is_tiff : List ℕ → Bool
 is_tiff head = (begins (codes "II" ++ 42 ∷ 0 ∷ []) head || begins (codes "II" ++ 43 ∷ 0 ∷ []) head) ||
     (begins (codes "MM" ++ 0 ∷ 42 ∷ []) head || begins (codes "MM" ++ 0 ∷ 43 ∷ []) head)
 
--- an answer, where a halt stands for its error whichever call failed and whatever the budget is
-abbrev pub StandsFor : {X : Type 0} → Result X Halt → Result X ImageError → Type 0
-StandsFor (Ok x) answer = Ok x ≡ answer
-StandsFor (Err why) answer = (failure : ImageError) (budget : ℕ) → Err (error_by failure budget why) ≡ answer
-
 -- the order of all numbers, by the first two bytes
-abbrev pub byte_order : List ℕ → Result Endian ImageError
+abbrev pub byte_order : List ℕ → Result Endian Halt
 byte_order mark = if begins (codes "II") mark then Ok Little else if begins (codes "MM") mark then Ok Big
-    else Err (IoError InvalidTiffHeader)
+    else Err InvalidTiffHeader
 
 -- the number behind the order: 42, and 43 of BigTIFF
-abbrev pub version_of : ℕ → Result Version ImageError
-version_of number = if number == 42 then Ok Tiff else if number == 43 then Ok BigTiff else Err (IoError InvalidTiffHeader)
+abbrev pub version_of : ℕ → Result Version Halt
+version_of number = if number == 42 then Ok Tiff else if number == 43 then Ok BigTiff else Err InvalidTiffHeader
 
 -- the place of the first directory; in BigTIFF behind the size of a place, which is 8, and two bytes that are zero
 unfoldable pub stated_place : Endian → Version → Layout ℕ
 stated_place order Tiff = field order 4 4 done
 stated_place order BigTiff = field order 4 2 (λ size.
-    if size == 8 then field order 6 2 (λ zeros. if zeros == 0 then field order 8 8 done else refuse (IoError InvalidBigTiffHeader))
-    else refuse (IoError BigTiffOffsetSize))
+    if size == 8 then field order 6 2 (λ zeros. if zeros == 0 then field order 8 8 done else refuse InvalidBigTiffHeader)
+    else refuse BigTiffOffsetSize)
 
 -- it is never 0
-abbrev pub directory_at : Endian → Version → ℕ → Result Header ImageError
-directory_at order version place = if place == 0 then Err (IoError InvalidIfdOffset)
+abbrev pub directory_at : Endian → Version → ℕ → Result Header Halt
+directory_at order version place = if place == 0 then Err InvalidIfdOffset
     else Ok (record { order = order; version = version; directory = place })
 
 -- the header ("Image File Header")
@@ -81,19 +73,19 @@ entry_bytes version = head_bytes version + value_bytes version
 
 -- Field types ("Types"): 1 BYTE, 2 ASCII, 3 SHORT, 4 LONG, 5 RATIONAL, 6 SBYTE, 7 UNDEFINED, 8 SSHORT, 9 SLONG,
 -- 10 SRATIONAL, 11 FLOAT, 12 DOUBLE, and 13 IFD of the first technical note. All numbers are read without a sign.
-abbrev pub field_types : List (ℕ × Result FieldType ImageError)
+abbrev pub field_types : List (ℕ × Result FieldType Halt)
 field_types =
     (1, Ok Other) ∷ (2, Ok Other) ∷ (3, Ok Short) ∷ (4, Ok Long) ∷ (5, Ok Other) ∷ (6, Ok Other) ∷ (7, Ok Other)
     ∷ (8, Ok Short) ∷ (9, Ok Long) ∷ (10, Ok Other) ∷ (11, Ok Long) ∷ (12, Ok Other) ∷ (13, Ok Long) ∷ []
 
 -- those that BigTIFF has besides: 16 LONG8, 17 SLONG8, 18 IFD8
-abbrev pub wide_field_types : Version → List (ℕ × Result FieldType ImageError)
-wide_field_types Tiff = (16, Err (IoError IfdTypeForStandardTiff)) ∷ (17, Err (IoError IfdTypeForStandardTiff))
-    ∷ (18, Err (IoError IfdTypeForStandardTiff)) ∷ []
+abbrev pub wide_field_types : Version → List (ℕ × Result FieldType Halt)
+wide_field_types Tiff = (16, Err IfdTypeForStandardTiff) ∷ (17, Err IfdTypeForStandardTiff)
+    ∷ (18, Err IfdTypeForStandardTiff) ∷ []
 wide_field_types BigTiff = (16, Ok Other) ∷ (17, Ok Other) ∷ (18, Ok Other) ∷ []
 
-abbrev pub field_type_of : Version → ℕ → Result FieldType ImageError
-field_type_of version field_type = look_up (field_types ++ wide_field_types version) (Err (IoError InvalidIfdType)) field_type
+abbrev pub field_type_of : Version → ℕ → Result FieldType Halt
+field_type_of version field_type = look_up (field_types ++ wide_field_types version) (Err InvalidIfdType) field_type
 
 -- what stands in the head: first the tag, then the field type
 abbrev pub tag_in : Endian → List ℕ → ℕ
@@ -113,8 +105,8 @@ unfoldable pub tiff_head : Version → ℕ → Layout (List ℕ)
 tiff_head version place = bytes place (head_bytes version) (λ head. done (take 4 head))
 
 -- and so is its value, which the end of the input may cut
-abbrev pub whole_value : Option (List ℕ) → Result (List ℕ) ImageError
-whole_value None = Err (IoError InvalidIfdValueLength)
+abbrev pub whole_value : Option (List ℕ) → Result (List ℕ) Halt
+whole_value None = Err InvalidIfdValueLength
 whole_value (Some value) = Ok (take 4 value)
 
 unfoldable pub tiff_value : Version → ℕ → Layout (List ℕ)
@@ -151,7 +143,7 @@ abbrev pub tiff_entries : Header → ℕ → Chain Entry ImageSize
 tiff_entries header count = record {
   first = header.directory + count_bytes header.version;
   said = λ entries place.
-      if length entries == count then refuse (IoError NoDimensionsInIfd)
+      if length entries == count then refuse NoDimensionsInIfd
       else bind (tiff_entry header place)
       (λ entry. done (size_or_next (size_in (entries ++ entry ∷ [])) entry (place + entry_bytes header.version)));
 }

@@ -4,12 +4,9 @@ ghost use Rattle.std.specs.Prelude.{◌≡◌, ℕ, ◌+◌, ◌<◌, ◌≤◌,
 ghost use Rattle.imagesize_boxes.specs.Heif.{box_size, brand_compression, compatible_compression, extents_size, heif, heif_compression, heif_in_iprp, heif_in_meta, is_general, is_heif, is_named, properties, property_at, property_bytes, search_for, searched_box, skipped_bytes, turn_by};
 ghost use Rattle.imagesize_boxes.specs.Walks.{searched_said, property_said, earlier_largest, gathered_with, gathered_answer, IsLeftFor};
 ghost use Rattle.imagesize_source.specs.Chain.{chain_at};
-ghost use Rattle.imagesize_source.specs.Halts.{RunsOrHalts, with_error};
-ghost use Rattle.imagesize_source.specs.Layout.{layout_reads};
 ghost use Rattle.imagesize_source.specs.Paying.{Nears};
 ghost use Rattle.imagesize_source.specs.Reading.{bytes_read, map_answer};
-ghost use Rattle.imagesize_source.specs.State.{Runs, IsSound};
-ghost use Rattle.imagesize_source.specs.declared.error.ImageError.{ImageError};
+ghost use Rattle.imagesize_source.specs.State.{Follows, Runs, IsSound};
 
 use imagesize_source::readings::{
     place_behind, read_bytes, read_bytes_behind, read_if_there, read_u32, read_whole_behind,
@@ -36,8 +33,7 @@ pub fn detect_compression<S: Source>(
     head: &[u8; 12],
 ) -> Result<Compression, Halt>
     requires { IsSound (S.state source.old) }
-    ensures { RunsOrHalts (S.state source.old) (S.state source.new) (S.failure source.new) result
-        (layout_reads (S.state source.old).held.input (heif_compression place head.now)) }
+    ensures { Follows (S.state source.old) (S.state source.new) result (heif_compression place head.now) }
 {
     let brand = &head[8..];
     if !is_general(brand) {
@@ -86,7 +82,7 @@ fn brand_compression(brand: &[u8]) -> Compression
 /// last rotation is a quarter or three quarters of a turn.
 #[tactic(auto, using(imagesize_source::proofs::Runs::steps))]
 pub fn size<S: Source>(source: &mut S) -> Result<ImageSize, Halt>
-    ensures { RunsOrHalts (S.state source.old) (S.state source.new) (S.failure source.new) result
+    ensures { Runs (S.state source.old) (S.state source.new) result
         (heif (S.state source.old).held.input) }
 {
     let first = read_u32(source, 0, Endian::Big)? as u64;
@@ -98,7 +94,7 @@ pub fn size<S: Source>(source: &mut S) -> Result<ImageSize, Halt>
 #[inline(always)]
 #[tactic(auto, using(imagesize_source::proofs::Runs::steps))]
 fn size_in_meta<S: Source>(source: &mut S, meta: FoundBox) -> Result<ImageSize, Halt>
-    ensures { RunsOrHalts (S.state source.old) (S.state source.new) (S.failure source.new) result
+    ensures { Runs (S.state source.old) (S.state source.new) result
         (heif_in_meta meta (S.state source.old).held.input) }
 {
     read_content::<S, 4>(source, meta.place)?;
@@ -110,7 +106,7 @@ fn size_in_meta<S: Source>(source: &mut S, meta: FoundBox) -> Result<ImageSize, 
 #[inline(always)]
 #[tactic(auto, using(imagesize_source::proofs::Runs::steps))]
 fn size_in_iprp<S: Source>(source: &mut S, iprp: FoundBox) -> Result<ImageSize, Halt>
-    ensures { RunsOrHalts (S.state source.old) (S.state source.new) (S.failure source.new) result
+    ensures { Runs (S.state source.old) (S.state source.new) result
         (heif_in_iprp iprp (S.state source.old).held.input) }
 {
     let ipco = search(source, iprp.place, 8, b"ipco")?;
@@ -141,7 +137,7 @@ fn search<S: Source>(
     distance: u64,
     name: &[u8; 4],
 ) -> Result<FoundBox, Halt>
-    ensures { RunsOrHalts (S.state source.old) (S.state source.new) (S.failure source.new) result
+    ensures { Runs (S.state source.old) (S.state source.new) result
         (chain_at (search_for name.now (place + distance)) (S.state source.old).held.input) }
 {
     search_from(source, place.saturating_add(distance), name)
@@ -149,7 +145,7 @@ fn search<S: Source>(
 
 // The first box of a name, from a place on.
 fn search_from<S: Source>(source: &mut S, from: u64, name: &[u8; 4]) -> Result<FoundBox, Halt>
-    ensures { RunsOrHalts (S.state source.old) (S.state source.new) (S.failure source.new) result
+    ensures { Runs (S.state source.old) (S.state source.new) result
         (chain_at (search_for name.now from) (S.state source.old).held.input) }
 {
     let mut place = from;
@@ -166,9 +162,7 @@ fn search_from<S: Source>(source: &mut S, from: u64, name: &[u8; 4]) -> Result<F
 #[tactic(auto, using(imagesize_source::proofs::Runs::steps))]
 fn read_box<S: Source>(source: &mut S, place: u64, name: &[u8; 4]) -> Result<Searched, Halt>
     ensures nears { IfOk result (λ found. Nears (S.state source.old) (S.state source.new) place (searched_said place found)) }
-    ensures runs { Runs (S.state source.old) (S.state source.new)
-        (map_answer (λ found. searched_said place found) (with_error (S.failure source.new) (S.state source.new).frame.budget result))
-        (layout_reads (S.state source.old).held.input (searched_box name.now place)) }
+    ensures runs { Follows (S.state source.old) (S.state source.new) (map_answer (λ found. searched_said place found) result) (searched_box name.now place) }
 {
     let head = read_bytes::<S, 8>(source, place)?;
     let size = box_size(&head);
@@ -203,7 +197,7 @@ fn is_named(head: &[u8; 8], name: &[u8; 4]) -> bool
 #[inline(always)]
 fn read_content<S: Source, const N: usize>(source: &mut S, place: u64) -> Result<[u8; N], Halt>
     requires { 0 < N }
-    ensures { RunsOrHalts (S.state source.old) (S.state source.new) (S.failure source.new) result
+    ensures { Runs (S.state source.old) (S.state source.new) result
         (bytes_read (S.state source.old).held.input (place + 8) N) }
 {
     read_bytes_behind::<S, N>(source, place, 8)
@@ -235,7 +229,7 @@ struct Gathered {
 #[inline(always)]
 #[tactic(auto, using(crate::proofs::Heif::list_saturated))]
 fn largest<S: Source>(source: &mut S, ipco: FoundBox) -> Result<ImageSize, Halt>
-    ensures { RunsOrHalts (S.state source.old) (S.state source.new) (S.failure source.new) result
+    ensures { Runs (S.state source.old) (S.state source.new) result
         (chain_at (properties ipco.size (ipco.place + 8)) (S.state source.old).held.input) }
 {
     largest_from(source, ipco.place.saturating_add(8), ipco.size)
@@ -243,7 +237,7 @@ fn largest<S: Source>(source: &mut S, ipco: FoundBox) -> Result<ImageSize, Halt>
 
 // The size by the properties from a place on, in a box of so many bytes.
 fn largest_from<S: Source>(source: &mut S, from: u64, all: u32) -> Result<ImageSize, Halt>
-    ensures { RunsOrHalts (S.state source.old) (S.state source.new) (S.failure source.new) result
+    ensures { Runs (S.state source.old) (S.state source.new) result
         (chain_at (properties all from) (S.state source.old).held.input) }
 {
     let mut place = from;
@@ -270,8 +264,7 @@ fn largest_from<S: Source>(source: &mut S, from: u64, all: u32) -> Result<ImageS
 fn read_property<S: Source>(source: &mut S, place: u64, left: u32) -> Result<Option<Property>, Halt>
     ensures nears { IfOk result (λ found. Nears (S.state source.old) (S.state source.new) place (property_said place found)) }
     ensures fits { IfOk result (λ found. IsLeftFor left found) }
-    ensures runs { RunsOrHalts (S.state source.old) (S.state source.new) (S.failure source.new) result
-        (layout_reads (S.state source.old).held.input (property_at left place)) }
+    ensures runs { Follows (S.state source.old) (S.state source.new) result (property_at left place) }
 {
     let Some(head) = read_if_there::<S, 8>(source, place)? else {
         return Ok(None);
@@ -363,7 +356,7 @@ fn larger(best: Option<ImageSize>, size: ImageSize) -> ImageSize
 // What is answered at the end of the list.
 #[inline(always)]
 fn answer(gathered: Gathered) -> Result<ImageSize, Halt>
-    ensures { (failure : ImageError) (budget : ℕ) → with_error failure budget result ≡ gathered_answer gathered }
+    ensures { result ≡ gathered_answer gathered }
 {
     match gathered.best {
         Some(size) => Ok(turn_by(size, gathered.turn)),

@@ -2,10 +2,8 @@
 ghost use Rattle.std.specs.Prelude.{◌≡◌, ◌≤◌, ◌++◌, take, option_map};
 ghost use Rattle.imagesize_boxes.specs.Jxl.{is_jxl, jxl, jxl_chain, jxl_codestream, jxl_start};
 ghost use Rattle.imagesize_source.specs.Chain.{chain_at};
-ghost use Rattle.imagesize_source.specs.Halts.{RunsOrHalts, with_error};
-ghost use Rattle.imagesize_source.specs.Layout.{layout_reads};
 ghost use Rattle.imagesize_source.specs.Reading.{map_answer};
-ghost use Rattle.imagesize_source.specs.State.{Runs};
+ghost use Rattle.imagesize_source.specs.State.{Follows, Runs};
 
 mod bits;
 mod boxes;
@@ -40,7 +38,7 @@ pub fn matches(head: &[u8; 12]) -> bool
 /// smaller than its head; `InvalidJxlSignature` of a codestream that does not begin with its signature; `Ended` where
 /// the input ends before its first two bytes, or before a box's head or long size, and of a part too short for its index.
 pub fn size<S: Source>(source: &mut S) -> Result<ImageSize, Halt>
-    ensures { RunsOrHalts (S.state source.old) (S.state source.new) (S.failure source.new) result
+    ensures { Runs (S.state source.old) (S.state source.new) result
         (jxl (S.state source.old).held.input) }
 {
     let front = read_codestream(source)?;
@@ -51,7 +49,7 @@ pub fn size<S: Source>(source: &mut S) -> Result<ImageSize, Halt>
 #[tactic(auto, using(imagesize_source::proofs::Runs::steps))]
 fn read_codestream<S: Source>(source: &mut S) -> Result<Front, Halt>
     ensures { Runs (S.state source.old) (S.state source.new)
-        (map_answer (λ front. take front.len front.bytes) (with_error (S.failure source.new) (S.state source.new).frame.budget result))
+        (map_answer (λ front. take front.len front.bytes) result)
         (jxl_codestream (S.state source.old).held.input) }
 {
     match read_start(source)? {
@@ -64,7 +62,7 @@ fn read_codestream<S: Source>(source: &mut S) -> Result<Front, Halt>
 #[tactic(auto, using(imagesize_source::proofs::Runs::steps))]
 fn read_boxes<S: Source>(source: &mut S) -> Result<Front, Halt>
     ensures { Runs (S.state source.old) (S.state source.new)
-        (map_answer (λ front. take front.len front.bytes) (with_error (S.failure source.new) (S.state source.new).frame.budget result))
+        (map_answer (λ front. take front.len front.bytes) result)
         (chain_at jxl_chain (S.state source.old).held.input) }
 {
     let codestream = boxes::read_codestream(source)?;
@@ -74,10 +72,8 @@ fn read_boxes<S: Source>(source: &mut S) -> Result<Front, Halt>
 // Those of a codestream that stands alone; none where boxes stand.
 #[tactic(auto, using(imagesize_source::proofs::Runs::steps))]
 fn read_start<S: Source>(source: &mut S) -> Result<Option<Front>, Halt>
-    ensures { Runs (S.state source.old) (S.state source.new)
-        (map_answer (λ found. option_map (λ front. take front.len front.bytes) found)
-        (with_error (S.failure source.new) (S.state source.new).frame.budget result))
-        (layout_reads (S.state source.old).held.input jxl_start) }
+    ensures { Follows (S.state source.old) (S.state source.new) (map_answer (λ found. option_map (λ front. take front.len front.bytes) found)
+        result) jxl_start }
 {
     let start = read_bytes::<S, 2>(source, 0)?;
     if !header::has_signature(&start) {

@@ -4,8 +4,7 @@ ghost use Rattle.imagesize_fixed.specs.Atc.{atc, atc_compression, atc_data_types
 ghost use Rattle.imagesize_types.specs.Table.{look_up};
 ghost use Rattle.imagesize_source.specs.Numbers.{number};
 ghost use Rattle.imagesize_source.specs.declared.endian.Endian.TheVariants as endian;
-ghost use Rattle.imagesize_source.specs.Halts.{RunsOrHalts};
-ghost use Rattle.imagesize_source.specs.Layout.{layout_reads};
+ghost use Rattle.imagesize_source.specs.State.{Follows};
 
 use crate::container::{dds, pkm, pvrtc};
 use imagesize_source::Halt;
@@ -38,8 +37,7 @@ fn is_atc(header: &[u8]) -> bool
 #[inline(always)]
 #[tactic(auto, using(imagesize_source::proofs::Runs::steps), unfolding(crate::specs::Atc::atc_compression))]
 pub fn detect_compression<S: Source>(source: &mut S) -> Result<AtcCompression, Halt>
-    ensures { RunsOrHalts (S.state source.old) (S.state source.new) (S.failure source.new) result
-        (layout_reads (S.state source.old).held.input atc_compression) }
+    ensures { Follows (S.state source.old) (S.state source.new) result atc_compression }
 {
     let mut header = [0u8; 8];
     if !read_whole_at(source, 0, &mut header)? {
@@ -75,8 +73,7 @@ fn compression(data_type: u16) -> AtcCompression
 #[inline(always)]
 #[tactic(auto, using(imagesize_source::proofs::Runs::steps))]
 pub fn size<S: Source>(source: &mut S) -> Result<ImageSize, Halt>
-    ensures { RunsOrHalts (S.state source.old) (S.state source.new) (S.failure source.new) result
-        (layout_reads (S.state source.old).held.input atc) }
+    ensures { Follows (S.state source.old) (S.state source.new) result atc }
 {
     let mut tag = [0u8; 4];
     read_exact_at(source, 0, &mut tag)?;

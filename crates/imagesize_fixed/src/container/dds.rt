@@ -3,8 +3,8 @@
 ghost use Rattle.std.specs.Prelude.{◌≡◌};
 ghost use Rattle.imagesize_fixed.specs.Dds.{dds, dds_bit_counts, dds_codes, dds_compression, dds_number_of, dxgi_formats, is_dds};
 ghost use Rattle.imagesize_types.specs.Table.{look_up, look_up_text};
-ghost use Rattle.imagesize_source.specs.Halts.{RunsOrHalts};
-ghost use Rattle.imagesize_source.specs.Layout.{if_there, layout_reads};
+ghost use Rattle.imagesize_source.specs.State.{Follows};
+ghost use Rattle.imagesize_source.specs.Layout.{if_there};
 ghost use Rattle.imagesize_source.specs.Layout.Layout.{«done»};
 
 use imagesize_source::readings::{read_u32, read_whole_at};
@@ -34,8 +34,7 @@ pub(super) fn is_dds(header: &[u8]) -> bool
 #[inline(always)]
 #[tactic(auto, using(imagesize_source::proofs::Runs::steps, imagesize_source::proofs::Runs::missed_before), unfolding(crate::specs::Dds::dds_compression))]
 pub fn detect_compression<S: Source>(source: &mut S) -> Result<DdsCompression, Halt>
-    ensures { RunsOrHalts (S.state source.old) (S.state source.new) (S.failure source.new) result
-        (layout_reads (S.state source.old).held.input dds_compression) }
+    ensures { Follows (S.state source.old) (S.state source.new) result dds_compression }
 {
     let mut code = [0u8; 4];
     if !read_whole_at(source, 84, &mut code)? {
@@ -53,8 +52,7 @@ pub fn detect_compression<S: Source>(source: &mut S) -> Result<DdsCompression, H
 // How the pixels are stored, by the format of the extended header where it is there.
 #[tactic(auto, using(imagesize_source::proofs::Runs::steps, imagesize_source::proofs::Numbers::little_4))]
 fn extended_compression<S: Source>(source: &mut S) -> Result<DdsCompression, Halt>
-    ensures { RunsOrHalts (S.state source.old) (S.state source.new) (S.failure source.new) result
-        (layout_reads (S.state source.old).held.input (if_there 128 4 (λ bs. done (dds_number_of dxgi_formats bs)))) }
+    ensures { Follows (S.state source.old) (S.state source.new) result (if_there 128 4 (λ bs. done (dds_number_of dxgi_formats bs))) }
 {
     let mut format = [0u8; 4];
     if !read_whole_at(source, 128, &mut format)? {
@@ -66,8 +64,7 @@ fn extended_compression<S: Source>(source: &mut S) -> Result<DdsCompression, Hal
 // How the pixels are stored, by the bits of a pixel where they are there.
 #[tactic(auto, using(imagesize_source::proofs::Runs::steps, imagesize_source::proofs::Numbers::little_4))]
 fn plain_compression<S: Source>(source: &mut S) -> Result<DdsCompression, Halt>
-    ensures { RunsOrHalts (S.state source.old) (S.state source.new) (S.failure source.new) result
-        (layout_reads (S.state source.old).held.input (if_there 88 4 (λ bs. done (dds_number_of dds_bit_counts bs)))) }
+    ensures { Follows (S.state source.old) (S.state source.new) result (if_there 88 4 (λ bs. done (dds_number_of dds_bit_counts bs))) }
 {
     let mut bits = [0u8; 4];
     if !read_whole_at(source, 88, &mut bits)? {
@@ -118,8 +115,7 @@ fn bits_compression(bits: u32) -> DdsCompression
 #[inline(always)]
 #[tactic(auto, using(imagesize_source::proofs::Runs::steps))]
 pub fn size<S: Source>(source: &mut S) -> Result<ImageSize, Halt>
-    ensures { RunsOrHalts (S.state source.old) (S.state source.new) (S.failure source.new) result
-        (layout_reads (S.state source.old).held.input dds) }
+    ensures { Follows (S.state source.old) (S.state source.new) result dds }
 {
     let height = read_u32(source, 12, Endian::Little)? as usize;
     let width = read_u32(source, 16, Endian::Little)? as usize;

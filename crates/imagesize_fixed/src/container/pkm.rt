@@ -2,8 +2,7 @@
 ghost use Rattle.std.specs.Prelude.{◌≡◌};
 ghost use Rattle.imagesize_fixed.specs.Pkm.{is_eac, is_pkm, pkm, pkm_compression, pkm_data_types};
 ghost use Rattle.imagesize_types.specs.Table.{look_up};
-ghost use Rattle.imagesize_source.specs.Halts.{RunsOrHalts};
-ghost use Rattle.imagesize_source.specs.Layout.{layout_reads};
+ghost use Rattle.imagesize_source.specs.State.{Follows};
 
 use imagesize_source::readings::{read_u16, read_whole_at};
 use imagesize_source::source::Source;
@@ -41,8 +40,7 @@ pub fn is_pkm(header: &[u8]) -> bool
 #[inline(always)]
 #[tactic(auto, using(imagesize_source::proofs::Runs::steps, imagesize_source::proofs::Numbers::big_2), unfolding(crate::specs::Pkm::pkm_compression))]
 pub fn detect_compression<S: Source>(source: &mut S) -> Result<PkmCompression, Halt>
-    ensures { RunsOrHalts (S.state source.old) (S.state source.new) (S.failure source.new) result
-        (layout_reads (S.state source.old).held.input pkm_compression) }
+    ensures { Follows (S.state source.old) (S.state source.new) result pkm_compression }
 {
     let mut data_type = [0u8; 2];
     if !read_whole_at(source, 6, &mut data_type)? {
@@ -72,8 +70,7 @@ fn compression(data_type: u16) -> PkmCompression
 #[inline(always)]
 #[tactic(auto, using(imagesize_source::proofs::Runs::steps))]
 pub fn size<S: Source>(source: &mut S) -> Result<ImageSize, Halt>
-    ensures { RunsOrHalts (S.state source.old) (S.state source.new) (S.failure source.new) result
-        (layout_reads (S.state source.old).held.input pkm) }
+    ensures { Follows (S.state source.old) (S.state source.new) result pkm }
 {
     let _padded_width = read_u16(source, 8, Endian::Big)?;
     let _padded_height = read_u16(source, 10, Endian::Big)?;

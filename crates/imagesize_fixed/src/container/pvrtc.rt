@@ -2,8 +2,8 @@
 ghost use Rattle.std.specs.Prelude.{◌≡◌};
 ghost use Rattle.imagesize_fixed.specs.Pvrtc.{is_pvr3, is_pvrtc, pvr2, pvr3, pvrtc, pvrtc_compression, pvrtc_format_of, pvrtc_formats};
 ghost use Rattle.imagesize_types.specs.Table.{look_up};
-ghost use Rattle.imagesize_source.specs.Halts.{RunsOrHalts};
-ghost use Rattle.imagesize_source.specs.Layout.{if_there, layout_reads};
+ghost use Rattle.imagesize_source.specs.State.{Follows};
+ghost use Rattle.imagesize_source.specs.Layout.{if_there};
 ghost use Rattle.imagesize_source.specs.Layout.Layout.{«done»};
 
 use imagesize_source::readings::{read_bytes, read_u32, read_whole_at};
@@ -33,8 +33,7 @@ fn is_version_3(header: &[u8]) -> bool
 #[inline(always)]
 #[tactic(auto, using(imagesize_source::proofs::Runs::steps, imagesize_source::proofs::Runs::missed_before), unfolding(crate::specs::Pvrtc::pvrtc_compression))]
 pub fn detect_compression<S: Source>(source: &mut S) -> Result<PvrtcCompression, Halt>
-    ensures { RunsOrHalts (S.state source.old) (S.state source.new) (S.failure source.new) result
-        (layout_reads (S.state source.old).held.input pvrtc_compression) }
+    ensures { Follows (S.state source.old) (S.state source.new) result pvrtc_compression }
 {
     let mut tag = [0u8; 4];
     if !read_whole_at(source, 0, &mut tag)? {
@@ -50,8 +49,7 @@ pub fn detect_compression<S: Source>(source: &mut S) -> Result<PvrtcCompression,
 #[inline(always)]
 #[tactic(auto, using(imagesize_source::proofs::Runs::steps, imagesize_source::proofs::Numbers::little_8))]
 fn format<S: Source>(source: &mut S) -> Result<PvrtcCompression, Halt>
-    ensures { RunsOrHalts (S.state source.old) (S.state source.new) (S.failure source.new) result
-        (layout_reads (S.state source.old).held.input (if_there 8 8 (λ bs. done (pvrtc_format_of bs)))) }
+    ensures { Follows (S.state source.old) (S.state source.new) result (if_there 8 8 (λ bs. done (pvrtc_format_of bs))) }
 {
     let mut format = [0u8; 8];
     if !read_whole_at(source, 8, &mut format)? {
@@ -82,8 +80,7 @@ fn format_compression(format: u64) -> PvrtcCompression
 #[inline(always)]
 #[tactic(auto, using(imagesize_source::proofs::Runs::steps))]
 pub fn size<S: Source>(source: &mut S) -> Result<ImageSize, Halt>
-    ensures { RunsOrHalts (S.state source.old) (S.state source.new) (S.failure source.new) result
-        (layout_reads (S.state source.old).held.input pvrtc) }
+    ensures { Follows (S.state source.old) (S.state source.new) result pvrtc }
 {
     let tag = read_bytes::<S, 4>(source, 0)?;
     if is_version_3(&tag) {
@@ -96,8 +93,7 @@ pub fn size<S: Source>(source: &mut S) -> Result<ImageSize, Halt>
 #[inline(always)]
 #[tactic(auto, using(imagesize_source::proofs::Runs::steps))]
 fn newer_size<S: Source>(source: &mut S) -> Result<ImageSize, Halt>
-    ensures { RunsOrHalts (S.state source.old) (S.state source.new) (S.failure source.new) result
-        (layout_reads (S.state source.old).held.input pvr3) }
+    ensures { Follows (S.state source.old) (S.state source.new) result pvr3 }
 {
     let height = read_u32(source, 24, Endian::Little)? as usize;
     let width = read_u32(source, 28, Endian::Little)? as usize;
@@ -108,8 +104,7 @@ fn newer_size<S: Source>(source: &mut S) -> Result<ImageSize, Halt>
 #[inline(always)]
 #[tactic(auto, using(imagesize_source::proofs::Runs::steps))]
 pub(super) fn older_size<S: Source>(source: &mut S) -> Result<ImageSize, Halt>
-    ensures { RunsOrHalts (S.state source.old) (S.state source.new) (S.failure source.new) result
-        (layout_reads (S.state source.old).held.input pvr2) }
+    ensures { Follows (S.state source.old) (S.state source.new) result pvr2 }
 {
     let height = read_u32(source, 4, Endian::Little)? as usize;
     let width = read_u32(source, 8, Endian::Little)? as usize;

@@ -1,8 +1,7 @@
 //! Sprites of the editor Aseprite, by the header of "Aseprite File Format (.ase/.aseprite) Specifications".
 ghost use Rattle.std.specs.Prelude.{◌≡◌};
 ghost use Rattle.imagesize_fixed.specs.Aseprite.{is_aseprite, aseprite};
-ghost use Rattle.imagesize_source.specs.Halts.{RunsOrHalts};
-ghost use Rattle.imagesize_source.specs.Layout.{layout_reads};
+ghost use Rattle.imagesize_source.specs.State.{Follows};
 
 use imagesize_source::readings::read_u16;
 use imagesize_source::source::Source;
@@ -22,8 +21,7 @@ pub fn matches(head: &[u8; 12]) -> bool
 #[inline(always)]
 #[tactic(auto, using(imagesize_source::proofs::Runs::steps))]
 pub fn size<S: Source>(source: &mut S) -> Result<ImageSize, Halt>
-    ensures { RunsOrHalts (S.state source.old) (S.state source.new) (S.failure source.new) result
-        (layout_reads (S.state source.old).held.input aseprite) }
+    ensures { Follows (S.state source.old) (S.state source.new) result aseprite }
 {
     let width = read_u16(source, 8, Endian::Little)? as usize;
     let height = read_u16(source, 10, Endian::Little)? as usize;

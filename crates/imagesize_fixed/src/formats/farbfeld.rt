@@ -1,8 +1,7 @@
 //! Farbfeld, by "FORMAT" of the manual page farbfeld(5).
 ghost use Rattle.std.specs.Prelude.{◌≡◌};
 ghost use Rattle.imagesize_fixed.specs.Farbfeld.{is_farbfeld, farbfeld};
-ghost use Rattle.imagesize_source.specs.Halts.{RunsOrHalts};
-ghost use Rattle.imagesize_source.specs.Layout.{layout_reads};
+ghost use Rattle.imagesize_source.specs.State.{Follows};
 
 use imagesize_source::readings::read_u32;
 use imagesize_source::source::Source;
@@ -22,8 +21,7 @@ pub fn matches(head: &[u8; 12]) -> bool
 #[inline(always)]
 #[tactic(auto, using(imagesize_source::proofs::Runs::steps))]
 pub fn size<S: Source>(source: &mut S) -> Result<ImageSize, Halt>
-    ensures { RunsOrHalts (S.state source.old) (S.state source.new) (S.failure source.new) result
-        (layout_reads (S.state source.old).held.input farbfeld) }
+    ensures { Follows (S.state source.old) (S.state source.new) result farbfeld }
 {
     let width = read_u32(source, 8, Endian::Big)? as usize;
     let height = read_u32(source, 12, Endian::Big)? as usize;

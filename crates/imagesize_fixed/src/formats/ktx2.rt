@@ -1,8 +1,7 @@
 //! KTX 2.0, by the fields `identifier`, `pixelWidth` and `pixelHeight` of the Khronos KTX File Format Specification.
 ghost use Rattle.std.specs.Prelude.{◌≡◌};
 ghost use Rattle.imagesize_fixed.specs.Ktx2.{is_ktx2, ktx2};
-ghost use Rattle.imagesize_source.specs.Halts.{RunsOrHalts};
-ghost use Rattle.imagesize_source.specs.Layout.{layout_reads};
+ghost use Rattle.imagesize_source.specs.State.{Follows};
 
 use imagesize_source::readings::read_u32;
 use imagesize_source::source::Source;
@@ -27,8 +26,7 @@ pub fn matches(head: &[u8; 12]) -> bool
 #[inline(always)]
 #[tactic(auto, using(imagesize_source::proofs::Runs::steps))]
 pub fn size<S: Source>(source: &mut S) -> Result<ImageSize, Halt>
-    ensures { RunsOrHalts (S.state source.old) (S.state source.new) (S.failure source.new) result
-        (layout_reads (S.state source.old).held.input ktx2) }
+    ensures { Follows (S.state source.old) (S.state source.new) result ktx2 }
 {
     let width = read_u32(source, 20, Endian::Little)? as usize;
     let height = read_u32(source, 24, Endian::Little)? as usize;

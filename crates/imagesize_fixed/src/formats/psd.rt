@@ -1,8 +1,7 @@
 //! Photoshop documents, by "File Header Section" of the Adobe Photoshop File Formats Specification.
 ghost use Rattle.std.specs.Prelude.{◌≡◌};
 ghost use Rattle.imagesize_fixed.specs.Psd.{is_psd, psd};
-ghost use Rattle.imagesize_source.specs.Halts.{RunsOrHalts};
-ghost use Rattle.imagesize_source.specs.Layout.{layout_reads};
+ghost use Rattle.imagesize_source.specs.State.{Follows};
 
 use imagesize_source::readings::read_u32;
 use imagesize_source::source::Source;
@@ -22,8 +21,7 @@ pub fn matches(head: &[u8; 12]) -> bool
 #[inline(always)]
 #[tactic(auto, using(imagesize_source::proofs::Runs::steps))]
 pub fn size<S: Source>(source: &mut S) -> Result<ImageSize, Halt>
-    ensures { RunsOrHalts (S.state source.old) (S.state source.new) (S.failure source.new) result
-        (layout_reads (S.state source.old).held.input psd) }
+    ensures { Follows (S.state source.old) (S.state source.new) result psd }
 {
     let height = read_u32(source, 14, Endian::Big)? as usize;
     let width = read_u32(source, 18, Endian::Big)? as usize;

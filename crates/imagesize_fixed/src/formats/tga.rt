@@ -1,9 +1,7 @@
 //! TGA, by "Truevision TGA File Format Specification", version 2.0: fields 1 to 5 (the header) and the footer.
 ghost use Rattle.std.specs.Prelude.{◌≡◌, length};
 ghost use Rattle.imagesize_fixed.specs.Tga.{is_map_sound, is_pixel_sound, is_tga, is_tga_footer, lacks_its_map, may_be_tga, tga, tga_by_header};
-ghost use Rattle.imagesize_source.specs.Halts.{RunsOrHalts};
-ghost use Rattle.imagesize_source.specs.Layout.{layout_reads};
-ghost use Rattle.imagesize_source.specs.State.{IsSound};
+ghost use Rattle.imagesize_source.specs.State.{Follows, IsSound};
 
 use imagesize_source::readings::{read_bytes, read_u8, read_u16};
 use imagesize_source::source::Source;
@@ -12,8 +10,7 @@ use imagesize_types::size::ImageSize;
 
 /// Whether the footer has the signature, or the header alone can be that of a TGA.
 pub fn matches<S: Source>(source: &mut S, head: &[u8; 12]) -> Result<bool, Halt>
-    ensures { RunsOrHalts (S.state source.old) (S.state source.new) (S.failure source.new) result
-        (layout_reads (S.state source.old).held.input (is_tga (length (S.state source.old).held.input) head.now)) }
+    ensures { Follows (S.state source.old) (S.state source.new) result (is_tga (length (S.state source.old).held.input) head.now) }
 {
     let length = source.told();
     matches_by_length(source, head, length)
@@ -23,8 +20,7 @@ pub fn matches<S: Source>(source: &mut S, head: &[u8; 12]) -> Result<bool, Halt>
 #[tactic(auto, using(imagesize_source::proofs::Runs::steps), unfolding(crate::specs::Tga::is_tga))]
 fn matches_by_length<S: Source>(source: &mut S, head: &[u8; 12], length: u64) -> Result<bool, Halt>
     requires { IsSound (S.state source.old) }
-    ensures { RunsOrHalts (S.state source.old) (S.state source.new) (S.failure source.new) result
-        (layout_reads (S.state source.old).held.input (is_tga length head.now)) }
+    ensures { Follows (S.state source.old) (S.state source.new) result (is_tga length head.now) }
 {
     if !may_be_tga(head) || length < 18 {
         return Ok(false);
@@ -42,8 +38,7 @@ fn matches_by_length<S: Source>(source: &mut S, head: &[u8; 12], length: u64) ->
 // Whether the fields of the colour map and of the pixels agree with each other.
 #[tactic(auto, using(imagesize_source::proofs::Runs::steps))]
 fn has_sound_header<S: Source>(source: &mut S, head: &[u8; 12]) -> Result<bool, Halt>
-    ensures { RunsOrHalts (S.state source.old) (S.state source.new) (S.failure source.new) result
-        (layout_reads (S.state source.old).held.input (tga_by_header head.now)) }
+    ensures { Follows (S.state source.old) (S.state source.new) result (tga_by_header head.now) }
 {
     let map = read_bytes::<S, 4>(source, 3)?;
     let map_bits = read_u8(source, 7)?;
@@ -111,8 +106,7 @@ fn is_pixel_sound(bits: u8, descriptor: u8) -> bool
 #[inline(always)]
 #[tactic(auto, using(imagesize_source::proofs::Runs::steps))]
 pub fn size<S: Source>(source: &mut S) -> Result<ImageSize, Halt>
-    ensures { RunsOrHalts (S.state source.old) (S.state source.new) (S.failure source.new) result
-        (layout_reads (S.state source.old).held.input tga) }
+    ensures { Follows (S.state source.old) (S.state source.new) result tga }
 {
     let width = read_u16(source, 12, Endian::Little)? as usize;
     let height = read_u16(source, 14, Endian::Little)? as usize;

@@ -1,8 +1,7 @@
 //! Valve textures, by "VTF header" of the Valve Texture Format.
 ghost use Rattle.std.specs.Prelude.{◌≡◌};
 ghost use Rattle.imagesize_fixed.specs.Vtf.{is_vtf, vtf};
-ghost use Rattle.imagesize_source.specs.Halts.{RunsOrHalts};
-ghost use Rattle.imagesize_source.specs.Layout.{layout_reads};
+ghost use Rattle.imagesize_source.specs.State.{Follows};
 
 use imagesize_source::readings::read_u16;
 use imagesize_source::source::Source;
@@ -22,8 +21,7 @@ pub fn matches(head: &[u8; 12]) -> bool
 #[inline(always)]
 #[tactic(auto, using(imagesize_source::proofs::Runs::steps))]
 pub fn size<S: Source>(source: &mut S) -> Result<ImageSize, Halt>
-    ensures { RunsOrHalts (S.state source.old) (S.state source.new) (S.failure source.new) result
-        (layout_reads (S.state source.old).held.input vtf) }
+    ensures { Follows (S.state source.old) (S.state source.new) result vtf }
 {
     let width = read_u16(source, 16, Endian::Little)? as usize;
     let height = read_u16(source, 18, Endian::Little)? as usize;

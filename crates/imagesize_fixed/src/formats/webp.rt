@@ -1,8 +1,7 @@
 //! WebP, by RFC 9649, sections 2.4 (the file header) and 2.5 to 2.7 (its three forms), and RFC 6386, section 9.1.
 ghost use Rattle.std.specs.Prelude.{◌≡◌, ◌%◌, ◌^◌};
 ghost use Rattle.imagesize_fixed.specs.Webp.{is_webp, webp, lossy_webp, lossless_webp, extended_webp};
-ghost use Rattle.imagesize_source.specs.Halts.{RunsOrHalts};
-ghost use Rattle.imagesize_source.specs.Layout.{layout_reads};
+ghost use Rattle.imagesize_source.specs.State.{Follows};
 
 use imagesize_source::readings::{read_bytes, read_u16, read_u24, read_u32};
 use imagesize_source::source::Source;
@@ -25,8 +24,7 @@ pub fn matches(head: &[u8; 12]) -> bool
 #[inline(always)]
 #[tactic(auto, using(imagesize_source::proofs::Runs::steps))]
 pub fn size<S: Source>(source: &mut S) -> Result<ImageSize, Halt>
-    ensures { RunsOrHalts (S.state source.old) (S.state source.new) (S.failure source.new) result
-        (layout_reads (S.state source.old).held.input webp) }
+    ensures { Follows (S.state source.old) (S.state source.new) result webp }
 {
     let [_, _, _, form] = read_bytes::<S, 4>(source, 12)?;
     match form {
@@ -41,8 +39,7 @@ pub fn size<S: Source>(source: &mut S) -> Result<ImageSize, Halt>
 #[inline(always)]
 #[tactic(auto, using(imagesize_source::proofs::Runs::steps))]
 fn lossy_size<S: Source>(source: &mut S) -> Result<ImageSize, Halt>
-    ensures { RunsOrHalts (S.state source.old) (S.state source.new) (S.failure source.new) result
-        (layout_reads (S.state source.old).held.input lossy_webp) }
+    ensures { Follows (S.state source.old) (S.state source.new) result lossy_webp }
 {
     let width = low_14_bits(read_u16(source, 26, Endian::Little)? as u32);
     let height = low_14_bits(read_u16(source, 28, Endian::Little)? as u32);
@@ -53,8 +50,7 @@ fn lossy_size<S: Source>(source: &mut S) -> Result<ImageSize, Halt>
 #[inline(always)]
 #[tactic(auto, using(imagesize_source::proofs::Runs::steps))]
 fn lossless_size<S: Source>(source: &mut S) -> Result<ImageSize, Halt>
-    ensures { RunsOrHalts (S.state source.old) (S.state source.new) (S.failure source.new) result
-        (layout_reads (S.state source.old).held.input lossless_webp) }
+    ensures { Follows (S.state source.old) (S.state source.new) result lossless_webp }
 {
     let dimensions = read_u32(source, 21, Endian::Little)?;
     let width = low_14_bits(dimensions) + 1;
@@ -66,8 +62,7 @@ fn lossless_size<S: Source>(source: &mut S) -> Result<ImageSize, Halt>
 #[inline(always)]
 #[tactic(auto, using(imagesize_source::proofs::Runs::steps))]
 fn extended_size<S: Source>(source: &mut S) -> Result<ImageSize, Halt>
-    ensures { RunsOrHalts (S.state source.old) (S.state source.new) (S.failure source.new) result
-        (layout_reads (S.state source.old).held.input extended_webp) }
+    ensures { Follows (S.state source.old) (S.state source.new) result extended_webp }
 {
     let width = read_u24(source, 24, Endian::Little)? as usize + 1;
     let height = read_u24(source, 27, Endian::Little)? as usize + 1;

@@ -2,7 +2,7 @@
 ghost use Rattle.std.specs.Prelude.{◌≡◌, ℕ, max, ◌+◌, ◌^◌, ◌<◌, ◌≤◌, length, IfOk, IfErr, OnOk, Some, true, false};
 ghost use Rattle.imagesize_source.specs.Limits.{most_retries};
 ghost use Rattle.imagesize_io.specs.Telling.{account, count_after};
-ghost use Rattle.imagesize_io.specs.Standing.{behind, behind_of, steady, stand, GivesSome, StopsBy, KeepsCounts, Tries, Fills, ReadsOnce, drift, with_kept_error, given_or, GoesTo, ReadsFrom};
+ghost use Rattle.imagesize_io.specs.Standing.{behind, behind_of, steady, stand, GivesSome, StopsBy, KeepsCounts, Tries, Fills, ReadsOnce, drift, GoesTo, ReadsFrom};
 ghost use Rattle.imagesize_io.specs.StopOf.{ending_of, fault_after, halt_if_failed, kept_error, last_failed};
 
 use crate::progress::Progress;
@@ -51,7 +51,7 @@ fn read_retrying<R: Told>(
 ) -> Result<usize, Halt>
     ensures bound { IfOk result (λ n. n ≤ length room.new) }
     ensures steady { GivesSome (steady (R.telling reader.old) retries.old) (steady (R.telling reader.new) retries.new)
-        room.new (given_or fault.new result) }
+        room.new result }
     ensures counts { R.count reader.new ≡ count_after (R.count reader.old) result }
     ensures tried { retries.old ≤ retries.new }
     ensures limit { retries.old ≤ most_retries → retries.new ≤ most_retries }
@@ -84,7 +84,7 @@ fn read_counted<R: Told>(
     requires fits { progress.old.taken + length room.old ≤ progress.old.budget }
     requires stands { progress.old.place ≡ place }
     ensures reads { ReadsOnce progress.old progress.new (account R.telling R.count R.failure reader.old)
-        (account R.telling R.count R.failure reader.new) room.new (with_kept_error progress.new result) }
+        (account R.telling R.count R.failure reader.new) room.new result }
     ensures failed { IfErr result (λ halt. halt ≡ Halt.Failed) }
 {
     let count = read_retrying(reader, &mut progress.retries, &mut progress.fault, room)?;
@@ -107,7 +107,7 @@ fn read_some<R: Told>(
     room: &mut [u8],
 ) -> Result<usize, Halt>
     ensures { ReadsOnce progress.old progress.new (account R.telling R.count R.failure reader.old)
-        (account R.telling R.count R.failure reader.new) room.new (with_kept_error progress.new result) }
+        (account R.telling R.count R.failure reader.new) room.new result }
 {
     let place = progress.place;
     let left = progress.budget - progress.taken;
@@ -131,7 +131,7 @@ fn fill<R: Told>(
     requires { progress.old.place ≡ place }
     ensures { Fills progress.old progress.new (stand (R.telling reader.old) progress.old) (stand (R.telling reader.new) progress.new)
         (account R.telling R.count R.failure reader.old)
-        (account R.telling R.count R.failure reader.new) room.new (with_kept_error progress.new result) }
+        (account R.telling R.count R.failure reader.new) room.new result }
 {
     if room.len() as u64 > progress.budget - progress.taken {
         return fill_behind(reader, progress, room);
@@ -154,7 +154,7 @@ fn fill_behind<R: Told>(
     requires { progress.old.place < 2 ^ 64 }
     ensures { Fills progress.old progress.new (stand (R.telling reader.old) progress.old) (stand (R.telling reader.new) progress.new)
         (account R.telling R.count R.failure reader.old)
-        (account R.telling R.count R.failure reader.new) room.new (with_kept_error progress.new result) }
+        (account R.telling R.count R.failure reader.new) room.new result }
 {
     let count = fill_rest(reader, progress, room)?;
     Ok(count)
@@ -171,7 +171,7 @@ fn fill_rest<R: Told>(
     requires { progress.old.place < 2 ^ 64 }
     ensures { Fills progress.old progress.new (stand (R.telling reader.old) progress.old) (stand (R.telling reader.new) progress.new)
         (account R.telling R.count R.failure reader.old)
-        (account R.telling R.count R.failure reader.new) room.new (with_kept_error progress.new result) }
+        (account R.telling R.count R.failure reader.new) room.new result }
 {
     let mut filled = 0;
     while filled < room.len() {
@@ -189,7 +189,7 @@ fn fill_rest<R: Told>(
 #[inline(always)]
 fn go_to<R: Told>(reader: &mut R, progress: &mut Progress, place: u64) -> Result<bool, Halt>
     ensures stand { GoesTo (stand (R.telling reader.old) progress.old)
-        (stand (R.telling reader.new) progress.new) place progress.new.place (with_kept_error progress.new result) }
+        (stand (R.telling reader.new) progress.new) place progress.new.place result }
     ensures asked { IfOk result (λ there. there ≡ true → progress.new.place ≡ place) }
     ensures short { IfOk result (λ there. there ≡ true → place ≤ max progress.old.told progress.old.place) }
     ensures far { IfOk result (λ there. there ≡ false → progress.old.told < place) }
@@ -199,7 +199,7 @@ fn go_to<R: Told>(reader: &mut R, progress: &mut Progress, place: u64) -> Result
     ensures calm { OnOk result (progress.new.fault ≡ progress.old.fault) }
     ensures taken { progress.new.taken ≡ progress.old.taken }
     ensures keeps { KeepsCounts progress.old progress.new }
-    ensures stops { IfErr (with_kept_error progress.new result) (StopsBy progress.new (R.failure reader.new)) }
+    ensures stops { IfErr result (StopsBy progress.new (R.failure reader.new)) }
 {
     if progress.place == place {
         return Ok(true);
@@ -225,7 +225,7 @@ pub(super) fn read_from<R: Told>(
 ) -> Result<usize, Halt>
     ensures { ReadsFrom progress.old progress.new (stand (R.telling reader.old) progress.old) (stand (R.telling reader.new) progress.new)
         (account R.telling R.count R.failure reader.old)
-        (account R.telling R.count R.failure reader.new) place room.new (with_kept_error progress.new result) }
+        (account R.telling R.count R.failure reader.new) place room.new result }
 {
     if !go_to(reader, progress, place)? {
         return Ok(0);

@@ -1,7 +1,7 @@
 //! A reading through the window: what it has is not read again, and what follows it is kept.
 ghost use Rattle.std.specs.Prelude.{◌<◌, ◌≤◌};
 ghost use Rattle.imagesize_io.specs.ReaderState.{ReadsAt, ReadsOn};
-ghost use Rattle.imagesize_io.specs.Standing.{stand, with_kept_error, ReadsFrom};
+ghost use Rattle.imagesize_io.specs.Standing.{stand, ReadsFrom};
 ghost use Rattle.imagesize_io.specs.Telling.{account};
 
 use super::Ledger;
@@ -43,7 +43,7 @@ fn read_within<R: Told>(
     room: &mut [u8],
 ) -> Result<usize, Halt>
     ensures { ReadsAt ledger.old ledger.new (account R.telling R.count R.failure reader.old)
-        (account R.telling R.count R.failure reader.new) place room.new (with_kept_error ledger.new.progress result) }
+        (account R.telling R.count R.failure reader.new) place room.new result }
 {
     let copied = copy_kept(&ledger.window, place, room);
     if copied == room.len() {
@@ -66,7 +66,7 @@ fn read_across<R: Told>(
 ) -> Result<usize, Halt>
     ensures { ReadsFrom progress.old progress.new (stand (R.telling reader.old) progress.old) (stand (R.telling reader.new) progress.new)
         (account R.telling R.count R.failure reader.old)
-        (account R.telling R.count R.failure reader.new) place room.new (with_kept_error progress.new result) }
+        (account R.telling R.count R.failure reader.new) place room.new result }
 {
     read_from(reader, progress, place, room)
 }

@@ -3,20 +3,16 @@ ghost use Rattle.std.specs.Prelude.{◌≡◌, ℕ, ◌+◌, ◌-◌, ◌<◌, �
 ghost use Rattle.std.specs.Option.{ForSome};
 ghost use Rattle.imagesize_source.specs.Agreement.{has_place};
 ghost use Rattle.imagesize_source.specs.Input.{part, span_at};
-ghost use Rattle.imagesize_source.specs.Halts.{with_error};
 ghost use Rattle.imagesize_source.specs.Known.{AllKnown, Lacks, filled_input, byte_in_parts, parts_state, length_within};
 ghost use Rattle.imagesize_source.specs.Reading.{part_read, map_answer};
 ghost use Rattle.imagesize_source.specs.State.{Runs};
 ghost use Rattle.imagesize_source.specs.Text.{is_ended};
-ghost use Rattle.imagesize_source.specs.declared.error.ImageError.TheVariants as error;
-ghost use Rattle.imagesize_source.specs.declared.error.Reason.TheVariants as reason;
 
 use super::Source;
 use super::log::SpanLog;
 use crate::part::part_of;
 use crate::text::{is_closed, text_length};
 use crate::{Halt, ImageError, Reason, Span, Text};
-use std::io::{self, ErrorKind};
 
 /// What a reading misses, from the first byte that is not known on.
 #[derive(Clone, Copy)]
@@ -44,8 +40,6 @@ pub struct PartsSource<'a> {
     pub missed: Option<Missing>,
     /// What the readings saw.
     pub log: SpanLog,
-    /// What a reading that fails ends the call with.
-    pub fault: io::Error,
     ghost front_known: { (i : ℕ) → i < length front.now → byte_in_parts told spans.now bytes.now i ≡ Some (slice_index front.now i) },
     ghost seen: { AllKnown told spans.now bytes.now log.spans },
     ghost lacks: { ForSome missed (Lacks told spans.now bytes.now) },
@@ -67,7 +61,6 @@ impl<'a> PartsSource<'a> {
             front: known_from(spans, bytes, told, 0),
             missed: None,
             log: SpanLog::new(),
-            fault: io::Error::from(ErrorKind::Other),
         }
     }
 
@@ -166,7 +159,7 @@ impl<'a> PartsSource<'a> {
         ensures there { IfOk result (λ n. n ≤ self.old.told - place) }
         ensures runs { Runs (parts_state self.old.told self.old.spans.now self.old.bytes.now self.old.log.spans self.old.missed)
             (parts_state self.new.told self.new.spans.now self.new.bytes.now self.new.log.spans self.new.missed)
-            (map_answer (λ n. take n room.new) (with_error (error.IoError (reason.Fault self.new.fault)) 0 result))
+            (map_answer (λ n. take n room.new) result)
             (part_read (filled_input self.old.told self.old.spans.now self.old.bytes.now) place (length room.new)) }
     {
         let (found, wanted) = self.fill_known(place, room);
@@ -182,8 +175,6 @@ impl<'a> PartsSource<'a> {
 impl Source for PartsSource<'_> {
     ghost state = { λ s. parts_state s.told s.spans.now s.bytes.now s.log.spans s.missed };
 
-    ghost failure = { λ s. error.IoError (reason.Fault s.fault) };
-
     fn told(&self) -> u64 {
         self.told
     }
@@ -193,7 +184,7 @@ impl Source for PartsSource<'_> {
     }
 
     fn refusal(&self, halt: Halt) -> ImageError {
-        halt.error(Reason::Fault(self.fault), 0)
+        halt.error(Reason::EndOfInput, 0)
     }
 
     #[inline(always)]

@@ -4,8 +4,6 @@ ghost use Rattle.std.specs.Prelude.{◌≡◌, ◌-◌, ◌^◌, ◌<◌, ◌≤
 ghost use Rattle.imagesize_source.specs.Buffer.{Holds};
 ghost use Rattle.imagesize_source.specs.Input.{span_at};
 ghost use Rattle.imagesize_source.specs.State.{recording_state, total};
-ghost use Rattle.imagesize_source.specs.declared.error.ImageError.TheVariants as error;
-ghost use Rattle.imagesize_source.specs.declared.error.Reason.TheVariants as reason;
 
 pub mod buffer;
 
@@ -73,7 +71,7 @@ impl<B: SpanBuffer> RecordingSource<'_, B> {
         ensures bytes { self.new.bytes.now ≡ self.old.bytes.now }
         ensures recorded { OnOk result (self.new.log.spans ≡ self.old.log.spans ++ span_at start count) }
         ensures unchanged { OnErr result (self.new.log.spans ≡ self.old.log.spans) }
-        ensures refused { IfErr result (λ halt. (halt ≡ Halt.Failed) × (B.allocates ≡ true) × (0 < count)) }
+        ensures refused { IfErr result (λ halt. (halt ≡ Halt.Memory) × (B.allocates ≡ true) × (0 < count)) }
     {
         if count == 0 {
             return Ok(());
@@ -90,8 +88,6 @@ impl<B: SpanBuffer> RecordingSource<'_, B> {
 impl<B: SpanBuffer> Source for RecordingSource<'_, B> {
     ghost state = { λ s. recording_state s.bytes.now s.log.spans B.allocates (B.home s.buffer) };
 
-    ghost failure = { λ _. error.IoError reason.Memory };
-
     fn told(&self) -> u64 {
         self.bytes.len() as u64
     }
@@ -101,7 +97,7 @@ impl<B: SpanBuffer> Source for RecordingSource<'_, B> {
     }
 
     fn refusal(&self, halt: Halt) -> ImageError {
-        halt.error(Reason::Memory, 0)
+        halt.error(Reason::EndOfInput, 0)
     }
 
     fn read_at(&mut self, place: u64, room: &mut [u8]) -> Result<usize, Halt> {

@@ -1,6 +1,5 @@
 //! The bytes of a slice as a source. It takes nothing, and no reading of it fails.
 ghost use Rattle.std.specs.Prelude.{◌<◌, ◌-◌, length};
-ghost use Rattle.imagesize_source.specs.Reading.{end_of_input};
 ghost use Rattle.imagesize_source.specs.State.{slice_state};
 
 use super::Source;
@@ -15,8 +14,6 @@ pub struct SliceSource<'a> {
 
 impl Source for SliceSource<'_> {
     ghost state = { λ s. slice_state s.bytes.now };
-
-    ghost failure = { λ _. end_of_input };
 
     #[inline(always)]
     fn told(&self) -> u64 {

@@ -1,8 +1,6 @@
 //! OpenEXR, by "OpenEXR File Layout": its attributes up to the first data window that is not reversed.
 ghost use Rattle.std.specs.Prelude.{◌≡◌, ◌+◌, ◌<◌, ◌≤◌, length, IfOk};
 ghost use Rattle.imagesize_source.specs.Chain.{chain_at};
-ghost use Rattle.imagesize_source.specs.Halts.{RunsOrHalts, with_error};
-ghost use Rattle.imagesize_source.specs.Layout.{layout_reads};
 ghost use Rattle.imagesize_source.specs.Paying.{Paid};
 ghost use Rattle.imagesize_source.specs.Reading.{map_answer};
 ghost use Rattle.imagesize_source.specs.State.{Runs};
@@ -28,7 +26,7 @@ pub fn matches(head: &[u8; 12]) -> bool
 /// The sides of the first data window that is not reversed.
 #[tactic(auto, using(imagesize_source::proofs::Runs::steps))]
 pub fn size<S: Source>(source: &mut S) -> Result<ImageSize, Halt>
-    ensures { RunsOrHalts (S.state source.old) (S.state source.new) (S.failure source.new) result
+    ensures { Runs (S.state source.old) (S.state source.new) result
         (exr (S.state source.old).held.input) }
 {
     let version = read_u32(source, 4, Endian::Little)?;
@@ -50,7 +48,7 @@ fn name_room(version: u32) -> usize
 fn find_window<S: Source>(source: &mut S, names: usize) -> Result<ImageSize, Halt>
     requires some { 0 < names }
     requires few { names ≤ 256 }
-    ensures { RunsOrHalts (S.state source.old) (S.state source.new) (S.failure source.new) result
+    ensures { Runs (S.state source.old) (S.state source.new) result
         (chain_at (exr_attributes names) (S.state source.old).held.input) }
 {
     let attributes = Attributes {
@@ -123,7 +121,7 @@ fn read_name<'a, S: Source>(
     ensures bound { IfOk result (λ text. length text.now < names) }
     ensures pays { IfOk result (λ text. Paid (S.state source.old) (S.state source.new) place) }
     ensures runs { Runs (S.state source.old) (S.state source.new)
-        (map_answer (λ text. text.now) (with_error (S.failure source.new) (S.state source.new).frame.budget result))
+        (map_answer (λ text. text.now) result)
         (line_read (S.state source.old).held.input 0 place names) }
 {
     read_line_capped(source, place, 0, &mut room[..names])
@@ -140,7 +138,7 @@ fn read_name_behind<'a, S: Source>(
     requires { names ≤ 256 }
     ensures bound { IfOk result (λ text. length text.now < names) }
     ensures runs { Runs (S.state source.old) (S.state source.new)
-        (map_answer (λ text. text.now) (with_error (S.failure source.new) (S.state source.new).frame.budget result))
+        (map_answer (λ text. text.now) result)
         (line_read (S.state source.old).held.input 0 (place + distance) names) }
 {
     read_name(source, place.saturating_add(distance), names, room)

@@ -1,11 +1,9 @@
 //! Radiance RGBE, by "Picture File Format" of the Radiance reference manual.
 ghost use Rattle.std.specs.Prelude.{◌≡◌, ℕ, option_map};
-ghost use Rattle.imagesize_source.specs.Halts.{RunsOrHalts, with_error};
-ghost use Rattle.imagesize_source.specs.Layout.{layout_reads};
+ghost use Rattle.imagesize_source.specs.State.{Runs, Follows};
 ghost use Rattle.imagesize_texts.specs.Contents.{words};
 ghost use Rattle.imagesize_texts.specs.Hdr.{hdr, hdr_identifier, hdr_line, hdr_size, is_hdr, is_identifier, is_resolution, second_and_fourth};
 ghost use Rattle.imagesize_texts.specs.Texts.{line_at};
-ghost use Rattle.imagesize_source.specs.declared.error.ImageError.{ImageError};
 
 use crate::util::{number, read_line_capped};
 use imagesize_source::Halt;
@@ -44,7 +42,7 @@ pub fn matches(head: &[u8; 12]) -> bool
 /// The height and the width, which are the second and the fourth word of the first line that begins with an axis.
 #[tactic(auto, using(imagesize_source::proofs::Runs::steps, crate::proofs::Hdr::hdr_follows))]
 pub fn size<S: Source>(source: &mut S) -> Result<ImageSize, Halt>
-    ensures { RunsOrHalts (S.state source.old) (S.state source.new) (S.failure source.new) result
+    ensures { Runs (S.state source.old) (S.state source.new) result
         (hdr (S.state source.old).held.input) }
 {
     let first = read_identifier(source)?;
@@ -57,8 +55,7 @@ pub fn size<S: Source>(source: &mut S) -> Result<ImageSize, Halt>
 // How many bytes the first line takes, which has to be the identifier.
 #[tactic(auto, using(imagesize_source::proofs::Runs::steps))]
 fn read_identifier<S: Source>(source: &mut S) -> Result<u64, Halt>
-    ensures { RunsOrHalts (S.state source.old) (S.state source.new) (S.failure source.new) result
-        (layout_reads (S.state source.old).held.input hdr_identifier) }
+    ensures { Follows (S.state source.old) (S.state source.new) result hdr_identifier }
 {
     let mut room = [0u8; 11];
     let line = read_line_capped(source, 0, b'\n', &mut room)?;
@@ -155,7 +152,7 @@ fn lengths(text: &str) -> Option<(&str, &str)>
 
 // The size of these sides.
 fn hdr_size(height: Option<usize>, width: Option<usize>) -> Result<ImageSize, Halt>
-    ensures { (failure : ImageError) (budget : ℕ) → with_error failure budget result ≡ hdr_size height width }
+    ensures { result ≡ hdr_size height width }
 {
     match (height, width) {
         (Some(height), Some(width)) => Ok(ImageSize { width, height }),

@@ -1,10 +1,9 @@
 //! The portable bitmaps, by the manual pages pbm(5), pgm(5) and ppm(5) of Netpbm.
 ghost use Rattle.std.specs.Prelude.{◌≡◌, ℕ};
-ghost use Rattle.imagesize_source.specs.Halts.{RunsOrHalts, with_error};
+ghost use Rattle.imagesize_source.specs.State.{Runs};
 ghost use Rattle.imagesize_source.specs.declared.walk.Found.TheVariants as found;
 ghost use Rattle.imagesize_texts.specs.Pnm.{is_blank, is_comment, is_pnm, pnm, pnm_size, pnm_word};
 ghost use Rattle.imagesize_texts.specs.Texts.{word};
-ghost use Rattle.imagesize_source.specs.declared.error.ImageError.{ImageError};
 
 use crate::util::{WORD_ROOM, is_hash, number, pass_line_behind, read_word, read_word_behind};
 use imagesize_source::Halt;
@@ -24,7 +23,7 @@ pub fn matches(head: &[u8; 12]) -> bool
 /// The width and the height, which are the first two words that are neither in a comment nor blank.
 #[tactic(auto, using(crate::proofs::Pnm::pnm_follows))]
 pub fn size<S: Source>(source: &mut S) -> Result<ImageSize, Halt>
-    ensures { RunsOrHalts (S.state source.old) (S.state source.new) (S.failure source.new) result
+    ensures { Runs (S.state source.old) (S.state source.new) result
         (pnm (S.state source.old).held.input) }
 {
     let words = Words {
@@ -106,7 +105,7 @@ fn is_blank(text: &str) -> bool
 
 // The size of these sides.
 fn pnm_size(width: Option<usize>, height: Option<usize>) -> Result<ImageSize, Halt>
-    ensures { (failure : ImageError) (budget : ℕ) → with_error failure budget result ≡ pnm_size width height }
+    ensures { result ≡ pnm_size width height }
 {
     match (width, height) {
         (Some(width), Some(height)) => Ok(ImageSize { width, height }),

@@ -7,10 +7,9 @@ ghost use Rattle.imagesize_types.specs.Largest.{later_largest};
 ghost use Rattle.imagesize_types.specs.Order.{area_of};
 ghost use Rattle.imagesize_source.specs.declared.halt.Halt.TheVariants as halt;
 ghost use Rattle.imagesize_source.specs.Chain.{chain_at};
-ghost use Rattle.imagesize_source.specs.Halts.{RunsOrHalts};
-ghost use Rattle.imagesize_source.specs.Layout.{if_there, layout_reads};
+ghost use Rattle.imagesize_source.specs.Layout.{if_there};
 ghost use Rattle.imagesize_source.specs.Layout.Layout.{«done»};
-ghost use Rattle.imagesize_source.specs.State.{IsSound};
+ghost use Rattle.imagesize_source.specs.State.{Runs, Follows, IsSound};
 
 use imagesize_source::readings::{read_if_there, read_u16};
 use imagesize_source::source::Source;
@@ -29,7 +28,7 @@ pub fn matches(head: &[u8; 12]) -> bool
 /// The width and the height of the image of greatest area, and of several the last.
 #[tactic(auto, using(imagesize_source::proofs::Runs::steps))]
 pub fn size<S: Source>(source: &mut S) -> Result<ImageSize, Halt>
-    ensures { RunsOrHalts (S.state source.old) (S.state source.new) (S.failure source.new) result (ico (S.state source.old).held.input) }
+    ensures { Runs (S.state source.old) (S.state source.new) result (ico (S.state source.old).held.input) }
 {
     let count = read_u16(source, 4, Endian::Little)?;
     largest(source, count)
@@ -38,7 +37,7 @@ pub fn size<S: Source>(source: &mut S) -> Result<ImageSize, Halt>
 // The largest of so many images, of which those count whose entries are there.
 fn largest<S: Source>(source: &mut S, count: u16) -> Result<ImageSize, Halt>
     requires { IsSound (S.state source.old) }
-    ensures { RunsOrHalts (S.state source.old) (S.state source.new) (S.failure source.new) result
+    ensures { Runs (S.state source.old) (S.state source.new) result
         (chain_at (icon_entries count) (S.state source.old).held.input) }
 {
     let mut best: Option<ImageSize> = None;
@@ -54,8 +53,7 @@ fn largest<S: Source>(source: &mut S, count: u16) -> Result<ImageSize, Halt>
 // The first two bytes of an entry, or none where the input ends before the second.
 #[inline]
 fn read_entry<S: Source>(source: &mut S, index: u16) -> Result<Option<[u8; 2]>, Halt>
-    ensures { RunsOrHalts (S.state source.old) (S.state source.new) (S.failure source.new) result
-        (layout_reads (S.state source.old).held.input (if_there (6 + 16 * index) 2 done)) }
+    ensures { Follows (S.state source.old) (S.state source.new) result (if_there (6 + 16 * index) 2 done) }
 {
     read_if_there::<S, 2>(source, 6 + 16 * index as u64)
 }

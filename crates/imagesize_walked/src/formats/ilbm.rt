@@ -1,7 +1,7 @@
 //! Interleaved bitmaps, by "EA IFF 85" (forms and chunks) and its supplement "ILBM" (the bitmap header).
+ghost use Rattle.imagesize_source.specs.State.{Runs};
 ghost use Rattle.std.specs.Prelude.{◌≡◌};
 ghost use Rattle.imagesize_walked.specs.Ilbm.{chunk_bytes, chunk_length, ilbm, ilbm_chunk, is_bitmap_header, is_body, is_ilbm};
-ghost use Rattle.imagesize_source.specs.Halts.{RunsOrHalts};
 
 use imagesize_source::readings::{read_bytes, read_u16_behind};
 use imagesize_source::source::Source;
@@ -23,7 +23,7 @@ pub fn matches(head: &[u8; 12]) -> bool
 /// The width and the height of the first bitmap header that stands before the pixels.
 #[tactic(auto, using(crate::proofs::Ilbm::ilbm_follows))]
 pub fn size<S: Source>(source: &mut S) -> Result<ImageSize, Halt>
-    ensures { RunsOrHalts (S.state source.old) (S.state source.new) (S.failure source.new) result (ilbm (S.state source.old).held.input) }
+    ensures { Runs (S.state source.old) (S.state source.new) result (ilbm (S.state source.old).held.input) }
 {
     walk(Chunks, source, 12)
 }

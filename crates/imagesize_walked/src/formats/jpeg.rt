@@ -3,11 +3,9 @@ ghost use Rattle.std.specs.Prelude.{◌≡◌, ◌↔◌, ◌<◌, ◌+◌, ◌^
 ghost use Rattle.imagesize_walked.specs.Jpeg.{depth, is_frame, is_jpeg, is_own_end, is_own_frame, jpeg, jpeg_segment};
 ghost use Rattle.imagesize_walked.specs.Walks.{depth_behind, LeadsOn, RoleLeadsOn, Stands};
 ghost use Rattle.imagesize_source.specs.Walk.{said_at};
-ghost use Rattle.imagesize_source.specs.Halts.{RunsOrHalts, with_error};
-ghost use Rattle.imagesize_source.specs.Layout.{layout_reads};
 ghost use Rattle.imagesize_source.specs.Paying.{Nears};
 ghost use Rattle.imagesize_source.specs.Reading.{map_answer};
-ghost use Rattle.imagesize_source.specs.State.{Runs};
+ghost use Rattle.imagesize_source.specs.State.{Follows, Runs};
 
 use imagesize_source::readings::{read_bytes, read_u16_behind};
 use imagesize_source::source::Source;
@@ -27,7 +25,7 @@ pub fn matches(head: &[u8; 12]) -> bool
 /// The lines, and the samples of a line, of the first frame that is not that of an image within the image.
 #[tactic(auto, using(crate::proofs::Jpeg::jpeg_follows, crate::proofs::Jpeg::stands_first))]
 pub fn size<S: Source>(source: &mut S) -> Result<ImageSize, Halt>
-    ensures { RunsOrHalts (S.state source.old) (S.state source.new) (S.failure source.new) result (jpeg (S.state source.old).held.input) }
+    ensures { Runs (S.state source.old) (S.state source.new) result (jpeg (S.state source.old).held.input) }
 {
     walk(Segments { depth: 0 }, source, 2)
 }
@@ -105,9 +103,7 @@ impl Segments {
         requires { self.now.depth + 1 < 2 ^ 64 }
         ensures nears { IfOk result (λ found. Nears (S.state source.old) (S.state source.new) place (said_at place found)) }
         ensures depth { IfOk result (λ found. LeadsOn self.old.depth self.new.depth (said_at place found)) }
-        ensures runs { Runs (S.state source.old) (S.state source.new)
-            (map_answer (said_at place) (with_error (S.failure source.new) (S.state source.new).frame.budget result))
-            (layout_reads (S.state source.old).held.input (jpeg_segment self.old.depth place)) }
+        ensures runs { Follows (S.state source.old) (S.state source.new) (map_answer (said_at place) result) (jpeg_segment self.old.depth place) }
     {
         let [first, marker] = read_bytes::<S, 2>(source, place)?;
         if first != 0xFF {

@@ -1,11 +1,9 @@
 //! TIFF, by "TIFF Revision 6.0" (section 2), and BigTIFF, by "The BigTIFF File Format".
-ghost use Rattle.std.specs.Prelude.{◌≡◌, ◌+◌, ◌≤◌, ◌==◌, if◌then◌else◌, take, length};
-ghost use Rattle.imagesize_walked.specs.Tiff.{StandsFor, byte_order, count_bytes, directory_at, head_bytes, is_tiff, field_type_in, field_type_of, size_if_known, stated_place, tag_in, tiff, tiff_entries, tiff_entry, tiff_head, tiff_header, tiff_value, value_bytes, value_of, version_of};
+ghost use Rattle.std.specs.Prelude.{◌≡◌, ◌+◌, ◌≤◌, ◌==◌, if◌then◌else◌, false, take, length};
+ghost use Rattle.imagesize_walked.specs.Tiff.{byte_order, count_bytes, directory_at, head_bytes, is_tiff, field_type_in, field_type_of, size_if_known, stated_place, tag_in, tiff, tiff_entries, tiff_entry, tiff_head, tiff_header, tiff_value, value_bytes, value_of, version_of};
 ghost use Rattle.imagesize_source.specs.Chain.{chain_at};
-ghost use Rattle.imagesize_source.specs.Halts.{RunsOrHalts};
-ghost use Rattle.imagesize_source.specs.Layout.{layout_reads};
-ghost use Rattle.imagesize_source.specs.Reading.{number_read};
-ghost use Rattle.imagesize_source.specs.State.{IsSound};
+ghost use Rattle.imagesize_source.specs.Reading.{is_stopped, number_read};
+ghost use Rattle.imagesize_source.specs.State.{Runs, Follows, IsSound};
 
 use imagesize_source::readings::{
     read_bytes, read_exact_at, read_u16, read_u32, read_u64, read_whole_behind,
@@ -29,7 +27,7 @@ pub fn matches(head: &[u8; 12]) -> bool
 /// The width and the height, by the first entry of the first directory behind which both are known.
 #[tactic(auto, using(imagesize_source::proofs::Runs::steps))]
 pub fn size<S: Source>(source: &mut S) -> Result<ImageSize, Halt>
-    ensures { RunsOrHalts (S.state source.old) (S.state source.new) (S.failure source.new) result (tiff (S.state source.old).held.input) }
+    ensures { Runs (S.state source.old) (S.state source.new) result (tiff (S.state source.old).held.input) }
 {
     let header = read_header(source)?;
     let count = read_count(source, &header)?;
@@ -54,8 +52,7 @@ struct Header {
 // The header.
 #[tactic(auto, using(imagesize_source::proofs::Runs::steps, imagesize_source::proofs::Layouts::binding), unfolding(crate::specs::Tiff::tiff_header))]
 fn read_header<S: Source>(source: &mut S) -> Result<Header, Halt>
-    ensures { RunsOrHalts (S.state source.old) (S.state source.new) (S.failure source.new) result
-        (layout_reads (S.state source.old).held.input tiff_header) }
+    ensures { Follows (S.state source.old) (S.state source.new) result tiff_header }
 {
     let mark = read_bytes::<S, 2>(source, 0)?;
     let order = byte_order(mark)?;
@@ -68,7 +65,7 @@ fn read_header<S: Source>(source: &mut S) -> Result<Header, Halt>
 // The order of all numbers, by the first two bytes.
 #[inline(always)]
 fn byte_order(mark: [u8; 2]) -> Result<Endian, Halt>
-    ensures { StandsFor result (byte_order mark) }
+    ensures { result ≡ byte_order mark }
 {
     match mark {
         [b'I', b'I'] => Ok(Endian::Little),
@@ -80,7 +77,7 @@ fn byte_order(mark: [u8; 2]) -> Result<Endian, Halt>
 // The format, by the number behind the order.
 #[inline(always)]
 fn version_of(number: u16) -> Result<Version, Halt>
-    ensures { StandsFor result (version_of number) }
+    ensures { result ≡ version_of number }
 {
     match number {
         42 => Ok(Version::Tiff),
@@ -92,7 +89,7 @@ fn version_of(number: u16) -> Result<Version, Halt>
 // The header whose directory stands at a place, which is never 0.
 #[inline(always)]
 fn directory_at(order: Endian, version: Version, place: u64) -> Result<Header, Halt>
-    ensures { StandsFor result (directory_at order version place) }
+    ensures { result ≡ directory_at order version place }
 {
     if place == 0 {
         return Err(Halt::InvalidIfdOffset);
@@ -107,8 +104,7 @@ fn directory_at(order: Endian, version: Version, place: u64) -> Result<Header, H
 // The place of the first directory, as it is stated.
 #[tactic(auto, using(imagesize_source::proofs::Runs::steps), unfolding(crate::specs::Tiff::stated_place))]
 fn read_place<S: Source>(source: &mut S, order: Endian, version: Version) -> Result<u64, Halt>
-    ensures { RunsOrHalts (S.state source.old) (S.state source.new) (S.failure source.new) result
-        (layout_reads (S.state source.old).held.input (stated_place order version)) }
+    ensures { Follows (S.state source.old) (S.state source.new) result (stated_place order version) }
 {
     match version {
         Version::Tiff => {
@@ -122,8 +118,7 @@ fn read_place<S: Source>(source: &mut S, order: Endian, version: Version) -> Res
 // The same of BigTIFF, behind the size of a place and two bytes that are zero.
 #[tactic(auto, using(imagesize_source::proofs::Runs::steps), unfolding(crate::specs::Tiff::stated_place))]
 fn read_big_place<S: Source>(source: &mut S, order: Endian) -> Result<u64, Halt>
-    ensures { RunsOrHalts (S.state source.old) (S.state source.new) (S.failure source.new) result
-        (layout_reads (S.state source.old).held.input (stated_place order Version.BigTiff)) }
+    ensures { Follows (S.state source.old) (S.state source.new) result (stated_place order Version.BigTiff) }
 {
     if read_u16(source, 4, order)? != 8 {
         return Err(Halt::BigTiffOffsetSize);
@@ -138,7 +133,7 @@ fn read_big_place<S: Source>(source: &mut S, order: Endian) -> Result<u64, Halt>
 // How many entries the directory says that it has.
 #[tactic(auto, using(imagesize_source::proofs::Runs::steps))]
 fn read_count<S: Source>(source: &mut S, header: &Header) -> Result<u64, Halt>
-    ensures { RunsOrHalts (S.state source.old) (S.state source.new) (S.failure source.new) result
+    ensures { Runs (S.state source.old) (S.state source.new) result
         (number_read (S.state source.old).held.input header.now.order header.now.directory (count_bytes header.now.version)) }
 {
     match header.version {
@@ -153,7 +148,7 @@ fn read_count<S: Source>(source: &mut S, header: &Header) -> Result<u64, Halt>
 // The size by the first so many entries of the directory.
 fn find_size<S: Source>(source: &mut S, header: &Header, count: u64) -> Result<ImageSize, Halt>
     requires { IsSound (S.state source.old) }
-    ensures { RunsOrHalts (S.state source.old) (S.state source.new) (S.failure source.new) result
+    ensures { Runs (S.state source.old) (S.state source.new) result
         (chain_at (tiff_entries header.now count) (S.state source.old).held.input) }
 {
     match header.version {
@@ -173,7 +168,7 @@ fn find_size_of<S: Source, const HEAD: usize, const VALUE: usize>(
     requires sound { IsSound (S.state source.old) }
     requires head { HEAD ≡ head_bytes header.now.version }
     requires value { VALUE ≡ value_bytes header.now.version }
-    ensures { RunsOrHalts (S.state source.old) (S.state source.new) (S.failure source.new) result
+    ensures { Runs (S.state source.old) (S.state source.new) result
         (chain_at (tiff_entries header.now count) (S.state source.old).held.input) }
 {
     let mut place = header.directory.saturating_add(count_bytes(header.version));
@@ -243,8 +238,7 @@ fn read_entry<S: Source, const HEAD: usize, const VALUE: usize>(
 ) -> Result<Entry, Halt>
     requires head { HEAD ≡ head_bytes header.now.version }
     requires value { VALUE ≡ value_bytes header.now.version }
-    ensures { RunsOrHalts (S.state source.old) (S.state source.new) (S.failure source.new) result
-        (layout_reads (S.state source.old).held.input (tiff_entry header.now place)) }
+    ensures { Follows (S.state source.old) (S.state source.new) result (tiff_entry header.now place) }
 {
     let head = read_head::<S, HEAD>(source, header.version, place)?;
     let field_type = field_type_of(header.version, field_type_in(header.order, head))?;
@@ -264,8 +258,7 @@ fn read_head<S: Source, const HEAD: usize>(
     place: u64,
 ) -> Result<[u8; 4], Halt>
     requires { HEAD ≡ head_bytes version }
-    ensures { RunsOrHalts (S.state source.old) (S.state source.new) (S.failure source.new) result
-        (layout_reads (S.state source.old).held.input (tiff_head version place)) }
+    ensures { Follows (S.state source.old) (S.state source.new) result (tiff_head version place) }
 {
     let mut head = [0u8; HEAD];
     read_exact_at(source, place, &mut head)?;
@@ -282,8 +275,7 @@ fn read_value<S: Source, const VALUE: usize>(
     distance: u64,
 ) -> Result<[u8; 4], Halt>
     requires { VALUE ≡ value_bytes version }
-    ensures { RunsOrHalts (S.state source.old) (S.state source.new) (S.failure source.new) result
-        (layout_reads (S.state source.old).held.input (tiff_value version (place + distance))) }
+    ensures { Follows (S.state source.old) (S.state source.new) result (tiff_value version (place + distance)) }
 {
     let mut value = [0u8; VALUE];
     if !read_whole_behind(source, place, distance, &mut value)? {
@@ -330,7 +322,8 @@ enum FieldType {
 // What the value of a field type is. Three field types are those of BigTIFF alone.
 #[inline(always)]
 fn field_type_of(version: Version, field_type: u16) -> Result<FieldType, Halt>
-    ensures { StandsFor result (field_type_of version field_type) }
+    ensures value { result ≡ field_type_of version field_type }
+    ensures goes_on { is_stopped result ≡ false }
 {
     match (field_type, version) {
         (3 | 8, _) => Ok(FieldType::Short),

@@ -1,17 +1,23 @@
-use Rattle.std.proofs.Common.{◌∙◌, arith, rules}
+use Rattle.std.proofs.Common.{Result, ap, ◌∙◌, arith, rules}
 use Rattle.imagesize.proofs.Counts.{cost_most, cost_stated, cost_within}
 use Rattle.imagesize.proofs.Extension.{size_lasts}
 use Rattle.imagesize.proofs.Locality.{local_meaning}
 use Rattle.imagesize.proofs.Short.{no_meaning}
+use Rattle.imagesize_source.specs.Outcome.{outcome_of, stated}
+use Rattle.imagesize_source.specs.Errors.{is_stopped}
+use Rattle.imagesize_source.specs.declared.error.ImageError.{ImageError}
+use Rattle.imagesize_types.specs.declared.size.ImageSize.{ImageSize}
+use Rattle.imagesize_source.proofs.Halts.{stated_same}
+use Rattle.imagesize.proofs.Endings.{slice_unstopped}
 use Rattle.imagesize_source.proofs.Agreement.{same_by_local}
-use Rattle.imagesize.specs.Meaning.{meaning}
+use Rattle.imagesize.specs.Meaning.{meaning, meaning_reads}
 use Rattle.imagesize.proofs.calls.blob_size.Goals as goal
 
 pub returns-clause-short : goal.returns-clause-short
 returns-clause-short c = λ few. (search rules) ∙ no_meaning c.args.«data».now 0 few
 
 pub returns-clause-local : goal.returns-clause-local
-returns-clause-local c = λ place. same_by_local (λ d. meaning d place) (local_meaning place) c.args.«data».now
+returns-clause-local c = λ place. λ e agrees. ap outcome_of (same_by_local (λ d. meaning_reads d place) (local_meaning place) c.args.«data».now e agrees)
 
 pub returns-clause-stated : goal.returns-clause-stated
 returns-clause-stated c = λ place. cost_stated c.args.«data».now place
@@ -24,3 +30,10 @@ returns-clause-within c = λ place. omega (arith, cost_within c.args.«data».no
 
 pub returns-clause-lasts : goal.returns-clause-lasts
 returns-clause-lasts c = size_lasts c.args.«data».now 0 _ (search rules)
+
+pub returns-clause-value : goal.returns-clause-value
+returns-clause-value c = c.with_error.ensures ∙ stated_same _ _ _ c.probe_slice.ensures.unstopped ∙ ap stated c.probe_slice.ensures.value
+
+pub returns-clause-unstopped : goal.returns-clause-unstopped
+returns-clause-unstopped c = ap (λ (r : Result ImageSize ImageError). is_stopped r) c.with_error.ensures
+    ∙ slice_unstopped _ _ _ c.probe_slice.ensures.unstopped

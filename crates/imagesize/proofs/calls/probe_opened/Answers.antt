@@ -1,22 +1,26 @@
-use Rattle.std.proofs.Common.{ap, arith, rules}
-use Rattle.imagesize.proofs.Endings.{budget_taken, fault_last, leaves_reader, no_memory}
+use Rattle.std.proofs.Common.{refl, ap, arith, rules}
+use Rattle.imagesize.proofs.Endings.{budget_taken, fault_last, kept_plain, leaves_reader, no_memory}
 use Rattle.imagesize.proofs.Meanings.{probes_opened}
 use Rattle.imagesize.proofs.calls.probe_opened.Goals as goal
 
 pub returns-clause-probes : goal.returns-clause-probes
 returns-clause-probes g c = λ telling opens.
-    probes_opened telling _ _ _ c.args.opened _ _ _ c.new-source.ensures.state opens c.probe-kind.ensures.runs c.probe-kind.ensures.kind
-    (omega arith)
+    probes_opened telling _ _ _ c.args.opened _ _ _ _ c.with_error.ensures c.new-source.ensures.state refl opens c.probe-kind.ensures.runs
+    c.probe-kind.ensures.kind (omega arith)
 
 pub returns-clause-spent : goal.returns-clause-spent
-returns-clause-spent g c = budget_taken c.args.opened.told _ _ _ (ap (λ s. s.frame.budget) c.new-source.ensures.state)
-    c.probe-kind.ensures.runs (omega arith)
+returns-clause-spent g c =
+    rw c.with_error.ensures (budget_taken c.args.opened.told _ _ _ (ap (λ s. s.frame.budget) c.new-source.ensures.state)
+    (kept_plain c.probe-kind.new.source.ledger.progress.fault _ refl) c.probe-kind.ensures.runs (omega arith))
 
 pub returns-clause-memory : goal.returns-clause-memory
-returns-clause-memory g c = no_memory _ _ (ap (λ s. s.frame.records) c.new-source.ensures.state) c.probe-kind.ensures.runs
+returns-clause-memory g c =
+    rw c.with_error.ensures (no_memory _ _ (ap (λ s. s.frame.records) c.new-source.ensures.state)
+    (kept_plain c.probe-kind.new.source.ledger.progress.fault _ refl) c.probe-kind.ensures.runs)
 
 pub returns-clause-fault : goal.returns-clause-fault
-returns-clause-fault g c = fault_last _ c.probe-kind.new.source.ledger.progress.fault _ _ (search rules) c.probe-kind.ensures.runs
+returns-clause-fault g c =
+    rw c.with_error.ensures (fault_last _ c.probe-kind.new.source.ledger.progress.fault _ _ (search rules) c.probe-kind.ensures.runs)
 
 pub returns-clause-leaves : goal.returns-clause-leaves
 returns-clause-leaves g c = λ telling opens.

@@ -1,19 +1,19 @@
 use Rattle.std.proofs.Common.{◌≡◌, ◌<◌, ◌^◌, Result, ◌∙◌, ap, sym, subst, false}
 use Rattle.imagesize.proofs.Wanted.{SaysOfEach, moved, tells, type_refused, type_sized, type_wanted, unstopped_type}
-use Rattle.imagesize.specs.Meaning.{kind_of, meaning, size_of}
+use Rattle.imagesize.specs.Meaning.{kind_of, meaning, size_of, kind_reads, size_reads}
 use Rattle.imagesize.specs.Parted.{IfFound, IsProbed, Says, has_texts, texts_of}
 use Rattle.imagesize.specs.declared.parts.PartsAnswer.TheVariants.{Found, Wanted}
 use Rattle.imagesize.specs.declared.types.ImageType.{ImageType}
-use Rattle.imagesize_source.specs.Reading.{is_stopped}
+use Rattle.imagesize_source.specs.Errors.{is_stopped}
 use Rattle.imagesize_source.specs.declared.error.ImageError.{ImageError}
 use Rattle.imagesize.proofs.parts.parts_probe.Goals as goal
 
 pub returns-in-Found-Ok-clause-says : goal.returns-in-Found-Ok-clause-says
 returns-in-Found-Ok-clause-says c = λ d has short.
     let new = c.new-source.ensures in let kept = c.in-Found-Ok.ensures in
-    let kind = moved (SaysOfEach false (λ d. kind_of d 0) (Found c.in-Found-Ok.field-0)) _ _ _ _ _ _
+    let kind = moved (SaysOfEach false (λ d. kind_reads d 0) (Found c.in-Found-Ok.field-0)) _ _ _ _ _ _
     new.told new.spans new.bytes kept.says in
-    let size = moved (SaysOfEach (has_texts c.in-Found-Ok.image) (size_of c.in-Found-Ok.image) c.size_as.result) _ _ _ _ _ _
+    let size = moved (SaysOfEach (has_texts c.in-Found-Ok.image) (size_reads c.in-Found-Ok.image) c.size_as.result) _ _ _ _ _ _
     (kept.told ∙ new.told) (kept.spans ∙ new.spans) (kept.bytes ∙ new.bytes) c.size_as.ensures.says in
     subst (λ a. Says (texts_of d) (IsProbed d) (meaning d 0).marks c.args.total c.args.spans.now c.args.bytes.now a) (sym c.with_type.ensures)
     (type_sized d c.args.total c.args.spans.now c.args.bytes.now c.in-Found-Ok.image c.size_as.result (sym c.in-Found-Ok.field-0-is ∙ kind d has short) (size d has short))
@@ -25,14 +25,14 @@ returns-in-Found-Ok-clause-complete c = λ d has short.
 pub returns-in-Found-Err-clause-says : goal.returns-in-Found-Err-clause-says
 returns-in-Found-Err-clause-says c = λ d has short.
     let new = c.new-source.ensures in
-    let kind = moved (SaysOfEach false (λ d. kind_of d 0) (Found c.in-Found-Err.field-0)) _ _ _ _ _ _
+    let kind = moved (SaysOfEach false (λ d. kind_reads d 0) (Found c.in-Found-Err.field-0)) _ _ _ _ _ _
     new.told new.spans new.bytes c.in-Found-Err.ensures.says in
     type_refused d c.in-Found-Err.error (sym c.in-Found-Err.field-0-is ∙ kind d has short)
 
 pub returns-in-Wanted-clause-says : goal.returns-in-Wanted-clause-says
 returns-in-Wanted-clause-says c = λ d has short.
     let new = c.new-source.ensures in
-    let kind = moved (SaysOfEach false (λ d. kind_of d 0) (Wanted c.in-Wanted.span)) _ _ _ _ _ _
+    let kind = moved (SaysOfEach false (λ d. kind_reads d 0) (Wanted c.in-Wanted.span)) _ _ _ _ _ _
     new.told new.spans new.bytes c.in-Wanted.ensures.says in
     type_wanted d c.args.total c.args.spans.now c.args.bytes.now c.in-Wanted.span (kind d has short)
 

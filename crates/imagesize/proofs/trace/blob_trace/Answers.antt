@@ -10,7 +10,7 @@ returns-clause-local g c = same c.args.«data».now
 
 pub returns-clause-traces : goal.returns-clause-traces
 returns-clause-traces g c =
-    traced _ _ _ _ (rw (c.in_memory-source.ensures.bytes, c.in_memory-source.ensures.spans) at c.probe-kind.ensures.runs)
+    traced _ _ _ _ _ _ _ c.with_error.ensures (rw (c.in_memory-source.ensures.bytes, c.in_memory-source.ensures.spans) at c.probe-kind.ensures.runs)
     (rw (c.in_memory-source.ensures.bytes, c.in_memory-source.ensures.spans) at c.probe-kind.ensures.kind) c.probe-kind.new.source.written
     (sym c.lacks_memory.ensures ∙ c.if-lacks_memory.false)
 
@@ -26,7 +26,7 @@ returns-clause-within g c =
 
 pub returns-clause-lasts : goal.returns-clause-lasts
 returns-clause-lasts g c =
-    answer_lasts c.args.«data».now _ _ _ (rw (c.in_memory-source.ensures.bytes, c.in_memory-source.ensures.spans) at c.probe-kind.ensures.runs)
+    answer_lasts c.args.«data».now _ _ _ _ _ _ c.with_error.ensures (rw (c.in_memory-source.ensures.bytes, c.in_memory-source.ensures.spans) at c.probe-kind.ensures.runs)
     (sym c.lacks_memory.ensures ∙ c.if-lacks_memory.false)
 
 pub returns-clause-cuts : goal.returns-clause-cuts

@@ -1,9 +1,9 @@
 //! Bits of bytes, the lowest of a byte first, by ISO/IEC 18181-1, annex B.
 ghost use Rattle.std.specs.Prelude.{◌≡◌, ℕ, ◌+◌, ◌*◌, ◌%◌, ◌^◌, ◌<◌, ◌≤◌, ok_or};
 ghost use Rattle.imagesize_boxes.specs.Walks.{field_in};
-ghost use Rattle.imagesize_source.specs.declared.error.ImageError.TheVariants as error;
 ghost use Rattle.imagesize_source.specs.declared.endian.Endian.TheVariants as endian;
 ghost use Rattle.imagesize_source.specs.Numbers.{number};
+ghost use Rattle.imagesize_source.specs.declared.halt.Halt.TheVariants as halt;
 
 use super::front::MOST;
 
@@ -36,7 +36,7 @@ impl Bits {
         requires some { 0 < count }
         requires few { count ≤ 30 }
         requires near { from ≤ 1000 }
-        ensures { ok_or result error.CorruptedImage ≡ field_in self.now.number self.now.count from count }
+        ensures { ok_or result halt.Corrupted ≡ field_in self.now.number self.now.count from count }
     {
         if from + count > self.count {
             return None;

@@ -4,14 +4,11 @@ ghost use Rattle.imagesize_boxes.specs.Jxl.{box_checked, box_content, box_head, 
 ghost use Rattle.imagesize_boxes.specs.Walks.{box_said, IsFurther, FitsBehind, IsHead};
 ghost use Rattle.imagesize_types.specs.Head.{begins};
 ghost use Rattle.imagesize_source.specs.Chain.{Decided, chain_at};
-ghost use Rattle.imagesize_source.specs.Halts.{RunsOrHalts, with_error};
-ghost use Rattle.imagesize_source.specs.Layout.{layout_reads};
 ghost use Rattle.imagesize_source.specs.Layout.Layout.{«done»};
 ghost use Rattle.imagesize_source.specs.Numbers.{number};
 ghost use Rattle.imagesize_source.specs.Paying.{Nears, ahead_of};
 ghost use Rattle.imagesize_source.specs.Reading.{number_read, part_read, map_answer};
-ghost use Rattle.imagesize_source.specs.State.{Runs, IsSound};
-ghost use Rattle.imagesize_source.specs.declared.error.ImageError.{ImageError};
+ghost use Rattle.imagesize_source.specs.State.{Follows, Runs, IsSound};
 ghost use Rattle.imagesize_source.specs.declared.endian.Endian.TheVariants as endian;
 
 use super::front::MOST;
@@ -26,7 +23,7 @@ pub(super) type Codestream = ArrayVec<u8, MOST>;
 // The first bytes of the codestream in the boxes behind the signature box.
 pub(super) fn read_codestream<S: Source>(source: &mut S) -> Result<Codestream, Halt>
     ensures { Runs (S.state source.old) (S.state source.new)
-        (map_answer (λ bytes. bytes.items) (with_error (S.failure source.new) (S.state source.new).frame.budget result))
+        (map_answer (λ bytes. bytes.items) result)
         (chain_at jxl_chain (S.state source.old).held.input) }
 {
     let mut codestream = Codestream::new();
@@ -67,9 +64,7 @@ fn read_box<S: Source>(source: &mut S, place: u64, held: &Codestream) -> Result<
     requires { length held.now.items ≤ 16 }
     ensures nears { IfOk result (λ found. Nears (S.state source.old) (S.state source.new) place (box_said found)) }
     ensures fits { IfOk result (λ found. FitsBehind held.now.items found) }
-    ensures runs { Runs (S.state source.old) (S.state source.new)
-        (map_answer (λ found. box_said found) (with_error (S.failure source.new) (S.state source.new).frame.budget result))
-        (layout_reads (S.state source.old).held.input (jxl_box held.now.items place)) }
+    ensures runs { Follows (S.state source.old) (S.state source.new) (map_answer (λ found. box_said found) result) (jxl_box held.now.items place) }
 {
     let head = read_head(source, place)?;
     read_content(source, place, &head, held)
@@ -80,8 +75,7 @@ fn read_box<S: Source>(source: &mut S, place: u64, held: &Codestream) -> Result<
 fn read_head<S: Source>(source: &mut S, place: u64) -> Result<BoxHead, Halt>
     ensures nears { IfOk result (λ head. ahead_of (S.state source.new) (place + 1) < ahead_of (S.state source.old) place) }
     ensures is { IfOk result (λ head. IsHead place head) }
-    ensures runs { RunsOrHalts (S.state source.old) (S.state source.new) (S.failure source.new) result
-        (layout_reads (S.state source.old).held.input (box_head place)) }
+    ensures runs { Follows (S.state source.old) (S.state source.new) result (box_head place) }
 {
     let head = read_bytes::<S, 8>(source, place)?;
     let tag = tag(&head);
@@ -127,7 +121,7 @@ fn tag(head: &[u8; 8]) -> [u8; 4]
 
 // The size of eight bytes behind the first eight of a box.
 fn read_long_size<S: Source>(source: &mut S, place: u64) -> Result<u64, Halt>
-    ensures { RunsOrHalts (S.state source.old) (S.state source.new) (S.failure source.new) result
+    ensures { Runs (S.state source.old) (S.state source.new) result
         (number_read (S.state source.old).held.input endian.Big (place + 8) 8) }
 {
     read_u64(source, place.saturating_add(8), Endian::Big)
@@ -138,7 +132,7 @@ fn read_long_size<S: Source>(source: &mut S, place: u64) -> Result<u64, Halt>
 fn check_head(place: u64, head: BoxHead) -> Result<BoxHead, Halt>
     requires { head.length ≤ 16 }
     ensures is { IfOk result (λ found. IsHead place found) }
-    ensures answer { (failure : ImageError) (budget : ℕ) → with_error failure budget result ≡ box_checked place head }
+    ensures answer { result ≡ box_checked place head }
 {
     if place.checked_add(head.size).is_none() {
         return Err(Halt::Corrupted);
@@ -147,7 +141,7 @@ fn check_head(place: u64, head: BoxHead) -> Result<BoxHead, Halt>
         let BoxHead { tag, size, .. } = head;
         return Err(Halt::InvalidJxlBoxSize {
             size: size as u8,
-            tag: u32::from_be_bytes(tag),
+            tag: Endian::Big.u32(tag),
         });
     }
     Ok(head)
@@ -166,9 +160,7 @@ fn read_content<S: Source>(
     requires room { length held.now.items ≤ 16 }
     ensures further { IfOk result (λ found. IsFurther place found) }
     ensures fits { IfOk result (λ found. FitsBehind held.now.items found) }
-    ensures runs { Runs (S.state source.old) (S.state source.new)
-        (map_answer (λ found. box_said found) (with_error (S.failure source.new) (S.state source.new).frame.budget result))
-        (layout_reads (S.state source.old).held.input (box_content held.now.items place head.now)) }
+    ensures runs { Follows (S.state source.old) (S.state source.new) (map_answer (λ found. box_said found) result) (box_content held.now.items place head.now) }
 {
     if is_codestream_box(head) {
         return Ok(Found::Whole(read_whole(source, place, head)?));
@@ -210,9 +202,7 @@ fn room(head: &BoxHead) -> u64
 fn read_whole<S: Source>(source: &mut S, place: u64, head: &BoxHead) -> Result<Codestream, Halt>
     requires sound { IsSound (S.state source.old) }
     requires is { IsHead place head.now }
-    ensures { Runs (S.state source.old) (S.state source.new)
-        (map_answer (λ codestream. Decided codestream.items) (with_error (S.failure source.new) (S.state source.new).frame.budget result))
-        (layout_reads (S.state source.old).held.input (codestream_box place head.now)) }
+    ensures { Follows (S.state source.old) (S.state source.new) (map_answer (λ codestream. Decided codestream.items) result) (codestream_box place head.now) }
 {
     let most = room(head).min(MOST as u64) as usize;
     read_piece(source, place, head.length, most)
@@ -231,9 +221,7 @@ fn read_partial<S: Source>(
     requires room { length held.now.items ≤ 16 }
     ensures further { IfOk result (λ found. IsFurther place found) }
     ensures fits { IfOk result (λ found. FitsBehind held.now.items found) }
-    ensures runs { Runs (S.state source.old) (S.state source.new)
-        (map_answer (λ found. box_said found) (with_error (S.failure source.new) (S.state source.new).frame.budget result))
-        (layout_reads (S.state source.old).held.input (partial_box held.now.items place head.now)) }
+    ensures runs { Follows (S.state source.old) (S.state source.new) (map_answer (λ found. box_said found) result) (partial_box held.now.items place head.now) }
 {
     let room = room(head);
     if room < 4 {
@@ -255,9 +243,7 @@ fn read_piece<S: Source>(
     requires sound { IsSound (S.state source.old) }
     requires few { most ≤ 16 }
     ensures few { IfOk result (λ bytes. length bytes.items ≤ most) }
-    ensures runs { Runs (S.state source.old) (S.state source.new)
-        (map_answer (λ bytes. bytes.items) (with_error (S.failure source.new) (S.state source.new).frame.budget result))
-        (layout_reads (S.state source.old).held.input (piece_at (place + distance) most)) }
+    ensures runs { Follows (S.state source.old) (S.state source.new) (map_answer (λ bytes. bytes.items) result) (piece_at (place + distance) most) }
 {
     if most == 0 {
         return Ok(Codestream::new());
@@ -277,7 +263,7 @@ fn read_there<S: Source>(
 ) -> Result<usize, Halt>
     ensures bound { IfOk result (λ n. n ≤ length room.new) }
     ensures runs { Runs (S.state source.old) (S.state source.new)
-        (map_answer (λ n. take n room.new) (with_error (S.failure source.new) (S.state source.new).frame.budget result))
+        (map_answer (λ n. take n room.new) result)
         (part_read (S.state source.old).held.input (place + distance) (length room.new)) }
 {
     source.read_at(place.saturating_add(distance), room)

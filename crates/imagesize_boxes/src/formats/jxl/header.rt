@@ -2,10 +2,8 @@
 ghost use Rattle.std.specs.Prelude.{◌≡◌, ℕ, ◌+◌, ◌*◌, ◌^◌, ◌<◌, ◌≤◌, length, take, IfSome, ok_or};
 ghost use Rattle.imagesize_boxes.specs.Walks.{found_in};
 ghost use Rattle.imagesize_boxes.specs.Jxl.{exchanges_sides, has_signature, jxl_header, jxl_size, side_fields, side_bits, width_by, width_side};
-ghost use Rattle.imagesize_source.specs.Halts.{with_error};
-ghost use Rattle.imagesize_source.specs.declared.error.ImageError.{ImageError};
 ghost use Rattle.imagesize_types.specs.Sides.{exchange_if};
-ghost use Rattle.imagesize_source.specs.declared.error.ImageError.TheVariants as error;
+ghost use Rattle.imagesize_source.specs.declared.halt.Halt.TheVariants as halt;
 
 use super::bits::Bits;
 use super::front::MOST;
@@ -23,7 +21,7 @@ pub(super) struct Side {
 #[inline(always)]
 pub(super) fn codestream_size(bytes: &[u8; MOST], len: usize) -> Result<ImageSize, Halt>
     requires { len ≤ 16 }
-    ensures { (failure : ImageError) (budget : ℕ) → with_error failure budget result ≡ jxl_size (take len bytes.now) }
+    ensures { result ≡ jxl_size (take len bytes.now) }
 {
     if len < 2 {
         return Err(Halt::Corrupted);
@@ -47,7 +45,7 @@ pub(super) fn has_signature(bytes: &[u8]) -> bool
 #[inline(always)]
 #[tactic(auto, using(crate::proofs::Fields::fields))]
 fn header_size(bits: &Bits) -> Option<ImageSize>
-    ensures { ok_or result error.CorruptedImage ≡ found_in bits.now.number bits.now.count jxl_header }
+    ensures { ok_or result halt.Corrupted ≡ found_in bits.now.number bits.now.count jxl_header }
 {
     let small = bits.field(16, 1)? == 1;
     let height = read_side(bits, small, 17)?;
@@ -60,7 +58,7 @@ fn header_size(bits: &Bits) -> Option<ImageSize>
 #[inline(always)]
 fn read_side(bits: &Bits, small: bool, from: u32) -> Option<Side>
     requires { from ≤ 100 }
-    ensures found { ok_or result error.CorruptedImage ≡ found_in bits.now.number bits.now.count (side_fields small from) }
+    ensures found { ok_or result halt.Corrupted ≡ found_in bits.now.number bits.now.count (side_fields small from) }
     ensures length { IfSome result (λ side_fields. side_fields.length ≤ 2 ^ 30) }
     ensures end { IfSome result (λ side_fields. side_fields.end ≤ from + 32) }
 {
@@ -99,7 +97,7 @@ fn side_bits(selector: u32) -> u32
 fn read_width(bits: &Bits, small: bool, height: &Side) -> Option<Side>
     requires length { height.now.length ≤ 2 ^ 30 }
     requires end { height.now.end ≤ 60 }
-    ensures found { ok_or result error.CorruptedImage ≡ found_in bits.now.number bits.now.count (width_side small height.now) }
+    ensures found { ok_or result halt.Corrupted ≡ found_in bits.now.number bits.now.count (width_side small height.now) }
     ensures length { IfSome result (λ side_fields. side_fields.length < 2 ^ 35) }
     ensures end { IfSome result (λ side_fields. side_fields.end ≤ 100) }
 {
@@ -135,7 +133,7 @@ fn width_by(ratio: u32, height: u64) -> u64
 #[inline(always)]
 fn read_exchanged(bits: &Bits, from: u32) -> Option<bool>
     requires { from ≤ 100 }
-    ensures { ok_or result error.CorruptedImage ≡ found_in bits.now.number bits.now.count (exchanges_sides from) }
+    ensures { ok_or result halt.Corrupted ≡ found_in bits.now.number bits.now.count (exchanges_sides from) }
 {
     if bits.field(from, 1)? == 1 || bits.field(from + 1, 1)? == 0 {
         return Some(false);

@@ -12,4 +12,4 @@ returns-clause-runs g c = bytes_there _ _ _ _ _ c.in_ok-count.ensures.runs (sear
 pub returns-in_err-count-clause-runs : goal.returns-in_err-count-clause-runs
 returns-in_err-count-clause-runs g c =
     let is : ◌≡◌ {A = Result (Unit {0}) Halt} c.from_residual.result (Err c.in_err-count.field-0.0) = search rules in
-    bytes_stopped _ _ _ _ _ _ c.from_residual.result c.in_err-count.field-0.0 is c.in_err-count.ensures.runs
+    bytes_stopped _ _ _ _ c.from_residual.result c.in_err-count.field-0.0 is c.in_err-count.ensures.runs

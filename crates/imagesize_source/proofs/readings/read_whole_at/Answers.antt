@@ -9,4 +9,4 @@ returns-clause-runs g c = whole_read _ _ _ _ c.in_ok-count.ensures.bound c.in_ok
 pub returns-in_err-count-clause-runs : goal.returns-in_err-count-clause-runs
 returns-in_err-count-clause-runs g c =
     let is : ◌≡◌ {A = Result Bool Halt} c.from_residual.result (Err c.in_err-count.field-0.0) = search rules in
-    whole_stopped _ _ _ _ _ _ c.from_residual.result c.in_err-count.field-0.0 is c.in_err-count.ensures.runs
+    whole_stopped _ _ _ _ c.from_residual.result c.in_err-count.field-0.0 is c.in_err-count.ensures.runs

@@ -28,7 +28,7 @@ pub trait SpanBuffer: Drop {
             → Holds (shown self.new) (places self.new) (spans ++ span ∷ [])) }
         ensures unchanged { OnErr result ((spans : List Span) → Holds (shown self.old) (places self.old) spans
             → Holds (shown self.new) (places self.new) spans) }
-        ensures refused { IfErr result (λ halt. (halt ≡ Halt.Failed) × (allocates ≡ true)) };
+        ensures refused { IfErr result (λ halt. (halt ≡ Halt.Memory) × (allocates ≡ true)) };
 }
 
 /// Memory, which has all of them.
@@ -44,7 +44,7 @@ impl<A: Allocator> SpanBuffer for Vec<Span, A> {
     fn put(&mut self, _count: usize, span: Span) -> Result<(), Halt> {
         match self.push(span) {
             Ok(()) => Ok(()),
-            Err(_) => Err(Halt::Failed),
+            Err(_) => Err(Halt::Memory),
         }
     }
 }

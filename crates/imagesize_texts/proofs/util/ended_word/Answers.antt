@@ -4,4 +4,4 @@ use Rattle.imagesize_texts.proofs.util.ended_word.Goals as goal
 
 pub returns-in_ok-text_of_word-in-len1-up : goal.returns-in_ok-text_of_word-in-len1-up
 unfolding ended_word
-returns-in_ok-text_of_word-in-len1-up c = λ failure budget. let is = c.text_of_word.ensures failure budget in search (rules, is)
+returns-in_ok-text_of_word-in-len1-up c = let is = c.text_of_word.ensures in search (rules, is)

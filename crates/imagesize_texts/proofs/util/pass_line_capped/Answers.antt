@@ -8,4 +8,4 @@ returns-clause-bound g c = length_bound c.args.delimiter (length c.args.room.now
 
 pub returns-clause-runs : goal.returns-clause-runs
 returns-clause-runs g c = length_runs _ c.read_text.new.room c.args.place (length c.args.room.now) c.in_ok-count.count (search rules)
-    c.args.delimiter _ c.in_ok-count.ensures.runs (c.line_length.ensures _ _)
+    c.args.delimiter _ c.in_ok-count.ensures.runs c.line_length.ensures

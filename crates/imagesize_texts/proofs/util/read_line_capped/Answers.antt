@@ -12,4 +12,4 @@ returns-clause-pays g c = line_pays (λ text. text.now) c.args.delimiter (length
 
 pub returns-clause-runs : goal.returns-clause-runs
 returns-clause-runs g c = line_runs _ c.read_text.new.room c.args.place (length c.args.room.now) c.in_ok-count.count (search rules)
-    c.args.delimiter _ c.in_ok-count.ensures.runs (c.line_text.ensures _ _)
+    c.args.delimiter _ c.in_ok-count.ensures.runs c.line_text.ensures

@@ -12,4 +12,4 @@ returns-clause-pays g c = word_pays read_word_of c.read_text.new.room c.in_ok-co
 
 pub returns-clause-runs : goal.returns-clause-runs
 returns-clause-runs g c = word_runs _ c.read_text.new.room c.args.place c.in_ok-count.count _ (search rules) c.in_ok-count.ensures.runs
-    (c.word_text.ensures _ _)
+    c.word_text.ensures

@@ -1,6 +1,5 @@
 use Rattle.std.proofs.Common.{subst, ℕ, ◌+◌}
 use Rattle.imagesize_source.specs.declared.text.Text.TheVariants.{Word}
-use Rattle.imagesize_source.specs.Halts.{with_error}
 use Rattle.imagesize_source.specs.Reading.{map_answer}
 use Rattle.imagesize_source.specs.State.{Runs}
 use Rattle.imagesize_texts.specs.Contents.{word_room, word_text}
@@ -11,7 +10,6 @@ use Rattle.imagesize_texts.proofs.util.read_word_behind.Goals as goal
 pub returns : goal.returns
 returns g c = text_saturated Word (c.args.place + c.args.distance) word_room word_text
     (subst (λ (place : ℕ). Runs (g.S.Source.state c.args.source.now) (g.S.Source.state c.read_word.new.source)
-    (map_answer read_word_of (with_error (g.S.Source.failure c.read_word.new.source)
-    (g.S.Source.state c.read_word.new.source).frame.budget c.read_word.result))
+    (map_answer read_word_of c.read_word.result)
     (word_read (g.S.Source.state c.args.source.now).held.input place))
     c.saturating_add.ensures c.read_word.ensures.runs)

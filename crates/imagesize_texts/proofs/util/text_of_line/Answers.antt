@@ -5,4 +5,4 @@ use Rattle.imagesize_texts.proofs.util.text_of_line.Goals as goal
 pub returns-then-is_empty : goal.returns-then-is_empty
 returns-then-is_empty c =
     let none : length c.args.bytes.now ≡ 0 = search rules in
-    λ failure budget. sym (empty_text c.args.bytes.now none)
+    sym (empty_text c.args.bytes.now none)

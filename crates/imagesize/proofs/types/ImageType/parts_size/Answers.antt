@@ -1,14 +1,14 @@
 use Rattle.std.proofs.Common.{◌≡◌, ◌<◌, ◌^◌, false, subst}
-use Rattle.imagesize_source.specs.Reading.{is_stopped}
+use Rattle.imagesize_source.specs.Errors.{is_stopped}
 use Rattle.imagesize.proofs.Wanted.{SaysOfEach, moved, tells}
-use Rattle.imagesize.specs.Meaning.{size_of}
+use Rattle.imagesize.specs.Meaning.{size_of, size_reads}
 use Rattle.imagesize.specs.Parted.{Fits, IfFound, has_texts}
 use Rattle.imagesize.proofs.types.ImageType.parts_size.Goals as goal
 
 pub returns-clause-says : goal.returns-clause-says
 returns-clause-says c =
     let new = c.new-source.ensures in let image = c.args.self.now in
-    moved (SaysOfEach (has_texts image) (size_of image) c.size_as.result) _ _ _ _ _ _
+    moved (SaysOfEach (has_texts image) (size_reads image) c.size_as.result) _ _ _ _ _ _
     new.told new.spans new.bytes c.size_as.ensures.says
 
 pub returns-clause-complete : goal.returns-clause-complete

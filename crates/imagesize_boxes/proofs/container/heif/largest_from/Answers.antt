@@ -17,8 +17,7 @@ pub returns-in_default : goal.returns-in_default
 returns-in_default g c =
     let h = list_end c.args.all c.args.from c.loop-property.place c.loop-property.gathered c.loop-property.invariant.walks
     (rw c.in_default.is at c.in_ok-property.ensures.runs) in
-    rw (c.answer.ensures (g.S.Source.failure c.read_property.new.source)
-    (g.S.Source.state c.read_property.new.source).frame.budget) h
+    rw c.answer.ensures h
 
 pub loop-property-preserved : goal.loop-property-preserved
 loop-property-preserved g c =
@@ -40,7 +39,6 @@ returns-in-None g c =
     let h = list_past c.args.all c.args.from next (gathered_with c.loop-property.gathered c.in-Some.property) behind on
     (omega (arith, c.property_bytes.ensures, c.in-None.ensures)) in
     rw (
-      c.answer-in-None.ensures (g.S.Source.failure c.read_property.new.source)
-          (g.S.Source.state c.read_property.new.source).frame.budget,
+      c.answer-in-None.ensures,
       c.gather-gathered.ensures,
     ) h

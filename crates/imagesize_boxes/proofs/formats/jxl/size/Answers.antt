@@ -5,5 +5,4 @@ use Rattle.imagesize_boxes.proofs.formats.jxl.size.Goals as goal
 pub returns : goal.returns
 returns g c =
     let h = sized (take c.in_ok-front.front.len c.in_ok-front.front.bytes) c.in_ok-front.ensures in
-    rw (c.codestream_size.ensures (g.S.Source.failure c.read_codestream.new.source)
-    (g.S.Source.state c.read_codestream.new.source).frame.budget) h
+    rw c.codestream_size.ensures h

@@ -13,7 +13,7 @@ returns-in_err-bytes g c =
 
 pub returns-in_default : goal.returns-in_default
 returns-in_default g c =
-    let h = icon_cut _ c.args.count c.loop-index.index c.loop-index.best c.loop-index-test.true c.loop-index.invariant.walks
+    let h = icon_cut c.args.count c.loop-index.index c.loop-index.best c.loop-index-test.true c.loop-index.invariant.walks
     (rw c.in_default.is at c.in_ok-bytes.ensures) in
     rw c.answer.ensures h
 
@@ -29,6 +29,6 @@ loop-index-preserved g c =
 
 pub returns : goal.returns
 returns g c =
-    let h = icon_done _ c.args.count c.loop-index.index c.loop-index.best
+    let h = icon_done c.args.count c.loop-index.index c.loop-index.best
     (omega (arith, c.loop-index-test.false, c.loop-index.auto.index-end)) c.loop-index.invariant.sound c.loop-index.invariant.walks in
     rw c.answer-2.ensures h

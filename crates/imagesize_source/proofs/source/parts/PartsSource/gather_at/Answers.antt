@@ -6,7 +6,7 @@ pub returns-then-found-wanted-clause-runs : goal.returns-then-found-wanted-claus
 returns-then-found-wanted-clause-runs c =
     let s = c.args.self.now in
     let f = c.fill_known-found in
-    rw c.miss.ensures.halts (parts_missing s.told s.spans.now s.bytes.now s.log.spans s.missed _ c.miss.new.self.fault _ c.args.place
+    rw c.miss.ensures.halts (parts_missing s.told s.spans.now s.bytes.now s.log.spans s.missed _ _ c.args.place
     f.result.1 f.result.0 (record { start = c.args.place + f.result.0; sure = f.result.1 - f.result.0; most = f.result.1 - f.result.0 })
     f.ensures.wanted c.if-found-wanted.true refl refl
     (state_is _ _ _ _ _ _ _ _ _ _ c.miss.ensures.told c.miss.ensures.spans c.miss.ensures.bytes c.miss.ensures.seen c.miss.ensures.missed))

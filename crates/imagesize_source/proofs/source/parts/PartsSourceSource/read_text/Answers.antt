@@ -6,7 +6,7 @@ pub returns-then-is_cut-clause-runs : goal.returns-then-is_cut-clause-runs
 returns-then-is_cut-clause-runs c =
     let s = c.args.self.now in
     let f = c.fill_known-found in
-    rw c.miss.ensures.halts (parts_text_missing s.told s.spans.now s.bytes.now s.log.spans s.missed _ c.miss.new.self.fault c.args.text f.new.room
+    rw c.miss.ensures.halts (parts_text_missing s.told s.spans.now s.bytes.now s.log.spans s.missed _ c.args.text f.new.room
     c.args.place _ f.result.1 f.result.0 (record { start = c.args.place + f.result.0; sure = 1; most = f.result.1 - f.result.0 })
     f.ensures.wanted f.ensures.within f.ensures.copied (cut_is f.new.room f.result.0 f.result.1 c.args.place s.told _ _
     f.ensures.wanted f.ensures.within c.is_cut.ensures ∙ c.if-is_cut.true) refl refl

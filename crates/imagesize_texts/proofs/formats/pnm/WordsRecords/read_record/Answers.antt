@@ -1,7 +1,6 @@
 use Rattle.std.proofs.Common.{rules}
-use Rattle.imagesize_source.specs.Reading.{end_of_input}
 use Rattle.imagesize_source.proofs.Runs.{steps, missed_before}
 use Rattle.imagesize_texts.proofs.formats.pnm.WordsRecords.read_record.Goals as goal
 
 pub returns-clause-runs : goal.returns-clause-runs
-returns-clause-runs g c = λ held kept. let is = c.pnm_size.ensures end_of_input 0 in search (rules, steps, missed_before, is)
+returns-clause-runs g c = λ held kept. let is = c.pnm_size.ensures in search (rules, steps, missed_before, is)
