@@ -7,13 +7,14 @@ ghost use Rattle.imagesize_io.specs.Telling.{Telling};
 ghost use Rattle.imagesize_png.specs.Png.{png_of};
 ghost use Rattle.imagesize_source.specs.Agreement.{Agrees};
 ghost use Rattle.imagesize_source.specs.declared.error.ImageError.TheVariants.{NotSupported};
-ghost use Rattle.imagesize_source.specs.Reading.{budget_spent, is_fault, is_memory, is_stopped};
+ghost use Rattle.imagesize_source.specs.Errors.{budget_spent, is_fault, is_memory, is_stopped};
 ghost use Rattle.imagesize_source.specs.State.{total};
 
 use crate::Told;
 use crate::format::size;
 use imagesize_io::reader::{Opened, Origin, ReaderSource, open};
 use imagesize_source::ImageResult;
+use imagesize_source::halt::with_error;
 use imagesize_source::source::slice::SliceSource;
 use imagesize_types::size::ImageSize;
 
@@ -47,7 +48,9 @@ pub fn blob_size(data: &[u8]) -> ImageResult<ImageSize>
     // A slice fails at no reading, has no budget and wants no memory.
     ensures unstopped { is_stopped result ≡ false }
 {
-    size(&mut SliceSource { bytes: data }, 0)
+    let mut source = SliceSource { bytes: data };
+    let found = size(&mut source, 0);
+    with_error(found, &source)
 }
 
 /// The size in pixels of the PNG in a reader's bytes, whose signature stands at the reader's position.
@@ -94,6 +97,6 @@ fn size_opened<R: Told>(reader: &mut R, opened: Opened) -> ImageResult<ImageSize
         → Leaves telling (R.telling reader.new) }
 {
     let mut source = ReaderSource::new(reader, opened.told);
-    let answer = size(&mut source, opened.place);
-    answer
+    let found = size(&mut source, opened.place);
+    with_error(found, &source)
 }

@@ -3,12 +3,16 @@ ghost use Rattle.std.specs.Prelude.{◌≡◌, ℕ, ◌^◌, ◌<◌, false, Lis
 ghost use Rattle.imagesize.specs.Parted.{Fits, HasKnown, IfFound, SaysOf, Tells, found_or_wanted, wanted_of};
 ghost use Rattle.imagesize_png.specs.Png.{png_of};
 ghost use Rattle.imagesize_source.specs.Known.{AllKnown};
-ghost use Rattle.imagesize_source.specs.Reading.{is_faulted, is_stopped};
+ghost use Rattle.imagesize_source.specs.Errors.{end_of_input, is_stopped};
+ghost use Rattle.imagesize_source.specs.Halts.{with_error};
+ghost use Rattle.imagesize_source.specs.Reading.{is_faulted};
 
 use crate::format::size;
-use crate::{ImageError, ImageResult, Reason, Span};
+use crate::{ImageResult, Span};
 use imagesize::PartsAnswer;
-use imagesize_source::source::parts::{Missing, PartsSource};
+use imagesize_source::Halt;
+use imagesize_source::halt::with_error;
+use imagesize_source::source::parts::PartsSource;
 use imagesize_types::size::ImageSize;
 
 /// The size in pixels of the PNG in an input of `total` bytes of which these parts are known, or a part that it needs.
@@ -51,33 +55,28 @@ fn size_of_parts(source: &mut PartsSource<'_>) -> PartsAnswer<ImageResult<ImageS
 {
     source.forget();
     let found = size(source, 0);
-    let wanted = missed_part(&found, source.missed);
-    found_or_wanted(found, wanted)
+    found_or_wanted(found, source)
 }
 
-// What was found, where nothing is missed, and else what is surely read.
+// What was found; or what is surely read of what is missed, where a reading failed.
 #[inline(always)]
 fn found_or_wanted(
-    found: ImageResult<ImageSize>,
-    missed: Option<Missing>,
+    found: Result<ImageSize, Halt>,
+    source: &PartsSource<'_>,
 ) -> PartsAnswer<ImageResult<ImageSize>>
-    ensures { result ≡ found_or_wanted found (option_map (wanted_of false) missed) }
+    ensures { result ≡ found_or_wanted (with_error end_of_input 0 found)
+        (option_map (wanted_of false) (if is_faulted found then source.now.missed else None)) }
 {
+    let missed = if matches!(found, Err(Halt::Failed)) {
+        source.missed
+    } else {
+        None
+    };
     match missed {
         Some(missing) => PartsAnswer::Wanted(Span {
             start: missing.start,
             len: missing.sure,
         }),
-        None => PartsAnswer::Found(found),
-    }
-}
-
-// What is missed, where the answer is a failure.
-fn missed_part(answer: &ImageResult<ImageSize>, missed: Option<Missing>) -> Option<Missing>
-    ensures { result ≡ (if is_faulted answer.now then missed else None) }
-{
-    match answer {
-        Err(ImageError::IoError(Reason::Fault(_))) => missed,
-        _ => None,
+        None => PartsAnswer::Found(with_error(found, source)),
     }
 }

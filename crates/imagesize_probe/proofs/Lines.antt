@@ -12,7 +12,8 @@ use Rattle.imagesize.specs.declared.types.ImageType.{ImageType}
 use Rattle.imagesize.specs.declared.calls.Probed.{Probed}
 use Rattle.imagesize_probe.specs.Line.{answer_line, line_of, refused_line, Reports, ReportsOf}
 use Rattle.imagesize_io.specs.Answers.{over_reader}
-use Rattle.imagesize_source.specs.Reading.{Reads, go_on, is_stopped, is_stop}
+use Rattle.imagesize_source.specs.Errors.{is_stopped, is_stop}
+use Rattle.imagesize_source.specs.Reading.{Reads, go_on}
 use Rattle.imagesize_source.specs.Reason.{error_text}
 use Rattle.imagesize_io.specs.Telling.{Telling}
 use Rattle.imagesize_source.specs.declared.span.Span.{Span}

@@ -5,7 +5,7 @@
 ghost use Rattle.std.specs.Prelude.{◌≡◌, ◌||◌, [], IsTrue, IfOk, IfErr, MatchResult, Option, None, Ok, Err};
 ghost use Rattle.std.specs.Io.Buffered.{writer_buffer};
 ghost use Rattle.imagesize_probe.specs.Run.{Files, Loads, LoadsNone};
-ghost use Rattle.imagesize_source.specs.Reading.{is_fault, is_memory};
+ghost use Rattle.imagesize_source.specs.Errors.{is_fault, is_memory};
 ghost use Rattle.imagesize_source.specs.declared.error.ImageError.TheVariants.{IoError};
 ghost use Rattle.imagesize_source.specs.declared.error.Reason.TheVariants.{Memory};
 

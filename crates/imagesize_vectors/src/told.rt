@@ -3,7 +3,7 @@ ghost use Rattle.std.specs.Prelude.{◌≡◌, ◌+◌, ◌^◌, ◌<◌, ◌≤
 ghost use Rattle.imagesize_io.specs.Answers.{IsLast, RisesWithin};
 ghost use Rattle.std.specs.Io.Cursor.{cursor_inner};
 ghost use Rattle.imagesize.specs.Meaning.{meaning, size_of};
-ghost use Rattle.imagesize_source.specs.Reading.{is_fault, is_stopped, is_faulted};
+ghost use Rattle.imagesize_source.specs.Errors.{is_fault, is_stopped, is_faulted};
 ghost use Rattle.imagesize_source.specs.State.{total};
 
 #[cfg(test)]
