@@ -40,9 +40,8 @@ pub(crate) fn detect<S: Source>(source: &mut S, place: u64) -> Result<ImageType,
 #[tactic(auto, using(imagesize_source::proofs::Runs::steps, imagesize_source::proofs::Layouts::binding))]
 fn by_head<S: Source>(source: &mut S, place: u64, head: &[u8; 12]) -> Result<ImageType, Halt>
     requires { IsSound (S.state source.old) }
-    ensures { Runs (S.state source.old) (S.state source.new) result
-        (layout_reads (S.state source.old).held.input
-        (kind_by (length (S.state source.old).held.input) place head.now (first_row rows head.now))) }
+    ensures { Follows (S.state source.old) (S.state source.new) result
+        (kind_by (length (S.state source.old).held.input) place head.now (first_row rows head.now)) }
 {
     match first_row(head) {
         Some(found) => with_compression(source, place, head, found),

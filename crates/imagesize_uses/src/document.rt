@@ -2,8 +2,7 @@
 ghost use Rattle.std.specs.Prelude.{◌≡◌, ◌<◌};
 ghost use Rattle.std.specs.Int.{div_ceil};
 ghost use Rattle.imagesize.specs.Meaning.{size_of};
-ghost use Rattle.imagesize_source.specs.Reading.{map_answer};
-ghost use Rattle.imagesize_uses.specs.Document.{page_size_of, points_of};
+ghost use Rattle.imagesize_uses.specs.Document.{on_page, points_of};
 
 use imagesize::{ImageResult, ImageSize, ImageType};
 use std::io::Cursor;
@@ -22,7 +21,7 @@ pub struct PageSize {
 /// Errors: those of `ImageType::reader_size`, but that no reading fails.
 pub fn size_on_page(kind: ImageType, data: &[u8], pixels_per_inch: u32) -> ImageResult<PageSize>
     requires { 0 < pixels_per_inch }
-    ensures { result ≡ map_answer (page_size_of pixels_per_inch) (size_of kind «data».now).answer }
+    ensures { result ≡ on_page pixels_per_inch (size_of kind «data».now).answer }
 {
     let ImageSize { width, height } = kind.reader_size(&mut Cursor::new(data))?;
     Ok(PageSize {
