@@ -210,7 +210,7 @@ fn no_end(count: usize, most: usize) -> Halt
     Halt::Ended
 }
 
-// The bytes of a word as text. A single `#`, of which an input can have the most, needs no check.
+// The bytes of a word as text. A single `#` needs no check, and no other word can come as often in an input.
 #[inline(always)]
 fn text_of_word(bytes: &[u8]) -> Result<&str, Halt>
     ensures { map_answer (λ text. text.now) result ≡ utf8 bytes.now }
@@ -229,7 +229,7 @@ pub fn is_hash(bytes: &[u8]) -> bool
     matches!(bytes, [b'#'])
 }
 
-// The bytes of a line as text. An empty line, of which an input can have the most, needs no check.
+// The bytes of a line as text. An empty line needs no check, and no other line can come as often in an input.
 #[inline(always)]
 fn text_of_line(bytes: &[u8]) -> Result<&str, Halt>
     ensures { map_answer (λ text. text.now) result ≡ utf8 bytes.now }

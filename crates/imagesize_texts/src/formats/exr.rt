@@ -27,8 +27,10 @@ pub fn matches(head: &[u8; 12]) -> bool
 ///
 /// # Errors
 ///
-/// `DataWindowNotFound` if the attributes end before such a window, `NoDelimiter` if a name is too long, `NotUtf8` if a name
-/// is not UTF-8, and `Ended` if the input ends before the size.
+/// - `DataWindowNotFound`: the attributes end before such a window.
+/// - `NoDelimiter`: a name is too long.
+/// - `NotUtf8`: a name is not UTF-8.
+/// - `Ended`: the input ends before the size.
 #[tactic(auto, using(imagesize_source::proofs::Runs::steps))]
 pub fn size<S: Source>(source: &mut S) -> Result<ImageSize, Halt>
     ensures { Runs (S.state source.old) (S.state source.new) result

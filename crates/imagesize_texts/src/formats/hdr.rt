@@ -43,9 +43,12 @@ pub fn matches(head: &[u8; 12]) -> bool
 ///
 /// # Errors
 ///
-/// `InvalidHdrIdentifier` if the first line begins with no identifier, `InvalidHdrDimensionsLine` if the line with the size
-/// does not have four words, and `HdrDimensionsNotFound` if one of the two words is not a number. `NoDelimiter` if a line is
-/// too long, `NotUtf8` if a line is not UTF-8, and `Ended` if the input ends before the size.
+/// - `InvalidHdrIdentifier`: the first line begins with no identifier.
+/// - `InvalidHdrDimensionsLine`: the line with the size does not have four words.
+/// - `HdrDimensionsNotFound`: the second or the fourth word is not a number.
+/// - `NoDelimiter`: a line is too long.
+/// - `NotUtf8`: a line is not UTF-8.
+/// - `Ended`: the input ends before the size.
 #[tactic(auto, using(imagesize_source::proofs::Runs::steps, crate::proofs::Hdr::hdr_follows))]
 pub fn size<S: Source>(source: &mut S) -> Result<ImageSize, Halt>
     ensures { Runs (S.state source.old) (S.state source.new) result

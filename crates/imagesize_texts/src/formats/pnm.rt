@@ -25,8 +25,10 @@ pub fn matches(head: &[u8; 12]) -> bool
 ///
 /// # Errors
 ///
-/// `PnmDimensionsNotFound` if one of the two words is not a number, `NoDelimiter` if a word or a comment is too long,
-/// `NotUtf8` if a word is not UTF-8, and `Ended` if the input ends before the size.
+/// - `PnmDimensionsNotFound`: the width or the height is not a number.
+/// - `NoDelimiter`: a word or a comment is too long.
+/// - `NotUtf8`: a word is not UTF-8.
+/// - `Ended`: the input ends before the size.
 #[tactic(auto, using(crate::proofs::Pnm::pnm_follows))]
 pub fn size<S: Source>(source: &mut S) -> Result<ImageSize, Halt>
     ensures { Runs (S.state source.old) (S.state source.new) result
