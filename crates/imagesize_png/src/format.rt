@@ -1,4 +1,4 @@
-//! PNG, by sections 5.2 (PNG signature) and 11.2.2 (IHDR Image header) of the Portable Network Graphics Specification.
+//! PNG: sections 5.2 (PNG signature) and 11.2.2 (IHDR Image header) of the Portable Network Graphics Specification.
 ghost use Rattle.std.specs.Prelude.{◌≡◌};
 ghost use Rattle.imagesize_png.specs.Png.{is_png, png, png_of};
 ghost use Rattle.imagesize_source.specs.Halts.{RunsOrHalts};
@@ -29,7 +29,7 @@ pub fn is_png(header: &[u8]) -> bool
     )
 }
 
-/// The size of an input whose signature stands at a place.
+/// The size of an input with the signature at an offset.
 #[inline(always)]
 pub fn size<S: Source>(source: &mut S, place: u64) -> ImageResult<ImageSize>
     ensures { Runs (S.state source.old) (S.state source.new) result (png_of (S.state source.old).held.input place) }
@@ -37,7 +37,7 @@ pub fn size<S: Source>(source: &mut S, place: u64) -> ImageResult<ImageSize>
     with_error(read_size(source, place), source)
 }
 
-// The width and the height behind the signature, or why there are none.
+// The width and the height after the signature, or the error.
 #[inline(always)]
 #[tactic(auto, using(imagesize_source::proofs::Runs::steps))]
 fn read_size<S: Source>(source: &mut S, place: u64) -> Result<ImageSize, Halt>

@@ -10,7 +10,7 @@ use imagesize::{ImageSize, ImageType, blob_size, image_type};
 /// The size in pixels of the image in a file, from the file's first bytes. `None` if the size needs more bytes, or if these
 /// have an error.
 ///
-/// Appended bytes may change the size of a HEIF, an icon and a TGA, so it is `None` for these types.
+/// Appended bytes may change the size of a HEIF, an icon and a TGA: for these types the result is always `None`.
 pub fn size_by_front(front: &[u8]) -> Option<ImageSize>
     // A size is the size of the whole file, whatever bytes are appended.
     ensures stays { IfSome result (λ size. (rest : List ℕ) → (meaning (front.now ++ rest) 0).answer ≡ Ok size) }

@@ -121,7 +121,7 @@ impl<R: Told> Told for Limited<'_, R> {
 }
 
 /// Works like `admit`, for an upload that should have this length. It reads at most 64 bytes more, whatever the reader does.
-/// If the upload is longer and no size is found in these bytes, the error is a fault.
+/// If the reader reports a greater length and the size needs more bytes than that, the error is a fault.
 pub fn admit_within<R: Told>(reader: &mut R, length: u64, most_pixels: u64) -> Admission
     ensures admits { Admits (may_fail (R.telling reader.old)) most_pixels result }
 

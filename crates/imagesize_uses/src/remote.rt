@@ -141,7 +141,7 @@ pub struct Held<'a> {
 }
 
 impl<'a> Held<'a> {
-    /// These bytes, of which a fetch gives at most `most`. The first `left` fetches succeed.
+    /// An input with these bytes. Each fetch gives at most `most` of them, and the first `left` fetches succeed.
     pub fn new(bytes: &'a [u8], most: usize, left: u64) -> Held<'a>
         ensures { result.bytes.now ≡ bytes.now }
     {
