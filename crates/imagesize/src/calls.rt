@@ -81,12 +81,12 @@ pub fn blob_size(data: &[u8]) -> ImageResult<ImageSize>
     ensures local { (place : ℕ) (e : List ℕ) → Agrees «data».now e (meaning «data».now place).marks
         → meaning e place ≡ meaning «data».now place }
 
-    // At every offset, an unknown type and a size at fixed offsets cost at most 41 bytes. A size that is found by a walk
-    // costs at most 64 bytes, and 20 for each segment, chunk, box or entry that is begun.
+    // `cost` adds up the lengths of the spans. At every offset it is at most 41 for an unknown type and for a size at fixed
+    // offsets. For a walk it is at most 64, plus 20 for each segment, chunk, box or entry that is begun.
     ensures stated { (place : ℕ) → cost «data».now place ≤ stated_bytes «data».now place }
 
-    // Each format has its own bound: for a walk, a number of bytes outside of the records and one for each record that is
-    // begun. Unless the size is at fixed offsets, at most 28 bytes more than the input has are read.
+    // Each format has its own bound: a number for fixed offsets, and for a walk a number plus another for each record that is
+    // begun. Walks and text formats also cost at most 28 bytes more than the input has.
     ensures most { (place : ℕ) → cost «data».now place ≤ most_bytes «data».now place }
 
     // Every size and every error costs at most 64 bytes more than the input has.
@@ -190,7 +190,7 @@ pub fn reader_size<R: Told>(mut reader: R) -> ImageResult<ImageSize>
 pub fn reader_probe<R: Told>(reader: &mut R) -> Probed
     ensures probes { Probes (R.telling reader.old) result }
 
-    // For every reader, including one without a model or with a wrong length:
+    // For every reader, even one without a model that reports a wrong length:
     ensures typed { IfOk result.answer (λ _. IsSome result.kind) }
     ensures counts { R.count reader.new ≡ option_map (λ c. c + result.taken) (R.count reader.old) }
     ensures spent { IfErr result.answer (λ e. IfSome (budget_spent e) (λ budget. (budget ≡ result.taken) × (allowance ≤ budget))) }
@@ -213,9 +213,9 @@ pub fn reader_probe<R: Told>(reader: &mut R) -> Probed
 impl ImageType {
     /// Reads the size in pixels of the image in a reader's bytes, as this type.
     ///
-    /// The size is read at offsets from the first byte of the input, whatever the reader's offset, and whether or not the
-    /// bytes are of this type. The errors are those of `reader_size` except `NotSupported`. Afterwards the reader's offset is
-    /// unspecified, and the reader may be used again.
+    /// The size is read at offsets from the first byte of the input, whatever the reader's offset. The bytes need not be of
+    /// this type. The errors are those of `reader_size` except `NotSupported`. Afterwards the reader's offset is unspecified,
+    /// and the reader may be used again.
     ///
     /// ```
     /// use imagesize::ImageType;
@@ -228,7 +228,7 @@ impl ImageType {
         ensures answers { Answers (R.telling reader.old) (λ d place. size_of self.now d) result }
         ensures counts { CountsWithin (R.telling reader.old) (R.count reader.old) (R.count reader.new) (λ d place. size_of self.now d) }
 
-        // For every reader, including one without a model or with a wrong length:
+        // For every reader, even one without a model that reports a wrong length:
         ensures spent { IfErr result (λ e. IfSome (budget_spent e) (λ budget. SpentAll (R.count reader.old) (R.count reader.new) budget)) }
         ensures memory { IfErr result (λ e. is_memory e ≡ false) }
 

@@ -33,7 +33,7 @@ pub enum ImageType {
     Gif,
     /// Radiance RGBE.
     Hdr,
-    /// The containers HEIC and AVIF.
+    /// HEIF, the container of HEIC and AVIF.
     Heif(Compression),
     /// Windows icon.
     Ico,

@@ -34,7 +34,7 @@ pub fn compression_number(image: ImageType) -> u32
     }
 }
 
-/// The type with these numbers, of the type and of its compression.
+/// The type with this number, and with the compression of this number. `None` if there is none.
 pub fn type_numbered(number: u32, compression: u32) -> Option<ImageType>
     ensures { result ≡ type_numbered number compression }
 {

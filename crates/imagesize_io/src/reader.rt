@@ -113,8 +113,8 @@ pub struct Opened {
 }
 
 /// Asks a reader for its offset and for the length of its input. Afterwards the reader is at the end, and the first read
-/// seeks to its own offset. It would not do so if that offset is the reported length, which may be wrong. A call that first
-/// reads at the reader's offset therefore seeks back here.
+/// seeks to its own offset. If that is the reported length, the read would not seek, although the length may be wrong. A call
+/// that first reads at the reader's offset therefore seeks back here.
 #[inline]
 pub fn open<R: Told>(reader: &mut R, origin: Origin) -> ImageResult<Opened>
     ensures told { Opens (R.telling reader.old) (R.telling reader.new) result }

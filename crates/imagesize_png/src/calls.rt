@@ -69,7 +69,7 @@ pub fn reader_size<R: Told>(reader: &mut R) -> ImageResult<ImageSize>
     ensures answers { Answers (R.telling reader.old) png_of result }
     ensures counts { CountsWithin (R.telling reader.old) (R.count reader.old) (R.count reader.new) png_of }
 
-    // For every reader, including one without a model or with a wrong length:
+    // For every reader, even one without a model that reports a wrong length:
     ensures spent { IfErr result (λ e. IfSome (budget_spent e) (λ budget. SpentAll (R.count reader.old) (R.count reader.new) budget)) }
     ensures memory { IfErr result (λ e. is_memory e ≡ false) }
 

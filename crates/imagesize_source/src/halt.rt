@@ -6,8 +6,8 @@ ghost use Rattle.imagesize_source.specs.declared.error.ImageError.TheVariants as
 use crate::source::Source;
 use crate::{ImageError, ImageResult, Reason};
 
-/// Why a read returned early: it failed, or the bytes break the format. This type is small, so that the result of each read
-/// is. The source keeps the reader's own error and the budget until `with_error` fetches them.
+/// Why a read returned early: it failed, or the bytes break the format. This type is kept small, since every read returns it.
+/// The source keeps the reader's own error and the budget until `with_error` fetches them.
 #[derive(Clone, Copy, Debug)]
 pub enum Halt {
     /// A call of the reader failed, or a requested byte is not known.

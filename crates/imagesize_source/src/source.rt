@@ -26,7 +26,7 @@ pub trait Source {
     fn taken(&self) -> u64
         ensures { result ≡ (state self.now).taken };
 
-    /// The error that the call returns when a read returned early for this reason.
+    /// The error that the call returns after a read failed with this `Halt`.
     fn refusal(&self, halt: Halt) -> ImageError
         ensures { result ≡ error_by (state self.now).failure (state self.now).frame.budget halt };
 
@@ -34,7 +34,7 @@ pub trait Source {
     fn read_at(&mut self, place: u64, room: &mut [u8]) -> Result<usize, Halt>
         ensures bound { IfOk result (λ n. n ≤ length room.new) }
 
-        // A read that gives bytes past the reported length and past the bytes held counts against the budget.
+        // Bytes past the reported length and past the held bytes count against the budget.
         ensures pays { IfOk result (λ n. 0 < n → Paid (state self.old) (state self.new) place) }
         ensures runs { Runs (state self.old) (state self.new)
             (map_answer (λ n. take n room.new) result)
@@ -46,7 +46,7 @@ pub trait Source {
     fn read_text(&mut self, place: u64, text: Text, room: &mut [u8]) -> Result<usize, Halt>
         ensures bound { IfOk result (λ n. n ≤ length room.new) }
 
-        // A read that gives bytes past the reported length and past the bytes held counts against the budget.
+        // Bytes past the reported length and past the held bytes count against the budget.
         ensures pays { IfOk result (λ n. 0 < n → Paid (state self.old) (state self.new) place) }
         ensures runs { Runs (state self.old) (state self.new)
             (map_answer (λ n. take n room.new) result)

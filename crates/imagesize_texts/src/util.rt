@@ -28,7 +28,7 @@ pub struct Word<'a> {
 ///
 /// # Errors
 ///
-/// `NoDelimiter` if none of these bytes is the delimiter, `Ended` if the input ends before one, and `NotUtf8` if the bytes
+/// `NoDelimiter` if none of these bytes is the delimiter, and `Ended` if the input ends before one. `NotUtf8` if the bytes
 /// before it are not UTF-8.
 #[inline(always)]
 pub fn read_line_capped<'a, S: Source>(

@@ -33,7 +33,7 @@ pub struct Admission {
 pub fn admit<R: Told>(reader: &mut R, most_pixels: u64) -> Admission
     ensures admits { Admits (R.telling reader.old) most_pixels result }
 
-    // For every reader, including one with a wrong length:
+    // For every reader, even one that reports a wrong length:
     ensures few { IfOk result.verdict (λ size. size.width * size.height ≤ most_pixels) }
     ensures many { IfTooLarge result.verdict (λ size. most_pixels < size.width * size.height) }
     ensures counts { R.count reader.new ≡ option_map (λ c. c + result.taken) (R.count reader.old) }
@@ -125,7 +125,7 @@ impl<R: Told> Told for Limited<'_, R> {
 pub fn admit_within<R: Told>(reader: &mut R, length: u64, most_pixels: u64) -> Admission
     ensures admits { Admits (may_fail (R.telling reader.old)) most_pixels result }
 
-    // For every reader, including one with a wrong length:
+    // For every reader, even one that reports a wrong length:
     ensures few { IfOk result.verdict (λ size. size.width * size.height ≤ most_pixels) }
     ensures many { IfTooLarge result.verdict (λ size. most_pixels < size.width * size.height) }
     ensures counts { R.count reader.new ≡ option_map (λ c. c + result.taken) (R.count reader.old) }

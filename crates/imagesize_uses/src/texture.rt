@@ -39,8 +39,8 @@ pub struct Texture {
     pub container: Option<&'static str>,
 }
 
-/// The texture in a file's bytes, if it has a compression of this family and each side is a power of two of at most
-/// `most_side` pixels.
+/// The texture in a file's bytes. Its compression must be of this family, and each side a power of two of at most `most_side`
+/// pixels.
 ///
 /// Errors: the first flaw of the type, of its compression, of the size and of the sides.
 pub fn check_texture(

@@ -21,7 +21,7 @@ pub fn matches(head: &[u8; 12]) -> bool
 }
 
 /// The width and the height in pixels of the canvas, or of the only image. Returns `InvalidVp8Tag` if the fourth byte of the
-/// first chunk's name is not that of `VP8 `, `VP8L` or `VP8X`, and `Ended` if the input ends before the size.
+/// first chunk's name is not that of `VP8 `, `VP8L` or `VP8X`. Returns `Ended` if the input ends before the size.
 #[inline(always)]
 #[tactic(auto, using(imagesize_source::proofs::Runs::steps))]
 pub fn size<S: Source>(source: &mut S) -> Result<ImageSize, Halt>

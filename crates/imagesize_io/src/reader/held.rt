@@ -1,4 +1,4 @@
-//! A text from the bytes that the reader holds: it counts the same bytes as a read byte by byte.
+//! A text from the bytes that the reader holds: it reads the same bytes as a read byte by byte would.
 ghost use Rattle.std.specs.Prelude.{◌≡◌, ◌+◌, ◌^◌, ◌<◌, ◌≤◌, true, IfSome, None, Ok, length, take};
 ghost use Rattle.imagesize_source.specs.Limits.{most_held};
 ghost use Rattle.imagesize_io.specs.Held.{IsWhole};
