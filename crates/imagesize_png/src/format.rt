@@ -1,4 +1,4 @@
-//! PNG, by sections 5.2 (PNG signature) and 11.2.2 (IHDR Image header) of the Portable Network Graphics Specification.
+//! PNG: sections 5.2 (PNG signature) and 11.2.2 (IHDR Image header) of the Portable Network Graphics Specification.
 ghost use Rattle.std.specs.Prelude.{◌≡◌};
 ghost use Rattle.imagesize_png.specs.Png.{is_png, png};
 ghost use Rattle.imagesize_source.specs.State.{Follows};
@@ -26,7 +26,7 @@ pub fn is_png(header: &[u8]) -> bool
     )
 }
 
-/// The width and the height behind the signature at a place, or why there are none.
+/// The width and the height of an input with the signature at an offset, or the error.
 #[inline(always)]
 #[tactic(auto, using(imagesize_source::proofs::Runs::steps))]
 pub fn size<S: Source>(source: &mut S, place: u64) -> Result<ImageSize, Halt>
