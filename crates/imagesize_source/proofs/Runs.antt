@@ -17,16 +17,6 @@ or_false : (x y : Bool) → x || y ≡ false → (x ≡ false) × (y ≡ false)
 or_false true y is = absurd cc
 or_false false y is = (refl, is)
 
--- a refusal that a layout states is none of the ends of a call
-pub plainly_ended : (b : State) (halt : Halt) → is_stop halt ≡ false → EndedBy b halt
-plainly_ended b halt is =
-    let no = or_false (is_failure halt || is_spent halt) (is_memory halt) is in
-    let none = or_false (is_failure halt) (is_spent halt) no.0 in record {
-      budget = λ spent. absurd (let out = sym spent ∙ none.1 in cc);
-      memory = λ refused. absurd (let out = sym refused ∙ no.1 in cc);
-      fault = λ failed. absurd (let out = sym failed ∙ none.0 in cc);
-    }
-
 -- the same readings, answered otherwise where nothing stopped them
 pub answered : {X Y : Type 0} {a b : State} {x : X} {reads : Reads X} (r : Result Y Halt) (other : Reads Y) → Runs a b (Ok x) reads
     → other.marks ≡ reads.marks → (reads.answer ≡ Ok x → other.answer ≡ r) → is_stopped r ≡ false → is_faulted r ≡ false → IfErr r (EndedBy b)
