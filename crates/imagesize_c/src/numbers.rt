@@ -1,6 +1,6 @@
 //! The numbers of types, compressions and families: a base plus the position in the list.
 ghost use Rattle.std.specs.Prelude.{◌≡◌};
-ghost use Rattle.imagesize_c.specs.Numbers.{compression_number, family_number, has_numbers, numbered_from, type_number, type_numbered};
+ghost use Rattle.imagesize_c.specs.Numbers.{compression_number, family_number, has_numbers, type_number, type_numbered};
 
 use imagesize::{
     AtcCompression, Compression, CompressionFamily, DdsCompression, ImageType, PkmCompression,

@@ -1,5 +1,5 @@
 //! What the calls write: a type, a size, or a part that they request.
-ghost use Rattle.std.specs.Prelude.{◌≡◌, false, Option, Some, None};
+ghost use Rattle.std.specs.Prelude.{◌≡◌, false, Option, Some};
 ghost use Rattle.std.specs.Result.{result_ok};
 ghost use Rattle.imagesize_c.specs.Status.{is_answered, status_of};
 ghost use Rattle.imagesize_c.specs.Told.{TellsSize, TellsType};

@@ -1,5 +1,5 @@
 //! Readers, and the models that they may have.
-ghost use Rattle.std.specs.Prelude.{◌≡◌, ℕ, ◌≤◌, length, Option, Some, None, false, ◌<◌, ◌^◌, IfOk, IfErr, IfSome, IsSome, List, Ok, take};
+ghost use Rattle.std.specs.Prelude.{◌≡◌, ℕ, ◌≤◌, length, Option, Some, None, false, ◌<◌, ◌^◌, IfOk, IfErr, IfSome, IsSome, Ok, take};
 ghost use Rattle.std.specs.Io.Buffered.{reader_inner, reader_position, reader_remaining};
 ghost use Rattle.std.specs.Io.Cursor.{cursor_inner, cursor_position};
 ghost use Rattle.std.specs.Io.KnownBytes.{ReadConsumes};

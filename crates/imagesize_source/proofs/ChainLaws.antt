@@ -2,14 +2,14 @@
 use Rattle.std.proofs.Common.{Bool, ◌≡◌, ℕ, zero, suc, ◌+◌, ◌*◌, ◌<◌, ◌≤◌, List, [], ◌∷◌, ◌++◌, length, Some, Result, Ok, Err, inl, refl, sym, ap, ◌∙◌, subst, arith}
 use Rattle.std.proofs.Math.Nat.{mul-add}
 use Rattle.imagesize_source.specs.declared.halt.Halt.{Halt}
-use Rattle.imagesize_source.specs.Agreement.{Agrees, Alike, IsLocal}
+use Rattle.imagesize_source.specs.Agreement.{Alike, IsLocal}
 use Rattle.imagesize_source.specs.Chain.{Said, Decided, Next, Chain, Along, start, next_record, verdict, records_from, records, chain_from, chain_at, Advances}
 use Rattle.imagesize_source.specs.Counts.{AtMost}
 use Rattle.imagesize_source.specs.Extension.{Plain, Lasts}
 use Rattle.imagesize_source.specs.Reading.{and_then, put_behind}
 use Rattle.imagesize_source.specs.State.{total}
 use Rattle.imagesize_source.proofs.Chains.{chain_unfolds, follows, chain_next, chain_stop, records_next, records_stop}
-use Rattle.imagesize_source.proofs.Agreement.{AllRead, alike_layout, alike_then, local, agrees-left, agrees-right}
+use Rattle.imagesize_source.proofs.Agreement.{AllRead, alike_layout, alike_then, local}
 use Rattle.imagesize_source.proofs.Counts.{at_most}
 use Rattle.imagesize_source.proofs.Extension.{more}
 use Rattle.imagesize_source.proofs.Runs.{total-append}

@@ -8,13 +8,12 @@ use Rattle.std.proofs.lemmas.List.{length-append, length-take, length-drop, get_
 use Rattle.std.proofs.lemmas.List.FromFn.{length-map-range_with_len, get_or-map-range_with_len}
 use Rattle.std.proofs.Math.Seq.{drop-cons, take-add, take-append_seam, drop-append_seam}
 use Rattle.std.specs.Char.{is_ascii_whitespace}
-use Rattle.std.specs.declared.io.Error.{Error}
 use Rattle.imagesize_source.specs.declared.halt.Halt.TheVariants.{Failed}
 use Rattle.imagesize_source.specs.declared.source.parts.Missing.{Missing}
 use Rattle.imagesize_source.specs.declared.span.Span.{Span}
 use Rattle.imagesize_source.specs.declared.text.Text.{Text}
 use Rattle.imagesize_source.specs.declared.text.Text.TheVariants.{Line, Word}
-use Rattle.imagesize_source.specs.Agreement.{Agrees, is_covered, has_place}
+use Rattle.imagesize_source.specs.Agreement.{is_covered, has_place}
 use Rattle.imagesize_source.specs.Input.{part, span_at, span_of}
 use Rattle.imagesize_source.specs.Known.{AllKnown, HasParts, byte_of, bytes_of, filled_input, byte_in_parts, parts_state, reaches, length_within}
 use Rattle.imagesize_source.specs.Reading.{Reads, part_read, text_part, text_read}

@@ -1,5 +1,5 @@
 //! An index of a gallery: sizes from the first bytes of files.
-ghost use Rattle.std.specs.Prelude.{◌≡◌, ℕ, ◌++◌, List, IfSome, Ok, false, None, if◌then◌else◌};
+ghost use Rattle.std.specs.Prelude.{◌≡◌, ℕ, ◌++◌, List, IfSome, Ok, None, if◌then◌else◌};
 ghost use Rattle.std.specs.Result.{result_ok};
 ghost use Rattle.imagesize.specs.Counts.{lasts_as};
 ghost use Rattle.imagesize.specs.Types.{lasts};

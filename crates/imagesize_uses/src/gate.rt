@@ -1,5 +1,5 @@
 //! A check of uploads: an image is admitted if it has few enough pixels.
-ghost use Rattle.std.specs.Prelude.{◌≡◌, ℕ, ◌*◌, ◌+◌, ◌-◌, ◌^◌, ◌<◌, ◌≤◌, ◌||◌, IfErr, IfOk, IsErr, None, Some, is_none, length, nat_eq, option_map, take, true};
+ghost use Rattle.std.specs.Prelude.{◌≡◌, ◌*◌, ◌+◌, ◌-◌, ◌^◌, ◌<◌, ◌≤◌, ◌||◌, IfOk, IsErr, None, Some, is_none, length, nat_eq, option_map, take, true};
 ghost use Rattle.imagesize_io.specs.Answers.{Leaves};
 ghost use Rattle.imagesize_io.specs.Telling.{ReadTells, SeekTells, count_after, failure_after, failure_after_read, may_fail};
 ghost use Rattle.imagesize_uses.specs.Gate.{Admits, Decides, IfTooLarge, IsFaultOf, gate_verdict, limit_of, limited_count, limited_failure};

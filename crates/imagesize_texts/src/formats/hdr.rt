@@ -1,5 +1,5 @@
 //! Radiance RGBE: "Picture File Format" in the Radiance reference manual.
-ghost use Rattle.std.specs.Prelude.{◌≡◌, ℕ, option_map};
+ghost use Rattle.std.specs.Prelude.{◌≡◌, option_map};
 ghost use Rattle.imagesize_source.specs.State.{Runs, Follows};
 ghost use Rattle.imagesize_texts.specs.Contents.{words};
 ghost use Rattle.imagesize_texts.specs.Hdr.{hdr, hdr_identifier, hdr_line, hdr_size, is_hdr, is_identifier, is_resolution, second_and_fourth};

@@ -1,5 +1,5 @@
 //! Portable bitmaps: the manual pages pbm(5), pgm(5) and ppm(5) of Netpbm.
-ghost use Rattle.std.specs.Prelude.{◌≡◌, ℕ};
+ghost use Rattle.std.specs.Prelude.{◌≡◌};
 ghost use Rattle.imagesize_source.specs.State.{Runs};
 ghost use Rattle.imagesize_source.specs.declared.walk.Found.TheVariants as found;
 ghost use Rattle.imagesize_texts.specs.Pnm.{is_blank, is_comment, is_pnm, pnm, pnm_size, pnm_word};
