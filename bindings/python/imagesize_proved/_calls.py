@@ -7,8 +7,8 @@ import os
 import sys
 from typing import TYPE_CHECKING, Awaitable, Callable, List, Optional, Protocol, Tuple, TypeVar, Union
 
-from ._library import PNG, Told, png_spans, probe_front, probe_whole, spans_of, type_of
-from ._parts import BLOCK, BUDGET, SPENT, WANTED, BytesLike, Parts, checked, first_block
+from ._library import PNG, Told, png_spans, probe_front, probe_two, probe_whole, spans_of, type_of
+from ._parts import BLOCK, BUDGET, SPENT, WANTED, BytesLike, Parts, blocks, checked, first_block
 from ._types import ImageError, ImageType, Probed, Size, Span, Status, known_type
 
 if TYPE_CHECKING:
@@ -193,7 +193,19 @@ def _front(file: int, budget: int) -> Tuple[bytes, int]:
 def _told_in(file: int, budget: int) -> Told:
     front, total = _front(file, budget)
     told = probe_front(front, total)
-    return told if told[0] != WANTED else _followed(file, Parts(front, total, budget, told)).told
+    if told[0] != WANTED:
+        return told
+    # Most files of more than one block take a second one, and no third.
+    start, end = blocks(told, total)
+    if len(front) + end - start > budget:
+        return SPENT
+    more = os.pread(file, end - start, start)
+    second = probe_two(front, more, start, total) if len(more) == end - start else None
+    if second and second[0] != WANTED:
+        return second
+    parts = Parts(front, total, budget, told)
+    parts.add(more, second)
+    return _followed(file, parts).told
 
 
 def _parts_in(file: int, budget: int) -> Parts:

@@ -59,7 +59,7 @@ _probe = _LIBRARY.imagesize_probe
 _probe_parts = _LIBRARY.imagesize_probe_parts
 _spans = _LIBRARY.imagesize_spans
 _png = _LIBRARY.imagesize_png_parts_size
-_probe_front = ctypes.PyDLL(_LIBRARY._name).imagesize_probe_parts  # over one block it is over before another thread would run
+_probe_few = ctypes.PyDLL(_LIBRARY._name).imagesize_probe_parts  # over two blocks it is over before another thread would run
 
 
 class _Room:
@@ -74,6 +74,8 @@ class _Room:
         self.total = ctypes.c_uint64()
         self.spans, self.count = ctypes.c_void_p(), ctypes.c_size_t()
         self.of_front = (self.length, self.front, ctypes.c_size_t(1), self.total, *self.told)
+        self.two, self.length_of_two = (ctypes.c_uint64 * 4)(), ctypes.c_size_t()
+        self.of_two = (self.length_of_two, self.two, ctypes.c_size_t(2), self.total, *self.told)
         self.of_parts = (self.length, self.spans, self.count, self.total, *self.told)
         self.of_png = (self.length, self.spans, self.count, self.total, *self.told[2:])
 
@@ -123,7 +125,26 @@ def probe_front(front: bytes, total: int) -> Told:
     room.numbers[0] = 0
     room.length.value = len(front)
     room.total.value = total
-    told = _probe_front(front, *room.of_front), room.read()
+    told = _probe_few(front, *room.of_front), room.read()
+    _ROOMS.append(room)
+    return told
+
+
+def probe_two(front: bytes, more: bytes, start: int, total: int) -> Told:
+    """Type and size of the image in an input of `total` bytes, of which the first are known, and more from an offset on.
+
+    The input is no PNG.
+    """
+    try:
+        room = _ROOMS.pop()
+    except IndexError:
+        room = _Room()
+    room.numbers[0] = 0
+    room.total.value = total
+    room.two[:] = [0, len(front), start, len(more)]
+    known = front + more
+    room.length_of_two.value = len(known)
+    told = _probe_few(known, *room.of_two), room.read()
     _ROOMS.append(room)
     return told
 
