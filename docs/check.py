@@ -5,7 +5,7 @@
     python3 docs/check.py --write        writes the contracts in CALLING.md anew from the sources
     python3 docs/check.py --self-test    plants a mistake for each check, and fails if one is not found
 
-It checks links, names of files, commands, mutations, definitions and clauses, the contracts in CALLING.md, numbers, worked
+It checks links, names of files, commands, mutations, definitions, clauses and their owners, the contracts in CALLING.md, numbers, worked
 diffs, and the length of sentences. A page of REWRITTEN has none of the words in OLD, and neither have the lines `///` and `//!`
 in `crates/*/src`. Their sentences are as short as those of the pages.
 """
@@ -220,6 +220,35 @@ def defined(page, text):
                 yield f"no definition {name} in a specification"
 
 
+def declared(page, text):
+    """Names in tables of contracts that no code and no specification declares: one word of small letters, or a definition with its
+    arguments."""
+    heads = re.compile(r"Contract|Definition")
+    column = None
+    for line in text.splitlines():
+        cells = line.split("|")
+        if not line.startswith("|"):
+            column = None
+        elif column is None:
+            column = next((n for n, cell in enumerate(cells) if heads.fullmatch(cell.strip())), 0)
+        elif column:
+            for code in CODE.findall(cells[column]):
+                name = code.split()[0]
+                if re.fullmatch(r"[a-z]+|[A-Za-z]\w+ [^()]*", code) and name not in declarations() | RT | {"rt"}:
+                    yield f"nothing declares {name}"
+
+
+@functools.lru_cache(None)
+def declarations():
+    """The names of functions, clauses, types and definitions, and of the fields of records."""
+    code = "\n".join(source((".rt",)).values())
+    specs = "\n".join(source((".antt",)).values())
+    found = {path.name for path in TOP.glob("crates/*")}
+    found.update(re.findall(r"\b(?:fn|ensures|struct|enum|trait|mod|const|ghost) (\w+)", code))
+    found.update(re.findall(r"^ *(?:(?:abbrev|unfoldable|pub|record|data) )*(\w+)\b[^\n]*?(?: :|:$)", specs, re.M))
+    return found
+
+
 LABEL = r"`[a-z]\w*`"
 OF = re.compile(rf"({LABEL}(?:(?:,| and|, and) {LABEL})*) of (`\w+(?:::\w+)?`)")
 
@@ -367,7 +396,7 @@ def words(page, text):
             yield f"the project's own word: {word}"
 
 
-CHECKS = (links, files, commands, mutations, definitions, defined, clauses, calling, numbers, length, diffs, long_sentences, words)
+CHECKS = (links, files, commands, mutations, definitions, defined, declared, clauses, calling, numbers, length, diffs, long_sentences, words)
 # Mistakes for each check: the page that one is planted on, and the text.
 PLANTED = [
     (links, "README.md", "[a page](docs/NOT_THERE.md)"),
@@ -376,6 +405,7 @@ PLANTED = [
     (mutations, "docs/PROMISES.md", "| a | Mutations |\n|---|---|\n| b | `no_such_mutation` |"),
     (definitions, "docs/PROVED.md", "`CountsNothingAtAll`"),
     (defined, "docs/PROMISES.md", "| Name | What |\n|---|---|\n| `no_such_name` | nothing |\n"),
+    (declared, "docs/PROVED.md", "| Contract | What |\n|---|---|\n| `nothing`, `Covers spans` | nothing |\n"),
     (clauses, "docs/PROVED.md", "`value` and `stopped` of `blob_size`"),
     (calling, "CALLING.md", None),
     (numbers, "README.md", "26 formats"),
