@@ -20,7 +20,7 @@ TOP = pathlib.Path(__file__).resolve().parent.parent
 LINK = re.compile(r"\[[^\]]*\]\(([^)#\s]+)(?:#[^)]*)?\)")
 CODE = re.compile(r"`([^`\n]+)`")
 FENCE = re.compile(r"^( *)```.*?^ *```$", re.M | re.S)
-# What a build makes, and what stands for a name.
+# What a build makes, and placeholders for names.
 MADE = re.compile(r"(^|/)out/|NAME|PATH|FUNCTION|MODULE|\.\.|\*|<|PREFIX|FOLDER|FILE")
 TENS = "twenty thirty forty fifty sixty seventy eighty ninety".split()
 ONES = ("zero one two three four five six seven eight nine ten eleven twelve thirteen fourteen fifteen sixteen seventeen eighteen "
@@ -40,7 +40,7 @@ REWRITTEN = {"README.md", "CALLING.md", "CONTRIBUTING.md", "SECURITY.md", "inclu
 # The docstrings that are still to be rewritten: each file whose path begins like this.
 UNREWRITTEN = ("crates/imagesize_boxes/", "crates/imagesize_source/src/source/parts.rt", "crates/imagesize_source/src/walk.rt",
                "crates/imagesize_walked/src/formats/ico.rt", "crates/imagesize_walked/src/formats/tiff.rt")
-# Commands of the kit, by `rt`; those of a shell that a page may name are not looked at.
+# Commands of the kit, by `rt`; commands of a shell are not checked.
 RT = set("ci must-fail selftest doc version new check verdict lib run test try fmt tidy plant all expand lemma seed names".split())
 
 
@@ -53,7 +53,7 @@ def source(suffixes):
 
 @functools.lru_cache(None)
 def count(pattern, *suffixes):
-    """How often a pattern stands in the sources with these suffixes."""
+    """How often a pattern occurs in the sources with these suffixes."""
     return sum(len(re.findall(pattern, text, re.M)) for text in source(suffixes).values())
 
 
