@@ -2,7 +2,7 @@
 
     python3 docs/check.py                prints a line for each mistake; the status is 1 if there is one
     python3 docs/check.py --count        prints the words, the long sentences and the project's old words of each page
-    python3 docs/check.py --write        writes the contracts in CALLING.md anew from the sources
+    python3 docs/check.py --write        writes the contracts in CALLING.md and the list of formats in README.md anew
     python3 docs/check.py --self-test    plants a mistake for each check, and fails if one is not found
 
 It checks links, names of files, commands, mutations, definitions, clauses and their owners, the contracts in CALLING.md, numbers, worked
@@ -296,6 +296,25 @@ def quoted():
     return "\n".join(lines)
 
 
+# The formats whose usual name is not the name of their constant.
+CALLED = {"ASEPRITE": "Aseprite", "EXR": "OpenEXR", "FARBFELD": "Farbfeld", "HEIF": "HEIF (HEIC, AVIF)", "JXL": "JPEG XL", "KTX2": "KTX 2",
+          "PVRTC": "PVR", "TIFF": "TIFF (BigTIFF)", "WEBP": "WebP"}
+LISTED = re.compile(r"^\*\*\d+ formats:\*\* [^.]*\.", re.M)
+
+
+def list_of_formats():
+    """The formats as README lists them, from the header's constants."""
+    body = re.search(r"enum imagesize_type_number \{(.*?)\n\};", (TOP / "include/imagesize.h").read_text(), re.S)[1]
+    found = [CALLED.get(name, name) for name in re.findall(r"^    IMAGESIZE_(\w+)", body, re.M)]
+    return f"**{len(found)} formats:** {', '.join(sorted(found, key=str.casefold))}."
+
+
+def formats(page, text):
+    """The list of formats in README, where the header has others."""
+    if page == TOP / "README.md" and list_of_formats() not in text:
+        yield "the list of formats is not the header's"
+
+
 BLOCK = re.compile(r"(<!-- by docs/check.py --write -->\n```text\n)(.*?\n?)(```)", re.S)
 
 
@@ -396,7 +415,7 @@ def words(page, text):
             yield f"the project's own word: {word}"
 
 
-CHECKS = (links, files, commands, mutations, definitions, defined, declared, clauses, calling, numbers, length, diffs, long_sentences, words)
+CHECKS = (links, files, commands, mutations, definitions, defined, declared, clauses, calling, formats, numbers, length, diffs, long_sentences, words)
 # Mistakes for each check: the page that one is planted on, and the text.
 PLANTED = [
     (links, "README.md", "[a page](docs/NOT_THERE.md)"),
@@ -408,6 +427,7 @@ PLANTED = [
     (declared, "docs/PROVED.md", "| Contract | What |\n|---|---|\n| `nothing`, `Covers spans` | nothing |\n"),
     (clauses, "docs/PROVED.md", "`value` and `stopped` of `blob_size`"),
     (calling, "CALLING.md", None),
+    (formats, "README.md", None),
     (numbers, "README.md", "26 formats"),
     (length, "README.md", "\n" * 81),
     (diffs, "CONTRIBUTING.md", "```diff\n+++ docs/check.py\n+no such line\n```"),
@@ -424,7 +444,7 @@ def self_test():
     for check, name, planted in PLANTED:
         page = TOP / name
         text = page.read_text()
-        bad = text + "\n\n" + planted if planted else text.replace("length header.now < 12", "length header.now < 13")
+        bad = text + "\n\n" + planted if planted else text.replace("length header.now < 12", "length header.now < 13").replace("QOI, ", "")
         if len(list(check(page, bad))) <= len(list(check(page, text))):
             missed.append(check.__name__)
     print(f"self-test: {len(PLANTED)} mistakes planted, {len(missed)} missed {' '.join(missed)}".rstrip())
@@ -442,9 +462,11 @@ def show_counts():
 
 
 def write():
-    """Writes the contracts in CALLING.md."""
+    """Writes the contracts in CALLING.md, and the list of formats in README.md."""
     page = TOP / "CALLING.md"
     page.write_text(BLOCK.sub(lambda match: match[1] + quoted() + "\n" + match[3], page.read_text()))
+    page = TOP / "README.md"
+    page.write_text(LISTED.sub(lambda _: list_of_formats(), page.read_text()))
 
 
 def main():
