@@ -375,7 +375,7 @@ def prose(page, text):
         comments = re.findall(r"/\*(.*?)\*/", text, re.S)
         comments = [re.sub(r"^ *\* ?", "", comment, flags=re.M) for comment in comments]
         return "\n\n".join(re.sub(r"^ {4,}.*$", "", comment, flags=re.M) for comment in comments)
-    text = re.sub(r"<!--.*?-->", "", text, flags=re.S)
+    text = re.sub(r"<!--.*?-->", "", LISTED.sub("", text), flags=re.S)
     return re.sub(r"^ {4,}[^ -].*$", "", FENCE.sub("", text), flags=re.M)
 
 
