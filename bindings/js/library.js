@@ -98,7 +98,7 @@ export class Library {
     return Array.from({ length: count }, (_, index) => this.#span(room + SPAN * index));
   }
 
-  // The spans of a PNG with these first bytes: what is wanted, one span after another.
+  // The spans of a PNG with these first bytes: each requested span in turn.
   #spansOfPng(front, total, most) {
     const known = { pieces: [], length: 0 };
     const spans = [];

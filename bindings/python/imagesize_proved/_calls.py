@@ -76,12 +76,13 @@ def image_type(image: Image, *, budget: int = BUDGET) -> ImageType:
 
 
 def probe_with(fetch: Callable[[int, int], BytesLike], total: int, *, budget: int = BUDGET) -> Probed:
-    """Type and size of the image in an input of `total` bytes, of which `fetch(start, length)` gives some.
+    """Type and size of the image in an input of `total` bytes. `fetch(start, length)` returns some of them.
 
         >>> probe_with(lambda start, length: blob[start : start + length], len(blob))
 
-    It is asked for bytes within the input, mostly for blocks of 4096, and for at most `budget` in all. Raises what it raises,
-    `EOFError` where it gives fewer bytes than it was asked for, `ValueError` where it gives more, and else as `probe` does.
+    The call asks `fetch` for bytes within the input, mostly for blocks of 4096, and for at most `budget` in all. It raises what
+    `fetch` raises. If `fetch` returns fewer bytes than requested, it raises `EOFError`; if more, `ValueError`. Other errors are
+    those of `probe`.
     """
     budget = checked(budget)
     first = first_block(total, budget)
@@ -94,9 +95,9 @@ def probe_with(fetch: Callable[[int, int], BytesLike], total: int, *, budget: in
 async def probe_async(
     read: Callable[[int, int], Awaitable[BytesLike]], length: int, *, budget: int = BUDGET
 ) -> Probed:
-    """Type and size of the image in an input of `length` bytes, of which the coroutine function `read(start, length)` gives some.
+    """Type and size of the image in an input of `length` bytes. The coroutine function `read(start, length)` returns some of them.
 
-    As `probe_with`.
+    Errors and bounds are those of `probe_with`.
     """
     budget = checked(budget)
     first = first_block(length, budget)

@@ -70,7 +70,7 @@ class _Room:
         self.read = memoryview(self.numbers).cast("B").cast("Q").tolist
         self.told = [ctypes.byref(self.numbers, 8 * index) for index in range(5)]
         self.front = (ctypes.c_uint64 * 2)()
-        self.length = ctypes.c_size_t.from_buffer(self.front, 8)  # a span from place 0 on is as long as its bytes
+        self.length = ctypes.c_size_t.from_buffer(self.front, 8)  # a span from offset 0 is as long as its bytes
         self.total = ctypes.c_uint64()
         self.spans, self.count = ctypes.c_void_p(), ctypes.c_size_t()
         self.of_front = (self.length, self.front, ctypes.c_size_t(1), self.total, *self.told)
@@ -115,7 +115,7 @@ def probe_whole(data: bytes) -> Told:
 
 
 def probe_front(front: bytes, total: int) -> Told:
-    """Type and size of the image in an input of `total` bytes, of which the first are known."""
+    """Type and size of the image in an input of `total` bytes, whose first bytes are known."""
     if front.startswith(_SIGNATURE):
         return _probe_png(front, array("Q", (0, len(front))), total)
     try:
@@ -150,7 +150,7 @@ def probe_two(front: bytes, more: bytes, start: int, total: int) -> Told:
 
 
 def probe_parts(known: bytes, spans: "array[int]", total: int) -> Told:
-    """Type and size of the image in an input of `total` bytes, of which some parts are known: start and length of each.
+    """Type and size of the image in an input of `total` bytes, whose parts are known: start and length of each.
 
     The first part has the input's first bytes: eight of them at least, or all.
     """
@@ -165,7 +165,7 @@ def probe_parts(known: bytes, spans: "array[int]", total: int) -> Told:
 
 
 def _probe_png(known: bytes, spans: "array[int]", total: int) -> Told:
-    """The size of a PNG, of which some parts are known."""
+    """The size of a PNG, whose parts are known."""
     room = _room(len(known), total)
     room.spans.value, numbers = spans.buffer_info()
     room.count.value = numbers // 2
@@ -177,7 +177,7 @@ def _probe_png(known: bytes, spans: "array[int]", total: int) -> Told:
 
 
 def png_spans(front: bytes, total: int) -> List[int]:
-    """Start and length of each span that the size of a PNG rests on, from its first 24 bytes: what is wanted, one after another."""
+    """Start and length of each span that the size of a PNG depends on, from its first 24 bytes: each requested span in turn."""
     known, spans = b"", array("Q")
     status, told = _probe_png(known, spans, total)
     while status == _WANTED:

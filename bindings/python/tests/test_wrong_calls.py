@@ -171,7 +171,7 @@ class Buffers(unittest.TestCase):
         return found
 
     def results(self, references: Sequence[Any], length: int) -> None:
-        """So many references lie in one buffer, each 8 bytes behind the one before, and the buffer ends no sooner than the last."""
+        """So many references lie in one buffer, each 8 bytes after the one before, and the buffer ends no sooner than the last."""
         room = references[0]._obj
         places = [ctypes.cast(each, ctypes.c_void_p).value or 0 for each in references]
         self.assertEqual([place - ctypes.addressof(room) for place in places], list(range(0, 8 * len(places), 8)))
