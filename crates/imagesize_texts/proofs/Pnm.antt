@@ -8,7 +8,6 @@ use Rattle.imagesize_source.specs.Chain.{Said, Decided, Advances}
 use Rattle.imagesize_source.specs.Extension.{Plain, Lasts}
 use Rattle.imagesize_source.specs.Layout.{Layout, done, accept}
 use Rattle.imagesize_source.specs.State.{total}
-use Rattle.imagesize_source.specs.Walk.{CanFollow}
 use Rattle.imagesize_source.proofs.Advances.{Tells, advances}
 use Rattle.imagesize_source.proofs.Ahead.{Ahead, chain_ahead}
 use Rattle.imagesize_source.proofs.Agreement.{with_texts}
@@ -37,7 +36,7 @@ by_size : (P : Layout (Said (Unit {0}) ImageSize) → Type 0) (width height : Op
     → P (accept (pnm_size width height) (λ size. done (Decided size)))
 by_size P width height decided refused = found_by P (pnm_size width height) (λ size. done (Decided size)) (λ size _. decided size) refused
 
-pnm_advances : (d : List ℕ) → Advances pnm_words d
+pub pnm_advances : (d : List ℕ) → Advances pnm_words d
 pnm_advances = advances pnm_words
     (λ passed place. word_tells place (pnm_word place) (λ p. place < p)
     (λ w some. by_word (Tells (λ p. place < p)) place w (omega arith)
@@ -80,9 +79,6 @@ pnm_within d =
 pub pnm_laws : TextsLaws 12 true true pnm
 pnm_laws = record { local = pnm_local; within = λ d. omega (arith, pnm_within d); lasts = λ _. pnm_lasts }
 
--- a walk can follow the words
-pub pnm_follows : CanFollow pnm_words
-pnm_follows = record {
-  advances = pnm_advances;
-  beyond = λ passed place d h. word_beyond d place (pnm_word place) h;
-}
+-- from the end of the input on there is no word
+pub pnm_ends : (d : List ℕ) (place : ℕ) → length d ≤ place → layout_reads d (word place (pnm_word place)) ≡ refuses Ended
+pnm_ends d place h = word_beyond d place (pnm_word place) h

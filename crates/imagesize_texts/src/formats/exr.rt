@@ -79,7 +79,7 @@ impl Records for Attributes {
 
     ghost said = { λ attributes passed place. exr_attribute attributes.names place };
 
-    ghost keeps = { λ attributes passed place. attributes.names ≤ 256 };
+    ghost keeps = { λ attributes passed place. (0 < attributes.names) × (attributes.names ≤ 256) };
 
     // Reads the attribute at an offset.
     #[tactic(auto, using(imagesize_source::proofs::Runs::steps, imagesize_source::proofs::Runs::missed_before))]
@@ -114,6 +114,13 @@ impl Records for Attributes {
                 length: taken + 16,
             },
         })
+    }
+
+    // The input ends before the size.
+    #[inline(always)]
+    #[tactic(auto, using(crate::proofs::Exr::exr_ends))]
+    fn at_end(&self) -> Result<ImageSize, Halt> {
+        Err(Halt::Ended)
     }
 }
 

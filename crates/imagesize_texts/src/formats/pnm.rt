@@ -29,7 +29,7 @@ pub fn matches(head: &[u8; 12]) -> bool
 /// - `NoDelimiter`: a word or a comment is too long.
 /// - `NotUtf8`: a word is not UTF-8.
 /// - `Ended`: the input ends before the size.
-#[tactic(auto, using(crate::proofs::Pnm::pnm_follows))]
+#[tactic(auto, using(crate::proofs::Pnm::pnm_advances))]
 pub fn size<S: Source>(source: &mut S) -> Result<ImageSize, Halt>
     ensures { Runs (S.state source.old) (S.state source.new) result
         (pnm (S.state source.old).held.input) }
@@ -79,6 +79,13 @@ impl Records for Words {
         let next = read_word_behind(source, place, taken, &mut self.room)?;
         let size = pnm_size(width, number(next.text.trim()))?;
         Ok(Found::Answer(size))
+    }
+
+    // The input ends before the size.
+    #[inline(always)]
+    #[tactic(auto, using(crate::proofs::Pnm::pnm_ends))]
+    fn at_end(&self) -> Result<ImageSize, Halt> {
+        Err(Halt::Ended)
     }
 }
 
