@@ -1,5 +1,5 @@
 -- JPEG: how a walk along its segments goes, how many bytes they are read from, and what it sees of an input.
-use Rattle.std.proofs.Common.{false, zero-add, ◌≡◌, ℕ, ◌+◌, ◌-◌, ◌*◌, ◌^◌, ◌<◌, ◌≤◌, Bool, true, cond, eqb, List, [], ◌∷◌, ◌++◌, length, Result, Ok, Err, IfOk, refl, sym, ap, ◌∙◌, subst, arith, slice_index}
+use Rattle.std.proofs.Common.{false, zero-add, ◌≡◌, ℕ, ◌+◌, ◌-◌, ◌*◌, ◌^◌, ◌<◌, ◌≤◌, Bool, true, cond, eqb, List, [], ◌∷◌, ◌++◌, length, Result, Ok, Err, IfOk, refl, sym, ap, ◌∙◌, subst, arith, slice_index, IfErr}
 use Rattle.std.proofs.lemmas.Bool.Decides.{nat_tests}
 use Rattle.std.proofs.lemmas.List.Sums.{sum_by-append}
 use Rattle.std.specs.Prelude.{count_by}
@@ -7,7 +7,7 @@ use Rattle.imagesize_walked.specs.Jpeg.{jpeg, jpeg_segments, jpeg_segment, jpeg_
 use Rattle.imagesize_walked.specs.Walks.{depth_behind, LeadsTo, LeadsOn, Nested, Stands}
 use Rattle.imagesize_types.specs.declared.size.ImageSize.{ImageSize}
 use Rattle.imagesize_source.specs.declared.halt.Halt.{Halt}
-use Rattle.imagesize_source.specs.declared.halt.Halt.TheVariants.{Corrupted}
+use Rattle.imagesize_source.specs.declared.halt.Halt.TheVariants.{Corrupted, Ended}
 use Rattle.imagesize_source.specs.Agreement.{IsLocal}
 use Rattle.imagesize_source.specs.Chain.{Said, Decided, Next, Advances, records, start}
 use Rattle.imagesize_source.specs.Counts.{AtMost}
@@ -15,7 +15,7 @@ use Rattle.imagesize_source.specs.Extension.{Plain, Lasts}
 use Rattle.imagesize_source.specs.Input.{span_of}
 use Rattle.imagesize_source.specs.declared.endian.Endian.TheVariants.{Big}
 use Rattle.imagesize_source.specs.Layout.{Layout, layout_reads, refuse, done}
-use Rattle.imagesize_source.specs.Reading.{Reads, put_behind, bytes_at, number_at}
+use Rattle.imagesize_source.specs.Reading.{Reads, put_behind, bytes_at, number_at, refuses}
 use Rattle.imagesize_source.specs.Paying.{Nears}
 use Rattle.imagesize_source.specs.State.{State, Runs, total}
 use Rattle.imagesize_source.specs.Walk.{KeepsOn, said_at}

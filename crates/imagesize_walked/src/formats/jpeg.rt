@@ -59,7 +59,6 @@ impl Records for Segments {
 
     // The input ends before the size.
     #[inline(always)]
-    #[tactic(auto, using(crate::proofs::Jpeg::jpeg_ends))]
     fn at_end(&self) -> Result<ImageSize, Halt> {
         Err(Halt::Ended)
     }
