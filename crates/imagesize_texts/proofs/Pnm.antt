@@ -6,7 +6,9 @@ use Rattle.imagesize_source.specs.declared.halt.Halt.{Halt}
 use Rattle.imagesize_source.specs.Agreement.{IsLocal}
 use Rattle.imagesize_source.specs.Chain.{Said, Decided, Advances}
 use Rattle.imagesize_source.specs.Extension.{Plain, Lasts}
-use Rattle.imagesize_source.specs.Layout.{Layout, done, accept}
+use Rattle.imagesize_source.specs.declared.halt.Halt.TheVariants.{Ended}
+use Rattle.imagesize_source.specs.Layout.{Layout, done, accept, layout_reads}
+use Rattle.imagesize_source.specs.Reading.{refuses}
 use Rattle.imagesize_source.specs.State.{total}
 use Rattle.imagesize_source.proofs.Advances.{Tells, advances}
 use Rattle.imagesize_source.proofs.Ahead.{Ahead, chain_ahead}
@@ -17,7 +19,7 @@ use Rattle.imagesize_source.proofs.Tests.{on_test}
 use Rattle.imagesize_source.proofs.Way.{TextsLaws}
 use Rattle.imagesize_texts.specs.Contents.{WordRead, number_text}
 use Rattle.imagesize_texts.specs.Pnm.{pnm, pnm_words, pnm_word, pnm_comment, pnm_passed, pnm_height, pnm_size, is_comment, is_blank}
-use Rattle.imagesize_texts.specs.Texts.{passed_line}
+use Rattle.imagesize_texts.specs.Texts.{passed_line, word}
 use Rattle.imagesize_texts.proofs.Texts.{found_by, passed_onto, passed_plain, passed_tells, word_onto, word_plain, word_tells, word_begins, word_beyond}
 
 -- what holds of each way that a word can go

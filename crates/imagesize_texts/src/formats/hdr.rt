@@ -49,7 +49,7 @@ pub fn matches(head: &[u8; 12]) -> bool
 /// - `NoDelimiter`: a line is too long.
 /// - `NotUtf8`: a line is not UTF-8.
 /// - `Ended`: the input ends before the size.
-#[tactic(auto, using(imagesize_source::proofs::Runs::steps, crate::proofs::Hdr::hdr_advances))]
+#[tactic(auto, using(imagesize_source::proofs::Runs::steps))]
 pub fn size<S: Source>(source: &mut S) -> Result<ImageSize, Halt>
     ensures { Runs (S.state source.old) (S.state source.new) result
         (hdr (S.state source.old).held.input) }

@@ -29,7 +29,6 @@ pub fn matches(head: &[u8; 12]) -> bool
 /// - `NoDelimiter`: a word or a comment is too long.
 /// - `NotUtf8`: a word is not UTF-8.
 /// - `Ended`: the input ends before the size.
-#[tactic(auto, using(crate::proofs::Pnm::pnm_advances))]
 pub fn size<S: Source>(source: &mut S) -> Result<ImageSize, Halt>
     ensures { Runs (S.state source.old) (S.state source.new) result
         (pnm (S.state source.old).held.input) }
