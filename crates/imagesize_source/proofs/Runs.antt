@@ -8,7 +8,7 @@ use Rattle.imagesize_source.specs.Input.{part, span_at, span_of}
 use Rattle.imagesize_source.specs.Numbers.{number}
 use Rattle.imagesize_source.specs.declared.halt.Halt.{Halt}
 use Rattle.imagesize_source.specs.declared.halt.Halt.TheVariants.{Ended}
-use Rattle.imagesize_source.specs.Reading.{Reads, go_on, put_behind, and_then, bytes_at, number_at, part_read, bytes_read, number_read, map_answer, is_stopped, is_faulted, is_stop, is_failure, is_spent, is_memory}
+use Rattle.imagesize_source.specs.Reading.{Reads, go_on, put_behind, and_then, bytes_at, number_at, part_read, bytes_read, number_read, map_answer, is_stopped, is_faulted, is_failure, is_spent, is_memory}
 use Rattle.std.specs.Prelude.{Option, None, Some, IfSome, IsSomeAnd, option_map}
 use Rattle.imagesize_source.specs.State.{State, Held, Runs, EndedBy, Misses, Missed, total, state_after, step}
 use Rattle.imagesize_source.proofs.Parts.{part_length}

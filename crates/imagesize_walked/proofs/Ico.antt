@@ -1,34 +1,32 @@
 -- ICO: how a walk along its entries goes, how many bytes they are read from, and what it sees of an input.
-use Rattle.std.proofs.Common.{◌≡◌, ◌≢◌, ℕ, ◌+◌, ◌*◌, ◌<◌, ◌≤◌, max, Bool, true, false, cond, eqb, leb, List, [], ◌∷◌, ◌++◌, length, Option, Some, None, Result, Ok, Err, IfErr, refl, sym, ap, ◌∙◌, subst, arith, min}
+use Rattle.std.proofs.Common.{◌≡◌, ◌≢◌, ℕ, ◌+◌, ◌*◌, ◌<◌, ◌≤◌, max, Bool, true, false, cond, eqb, leb, List, [], ◌∷◌, ◌++◌, length, Option, Some, None, Ok, refl, sym, ap, ◌∙◌, subst, arith, min}
 use Rattle.std.proofs.lemmas.Bool.Decides.{nat_tests}
 use Rattle.std.proofs.lemmas.List.{append-nil, length_push}
 use Rattle.std.proofs.lemmas.List.Elements.{filter-append}
 use Rattle.std.specs.Prelude.{filter, ok_or}
 use Rattle.std.specs.List.{last_or}
-use Rattle.imagesize_walked.specs.Walks.{IsIcon, Seen, entry_in}
+use Rattle.imagesize_walked.specs.Walks.{IsIcon, Seen}
 use Rattle.imagesize_walked.specs.Ico.{ico, icon_entries, icon_entry, icon_answer, icon_size, icons_begun}
 use Rattle.imagesize_types.specs.Largest.{greatest_area, last_largest, area_if_some, later_largest}
 use Rattle.imagesize_types.specs.Order.{area_of}
 use Rattle.imagesize_types.specs.declared.size.ImageSize.{ImageSize}
-use Rattle.imagesize_source.specs.declared.halt.Halt.{Halt}
 use Rattle.imagesize_source.specs.declared.halt.Halt.TheVariants.{Corrupted}
 use Rattle.imagesize_source.specs.declared.endian.Endian.TheVariants.{Little}
 use Rattle.imagesize_source.specs.Agreement.{IsLocal}
-use Rattle.imagesize_source.specs.Chain.{Said, Decided, Next, Along, Advances, start, next_record, records, records_from, verdict, chain_at}
+use Rattle.imagesize_source.specs.Chain.{Said, Decided, Next, Along, Advances, start, next_record, records, records_from, chain_at}
 use Rattle.imagesize_source.specs.Counts.{AtMost}
 use Rattle.imagesize_source.specs.Input.{span_of}
-use Rattle.imagesize_source.specs.Layout.{Layout, bind, layout_reads, if_there, refuse, done, whole}
+use Rattle.imagesize_source.specs.Layout.{Layout, layout_reads, if_there, refuse, done, whole}
 use Rattle.std.specs.Option.{ForSome}
 use Rattle.imagesize_source.proofs.PastTheEnd.{there_beyond}
-use Rattle.imagesize_source.specs.Reading.{is_faulted, map_answer, number_at, number_read}
-use Rattle.imagesize_source.specs.State.{EndedBy, State, Runs, total}
+use Rattle.imagesize_source.specs.Reading.{map_answer, number_at, number_read}
+use Rattle.imagesize_source.specs.State.{total}
 use Rattle.imagesize_source.proofs.Advances.{Tells, Begins, advances, tells}
 use Rattle.imagesize_source.proofs.Ahead.{Ahead, chain_ahead}
 use Rattle.imagesize_source.proofs.ChainLaws.{local_chain, chain_cost, chain_induction}
 use Rattle.imagesize_source.proofs.Chains.{records_next, records_stop}
 use Rattle.imagesize_source.proofs.Counts.{begun_cost, then_within, total-span_of}
 use Rattle.imagesize_source.proofs.Agreement.{local_then, local_number, without_texts}
-use Rattle.imagesize_source.proofs.Reached.{runs_bind, refused_bind}
 use Rattle.imagesize_source.proofs.Tests.{on_test}
 use Rattle.imagesize_source.proofs.Way.{RecordedLaws}
 use Rattle.imagesize_source.proofs.Lists.{last_push}
@@ -116,48 +114,6 @@ ico_within d = omega (
   then_within (number_read d Little 4 2) (λ count. chain_at (icon_entries count) d) 2 (length d)
       (total-span_of d 4 2) (λ count _. entries_within count d),
 )
-
--- a record is the entry's first bytes, and what they say
-said_by : (sizes : List ImageSize) (place : ℕ) (all : Bool) → cond all (icon_answer (last_largest sizes)) (if_there place 2 (icon_entry sizes place))
-    ≡ bind (cond all (done None) (if_there place 2 done)) (icon_entry sizes place)
-said_by sizes place true = refl
-said_by sizes place false = refl
-
-said_in : (count seen : ℕ) (best : Option ImageSize) (sizes : List ImageSize) (place : ℕ) → Seen seen best sizes
-    → (icon_entries count).said sizes place ≡ bind (entry_in count seen place) (icon_entry sizes place)
-said_in count seen best sizes place h = said_by sizes place (eqb (length sizes) count)
-    ∙ ap (λ n. bind (entry_in count n place) (icon_entry sizes place)) h.many
-
-module _ {b end : State} (count seen : ℕ) (best : Option ImageSize) (place : ℕ) (sizes : List ImageSize) (h : Seen seen best sizes) where
-  -- the bytes of an entry were read
-  pub entry_next : (bytes : List ℕ) → Runs b end (Ok (Some bytes)) (layout_reads b.held.input (entry_in count seen place))
-      → Runs b end (Ok (Next (icon_size bytes) (place + 16))) (layout_reads b.held.input ((icon_entries count).said sizes place))
-  entry_next bytes run = subst (λ t. Runs b end (Ok (Next (icon_size bytes) (place + 16))) (layout_reads b.held.input t))
-      (sym (said_in count seen best sizes place h))
-      (runs_bind (Ok (Next (icon_size bytes) (place + 16))) (entry_in count seen place) (icon_entry sizes place) run (λ d. refl) refl tt)
-
-  -- they were not read
-  pub entry_out : (e : Halt) → Runs {X = Option (List ℕ)} b end (Err e) (layout_reads b.held.input (entry_in count seen place))
-      → Runs {X = Said ImageSize ImageSize} b end (Err e) (layout_reads b.held.input ((icon_entries count).said sizes place))
-  entry_out e run = subst (λ t. Runs {X = Said ImageSize ImageSize} b end (Err e) (layout_reads b.held.input t))
-      (sym (said_in count seen best sizes place h)) (refused_bind (entry_in count seen place) (icon_entry sizes place) run)
-
-  -- there are none
-  pub entry_none : Runs b end (Ok None) (layout_reads b.held.input (entry_in count seen place))
-      → Runs b end (map_answer Decided (ok_or best Corrupted)) (layout_reads b.held.input ((icon_entries count).said sizes place))
-  entry_none run = subst (λ t. Runs b end (map_answer Decided (ok_or best Corrupted)) (layout_reads b.held.input t))
-      (sym (said_in count seen best sizes place h))
-      (runs_bind (map_answer Decided (ok_or best Corrupted)) (entry_in count seen place) (icon_entry sizes place) run
-      (λ d. ap (λ o. layout_reads d (icon_answer o)) h.is ∙ by_best d best)
-      (ends_plainly best).0 (ends_plainly best).1) where
-        by_best : (d : List ℕ) (best : Option ImageSize) → layout_reads d (icon_answer best) ≡ record { answer = map_answer Decided (ok_or best Corrupted); marks = [] }
-        by_best d None = refl
-        by_best d (Some size) = refl
-
-        ends_plainly : (best : Option ImageSize) → (is_faulted (map_answer {Y = Said ImageSize ImageSize} Decided (ok_or best Corrupted)) ≡ false)
-            × IfErr (map_answer {Y = Said ImageSize ImageSize} Decided (ok_or best Corrupted)) (EndedBy end)
-        ends_plainly None = (refl, record { budget = λ e. absurd cc; memory = λ e. absurd cc; fault = λ e. absurd cc })
-        ends_plainly (Some size) = (refl, tt)
 
 -- from the end of the input on there is no entry
 pub icon_ends : (count seen : ℕ) (best : Option ImageSize) (sizes : List ImageSize) → Seen seen best sizes → (d : List ℕ) (place : ℕ)
