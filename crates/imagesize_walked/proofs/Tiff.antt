@@ -6,6 +6,7 @@ use Rattle.std.proofs.lemmas.List.{append-nil, length_push}
 use Rattle.std.proofs.lemmas.List.Elements.{filter-append}
 use Rattle.std.specs.Prelude.{filter, option_and_then}
 use Rattle.std.specs.List.{last_or}
+use Rattle.imagesize_walked.specs.Walks.{Known}
 use Rattle.imagesize_walked.specs.Tiff.{byte_order, size_or_next, count_bytes, directory_at, tiff_begun, entry_bytes, head_bytes, field_type_in, field_type_of, last_value, size_in, size_if_known, stated_place, tag_in, tiff, tiff_directory, tiff_entries, tiff_entry, tiff_head, tiff_header, tiff_value, value_bytes, value_of, version_of, whole_value, directory_begun}
 use Rattle.imagesize_walked.specs.declared.formats.tiff.Entry.{Entry}
 use Rattle.imagesize_walked.specs.declared.formats.tiff.Header.{Header}
@@ -35,7 +36,7 @@ use Rattle.imagesize_source.proofs.Counts.{begun_cost, at_most, at_most_bind, at
 use Rattle.imagesize_source.proofs.Answered.{on_answer}
 use Rattle.imagesize_source.proofs.Agreement.{AllRead, local_layout, local_number, local_then, without_texts}
 use Rattle.imagesize_source.proofs.Extension.{bytes_more, more, number_ok}
-use Rattle.imagesize_source.proofs.Reached.{runs_bind, refused_bind}
+use Rattle.imagesize_source.proofs.Reached.{reads_nothing, runs_bind, refused_bind}
 use Rattle.imagesize_source.proofs.Runs.{total-append}
 use Rattle.imagesize_source.proofs.Tests.{on_test}
 use Rattle.imagesize_source.proofs.Way.{RecordedLaws}
@@ -122,7 +123,7 @@ record_begins : (header : Header) (entries : List Entry) (place : ℕ) → Begin
 unfolding tiff_entry tiff_head
 record_begins header entries place = (omega arith, head_some header.version)
 
-entries_advance : (header : Header) (count : ℕ) (d : List ℕ) → Advances (tiff_entries header count) d
+pub entries_advance : (header : Header) (count : ℕ) (d : List ℕ) → Advances (tiff_entries header count) d
 entries_advance header count = advances (tiff_entries header count)
     (λ entries place. by_count (Tells (λ p. place < p)) header count entries place tt (record_tells header entries place))
     (λ entries place. by_count (Begins place) header count entries place tt (record_begins header entries place))
@@ -179,12 +180,19 @@ more_said header count i width height entries place h more =
     let no : eqb (length entries) count ≡ false = grind (arith, nat_tests) in
     ap (λ test. cond test (refuse NoDimensionsInIfd) (record_behind header entries place)) no
 
-pub end_said : (header : Header) (count : ℕ) (width height : Option ℕ) (entries : List Entry) (place : ℕ) → Known count width height entries
+pub end_said : (header : Header) (count : ℕ) (entries : List Entry) (place : ℕ) → length entries ≡ count
     → (tiff_entries header count).said entries place ≡ refuse NoDimensionsInIfd
-end_said header count width height entries place h =
-    let many = h.many in
+end_said header count entries place many =
     let all : eqb (length entries) count ≡ true = grind (arith, nat_tests) in
     ap (λ test. cond test (refuse NoDimensionsInIfd) (record_behind header entries place)) all
+
+-- where there are none, nothing is read
+pub entries_done : {a : State} (header : Header) (count : ℕ) (entries : List Entry) (place : ℕ) → IsSound a → length entries ≡ count
+    → Runs {X = Said Entry ImageSize} a a (Err NoDimensionsInIfd) (layout_reads a.held.input ((tiff_entries header count).said entries place))
+entries_done {a} header count entries place sound many =
+    subst (λ t. Runs {X = Said Entry ImageSize} a a (Err NoDimensionsInIfd) (layout_reads a.held.input t))
+    (sym (end_said header count entries place many))
+    (reads_nothing a (Err NoDimensionsInIfd) sound refl (record { budget = λ e. absurd cc; memory = λ e. absurd cc; fault = λ e. absurd cc }))
 
 -- what a record says behind others, by the entry that was read
 module _ {a b : State} (header : Header) (count i : ℕ) (width height : Option ℕ) (more : i ≢ count) (place : ℕ) (entries : List Entry)
@@ -214,7 +222,9 @@ pub entries_end : (header : Header) (count i : ℕ) (width height : Option ℕ) 
 unfolding tiff_entry tiff_head
 entries_end header count i width height entries h more d place far =
     ap (layout_reads d) (more_said header count i width height entries place h more)
-    ∙ bytes_beyond d place (head_bytes header.version) _ far (head_some header.version)
+    ∙ bytes_beyond d place (head_bytes header.version) (λ head. bind (accept (field_type_of header.version (field_type_in header.order (take 4 head)))
+    (λ field_type. bind (tiff_value header.version (place + head_bytes header.version))
+    (λ value. done (entry_of header (take 4 head) field_type value)))) (says header entries place)) far (head_some header.version)
 
 -- so a directory beyond 64 bits serves as well at the greatest place
 none_there : (header : Header) (count place : ℕ) (d : List ℕ) → length d ≤ place
@@ -225,8 +235,13 @@ none_there header count place d far = by_count (eqb 0 count) refl where
   c = record { first = place; said = (tiff_entries header count).said }
 
   by_count : (all : Bool) → eqb 0 count ≡ all → chain_at c d ≡ record { answer = cond all (Err NoDimensionsInIfd) (Err Ended); marks = [] }
-  by_count true is = ?
-  by_count false is = ?
+  by_count true is = chain_stop c d (start c) (Err NoDimensionsInIfd)
+      (ap (λ test. verdict (layout_reads d (cond test (refuse NoDimensionsInIfd) (record_behind header [] place))).answer) is)
+      ∙ ap (λ test. record { answer = Err NoDimensionsInIfd; marks = (layout_reads d (cond test (refuse NoDimensionsInIfd) (record_behind header [] place))).marks }) is
+  by_count false is =
+      let more : 0 ≢ count = λ same. absurd (let yes : eqb 0 count ≡ true = grind (arith, nat_tests) in let no : true ≡ false = sym yes ∙ is in cc) in
+      let none = entries_end header count 0 None None [] (record { many = refl; wide = refl; high = refl }) more d place far in
+      chain_stop c d (start c) (Err Ended) (ap (λ r. verdict r.answer) none) ∙ ap (λ r. record { answer = Err Ended; marks = r.marks }) none
 
 pub entries_saturated : {a b : State} {r : Result ImageSize Halt} (header : Header) (count : ℕ)
     → Runs a b r (chain_at (record { first = min (header.directory + count_bytes header.version) (2 ^ 64 - 1); said = (tiff_entries header count).said }) a.held.input)
@@ -335,7 +350,7 @@ ends_at : (header : Header) (count : ℕ) (d : List ℕ) (t : Along Entry) (entr
     → (next_record (tiff_entries header count) d t).answer ≡ Ok (Next entry place) → length t.held ≡ count → ⊥
 ends_at header count d t entry place is at =
     let out : Err NoDimensionsInIfd ≡ Ok (Next entry place) =
-    sym (ap (λ r. r.answer) (end_said header count t.held t.place d at)) ∙ is in
+    sym (ap (λ l. (layout_reads d l).answer) (end_said header count t.held t.place at)) ∙ is in
     absurd cc
 
 -- where the entries are all read, nothing is

@@ -181,9 +181,7 @@ fn find_size_of<S: Source, const HEAD: usize, const VALUE: usize>(
         width: None,
         height: None,
     };
-    let first = header
-        .directory
-        .saturating_add(count_bytes(header.version));
+    let first = header.directory.saturating_add(count_bytes(header.version));
     walk(entries, source, first)
 }
 
