@@ -16,7 +16,7 @@ pub enum Text {
 
 /// How many of the bytes are of the text at their front.
 #[tactic(auto, using(crate::proofs::Texts::fronts))]
-pub(crate) fn text_length(text: Text, bytes: &[u8]) -> usize
+pub fn text_length(text: Text, bytes: &[u8]) -> usize
     ensures length { result ≡ length (text_front text bytes.now) }
     ensures within { result ≤ length bytes.now }
 {

@@ -226,8 +226,8 @@ fn whole_part(bytes: &[u8], place: u64, count: usize) -> Option<&[u8]>
     Some(&rest[..count])
 }
 
-// How many of a room's bytes an input of this length has from a place on.
-fn count_there(told: u64, place: u64, room: usize) -> usize
+/// How many of a room's bytes an input of this length has from a place on.
+pub fn count_there(told: u64, place: u64, room: usize) -> usize
     ensures { result ≡ min room (told - place) }
 {
     let left = told.saturating_sub(place);
@@ -238,8 +238,8 @@ fn count_there(told: u64, place: u64, room: usize) -> usize
     }
 }
 
-// Whether the input has more bytes than these that may be of the text.
-fn is_cut(text: Text, bytes: &[u8], wanted: usize) -> bool
+/// Whether the input has more bytes than these that may be of the text.
+pub fn is_cut(text: Text, bytes: &[u8], wanted: usize) -> bool
     ensures { result ≡ (nat_lt (length bytes.now) wanted && not (is_ended text bytes.now)) }
 {
     bytes.len() < wanted && !is_closed(text, bytes)
@@ -264,8 +264,8 @@ fn gather(spans: &[Span], bytes: &[u8], told: u64, place: u64, room: &mut [u8]) 
     count
 }
 
-// Copies the first of these bytes into a room from an index on, as far as it goes, and answers how many that is.
-fn put(run: &[u8], room: &mut [u8], index: usize) -> usize
+/// Copies the first of these bytes into a room from an index on, as far as it goes, and answers how many that is.
+pub fn put(run: &[u8], room: &mut [u8], index: usize) -> usize
     requires { index ≤ length room.old }
     ensures count { result ≡ min (length run.now) (length room.old - index) }
     ensures copied { room.new ≡ take index room.old ++ take result run.now ++ drop (index + result) room.old }

@@ -1,0 +1,4 @@
+//! Inputs that come in pieces: what the bytes so far tell of every input that begins with them.
+#![tactic(auto)]
+
+pub mod source;
