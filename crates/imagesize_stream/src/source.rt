@@ -8,6 +8,7 @@ ghost use Rattle.imagesize_source.specs.Reading.{part_read, map_answer};
 ghost use Rattle.imagesize_source.specs.State.{Runs};
 ghost use Rattle.imagesize_stream.specs.Stream.{byte_at, came, stream_input, stream_state};
 
+use crate::room::bytes_behind;
 use imagesize_source::source::Source;
 use imagesize_source::source::log::SpanLog;
 use imagesize_source::source::parts::{Missing, count_there, is_cut, put};
@@ -232,13 +233,4 @@ impl Source for StreamSource<'_> {
         self.see(place, count);
         Ok(count)
     }
-}
-
-// The bytes behind so many.
-#[inline(always)]
-#[tactic(auto, using(imagesize_source::proofs::Known::slice_behind))]
-fn bytes_behind(bytes: &[u8], count: u64) -> &[u8]
-    ensures { result.now ≡ drop count bytes.now }
-{
-    &bytes[(count as usize).min(bytes.len())..]
 }
