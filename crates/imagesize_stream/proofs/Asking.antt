@@ -1,5 +1,5 @@
 -- What readings of the bytes so far tell of every input that begins with them.
-use Rattle.std.proofs.Common.{◌≡◌, ℕ, ◌+◌, ◌^◌, ◌<◌, ◌≤◌, true, false, List, [], ◌++◌, length, Option, None, Some, Result, IfSome, IsSomeAnd, refl, sym, ap, ◌∙◌, subst, arith}
+use Rattle.std.proofs.Common.{◌≡◌, ℕ, ◌+◌, ◌^◌, ◌<◌, ◌≤◌, Bool, true, false, List, [], ◌++◌, length, Option, None, Some, Result, IfSome, IsSomeAnd, refl, sym, ap, ◌∙◌, subst, arith}
 use Rattle.std.specs.Prelude.{option_map}
 use Rattle.std.proofs.lemmas.Bool.Decides.{nat_tests}
 use Rattle.imagesize_source.specs.declared.halt.Halt.{Halt}
@@ -7,11 +7,12 @@ use Rattle.imagesize_source.specs.declared.source.parts.Missing.{Missing}
 use Rattle.imagesize_source.specs.declared.span.Span.{Span}
 use Rattle.imagesize_source.specs.Agreement.{is_covered, has_place}
 use Rattle.imagesize_source.specs.Known.{sure_of}
-use Rattle.imagesize_source.specs.Reading.{Reads, is_faulted}
+use Rattle.imagesize_source.specs.Reading.{Reads, is_faulted, put_behind}
 use Rattle.imagesize_source.specs.State.{State, Misses}
 use Rattle.imagesize_source.proofs.Agreement.{covered_one_of}
-use Rattle.imagesize_stream.specs.Stream.{AllBelow, Begins, Shares, came, stream_input, stream_state}
-use Rattle.imagesize_stream.proofs.Beginning.{Run, begins_shares, shares_begun, unknown_behind}
+use Rattle.imagesize_source.specs.Stream.{Shares}
+use Rattle.imagesize_stream.specs.Stream.{AllBelow, Begins, Says, came, stream_input, stream_state}
+use Rattle.imagesize_stream.proofs.Beginning.{Run, begins_left, begins_shares, shares_begun, unknown_behind}
 use Rattle.imagesize_stream.proofs.Called.{Called, all_seen, answered, is_short}
 
 -- readings that see an input by their marks alone, however long it is
@@ -42,10 +43,14 @@ module _ {X : Type 0} (f : List ℕ → Reads X) (same : IsShared f) (told start
       same d fill (begins_shares told start kept unread front run fits d (f fill).marks begins
       (all_seen f told (came start kept unread) (kept ++ unread) short log missed r call faultless))
 
-  pub says_begun : is_faulted r ≡ false → (d : List ℕ) → Begins front told d → (f d).answer ≡ r
-  says_begun faultless d begins =
-      ap (λ w. w.answer) (same_begun faultless d begins)
-      ∙ answered f told (came start kept unread) (kept ++ unread) short log missed r call faultless
+  pub says_begun : is_faulted r ≡ false → Says front told f r
+  says_begun faultless = record {
+    marks = (f fill).marks;
+    is = λ d begins.
+        same_begun faultless d begins
+        ∙ ap (λ a. record { answer = a; marks = (f fill).marks })
+        (answered f told (came start kept unread) (kept ++ unread) short log missed r call faultless);
+  }
 
   module _ (faults : is_faulted r ≡ true) where
     pub what : (m : Missing) × (missed ≡ Some m)
@@ -84,3 +89,19 @@ module _ {X : Type 0} (f : List ℕ → Reads X) (same : IsShared f) (told start
     none_missed all within =
         let behind = what_behind (within what.0.start what_covered) in
         omega (arith, all, behind.0, behind.1)
+
+-- an answer that no reading failed
+pub by_fault : {X : Type 0} (r other : Result X Halt) → (is_faulted r ≡ false → r ≡ other) → (is_faulted r ≡ true → ⊥) → r ≡ other
+by_fault {X} r other right never = by_test (is_faulted r) refl where
+  by_test : (b : Bool) → is_faulted r ≡ b → r ≡ other
+  by_test true is = absurd (never is)
+  by_test false is = right is
+
+-- behind other spans
+pub says_behind : {X : Type 0} (front chunk : List ℕ) (told : ℕ) (whole reads : List ℕ → Reads X) (before : List Span) (r : Result X Halt)
+    → ((d : List ℕ) → Begins front told d → whole d ≡ put_behind before (reads d)) → Says (front ++ chunk) told reads r
+    → Says (front ++ chunk) told whole r
+says_behind front chunk told whole reads before r resumes says = record {
+  marks = before ++ says.marks;
+  is = λ d begins. resumes d (begins_left front chunk told d begins) ∙ ap (put_behind before) (says.is d begins);
+}

@@ -2,13 +2,14 @@
 use Rattle.std.proofs.Common.{◌≡◌, ℕ, ◌+◌, ◌-◌, ◌<◌, ◌≤◌, min, true, false, ◌⊎◌, inl, inr, List, [], ◌∷◌, ◌++◌, length, take, drop, get_or, Some, is_some, replicate, refl, sym, ap, ◌∙◌, subst, arith}
 use Rattle.std.specs.Prelude.{unwrap_or}
 use Rattle.std.proofs.lemmas.Bool.{cases_lt}
-use Rattle.std.proofs.lemmas.List.{append-nil, drop-append-le, drop_min, drop_all, length-append, length-drop, length-take, length-replicate, get_or-drop, get_or-take, take_all, take-append-le, ext_get_or}
+use Rattle.std.proofs.lemmas.List.{append-nil, drop-append-le, drop_min, drop_all, drop-drop, length-append, length-drop, length-take, length-replicate, get_or-drop, get_or-take, take_all, take-append-le, ext_get_or}
 use Rattle.std.proofs.Math.Seq.{drop-append-add, drop-append_seam}
 use Rattle.imagesize_source.specs.declared.span.Span.{Span}
 use Rattle.imagesize_source.specs.Agreement.{is_covered}
 use Rattle.imagesize_source.specs.Known.{AllKnown, byte_in_parts}
 use Rattle.imagesize_source.proofs.Known.{filled_at, length-filled_input}
-use Rattle.imagesize_stream.specs.Stream.{AllBelow, Begins, Shares, byte_at, came, run_of, stream_input}
+use Rattle.imagesize_source.specs.Stream.{Shares}
+use Rattle.imagesize_stream.specs.Stream.{AllBelow, Begins, byte_at, came, run_of, stream_input}
 use Rattle.imagesize_stream.proofs.Streaming.{in_run, not_before, not_behind}
 
 -- what begins with more bytes is as long as they are
@@ -78,6 +79,20 @@ run_held front chunk kept unread from passed start as_many is_kept is_unread at 
           let long : length (kept ++ unread) ≡ length (front ++ chunk) - start = ap length is ∙ length-drop start (front ++ chunk) in
           omega (arith, long, length-append kept unread, length-append front chunk, here);
     }
+
+-- what of it stands from a later place on
+pub kept_on : (front kept unread : List ℕ) (start place skip : ℕ) → Run front kept unread start → start ≤ place → skip ≡ place - start
+    → drop skip (kept ++ unread) ≡ drop place front
+kept_on front kept unread start place skip run ahead is =
+    let at : start + skip ≡ place = omega (arith, ahead, is) in
+    ap (drop skip) run.is ∙ drop-drop skip start front ∙ ap (λ k. drop k front) at
+
+-- all of them
+pub from_first : (front chunk kept unread : List ℕ) (start : ℕ) → kept ≡ front → unread ≡ chunk → start ≡ 0 → Run (front ++ chunk) kept unread start
+from_first front chunk kept unread start is_kept is_unread at = record {
+  is = ap (λ xs. xs ++ unread) is_kept ∙ ap (λ xs. front ++ xs) is_unread ∙ ap (λ k. drop k (front ++ chunk)) (sym at);
+  ends = omega (arith, at, ap length is_kept, ap length is_unread, length-append front chunk);
+}
 
 -- without any bytes before them
 pub any_run : (kept unread : List ℕ) (start : ℕ) → Run (replicate start 0 ++ (kept ++ unread)) kept unread start

@@ -1,11 +1,13 @@
 -- An input that comes in pieces: what its first bytes tell of every input that begins with them.
-use Rattle.std.specs.Prelude.{◌≡◌, ℕ, ◌+◌, ◌≤◌, ◌<◌, true, List, [], ◌∷◌, ◌++◌, length, take, slice_index, Option}
+use Rattle.std.specs.Prelude.{◌≡◌, ℕ, ◌+◌, ◌≤◌, ◌<◌, true, List, [], ◌∷◌, ◌++◌, length, take, drop, Option, Result}
 use Rattle.imagesize_source.specs.Agreement.{is_covered}
 use Rattle.imagesize_source.specs.Known.{byte_in_parts, filled_input, parts_state}
 use Rattle.imagesize_source.specs.Layout.{Layout, done, refuse, field, reading}
-use Rattle.imagesize_source.specs.Reading.{most, put_behind}
-use Rattle.imagesize_source.specs.State.{State, Missed, state_after}
-use Rattle.imagesize_source.specs.Chain.{Chain, Along, chain_from, next_record}
+use Rattle.imagesize_source.specs.Reading.{Reads, most, put_behind}
+use Rattle.imagesize_source.specs.State.{State}
+use Rattle.imagesize_source.specs.Chain.{Said, chain_from}
+use Rattle.imagesize_source.specs.Walk.{chain_of}
+use Rattle.imagesize_source.specs.declared.halt.Halt.{Halt}
 use Rattle.imagesize_source.specs.declared.source.parts.Missing.{Missing}
 use Rattle.imagesize_source.specs.declared.span.Span.{Span}
 
@@ -24,6 +26,11 @@ Reach low high (reading r place f) = (low ≤ place) × (place + most r ≤ high
 -- no place of these spans is as great
 abbrev pub AllBelow : ℕ → List Span → Type 0
 AllBelow n spans = (place : ℕ) → is_covered spans place ≡ true → place < n
+
+-- Of every input that begins with these bytes this is the answer, by the same marks.
+pub record Says {X : Type 0} (front : List ℕ) (told : ℕ) (reads : List ℕ → Reads X) (answer : Result X Halt) : Type 0 where
+  pub marks : List Span
+  pub is : (d : List ℕ) → Begins front told d → reads d ≡ record { answer = answer; marks = marks }
 
 -- the places of n bytes from a place on, as one span
 abbrev pub run_of : ℕ → ℕ → List Span
@@ -45,19 +52,14 @@ stream_input told start kept chunk = filled_input told (came start kept chunk) (
 abbrev pub stream_state : ℕ → ℕ → List ℕ → List ℕ → List Span → Option Missing → State
 stream_state told start kept chunk seen missed = parts_state told (came start kept chunk) (kept ++ chunk) seen missed
 
--- d is no longer than e, and has each place of these spans, with the byte that e has there
-pub record Shares (d e : List ℕ) (spans : List Span) : Type 0 where
-  pub no_longer : length d ≤ length e
-  pub there : (place : ℕ) → is_covered spans place ≡ true → (place < length d) × (slice_index d place ≡ slice_index e place)
-
--- How far a walk came from the record t on, before a reading failed: the record at this place is the next one. The readings
--- before it had marks that lead each input there that shares them.
-pub record Stood {C X : Type 0} (c : Chain C X) (P : List C → Type 0) (a b : State) (t : Along C) (place : ℕ) : Type 0 where
+-- Of an input of at most `told` bytes so many came, and a walk stands at a place. Of the bytes from the start on as many are
+-- kept as came. Every input that begins so has the readings of the whole behind some spans from that place on.
+pub record Streams {C X : Type 0} (first : ℕ) (said : List C → ℕ → Layout (Said C X)) (P : List C → Type 0) (start place told passed : ℕ)
+    (kept : List ℕ) (whole : List ℕ → Reads X) (front : List ℕ) : Type 0 where
   pub held : List C
   pub known : P held
-  pub made : List Span
-  pub ahead : a.held.honest ≡ true → t.place ≤ place
-  pub leads : a.held.honest ≡ true → (d : List ℕ) → Shares d a.held.input made
-      → chain_from c d t ≡ put_behind made (chain_from c d (record { held = held; place = place }))
-  pub missed : a.held.honest ≡ true
-      → Missed (state_after a made) b (next_record c a.held.input (record { held = held; place = place })).marks
+  pub as_many : passed ≡ length front
+  pub rest : kept ≡ drop start front
+  pub before : List Span
+  pub resumes : (d : List ℕ) → Begins front told d
+      → whole d ≡ put_behind before (chain_from (chain_of first said) d (record { held = held; place = place }))
