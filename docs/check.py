@@ -1,4 +1,4 @@
-"""Checks what the pages say of this repository, and how they say it.
+"""Checks what the pages and the docstrings of the crates say of this repository, and how they say it.
 
     python3 docs/check.py                prints a line for each mistake; the status is 1 if there is one
     python3 docs/check.py --count        prints the words, the long sentences and the project's old words of each page
@@ -6,7 +6,8 @@
     python3 docs/check.py --self-test    plants a mistake for each check, and fails if one is not found
 
 It checks links, names of files, commands, mutations, definitions and clauses, the contracts in CALLING.md, numbers, worked
-diffs, and the length of sentences. A page of REWRITTEN has none of the words in OLD.
+diffs, and the length of sentences. A page of REWRITTEN has none of the words in OLD, and neither have the lines `///` and `//!`
+in `crates/*/src`. Their sentences are as short as those of the pages.
 """
 
 import functools
@@ -36,6 +37,9 @@ REWRITTEN = {"README.md", "CALLING.md", "CONTRIBUTING.md", "SECURITY.md", "inclu
              "docs/CHAINS.md", "docs/COMPARISON.md", "docs/DECISIONS.md", "docs/DIFFERENCES.md", "docs/LAYOUTS.md", "docs/PARTS.md",
              "docs/PROMISES.md", "docs/PROVED.md", "docs/RELEASING.md", "docs/REMOTE.md", "docs/TESTED.md",
              "docs/VERSIONS.md"}
+# The docstrings that are still to be rewritten: each file whose path begins like this.
+UNREWRITTEN = ("crates/imagesize_boxes/", "crates/imagesize_source/src/source/parts.rt", "crates/imagesize_source/src/walk.rt",
+               "crates/imagesize_walked/src/formats/ico.rt", "crates/imagesize_walked/src/formats/tiff.rt")
 # Commands of the kit, by `rt`; those of a shell that a page may name are not looked at.
 RT = set("ci must-fail selftest doc version new check verdict lib run test try fmt tidy plant all expand lemma seed names".split())
 
@@ -76,6 +80,11 @@ NUMBERS["formats"] = NUMBERS["types"]
 def pages():
     """The pages that git knows."""
     return [TOP / name for name in source((".md",))]
+
+
+def sources():
+    """The files of the crates whose docstrings are read."""
+    return [TOP / name for name in source((".rt",)) if re.match(r"crates/\w+/src/", name) and not name.startswith(UNREWRITTEN)]
 
 
 def links(page, text):
@@ -306,8 +315,14 @@ def diffs(page, text):
                 yield f"{name} has no line {line[1:].strip()}"
 
 
+DOCSTRING = re.compile(r"(?:^ *//[/!](?: .*)?\n)+", re.M)
+
+
 def prose(page, text):
-    """The text of a page without code, or the comments of the header."""
+    """The text of a page without code, the comments of the header, or the docstrings of a file."""
+    if page.suffix == ".rt":
+        docstrings = [re.sub(r"^ *//[/!] ?", "", docstring, flags=re.M) for docstring in DOCSTRING.findall(text + "\n")]
+        return FENCE.sub("", "\n\n".join(docstrings))
     if page.suffix == ".h":
         comments = re.findall(r"/\*(.*?)\*/", text, re.S)
         comments = [re.sub(r"^ *\* ?", "", comment, flags=re.M) for comment in comments]
@@ -328,9 +343,14 @@ def sentences(text):
                 yield sentence
 
 
+def is_rewritten(page):
+    """Whether the words and the sentences of a file are checked."""
+    return page.suffix == ".rt" or str(page.relative_to(TOP)) in REWRITTEN
+
+
 def long_sentences(page, text):
     """Sentences above the greatest length."""
-    if str(page.relative_to(TOP)) in REWRITTEN:
+    if is_rewritten(page):
         for sentence in sentences(prose(page, text)):
             if len(sentence.split()) > LONGEST:
                 yield f"a sentence of {len(sentence.split())} words: {sentence[:60]}.."
@@ -341,42 +361,44 @@ def old_words(text):
 
 
 def words(page, text):
-    """Words of the proofs, on a page that is rewritten."""
-    if str(page.relative_to(TOP)) in REWRITTEN:
+    """Words of the proofs, on a page that is rewritten or in a docstring."""
+    if is_rewritten(page):
         for word in sorted(set(word.lower() for word in old_words(prose(page, text)))):
             yield f"the project's own word: {word}"
 
 
 CHECKS = (links, files, commands, mutations, definitions, defined, clauses, calling, numbers, length, diffs, long_sentences, words)
-# A mistake for each check: the page that it is planted on, and the text.
-PLANTED = {
-    links: ("README.md", "[a page](docs/NOT_THERE.md)"),
-    files: ("README.md", "`crates/imagesize/src/not_there.rt`"),
-    commands: ("README.md", "`rt provee`, `examples/run --not-there`"),
-    mutations: ("docs/PROMISES.md", "| a | Mutations |\n|---|---|\n| b | `no_such_mutation` |"),
-    definitions: ("docs/PROVED.md", "`CountsNothingAtAll`"),
-    defined: ("docs/PROMISES.md", "| Name | What |\n|---|---|\n| `no_such_name` | nothing |\n"),
-    clauses: ("docs/PROVED.md", "`value` and `stopped` of `blob_size`"),
-    calling: ("CALLING.md", None),
-    numbers: ("README.md", "26 formats"),
-    length: ("README.md", "\n" * 81),
-    diffs: ("CONTRIBUTING.md", "```diff\n+++ docs/check.py\n+no such line\n```"),
-    long_sentences: ("README.md", "It is " + "very " * 40 + "long."),
-    words: ("README.md", "A refusal at its place."),
-}
+# Mistakes for each check: the page that one is planted on, and the text.
+PLANTED = [
+    (links, "README.md", "[a page](docs/NOT_THERE.md)"),
+    (files, "README.md", "`crates/imagesize/src/not_there.rt`"),
+    (commands, "README.md", "`rt provee`, `examples/run --not-there`"),
+    (mutations, "docs/PROMISES.md", "| a | Mutations |\n|---|---|\n| b | `no_such_mutation` |"),
+    (definitions, "docs/PROVED.md", "`CountsNothingAtAll`"),
+    (defined, "docs/PROMISES.md", "| Name | What |\n|---|---|\n| `no_such_name` | nothing |\n"),
+    (clauses, "docs/PROVED.md", "`value` and `stopped` of `blob_size`"),
+    (calling, "CALLING.md", None),
+    (numbers, "README.md", "26 formats"),
+    (length, "README.md", "\n" * 81),
+    (diffs, "CONTRIBUTING.md", "```diff\n+++ docs/check.py\n+no such line\n```"),
+    (long_sentences, "README.md", "It is " + "very " * 40 + "long."),
+    (words, "README.md", "A refusal at its place."),
+    (long_sentences, "crates/imagesize/src/lib.rt", "/// It is " + "very " * 40 + "long."),
+    (words, "crates/imagesize/src/lib.rt", "//! A refusal at its place."),
+]
 
 
 def self_test():
-    """Whether each check finds a planted mistake that it does not find without it."""
+    """Whether each check finds the planted mistakes that it does not find without them."""
     missed = []
-    for check, (name, planted) in PLANTED.items():
+    for check, name, planted in PLANTED:
         page = TOP / name
         text = page.read_text()
         bad = text + "\n\n" + planted if planted else text.replace("length header.now < 12", "length header.now < 13")
         if len(list(check(page, bad))) <= len(list(check(page, text))):
             missed.append(check.__name__)
     print(f"self-test: {len(PLANTED)} mistakes planted, {len(missed)} missed {' '.join(missed)}".rstrip())
-    return 1 if missed or set(PLANTED) != set(CHECKS) else 0
+    return 1 if missed or {check for check, _, _ in PLANTED} != set(CHECKS) else 0
 
 
 def show_counts():
@@ -398,13 +420,13 @@ def write():
 def main():
     wrong = 0
     read = [*pages(), TOP / "include/imagesize.h"]
-    for page in read:
+    for page in [*read, *sources()]:
         text = page.read_text()
         for check in CHECKS if page.suffix == ".md" else (long_sentences, words):
             for mistake in check(page, text):
                 print(f"{page.relative_to(TOP)}: {mistake}")
                 wrong += 1
-    print(f"pages: {len(read)} read, {wrong} mistakes")
+    print(f"pages: {len(read)} read, and the docstrings of {len(sources())} files, {wrong} mistakes")
     return 1 if wrong else 0
 
 

@@ -16,7 +16,7 @@ use Rattle.imagesize_source.specs.Reading.{Reads, is_memory, is_faulted, is_stop
 use Rattle.imagesize_source.specs.declared.halt.Halt.{Halt}
 use Rattle.imagesize_source.proofs.Halts.{error_fault, error_memory, error_spent, stated_goes_on, stated_same}
 use Rattle.imagesize_io.specs.Standing.{behind_of, drift}
-use Rattle.imagesize_source.specs.State.{State, EndedBy, Runs}
+use Rattle.imagesize_source.specs.State.{State, Runs}
 use Rattle.imagesize_source.specs.declared.error.ImageError.{ImageError}
 use Rattle.std.proofs.lemmas.Bool.{false_from_ne_true}
 

@@ -3,7 +3,7 @@ use Rattle.std.proofs.Common.{◌≡◌, ℕ, ◌+◌, ◌<◌, List, length, Op
 use Rattle.std.proofs.lemmas.Bool.Decides.{nat_tests}
 use Rattle.imagesize.specs.Kind.{first_row, kind_by}
 use Rattle.imagesize.specs.Types.{rows}
-use Rattle.imagesize.specs.Meaning.{kind_of, kind_reads, meaning, size_reads}
+use Rattle.imagesize.specs.Meaning.{kind_of, kind_reads, meaning, meaning_reads, size_reads}
 use Rattle.imagesize.specs.Short.{Ends}
 use Rattle.imagesize_io.specs.Answers.{Answers}
 use Rattle.imagesize_io.specs.Telling.{Telling}

@@ -21,7 +21,7 @@ use Rattle.imagesize_source.specs.Agreement.{Agrees, IsLocal, Parting, is_covere
 use Rattle.imagesize_source.specs.Input.{span_at}
 use Rattle.imagesize_source.specs.Known.{AllKnown, HasParts, Lacks, byte_in_parts, byte_of, filled_input, length_within, reaches, parts_state, sure_of}
 use Rattle.imagesize_source.specs.Errors.{is_stopped as is_stopped_error}
-use Rattle.imagesize_source.specs.Halts.{with_error}
+use Rattle.imagesize_source.specs.Halts.{error_of, with_error}
 use Rattle.imagesize_source.specs.Outcome.{outcome_of, stated}
 use Rattle.imagesize_source.specs.Reading.{Reads, go_on, is_faulted}
 use Rattle.imagesize_source.proofs.Halts.{stated_ok, stated_same}
@@ -294,7 +294,10 @@ no_size : (d : List ℕ) (k : Result ImageType Halt) (e : ImageError) → k ≡ 
     → Err e ≡ stated (meaning_reads d 0).answer
 unfolding meaning_reads
 no_size d (Ok type) e same is = absurd cc
-no_size d (Err halt) e same is = is ∙ ap (λ r. stated (go_on (kind_reads d 0).marks r (λ found. size_reads found d)).answer) same
+no_size d (Err halt) e same is =
+    let one : e ≡ error_of halt = cc in
+    let refused : ◌≡◌ {A = Result ImageSize ImageError} (Err e) (Err (error_of halt)) = ap Err one in
+    refused ∙ ap (λ r. stated (go_on (kind_reads d 0).marks r (λ found. size_reads found d)).answer) same
 
 -- a type that is refused is none
 pub type_refused : (d : List ℕ) (e : ImageError) → ◌≡◌ {A = Result ImageType ImageError} (Err e) (kind_of d 0).answer → IsProbed d (None, Err e)

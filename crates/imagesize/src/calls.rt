@@ -1,4 +1,4 @@
-//! The calls: type and size of a slice's bytes, or of a reader's.
+//! The calls: type and size of the image in a slice, or in a reader's bytes.
 ghost use Rattle.std.specs.Prelude.{◌≡◌, ℕ, ◌+◌, ◌<◌, ◌≤◌, List, length, ◌++◌, IsTrue, IfOk, IsOkAnd, IfErr, IfSome, IsSome, Some, true, false, Option, Ok, Err, option_map};
 ghost use Rattle.imagesize_io.specs.Answers.{Answers, CountsWithin, IsLast, Leaves};
 ghost use Rattle.imagesize_source.specs.Limits.{allowance};
@@ -23,21 +23,21 @@ use imagesize_source::source::Source;
 use imagesize_source::source::slice::SliceSource;
 use imagesize_types::size::ImageSize;
 
-/// What a reader was found to hold, and what it took to find it.
+/// What was found in a reader's bytes, and how many bytes were read to find it.
 #[derive(Debug, Drop)]
 pub struct Probed {
-    /// The type, where one was found.
+    /// The type, if one was found.
     pub kind: Option<ImageType>,
-    /// The size in pixels, or why there is none.
+    /// The size in pixels, or the error.
     pub answer: ImageResult<ImageSize>,
     /// How many bytes the reads of this call gave.
     pub taken: u64,
 }
 
-/// The type of the image that a slice's first bytes tell, and its compression where the type has several: `Unknown` where the
-/// bytes do not tell it.
+/// Detects the type of an image from its first bytes, with its compression if the type has several. The compression is
+/// `Unknown` if these bytes do not have it.
 ///
-/// Errors: `NotSupported` where no type has these bytes, and `EndOfInput` under 12 bytes.
+/// Errors: `NotSupported` if the bytes are of no known type, and `EndOfInput` if there are fewer than 12 bytes.
 ///
 /// ```
 /// use imagesize::{ImageType, image_type};
@@ -48,24 +48,24 @@ pub fn image_type(header: &[u8]) -> ImageResult<ImageType>
     ensures value { result ≡ (kind_of header.now 0).answer }
     ensures short { length header.now < 12 → result ≡ Err end_of_input }
 
-    // Another input of this length that agrees on the marks has the same type, at every place.
+    // Another input of this length that agrees on the spans `marks` has the same type, at every offset.
     ensures local { (place : ℕ) (e : List ℕ) → Agrees header.now e (kind_of header.now place).marks
         → kind_of e place ≡ kind_of header.now place }
 
-    // Bytes that follow change no type but TGA, and no compression but one that is unknown.
+    // Appended bytes change no type but TGA, and no compression but an unknown one.
     ensures lasts { IfOk result (λ type. IsTrue (keeps type) → (x : List ℕ) → IsOkAnd (kind_of (header.now ++ x) 0).answer (Stays type)) }
 
-    // A slice fails at no reading, has no budget and wants no memory.
+    // Over a slice no read fails, there is no budget, and nothing is allocated.
     ensures unstopped { is_stopped result ≡ false }
 {
     let mut source = SliceSource { bytes: header };
     with_error(detect(&mut source, 0), &source)
 }
 
-/// The size in pixels of the image that a slice's bytes hold.
+/// Reads the size in pixels of the image in a slice.
 ///
-/// Errors: `NotSupported` where no type has the first bytes, `EndOfInput` where the bytes end before the size,
-/// and the refusals of the type's layout.
+/// Errors: `NotSupported` if the first bytes are of no known type, `EndOfInput` if the bytes end before the size, and the
+/// errors of the type's format.
 ///
 /// ```
 /// use imagesize::blob_size;
@@ -77,33 +77,33 @@ pub fn blob_size(data: &[u8]) -> ImageResult<ImageSize>
     ensures value { result ≡ (meaning «data».now 0).answer }
     ensures short { length «data».now < 12 → result ≡ Err end_of_input }
 
-    // Another input of this length that agrees on the marks has the same size, and the same marks, at every place.
+    // Another input of this length that agrees on the spans `marks` has the same size and the same spans, at every offset.
     ensures local { (place : ℕ) (e : List ℕ) → Agrees «data».now e (meaning «data».now place).marks
         → meaning e place ≡ meaning «data».now place }
 
-    // At every place, a refused type and a size at fixed places are read from at most 41 bytes; a size behind records
-    // from at most 64, and 20 for each record that is begun.
+    // `cost` adds up the lengths of the spans. At every offset it is at most 41 for an unknown type and for a size at fixed
+    // offsets. For a walk it is at most 64, plus 20 for each segment, chunk, box or entry that is begun.
     ensures stated { (place : ℕ) → cost «data».now place ≤ stated_bytes «data».now place }
 
-    // Each format has its own count: what stands outside of its records, and so much for each that is begun, and of
-    // all formats but those at fixed places at most 28 bytes more than there are.
+    // Each format has its own bound: a number for fixed offsets, and for a walk a number plus another for each record that is
+    // begun. Walks and text formats also cost at most 28 bytes more than the input has.
     ensures most { (place : ℕ) → cost «data».now place ≤ most_bytes «data».now place }
 
-    // Every size, and every refusal, is read from at most 64 bytes more than there are.
+    // Every size and every error costs at most 64 bytes more than the input has.
     ensures within { (place : ℕ) → cost «data».now place ≤ length «data».now + allowance }
 
-    // Bytes that follow change no size, but those of HEIF, of icons and of TGA.
+    // Appended bytes change no size, except for HEIF, icons and TGA.
     ensures lasts { IsTrue (lasts_as (kind_of «data».now 0).answer) → IfOk result (λ size.
         (x : List ℕ) → (meaning («data».now ++ x) 0).answer ≡ Ok size) }
 
-    // A slice fails at no reading, has no budget and wants no memory.
+    // Over a slice no read fails, there is no budget, and nothing is allocated.
     ensures unstopped { is_stopped result ≡ false }
 {
     let source = SliceSource { bytes: data };
     with_error(probe_slice(data), &source)
 }
 
-// The size that a slice's bytes mean.
+// The size of the image in a slice.
 fn probe_slice(data: &[u8]) -> Result<ImageSize, Halt>
     ensures value { result ≡ (meaning_reads «data».now 0).answer }
     ensures unstopped { has_stopped result ≡ false }
@@ -111,7 +111,7 @@ fn probe_slice(data: &[u8]) -> Result<ImageSize, Halt>
     probe(&mut SliceSource { bytes: data }, 0).1
 }
 
-// The type at a place of a source, and the size by it.
+// The type at an offset of a source, and the size by that type.
 pub(crate) fn probe<S: Source>(
     source: &mut S,
     place: u64,
@@ -127,10 +127,10 @@ pub(crate) fn probe<S: Source>(
     }
 }
 
-/// The type of the image in a reader's bytes, by the twelve bytes at its position.
+/// Detects the type of the image in a reader's bytes, from the twelve bytes at the reader's offset.
 ///
-/// Errors: `NotSupported` where no type has these bytes, `EndOfInput` where fewer than 12 are left, and
-/// `Fault` where a call of the reader fails.
+/// Errors: `NotSupported` if the bytes are of no known type, `EndOfInput` if fewer than 12 are left, and `Fault` if a call of
+/// the reader fails.
 ///
 /// ```
 /// use imagesize::{ImageType, reader_type};
@@ -144,17 +144,18 @@ pub fn reader_type<R: Told>(mut reader: R) -> ImageResult<ImageType>
     ensures short { Ends (R.telling reader) result }
     ensures memory { IfErr result (λ e. is_memory e ≡ false) }
 
-    // The budget that is spent is the length that was told, and 64.
+    // A spent budget is the reported length plus 64.
     ensures spent { IfErr result (λ e. IfSome (budget_spent e) (λ budget. allowance ≤ budget)) }
 {
     let opened = open(&mut reader, Origin::Place)?;
     type_opened(&mut reader, opened)
 }
 
-/// The size in pixels of the image in a reader's bytes, of the type that the twelve bytes tell where it stands.
+/// Reads the size in pixels of the image in a reader's bytes. The twelve bytes at the reader's offset give the type, and the
+/// size is read at offsets from the first byte of the input.
 ///
-/// Errors: those of `reader_type`, `EndOfInput` where the bytes end before the size, the refusals of the type's
-/// layout, and `BudgetSpent` where more bytes would be taken than the length of the input, as its seeks say, and 64.
+/// Errors: those of `reader_type`, `EndOfInput` if the bytes end before the size, and the errors of the type's format.
+/// `BudgetSpent` if more bytes would be read than the length of the input, as its seeks report it, plus 64.
 ///
 /// ```
 /// use imagesize::reader_size;
@@ -168,15 +169,15 @@ pub fn reader_size<R: Told>(mut reader: R) -> ImageResult<ImageSize>
     ensures short { Ends (R.telling reader) result }
     ensures memory { IfErr result (λ e. is_memory e ≡ false) }
 
-    // The budget that is spent is the length that was told, and 64.
+    // A spent budget is the reported length plus 64.
     ensures spent { IfErr result (λ e. IfSome (budget_spent e) (λ budget. allowance ≤ budget)) }
 {
     reader_probe(&mut reader).answer
 }
 
-/// Type and size of the image in a reader's bytes, and how many bytes were taken to find them.
+/// Reads type and size of the image in a reader's bytes, and counts the bytes that are read for them.
 ///
-/// The errors are those of `reader_size`. The reader's position is unspecified then, and it may be used again.
+/// The errors are those of `reader_size`. Afterwards the reader's offset is unspecified, and the reader may be used again.
 ///
 /// ```
 /// use imagesize::reader_probe;
@@ -189,7 +190,7 @@ pub fn reader_size<R: Told>(mut reader: R) -> ImageResult<ImageSize>
 pub fn reader_probe<R: Told>(reader: &mut R) -> Probed
     ensures probes { Probes (R.telling reader.old) result }
 
-    // Over every reader, also one that tells nothing or lies:
+    // For every reader, even one without a model that reports a wrong length:
     ensures typed { IfOk result.answer (λ _. IsSome result.kind) }
     ensures counts { R.count reader.new ≡ option_map (λ c. c + result.taken) (R.count reader.old) }
     ensures spent { IfErr result.answer (λ e. IfSome (budget_spent e) (λ budget. (budget ≡ result.taken) × (allowance ≤ budget))) }
@@ -210,11 +211,11 @@ pub fn reader_probe<R: Told>(reader: &mut R) -> Probed
 }
 
 impl ImageType {
-    /// The size in pixels of the image in a reader's bytes, read as this type.
+    /// Reads the size in pixels of the image in a reader's bytes, as this type.
     ///
-    /// The offsets of the size count from the first byte, whatever the reader's position, and whether or not the
-    /// bytes are of this type. The errors are those of `reader_size` but for the type's. The reader's position is
-    /// unspecified then, and it may be used again.
+    /// The size is read at offsets from the first byte of the input, whatever the reader's offset. The bytes need not be of
+    /// this type. The errors are those of `reader_size` except `NotSupported`. Afterwards the reader's offset is unspecified,
+    /// and the reader may be used again.
     ///
     /// ```
     /// use imagesize::ImageType;
@@ -227,7 +228,7 @@ impl ImageType {
         ensures answers { Answers (R.telling reader.old) (λ d place. size_of self.now d) result }
         ensures counts { CountsWithin (R.telling reader.old) (R.count reader.old) (R.count reader.new) (λ d place. size_of self.now d) }
 
-        // Over every reader, also one that tells nothing or lies:
+        // For every reader, even one without a model that reports a wrong length:
         ensures spent { IfErr result (λ e. IfSome (budget_spent e) (λ budget. SpentAll (R.count reader.old) (R.count reader.new) budget)) }
         ensures memory { IfErr result (λ e. is_memory e ≡ false) }
 
@@ -240,7 +241,7 @@ impl ImageType {
     }
 }
 
-// The type of what a reader holds that was opened.
+// The type of the image in the bytes of a reader that was opened.
 #[inline(always)]
 fn type_opened<R: Told>(reader: &mut R, opened: Opened) -> ImageResult<ImageType>
     ensures answers { (telling : Option Telling) → Opens telling (R.telling reader.old) (Ok opened)
@@ -254,7 +255,7 @@ fn type_opened<R: Told>(reader: &mut R, opened: Opened) -> ImageResult<ImageType
     with_error(found, &source)
 }
 
-// The size of what a reader holds that was opened, read as this type.
+// The size of the image in the bytes of a reader that was opened, read as this type.
 fn size_opened<R: Told>(kind: ImageType, reader: &mut R, opened: Opened) -> ImageResult<ImageSize>
     ensures answers { (telling : Option Telling) → Opens telling (R.telling reader.old) (Ok opened)
         → Answers telling (λ d place. size_of kind d) result }
@@ -271,7 +272,7 @@ fn size_opened<R: Told>(kind: ImageType, reader: &mut R, opened: Opened) -> Imag
     with_error(found, &source)
 }
 
-// Type and size of what a reader holds that was opened.
+// Type and size of the image in the bytes of a reader that was opened.
 #[inline(always)]
 fn probe_opened<R: Told>(reader: &mut R, opened: Opened) -> Probed
     ensures probes { (telling : Option Telling) → Opens telling (R.telling reader.old) (Ok opened) → Probes telling result }

@@ -14,10 +14,9 @@ use std::io::BufReader;
 use std::path::AsPath;
 use std::rt::Files;
 
-/// The size in pixels of the image in the file at a path, read behind one buffer.
+/// Reads the size in pixels of the image in the file at a path, through one buffer.
 ///
-/// Errors: those of `reader_size`, `Fault` where the file cannot be opened, and `Memory` where memory for the buffer
-/// was refused.
+/// Errors: those of `reader_size`, `Fault` if the file cannot be opened, and `Memory` if the buffer cannot be allocated.
 ///
 /// ```
 /// use imagesize::size;
@@ -26,7 +25,7 @@ use std::rt::Files;
 /// assert_eq!((size.width, size.height), (100, 100));
 /// ```
 pub fn size<F: Files, P: AsPath + Drop>(rt: &F, alloc: Global, path: P) -> ImageResult<ImageSize>
-    // The budget that is spent is the length that was told, and 64.
+    // A spent budget is the reported length plus 64.
     ensures spent { IfErr result (λ e. IfSome (budget_spent e) (λ budget. allowance ≤ budget)) }
 {
     let file = fs::open(rt, path)?;
@@ -34,7 +33,7 @@ pub fn size<F: Files, P: AsPath + Drop>(rt: &F, alloc: Global, path: P) -> Image
     reader_size(KeptReader::new(reader))
 }
 
-// The reader behind its buffer, or want of memory for the buffer.
+// The buffered reader, or `Memory` if its buffer could not be allocated.
 fn with_buffer<R: Drop, E: Drop>(made: Result<R, E>) -> ImageResult<R>
     ensures kept { IfOk made (λ reader. result ≡ Ok reader) }
     ensures refused { IfErr made (λ _. result ≡ Err (error.IoError reason.Memory)) }

@@ -1,4 +1,4 @@
-//! The formats of images, the table that tells them apart, and the size by each.
+//! The image formats: the table that distinguishes them, and the size by each of them.
 ghost use Rattle.std.specs.Prelude.{◌≡◌, length};
 ghost use Rattle.imagesize.specs.Kind.{first_row, kind, kind_by, tga_or_none, with_compression};
 ghost use Rattle.imagesize.specs.Types.{rows};
@@ -24,7 +24,7 @@ use imagesize_types::compression::{
 use imagesize_types::size::ImageSize;
 use imagesize_walked::formats::{ico, ilbm, jpeg, tiff};
 
-/// The type at a place, by the twelve bytes there.
+/// The type at an offset, from the twelve bytes there.
 #[inline(always)]
 #[tactic(auto, using(imagesize_source::proofs::Runs::steps))]
 pub(crate) fn detect<S: Source>(source: &mut S, place: u64) -> Result<ImageType, Halt>
@@ -35,14 +35,13 @@ pub(crate) fn detect<S: Source>(source: &mut S, place: u64) -> Result<ImageType,
     by_head(source, place, &head)
 }
 
-// The type by the twelve bytes at a place.
+// The type from the twelve bytes at an offset.
 #[inline(always)]
 #[tactic(auto, using(imagesize_source::proofs::Runs::steps, imagesize_source::proofs::Layouts::binding))]
 fn by_head<S: Source>(source: &mut S, place: u64, head: &[u8; 12]) -> Result<ImageType, Halt>
     requires { IsSound (S.state source.old) }
-    ensures { Runs (S.state source.old) (S.state source.new) result
-        (layout_reads (S.state source.old).held.input
-        (kind_by (length (S.state source.old).held.input) place head.now (first_row rows head.now))) }
+    ensures { Follows (S.state source.old) (S.state source.new) result
+        (kind_by (length (S.state source.old).held.input) place head.now (first_row rows head.now)) }
 {
     match first_row(head) {
         Some(found) => with_compression(source, place, head, found),
@@ -50,7 +49,7 @@ fn by_head<S: Source>(source: &mut S, place: u64, head: &[u8; 12]) -> Result<Ima
     }
 }
 
-// TGA has no signature at its beginning, so it comes behind the rows.
+// TGA has no signature at its beginning, and is tried after the rows.
 #[inline(always)]
 #[tactic(auto, using(imagesize_source::proofs::Runs::steps, imagesize_source::proofs::Layouts::binding))]
 fn tga_or_none<S: Source>(source: &mut S, head: &[u8; 12]) -> Result<ImageType, Halt>
@@ -63,7 +62,7 @@ fn tga_or_none<S: Source>(source: &mut S, head: &[u8; 12]) -> Result<ImageType, 
     Err(Halt::NotSupported)
 }
 
-// The type of the first row that holds, its compression still unknown.
+// The type of the first row that matches. Its compression is still unknown.
 #[inline(always)]
 fn first_row(head: &[u8; 12]) -> Option<ImageType>
     ensures { result ≡ first_row rows head.now }
@@ -97,7 +96,7 @@ fn first_row(head: &[u8; 12]) -> Option<ImageType>
     })
 }
 
-// The same type, with its compression read where it has several.
+// The same type, with its compression read if the type has several.
 #[inline(always)]
 #[tactic(auto, using(imagesize_source::proofs::Runs::steps), unfolding(crate::specs::Kind::with_compression))]
 fn with_compression<S: Source>(
@@ -120,7 +119,7 @@ fn with_compression<S: Source>(
     }
 }
 
-// The type with its compression read, of which it has several.
+// The type with its compression, if the type has several.
 #[inline(always)]
 #[tactic(auto, using(imagesize_source::proofs::Runs::steps, imagesize_source::proofs::Layouts::binding), unfolding(crate::specs::Kind::with_compression))]
 fn read_compression<S: Source>(
@@ -144,7 +143,7 @@ fn read_compression<S: Source>(
     })
 }
 
-// The type of a texture in a PKM file that stores its pixels like this. Both are read in one place, so that the reading is
+// The type of a texture in a PKM file with this compression. Both types share one read of the compression, so that it is
 // inlined.
 #[inline(always)]
 fn in_pkm(found: ImageType, compression: PkmCompression) -> ImageType

@@ -1,5 +1,4 @@
-//! Laws of the comparisons and the hashes of the public types. A law is what the contract of a
-//! function says, and the function itself does nothing.
+//! Laws of the comparisons and hashes of the public types. The contract of each function states a law, and its body is empty.
 ghost use Rattle.std.specs.Prelude.{◌≡◌, ℕ, ◌<◌, List, is_some, true};
 ghost use Rattle.imagesize_types.specs.Comparisons.{IsLawfulHash, IsLawfulOrder, RankedBy};
 ghost use Rattle.imagesize.specs.Ranks.{IsListed, family_rank, is_ascending};
@@ -19,7 +18,7 @@ fn image_type_laws()
     ensures listed { IsListed ⟦<ImageType as Ord>⟧.cmp }
 {}
 
-// The list of types is in their order, so none stands in it twice.
+// The list of types is sorted, so no type is in it twice.
 fn types_laws()
     ensures { is_ascending types ≡ true }
 {}
@@ -32,12 +31,13 @@ fn compression_family_laws()
     ensures ranked { RankedBy family_rank ⟦<CompressionFamily as Ord>⟧.cmp }
 {}
 
-// Whatever the parts are, some input has the bytes that they know, and one that has the parts themselves has them.
+// Whatever the parts are, some input has the bytes that they know. An input that has the parts themselves has these bytes
+// too.
 fn parts_laws()
     ensures some { (n : ℕ) (spans : List Span) (content : List ℕ) → HasKnown (filled_input n spans content) n spans content }
     ensures parts { (d : List ℕ) (n : ℕ) (spans : List Span) (content : List ℕ) → HasParts d n spans content → HasKnown d n spans content }
 
-    // Of such an input those bytes are known that a span has.
+    // Of such an input exactly the bytes in the spans are known.
     ensures covered { (d : List ℕ) (n : ℕ) (spans : List Span) (content : List ℕ) (place : ℕ) → HasParts d n spans content → place < n
         → is_some (byte_in_parts n spans content place) ≡ is_covered spans place }
 {}

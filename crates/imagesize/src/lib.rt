@@ -1,4 +1,4 @@
-//! The type of an image and its size in pixels, by the few bytes that tell them.
+//! The type of an image and its size in pixels, from the few bytes that contain them.
 #![tactic(auto)]
 
 mod calls;

@@ -10,7 +10,7 @@ use imagesize_types::compression::{
 };
 use std::fmt;
 
-/// A type as it is printed: its name, and in parentheses that of its compression where it has one.
+/// A type as it is printed: its name, and the name of its compression in parentheses if it has one.
 #[derive(Clone, Copy)]
 pub struct TypeName(pub ImageType);
 
@@ -29,7 +29,7 @@ impl fmt::Display for TypeName {
 }
 
 impl ImageType {
-    /// The name of the type's compression, where it has several.
+    /// The name of the type's compression, or `None` if the type does not have several.
     ///
     /// ```
     /// use imagesize::{DdsCompression, ImageType};
@@ -52,7 +52,7 @@ impl ImageType {
     }
 }
 
-// The name of a way to store an ATC texture.
+// The name of an ATC compression.
 fn atc_name(compression: AtcCompression) -> &'static str
     ensures { result.now ≡ atc_name_of compression }
 {
@@ -64,7 +64,7 @@ fn atc_name(compression: AtcCompression) -> &'static str
     }
 }
 
-// The name of a way to store a DDS.
+// The name of a DDS compression.
 fn dds_name(compression: DdsCompression) -> &'static str
     ensures { result.now ≡ dds_name_of compression }
 {
@@ -82,7 +82,7 @@ fn dds_name(compression: DdsCompression) -> &'static str
     }
 }
 
-// The name of a way to store a HEIF.
+// The name of a HEIF compression.
 fn heif_name(compression: Compression) -> &'static str
     ensures { result.now ≡ heif_name_of compression }
 {
@@ -94,7 +94,7 @@ fn heif_name(compression: Compression) -> &'static str
     }
 }
 
-// The name of a way to store a PKM file.
+// The name of a PKM compression.
 fn pkm_name(compression: PkmCompression) -> &'static str
     ensures { result.now ≡ pkm_name_of compression }
 {
@@ -111,7 +111,7 @@ fn pkm_name(compression: PkmCompression) -> &'static str
     }
 }
 
-// The name of a way to store a PowerVR texture.
+// The name of a PowerVR compression.
 fn pvrtc_name(compression: PvrtcCompression) -> &'static str
     ensures { result.now ≡ pvrtc_name_of compression }
 {

@@ -1,4 +1,4 @@
-//! Types and sizes by parts of an input, of which the caller has no more so far.
+//! Types and sizes from parts of an input, for a caller that does not have all of it.
 ghost use Rattle.std.specs.Prelude.{◌≡◌, ℕ, ◌^◌, ◌<◌, false, List, None, if◌then◌else◌, option_map};
 ghost use Rattle.imagesize.specs.Meaning.{kind_of, meaning, size_of};
 ghost use Rattle.imagesize.specs.Parted.{Fits, HasKnown, IfFound, IsProbed, Says, SaysOf, Tells, has_texts, texts_of, found_or_wanted, wanted_of, with_type};
@@ -15,24 +15,24 @@ use imagesize_source::halt::with_error;
 use imagesize_source::source::parts::{Missing, PartsSource};
 use imagesize_types::size::ImageSize;
 
-/// What the known parts of an input tell of what was asked for.
+/// What the known parts of an input give.
 #[derive(Debug, Drop)]
 pub enum PartsAnswer<T> {
-    /// The parts are enough for this.
+    /// The parts are enough for this result.
     Found(T),
-    /// Bytes that are not known yet: the first of them is one that the answer rests on, and all of them are enough for the
-    /// reading that wants it. Of all types but OpenEXR, Radiance and the portable bitmaps it rests on each of them.
+    /// Bytes that are needed and not known yet. The result depends on the first of them, and all of them are enough for the
+    /// read that requests them. Except for OpenEXR, Radiance and the portable bitmaps, the result depends on each of them.
     Wanted(Span),
 }
 
-/// Type and size of the image in an input of `total` bytes of which these parts are known, or a part that it needs.
+/// Reads type and size of the image in an input of `total` bytes from the parts that are known, or requests another part.
 ///
-/// `bytes` are those of the spans, one span behind another; a span counts bytes from 0. What of a span lies behind the end of
-/// the input has no bytes. Spans may overlap, repeat, be empty and stand in any order. Where fewer bytes are given than the
-/// spans have, the last places are not known; what is left over is not looked at. No arguments are refused.
+/// `bytes` has the bytes of all spans, one span after another. A span counts bytes from 0. Leave out the bytes of a span that
+/// lie past the end of the input. Spans may be in any order, overlap, repeat, or be empty. If `bytes` is shorter than the
+/// spans, the missing bytes at the end count as unknown. Bytes that are left over are ignored. No arguments are rejected.
 ///
-/// What is found is the type, where there is one, and the size, or why there is none. The errors are those of `image_type` and
-/// `blob_size` over the whole input. A caller that adds what is wanted always gets on:
+/// The result is the type, if one was found, and the size or the error. The errors are those of `image_type` and `blob_size`
+/// over the whole input. A caller that adds the requested bytes always gets further:
 ///
 /// ```
 /// use imagesize::{PartsAnswer, Span, parts_probe};
@@ -40,7 +40,7 @@ pub enum PartsAnswer<T> {
 /// let file = b"GIF89a\x80\x02\xe0\x01\0\0 and what else there is";
 /// let mut known = 0;
 /// loop {
-///     // here the parts are always a front of the file
+///     // here the known part is always the beginning of the file
 ///     let spans = [Span { start: 0, len: known as u64 }];
 ///     match parts_probe(&file[..known], &spans, file.len() as u64) {
 ///         PartsAnswer::Found((_, answer)) => break assert_eq!(answer?.width, 640),
@@ -53,16 +53,16 @@ pub fn parts_probe(
     spans: &[Span],
     total: u64,
 ) -> PartsAnswer<(Option<ImageType>, ImageResult<ImageSize>)>
-    // Of each input of that length that has the bytes which these parts know, and there is one:
+    // For each input of that length that has the known bytes of these parts (there always is one):
     ensures says { (d : List ℕ) → HasKnown d total spans.now bytes.now → total < 2 ^ 63
         → Says (texts_of d) (IsProbed d) (meaning d 0).marks total spans.now bytes.now result }
 
-    // Where the parts know every byte that the answer rests on, it is given.
+    // If the parts have every byte that the result depends on, the call returns it.
     ensures complete { (d : List ℕ) → HasKnown d total spans.now bytes.now → total < 2 ^ 63
         → AllKnown total spans.now bytes.now (meaning d 0).marks → Tells result }
     ensures fits { Fits total result }
 
-    // No fault, no spent budget and no want of memory is an answer.
+    // No result is a fault, a spent budget or a lack of memory.
     ensures unstopped { total < 2 ^ 63 → IfFound result (λ found. is_stopped found.1 ≡ false) }
 {
     let mut source = PartsSource::new(spans, bytes, total);
@@ -73,9 +73,9 @@ pub fn parts_probe(
     }
 }
 
-/// The type of the image in an input of which these parts are known, or a part that it needs.
+/// Detects the type of the image in an input from the parts that are known, or requests another part.
 ///
-/// The parts are handed over as to `parts_probe`. The errors are those of `image_type` over the whole input.
+/// The parts are passed as to `parts_probe`. The errors are those of `image_type` over the whole input.
 ///
 /// ```
 /// use imagesize::{ImageType, PartsAnswer, Span, parts_type};
@@ -87,16 +87,16 @@ pub fn parts_probe(
 /// }
 /// ```
 pub fn parts_type(bytes: &[u8], spans: &[Span], total: u64) -> PartsAnswer<ImageResult<ImageType>>
-    // Of each input of that length that has the bytes which these parts know, and there is one:
+    // For each input of that length that has the known bytes of these parts (there always is one):
     ensures says { (d : List ℕ) → HasKnown d total spans.now bytes.now → total < 2 ^ 63
         → SaysOf false (kind_of d 0) total spans.now bytes.now result }
 
-    // Where the parts know every byte that the type rests on, it is given.
+    // If the parts have every byte that the type depends on, the call returns it.
     ensures complete { (d : List ℕ) → HasKnown d total spans.now bytes.now → total < 2 ^ 63
         → AllKnown total spans.now bytes.now (kind_of d 0).marks → Tells result }
     ensures fits { Fits total result }
 
-    // No fault, no spent budget and no want of memory is an answer.
+    // No result is a fault, a spent budget or a lack of memory.
     ensures unstopped { total < 2 ^ 63 → IfFound result (λ answer. is_stopped answer ≡ false) }
 {
     let mut source = PartsSource::new(spans, bytes, total);
@@ -104,15 +104,16 @@ pub fn parts_type(bytes: &[u8], spans: &[Span], total: u64) -> PartsAnswer<Image
 }
 
 impl ImageType {
-    /// The size in pixels of the image in an input of which these parts are known, read as this type, or a part that it needs.
+    /// Reads the size in pixels of the image in an input, as this type, from the parts that are known, or requests another
+    /// part.
     ///
-    /// The parts are handed over as to `parts_probe`. The input may be of another type: the errors are those of `blob_size` but
-    /// for the type's.
+    /// The parts are passed as to `parts_probe`. The input may be of another type. The errors are those of `blob_size` except
+    /// `NotSupported`.
     ///
     /// ```
     /// use imagesize::{ImageType, PartsAnswer, Span};
     ///
-    /// // the sides of a GIF stand behind its first six bytes
+    /// // the width and the height of a GIF come after its first six bytes
     /// let sides = [Span { start: 6, len: 4 }];
     /// match ImageType::Gif.parts_size(b"\x80\x02\xe0\x01", &sides, 5_000_000) {
     ///     PartsAnswer::Found(answer) => assert_eq!(answer?.width, 640),
@@ -125,16 +126,16 @@ impl ImageType {
         spans: &[Span],
         total: u64,
     ) -> PartsAnswer<ImageResult<ImageSize>>
-        // Of each input of that length that has the bytes which these parts know, and there is one:
+        // For each input of that length that has the known bytes of these parts (there always is one):
         ensures says { (d : List ℕ) → HasKnown d total spans.now bytes.now → total < 2 ^ 63
             → SaysOf (has_texts self.now) (size_of self.now d) total spans.now bytes.now result }
 
-        // Where the parts know every byte that the size rests on, it is given.
+        // If the parts have every byte that the size depends on, the call returns it.
         ensures complete { (d : List ℕ) → HasKnown d total spans.now bytes.now → total < 2 ^ 63
             → AllKnown total spans.now bytes.now (size_of self.now d).marks → Tells result }
         ensures fits { Fits total result }
 
-        // No fault, no spent budget and no want of memory is an answer.
+        // No result is a fault, a spent budget or a lack of memory.
         ensures unstopped { total < 2 ^ 63 → IfFound result (λ answer. is_stopped answer ≡ false) }
     {
         let mut source = PartsSource::new(spans, bytes, total);
@@ -142,7 +143,7 @@ impl ImageType {
     }
 }
 
-// The type, by readings that begin anew.
+// The type, by reads that start anew.
 #[inline(always)]
 fn type_of(source: &mut PartsSource<'_>) -> PartsAnswer<ImageResult<ImageType>>
     ensures says { (d : List ℕ) → HasKnown d source.old.told source.old.spans.now source.old.bytes.now → source.old.told < 2 ^ 63
@@ -150,7 +151,7 @@ fn type_of(source: &mut PartsSource<'_>) -> PartsAnswer<ImageResult<ImageType>>
     ensures fits { Fits source.old.told result }
     ensures unstopped { source.old.told < 2 ^ 63 → IfFound result (λ answer. is_stopped answer ≡ false) }
 
-    // The parts stay as they are.
+    // The parts do not change.
     ensures spans { source.new.spans.now ≡ source.old.spans.now }
     ensures bytes { source.new.bytes.now ≡ source.old.bytes.now }
     ensures told { source.new.told ≡ source.old.told }
@@ -160,7 +161,7 @@ fn type_of(source: &mut PartsSource<'_>) -> PartsAnswer<ImageResult<ImageType>>
     found_or_wanted(found, source, false)
 }
 
-// The size, read as this type, by readings that begin anew.
+// The size, read as this type, by reads that start anew.
 #[inline(always)]
 fn size_as(source: &mut PartsSource<'_>, image: ImageType) -> PartsAnswer<ImageResult<ImageSize>>
     ensures says { (d : List ℕ) → HasKnown d source.old.told source.old.spans.now source.old.bytes.now → source.old.told < 2 ^ 63
@@ -174,7 +175,7 @@ fn size_as(source: &mut PartsSource<'_>, image: ImageType) -> PartsAnswer<ImageR
     found_or_wanted(found, source, texts)
 }
 
-// What was found; or what is missed, where a reading failed.
+// The result, or the missing part if a read failed for lack of it.
 #[inline(always)]
 fn found_or_wanted<T: Drop>(
     found: Result<T, Halt>,
@@ -195,7 +196,7 @@ fn found_or_wanted<T: Drop>(
     }
 }
 
-// The answer of a size, with its type.
+// The result for a size, with its type.
 fn with_type(
     image: ImageType,
     answer: PartsAnswer<ImageResult<ImageSize>>,
@@ -208,14 +209,14 @@ fn with_type(
     }
 }
 
-// Whether a type is told by texts.
+// Whether a type is a text format.
 fn has_texts(image: &ImageType) -> bool
     ensures { result ≡ has_texts image.now }
 {
     matches!(image, ImageType::Exr | ImageType::Hdr | ImageType::Pnm)
 }
 
-// All that is asked for where texts are read, and else what is surely read.
+// All requested bytes for text formats, and else those that are certain to be read.
 fn wanted_of(missing: Missing, texts: bool) -> Span
     ensures { result ≡ wanted_of texts missing }
 {

@@ -1,4 +1,4 @@
-//! What a type of image says of compression and container, across types.
+//! What a type says about its compression and its container, across types.
 ghost use Rattle.std.specs.Prelude.{◌≡◌, ◌↔◌, IsTrue, IsSome, Some};
 ghost use Rattle.std.specs.Option.{option_copied};
 ghost use Rattle.imagesize.specs.Queries.{family_of, dds_family_of, pkm_family_of, pvrtc_family_of, container_of, is_multi_container};
@@ -8,8 +8,8 @@ use crate::types::{CompressionFamily, ImageType};
 use imagesize_types::compression::{DdsCompression, PkmCompression, PvrtcCompression};
 
 impl ImageType {
-    /// What the image's compression has in common with that of other types. It is None for types
-    /// that are no textures, and where the compression is not known.
+    /// What the image's compression has in common with those of other types. `None` for types that are not textures, and for
+    /// unknown compressions.
     ///
     /// ```
     /// use imagesize::{CompressionFamily, DdsCompression, ImageType};
@@ -43,7 +43,7 @@ impl ImageType {
         self.compression_family() == Some(CompressionFamily::BlockCompression)
     }
 
-    /// The name of the container, for types whose images stand in one.
+    /// The name of the container, or `None` for types without one.
     ///
     /// ```
     /// use imagesize::ImageType;

@@ -1,4 +1,4 @@
-//! The bytes that an answer rests on, in a buffer that the caller lends.
+//! The bytes that a result depends on, in the caller's buffer.
 ghost use Rattle.std.specs.Prelude.{◌≡◌, ◌+◌, ◌<◌, ◌≤◌, ◌++◌, length, take, drop};
 ghost use Rattle.imagesize.specs.Meaning.{meaning};
 ghost use Rattle.imagesize.specs.Traced.{AreWithin};
@@ -8,10 +8,10 @@ use crate::Span;
 use crate::calls::probe;
 use imagesize_source::source::recording::RecordingSource;
 
-/// The number of spans that `blob_trace` has of these bytes. Where the buffer is long enough, it begins with them, in their
+/// The number of spans that `blob_trace` has for these bytes. If they fit, they are written to the front of the buffer, in
 /// order. No memory is allocated.
 ///
-/// Nothing behind them changes. A buffer that is too short stays as it was.
+/// The rest of the buffer does not change. A buffer that is too short does not change at all.
 ///
 /// ```
 /// use imagesize::{Span, blob_spans};
@@ -23,7 +23,7 @@ pub fn blob_spans(data: &[u8], room: &mut [Span]) -> usize
     ensures count { result ≡ length (meaning «data».now 0).marks }
     ensures spans { result ≤ length room.old → room.new ≡ (meaning «data».now 0).marks ++ drop result room.old }
 
-    // Each span has a byte and lies within the input, and there are at most as many as there are bytes and 64 more.
+    // Each span has a byte and lies within the input. There are at most as many as the input has bytes, plus 64.
     ensures cuts { result ≤ length room.old → AreWithin (length «data».now) (take result room.new) }
     ensures few { result ≤ length «data».now + allowance }
     ensures unchanged { length room.old < result → room.new ≡ room.old }
@@ -35,7 +35,7 @@ pub fn blob_spans(data: &[u8], room: &mut [Span]) -> usize
     count
 }
 
-// Records the spans of a slice's bytes in a room, as far as it goes, and answers how many there are.
+// Records the spans of a slice in the buffer, as many as fit, and returns how many there are.
 fn record_spans(data: &[u8], room: &mut [Span]) -> usize
     ensures count { result ≡ length (meaning «data».now 0).marks }
     ensures spans { take result room.new ≡ take (length room.new) (meaning «data».now 0).marks }

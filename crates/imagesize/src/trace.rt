@@ -1,4 +1,4 @@
-//! The bytes that an answer rests on.
+//! The bytes that a result depends on.
 ghost use Rattle.std.specs.Prelude.{◌≡◌, ℕ, ◌+◌, ◌≤◌, ◌++◌, IfOk, IsOk, IsTrue, List, Ok, length};
 ghost use Rattle.imagesize.specs.Counts.{lasts_as, stated_bytes};
 ghost use Rattle.imagesize.specs.Meaning.{kind_of, meaning};
@@ -16,21 +16,21 @@ use imagesize_source::source::recording::RecordingSource;
 use imagesize_types::size::ImageSize;
 use std::alloc::{AllocError, Allocator};
 
-/// What a slice was found to hold, and the bytes that this rests on.
+/// What was found in a slice, and the bytes that this depends on.
 #[derive(Debug, Drop)]
 pub struct Trace<A: Allocator> {
-    /// The type; none exactly where no type was found, and then the answer is that refusal.
+    /// The type. `None` exactly if no type was found, and then `answer` is that error.
     pub kind: Option<ImageType>,
-    /// The size in pixels, or why there is none.
+    /// The size in pixels, or the error.
     pub answer: ImageResult<ImageSize>,
-    /// The spans of the readings in their order, repeats kept. Another input of the same length that has the same
-    /// bytes at these places has the same type, answer and spans.
+    /// The spans of the reads, in order and with repeats. Another input of the same length with the same bytes in these spans
+    /// has the same type, result and spans.
     pub spans: Vec<Span, A>,
 }
 
-/// The type and the size of the image that a slice's bytes hold, and the spans of the readings that tell them.
+/// Reads type and size of the image in a slice, with the spans of the reads that find them.
 ///
-/// Errors: `AllocError` where memory for the spans was refused; nothing is left behind then.
+/// Errors: `AllocError` if memory for the spans cannot be allocated. Nothing stays allocated then.
 ///
 /// ```
 /// use imagesize::blob_trace;
@@ -42,19 +42,19 @@ pub fn blob_trace<A: Allocator>(alloc: A, data: &[u8]) -> Result<Trace<A>, Alloc
     ensures traces { IfOk result (Traces «data».now) }
     ensures empty { length «data».now ≡ 0 → IsOk result }
 
-    // Another input of this length that agrees on the marks, which are the spans where there are some, has the same
-    // type, the same answer and the same marks.
+    // Another input of this length that agrees on the spans `marks` has the same type, the same result and the same spans.
+    // `marks` are the spans of the trace, if there is one.
     ensures local { (e : List ℕ) → Agrees «data».now e (meaning «data».now 0).marks → IsSame «data».now e }
 
-    // The spans are together at most as long as is stated, and as there are bytes and 64 more.
+    // The lengths of the spans add up to at most the stated number, and to at most the length of the input plus 64.
     ensures stated { IfOk result (λ t. total t.spans.items ≤ stated_bytes «data».now 0) }
     ensures within { IfOk result (λ t. total t.spans.items ≤ length «data».now + allowance) }
 
-    // Each span has a byte and lies within the input, and there are at most as many as there are bytes and 64 more.
+    // Each span has a byte and lies within the input. There are at most as many as the input has bytes, plus 64.
     ensures cuts { IfOk result (λ t. AreWithin (length «data».now) t.spans.items) }
     ensures few { IfOk result (λ t. length t.spans.items ≤ length «data».now + allowance) }
 
-    // Bytes that follow change no size, but those of HEIF, of icons and of TGA.
+    // Appended bytes change no size, except for HEIF, icons and TGA.
     ensures lasts { IsTrue (lasts_as (kind_of «data».now 0).answer) → IfOk result (λ t. IfOk t.answer (λ size.
         (x : List ℕ) → (meaning («data».now ++ x) 0).answer ≡ Ok size)) }
 {
@@ -70,7 +70,7 @@ pub fn blob_trace<A: Allocator>(alloc: A, data: &[u8]) -> Result<Trace<A>, Alloc
     })
 }
 
-// Whether memory was refused.
+// Whether an allocation failed.
 fn lacks_memory(found: &Result<ImageSize, Halt>) -> bool
     ensures { result ≡ lacks_memory found.now }
 {

@@ -1,4 +1,4 @@
-//! The types of images: their list, and the names and places in it.
+//! The image types: their list, and their names and positions in it.
 ghost use Rattle.std.specs.Prelude.{◌≡◌};
 ghost use Rattle.imagesize.specs.Types.{type_name_of, type_rank, types};
 
@@ -6,9 +6,9 @@ use imagesize_types::compression::{
     AtcCompression, Compression, DdsCompression, PkmCompression, PvrtcCompression,
 };
 
-/// A type of image, with its compression where a type has several.
+/// An image type, with its compression if the type has several.
 ///
-/// The order of two types is that of the list below, then that of their compressions.
+/// Types are ordered as in the list below, then by their compressions.
 #[derive(Clone, Copy, Debug, PartialEq, Eq, PartialOrd, Ord, Hash)]
 pub enum ImageType {
     /// Animated sprites of the editor Aseprite.
@@ -33,7 +33,7 @@ pub enum ImageType {
     Gif,
     /// Radiance RGBE.
     Hdr,
-    /// The containers of HEIC and AVIF.
+    /// HEIF, the container of HEIC and AVIF.
     Heif(Compression),
     /// Windows icon.
     Ico,
@@ -55,7 +55,7 @@ pub enum ImageType {
     Qoi,
     /// Truevision TGA.
     Tga,
-    /// Tagged image file, BigTIFF among them.
+    /// Tagged image file, including BigTIFF.
     Tiff,
     /// Valve texture.
     Vtf,
@@ -63,7 +63,7 @@ pub enum ImageType {
     Webp,
 }
 
-// The types in their order, those of one type in the order of their compressions.
+// The types in order, each with its compressions in order.
 static TYPES: [ImageType; 65] = [
     ImageType::Aseprite,
     ImageType::Astc,
@@ -133,7 +133,7 @@ static TYPES: [ImageType; 65] = [
 ];
 
 impl ImageType {
-    /// All types in their order, each with each compression that it can have.
+    /// All types in order, each with each of its compressions.
     ///
     /// ```
     /// use imagesize::ImageType;
@@ -159,7 +159,7 @@ impl ImageType {
         self.row().1
     }
 
-    /// The place of the type in its list, counted from 0, whatever its compression.
+    /// The position of the type in the list, counted from 0, whatever its compression.
     ///
     /// ```
     /// use imagesize::ImageType;
@@ -172,7 +172,7 @@ impl ImageType {
         self.row().0
     }
 
-    // The place of the type, and its name.
+    // The position of the type, and its name.
     fn row(&self) -> (u32, &'static str)
         ensures place { result.0 ≡ type_rank self.now }
         ensures name { (result.1).now ≡ type_name_of self.now }
@@ -207,14 +207,14 @@ impl ImageType {
     }
 }
 
-/// What the ways to store a texture's pixels have in common, across containers.
+/// What the compressions of textures have in common, across containers.
 #[derive(Clone, Copy, Debug, PartialEq, Eq, PartialOrd, Ord, Hash)]
 pub enum CompressionFamily {
     /// The block compressions BC1 to BC7.
     BlockCompression,
     /// ETC1 and ETC2.
     Etc,
-    /// EAC, of one or two channels.
+    /// EAC with one or two channels.
     Eac,
     /// PVRTC.
     Pvrtc,
@@ -222,6 +222,6 @@ pub enum CompressionFamily {
     Astc,
     /// ATC.
     Atc,
-    /// Pixels as they are.
+    /// Uncompressed pixels.
     Uncompressed,
 }

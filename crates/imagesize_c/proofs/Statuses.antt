@@ -1,7 +1,7 @@
 -- What a status of a refusal is not.
 use Rattle.std.proofs.Common.{◌≡◌, false, Result, Ok, Err, refl, ◌∙◌}
 use Rattle.imagesize_c.specs.Status.{is_stop_status, is_wanted, refusal_status, status_of}
-use Rattle.imagesize_source.specs.Reading.{is_stop, is_stopped}
+use Rattle.imagesize_source.specs.Errors.{is_stop, is_stopped}
 use Rattle.imagesize_source.specs.declared.error.ImageError.{ImageError}
 use Rattle.imagesize_source.specs.declared.error.ImageError.TheVariants.{NotSupported, CorruptedImage, IoError}
 use Rattle.imagesize_source.specs.declared.error.Reason.TheVariants.{Fault, EndOfInput, NotEnoughData, BudgetSpent, Memory, NoDelimiter, NotUtf8, InvalidHeifBoxSize, InvalidJxlBoxSize, InvalidJxlSignature, InvalidTiffHeader, BigTiffOffsetSize, InvalidBigTiffHeader, InvalidIfdOffset, IfdTypeForStandardTiff, InvalidIfdType, InvalidIfdValueLength, NoDimensionsInIfd, InvalidVp8Tag, DataWindowNotFound, InvalidHdrIdentifier, InvalidHdrDimensionsLine, HdrDimensionsNotFound, PnmDimensionsNotFound}

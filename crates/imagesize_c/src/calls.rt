@@ -8,7 +8,7 @@ ghost use Rattle.imagesize_c.specs.Told.{TellsSize, TellsType};
 use crate::tell::{tell_found, tell_size};
 use imagesize::{blob_size, image_type};
 
-/// The type of the image whose first bytes these are, and its compression. Beside a refusal both stay as they are.
+/// Detects the type of an image from its first bytes, with its compression. With an error neither number changes.
 #[unsafe(no_mangle)]
 pub extern "C" fn imagesize_type(bytes: &[u8], number: &mut u32, compression: &mut u32) -> u32
     ensures status { result ≡ status_of (kind_of bytes.now 0).answer }
@@ -18,7 +18,7 @@ pub extern "C" fn imagesize_type(bytes: &[u8], number: &mut u32, compression: &m
     tell_found(image_type(bytes), number, compression)
 }
 
-/// The size in pixels of the image in some bytes. Beside a refusal width and height stay as they are.
+/// Reads the size in pixels of the image in some bytes. With an error width and height do not change.
 #[unsafe(no_mangle)]
 pub extern "C" fn imagesize_size(bytes: &[u8], width: &mut u64, height: &mut u64) -> u32
     ensures status { result ≡ status_of (meaning bytes.now 0).answer }
@@ -28,8 +28,7 @@ pub extern "C" fn imagesize_size(bytes: &[u8], width: &mut u64, height: &mut u64
     tell_size(blob_size(bytes), width, height)
 }
 
-/// Both at once. Where a type is found and its size is refused, the type is told beside the refusal, and width and height
-/// stay as they are.
+/// Reads type and size. If only the size has an error, the type is written, and width and height do not change.
 #[unsafe(no_mangle)]
 pub extern "C" fn imagesize_probe(
     bytes: &[u8],

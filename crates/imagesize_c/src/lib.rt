@@ -1,5 +1,5 @@
-//! The calls of `imagesize` for programs in C, and in what calls C. `include/imagesize.h` says how they are called, and
-//! `docs/PROMISES.md` what is proved of them.
+//! The calls of `imagesize` for C, and for languages that call C. `include/imagesize.h` says how to call them, and
+//! `docs/PROMISES.md` says what is proved about them.
 #![tactic(auto)]
 
 pub mod calls;

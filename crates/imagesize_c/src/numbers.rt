@@ -1,6 +1,6 @@
-//! The numbers of types, of compressions and of families: a base, and the place in the list.
+//! The numbers of types, compressions and families: a base plus the position in the list.
 ghost use Rattle.std.specs.Prelude.{◌≡◌};
-ghost use Rattle.imagesize_c.specs.Numbers.{compression_number, family_number, has_numbers, numbered_from, type_number, type_numbered};
+ghost use Rattle.imagesize_c.specs.Numbers.{compression_number, family_number, has_numbers, type_number, type_numbered};
 
 use imagesize::{
     AtcCompression, Compression, CompressionFamily, DdsCompression, ImageType, PkmCompression,
@@ -14,7 +14,7 @@ pub fn type_number(image: ImageType) -> u32
     1 + image.place()
 }
 
-/// The number of a type's compression, which is 0 where it has none.
+/// The number of a type's compression, or 0 if it has none.
 pub fn compression_number(image: ImageType) -> u32
     ensures { result ≡ compression_number image }
 {
@@ -34,7 +34,7 @@ pub fn compression_number(image: ImageType) -> u32
     }
 }
 
-/// The type of a number, with the compression of a number.
+/// The type with this number, and with the compression of this number. `None` if there is none.
 pub fn type_numbered(number: u32, compression: u32) -> Option<ImageType>
     ensures { result ≡ type_numbered number compression }
 {
@@ -50,7 +50,7 @@ fn has_numbers(number: u32, compression: u32, image: ImageType) -> bool
     type_number(image) == number && compression_number(image) == compression
 }
 
-/// The number of a family, which is 0 where there is none.
+/// The number of a family, or 0 for none.
 pub fn family_number(family: Option<CompressionFamily>) -> u32
     ensures { result ≡ family_number family }
 {

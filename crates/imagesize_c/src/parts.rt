@@ -1,4 +1,4 @@
-//! Type and size by the parts of an input that the caller has so far.
+//! Type and size from the parts of an input that the caller has so far.
 ghost use Rattle.std.specs.Prelude.{◌≡◌, ℕ, ◌^◌, ◌<◌, List, true, false};
 ghost use Rattle.std.specs.Result.{result_ok};
 ghost use Rattle.imagesize.specs.Meaning.{kind_of, meaning};
@@ -10,7 +10,7 @@ ghost use Rattle.imagesize_source.specs.Known.{AllKnown};
 use crate::tell::{tell_size, tell_type, tell_wanted};
 use imagesize::{PartsAnswer, Span, parts_probe};
 
-/// Type and size of the image in an input of which these parts are known, or a part that it needs.
+/// Reads type and size of the image in an input from the parts that are known, or requests another part.
 #[unsafe(no_mangle)]
 #[tactic(auto, using(crate::proofs::Statuses::never_wanted, crate::proofs::Statuses::unstopped))]
 pub extern "C" fn imagesize_probe_parts(
@@ -23,7 +23,7 @@ pub extern "C" fn imagesize_probe_parts(
     height: &mut u64,
     wanted: &mut Span,
 ) -> u32
-    // Of each input of that length that has the bytes which these parts know:
+    // For each input of that length that has the known bytes of these parts:
     ensures status { (d : List ℕ) → HasKnown d total spans.now bytes.now → total < 2 ^ 63 → is_wanted result ≡ false
         → result ≡ status_of (meaning d 0).answer }
     ensures kind { (d : List ℕ) → HasKnown d total spans.now bytes.now → total < 2 ^ 63 → is_wanted result ≡ false
@@ -33,15 +33,15 @@ pub extern "C" fn imagesize_probe_parts(
     ensures wants { (d : List ℕ) → HasKnown d total spans.now bytes.now → total < 2 ^ 63 → is_wanted result ≡ true
         → Wants (texts_of d) (meaning d 0).marks total spans.now bytes.now wanted.new }
 
-    // Where the parts know every byte that the answer rests on, it is given.
+    // If the parts have every byte that the result depends on, the call returns it.
     ensures complete { (d : List ℕ) → HasKnown d total spans.now bytes.now → total < 2 ^ 63
         → AllKnown total spans.now bytes.now (meaning d 0).marks → is_wanted result ≡ false }
     ensures fits { is_wanted result ≡ true → IsWithin total wanted.new }
 
-    // It is never the status of a fault, a spent budget or want of memory.
+    // A fault, a spent budget or a lack of memory is never the status.
     ensures unstopped { total < 2 ^ 63 → is_stop_status result ≡ false }
 
-    // What is not told stays as it was.
+    // Values that are not found do not change.
     ensures unknown { is_wanted result ≡ true → (number.new ≡ number.old) × (compression.new ≡ compression.old) }
     ensures sides { is_answered result ≡ false → (width.new ≡ width.old) × (height.new ≡ height.old) }
     ensures enough { is_wanted result ≡ false → wanted.new ≡ wanted.old }

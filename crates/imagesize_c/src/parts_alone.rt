@@ -1,4 +1,4 @@
-//! The type alone, and the size by a type, by the parts of an input that the caller has so far.
+//! The type alone, or the size by a given type, from the parts of an input that the caller has so far.
 ghost use Rattle.std.specs.Prelude.{◌≡◌, ℕ, ◌^◌, ◌<◌, List, true, false, None, IfSome};
 ghost use Rattle.std.specs.Result.{result_ok};
 ghost use Rattle.imagesize.specs.Meaning.{kind_of, size_of};
@@ -13,7 +13,7 @@ use crate::status::UNKNOWN_TYPE;
 use crate::tell::{tell_found, tell_size, tell_wanted};
 use imagesize::{PartsAnswer, Span, parts_type};
 
-/// The type of the image in an input of which these parts are known, or a part that it needs.
+/// Detects the type of the image in an input from the parts that are known, or requests another part.
 #[unsafe(no_mangle)]
 #[tactic(auto, using(crate::proofs::Statuses::never_wanted, crate::proofs::Statuses::unstopped))]
 pub extern "C" fn imagesize_parts_type(
@@ -24,7 +24,7 @@ pub extern "C" fn imagesize_parts_type(
     compression: &mut u32,
     wanted: &mut Span,
 ) -> u32
-    // Of each input of that length that has the bytes which these parts know:
+    // For each input of that length that has the known bytes of these parts:
     ensures status { (d : List ℕ) → HasKnown d total spans.now bytes.now → total < 2 ^ 63 → is_wanted result ≡ false
         → result ≡ status_of (kind_of d 0).answer }
     ensures told { (d : List ℕ) → HasKnown d total spans.now bytes.now → total < 2 ^ 63 → is_wanted result ≡ false
@@ -32,15 +32,15 @@ pub extern "C" fn imagesize_parts_type(
     ensures wants { (d : List ℕ) → HasKnown d total spans.now bytes.now → total < 2 ^ 63 → is_wanted result ≡ true
         → Wants false (kind_of d 0).marks total spans.now bytes.now wanted.new }
 
-    // Where the parts know every byte that the type rests on, it is given.
+    // If the parts have every byte that the type depends on, the call returns it.
     ensures complete { (d : List ℕ) → HasKnown d total spans.now bytes.now → total < 2 ^ 63
         → AllKnown total spans.now bytes.now (kind_of d 0).marks → is_wanted result ≡ false }
     ensures fits { is_wanted result ≡ true → IsWithin total wanted.new }
 
-    // It is never the status of a fault, a spent budget or want of memory.
+    // A fault, a spent budget or a lack of memory is never the status.
     ensures unstopped { total < 2 ^ 63 → is_stop_status result ≡ false }
 
-    // What is not told stays as it was.
+    // Values that are not found do not change.
     ensures unknown { is_answered result ≡ false → (number.new ≡ number.old) × (compression.new ≡ compression.old) }
     ensures enough { is_wanted result ≡ false → wanted.new ≡ wanted.old }
 {
@@ -50,8 +50,8 @@ pub extern "C" fn imagesize_parts_type(
     }
 }
 
-/// The size of the image in an input of which these parts are known, read as the type that has these numbers, or a part that
-/// it needs.
+/// Reads the size of the image in an input, as the type with these numbers, from the parts that are known, or requests
+/// another part.
 #[unsafe(no_mangle)]
 #[tactic(auto, using(crate::proofs::Statuses::never_wanted, crate::proofs::Statuses::unstopped))]
 pub extern "C" fn imagesize_parts_size(
@@ -64,7 +64,7 @@ pub extern "C" fn imagesize_parts_size(
     height: &mut u64,
     wanted: &mut Span,
 ) -> u32
-    // Read as this type, of each input of that length that has these parts:
+    // Read as this type, for each input of that length that has the known bytes of these parts:
     ensures status { IfSome (type_numbered number compression) (λ image. (d : List ℕ) → HasKnown d total spans.now bytes.now
         → total < 2 ^ 63 → is_wanted result ≡ false → result ≡ status_of (size_of image d).answer) }
     ensures size { IfSome (type_numbered number compression) (λ image. (d : List ℕ) → HasKnown d total spans.now bytes.now
@@ -72,15 +72,15 @@ pub extern "C" fn imagesize_parts_size(
     ensures wants { IfSome (type_numbered number compression) (λ image. (d : List ℕ) → HasKnown d total spans.now bytes.now
         → total < 2 ^ 63 → is_wanted result ≡ true → Wants (has_texts image) (size_of image d).marks total spans.now bytes.now wanted.new) }
 
-    // Where the parts know every byte that the size rests on, it is given.
+    // If the parts have every byte that the size depends on, the call returns it.
     ensures complete { IfSome (type_numbered number compression) (λ image. (d : List ℕ) → HasKnown d total spans.now bytes.now
         → total < 2 ^ 63 → AllKnown total spans.now bytes.now (size_of image d).marks → is_wanted result ≡ false) }
     ensures fits { is_wanted result ≡ true → IsWithin total wanted.new }
 
-    // It is never the status of a fault, a spent budget or want of memory.
+    // A fault, a spent budget or a lack of memory is never the status.
     ensures unstopped { total < 2 ^ 63 → is_stop_status result ≡ false }
 
-    // No type has the numbers, or what is not told stays as it was.
+    // If no type has the numbers, the status says so. Values that are not found do not change.
     ensures unknown { type_numbered number compression ≡ None → result ≡ 28 }
     ensures sides { is_answered result ≡ false → (width.new ≡ width.old) × (height.new ≡ height.old) }
     ensures enough { is_wanted result ≡ false → wanted.new ≡ wanted.old }

@@ -12,7 +12,7 @@ use crate::tell::{tell_size, tell_wanted};
 use imagesize::{PartsAnswer, Span};
 use imagesize_png::{blob_size, is_png, parts_size};
 
-/// Whether some bytes begin with the signature of PNG: 1 where they do, and else 0.
+/// Whether some bytes begin with the signature of PNG: 1 if they do, and else 0.
 #[unsafe(no_mangle)]
 pub extern "C" fn imagesize_png_matches(bytes: &[u8], answer: &mut u32) -> u32
     ensures status { result ≡ 0 }
@@ -22,7 +22,7 @@ pub extern "C" fn imagesize_png_matches(bytes: &[u8], answer: &mut u32) -> u32
     ANSWERED
 }
 
-/// The size in pixels of the PNG in some bytes. Beside a refusal width and height stay as they are.
+/// Reads the size in pixels of the PNG in some bytes. With an error width and height do not change.
 #[unsafe(no_mangle)]
 #[tactic(auto, using(crate::proofs::Statuses::unstopped))]
 pub extern "C" fn imagesize_png_size(bytes: &[u8], width: &mut u64, height: &mut u64) -> u32
@@ -33,7 +33,7 @@ pub extern "C" fn imagesize_png_size(bytes: &[u8], width: &mut u64, height: &mut
     tell_size(blob_size(bytes), width, height)
 }
 
-/// The size in pixels of the PNG in an input of which these parts are known, or a part that it needs.
+/// Reads the size in pixels of the PNG in an input from the parts that are known, or requests another part.
 #[unsafe(no_mangle)]
 #[tactic(auto, using(crate::proofs::Statuses::never_wanted, crate::proofs::Statuses::unstopped))]
 pub extern "C" fn imagesize_png_parts_size(
@@ -44,7 +44,7 @@ pub extern "C" fn imagesize_png_parts_size(
     height: &mut u64,
     wanted: &mut Span,
 ) -> u32
-    // Of each input of that length that has the bytes which these parts know:
+    // For each input of that length that has the known bytes of these parts:
     ensures status { (d : List ℕ) → HasKnown d total spans.now bytes.now → total < 2 ^ 63 → is_wanted result ≡ false
         → result ≡ status_of (png_of d 0).answer }
     ensures size { (d : List ℕ) → HasKnown d total spans.now bytes.now → total < 2 ^ 63 → is_wanted result ≡ false
@@ -52,15 +52,15 @@ pub extern "C" fn imagesize_png_parts_size(
     ensures wants { (d : List ℕ) → HasKnown d total spans.now bytes.now → total < 2 ^ 63 → is_wanted result ≡ true
         → Wants false (png_of d 0).marks total spans.now bytes.now wanted.new }
 
-    // Where the parts know every byte that the size rests on, it is given.
+    // If the parts have every byte that the size depends on, the call returns it.
     ensures complete { (d : List ℕ) → HasKnown d total spans.now bytes.now → total < 2 ^ 63
         → AllKnown total spans.now bytes.now (png_of d 0).marks → is_wanted result ≡ false }
     ensures fits { is_wanted result ≡ true → IsWithin total wanted.new }
 
-    // It is never the status of a fault, a spent budget or want of memory.
+    // A fault, a spent budget or a lack of memory is never the status.
     ensures unstopped { total < 2 ^ 63 → is_stop_status result ≡ false }
 
-    // What is not told stays as it was.
+    // Values that are not found do not change.
     ensures sides { is_answered result ≡ false → (width.new ≡ width.old) × (height.new ≡ height.old) }
     ensures enough { is_wanted result ≡ false → wanted.new ≡ wanted.old }
 {

@@ -1,4 +1,4 @@
-//! What a type says of compression and container, in numbers.
+//! What a type says about its compression and its container, in numbers.
 ghost use Rattle.std.specs.Prelude.{◌≡◌};
 ghost use Rattle.std.specs.Int.{from_bool};
 ghost use Rattle.imagesize.specs.Queries.{family_of, is_multi_container};
@@ -8,7 +8,7 @@ ghost use Rattle.imagesize_c.specs.Told.{TellsOf, is_block};
 use crate::numbers::{family_number, type_numbered};
 use crate::status::{ANSWERED, UNKNOWN_TYPE};
 
-/// The family of a type's compression; 0 where there is none.
+/// The family of a type's compression, or 0 if there is none.
 #[unsafe(no_mangle)]
 pub extern "C" fn imagesize_compression_family(
     number: u32,
@@ -26,7 +26,7 @@ pub extern "C" fn imagesize_compression_family(
     }
 }
 
-/// Whether a type is a texture in one of the block compressions: 1 where it is, and else 0.
+/// Whether a type is a texture in one of the block compressions: 1 if it is, and else 0.
 #[unsafe(no_mangle)]
 #[tactic(auto, using(crate::proofs::Families::block_bit))]
 pub extern "C" fn imagesize_is_block_compressed(
@@ -45,7 +45,7 @@ pub extern "C" fn imagesize_is_block_compressed(
     }
 }
 
-/// Whether a type's container can hold textures of several families: 1 where it can, and else 0.
+/// Whether a type's container can hold textures of several families: 1 if it can, and else 0.
 #[unsafe(no_mangle)]
 pub extern "C" fn imagesize_is_multi_compression_container(
     number: u32,

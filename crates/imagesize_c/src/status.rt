@@ -1,4 +1,4 @@
-//! The status that a call answers.
+//! The status that a call returns.
 ghost use Rattle.std.specs.Prelude.{◌≡◌};
 ghost use Rattle.std.specs.Option.{option_copied};
 ghost use Rattle.imagesize_c.specs.Status.{reason_status, refusal_status};
@@ -6,22 +6,22 @@ ghost use Rattle.imagesize_c.specs.Told.{status_text};
 
 use imagesize::{ImageError, Reason};
 
-/// The status of a call that was answered.
+/// The call succeeded.
 pub const ANSWERED: u32 = 0;
 
-/// The status of a call whose answer has more items than the buffer has room for.
+/// The result has more items than the buffer.
 pub const BUFFER_TOO_SMALL: u32 = 27;
 
-/// The status of a call about a type, where no type has the numbers.
+/// No type has the numbers that were passed.
 pub const UNKNOWN_TYPE: u32 = 28;
 
-/// The status of a call about a status, where there is none of this number.
+/// No status has the number that was passed.
 pub const UNKNOWN_STATUS: u32 = 29;
 
-/// The status of a call that was lent some parts of an input, and needs another.
+/// A call over parts of an input needs another part.
 pub const BYTES_WANTED: u32 = 30;
 
-/// The status of a refusal.
+/// The status of an error.
 pub fn refusal_status(error: &ImageError) -> u32
     ensures { result ≡ refusal_status error.now }
 {
@@ -32,7 +32,7 @@ pub fn refusal_status(error: &ImageError) -> u32
     }
 }
 
-// The status of a refusal's reason.
+// The status of an error's reason.
 fn reason_status(reason: &Reason) -> u32
     ensures { result ≡ reason_status reason.now }
 {
@@ -64,7 +64,7 @@ fn reason_status(reason: &Reason) -> u32
     }
 }
 
-/// The text of a status.
+/// The text of a status, or `None` if there is no such status.
 pub fn status_text(status: u32) -> Option<&'static str>
     ensures { option_copied result ≡ status_text status }
 {

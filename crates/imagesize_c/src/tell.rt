@@ -1,5 +1,5 @@
-//! What the calls tell of a type, of a size and of a part that is wanted.
-ghost use Rattle.std.specs.Prelude.{◌≡◌, false, Option, Some, None};
+//! What the calls write: a type, a size, or a part that they request.
+ghost use Rattle.std.specs.Prelude.{◌≡◌, false, Option, Some};
 ghost use Rattle.std.specs.Result.{result_ok};
 ghost use Rattle.imagesize_c.specs.Status.{is_answered, status_of};
 ghost use Rattle.imagesize_c.specs.Told.{TellsSize, TellsType};
@@ -8,7 +8,7 @@ use crate::numbers::{compression_number, type_number};
 use crate::status::{ANSWERED, BYTES_WANTED, refusal_status};
 use imagesize::{ImageResult, ImageSize, ImageType, Span};
 
-/// Tells the numbers of a type and of its compression, where one was found.
+/// Writes the numbers of a type and of its compression, if one was found.
 #[inline(always)]
 pub fn tell_type(kind: Option<ImageType>, number: &mut u32, compression: &mut u32)
     ensures { TellsType kind number.old number.new compression.old compression.new }
@@ -19,7 +19,7 @@ pub fn tell_type(kind: Option<ImageType>, number: &mut u32, compression: &mut u3
     }
 }
 
-/// Tells the numbers of a type and of its compression, where there is one, and answers the status.
+/// Writes the numbers of a type and of its compression, if there is one, and returns the status.
 #[inline(always)]
 pub fn tell_found(answer: ImageResult<ImageType>, number: &mut u32, compression: &mut u32) -> u32
     ensures status { result ≡ status_of answer }
@@ -35,7 +35,7 @@ pub fn tell_found(answer: ImageResult<ImageType>, number: &mut u32, compression:
     }
 }
 
-/// Tells a size, where there is one, and answers the status.
+/// Writes a size, if there is one, and returns the status.
 #[inline(always)]
 pub fn tell_size(answer: ImageResult<ImageSize>, width: &mut u64, height: &mut u64) -> u32
     ensures status { result ≡ status_of answer }
@@ -52,7 +52,7 @@ pub fn tell_size(answer: ImageResult<ImageSize>, width: &mut u64, height: &mut u
     }
 }
 
-/// Tells the part that is wanted, and answers that status.
+/// Writes the requested part, and returns the status for it.
 #[inline(always)]
 pub fn tell_wanted(span: Span, wanted: &mut Span) -> u32
     ensures status { result ≡ 30 }

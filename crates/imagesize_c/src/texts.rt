@@ -1,4 +1,4 @@
-//! Texts, each in a buffer that the caller lends.
+//! Texts, each in the caller's buffer.
 ghost use Rattle.std.specs.Prelude.{◌≡◌};
 ghost use Rattle.imagesize.specs.Types.{type_name_of};
 ghost use Rattle.imagesize_c.specs.Lends.{Lends, LendsIf};
@@ -23,7 +23,7 @@ pub extern "C" fn imagesize_type_name(
     }
 }
 
-/// The name of a type's compression; no byte where the type has none.
+/// The name of a type's compression. It is empty if the type has none.
 #[unsafe(no_mangle)]
 pub extern "C" fn imagesize_compression_name(
     number: u32,
@@ -39,7 +39,7 @@ pub extern "C" fn imagesize_compression_name(
     }
 }
 
-/// The name of a type's container; no byte where the type has none.
+/// The name of a type's container. It is empty if the type has none.
 #[unsafe(no_mangle)]
 pub extern "C" fn imagesize_container_format(
     number: u32,
@@ -66,7 +66,7 @@ pub extern "C" fn imagesize_status_text(status: u32, text: &mut [u8], length: &m
     }
 }
 
-// Writes a text at the front of a room that has so many bytes, and tells its length.
+// Writes a text to the front of a buffer if it fits, and its length in either case.
 fn lend(text: &str, room: &mut [u8], length: &mut usize) -> u32
     ensures { Lends text.now room.old room.new length.new result }
 {

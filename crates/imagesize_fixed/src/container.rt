@@ -1,4 +1,4 @@
-//! Containers of textures, at fixed places.
+//! Texture containers with the size at fixed offsets.
 
 pub mod atc;
 pub mod dds;

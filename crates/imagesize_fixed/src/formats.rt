@@ -1,4 +1,4 @@
-//! The formats at fixed places.
+//! Image formats with the size at fixed offsets.
 
 pub mod aseprite;
 pub mod astc;

@@ -1,4 +1,4 @@
-//! Formats whose sizes stand at fixed places.
+//! Formats with the size at fixed offsets.
 #![tactic(auto)]
 
 pub mod container;

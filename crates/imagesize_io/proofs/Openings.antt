@@ -10,7 +10,7 @@ use Rattle.imagesize_source.specs.Outcome.{outcome_of, stated}
 use Rattle.imagesize_source.proofs.Halts.{failed_is, stated_goes_on, stated_same}
 use Rattle.imagesize_io.specs.declared.reader.Opened.{Opened}
 use Rattle.std.specs.declared.io.Error.{Error}
-use Rattle.imagesize_io.specs.Answers.{AnswersAs, TakesAs, Answers, IsLast, LeftAs, Leaves, Takes}
+use Rattle.imagesize_io.specs.Answers.{AnswersAs, TakesAs, Answers, IsLast, Leaves, Takes}
 use Rattle.imagesize_io.specs.Standing.{behind_of, in_all}
 use Rattle.imagesize_io.specs.StopOf.{fault_of, last_failed}
 use Rattle.imagesize_source.specs.Reading.{Reads, is_failure, is_stop, is_stopped, is_memory, is_spent}

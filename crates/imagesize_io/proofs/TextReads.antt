@@ -1,5 +1,5 @@
 -- A text that is read byte by byte: its readings are one, and it takes none behind it.
-use Rattle.std.proofs.Common.{◌≡◌, ℕ, zero, suc, ◌+◌, ◌-◌, ◌^◌, ◌<◌, ◌≤◌, min, max, Bool, true, false, ◌||◌, not, cond, List, [], ◌∷◌, ◌++◌, length, take, drop, slice_index, Option, None, Ok, Err, inl, inr, refl, sym, ap, ◌∙◌, subst, arith, append_assoc}
+use Rattle.std.proofs.Common.{◌≡◌, ℕ, zero, suc, ◌+◌, ◌-◌, ◌^◌, ◌<◌, ◌≤◌, min, max, Bool, true, false, ◌||◌, not, cond, List, [], ◌∷◌, ◌++◌, length, take, drop, slice_index, None, Ok, Err, inl, inr, refl, sym, ap, ◌∙◌, subst, arith, append_assoc}
 use Rattle.std.proofs.Math.Nat.{add-zero}
 use Rattle.std.proofs.lemmas.Bool.{cases_lt}
 use Rattle.std.proofs.lemmas.Bool.Decides.{nat_tests}
@@ -18,7 +18,7 @@ use Rattle.imagesize_source.specs.State.{State, Runs, IsSound, total, state_afte
 use Rattle.imagesize_io.specs.declared.progress.Progress.{Progress}
 use Rattle.imagesize_io.specs.ReaderState.{reader_frame, reader_state}
 use Rattle.imagesize_io.specs.Standing.{stand}
-use Rattle.imagesize_io.specs.StopOf.{Failures, failures_of}
+use Rattle.imagesize_io.specs.StopOf.{failures_of}
 use Rattle.imagesize_io.specs.Telling.{Account}
 use Rattle.imagesize_source.specs.Text.{delimits, front_through, text_front, ends}
 use Rattle.imagesize_source.proofs.Counts.{total-span_at, total-span_of, total_there}

@@ -13,7 +13,7 @@ use Rattle.imagesize_io.specs.Telling.{Account, Telling}
 use Rattle.imagesize_source.proofs.Layouts.{no_part}
 use Rattle.imagesize_io.proofs.Standings.{told_at}
 use Rattle.imagesize_source.specs.Input.{part, span_at, span_of}
-use Rattle.imagesize_source.specs.Reading.{part_read, map_answer, is_failure, is_stop, is_spent}
+use Rattle.imagesize_source.specs.Reading.{part_read, map_answer, is_failure, is_stop}
 use Rattle.imagesize_io.specs.ReaderState.{held_at, no_claim, with_window, kept_window, state_at, reader_frame}
 use Rattle.imagesize_io.specs.Standing.{Standing, GivesFrom, behind, stand, drift, KeepsCounts, StopsBy}
 use borrow.Rule.Slice.PartMut.{put_mid}

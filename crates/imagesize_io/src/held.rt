@@ -1,12 +1,12 @@
-//! Texts out of the bytes that a reader holds.
+//! Texts from the bytes that a reader holds.
 ghost use Rattle.std.specs.Prelude.{◌≡◌, ◌≤◌, IfSome, length, take};
 ghost use Rattle.imagesize_io.specs.Held.{IsWhole};
 
 use imagesize_source::Text;
 use imagesize_source::text::is_end;
 
-/// Copies the text at the front of the bytes into the room, and answers how many bytes that is. It answers nothing where
-/// the bytes or the room end before the text does.
+/// Copies the text at the front of the bytes into the buffer, and returns how many bytes it has. Returns `None` if the bytes
+/// or the buffer end before the text does.
 #[inline(always)]
 pub(crate) fn copy_text(text: Text, bytes: &[u8], room: &mut [u8]) -> Option<usize>
     ensures bound { IfSome result (λ n. n ≤ length room.new) }

@@ -1,4 +1,4 @@
-//! A buffered reader that keeps its place.
+//! A buffered reader that keeps track of its offset.
 ghost use Rattle.std.specs.Prelude.{◌≡◌, ℕ, ◌+◌, ◌-◌, ◌≤◌, drop, length, take, Some, None, Ok, pos, IfOk, IfErr, IfSome};
 ghost use Rattle.std.specs.Io.Buffered.{reader_buffer, reader_inner, reader_position, reader_remaining};
 ghost use Rattle.std.specs.Io.KnownBytes.{ReadConsumes};
@@ -13,20 +13,20 @@ use crate::{Stop, Told};
 use imagesize_source::Text;
 use std::io::{self, BufRead, BufReader, Read, Seek, SeekFrom};
 
-/// A buffered reader that keeps the place where it stands. A move to a place in its buffer makes no call of the
-/// reader below, and any other move makes one.
+/// A buffered reader that keeps track of its offset. Once the offset is known, a seek within the buffer makes no call of the
+/// inner reader, and any other seek makes one.
 ///
-/// It tells nothing of what it reads from. Its reads and seeks give what those of `BufReader` give. What the reader
-/// below is moved by from elsewhere is not seen.
+/// It has no model. Its reads and seeks return what those of `BufReader` return. If something else moves the inner reader,
+/// this reader does not notice.
 #[derive(Drop)]
 pub struct KeptReader<R: Read + Seek + Drop> {
     reader: BufReader<R>,
-    // Where it stands, where that is known.
+    // The offset of the reader, if it is known.
     place: Option<u64>,
 }
 
 impl<R: Read + Seek + Drop> KeptReader<R> {
-    /// A buffered reader, whose place is asked for where it is wanted first.
+    /// Wraps a buffered reader, and asks for its offset when that is first needed.
     pub fn new(reader: BufReader<R>) -> Self
         ensures reader { result.reader ≡ reader }
         ensures place { result.place ≡ None }
@@ -63,7 +63,7 @@ impl<R: Read + Seek + Drop> Told for KeptReader<R> {
     fn read_held(&mut self, text: Text, room: &mut [u8]) -> Option<usize>
         ensures bound { IfSome result (λ n. n ≤ length room.new) }
         ensures whole { IfSome result (λ n. IsWhole text (take n room.new)) }
-        // What it gives is in the buffer, and the reader below is not called.
+        // The bytes given come from the buffer, and the inner reader is not called.
         ensures stays { result ≡ None → (self.new.reader ≡ self.old.reader) × (self.new.place ≡ self.old.place) }
         ensures held { IfSome result (HeldOf self.old.reader self.new.reader room.new) }
         ensures place { IfSome result (λ n. self.new.place ≡ place_after self.old.place n) }
@@ -77,7 +77,7 @@ impl<R: Read + Seek + Drop> Told for KeptReader<R> {
     fn seek_told(&mut self, to: SeekFrom) -> io::Result<u64>
         ensures place { self.new.place ≡ sought_place result }
 
-        // Where it stands already, and ahead in the buffer, the reader below is not called.
+        // A seek to the current offset, or ahead within the buffer, does not call the inner reader.
         ensures stands { (place : ℕ) → self.old.place ≡ Some place → to ≡ SeekFrom.Current (pos 0) → (result ≡ Ok place)
             × (self.new.reader ≡ self.old.reader) }
         ensures ahead { (place target : ℕ) → self.old.place ≡ Some place → to ≡ SeekFrom.Start target
@@ -97,14 +97,14 @@ impl<R: Read + Seek + Drop> Told for KeptReader<R> {
     }
 }
 
-// The place so many bytes on, where it is known and a place.
+// The offset `count` bytes further on, or `None` if it is unknown or above 2^64 - 1.
 fn place_after(place: Option<u64>, count: usize) -> Option<u64>
     ensures { result ≡ place_after place count }
 {
     place?.checked_add(count as u64)
 }
 
-// Goes where a seek leads from a place, if that is known.
+// Seeks from an offset, if that is known.
 fn seek_from<R: Read + Seek>(
     reader: &mut BufReader<R>,
     place: Option<u64>,
@@ -128,7 +128,7 @@ fn seek_from<R: Read + Seek>(
     }
 }
 
-// Goes from a place to another.
+// Seeks from one offset to another.
 fn go<R: Read + Seek>(reader: &mut BufReader<R>, place: u64, target: u64) -> io::Result<u64>
     ensures ahead { place ≤ target → target ≤ place + length (reader_buffer reader.old)
         → (result ≡ Ok target) × (reader_inner reader.new ≡ reader_inner reader.old)
@@ -149,7 +149,7 @@ fn go<R: Read + Seek>(reader: &mut BufReader<R>, place: u64, target: u64) -> io:
     Ok(target)
 }
 
-// Goes so many bytes back to a place, and keeps the buffer where the place lies in it.
+// Seeks `distance` bytes back to the offset `target`, and keeps the buffer if it has that offset.
 fn go_back<R: Read + Seek>(reader: &mut BufReader<R>, distance: u64, target: u64) -> io::Result<u64>
     ensures { IsBack (reader_position R.stream_position reader.old) distance target
         → SeekMoves (reader_position R.stream_position reader.old) (reader_position R.stream_position reader.new)

@@ -1,4 +1,4 @@
-//! Readers as sources: what a reader tells, where it stands, and how its bytes are read by place within a budget.
+//! Readers as sources: a reader's model and its offset, and how its bytes are read at offsets within a budget.
 #![tactic(auto)]
 
 mod held;

@@ -1,4 +1,4 @@
-//! What is known beside a reader.
+//! The counters of a call that reads from a reader.
 ghost use Rattle.std.specs.Prelude.{◌≤◌};
 
 use std::io;
@@ -6,17 +6,17 @@ use std::io;
 /// The numbers that a call keeps beside its reader.
 #[derive(Debug, Drop)]
 pub struct Progress {
-    /// The length of the input, as the reader told it.
+    /// The length of the input in bytes, as the reader reported it.
     pub told: u64,
-    /// How many bytes may be taken in all.
+    /// How many bytes the call may read in all.
     pub budget: u64,
-    /// How many bytes were taken.
+    /// How many bytes the call has read.
     pub taken: u64,
-    /// Where the reader stands.
+    /// The reader's offset.
     pub place: u64,
-    /// How many interruptions were tried again.
+    /// How many interrupted reads were tried again.
     pub retries: u64,
-    /// The error of the last call that failed and halted a reading; none so far.
+    /// The error of the last failed call of the reader that ended a read; `None` if there was none.
     pub fault: Option<io::Error>,
     ghost within: { taken ≤ budget },
 }

@@ -19,7 +19,7 @@ use imagesize_source::source::Source;
 use imagesize_source::{Halt, ImageError, ImageResult, Reason, Text};
 use std::io::SeekFrom;
 
-/// A reader that is read by place. It takes bytes within a budget, and keeps the first of the input.
+/// A reader that is read at offsets. It reads bytes within a budget, and keeps the first bytes of the input.
 #[derive(Drop)]
 pub struct ReaderSource<'a, R: Told> {
     reader: &'a mut R,
@@ -31,12 +31,12 @@ pub struct ReaderSource<'a, R: Told> {
 pub struct Ledger {
     progress: Progress,
     window: Window,
-    // The end of the last reading.
+    // The offset after the last read.
     present: u64,
 }
 
 impl<'a, R: Told> ReaderSource<'a, R> {
-    /// The reader of an input of this told length. It stands at the end.
+    /// A source over a reader whose input has the reported length `told`. The reader is assumed to be at that offset.
     #[inline(always)]
     pub fn new(reader: &'a mut R, told: u64) -> Self
         ensures same_reference { result.reader.ghost_name ≡ reader.entry.ghost_name }
@@ -91,30 +91,30 @@ impl<R: Told> Source for ReaderSource<'_, R> {
     }
 }
 
-/// How many bytes more than the told length a call may take.
+/// The budget of a call in bytes is the reported length plus this number.
 pub const ALLOWANCE: u64 = 64;
 
 /// Where a call reads first.
 #[derive(Clone, Copy)]
 pub enum Origin {
-    /// At the first byte, wherever the reader stands.
+    /// At the first byte, wherever the reader is.
     Start,
-    /// Where the reader stands.
+    /// At the reader's offset.
     Place,
 }
 
-/// What a reader told as a call began.
+/// What a reader reported when the call began.
 #[derive(Clone, Copy, Debug)]
 pub struct Opened {
-    /// Where it stood.
+    /// Its offset.
     pub place: u64,
-    /// The length of its input.
+    /// The length of its input in bytes.
     pub told: u64,
 }
 
-/// Asks a reader where it stands, and for its length. It stands at the end then, and the first reading goes to its offset.
-/// Where the place is the told length, which a reader may lie about, that reading would not: a call that reads first at
-/// the place goes back here.
+/// Asks a reader for its offset and for the length of its input. Afterwards the reader is at the end, and the first read
+/// seeks to its own offset. If that is the reported length, the read would not seek, although the length may be wrong. A call
+/// that first reads at the reader's offset therefore seeks back here.
 #[inline]
 pub fn open<R: Told>(reader: &mut R, origin: Origin) -> ImageResult<Opened>
     ensures told { Opens (R.telling reader.old) (R.telling reader.new) result }
@@ -131,7 +131,7 @@ pub fn open<R: Told>(reader: &mut R, origin: Origin) -> ImageResult<Opened>
     Ok(Opened { place, told })
 }
 
-// A seek, whose error is a fault.
+// Seeks. An error becomes a `Reason::Fault`.
 #[inline(always)]
 fn seek<R: Told>(reader: &mut R, to: SeekFrom) -> ImageResult<u64>
     ensures told { SeekTells (R.telling reader.old) (R.telling reader.new) to result }
@@ -144,7 +144,7 @@ fn seek<R: Told>(reader: &mut R, to: SeekFrom) -> ImageResult<u64>
     Ok(place)
 }
 
-// What a halt ends the call with. A call of its own, since few readings are halted.
+// The error that the call returns. Not inlined, since few reads fail.
 #[cold]
 #[inline(never)]
 fn refusal_of(halt: Halt, progress: &Progress) -> ImageError

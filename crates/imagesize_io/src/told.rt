@@ -1,5 +1,5 @@
-//! Readers, and what they may tell of themselves.
-ghost use Rattle.std.specs.Prelude.{◌≡◌, ℕ, ◌≤◌, length, Option, Some, None, false, ◌<◌, ◌^◌, IfOk, IfErr, IfSome, IsSome, List, Ok, take};
+//! Readers, and the models that they may have.
+ghost use Rattle.std.specs.Prelude.{◌≡◌, ℕ, ◌≤◌, length, Option, Some, None, false, ◌<◌, ◌^◌, IfOk, IfErr, IfSome, IsSome, Ok, take};
 ghost use Rattle.std.specs.Io.Buffered.{reader_inner, reader_position, reader_remaining};
 ghost use Rattle.std.specs.Io.Cursor.{cursor_inner, cursor_position};
 ghost use Rattle.std.specs.Io.KnownBytes.{ReadConsumes};
@@ -15,7 +15,7 @@ use imagesize_source::Text;
 use imagesize_source::part::copy_part;
 use std::io::{self, BufRead, BufReader, Cursor, ErrorKind, Read, Seek, SeekFrom};
 
-/// Why a read gave nothing.
+/// Why a read gave no bytes.
 #[derive(Debug, Drop)]
 pub enum Stop {
     /// The read was interrupted, and may be tried again.
@@ -36,26 +36,29 @@ impl From<io::Error> for Stop {
     }
 }
 
-/// A reader whose calls do what `read` and `seek` do, and which may tell its bytes and count them.
+/// A reader whose calls do what `read` and `seek` do. It may have a model, and then the contracts state its bytes and its
+/// offset.
 pub trait Told: Drop {
-    /// The bytes, the place, whether a call can fail and how many reads may still be interrupted; or nothing.
+    /// The model: the bytes, the offset, whether a call can fail, and how many reads may still be interrupted. `None` without
+    /// one.
     ghost telling: { Self → Option Telling };
 
-    /// How many bytes the reader has given; or nothing.
+    /// How many bytes the reader has given. `None` if it does not count them.
     ghost count: { Self → Option ℕ };
 
-    /// The error of the last call that failed, interruptions among them, or that none has failed; or nothing.
+    /// The error of the last call that failed, including interruptions, or that none has failed. `None` if the reader keeps
+    /// no error.
     ghost failure: { Self → Option (Option Error) };
 
-    /// Reads into the buffer, and returns how many bytes it gave.
+    /// Reads into the buffer, and returns how many bytes were read.
     fn read_told(&mut self, room: &mut [u8]) -> Result<usize, Stop>
         ensures bound { IfOk result (λ n. n ≤ length room.new) }
         ensures told { ReadTells (telling self.old) (telling self.new) room.new result }
         ensures counts { count self.new ≡ count_after (count self.old) result }
         ensures fails { failure self.new ≡ failure_after_read (failure self.old) result };
 
-    /// Reads the text at the place where it stands, where it holds all of that, and answers how many bytes it gave. It
-    /// may answer nothing, and has then given nothing.
+    /// Reads the text at the reader's offset, if the reader holds all of it, and returns how many bytes were read. It may
+    /// always return `None`, and then it has read nothing.
     #[inline(always)]
     fn read_held(&mut self, _text: Text, _room: &mut [u8]) -> Option<usize>
         ensures bound { IfSome result (λ n. n ≤ length _room.new) }
@@ -68,15 +71,15 @@ pub trait Told: Drop {
         None
     }
 
-    /// Moves to a place, and answers it. Places count bytes from 0.
+    /// Seeks, and returns the new offset in bytes from 0.
     fn seek_told(&mut self, to: SeekFrom) -> io::Result<u64>
         ensures told { SeekTells (telling self.old) (telling self.new) to result }
         ensures counts { count self.new ≡ count self.old }
         ensures fails { failure self.new ≡ failure_after (failure self.old) result };
 }
 
-/// A cursor over bytes tells them and its place, cannot fail and is never interrupted. It counts nothing, and tells no failure
-/// of a seek to a place that is none.
+/// A cursor over bytes has a model of its bytes and its offset. It cannot fail and is never interrupted. It counts no bytes,
+/// and keeps no error of a seek to an invalid offset.
 impl Told for Cursor<&[u8]> {
     ghost telling = { λ c. Some (record {
       bytes = (cursor_inner c).now;
@@ -110,7 +113,7 @@ impl Told for Cursor<&[u8]> {
 
     #[inline(always)]
     fn seek_told(&mut self, to: SeekFrom) -> io::Result<u64> {
-        // The proof needs that the place and the length are below 2^64.
+        // The proof needs that the offset and the length are below 2^64.
         let place = self.position();
         let length = self.get_ref().len() as u64;
         let target = match to {
@@ -124,8 +127,8 @@ impl Told for Cursor<&[u8]> {
     }
 }
 
-/// A buffered reader tells nothing of what it reads from. Its reads and seeks give what those of `BufReader`
-/// give, and a place within its buffer is reached with the buffer kept.
+/// A buffered reader has no model. Its reads and seeks return what those of `BufReader` return, and a seek within the buffer
+/// keeps the buffer.
 impl<R: Read + Seek + Drop> Told for BufReader<R> {
     ghost telling = { λ _. None };
 
@@ -146,7 +149,7 @@ impl<R: Read + Seek + Drop> Told for BufReader<R> {
     fn read_held(&mut self, text: Text, room: &mut [u8]) -> Option<usize>
         ensures bound { IfSome result (λ n. n ≤ length room.new) }
         ensures whole { IfSome result (λ n. IsWhole text (take n room.new)) }
-        // What it gives is in the buffer, and the reader below is not called.
+        // The bytes given come from the buffer, and the inner reader is not called.
         ensures stays { result ≡ None → self.new ≡ self.old }
         ensures held { IfSome result (HeldOf self.old self.new room.new) }
     {
@@ -167,7 +170,7 @@ impl<R: Read + Seek + Drop> Told for BufReader<R> {
     }
 }
 
-// Goes to a place, and keeps the buffer where the place lies within it.
+// Seeks to an offset, and keeps the buffer if it has that offset.
 fn seek_kept<R: Read + Seek>(reader: &mut BufReader<R>, target: u64) -> io::Result<u64>
     ensures { SeekMoves (reader_position R.stream_position reader.old) (reader_position R.stream_position reader.new)
         (R.stream_bytes (reader_inner reader.old)) (SeekFrom.Start target) result }
@@ -182,7 +185,7 @@ fn seek_kept<R: Read + Seek>(reader: &mut BufReader<R>, target: u64) -> io::Resu
     }
 }
 
-// How far one place is from another, where both are below 2^63.
+// The signed distance from one offset to another, if both are below 2^63.
 fn distance(from: u64, to: u64) -> Option<i64>
     ensures offset { IfSome result (λ offset. IsAtOffset from offset to) }
     ensures known { from < 2 ^ 63 → to < 2 ^ 63 → IsSome result }

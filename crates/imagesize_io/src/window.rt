@@ -1,4 +1,4 @@
-//! The first bytes of an input, kept as they were taken.
+//! The first bytes of an input, kept as they were read.
 ghost use Rattle.std.specs.Prelude.{◌≡◌, ◌-◌, ◌≤◌, ◌++◌, min, drop, length, take};
 ghost use Rattle.imagesize_source.specs.Limits.{most_held};
 ghost use Rattle.imagesize_source.specs.Input.{part};
@@ -7,13 +7,13 @@ ghost use Rattle.imagesize_io.specs.ReaderState.{kept_window};
 use arrayvec::ArrayVec;
 use imagesize_source::part::copy_part;
 
-// How many of its first bytes a reader's source keeps.
+// How many of the first bytes a reader's source keeps.
 pub(crate) const WINDOW: usize = 32;
 
 /// The first bytes of an input.
 pub(crate) type Window = ArrayVec<u8, WINDOW>;
 
-// After bytes came from a place on: adds those that follow the window, as far as there is room.
+// Keeps bytes that were read at an offset, if they come right after the window, as far as they fit.
 #[inline(always)]
 pub(crate) fn keep(window: &mut Window, place: u64, bytes: &[u8])
     ensures { window.new.items ≡ kept_window window.old.items place bytes.now }
@@ -24,12 +24,12 @@ pub(crate) fn keep(window: &mut Window, place: u64, bytes: &[u8])
     if window.try_extend_from_slice(bytes).is_ok() {
         return;
     }
-    // There is room for what is kept.
+    // As many bytes as still fit.
     let kept = window.remaining_capacity();
     let _ = window.try_extend_from_slice(&bytes[..kept]);
 }
 
-// The same of so many bytes at the front of a room. Most reads fill the room, whose length the compiler knows.
+// Keeps the first `count` bytes of a buffer. Most reads fill the buffer, whose length the compiler knows.
 #[inline(always)]
 pub(crate) fn keep_front(window: &mut Window, place: u64, room: &[u8], count: usize)
     requires { count ≤ length room.now }
@@ -42,7 +42,7 @@ pub(crate) fn keep_front(window: &mut Window, place: u64, room: &[u8], count: us
     }
 }
 
-// Copies what the window has from a place on into the room, and answers how many bytes that is.
+// Copies the window's bytes from an offset on into the buffer, and returns how many were copied.
 #[inline(always)]
 #[tactic(auto, unfolding(imagesize_source::specs::Input::part))]
 pub(crate) fn copy_kept(window: &Window, place: u64, room: &mut [u8]) -> usize

@@ -1,15 +1,16 @@
 -- PNG: what is read of it.
-use Rattle.std.proofs.Common.{◌≡◌, ℕ, ◌-◌, ◌≤◌, Bool, true, false, cond, leb, List, ◌++◌, length, Option, Some, None, Result, Ok, Err, IfOk, IfErr, refl, sym, ap, ◌∙◌, subst, arith, rules}
+use Rattle.std.proofs.Common.{◌≡◌, ℕ, ◌-◌, ◌≤◌, Bool, true, false, cond, leb, List, ◌++◌, length, Option, Some, None, is_some, Result, Ok, Err, IfOk, IfErr, refl, sym, ap, ◌∙◌, subst, arith, rules}
 use Rattle.imagesize_io.proofs.Openings.{IsBounded, opened_answers, opened_takes}
 use Rattle.imagesize_io.specs.Answers.{Answers, CountsWithin, RisesWithin}
 use Rattle.imagesize_io.specs.ReaderState.{Opens, start_state}
 use Rattle.imagesize_io.specs.Standing.{drift}
 use Rattle.imagesize_io.specs.Telling.{Telling}
 use Rattle.imagesize_io.specs.declared.reader.Opened.{Opened}
-use Rattle.imagesize_png.specs.Png.{is_png, png, png_by, png_of, png_sides}
+use Rattle.imagesize_png.specs.Png.{is_png, png, png_by, png_of, png_reads, png_sides}
 use Rattle.imagesize_source.proofs.Agreement.{local_layout, without_texts}
 use Rattle.imagesize_source.proofs.Counts.{at_most}
 use Rattle.imagesize_source.proofs.Extension.{bytes_more, bytes_ok, more_answer}
+use Rattle.imagesize_source.proofs.Halts.{stated_ok}
 use Rattle.imagesize_source.proofs.Way.{FixedLaws}
 use Rattle.imagesize_source.specs.Agreement.{IsLocal}
 use Rattle.imagesize_source.specs.Counts.{AtMost}
@@ -18,10 +19,14 @@ use Rattle.imagesize_source.specs.Input.{part, span_of}
 use Rattle.imagesize_source.specs.Layout.Layout.{field, «done»}
 use Rattle.imagesize_source.specs.Layout.{layout_reads}
 use Rattle.imagesize_source.specs.Numbers.{number}
-use Rattle.imagesize_source.specs.Reading.{bytes_at, end_of_input, go_on, map_answer, number_at}
+use Rattle.imagesize_source.specs.Halts.{error_of, with_error}
+use Rattle.imagesize_source.specs.Outcome.{stated}
+use Rattle.imagesize_source.specs.Reading.{bytes_at, go_on, map_answer, number_at}
 use Rattle.imagesize_source.specs.State.{State, Runs, total}
 use Rattle.imagesize_source.specs.declared.endian.Endian.TheVariants.{Big}
 use Rattle.imagesize_source.specs.declared.error.ImageError.{ImageError}
+use Rattle.imagesize_source.specs.declared.halt.Halt.{Halt}
+use Rattle.imagesize_source.specs.declared.halt.Halt.TheVariants as halt
 use Rattle.imagesize_source.specs.declared.error.ImageError.TheVariants.{NotSupported}
 use Rattle.imagesize_types.specs.declared.size.ImageSize.{ImageSize}
 
@@ -41,79 +46,91 @@ png_laws place = record { few = (omega arith, λ head. sides_few (is_png head));
 pub png_within : (d : List ℕ) (place : ℕ) → total (png_of d place).marks ≤ 16
 png_within d place = at_most d 16 (png place) (png_laws place).few
 
-pub png_local : (place : ℕ) → IsLocal false (λ d. png_of d place)
+pub png_local : (place : ℕ) → IsLocal false (λ d. png_reads d place)
 png_local place = local_layout (png place) (without_texts false 16 (png place) (png_laws place).few)
 
 -- a size stays, whatever bytes follow
 pub png_lasts : (d : List ℕ) (place : ℕ) (r : Result ImageSize ImageError) → r ≡ (png_of d place).answer
     → IfOk r (λ size. (x : List ℕ) → (png_of (d ++ x) place).answer ≡ Ok size)
-png_lasts d place (Ok size) is = λ x. more_answer d x (png place) size (png_laws place).plain (sym is)
+png_lasts d place (Ok size) is = λ x.
+    ap stated (more_answer d x (png place) size (png_laws place).plain (stated_ok (png_reads d place).answer size (sym is)))
 png_lasts d place (Err e) is = tt
 
 -- a reading is refused for the end of the input alone
-bytes_end : (d : List ℕ) (place k : ℕ) (e : ImageError) → bytes_at d place k ≡ Err e → e ≡ end_of_input
+bytes_end : (d : List ℕ) (place k : ℕ) (e : Halt) → bytes_at d place k ≡ Err e → e ≡ halt.Ended
 unfolding bytes_at
 bytes_end d place k e is = by_test (leb k (length d - place)) is where
-  by_test : (test : Bool) → ◌≡◌ {A = Result (List ℕ) ImageError} (cond test (Ok (part d place k)) (Err end_of_input)) (Err e) → e ≡ end_of_input
+  by_test : (test : Bool) → ◌≡◌ {A = Result (List ℕ) Halt} (cond test (Ok (part d place k)) (Err halt.Ended)) (Err e) → e ≡ halt.Ended
   by_test true is = absurd cc
   by_test false is = cc
 
-number_end : (d : List ℕ) (place k : ℕ) (e : ImageError) → number_at d Big place k ≡ Err e → e ≡ end_of_input
+number_end : (d : List ℕ) (place k : ℕ) (e : Halt) → number_at d Big place k ≡ Err e → e ≡ halt.Ended
 unfolding number_at
 number_end d place k e is = by_bytes (bytes_at d place k) refl is where
-  by_bytes : (r : Result (List ℕ) ImageError) → bytes_at d place k ≡ r → map_answer (number Big) r ≡ Err e → e ≡ end_of_input
+  by_bytes : (r : Result (List ℕ) Halt) → bytes_at d place k ≡ r → map_answer (number Big) r ≡ Err e → e ≡ halt.Ended
   by_bytes (Ok bs) same is = absurd cc
   by_bytes (Err f) same is = let one : f ≡ e = cc in sym one ∙ bytes_end d place k f same
 
 -- and so are the sides
-sides_end : (d : List ℕ) (e : ImageError) → (layout_reads d png_sides).answer ≡ Err e → e ≡ end_of_input
+sides_end : (d : List ℕ) (e : Halt) → (layout_reads d png_sides).answer ≡ Err e → e ≡ halt.Ended
 sides_end d e is = by_width (number_at d Big 16 4) refl is where
-  by_height : (width : ℕ) (h : Result ℕ ImageError) → number_at d Big 20 4 ≡ h
-      → ◌≡◌ {A = Result ImageSize ImageError} (go_on {Y = ImageSize} (span_of d 20 4) h (λ height. layout_reads d (done (record { width = width; height = height })))).answer (Err e)
-      → e ≡ end_of_input
+  by_height : (width : ℕ) (h : Result ℕ Halt) → number_at d Big 20 4 ≡ h
+      → ◌≡◌ {A = Result ImageSize Halt} (go_on {Y = ImageSize} (span_of d 20 4) h (λ height. layout_reads d (done (record { width = width; height = height })))).answer (Err e)
+      → e ≡ halt.Ended
   by_height width (Ok height) same is = absurd cc
   by_height width (Err f) same is = let one : f ≡ e = cc in sym one ∙ number_end d 20 4 f same
 
-  by_width : (w : Result ℕ ImageError) → number_at d Big 16 4 ≡ w
+  by_width : (w : Result ℕ Halt) → number_at d Big 16 4 ≡ w
       → (go_on {Y = ImageSize} (span_of d 16 4) w (λ width. layout_reads d (field Big 20 4 (λ height. done (record { width = width; height = height }))))).answer ≡ Err e
-      → e ≡ end_of_input
+      → e ≡ halt.Ended
   by_width (Ok width) same is = by_height width (number_at d Big 20 4) refl is
   by_width (Err f) same is = let one : f ≡ e = cc in sym one ∙ number_end d 16 4 f same
 
-no_png : (d x : List ℕ) (is : Bool) → (layout_reads d (png_by is)).answer ≡ Err NotSupported
-    → (layout_reads (d ++ x) (png_by is)).answer ≡ Err NotSupported
-no_png d x true is = let no : NotSupported ≡ end_of_input = sides_end d NotSupported is in absurd cc
+no_png : (d x : List ℕ) (is : Bool) → (layout_reads d (png_by is)).answer ≡ Err halt.NotSupported
+    → (layout_reads (d ++ x) (png_by is)).answer ≡ Err halt.NotSupported
+no_png d x true is = let no : halt.NotSupported ≡ halt.Ended = sides_end d halt.NotSupported is in absurd cc
 no_png d x false is = refl
 
 -- what is no PNG stays none
-refused_lasts : (d x : List ℕ) (place : ℕ) → (png_of d place).answer ≡ Err NotSupported → (png_of (d ++ x) place).answer ≡ Err NotSupported
+refused_lasts : (d x : List ℕ) (place : ℕ) → (png_reads d place).answer ≡ Err halt.NotSupported
+    → (png_reads (d ++ x) place).answer ≡ Err halt.NotSupported
 refused_lasts d x place is = by_head (bytes_at d place 8) refl is where
-  by_head : (r : Result (List ℕ) ImageError) → bytes_at d place 8 ≡ r
-      → (go_on (span_of d place 8) r (λ head. layout_reads d (png_by (is_png head)))).answer ≡ Err NotSupported
-      → (png_of (d ++ x) place).answer ≡ Err NotSupported
+  by_head : (r : Result (List ℕ) Halt) → bytes_at d place 8 ≡ r
+      → (go_on (span_of d place 8) r (λ head. layout_reads d (png_by (is_png head)))).answer ≡ Err halt.NotSupported
+      → (png_reads (d ++ x) place).answer ≡ Err halt.NotSupported
   by_head (Ok head) same is =
       ap (λ r. (go_on (span_of (d ++ x) place 8) r (λ head. layout_reads (d ++ x) (png_by (is_png head)))).answer)
       (bytes_more d x place 8 (bytes_ok d head place 8 same) ∙ same)
       ∙ no_png d x (is_png head) is
   by_head (Err e) same is =
-      let one : e ≡ NotSupported = cc in let no : NotSupported ≡ end_of_input = sym one ∙ bytes_end d place 8 e same in absurd cc
+      let one : e ≡ halt.NotSupported = cc in let no : halt.NotSupported ≡ halt.Ended = sym one ∙ bytes_end d place 8 e same in absurd cc
+
+-- one halt alone is this error
+not_supported : (h : Halt) → error_of h ≡ NotSupported → h ≡ halt.NotSupported
+not_supported halt.NotSupported is = refl
+not_supported _ is = absurd cc
+
+refused_as : (r : Result ImageSize Halt) → stated r ≡ Err NotSupported → r ≡ Err halt.NotSupported
+refused_as (Ok size) is = absurd cc
+refused_as (Err h) is = let same : error_of h ≡ NotSupported = cc in ap Err (not_supported h same)
 
 pub png_final : (d : List ℕ) (place : ℕ) (r : Result ImageSize ImageError) → r ≡ (png_of d place).answer
     → IfErr r (λ e. e ≡ NotSupported → (x : List ℕ) → (png_of (d ++ x) place).answer ≡ Err NotSupported)
 png_final d place (Ok size) is = tt
-png_final d place (Err e) is = λ none x. refused_lasts d x place (sym is ∙ ap Err none)
+png_final d place (Err e) is = λ none x.
+    ap stated (refused_lasts d x place (refused_as (png_reads d place).answer (sym is ∙ ap Err none)))
 
 -- an honest budget is enough for it
-bounded_png : IsBounded png_of
+bounded_png : IsBounded png_reads
 bounded_png d place = omega (arith, png_within d place)
 
 -- the size that a reader was found to have
 pub png_answers : (telling mid : Option Telling) (count : Option ℕ) (home : ℕ) (opened : Opened) (a b : State)
-    (r : Result ImageSize ImageError) → a ≡ start_state mid count home opened.told → Opens telling mid (Ok opened)
-    → Runs a b r (png_of a.held.input opened.place) → Answers telling png_of r
-png_answers telling mid count home opened a b r start opens h =
-    opened_answers telling mid count home opened b r png_of bounded_png opens
-    (subst (λ s. Runs s b r (png_of s.held.input opened.place)) start h)
+    (r : Result ImageSize Halt) → a ≡ start_state mid count home opened.told → is_some b.failed ≡ true → Opens telling mid (Ok opened)
+    → Runs a b r (png_reads a.held.input opened.place) → Answers telling png_of (with_error b.failure b.frame.budget r)
+png_answers telling mid count home opened a b r start told opens h =
+    opened_answers telling mid count home opened b r png_reads bounded_png told opens
+    (subst (λ s. Runs s b r (png_reads s.held.input opened.place)) start h)
 
 both_are : (p q : ℕ × ℕ) → p ≡ q → (p.0 ≡ q.0) × (p.1 ≡ q.1)
 both_are p q same = (ap (λ (x : ℕ × ℕ). x.0) same, ap (λ (x : ℕ × ℕ). x.1) same)
@@ -129,10 +146,10 @@ rises (Some c) (Some d) taken k same few =
 
 -- and how far a count rose
 pub png_counts : (telling mid : Option Telling) (count after : Option ℕ) (home : ℕ) (opened : Opened) (a b : State)
-    (r : Result ImageSize ImageError) → a ≡ start_state mid count home opened.told → Opens telling mid (Ok opened)
-    → Runs a b r (png_of a.held.input opened.place) → b.frame.since ≡ drift after b.taken → CountsWithin telling count after png_of
-png_counts None mid count after home opened a b r start opens h counted = tt
-png_counts (Some t) mid count after home opened a b r start opens h counted = λ honest.
-    let takes = opened_takes (Some t) mid count home opened b r png_of opens
-    (subst (λ s. Runs s b r (png_of s.held.input opened.place)) start h) honest in
+    (r : Result ImageSize Halt) → a ≡ start_state mid count home opened.told → is_some b.failed ≡ true → Opens telling mid (Ok opened)
+    → Runs a b r (png_reads a.held.input opened.place) → b.frame.since ≡ drift after b.taken → CountsWithin telling count after png_of
+png_counts None mid count after home opened a b r start told opens h counted = tt
+png_counts (Some t) mid count after home opened a b r start told opens h counted = λ honest.
+    let takes = opened_takes (Some t) mid count home opened b r png_reads told opens
+    (subst (λ s. Runs s b r (png_reads s.held.input opened.place)) start h) honest in
     rises count after b.taken _ (sym counted ∙ ap (λ f. f.since) h.frame ∙ ap (λ s. s.frame.since) start) takes.most

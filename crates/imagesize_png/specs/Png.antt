@@ -3,9 +3,10 @@ use Rattle.std.specs.Prelude.{ℕ, Bool, if◌then◌else◌, List, [], ◌∷�
 use Rattle.imagesize_types.specs.Head.{begins}
 use Rattle.imagesize_types.specs.declared.size.ImageSize.{ImageSize}
 use Rattle.imagesize_source.specs.declared.endian.Endian.TheVariants.{Big}
-use Rattle.imagesize_source.specs.declared.error.ImageError.TheVariants.{NotSupported}
+use Rattle.imagesize_source.specs.declared.halt.Halt.TheVariants.{NotSupported}
 use Rattle.imagesize_source.specs.Layout.Layout.{field, refuse, «done»}
 use Rattle.imagesize_source.specs.Layout.{Layout, bytes, layout_reads}
+use Rattle.imagesize_source.specs.Outcome.{Outcome, outcome_of}
 use Rattle.imagesize_source.specs.Reading.{Reads}
 
 -- the signature: 89 50 4E 47 0D 0A 1A 0A
@@ -27,5 +28,8 @@ png_by is = if is then png_sides else refuse NotSupported
 abbrev pub png : ℕ → Layout ImageSize
 png place = bytes place 8 (λ head. png_by (is_png head))
 
-abbrev pub png_of : List ℕ → ℕ → Reads ImageSize
-png_of d place = layout_reads d (png place)
+abbrev pub png_reads : List ℕ → ℕ → Reads ImageSize
+png_reads d place = layout_reads d (png place)
+
+abbrev pub png_of : List ℕ → ℕ → Outcome ImageSize
+png_of d place = outcome_of (png_reads d place)

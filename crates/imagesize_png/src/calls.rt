@@ -1,4 +1,4 @@
-//! The calls: the size of a slice's bytes or of a reader's.
+//! The calls: the size of the PNG in a slice, or in a reader's bytes.
 ghost use Rattle.std.specs.Prelude.{◌≡◌, ℕ, ◌≤◌, List, ◌++◌, IfOk, IfErr, IfSome, Option, Ok, Err, true, false};
 ghost use Rattle.imagesize.specs.Probed.{SpentAll};
 ghost use Rattle.imagesize_io.specs.Answers.{Answers, CountsWithin, IsLast, Leaves};
@@ -7,17 +7,18 @@ ghost use Rattle.imagesize_io.specs.Telling.{Telling};
 ghost use Rattle.imagesize_png.specs.Png.{png_of};
 ghost use Rattle.imagesize_source.specs.Agreement.{Agrees};
 ghost use Rattle.imagesize_source.specs.declared.error.ImageError.TheVariants.{NotSupported};
-ghost use Rattle.imagesize_source.specs.Reading.{budget_spent, is_fault, is_memory, is_stopped};
+ghost use Rattle.imagesize_source.specs.Errors.{budget_spent, is_fault, is_memory, is_stopped};
 ghost use Rattle.imagesize_source.specs.State.{total};
 
 use crate::Told;
 use crate::format::size;
 use imagesize_io::reader::{Opened, Origin, ReaderSource, open};
 use imagesize_source::ImageResult;
+use imagesize_source::halt::with_error;
 use imagesize_source::source::slice::SliceSource;
 use imagesize_types::size::ImageSize;
 
-/// The size in pixels of the PNG that a slice's bytes hold, or begin with.
+/// Reads the size in pixels of the PNG in a slice, from its first bytes.
 ///
 /// Errors: `NotSupported` if the first eight bytes are not the signature, and `EndOfInput` if the bytes end before the
 /// signature or the size. 24 bytes are enough.
@@ -31,32 +32,34 @@ use imagesize_types::size::ImageSize;
 pub fn blob_size(data: &[u8]) -> ImageResult<ImageSize>
     ensures value { result ≡ (png_of «data».now 0).answer }
 
-    // Another input of this length that agrees on the marks has the same size, and the same marks, at every place.
+    // Another input of this length that agrees on the spans `marks` has the same size and the same spans, at every offset.
     ensures local { (place : ℕ) (e : List ℕ) → Agrees «data».now e (png_of «data».now place).marks
         → png_of e place ≡ png_of «data».now place }
 
-    // The signature and the two sides are all that is read.
+    // Only the signature, the width and the height are read.
     ensures few { (place : ℕ) → total (png_of «data».now place).marks ≤ 16 }
 
-    // Bytes that follow change no size.
+    // Appended bytes change no size.
     ensures lasts { IfOk result (λ size. (x : List ℕ) → (png_of («data».now ++ x) 0).answer ≡ Ok size) }
 
-    // Bytes that follow make no PNG of what is none.
+    // Appended bytes do not make a PNG of other bytes.
     ensures refused { IfErr result (λ e. e ≡ NotSupported → (x : List ℕ) → (png_of («data».now ++ x) 0).answer ≡ Err NotSupported) }
 
-    // A slice fails at no reading, has no budget and wants no memory.
+    // Over a slice no read fails, there is no budget, and nothing is allocated.
     ensures unstopped { is_stopped result ≡ false }
 {
-    size(&mut SliceSource { bytes: data }, 0)
+    let mut source = SliceSource { bytes: data };
+    let found = size(&mut source, 0);
+    with_error(found, &source)
 }
 
-/// The size in pixels of the PNG in a reader's bytes, whose signature stands at the reader's position.
+/// Reads the size in pixels of the PNG in a reader's bytes. The signature must be at the reader's offset.
 ///
-/// The offsets of the size count from the first byte, as in `imagesize::reader_size`. The reader's position is unspecified then,
-/// and it may be used again.
+/// The size is read at offsets from the first byte of the input, as in `imagesize::reader_size`. Afterwards the reader's
+/// offset is unspecified, and the reader may be used again.
 ///
-/// Errors: those of `blob_size`, `Fault` if a call of the reader fails, and `BudgetSpent` if more bytes would be read than the
-/// length of the input, as its seeks say, and 64.
+/// Errors: those of `blob_size`, and `Fault` if a call of the reader fails. `BudgetSpent` if more bytes would be read than
+/// the length of the input, as its seeks report it, plus 64.
 ///
 /// ```
 /// use imagesize_png::reader_size;
@@ -69,7 +72,7 @@ pub fn reader_size<R: Told>(reader: &mut R) -> ImageResult<ImageSize>
     ensures answers { Answers (R.telling reader.old) png_of result }
     ensures counts { CountsWithin (R.telling reader.old) (R.count reader.old) (R.count reader.new) png_of }
 
-    // Over every reader, also one that tells nothing or lies:
+    // For every reader, even one without a model that reports a wrong length:
     ensures spent { IfErr result (λ e. IfSome (budget_spent e) (λ budget. SpentAll (R.count reader.old) (R.count reader.new) budget)) }
     ensures memory { IfErr result (λ e. is_memory e ≡ false) }
 
@@ -81,7 +84,7 @@ pub fn reader_size<R: Told>(reader: &mut R) -> ImageResult<ImageSize>
     size_opened(reader, opened)
 }
 
-// The size of what a reader holds that was opened.
+// The size of the image in the bytes of a reader that was opened.
 fn size_opened<R: Told>(reader: &mut R, opened: Opened) -> ImageResult<ImageSize>
     ensures answers { (telling : Option Telling) → Opens telling (R.telling reader.old) (Ok opened)
         → Answers telling png_of result }
@@ -94,6 +97,6 @@ fn size_opened<R: Told>(reader: &mut R, opened: Opened) -> ImageResult<ImageSize
         → Leaves telling (R.telling reader.new) }
 {
     let mut source = ReaderSource::new(reader, opened.told);
-    let answer = size(&mut source, opened.place);
-    answer
+    let found = size(&mut source, opened.place);
+    with_error(found, &source)
 }

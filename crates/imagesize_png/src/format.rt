@@ -1,14 +1,11 @@
-//! PNG, by sections 5.2 (PNG signature) and 11.2.2 (IHDR Image header) of the Portable Network Graphics Specification.
+//! PNG: sections 5.2 (PNG signature) and 11.2.2 (IHDR Image header) of the Portable Network Graphics Specification.
 ghost use Rattle.std.specs.Prelude.{◌≡◌};
-ghost use Rattle.imagesize_png.specs.Png.{is_png, png, png_of};
-ghost use Rattle.imagesize_source.specs.Halts.{RunsOrHalts};
-ghost use Rattle.imagesize_source.specs.Layout.{layout_reads};
-ghost use Rattle.imagesize_source.specs.State.{Runs};
+ghost use Rattle.imagesize_png.specs.Png.{is_png, png};
+ghost use Rattle.imagesize_source.specs.State.{Follows};
 
-use imagesize_source::halt::with_error;
 use imagesize_source::readings::{read_exact_at, read_u32};
 use imagesize_source::source::Source;
-use imagesize_source::{Endian, Halt, ImageResult};
+use imagesize_source::{Endian, Halt};
 use imagesize_types::size::ImageSize;
 
 /// Whether bytes begin with the signature of PNG. Fewer than eight bytes do not.
@@ -29,20 +26,11 @@ pub fn is_png(header: &[u8]) -> bool
     )
 }
 
-/// The size of an input whose signature stands at a place.
-#[inline(always)]
-pub fn size<S: Source>(source: &mut S, place: u64) -> ImageResult<ImageSize>
-    ensures { Runs (S.state source.old) (S.state source.new) result (png_of (S.state source.old).held.input place) }
-{
-    with_error(read_size(source, place), source)
-}
-
-// The width and the height behind the signature, or why there are none.
+/// The width and the height of an input with the signature at an offset, or the error.
 #[inline(always)]
 #[tactic(auto, using(imagesize_source::proofs::Runs::steps))]
-fn read_size<S: Source>(source: &mut S, place: u64) -> Result<ImageSize, Halt>
-    ensures { RunsOrHalts (S.state source.old) (S.state source.new) (S.failure source.new) result
-        (layout_reads (S.state source.old).held.input (png place)) }
+pub fn size<S: Source>(source: &mut S, place: u64) -> Result<ImageSize, Halt>
+    ensures { Follows (S.state source.old) (S.state source.new) result (png place) }
 {
     let mut head = [0u8; 8];
     read_exact_at(source, place, &mut head)?;

@@ -1,6 +1,6 @@
-//! PNG: the size in pixels, by the signature and the image header.
+//! PNG: the size in pixels, from the signature and the image header.
 //!
-//! The calls of `imagesize` leave PNG out. These take it alone, by the same readings.
+//! The calls of `imagesize` leave PNG out. These calls support only PNG, and read inputs in the same way.
 #![tactic(auto)]
 
 mod calls;

@@ -1,17 +1,21 @@
-//! The size by parts of an input, of which the caller has no more so far.
+//! The size from parts of an input, for a caller that does not have all of it.
 ghost use Rattle.std.specs.Prelude.{◌≡◌, ℕ, ◌^◌, ◌<◌, false, List, None, if◌then◌else◌, option_map};
 ghost use Rattle.imagesize.specs.Parted.{Fits, HasKnown, IfFound, SaysOf, Tells, found_or_wanted, wanted_of};
 ghost use Rattle.imagesize_png.specs.Png.{png_of};
 ghost use Rattle.imagesize_source.specs.Known.{AllKnown};
-ghost use Rattle.imagesize_source.specs.Reading.{is_faulted, is_stopped};
+ghost use Rattle.imagesize_source.specs.Errors.{end_of_input, is_stopped};
+ghost use Rattle.imagesize_source.specs.Halts.{with_error};
+ghost use Rattle.imagesize_source.specs.Reading.{is_faulted};
 
 use crate::format::size;
-use crate::{ImageError, ImageResult, Reason, Span};
+use crate::{ImageResult, Span};
 use imagesize::PartsAnswer;
-use imagesize_source::source::parts::{Missing, PartsSource};
+use imagesize_source::Halt;
+use imagesize_source::halt::with_error;
+use imagesize_source::source::parts::PartsSource;
 use imagesize_types::size::ImageSize;
 
-/// The size in pixels of the PNG in an input of `total` bytes of which these parts are known, or a part that it needs.
+/// Reads the size in pixels of the PNG in an input of `total` bytes from the parts that are known, or requests another part.
 ///
 /// The parts are passed as to `imagesize::parts_probe`. The errors are those of `blob_size` over the whole input.
 ///
@@ -25,23 +29,23 @@ use imagesize_types::size::ImageSize;
 /// }
 /// ```
 pub fn parts_size(bytes: &[u8], spans: &[Span], total: u64) -> PartsAnswer<ImageResult<ImageSize>>
-    // Of each input of that length that has the bytes which these parts know, and there is one:
+    // For each input of that length that has the known bytes of these parts (there always is one):
     ensures says { (d : List ℕ) → HasKnown d total spans.now bytes.now → total < 2 ^ 63
         → SaysOf false (png_of d 0) total spans.now bytes.now result }
 
-    // Where the parts know every byte that the size rests on, it is given.
+    // If the parts have every byte that the size depends on, the call returns it.
     ensures complete { (d : List ℕ) → HasKnown d total spans.now bytes.now → total < 2 ^ 63
         → AllKnown total spans.now bytes.now (png_of d 0).marks → Tells result }
     ensures fits { Fits total result }
 
-    // No fault, no spent budget and no want of memory is an answer.
+    // No result is a fault, a spent budget or a lack of memory.
     ensures unstopped { total < 2 ^ 63 → IfFound result (λ answer. is_stopped answer ≡ false) }
 {
     let mut source = PartsSource::new(spans, bytes, total);
     size_of_parts(&mut source)
 }
 
-// The size, by readings that begin anew.
+// The size, by reads that start anew.
 #[inline(always)]
 fn size_of_parts(source: &mut PartsSource<'_>) -> PartsAnswer<ImageResult<ImageSize>>
     ensures says { (d : List ℕ) → HasKnown d source.old.told source.old.spans.now source.old.bytes.now → source.old.told < 2 ^ 63
@@ -51,33 +55,28 @@ fn size_of_parts(source: &mut PartsSource<'_>) -> PartsAnswer<ImageResult<ImageS
 {
     source.forget();
     let found = size(source, 0);
-    let wanted = missed_part(&found, source.missed);
-    found_or_wanted(found, wanted)
+    found_or_wanted(found, source)
 }
 
-// What was found, where nothing is missed, and else what is surely read.
+// The result if no part is missing, and else the bytes that are certain to be read.
 #[inline(always)]
 fn found_or_wanted(
-    found: ImageResult<ImageSize>,
-    missed: Option<Missing>,
+    found: Result<ImageSize, Halt>,
+    source: &PartsSource<'_>,
 ) -> PartsAnswer<ImageResult<ImageSize>>
-    ensures { result ≡ found_or_wanted found (option_map (wanted_of false) missed) }
+    ensures { result ≡ found_or_wanted (with_error end_of_input 0 found)
+        (option_map (wanted_of false) (if is_faulted found then source.now.missed else None)) }
 {
+    let missed = if matches!(found, Err(Halt::Failed)) {
+        source.missed
+    } else {
+        None
+    };
     match missed {
         Some(missing) => PartsAnswer::Wanted(Span {
             start: missing.start,
             len: missing.sure,
         }),
-        None => PartsAnswer::Found(found),
-    }
-}
-
-// What is missed, where the answer is a failure.
-fn missed_part(answer: &ImageResult<ImageSize>, missed: Option<Missing>) -> Option<Missing>
-    ensures { result ≡ (if is_faulted answer.now then missed else None) }
-{
-    match answer {
-        Err(ImageError::IoError(Reason::Fault(_))) => missed,
-        _ => None,
+        None => PartsAnswer::Found(with_error(found, source)),
     }
 }

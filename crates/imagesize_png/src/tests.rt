@@ -1,4 +1,4 @@
-//! Sizes of a few inputs, told by hand from the specification, and readers that read byte by byte or fail.
+//! Sizes of a few inputs, found by hand from the specification, and readers that read byte by byte or fail.
 
 use crate::{
     ImageError, ImageResult, ImageSize, PartsAnswer, Reason, Span, blob_size, is_png, parts_size,
@@ -8,7 +8,7 @@ use imagesize_readers::readers::{Counting, Cutting, Failing};
 use std::io::{self, Cursor};
 use std::test::Fail;
 
-// An image of 640 by 480: the signature, the length and the name of the image header, and its sides.
+// An image of 640 by 480: the signature, the length and the name of the image header, and its width and height.
 const PNG: &[u8] = b"\x89PNG\r\n\x1a\n\0\0\0\x0dIHDR\0\0\x02\x80\0\0\x01\xe0";
 
 // Inputs that have a size.
@@ -28,7 +28,7 @@ static SIZED: [(&[u8], usize, usize); 5] = [
     ),
     // no width and no height, which it forbids too
     (b"\x89PNG\r\n\x1a\n\0\0\0\x0dIHDR\0\0\0\0\0\0\0\0", 0, 0),
-    // another chunk before the image header, as some phones write it: its bytes are read as the sides
+    // another chunk before the image header, as some phones write it: its bytes are read as width and height
     (
         b"\x89PNG\r\n\x1a\n\0\0\0\x04CgBI\x50\0\x20\x06\0\0\0\x07",
         1342185478,
@@ -36,7 +36,7 @@ static SIZED: [(&[u8], usize, usize); 5] = [
     ),
 ];
 
-// Inputs that are no PNG.
+// Inputs that are not a PNG.
 static OTHERS: [&[u8]; 7] = [
     b"\x89PNG\r\n\x1a\r\0\0\0\x0dIHDR\0\0\x02\x80\0\0\x01\xe0",
     b"\x89PNG\n\x1a\n\0\0\0\x0dIHDR\0\0\x02\x80\0\0\x01\xe0\0",
@@ -108,7 +108,7 @@ fn a_signature_may_stand_behind_other_bytes(rt: HostRuntime) -> Result<(), Fail>
     let bytes: &[u8] = b"abc\x89PNG\r\n\x1a\n\0\0\0\x0dIHDR\0\0\x02\x80\0\0\x01\xe0";
     let mut reader = Cursor::new(bytes);
     reader.set_position(3);
-    // The sides are read at 16 and 20 of the whole.
+    // The width and the height are read at offsets 16 and 20 of the whole input.
     let size = ImageSize {
         width: 0x48445200,
         height: 0x00028000,
@@ -130,7 +130,7 @@ fn each_call_of_a_reader_may_fail(rt: HostRuntime) {
     }
 }
 
-// The signature and the two sides, one behind another, and their spans.
+// The signature, the width and the height, one after another, and their spans.
 const KNOWN: &[u8] = b"\x89PNG\r\n\x1a\n\0\0\x02\x80\0\0\x01\xe0";
 
 const SPANS: [Span; 3] = [

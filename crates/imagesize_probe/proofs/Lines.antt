@@ -5,14 +5,17 @@ use Rattle.std.specs.declared.io.Error.{Error}
 use Rattle.std.specs.Fmt.{◌++?◌}
 use Rattle.std.specs.Result.{result_ok}
 use Rattle.std.specs.Io.KnownBytes.{Appends}
-use Rattle.imagesize.specs.Meaning.{kind_of, meaning, size_of}
+use Rattle.imagesize.specs.Meaning.{kind_of, kind_reads, meaning, meaning_reads, size_reads}
 use Rattle.imagesize.specs.Probed.{Probes, ProbesOf}
 use Rattle.imagesize_types.specs.declared.size.ImageSize.{ImageSize}
 use Rattle.imagesize.specs.declared.types.ImageType.{ImageType}
 use Rattle.imagesize.specs.declared.calls.Probed.{Probed}
 use Rattle.imagesize_probe.specs.Line.{answer_line, line_of, refused_line, Reports, ReportsOf}
 use Rattle.imagesize_io.specs.Answers.{over_reader}
-use Rattle.imagesize_source.specs.Reading.{Reads, go_on, is_stopped, is_stop}
+use Rattle.imagesize_source.specs.Errors.{is_stopped, is_stop}
+use Rattle.imagesize_source.specs.Outcome.{stated}
+use Rattle.imagesize_source.specs.declared.halt.Halt.{Halt}
+use Rattle.imagesize_source.specs.Reading.{Reads, go_on}
 use Rattle.imagesize_source.specs.Reason.{error_text}
 use Rattle.imagesize_io.specs.Telling.{Telling}
 use Rattle.imagesize_source.specs.declared.span.Span.{Span}
@@ -57,14 +60,14 @@ some_line name None old new has _ = (cc)
 some_line name (Some text) old new _ wrote = (text, wrote)
 
 -- what goes on from a refusal is no success
-began : {X Y : Type 0} (marks : List Span) (r : Result X ImageError) (f : X → Reads Y) → IsOk (go_on marks r f).answer → IsOk r
+began : {X Y : Type 0} (marks : List Span) (r : Result X Halt) (f : X → Reads Y) → IsOk (stated (go_on marks r f).answer) → IsOk (stated r)
 began marks (Ok x) f _ = refl
 began marks (Err e) f ok = ok
 
 -- where there is a size there is a type
 pub sized_kind : (d : List ℕ) (place : ℕ) → IsOk (meaning d place).answer → IsOk (kind_of d place).answer
-unfolding meaning
-sized_kind d place ok = began (kind_of d place).marks (kind_of d place).answer (λ found. size_of found d) ok
+unfolding meaning_reads
+sized_kind d place ok = began (kind_reads d place).marks (kind_reads d place).answer (λ found. size_reads found d) ok
 
 -- the line of a refusal that has a text
 refused_text : (name : List ℕ) (text : Option (List ℕ)) (old new : Option (List ℕ)) → IsSome text →

@@ -1,11 +1,11 @@
-//! Prints the type and the size of each image file that is named, or why it has none; with `--spans` also the bytes
-//! that this rests on.
+//! Prints type and size of each named image file, or why it has none. With `--spans` it also prints the bytes that this
+//! depends on.
 #![tactic(auto)]
 
 ghost use Rattle.std.specs.Prelude.{◌≡◌, ◌||◌, [], IsTrue, IfOk, IfErr, MatchResult, Option, None, Ok, Err};
 ghost use Rattle.std.specs.Io.Buffered.{writer_buffer};
 ghost use Rattle.imagesize_probe.specs.Run.{Files, Loads, LoadsNone};
-ghost use Rattle.imagesize_source.specs.Reading.{is_fault, is_memory};
+ghost use Rattle.imagesize_source.specs.Errors.{is_fault, is_memory};
 ghost use Rattle.imagesize_source.specs.declared.error.ImageError.TheVariants.{IoError};
 ghost use Rattle.imagesize_source.specs.declared.error.Reason.TheVariants.{Memory};
 
@@ -24,7 +24,7 @@ fn main(rt: HostRuntime) -> ExitCode {
     ExitCode::from(exit_code(run_arguments(&rt)))
 }
 
-// Writes the lines of the names that are the arguments, and returns the program's status.
+// Writes the lines for the names in the arguments, and returns the program's status.
 //
 // Errors: the arguments could not be read, or standard output failed.
 fn run_arguments(rt: &HostRuntime) -> io::Result<u8> {
@@ -41,7 +41,7 @@ fn run_arguments(rt: &HostRuntime) -> io::Result<u8> {
     )
 }
 
-// Standard output behind a buffer of so many bytes. Where there is no memory for it, what is written goes out at once.
+// Standard output with a buffer of `capacity` bytes. If the buffer cannot be allocated, output is written at once.
 fn buffered<R: Print + AllocGlobal>(rt: &R, capacity: usize) -> BufWriter<Printer<'_, R>>
     ensures { writer_buffer result ≡ [] }
 {
@@ -51,9 +51,9 @@ fn buffered<R: Print + AllocGlobal>(rt: &R, capacity: usize) -> BufWriter<Printe
     }
 }
 
-// The reader behind a buffer, where there was memory for the buffer.
+// The buffered reader, if its buffer could be allocated.
 //
-// Errors: want of memory, since nothing else refuses a buffer.
+// Errors: `Memory`, since nothing else can make a buffer fail.
 fn buffered_reader<R>(made: io::Result<BufReader<R>>) -> ImageResult<BufReader<R>>
     ensures { MatchResult made (λ reader. result ≡ Ok reader) (λ _. result ≡ Err (IoError Memory)) }
 {

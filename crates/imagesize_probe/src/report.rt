@@ -1,4 +1,4 @@
-//! The line about one image.
+//! The line for one image.
 ghost use Rattle.std.specs.Prelude.{◌≡◌, ℕ, List, ◌++◌, IfOk, IfSome, IsSome, MatchOption, OnOk, true, false, is_ok};
 ghost use Rattle.std.specs.Io.KnownBytes.{Appends};
 ghost use Rattle.imagesize_probe.specs.Line.{answer_line, sized_line, refused_line, span_line, span_lines, AppendsLine, Reports, ReportsSpans};
@@ -15,10 +15,9 @@ use std::alloc::Allocator;
 use std::fmt::InlineText;
 use std::io::{self, Write};
 
-/// Writes the line of what a reader holds, `NAME: KIND WxH` or `NAME: error: TEXT`, and returns whether it
-/// has a size.
+/// Writes the line for a reader's bytes, `NAME: KIND WxH` or `NAME: error: TEXT`, and returns whether they have a size.
 ///
-/// Errors: those of the writer alone, which may then have got a part of the line.
+/// Errors: only those of the writer, which may already have a part of the line.
 pub fn report<R: Told, W: Write>(name: &str, mut reader: R, writer: &mut W) -> io::Result<bool>
     ensures line { IfOk result (AppendsLine name.now (W.contents writer.old) (W.contents writer.new)) }
     ensures told { IfOk result (Reports (R.telling reader) name.now (W.contents writer.old) (W.contents writer.new)) }
@@ -27,10 +26,10 @@ pub fn report<R: Told, W: Write>(name: &str, mut reader: R, writer: &mut W) -> i
     write_line(name, probed.kind, probed.answer, writer)
 }
 
-/// Writes the line of what a slice holds, and then for each reading that tells it `  START+LENGTH`, and returns
-/// whether it has a size. Where memory for the spans was refused, writes the line of that alone and returns false.
+/// Writes the line for a slice, then ` START+LENGTH` for each read, and returns whether the slice has a size. If memory for
+/// the spans cannot be allocated, writes only the line for that error and returns false.
 ///
-/// Errors: those of the writer alone, which may then have got a part of the lines.
+/// Errors: only those of the writer, which may already have a part of the lines.
 pub fn report_spans<A: Allocator, W: Write>(
     alloc: A,
     name: &str,
@@ -45,7 +44,7 @@ pub fn report_spans<A: Allocator, W: Write>(
     }
 }
 
-// Writes the line of what was found and one for each of its spans, and returns whether it has a size.
+// Writes the line for a result and one for each of its spans, and returns whether it has a size.
 fn write_trace<A: Allocator, W: Write>(
     name: &str,
     trace: Trace<A>,
@@ -76,7 +75,7 @@ fn write_spans<W: Write>(spans: &[Span], writer: &mut W) -> io::Result<()>
     Ok(())
 }
 
-// Writes the line of a span.
+// Writes the line for a span.
 fn write_span<W: Write>(span: &Span, writer: &mut W) -> io::Result<()>
     ensures { OnOk result (Appends (W.contents writer.old) (W.contents writer.new) (span_line span.now)) }
 {
@@ -84,7 +83,7 @@ fn write_span<W: Write>(span: &Span, writer: &mut W) -> io::Result<()>
     writeln!(writer, "  {start}+{len}")
 }
 
-// Writes the line of what was found, a size beside a type, and returns whether it is a size.
+// Writes the line for a result, in which a size comes with a type, and returns whether it is a size.
 fn write_line<W: Write>(
     name: &str,
     kind: Option<ImageType>,
@@ -103,7 +102,7 @@ fn write_line<W: Write>(
     }
 }
 
-/// Writes the line of an image's type and size, and returns true.
+/// Writes the line for an image's type and size, and returns true.
 fn write_size<W: Write>(
     name: &str,
     image: ImageType,
@@ -119,7 +118,7 @@ fn write_size<W: Write>(
     Ok(true)
 }
 
-/// Writes the line of a refusal, and returns false.
+/// Writes the line for an error, and returns false.
 pub fn write_refusal<W: Write>(name: &str, error: &ImageError, writer: &mut W) -> io::Result<bool>
     ensures text { OnOk result (IfSome (error_text error.now)
         (λ text. Appends (W.contents writer.old) (W.contents writer.new) (refused_line name.now text))) }
@@ -133,7 +132,7 @@ pub fn write_refusal<W: Write>(name: &str, error: &ImageError, writer: &mut W) -
     Ok(false)
 }
 
-// The error of a refusal that is a fault. Every other refusal has a text that is stated.
+// The `io::Error` of a `Fault`. The text of every other error is specified.
 fn fault_of(error: &ImageError) -> Option<&io::Error>
     ensures { MatchOption result (IsSome (error_text error.now)) (λ fault. error.now ≡ IoError (Fault fault.now)) }
 {
@@ -143,8 +142,8 @@ fn fault_of(error: &ImageError) -> Option<&io::Error>
     }
 }
 
-// Writes the line of a fault. The library does not state the text of an `io::Error`, so the text is stored first, and
-// the contract names what was stored. A message has at most 256 bytes, and the number of the system's error follows it.
+// Writes the line for a fault. The library does not specify the text of an `io::Error`, so the text is stored first, and the
+// contract names what was stored. A message has at most 256 bytes, and the system's error number comes after it.
 fn write_fault<W: Write>(name: &str, fault: &io::Error, writer: &mut W) -> io::Result<()>
     ensures { OnOk result ((text : List ℕ) × Appends (W.contents writer.old) (W.contents writer.new) (refused_line name.now text)) }
 {
@@ -153,7 +152,7 @@ fn write_fault<W: Write>(name: &str, fault: &io::Error, writer: &mut W) -> io::R
     writeln!(writer, "{name}: error: {text}")
 }
 
-/// What the program ends with behind so many files: 0 where each was sized.
+/// The program's exit status after `files` files: 0 if each has a size, 1 if one has none, and 2 without files.
 pub fn status(files: usize, refused: bool) -> u8
     ensures { result ≡ exit_status files refused }
 {

@@ -1,4 +1,4 @@
-//! The lines of many names, and what the program ends with.
+//! The lines for many names, and the program's exit status.
 ghost use Rattle.std.specs.Prelude.{◌≡◌, ℕ, ◌<◌, List, Option, Result, Ok, IfOk, IfErr, IsOk, OnOk, codes, false, length, map};
 ghost use Rattle.std.specs.Io.KnownBytes.{Appends};
 ghost use Rattle.imagesize_probe.specs.Line.{refused_line};
@@ -11,34 +11,34 @@ use imagesize::{ImageResult, Told};
 use std::alloc::{Allocator, Global};
 use std::io::{self, Write};
 
-/// What opens a reader by its name.
+/// Opens readers by name.
 pub trait Open {
-    /// What reads the bytes behind a name.
+    /// The reader for a name.
     type Reader: Told;
 
-    /// What is behind each name: bytes that are read from the first on with no fault, or why there are none.
-    /// Or nothing is told.
+    /// What each name has: bytes that are read from the first one on without a fault, or an error. `None` if this is not
+    /// known.
     ghost known: { Self → Option (List ℕ → Result (List ℕ) ImageError) };
 
-    /// Opens what is behind a name.
+    /// Opens the reader for a name.
     fn open(&mut self, name: &str) -> ImageResult<Self::Reader>
         ensures opens { OpensTo Self.Reader.telling (known self.old) name.now result }
         ensures keeps { known self.new ≡ known self.old };
 
-    /// The bytes behind a name, one more at most than those whose spans are shown.
+    /// The bytes for a name, at most one more than the greatest number whose spans are shown.
     fn load(&mut self, name: &str) -> ImageResult<Vec<u8>>
         ensures loads { IfOk result (λ bytes. Loads (known self.old) name.now bytes.items) }
         ensures refuses { IfErr result (LoadsNone (known self.old) name.now) }
         ensures keeps { known self.new ≡ known self.old };
 }
 
-/// How many bytes a file may have whose spans are shown.
+/// The greatest length in bytes of a file whose spans are shown.
 pub const WHOLE: usize = 16_777_216;
 
-/// Writes a line for each name, out before the next name is opened, and returns the program's status. Where the first
-/// argument is `--spans`, the others are the names, and the spans of each stand below its line.
+/// Writes a line for each name, flushed before the next name is opened, and returns the program's status. If the first
+/// argument is `--spans`, the others are the names, and the spans of each come below its line.
 ///
-/// Errors: those of the output, at once. Where the other output fails, the status still says what it would.
+/// Errors: those of `output`, at once. If `errors` fails, the status is the same.
 pub fn run<O: Open, W: Write, E: Write>(
     alloc: Global,
     arguments: &[String],
@@ -49,7 +49,7 @@ pub fn run<O: Open, W: Write, E: Write>(
     ensures runs { IfOk result
         (RunsWith (O.known opener.old) (map string_bytes arguments.now) (W.contents output.old) (W.contents output.new)) }
 
-    // Where none is named, no output fails it; and where one is, nothing is written to the other output.
+    // Without a name, no failing output changes the status. With one, nothing is written to `errors`.
     ensures unnamed { length (names_in (map string_bytes arguments.now)) ≡ 0 → result ≡ Ok 2 }
     ensures quiet { 0 < length (names_in (map string_bytes arguments.now)) → errors.new ≡ errors.old }
 {
@@ -73,7 +73,7 @@ fn named(arguments: &[String]) -> (bool, &[String])
     }
 }
 
-// Writes the lines of each name, out before the next name is opened, and returns whether one was refused.
+// Writes the lines for each name, flushed before the next name is opened, and returns whether one of them has no size.
 fn write_lines<O: Open, W: Write>(
     alloc: Global,
     spans: bool,
@@ -94,7 +94,7 @@ fn write_lines<O: Open, W: Write>(
     Ok(refused)
 }
 
-// Writes the lines of a name, and returns whether what is behind it was sized.
+// Writes the lines for a name, and returns whether it has a size.
 fn write_named<O: Open, W: Write>(
     alloc: Global,
     spans: bool,
@@ -112,7 +112,7 @@ fn write_named<O: Open, W: Write>(
     }
 }
 
-// Writes the line of a name, and returns whether what is behind it was sized.
+// Writes the line for a name, and returns whether it has a size.
 fn write_line<O: Open, W: Write>(name: &str, opener: &mut O, output: &mut W) -> io::Result<bool>
     ensures line { IfOk result (WritesLine (O.known opener.old) name.now (W.contents output.old) (W.contents output.new)) }
     ensures keeps { O.known opener.new ≡ O.known opener.old }
@@ -123,7 +123,7 @@ fn write_line<O: Open, W: Write>(name: &str, opener: &mut O, output: &mut W) -> 
     }
 }
 
-// Writes the line of a name and its spans, and returns whether what is behind it was sized.
+// Writes the line for a name and its spans, and returns whether it has a size.
 fn write_with_spans<O: Open, W: Write>(
     alloc: Global,
     name: &str,
@@ -139,7 +139,7 @@ fn write_with_spans<O: Open, W: Write>(
     }
 }
 
-// Writes the line of a name and its bytes and their spans, where there are not too many of them.
+// Writes the line and the spans for the bytes of a name, unless these are too many.
 fn write_whole<A: Allocator, W: Write>(
     alloc: A,
     name: &str,
@@ -154,7 +154,7 @@ fn write_whole<A: Allocator, W: Write>(
     report_spans(alloc, name, data, output)
 }
 
-// Writes the line of a file that is too long, and returns false.
+// Writes the line for a file that is too long, and returns false.
 fn write_too_long<W: Write>(name: &str, output: &mut W) -> io::Result<bool>
     ensures text { OnOk result (Appends (W.contents output.old) (W.contents output.new)
         (refused_line name.now (codes "file is longer than 16777216 bytes"))) }
@@ -164,7 +164,7 @@ fn write_too_long<W: Write>(name: &str, output: &mut W) -> io::Result<bool>
     Ok(false)
 }
 
-/// What the program ends with: its status, or 1 where its output failed.
+/// The program's exit status: the status of the run, or 1 if its output failed.
 pub fn exit_code(ended: io::Result<u8>) -> u8
     ensures { result ≡ exit_code ended }
 {

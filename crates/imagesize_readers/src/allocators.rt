@@ -1,25 +1,25 @@
-//! Allocators that do what memory seldom does.
+//! Allocators that do what memory rarely does.
 
 use std::alloc::{AllocError, Allocator};
 use std::cell::Cell;
 
-/// Gives the memory of another allocator, refuses one call, and knows how many blocks are out.
+/// Passes calls on to another allocator, makes one of them fail, and counts the blocks that are allocated.
 pub struct Refusing<A: Allocator> {
     inner: A,
     book: Cell<Book>,
 }
 
-// What was given and refused.
+// What was allocated, and whether a call failed.
 #[derive(Clone, Copy)]
 struct Book {
-    // How many blocks are given before a call is refused; None where one was.
+    // How many calls succeed before one fails; `None` after that.
     left: Option<u64>,
-    // How many blocks are out.
+    // How many blocks are allocated.
     out: u64,
 }
 
 impl<A: Allocator> Refusing<A> {
-    /// Refuses the call before which so many are not refused, and none behind it.
+    /// Lets `left` calls succeed, then one fail, and all later ones succeed.
     pub fn new(inner: A, left: u64) -> Refusing<A> {
         Refusing {
             inner,
@@ -30,12 +30,12 @@ impl<A: Allocator> Refusing<A> {
         }
     }
 
-    /// Whether a call was refused.
+    /// Whether a call failed.
     pub fn has_refused(&self) -> bool {
         self.book.get().left.is_none()
     }
 
-    /// How many blocks have not come back.
+    /// How many blocks were not freed.
     pub fn out(&self) -> u64 {
         self.book.get().out
     }
@@ -47,7 +47,7 @@ impl<A: Allocator> Drop for Refusing<A> {
     }
 }
 
-// Notes a call, and returns whether it is refused.
+// Counts a call, and returns whether it fails.
 fn refuses(book: &Cell<Book>) -> bool {
     let Book { left, out } = book.get();
     if left == Some(0) {
@@ -61,7 +61,7 @@ fn refuses(book: &Cell<Book>) -> bool {
     false
 }
 
-// Notes a block that comes back.
+// Counts a freed block.
 fn take_back(book: &Cell<Book>) {
     let Book { left, out } = book.get();
     book.set(Book {

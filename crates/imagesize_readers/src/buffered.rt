@@ -1,5 +1,5 @@
-//! Buffered readers keep their block where a place lies in it, and one that keeps its place calls the reader below no
-//! more than it must.
+//! Buffered readers keep their block if it has the offset of a seek. One that keeps track of its offset calls the inner
+//! reader no more than needed.
 
 use imagesize_io::{KeptReader, Stop, Told};
 use std::io::{self, BufReader, Cursor, ErrorKind, Read, Seek, SeekFrom};
@@ -36,7 +36,7 @@ impl Seek for Counted<'_> {
     }
 }
 
-// Walks over a hundred places of so many bytes that are so far apart.
+// Reads at a hundred offsets `step` bytes apart, in an input of `length` bytes.
 fn walk<R: Told>(rt: &impl Abort, reader: &mut R, length: u64, step: u64) -> Result<(), Fail> {
     assert_eq!(rt; reader.seek_told(SeekFrom::Current(0))?, 0);
     assert_eq!(rt; reader.seek_told(SeekFrom::End(0))?, length);
@@ -66,7 +66,7 @@ fn a_walk_in_a_block_fetches_it_once(rt: HostRuntime) -> Result<(), Fail> {
     Ok(())
 }
 
-// The calls of the reader below on a walk over so many bytes by a reader that keeps its place.
+// The calls of the inner reader while a reader that keeps track of its offset makes this walk.
 fn made_on_walk<H: AllocGlobal + Abort>(rt: &H, length: usize, step: u64) -> Result<Made, Fail> {
     let bytes = Vec::from_elem(rt.alloc(), 7u8, length)?;
     let mut made = NONE;

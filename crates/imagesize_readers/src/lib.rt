@@ -1,5 +1,5 @@
-//! Readers that cut, count, interrupt, fail, lie and never end, and memory that is refused: what tests stand on. Its own
-//! tests are those of what the formats stand on: words and lines, buffered readers, and the texts of refusals.
+//! Readers that cut, count, are interrupted, fail, lie or never end, and allocators that fail: the tools of the tests. Its
+//! own tests are for what the formats need: words and lines, buffered readers, and the texts of errors.
 #![tactic(auto)]
 
 pub mod allocators;

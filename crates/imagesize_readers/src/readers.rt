@@ -1,5 +1,5 @@
-//! Readers that do what few files do.
-ghost use Rattle.std.specs.Prelude.{◌≡◌, ◌≢◌, ℕ, pos, zero, ◌+◌, ◌-◌, ◌%◌, ◌^◌, ◌<◌, ◌≤◌, min, length, slice_get, Option, None, Some, Ok, Err, IfOk, IfErr, IsErr, true, false, not};
+//! Readers that do what files rarely do.
+ghost use Rattle.std.specs.Prelude.{◌≡◌, ◌≢◌, ℕ, pos, zero, ◌+◌, ◌-◌, ◌%◌, ◌^◌, ◌<◌, ◌≤◌, min, length, slice_get, Option, None, Some, Ok, Err, IfOk, IfErr, true, false, not};
 ghost use Rattle.std.specs.Io.Cursor.{cursor_inner, cursor_position};
 ghost use Rattle.std.specs.declared.io.Error.{Error};
 ghost use Rattle.imagesize_io.specs.Telling.{ReadTells, SeekTells, count_after, failure_after, failure_after_read, may_fail};
@@ -8,19 +8,19 @@ ghost use Rattle.imagesize_readers.specs.Readers.{interrupted_more, halting_tell
 use imagesize_io::{Stop, Told};
 use std::io::{self, Cursor, ErrorKind, SeekFrom};
 
-/// Gives what another reader gives, in pieces of lengths that are listed, over and over.
+/// Gives what another reader gives, in pieces of the listed lengths, over and over.
 #[derive(Drop)]
 pub struct Cutting<'a, R: Told> {
     /// The other reader.
     pub reader: R,
-    /// How many bytes a read gives at most; one where this is none.
+    /// How many bytes each read gives at most; one for a length of 0.
     pub lengths: &'a [usize],
-    /// Which of them is next; behind the last one a read gives one byte.
+    /// The index of the next length. After the last one a read gives one byte.
     pub next: usize,
 }
 
 impl<R: Told> Cutting<'static, R> {
-    /// Gives what another reader gives, one byte a read.
+    /// Gives what another reader gives, one byte per read.
     pub fn one_byte(reader: R) -> Self
         ensures reader { result.reader ≡ reader }
         ensures lengths { length result.lengths.now ≡ 0 }
@@ -72,7 +72,7 @@ impl<R: Told> Told for Cutting<'_, R> {
 pub struct Counting<'a, R: Told> {
     /// The other reader.
     pub reader: R,
-    /// How many bytes were given. A read that this cannot count is a fault.
+    /// How many bytes were given. A read that would overflow the count is a fault.
     pub count: &'a mut u64,
 }
 
@@ -147,14 +147,14 @@ impl<R: Told> Told for Calls<'_, R> {
     }
 }
 
-/// Gives what another reader gives, when some reads were interrupted.
+/// Gives what another reader gives, after some reads were interrupted.
 #[derive(Drop)]
 pub struct Interrupted<R: Told> {
     /// The other reader.
     pub reader: R,
     /// How many reads are still interrupted.
     pub left: u64,
-    /// What interrupts them.
+    /// The error of an interrupted read.
     pub error: io::Error,
 }
 
@@ -184,10 +184,10 @@ impl<R: Told> Told for Interrupted<R> {
     }
 }
 
-/// A cursor of which every second read is interrupted, until the last interruption.
+/// A cursor that interrupts every second read, until the last interruption.
 #[derive(Drop)]
 pub struct Halting<'a> {
-    /// The cursor, and what interrupts its reads.
+    /// The cursor, with the error of its interrupted reads.
     pub reader: Interrupted<Cursor<&'a [u8]>>,
     /// Whether the next read is interrupted.
     pub halts: bool,
@@ -223,21 +223,21 @@ impl Told for Halting<'_> {
     }
 }
 
-/// Does what another reader does, until a read or a seek fails. The calls behind that one do not.
+/// Does what another reader does, until one read or seek fails. Later calls succeed again.
 #[derive(Drop)]
 pub struct Failing<R: Told> {
     /// The other reader.
     pub reader: R,
-    /// How many reads and seeks do not fail before one does; None where it has failed.
+    /// How many reads and seeks succeed before one fails; `None` after that.
     pub left: Option<u64>,
-    /// Why it fails.
+    /// The error of the call that fails.
     pub error: io::Error,
     /// The error of the last call that failed, of this reader or of the other one.
     pub last: Option<io::Error>,
 }
 
 impl<R: Told> Failing<R> {
-    // The failure, where it is its turn.
+    // Fails if it is time to.
     fn step(&mut self) -> io::Result<()>
         ensures fails { result ≡ failure_at self.old.left self.old.error }
         ensures keeps { self.new ≡ record self.old { left = left_after self.old.left } }
@@ -303,14 +303,14 @@ impl<R: Told> Told for Failing<R> {
     }
 }
 
-/// Gives what another reader gives, and tells a length of its own.
+/// Gives what another reader gives, and reports a length of its own.
 #[derive(Drop)]
 pub struct Claiming<R: Told> {
     /// The other reader.
     pub reader: R,
-    /// The length that it tells.
+    /// The length that it reports.
     pub told: u64,
-    /// Whether it goes to that length as its end, and not to the other's end.
+    /// Whether a seek to the end goes to that length, and not to the end of the other reader.
     pub goes_there: bool,
 }
 
@@ -358,19 +358,19 @@ impl<R: Told> Told for Claiming<R> {
     }
 }
 
-/// Bytes without end: a head, and then a part over and over. It goes wherever it is asked to go.
+/// Bytes without end: a head, and then a part over and over. Every seek to an offset from the start succeeds.
 #[derive(Drop)]
 pub struct Endless<'a> {
     /// The first bytes.
     pub head: &'a [u8],
-    /// The bytes behind them, which repeat; zeros where there are none.
+    /// The bytes after the head, which repeat; zeros if there are none.
     pub part: &'a [u8],
-    /// Where it stands.
+    /// Its offset.
     pub place: u64,
 }
 
 impl Endless<'_> {
-    // The byte at a place.
+    // The byte at an offset.
     fn byte_at(&self, place: u64) -> u8
         ensures head { place < length self.now.head.now → slice_get self.now.head.now place ≡ Some result }
         ensures part { length self.now.head.now ≤ place → 0 < length self.now.part.now →

@@ -1,4 +1,4 @@
-//! The texts of refusals.
+//! The texts of errors.
 
 use imagesize_source::{ImageError, Reason};
 use std::fmt::Display;

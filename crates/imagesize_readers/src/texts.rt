@@ -1,4 +1,4 @@
-//! A text is the same over a slice and over a reader, which takes none of the bytes behind it.
+//! A text is the same over a slice and over a reader, which reads no byte after it.
 
 use imagesize_io::reader::{Origin, ReaderSource, open};
 use imagesize_source::Text;
@@ -8,7 +8,7 @@ use std::io::Cursor;
 use std::process::Abort;
 use std::test::Fail;
 
-// The text at a place of a slice, its length, and how much a reader of the same bytes takes for it.
+// Checks the text at an offset of a slice, its length, and how many bytes a reader of the same bytes reads for it.
 fn check_text(
     rt: &impl Abort,
     bytes: &[u8],

@@ -2,14 +2,14 @@
 use Rattle.std.proofs.Common.{Bool, ◌≡◌, ℕ, zero, suc, ◌+◌, ◌*◌, ◌<◌, ◌≤◌, List, [], ◌∷◌, ◌++◌, length, Some, Result, Ok, Err, inl, refl, sym, ap, ◌∙◌, subst, arith}
 use Rattle.std.proofs.Math.Nat.{mul-add}
 use Rattle.imagesize_source.specs.declared.halt.Halt.{Halt}
-use Rattle.imagesize_source.specs.Agreement.{Agrees, Alike, IsLocal}
+use Rattle.imagesize_source.specs.Agreement.{Alike, IsLocal}
 use Rattle.imagesize_source.specs.Chain.{Said, Decided, Next, Chain, Along, start, next_record, verdict, records_from, records, chain_from, chain_at, Advances}
 use Rattle.imagesize_source.specs.Counts.{AtMost}
 use Rattle.imagesize_source.specs.Extension.{Plain, Lasts}
 use Rattle.imagesize_source.specs.Reading.{and_then, put_behind}
 use Rattle.imagesize_source.specs.State.{total}
 use Rattle.imagesize_source.proofs.Chains.{chain_unfolds, follows, chain_next, chain_stop, records_next, records_stop}
-use Rattle.imagesize_source.proofs.Agreement.{AllRead, alike_layout, alike_then, local, agrees-left, agrees-right}
+use Rattle.imagesize_source.proofs.Agreement.{AllRead, alike_layout, alike_then, local}
 use Rattle.imagesize_source.proofs.Counts.{at_most}
 use Rattle.imagesize_source.proofs.Extension.{more}
 use Rattle.imagesize_source.proofs.Runs.{total-append}
@@ -33,40 +33,6 @@ module _ {C X : Type 0} (c : Chain C X) (d : List ℕ) where
     by_fuel : (k : ℕ) (t : Along C) → length d ≤ t.place + k → P t
     by_fuel zero t h = by_record t (next_record c d t).answer refl (λ u up below. absurd (omega arith))
     by_fuel (suc k) t h = by_record t (next_record c d t).answer refl (λ u up below. by_fuel k u (omega arith))
-
--- Locality: an input that agrees on the marks of a chain has its answer, its marks and as many records.
-module _ {C X : Type 0} (c : Chain C X) (d e : List ℕ) (adv : Advances c d) (adv_e : Advances c e) where
-  same_record : (t : Along C) → Agrees d e (next_record c d t).marks → next_record c e t ≡ next_record c d t
-  same_record t a = local d e (c.said t.held t.place) a
-
-  -- from some records on
-  pub chain_local_from : (t : Along C) → Agrees d e (chain_from c d t).marks → (chain_from c e t ≡ chain_from c d t)
-      × (records_from c e t ≡ records_from c d t)
-  chain_local_from = chain_induction c d (λ t. Agrees d e (chain_from c d t).marks → (chain_from c e t ≡ chain_from c d t)
-      × (records_from c e t ≡ records_from c d t)) adv
-      (λ t v place is later a.
-      let u : Along C = record { held = t.held ++ v ∷ []; place = place } in
-      let all : Agrees d e ((next_record c d t).marks ++ (chain_from c d u).marks) = subst (λ w. Agrees d e w.marks)
-      (chain_next c d t v place adv is) a in
-      let here : next_record c e t ≡ next_record c d t = same_record t (agrees-left (next_record c d t).marks (chain_from c d u).marks
-      all) in
-      let is_e : (next_record c e t).answer ≡ Ok (Next v place) = ap (λ w. w.answer) here ∙ is in
-      let rest = later (agrees-right (next_record c d t).marks (chain_from c d u).marks all) in (
-        chain_next c e t v place adv_e is_e ∙ ap (λ w. put_behind w.marks (chain_from c e u)) here ∙ ap (put_behind (next_record c d t).marks)
-            rest.0 ∙ sym (chain_next c d t v place adv is),
-        records_next c e t v place adv_e is_e ∙ ap (λ n. n + 1) rest.1 ∙ sym (records_next c d t v place adv is),
-      ))
-      (λ t r is a.
-      let all : Agrees d e (next_record c d t).marks = subst (λ w. Agrees d e w.marks) (chain_stop c d t r is) a in
-      let here : next_record c e t ≡ next_record c d t = same_record t all in
-      let is_e : verdict (next_record c e t).answer ≡ Some r = ap (λ w. verdict w.answer) here ∙ is in (
-        chain_stop c e t r is_e ∙ ap (λ w. record { answer = r; marks = w.marks }) here ∙ sym (chain_stop c d t r is),
-        records_stop c e t r is_e ∙ sym (records_stop c d t r is),
-      ))
-
-  -- the whole chain
-  pub chain_local : Agrees d e (chain_at c d).marks → (chain_at c e ≡ chain_at c d) × (records c e ≡ records c d)
-  chain_local a = chain_local_from (start c) a
 
 said_is : {A : Type 0} {x y : A} → ◌≡◌ {A = Result A Halt} (Ok x) (Ok y) → x ≡ y
 said_is e = cc

@@ -24,14 +24,6 @@ pub failed_is : (h : Halt) → is_failure h ≡ true → h ≡ halt.Failed
 failed_is halt.Failed is = refl
 failed_is _ is = absurd cc
 
-pub spent_is : (h : Halt) → is_spent h ≡ true → h ≡ halt.Spent
-spent_is halt.Spent is = refl
-spent_is _ is = absurd cc
-
-pub memory_is : (h : Halt) → is_memory h ≡ true → h ≡ halt.Memory
-memory_is halt.Memory is = refl
-memory_is _ is = absurd cc
-
 -- where nothing stopped a result, its error is that of the refusal, which is no stop
 pub stated_same : {X : Type 0} (failure : ImageError) (budget : ℕ) (r : Result X Halt) → is_stopped r ≡ false
     → with_error failure budget r ≡ stated r

@@ -8,13 +8,12 @@ use Rattle.std.proofs.lemmas.List.{length-append, length-take, length-drop, get_
 use Rattle.std.proofs.lemmas.List.FromFn.{length-map-range_with_len, get_or-map-range_with_len}
 use Rattle.std.proofs.Math.Seq.{drop-cons, take-add, take-append_seam, drop-append_seam}
 use Rattle.std.specs.Char.{is_ascii_whitespace}
-use Rattle.std.specs.declared.io.Error.{Error}
 use Rattle.imagesize_source.specs.declared.halt.Halt.TheVariants.{Failed}
 use Rattle.imagesize_source.specs.declared.source.parts.Missing.{Missing}
 use Rattle.imagesize_source.specs.declared.span.Span.{Span}
 use Rattle.imagesize_source.specs.declared.text.Text.{Text}
 use Rattle.imagesize_source.specs.declared.text.Text.TheVariants.{Line, Word}
-use Rattle.imagesize_source.specs.Agreement.{Agrees, is_covered, has_place}
+use Rattle.imagesize_source.specs.Agreement.{is_covered, has_place}
 use Rattle.imagesize_source.specs.Input.{part, span_at, span_of}
 use Rattle.imagesize_source.specs.Known.{AllKnown, HasParts, byte_of, bytes_of, filled_input, byte_in_parts, parts_state, reaches, length_within}
 use Rattle.imagesize_source.specs.Reading.{Reads, part_read, text_part, text_read}
@@ -123,21 +122,6 @@ covered_known d (s ∷ spans) bytes place parts below is = by_test (reaches (len
 some_of : (o : Option ℕ) → is_some o ≡ true → (b : ℕ) × (o ≡ Some b)
 some_of None is = absurd cc
 some_of (Some b) is = (b, refl)
-
--- an input that has the parts agrees with the filled one where the parts have it
-pub known_same : (d : List ℕ) (n : ℕ) (spans : List Span) (bytes : List ℕ) (place : ℕ) → HasParts d n spans bytes
-    → is_some (byte_in_parts n spans bytes place) ≡ true → slice_index d place ≡ slice_index (filled_input n spans bytes) place
-known_same d n spans bytes place has is =
-    let b = some_of (byte_in_parts n spans bytes place) is in
-    has_known d spans bytes place b.0 has.bytes (ap (λ m. byte_in_parts m spans bytes place) has.as_long ∙ b.1)
-    ∙ sym (filled_at n spans bytes place (known_below n spans bytes place is) ∙ ap (λ o. unwrap_or o 0) b.1)
-
-pub known_agrees : (d : List ℕ) (n : ℕ) (spans : List Span) (bytes : List ℕ) (marks : List Span) → HasParts d n spans bytes
-    → AllKnown n spans bytes marks → Agrees (filled_input n spans bytes) d marks
-known_agrees d n spans bytes marks has all = record {
-  as_long = has.as_long ∙ sym (length-filled_input n spans bytes);
-  same_byte = λ place here. known_same d n spans bytes place has (all place here);
-}
 
 -- no part has a place that is not known
 pub unknown_free : (d : List ℕ) (n : ℕ) (spans : List Span) (bytes : List ℕ) (place : ℕ) → HasParts d n spans bytes → place < n
@@ -434,9 +418,6 @@ module _ (n : ℕ) (spans : List Span) (bytes front : List ℕ)
   pub front_fits : (place count : ℕ) → place + count ≤ length front → count ≡ min count (n - place)
   front_fits place count fits = omega (arith, fits, front_long)
 
-  pub front_seen : (place count : ℕ) → place + count ≤ length front → (i : ℕ) → i < count → is_some (byte_in_parts n spans bytes (place + i)) ≡ true
-  front_seen place count fits i below = ap is_some (is (place + i) (omega (arith, fits, below)))
-
   -- and is a part of the filled input
   pub front_part : (found : List ℕ) (place count : ℕ) → place + count ≤ length front → found ≡ part front place count → length found ≡ count
       → take count found ≡ part (filled_input n spans bytes) place count
@@ -559,13 +540,6 @@ module _ (n : ℕ) (spans : List Span) (k : ℕ) (other : Span) (bytes rest run 
       let some : 0 < m = omega (arith, so_far.0, fits) in
       ap is_some (first ∙ known_here n spans k other rest place here yes)
       ∙ front_none rest (place - start) m some (ap length (sym runs) ∙ none)
-
-pub none_at_all : (n : ℕ) (spans : List Span) (k : ℕ) (bytes rest : List ℕ) (place most : ℕ) → length spans ≤ k
-    → NoneBefore n spans k bytes rest place most → is_some (byte_in_parts n spans bytes place) ≡ false
-none_at_all n spans k bytes rest place most far so_far =
-    let at : place + 0 ≡ place = omega arith in
-    let first = subst (λ p. byte_in_parts n spans bytes p ≡ byte_in_parts n (drop k spans) rest p) at (so_far.1 0 so_far.0) in
-    ap is_some (first ∙ ap (λ ss. byte_in_parts n ss rest place) (drop_all k spans far))
 
 -- what stands behind so many bytes, by the slice that the code takes
 pub slice_behind : (bs : List ℕ) (k : ℕ) → take (length bs - min k (length bs)) (drop (min k (length bs)) bs) ≡ drop k bs

@@ -20,8 +20,10 @@ pub mod PastTheEnd
 pub mod Reached
 pub mod Recordings
 pub mod Runs
+pub mod Sharing
 pub mod Slices
 pub mod Spends
+pub mod Strides
 pub mod Tests
 pub mod Texts
 pub mod Walks

@@ -27,8 +27,9 @@ saturated_by {a} f other place beyond h = runs_as (f place a.held.input) h (λ h
 part_beyond : (d : List ℕ) (place k : ℕ) → length d ≤ place → part_read d place k ≡ gives []
 part_beyond d place k h = rw (no_part d place k h, no_span d place k h) refl
 
-whole_beyond : (d : List ℕ) (place k : ℕ) → length d ≤ place → layout_reads d (if_there place k done) ≡ gives (whole k [])
-whole_beyond d place k h = rw (no_part d place k h, no_span d place k h) refl
+pub there_beyond : {X : Type 0} (d : List ℕ) (place k : ℕ) (f : Option (List ℕ) → Layout X) → length d ≤ place
+    → layout_reads d (if_there place k f) ≡ layout_reads d (f (whole k []))
+there_beyond d place k f h = rw (no_part d place k h, no_span d place k h) refl
 
 bytes_at_beyond : (d : List ℕ) (place k : ℕ) → length d ≤ place → 0 < k → bytes_at d place k ≡ Err Ended
 unfolding bytes_at
@@ -54,7 +55,7 @@ part_saturated place k h = saturated_by (λ p d. part_read d p k) (gives []) pla
 pub whole_saturated : {a b : State} {r : Result (Option (List ℕ)) Halt} (place at k : ℕ)
     → Runs a b r (layout_reads a.held.input (if_there at k done)) → at ≡ min place (2 ^ 64 - 1) → Runs a b r (layout_reads a.held.input (if_there place k done))
 whole_saturated place at k h is = saturated_by (λ p d. layout_reads d (if_there p k done)) (gives (whole k [])) place
-    (λ d p far. whole_beyond d p k far) (rw is at h)
+    (λ d p far. there_beyond d p k done far) (rw is at h)
 
 pub bytes_saturated : {a b : State} {r : Result (List ℕ) Halt} (place at k : ℕ) → 0 < k
     → Runs a b r (bytes_read a.held.input at k) → at ≡ min place (2 ^ 64 - 1) → Runs a b r (bytes_read a.held.input place k)

@@ -8,7 +8,7 @@ use Rattle.imagesize_source.specs.Input.{part, span_at, span_of}
 use Rattle.imagesize_source.specs.Numbers.{number}
 use Rattle.imagesize_source.specs.declared.halt.Halt.{Halt}
 use Rattle.imagesize_source.specs.declared.halt.Halt.TheVariants.{Ended}
-use Rattle.imagesize_source.specs.Reading.{Reads, go_on, put_behind, and_then, bytes_at, number_at, part_read, bytes_read, number_read, map_answer, is_stopped, is_faulted, is_stop, is_failure, is_spent, is_memory}
+use Rattle.imagesize_source.specs.Reading.{Reads, go_on, put_behind, and_then, bytes_at, number_at, part_read, bytes_read, number_read, map_answer, is_stopped, is_faulted, is_failure, is_spent, is_memory}
 use Rattle.std.specs.Prelude.{Option, None, Some, IfSome, IsSomeAnd, option_map}
 use Rattle.imagesize_source.specs.State.{State, Held, Runs, EndedBy, Misses, Missed, total, state_after, step}
 use Rattle.imagesize_source.proofs.Parts.{part_length}
@@ -17,15 +17,21 @@ or_false : (x y : Bool) → x || y ≡ false → (x ≡ false) × (y ≡ false)
 or_false true y is = absurd cc
 or_false false y is = (refl, is)
 
--- a refusal that a layout states is none of the ends of a call
-pub plainly_ended : (b : State) (halt : Halt) → is_stop halt ≡ false → EndedBy b halt
-plainly_ended b halt is =
-    let no = or_false (is_failure halt || is_spent halt) (is_memory halt) is in
+-- a result that nothing stopped is none of the ends of a call
+pub plain_end : {X : Type 0} (b : State) (r : Result X Halt) → is_stopped r ≡ false → IfErr r (EndedBy b)
+plain_end b (Ok x) goes_on = tt
+plain_end b (Err halt) goes_on =
+    let no = or_false (is_failure halt || is_spent halt) (is_memory halt) goes_on in
     let none = or_false (is_failure halt) (is_spent halt) no.0 in record {
       budget = λ spent. absurd (let out = sym spent ∙ none.1 in cc);
       memory = λ refused. absurd (let out = sym refused ∙ no.1 in cc);
       fault = λ failed. absurd (let out = sym failed ∙ none.0 in cc);
     }
+
+pub without_fault : {X : Type 0} (r : Result X Halt) → is_stopped r ≡ false → is_faulted r ≡ false
+without_fault (Ok x) goes_on = refl
+without_fault (Err halt) goes_on =
+    (or_false (is_failure halt) (is_spent halt) (or_false (is_failure halt || is_spent halt) (is_memory halt) goes_on).0).0
 
 -- the same readings, answered otherwise where nothing stopped them
 pub answered : {X Y : Type 0} {a b : State} {x : X} {reads : Reads X} (r : Result Y Halt) (other : Reads Y) → Runs a b (Ok x) reads

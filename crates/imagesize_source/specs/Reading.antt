@@ -1,5 +1,5 @@
 -- What readings answer, and the spans that they saw.
-use Rattle.std.specs.Prelude.{ℕ, ◌-◌, Bool, true, false, ◌||◌, List, [], ◌++◌, length, nat_le, if◌then◌else◌, Result, Ok, Err, Option, None, Some}
+use Rattle.std.specs.Prelude.{ℕ, ◌-◌, Bool, true, false, ◌||◌, List, [], ◌++◌, length, nat_le, if◌then◌else◌, Result, Ok, Err}
 use Rattle.imagesize_source.specs.declared.halt.Halt.{Halt}
 use Rattle.imagesize_source.specs.declared.halt.Halt.TheVariants.{Ended, Failed, Memory, Spent}
 use Rattle.imagesize_source.specs.declared.span.Span.{Span}

@@ -1,9 +1,9 @@
 -- What a walk along a chain finds of a record, and the chains that it can follow.
-use Rattle.std.specs.Prelude.{◌≡◌, ℕ, ◌+◌, ◌≤◌, List, [], ◌∷◌, ◌++◌, length}
-use Rattle.imagesize_source.specs.declared.halt.Halt.TheVariants.{Ended}
+use Rattle.std.specs.Prelude.{◌≡◌, ℕ, ◌+◌, ◌≤◌, List, [], ◌∷◌, ◌++◌, length, Result}
+use Rattle.imagesize_source.specs.declared.halt.Halt.{Halt}
 use Rattle.imagesize_source.specs.Chain.{Said, Decided, Next, Chain, Advances}
 use Rattle.imagesize_source.specs.Layout.{Layout, layout_reads}
-use Rattle.imagesize_source.specs.Reading.{refuses}
+use Rattle.imagesize_source.specs.Reading.{map_answer}
 use Rattle.imagesize_source.specs.declared.walk.Found.{Found}
 use Rattle.imagesize_source.specs.declared.walk.Found.TheVariants as found
 
@@ -21,7 +21,11 @@ KeepsOn keeps held (Next v next) = keeps (held ++ v ∷ []) next
 abbrev pub chain_of : {C X : Type 0} → ℕ → (List C → ℕ → Layout (Said C X)) → Chain C X
 chain_of first said = record { first = first; said = said }
 
--- each record stands behind the one before, and none behind the end of the input is read
-pub record CanFollow {C X : Type 0} (c : Chain C X) : Type 0 where
-  pub advances : (d : List ℕ) → Advances c d
-  pub beyond : (held : List C) (place : ℕ) (d : List ℕ) → length d ≤ place → layout_reads d (c.said held place) ≡ refuses Ended
+-- each record stands behind the one before, in every input
+abbrev pub CanFollow : {C X : Type 0} → Chain C X → Type 0
+CanFollow c = (d : List ℕ) → Advances c d
+
+-- From the end of the input on a record has this verdict at every place, and reads nothing.
+abbrev pub EndsBy : {C X : Type 0} → (List C → ℕ → Layout (Said C X)) → List C → Result X Halt → Type 0
+EndsBy said held r = (d : List ℕ) (place : ℕ) → length d ≤ place
+    → layout_reads d (said held place) ≡ record { answer = map_answer Decided r; marks = [] }

@@ -1,18 +1,18 @@
-//! The numbers of bytes, in both orders.
+//! Numbers from bytes, in both byte orders.
 ghost use Rattle.std.specs.Prelude.{◌≡◌};
 ghost use Rattle.imagesize_source.specs.Numbers.{number};
 
 /// The order of a number's bytes.
 #[derive(Clone, Copy, Debug, PartialEq, Eq)]
 pub enum Endian {
-    /// The lowest byte first.
+    /// Little endian: the lowest byte first.
     Little,
-    /// The highest byte first.
+    /// Big endian: the highest byte first.
     Big,
 }
 
 impl Endian {
-    /// The number of two bytes.
+    /// The number that two bytes encode.
     #[inline(always)]
     #[tactic(auto, using(crate::proofs::Numbers::little_2, crate::proofs::Numbers::big_2))]
     pub fn u16(self, bytes: [u8; 2]) -> u16
@@ -24,7 +24,7 @@ impl Endian {
         }
     }
 
-    /// The number of three bytes.
+    /// The number that three bytes encode.
     #[inline(always)]
     #[tactic(auto, using(crate::proofs::Numbers::little_3, crate::proofs::Numbers::big_3))]
     pub fn u24(self, bytes: [u8; 3]) -> u32
@@ -37,7 +37,7 @@ impl Endian {
         }
     }
 
-    /// The number of four bytes.
+    /// The number that four bytes encode.
     #[inline(always)]
     #[tactic(auto, using(crate::proofs::Numbers::little_4, crate::proofs::Numbers::big_4))]
     pub fn u32(self, bytes: [u8; 4]) -> u32
@@ -49,7 +49,7 @@ impl Endian {
         }
     }
 
-    /// The number of eight bytes.
+    /// The number that eight bytes encode.
     #[inline(always)]
     #[tactic(auto, using(crate::proofs::Numbers::little_8, crate::proofs::Numbers::big_8))]
     pub fn u64(self, bytes: [u8; 8]) -> u64

@@ -1,46 +1,46 @@
-//! Why an input has no answer.
+//! Errors: why a call has no result.
 ghost use Rattle.std.specs.Prelude.{◌≡◌, [], ◌∷◌, encode_utf8};
 ghost use Rattle.imagesize_source.specs.Reason.{shown_byte};
 
 use std::error::Error;
 use std::{fmt, io};
 
-/// Why the reading of an input, or a layout, gave no answer.
+/// Why an input could not be read, or why its bytes break the format.
 #[derive(Debug, Drop)]
 pub enum Reason {
-    /// A read or a seek of the reader failed, and this is its error.
+    /// A read or a seek of the reader failed with this error.
     Fault(io::Error),
-    /// The input ends before bytes that the layout needs.
+    /// The input ends before bytes that the format needs.
     EndOfInput,
-    /// A HEIF property list holds no image size (`ispe`).
+    /// A HEIF property list contains no image size (`ispe`).
     NotEnoughData,
-    /// The call has taken the length of the input and 64 bytes more, which is all that it may take.
+    /// The call needs more bytes than its budget, which is the reported length of the input plus 64.
     BudgetSpent { budget: u64 },
-    /// Memory was refused.
+    /// An allocation failed.
     Memory,
-    /// A text has no delimiter in the bytes that it may have: `max_size` of a line or a name, and one fewer of a word.
+    /// No delimiter was found within `max_size` bytes of a line or a name, or within `max_size - 1` bytes of a word.
     NoDelimiter { max_size: usize },
-    /// A text is no UTF-8.
+    /// A text is not valid UTF-8.
     NotUtf8,
-    /// A HEIF box is smaller than its own head.
+    /// A HEIF box is smaller than its own header.
     InvalidHeifBoxSize { size: u32 },
-    /// A JPEG XL box is smaller than its own head.
+    /// A JPEG XL box is smaller than its own header.
     InvalidJxlBoxSize { tag: [u8; 4], size: u64 },
     /// The bytes found for a JPEG XL codestream do not begin with its signature.
     InvalidJxlSignature,
-    /// A TIFF begins with no known byte order, or with no known version.
+    /// A TIFF begins with an unknown byte order or an unknown version.
     InvalidTiffHeader,
     /// A BigTIFF has offsets of another size than 8 bytes.
     BigTiffOffsetSize,
-    /// The two bytes of a BigTIFF header that are always zero are not.
+    /// The two bytes of a BigTIFF header that must be zero are not.
     InvalidBigTiffHeader,
-    /// A TIFF's directory stands at place 0.
+    /// The offset of a TIFF's directory is 0.
     InvalidIfdOffset,
-    /// A TIFF entry has a field type that only BigTIFF knows.
+    /// A TIFF entry has a field type that only BigTIFF allows.
     IfdTypeForStandardTiff,
-    /// A TIFF entry has a field type that no TIFF knows.
+    /// A TIFF entry has an unknown field type.
     InvalidIfdType,
-    /// The input ends within a TIFF entry's value.
+    /// The input ends within the value of a TIFF entry.
     InvalidIfdValueLength,
     /// A TIFF directory ends before it has given a width and a height.
     NoDimensionsInIfd,
@@ -48,28 +48,28 @@ pub enum Reason {
     InvalidVp8Tag,
     /// An EXR header ends before a data window.
     DataWindowNotFound,
-    /// An HDR does not begin with its identifier.
+    /// An HDR file does not begin with its identifier.
     InvalidHdrIdentifier,
-    /// An HDR line that begins with an axis has not four words.
+    /// An HDR line that begins with an axis does not have four words.
     InvalidHdrDimensionsLine,
-    /// The second or the fourth word of an HDR's line of sizes is no number.
+    /// The second or the fourth word of an HDR's resolution line is not a number.
     HdrDimensionsNotFound,
-    /// The width or the height of a PNM is no number.
+    /// The width or the height of a PNM is not a number.
     PnmDimensionsNotFound,
 }
 
-/// Why a call has no answer.
+/// Why a call has no result.
 #[derive(Debug, Drop)]
 pub enum ImageError {
-    /// The input is of no type that is known.
+    /// The image type is unknown.
     NotSupported,
-    /// Read as a type, the input's records end before one gives the size.
+    /// The segments, chunks, boxes or entries of the image end, or are broken, before one gives the size.
     CorruptedImage,
-    /// A reading failed, or the bytes are none that the layout allows.
+    /// A read failed, or the bytes break the format.
     IoError(Reason),
 }
 
-/// What a call answers.
+/// What a call returns.
 pub type ImageResult<T> = Result<T, ImageError>;
 
 impl fmt::Display for Reason {
@@ -112,7 +112,7 @@ impl fmt::Display for Reason {
     }
 }
 
-// The four bytes that name a box. Prints those that ASCII can show, and `?` for each other.
+// The four bytes that name a box. Prints a byte as its ASCII character, or as `?` if ASCII cannot show it.
 #[derive(Clone, Copy)]
 struct Tag([u8; 4]);
 
@@ -130,7 +130,7 @@ impl fmt::Display for Tag {
     }
 }
 
-// The character that stands for a byte of a tag.
+// The character that is printed for a byte of a tag.
 fn show(byte: u8) -> char
     ensures { encode_utf8 result ≡ shown_byte byte ∷ [] }
 {

@@ -1,4 +1,4 @@
-//! What halts a reading, and the error that it ends a call with.
+//! Why a read returns early, and the error that the call then returns.
 ghost use Rattle.std.specs.Prelude.{◌≡◌, ◌<◌};
 ghost use Rattle.imagesize_source.specs.Halts.{error_by, with_error};
 ghost use Rattle.imagesize_source.specs.declared.error.ImageError.TheVariants as error;
@@ -6,28 +6,28 @@ ghost use Rattle.imagesize_source.specs.declared.error.ImageError.TheVariants as
 use crate::source::Source;
 use crate::{ImageError, ImageResult, Reason};
 
-/// Why a reading was halted, or which bytes no layout allows. What is large of an error (that of a call that failed, the budget) is
-/// kept by the source, and asked of it at last (`with_error`), so that what each reading on the way answers is small.
+/// Why a read returned early: it failed, or the bytes break the format. This type is kept small, since every read returns it.
+/// The source keeps the reader's own error and the budget until `with_error` fetches them.
 #[derive(Clone, Copy, Debug)]
 pub enum Halt {
-    /// A call of the reader failed, or a byte that is wanted is not known.
+    /// A call of the reader failed, or a requested byte is not known.
     Failed,
     /// The budget is spent.
     Spent,
-    /// Memory was refused.
+    /// An allocation failed.
     Memory,
-    /// The input ends before the last of the bytes.
+    /// The input ends before the last of the requested bytes.
     Ended,
-    /// The records end before one gives the size.
+    /// The segments, chunks, boxes or entries of the image end, or are broken, before one gives the size.
     Corrupted,
-    /// The first bytes are of no type that is known.
+    /// The first bytes are those of no known image type.
     NotSupported,
-    // What no layout allows: the `Reason` of the same name.
+    // The bytes break the format: see the `Reason` of the same name.
     NotEnoughData,
     NoDelimiter { max_size: u32 },
     NotUtf8,
     InvalidHeifBoxSize { size: u8 },
-    // The tag is the number of its four bytes, the first the highest: a halt without arrays is moved as one value.
+    // The tag's four bytes as a big-endian number: without arrays, a `Halt` is moved as one value.
     InvalidJxlBoxSize { size: u8, tag: u32 },
     InvalidJxlSignature,
     InvalidTiffHeader,
@@ -47,7 +47,8 @@ pub enum Halt {
 }
 
 impl Halt {
-    /// The error of this halt, where a call fails for this reason and no more bytes than the budget may be taken.
+    /// The error that a call returns for this value. `failure` is the error of a failed call of the reader, and `budget` is
+    /// in bytes.
     #[cold]
     #[inline(never)]
     pub fn error(self, failure: Reason, budget: u64) -> ImageError
@@ -89,7 +90,7 @@ impl Halt {
     }
 }
 
-/// The answer of a call, with the error of its halt.
+/// Turns the `Halt` of a failed call into the error that the caller sees.
 #[inline(always)]
 pub fn with_error<S: Source, T>(answer: Result<T, Halt>, source: &S) -> ImageResult<T>
     ensures { result ≡ with_error (S.state source.now).failure (S.state source.now).frame.budget answer }

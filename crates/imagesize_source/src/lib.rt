@@ -1,4 +1,4 @@
-//! How `imagesize` reads an input: readings by place, of slices and recorded, numbers, and refusals.
+//! How `imagesize` reads an input: reads at offsets, in plain and in recorded slices, numbers, and errors.
 #![tactic(auto)]
 
 pub mod endian;

@@ -1,4 +1,4 @@
-//! What is there of some bytes from an offset on.
+//! Parts of a slice from an offset on, as far as the slice goes.
 ghost use Rattle.std.specs.Prelude.{◌≡◌, ◌<◌, ◌≤◌, min, ◌-◌, ◌++◌, drop, length};
 ghost use Rattle.imagesize_source.specs.Input.{part};
 ghost use Rattle.imagesize_source.specs.Reading.{text_part};
@@ -6,7 +6,7 @@ ghost use Rattle.imagesize_source.specs.Reading.{text_part};
 use crate::Text;
 use crate::text::text_length;
 
-/// Copies what is there of the bytes from an offset on into the buffer, and returns how many that is.
+/// Copies the bytes from an offset on into the buffer, as far as there are any, and returns how many were copied.
 #[inline(always)]
 #[tactic(auto, unfolding(crate::specs::Input::part))]
 pub fn copy_part(bytes: &[u8], place: u64, room: &mut [u8]) -> usize
@@ -27,7 +27,7 @@ pub fn copy_part(bytes: &[u8], place: u64, room: &mut [u8]) -> usize
     rest.len()
 }
 
-/// What is there of the bytes from an offset on, up to a number of them.
+/// The bytes from an offset on, at most `most` of them; fewer if the slice ends earlier.
 #[inline]
 #[tactic(auto, using(crate::proofs::Slices::slice_part))]
 pub(crate) fn part_of(bytes: &[u8], place: u64, most: u64) -> &[u8]
@@ -38,7 +38,7 @@ pub(crate) fn part_of(bytes: &[u8], place: u64, most: u64) -> &[u8]
     &rest[..rest.len().min(most as usize)]
 }
 
-/// The text from an offset on, up to a number of bytes.
+/// The text from an offset on, at most `most` bytes of it.
 pub(crate) fn text_at(bytes: &[u8], place: u64, text: Text, most: usize) -> &[u8]
     ensures text { result.now ≡ text_part bytes.now text place most }
     ensures fits { length result.now ≤ most }

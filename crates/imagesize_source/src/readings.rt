@@ -1,4 +1,4 @@
-//! Readings by place: bytes, and numbers of both byte orders.
+//! Reads at an offset: bytes, and numbers in both byte orders. Offsets count bytes from 0.
 ghost use Rattle.std.specs.Prelude.{◌≡◌, ◌+◌, ◌^◌, ◌<◌, ◌≤◌, true, length, IfOk, IfErr, IfSome};
 ghost use Rattle.imagesize_source.specs.Layout.{layout_reads, if_there, some_where};
 ghost use Rattle.imagesize_source.specs.Layout.Layout.{«done»};
@@ -10,7 +10,7 @@ ghost use Rattle.imagesize_source.specs.declared.endian.Endian.TheVariants as en
 use crate::source::Source;
 use crate::{Endian, Halt};
 
-/// Fills the buffer with the bytes from a place on.
+/// Fills the buffer with the bytes from an offset on. Returns `Ended` if the input ends earlier.
 #[inline(always)]
 pub fn read_exact_at<S: Source>(source: &mut S, place: u64, room: &mut [u8]) -> Result<(), Halt>
     ensures pays { IfOk result (λ _. 0 < length room.new → Paid (S.state source.old) (S.state source.new) place) }
@@ -25,7 +25,7 @@ pub fn read_exact_at<S: Source>(source: &mut S, place: u64, room: &mut [u8]) -> 
     Ok(())
 }
 
-/// The `N` bytes from a place on.
+/// The `N` bytes from an offset on. Returns `Ended` if the input ends earlier.
 #[inline(always)]
 pub fn read_bytes<S: Source, const N: usize>(source: &mut S, place: u64) -> Result<[u8; N], Halt>
     ensures pays { IfOk result (λ bytes. 0 < N → Paid (S.state source.old) (S.state source.new) place) }
@@ -37,7 +37,7 @@ pub fn read_bytes<S: Source, const N: usize>(source: &mut S, place: u64) -> Resu
     Ok(room)
 }
 
-/// The `N` bytes at a distance behind a place. A place above 2^64 - 1 is behind the end of every input.
+/// The `N` bytes at `place + distance`. An offset above 2^64 - 1 is past the end of every input.
 #[inline(always)]
 pub fn read_bytes_behind<S: Source, const N: usize>(
     source: &mut S,
@@ -51,7 +51,7 @@ pub fn read_bytes_behind<S: Source, const N: usize>(
     read_bytes::<S, N>(source, place.saturating_add(distance))
 }
 
-/// Fills the buffer with the bytes from a place on, and returns whether the input has all of them.
+/// Fills the buffer with the bytes from an offset on, and returns whether the input has all of them.
 #[inline(always)]
 pub fn read_whole_at<S: Source>(source: &mut S, place: u64, room: &mut [u8]) -> Result<bool, Halt>
     ensures pays { IfOk result (λ all. all ≡ true → 0 < length room.new → Paid (S.state source.old) (S.state source.new) place) }
@@ -63,7 +63,8 @@ pub fn read_whole_at<S: Source>(source: &mut S, place: u64, room: &mut [u8]) -> 
     Ok(count == room.len())
 }
 
-/// The same at a distance behind a place. A place above 2^64 - 1 is behind the end of every input.
+/// Fills the buffer with the bytes from `place + distance` on, and returns whether the input has all of them. An offset above
+/// 2^64 - 1 is past the end of every input.
 #[inline(always)]
 pub fn read_whole_behind<S: Source>(
     source: &mut S,
@@ -78,7 +79,7 @@ pub fn read_whole_behind<S: Source>(
     read_whole_at(source, place.saturating_add(distance), room)
 }
 
-/// The `N` bytes from a place on, or none where the input ends before the last of them.
+/// The `N` bytes from an offset on, or `None` if the input ends before the last of them.
 #[inline(always)]
 pub fn read_if_there<S: Source, const N: usize>(
     source: &mut S,
@@ -95,7 +96,7 @@ pub fn read_if_there<S: Source, const N: usize>(
     Ok(None)
 }
 
-/// The byte at a place, as a number.
+/// The byte at an offset, as a number.
 #[inline(always)]
 #[tactic(auto, using(crate::proofs::Runs::number_there, crate::proofs::Runs::number_missing, crate::proofs::Numbers::little_1))]
 pub fn read_u8<S: Source>(source: &mut S, place: u64) -> Result<u8, Halt>
@@ -106,7 +107,7 @@ pub fn read_u8<S: Source>(source: &mut S, place: u64) -> Result<u8, Halt>
     Ok(byte)
 }
 
-/// The number of the two bytes from a place on.
+/// The number that the two bytes from an offset on encode.
 #[inline(always)]
 #[tactic(auto, using(crate::proofs::Runs::number_there, crate::proofs::Runs::number_missing))]
 pub fn read_u16<S: Source>(source: &mut S, place: u64, endian: Endian) -> Result<u16, Halt>
@@ -117,7 +118,7 @@ pub fn read_u16<S: Source>(source: &mut S, place: u64, endian: Endian) -> Result
     Ok(endian.u16(bytes))
 }
 
-/// The number of the three bytes from a place on.
+/// The number that the three bytes from an offset on encode.
 #[inline(always)]
 #[tactic(auto, using(crate::proofs::Runs::number_there, crate::proofs::Runs::number_missing))]
 pub fn read_u24<S: Source>(source: &mut S, place: u64, endian: Endian) -> Result<u32, Halt>
@@ -128,7 +129,7 @@ pub fn read_u24<S: Source>(source: &mut S, place: u64, endian: Endian) -> Result
     Ok(endian.u24(bytes))
 }
 
-/// The number of the four bytes from a place on.
+/// The number that the four bytes from an offset on encode.
 #[inline(always)]
 #[tactic(auto, using(crate::proofs::Runs::number_there, crate::proofs::Runs::number_missing))]
 pub fn read_u32<S: Source>(source: &mut S, place: u64, endian: Endian) -> Result<u32, Halt>
@@ -139,7 +140,7 @@ pub fn read_u32<S: Source>(source: &mut S, place: u64, endian: Endian) -> Result
     Ok(endian.u32(bytes))
 }
 
-/// The number of the eight bytes from a place on.
+/// The number that the eight bytes from an offset on encode.
 #[inline(always)]
 #[tactic(auto, using(crate::proofs::Runs::number_there, crate::proofs::Runs::number_missing))]
 pub fn read_u64<S: Source>(source: &mut S, place: u64, endian: Endian) -> Result<u64, Halt>
@@ -150,7 +151,7 @@ pub fn read_u64<S: Source>(source: &mut S, place: u64, endian: Endian) -> Result
     Ok(endian.u64(bytes))
 }
 
-/// The place at a distance behind another. One above 2^64 - 1 is behind the end of every input.
+/// The offset `place + distance`. Returns `Ended` above 2^64 - 1, which is past the end of every input.
 #[inline(always)]
 pub fn place_behind(place: u64, distance: u64) -> Result<u64, Halt>
     ensures next { IfOk result (λ next. (next ≡ place + distance) × (next < 2 ^ 64)) }
@@ -163,8 +164,7 @@ pub fn place_behind(place: u64, distance: u64) -> Result<u64, Halt>
     Ok(next)
 }
 
-/// The number of the two bytes at a distance behind a place. A place above 2^64 - 1 is behind the end of
-/// every input.
+/// The number that the two bytes at `place + distance` encode. An offset above 2^64 - 1 is past the end of every input.
 #[inline(always)]
 #[tactic(auto, using(crate::proofs::PastTheEnd::number_refused))]
 pub fn read_u16_behind<S: Source>(
@@ -179,7 +179,7 @@ pub fn read_u16_behind<S: Source>(
     match place_behind(place, distance) {
         Ok(next) => read_u16(source, next, endian),
         Err(halt) => {
-            // The proof needs that the input is not so long.
+            // The proof needs that the input is shorter than that.
             let _told = source.told();
             Err(halt)
         }

@@ -1,4 +1,4 @@
-//! A source: the bytes of an input, read by place.
+//! A source: the bytes of an input, read at offsets.
 ghost use Rattle.std.specs.Prelude.{◌≡◌, ◌<◌, ◌≤◌, take, length, IfOk};
 ghost use Rattle.imagesize_source.specs.Halts.{error_by};
 ghost use Rattle.imagesize_source.specs.Paying.{Paid};
@@ -12,40 +12,41 @@ pub mod parts;
 pub mod recording;
 pub mod slice;
 
-/// An input that is read by place. A place counts bytes from 0.
+/// An input that is read at offsets, which count bytes from 0.
 pub trait Source {
-    /// The input, what was taken and what was recorded.
+    /// The input, the bytes read from a reader, and the recorded spans.
     ghost state: { Self → State };
 
-    /// The length of the input, as it was given.
+    /// The length of the input in bytes, as it was reported.
     fn told(&self) -> u64
         ensures told { result ≡ (state self.now).frame.told }
         ensures sound { IsSound (state self.now) };
 
-    /// How many bytes were taken from a reader.
+    /// How many bytes were read from a reader.
     fn taken(&self) -> u64
         ensures { result ≡ (state self.now).taken };
 
-    /// The error that a halt of a reading ends the call with.
+    /// The error that the call returns after a read failed with this `Halt`.
     fn refusal(&self, halt: Halt) -> ImageError
         ensures { result ≡ error_by (state self.now).failure (state self.now).frame.budget halt };
 
-    /// Reads what is there from an offset on into the buffer, and returns how many bytes that is, or a halt.
+    /// Reads the bytes from an offset on into the buffer, as far as there are any, and returns how many. Fails with a `Halt`.
     fn read_at(&mut self, place: u64, room: &mut [u8]) -> Result<usize, Halt>
         ensures bound { IfOk result (λ n. n ≤ length room.new) }
 
-        // Above the told length and the bytes held, what comes is paid for.
+        // Bytes past the reported length and past the held bytes count against the budget.
         ensures pays { IfOk result (λ n. 0 < n → Paid (state self.old) (state self.new) place) }
         ensures runs { Runs (state self.old) (state self.new)
             (map_answer (λ n. take n room.new) result)
             (part_read (state self.old).held.input place (length room.new)) };
 
-    /// Reads the text from an offset on into the buffer, as far as that goes, and returns how many bytes that
-    /// is, or a halt: the white space before a word, the text, and the byte that ends it. It takes nothing behind them.
+    /// Reads the text from an offset on into the buffer: the white space before a word, the text, and the byte that ends it.
+    /// Returns how many bytes that is, or a `Halt`. It stops at the end of the input or of the buffer, and reads no byte
+    /// after the text.
     fn read_text(&mut self, place: u64, text: Text, room: &mut [u8]) -> Result<usize, Halt>
         ensures bound { IfOk result (λ n. n ≤ length room.new) }
 
-        // Above the told length and the bytes held, what comes is paid for.
+        // Bytes past the reported length and past the held bytes count against the budget.
         ensures pays { IfOk result (λ n. 0 < n → Paid (state self.old) (state self.new) place) }
         ensures runs { Runs (state self.old) (state self.new)
             (map_answer (λ n. take n room.new) result)

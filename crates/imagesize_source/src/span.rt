@@ -1,7 +1,7 @@
-//! The part of an input that a reading saw.
+//! The part of an input that a read saw.
 
-/// The bytes of an input from place `start` on, `len` of them. Places count bytes from 0, and `len` is
-/// at least 1.
+/// The `len` bytes of an input from offset `start` on. Offsets count bytes from 0. A span that a call returns has at least 1
+/// byte.
 #[repr(C)]
 #[derive(Clone, Copy, Debug, PartialEq, Eq, Hash)]
 pub struct Span {

@@ -4,17 +4,16 @@ ghost use Rattle.std.specs.List.{position};
 ghost use Rattle.std.specs.Char.{is_ascii_whitespace};
 ghost use Rattle.imagesize_source.specs.Text.{ends, is_ended, front_through, text_front};
 
-/// A text, by what ends it. Where nothing ends it, it goes on to the end of the input or of the buffer.
+/// A text, by what ends it. If nothing ends it, it goes on to the end of the input or of the buffer.
 #[derive(Clone, Copy, Debug, PartialEq, Eq)]
 pub enum Text {
-    /// The bytes up to a delimiter, with the delimiter.
+    /// The bytes up to a delimiter, and the delimiter.
     Line { delimiter: u8 },
-    /// The ASCII white space (20, 09, 0A, 0C and 0D) before a word, the word, and the byte of white space
-    /// behind it.
+    /// ASCII white space (20, 09, 0A, 0C and 0D), then a word, then one byte of white space.
     Word,
 }
 
-/// How many of the bytes are of the text at their front.
+/// How many bytes the text at the front of the bytes has.
 #[tactic(auto, using(crate::proofs::Texts::fronts))]
 pub fn text_length(text: Text, bytes: &[u8]) -> usize
     ensures length { result ≡ length (text_front text bytes.now) }
@@ -26,7 +25,7 @@ pub fn text_length(text: Text, bytes: &[u8]) -> usize
     }
 }
 
-// How many bytes there are up to the delimiter, with it.
+// How many bytes there are up to and with the delimiter; all of them if it is missing.
 fn line_length(delimiter: u8, bytes: &[u8]) -> usize
     ensures { result ≡ length (front_through (λ b. b == delimiter) bytes.now) }
 {
@@ -36,7 +35,7 @@ fn line_length(delimiter: u8, bytes: &[u8]) -> usize
     }
 }
 
-// How many bytes the white space before a word, the word, and the white space that ends it are.
+// How many bytes there are up to and with the white space that ends the first word; all of them if it is missing.
 fn word_length(bytes: &[u8]) -> usize
     ensures { result ≡ length (text_front Text.Word bytes.now) }
 {
@@ -77,7 +76,7 @@ pub(crate) fn is_closed(text: Text, bytes: &[u8]) -> bool
     }
 }
 
-// Whether the delimiter is among them.
+// Whether the delimiter is among the bytes.
 #[tactic(auto, using(crate::proofs::Known::line_ended))]
 fn line_is_closed(delimiter: u8, bytes: &[u8]) -> bool
     ensures { result ≡ is_ended (Text.Line delimiter) bytes.now }
@@ -85,7 +84,7 @@ fn line_is_closed(delimiter: u8, bytes: &[u8]) -> bool
     first_delimiter(delimiter, bytes).is_some()
 }
 
-// Whether white space stands behind a word.
+// Whether white space follows a word.
 fn word_is_closed(bytes: &[u8]) -> bool
     ensures { result ≡ is_ended Text.Word bytes.now }
 {
@@ -95,7 +94,7 @@ fn word_is_closed(bytes: &[u8]) -> bool
     }
 }
 
-/// Whether a byte ends the text, of which a byte other than white space came before or none did.
+/// Whether a byte ends the text. `begun` says whether a byte other than white space came before it.
 pub fn is_end(text: Text, begun: bool, byte: u8) -> bool
     ensures { result ≡ ends text begun byte }
 {

@@ -1,14 +1,14 @@
 //! A walk along a chain: its records, read one behind another.
-ghost use Rattle.std.specs.Prelude.{◌≡◌, ℕ, List, [], IfOk};
-ghost use Rattle.imagesize_source.specs.Chain.{Said, chain_at};
+ghost use Rattle.std.specs.Prelude.{◌≡◌, ℕ, true, false, List, [], IfOk, IfErr};
+ghost use Rattle.imagesize_source.specs.Chain.{Said, chain_at, chain_from};
 ghost use Rattle.imagesize_source.specs.Layout.{Layout, layout_reads};
 ghost use Rattle.imagesize_source.specs.Paying.{Nears};
-ghost use Rattle.imagesize_source.specs.Reading.{map_answer};
+ghost use Rattle.imagesize_source.specs.Reading.{is_faulted, is_stopped, map_answer};
+ghost use Rattle.imagesize_source.specs.Sharing.{Stood};
 ghost use Rattle.imagesize_source.specs.State.{Runs};
-ghost use Rattle.imagesize_source.specs.Walk.{CanFollow, KeepsOn, chain_of, said_at};
+ghost use Rattle.imagesize_source.specs.Walk.{CanFollow, EndsBy, KeepsOn, chain_of, said_at};
 
 use crate::Halt;
-use crate::readings::place_behind;
 use crate::source::Source;
 
 /// What a record says.
@@ -26,7 +26,7 @@ pub trait Records {
     type Held: Drop;
 
     /// What the chain answers.
-    type Answer;
+    type Answer: Drop;
 
     /// The layout of a record behind those that hold these, at its place.
     ghost said: { Self → List Self.Held → ℕ → Layout (Said Self.Held Self.Answer) };
@@ -44,12 +44,21 @@ pub trait Records {
         ensures same { said self.new ≡ said self.old }
         ensures nears { IfOk result (λ found. Nears (S.state source.old) (S.state source.new) place (said_at place found)) }
         ensures keeps { (held : List Self.Held) → keeps self.old held place → IfOk result (λ found. KeepsOn (keeps self.new) held (said_at place found)) }
+
+        // A record that was not read can be read again, from the same value.
+        ensures stays { (held : List Self.Held) → keeps self.old held place → IfErr result (λ _. keeps self.new held place) }
         ensures runs { (held : List Self.Held) → keeps self.old held place → Runs (S.state source.old) (S.state source.new)
             (map_answer (said_at place) result)
             (layout_reads (S.state source.old).held.input (said self.old held place)) };
+
+    /// The answer at the end of the input, where no record is left.
+    fn at_end(&self) -> Result<Self::Answer, Halt>
+        ensures goes_on { is_stopped result ≡ false }
+        ensures ends { (held : List Self.Held) (place : ℕ) → keeps self.now held place → EndsBy (said self.now) held result };
 }
 
-/// The answer of the chain of these records, the first of which stands at this place.
+/// The answer of the chain of these records, the first of which is at this offset.
+#[inline(always)]
 pub fn walk<S: Source, R: Records + Drop>(
     mut records: R,
     source: &mut S,
@@ -61,10 +70,42 @@ pub fn walk<S: Source, R: Records + Drop>(
         (chain_at (chain_of first (R.said records)) (S.state source.old).held.input) }
 {
     let mut place = first;
+    walk_on(&mut records, &mut place, source)
+}
+
+/// The answer of a chain from the record at this offset on.
+///
+/// If a reading fails, `records` and `place` are those of the record that it was part of. The walk can go on from there.
+#[inline]
+pub fn walk_on<S: Source, R: Records>(
+    records: &mut R,
+    place: &mut u64,
+    source: &mut S,
+) -> Result<R::Answer, Halt>
+    requires follows { CanFollow (chain_of 0 (R.said records.old)) }
+    requires keeps { (held : List R.Held) × R.keeps records.old held place.old }
+    ensures same { R.said records.new ≡ R.said records.old }
+
+    // For each list that the records before may hold:
+    ensures runs { (first : ℕ) (held : List R.Held) → R.keeps records.old held place.old
+        → Runs (S.state source.old) (S.state source.new) result
+        (chain_from (chain_of first (R.said records.old)) (S.state source.old).held.input (record { held = held; place = place.old })) }
+    ensures stands { (first : ℕ) (held : List R.Held) → R.keeps records.old held place.old → is_faulted result ≡ true
+        → Stood (chain_of first (R.said records.old)) (λ behind. R.keeps records.new behind place.new) (S.state source.old) (S.state source.new)
+        (record { held = held; place = place.old }) place.new }
+{
+    let mut at = *place;
     loop {
-        match records.read_record(source, place)? {
-            Found::Answer(answer) => return Ok(answer),
-            Found::Other { length, .. } => place = place_behind(place, length)?,
+        match records.read_record(source, at) {
+            Ok(Found::Answer(answer)) => return Ok(answer),
+            Ok(Found::Other { length, .. }) => match at.checked_add(length) {
+                Some(next) => at = next,
+                None => return records.at_end(),
+            },
+            Err(halt) => {
+                *place = at;
+                return Err(halt);
+            }
         }
     }
 }

@@ -7,7 +7,7 @@ use Rattle.std.specs.Prelude.{◌&&◌}
 use Rattle.std.specs.Int.{w32, cast_signed, from_le_bytes}
 use Rattle.imagesize_types.specs.Head.{four_at}
 use Rattle.imagesize_types.specs.declared.size.ImageSize.{ImageSize}
-use Rattle.imagesize_source.specs.declared.halt.Halt.TheVariants.{DataWindowNotFound}
+use Rattle.imagesize_source.specs.declared.halt.Halt.TheVariants.{DataWindowNotFound, Ended}
 use Rattle.imagesize_source.specs.declared.endian.Endian.TheVariants.{Little}
 use Rattle.imagesize_source.specs.Agreement.{IsLocal}
 use Rattle.imagesize_source.specs.Chain.{Said, Decided, Next, Advances, chain_at, start, records}
@@ -16,9 +16,8 @@ use Rattle.imagesize_source.specs.Extension.{Plain, Lasts}
 use Rattle.imagesize_source.specs.Input.{span_of}
 use Rattle.imagesize_source.specs.Layout.{Layout, layout_reads, bytes, done, refuse}
 use Rattle.imagesize_source.specs.Numbers.{number}
-use Rattle.imagesize_source.specs.Reading.{number_at, number_read}
+use Rattle.imagesize_source.specs.Reading.{number_at, number_read, refuses}
 use Rattle.imagesize_source.specs.State.{total}
-use Rattle.imagesize_source.specs.Walk.{CanFollow}
 use Rattle.imagesize_source.proofs.Advances.{Tells, advances}
 use Rattle.imagesize_source.proofs.Ahead.{Ahead, chain_ahead}
 use Rattle.imagesize_source.proofs.ChainLaws.{local_chain, lasts_chain, chain_cost_from}
@@ -86,7 +85,7 @@ by_name P room place name none typed =
 abbrev value_behind : List ℕ → List ℕ → ℕ
 value_behind name type_name = length name + 1 + (length type_name + 1) + 4
 
-attribute_advances : (room : ℕ) (d : List ℕ) → Advances (exr_attributes room) d
+pub attribute_advances : (room : ℕ) (d : List ℕ) → Advances (exr_attributes room) d
 attribute_advances room = advances (exr_attributes room)
     (λ passed place. line_tells 0 place room (exr_named room place) (λ p. place < p)
     (λ name. by_name (Tells (λ p. place < p)) room place name tt
@@ -189,9 +188,6 @@ exr_cost d = omega (
 pub exr_laws : RecordedLaws 12 16 530 true true exr attributes_begun
 exr_laws = record { local = exr_local; cost = exr_cost; within = exr_within; lasts = λ _. exr_lasts }
 
--- a walk can follow the attributes
-pub exr_follows : (room : ℕ) → 0 < room → CanFollow (exr_attributes room)
-exr_follows room some = record {
-  advances = attribute_advances room;
-  beyond = λ passed place d h. line_beyond d 0 place room (exr_named room place) h some;
-}
+-- from the end of the input on there is no attribute
+pub exr_ends : (d : List ℕ) (room place : ℕ) → 0 < room → length d ≤ place → layout_reads d (exr_attribute room place) ≡ refuses Ended
+exr_ends d room place some h = line_beyond d 0 place room (exr_named room place) h some

@@ -3,13 +3,13 @@ use Rattle.std.proofs.Common.{◌≡◌, ◌≢◌, ℕ, ◌+◌, ◌<◌, ◌�
 use Rattle.std.proofs.lemmas.Bool.Decides.{nat_tests}
 use Rattle.imagesize_types.specs.declared.size.ImageSize.{ImageSize}
 use Rattle.imagesize_source.specs.declared.halt.Halt.{Halt}
-use Rattle.imagesize_source.specs.declared.halt.Halt.TheVariants.{InvalidHdrIdentifier}
+use Rattle.imagesize_source.specs.declared.halt.Halt.TheVariants.{Ended, InvalidHdrIdentifier}
+use Rattle.imagesize_source.specs.Reading.{refuses}
 use Rattle.imagesize_source.specs.Agreement.{IsLocal}
 use Rattle.imagesize_source.specs.Chain.{Said, Decided, Next, Advances, chain_at}
 use Rattle.imagesize_source.specs.Extension.{Plain, Lasts}
 use Rattle.imagesize_source.specs.Layout.{Layout, layout_reads, done, refuse, accept}
 use Rattle.imagesize_source.specs.State.{total}
-use Rattle.imagesize_source.specs.Walk.{CanFollow}
 use Rattle.imagesize_source.proofs.Advances.{Tells, advances}
 use Rattle.imagesize_source.proofs.Ahead.{Ahead}
 use Rattle.imagesize_source.proofs.ChainLaws.{local_chain, lasts_chain}
@@ -18,6 +18,7 @@ use Rattle.imagesize_source.proofs.Extension.{more}
 use Rattle.imagesize_source.proofs.Spends.{Onto, said_to, spends, spends_then, chain_onto}
 use Rattle.imagesize_source.proofs.Tests.{on_test}
 use Rattle.imagesize_source.proofs.Way.{TextsLaws}
+use Rattle.imagesize_texts.specs.Texts.{line_at}
 use Rattle.imagesize_texts.specs.Hdr.{hdr, hdr_identifier, check_identifier, hdr_lines, hdr_line, is_identifier, is_resolution, resolution, second_and_fourth}
 use Rattle.imagesize_texts.proofs.Texts.{found_by, line_onto, line_plain, line_tells, line_begins, line_beyond, lasts_then}
 
@@ -35,7 +36,7 @@ by_identifier : (P : Layout ℕ → Type 0) (text : List ℕ) → P (done (lengt
 by_identifier P text is none = on_test P (is_identifier text) (done (length text + 1)) (refuse InvalidHdrIdentifier) (λ _. is)
     (λ _. none)
 
-hdr_advances : (first : ℕ) (d : List ℕ) → Advances (hdr_lines first) d
+pub hdr_advances : (first : ℕ) (d : List ℕ) → Advances (hdr_lines first) d
 hdr_advances first = advances (hdr_lines first)
     (λ passed place. line_tells 0x0A place 256 (hdr_line place) (λ p. place < p) (λ text. by_line (Tells (λ p. place < p)) place text
     (λ size. tt) (λ e. tt) (omega arith)))
@@ -70,12 +71,9 @@ hdr_within d =
 pub hdr_laws : TextsLaws 12 true true hdr
 hdr_laws = record { local = hdr_local; within = λ d. omega (arith, hdr_within d); lasts = λ _. hdr_lasts }
 
--- a walk can follow the lines
-pub hdr_follows : (first : ℕ) → CanFollow (hdr_lines first)
-hdr_follows first = record {
-  advances = hdr_advances first;
-  beyond = λ passed place d h. line_beyond d 0x0A place 256 (hdr_line place) h (omega arith);
-}
+-- from the end of the input on there is no line
+pub hdr_ends : (d : List ℕ) (place : ℕ) → length d ≤ place → layout_reads d (line_at 0x0A place 256 (hdr_line place)) ≡ refuses Ended
+hdr_ends d place h = line_beyond d 0x0A place 256 (hdr_line place) h (omega arith)
 
 -- of another number of words than four none are the second and the fourth
 pub other_words : (ws : List (List ℕ)) → length ws ≢ 4 → second_and_fourth ws ≡ None

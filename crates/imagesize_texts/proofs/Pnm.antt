@@ -6,9 +6,10 @@ use Rattle.imagesize_source.specs.declared.halt.Halt.{Halt}
 use Rattle.imagesize_source.specs.Agreement.{IsLocal}
 use Rattle.imagesize_source.specs.Chain.{Said, Decided, Advances}
 use Rattle.imagesize_source.specs.Extension.{Plain, Lasts}
-use Rattle.imagesize_source.specs.Layout.{Layout, done, accept}
+use Rattle.imagesize_source.specs.declared.halt.Halt.TheVariants.{Ended}
+use Rattle.imagesize_source.specs.Layout.{Layout, done, accept, layout_reads}
+use Rattle.imagesize_source.specs.Reading.{refuses}
 use Rattle.imagesize_source.specs.State.{total}
-use Rattle.imagesize_source.specs.Walk.{CanFollow}
 use Rattle.imagesize_source.proofs.Advances.{Tells, advances}
 use Rattle.imagesize_source.proofs.Ahead.{Ahead, chain_ahead}
 use Rattle.imagesize_source.proofs.Agreement.{with_texts}
@@ -18,7 +19,7 @@ use Rattle.imagesize_source.proofs.Tests.{on_test}
 use Rattle.imagesize_source.proofs.Way.{TextsLaws}
 use Rattle.imagesize_texts.specs.Contents.{WordRead, number_text}
 use Rattle.imagesize_texts.specs.Pnm.{pnm, pnm_words, pnm_word, pnm_comment, pnm_passed, pnm_height, pnm_size, is_comment, is_blank}
-use Rattle.imagesize_texts.specs.Texts.{passed_line}
+use Rattle.imagesize_texts.specs.Texts.{passed_line, word}
 use Rattle.imagesize_texts.proofs.Texts.{found_by, passed_onto, passed_plain, passed_tells, word_onto, word_plain, word_tells, word_begins, word_beyond}
 
 -- what holds of each way that a word can go
@@ -37,7 +38,7 @@ by_size : (P : Layout (Said (Unit {0}) ImageSize) → Type 0) (width height : Op
     → P (accept (pnm_size width height) (λ size. done (Decided size)))
 by_size P width height decided refused = found_by P (pnm_size width height) (λ size. done (Decided size)) (λ size _. decided size) refused
 
-pnm_advances : (d : List ℕ) → Advances pnm_words d
+pub pnm_advances : (d : List ℕ) → Advances pnm_words d
 pnm_advances = advances pnm_words
     (λ passed place. word_tells place (pnm_word place) (λ p. place < p)
     (λ w some. by_word (Tells (λ p. place < p)) place w (omega arith)
@@ -80,9 +81,6 @@ pnm_within d =
 pub pnm_laws : TextsLaws 12 true true pnm
 pnm_laws = record { local = pnm_local; within = λ d. omega (arith, pnm_within d); lasts = λ _. pnm_lasts }
 
--- a walk can follow the words
-pub pnm_follows : CanFollow pnm_words
-pnm_follows = record {
-  advances = pnm_advances;
-  beyond = λ passed place d h. word_beyond d place (pnm_word place) h;
-}
+-- from the end of the input on there is no word
+pub pnm_ends : (d : List ℕ) (place : ℕ) → length d ≤ place → layout_reads d (word place (pnm_word place)) ≡ refuses Ended
+pnm_ends d place h = word_beyond d place (pnm_word place) h

@@ -1,4 +1,4 @@
-//! The formats of texts.
+//! Text formats.
 
 pub mod exr;
 pub mod hdr;

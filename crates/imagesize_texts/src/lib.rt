@@ -1,4 +1,4 @@
-//! Formats whose sizes stand in texts.
+//! Text formats: the size is written in lines or words.
 #![tactic(auto)]
 
 pub mod formats;

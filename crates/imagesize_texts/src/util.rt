@@ -1,5 +1,5 @@
-//! Texts: lines up to a delimiter and words between white space, each of so many bytes at most.
-ghost use Rattle.std.specs.Prelude.{◌≡◌, ℕ, ◌+◌, ◌^◌, ◌<◌, ◌≤◌, codes, length, true, IfOk};
+//! Texts: lines up to a delimiter and words between white space, each with a greatest length in bytes.
+ghost use Rattle.std.specs.Prelude.{◌≡◌, ◌+◌, ◌^◌, ◌<◌, ◌≤◌, codes, length, true, IfOk};
 ghost use Rattle.imagesize_source.specs.Paying.{Paid};
 ghost use Rattle.imagesize_source.specs.Reading.{number_read, map_answer};
 ghost use Rattle.imagesize_source.specs.State.{Runs};
@@ -10,7 +10,7 @@ use imagesize_source::readings::read_u32;
 use imagesize_source::source::Source;
 use imagesize_source::{Endian, Halt, Text};
 
-/// A word takes fewer bytes of an input than this.
+/// A word has fewer bytes than this, including the white space around it.
 pub const WORD_ROOM: usize = 1024;
 
 /// A word of an input.
@@ -18,18 +18,18 @@ pub const WORD_ROOM: usize = 1024;
 pub struct Word<'a> {
     /// Its text.
     pub text: &'a str,
-    /// The white space that ends it.
+    /// The byte of white space that ends it.
     pub ended_by: u8,
-    /// How many bytes it takes, with the white space before it and the one that ends it.
+    /// Its length in bytes, including the white space before it and the byte that ends it.
     pub taken: usize,
 }
 
-/// The text from a place on up to a delimiter, which stands among as many bytes as the buffer has.
+/// Reads the text from an offset on up to a delimiter, which must be among as many bytes as the buffer has.
 ///
 /// # Errors
 ///
-/// `NoDelimiter` where none of these bytes is the delimiter, `Ended` where the input ends before one,
-/// and `NotUtf8` where the bytes before it are no text.
+/// `NoDelimiter` if none of these bytes is the delimiter, and `Ended` if the input ends before one. `NotUtf8` if the bytes
+/// before it are not UTF-8.
 #[inline(always)]
 pub fn read_line_capped<'a, S: Source>(
     source: &mut S,
@@ -49,8 +49,8 @@ pub fn read_line_capped<'a, S: Source>(
     line_text(&room[..count], delimiter, most)
 }
 
-/// How many bytes there are from a place on up to a delimiter, and with it, as `read_line_capped`, but for a
-/// line that need not be text.
+/// The length in bytes of the line at an offset, including its delimiter. Fails like `read_line_capped`, except that the line
+/// need not be UTF-8.
 #[inline]
 pub fn pass_line_capped<S: Source>(
     source: &mut S,
@@ -68,13 +68,13 @@ pub fn pass_line_capped<S: Source>(
     line_length(&room[..count], delimiter, most)
 }
 
-/// The word from a place on, behind ASCII white space. The white space that ends it is byte 1023 from the place
-/// on, or an earlier one.
+/// Reads the word from an offset on, after ASCII white space. The white space that ends it must be among the first 1023
+/// bytes.
 ///
 /// # Errors
 ///
-/// `NoDelimiter` where 1024 bytes have no such end, `Ended` where the input ends before one, and
-/// `NotUtf8` where the word is no text.
+/// `NoDelimiter` if 1024 bytes have no such end, `Ended` if the input ends before one, and `NotUtf8` if the word is not
+/// UTF-8.
 #[inline(always)]
 pub fn read_word<'a, S: Source>(
     source: &mut S,
@@ -91,8 +91,7 @@ pub fn read_word<'a, S: Source>(
     word_text(&room[..count])
 }
 
-/// How many bytes the line at a distance behind a place takes, as `pass_line_capped`. A place above 2^64 - 1 is behind
-/// the end of every input.
+/// Calls `pass_line_capped` at `place + distance`. An offset above 2^64 - 1 is past the end of every input.
 #[inline]
 pub fn pass_line_behind<S: Source>(
     source: &mut S,
@@ -109,7 +108,7 @@ pub fn pass_line_behind<S: Source>(
     pass_line_capped(source, place.saturating_add(distance), delimiter, room)
 }
 
-/// The word at a distance behind a place. A place above 2^64 - 1 is behind the end of every input.
+/// Calls `read_word` at `place + distance`. An offset above 2^64 - 1 is past the end of every input.
 #[inline]
 pub fn read_word_behind<'a, S: Source>(
     source: &mut S,
@@ -124,7 +123,7 @@ pub fn read_word_behind<'a, S: Source>(
     read_word(source, place.saturating_add(distance), room)
 }
 
-/// The number of the four bytes at a distance behind a place. A place above 2^64 - 1 is behind the end of every input.
+/// The number that the four bytes at `place + distance` encode. An offset above 2^64 - 1 is past the end of every input.
 #[inline]
 pub fn read_u32_behind<S: Source>(
     source: &mut S,
@@ -138,7 +137,7 @@ pub fn read_u32_behind<S: Source>(
     read_u32(source, place.saturating_add(distance), endian)
 }
 
-// The text of a line, without the delimiter that ends it, where there is room for so many bytes.
+// The text of a line of at most `most` bytes, without the delimiter that ends it.
 #[inline(always)]
 #[tactic(auto, unfolding(crate::specs::Contents::line_text))]
 fn line_text(bytes: &[u8], delimiter: u8, most: usize) -> Result<&str, Halt>
@@ -151,7 +150,7 @@ fn line_text(bytes: &[u8], delimiter: u8, most: usize) -> Result<&str, Halt>
     }
 }
 
-// How many bytes a line takes, where there is room for so many.
+// The length in bytes of a line of at most `most` bytes.
 #[inline]
 #[tactic(auto, unfolding(crate::specs::Contents::line_length))]
 fn line_length(bytes: &[u8], delimiter: u8, most: usize) -> Result<usize, Halt>
@@ -164,7 +163,7 @@ fn line_length(bytes: &[u8], delimiter: u8, most: usize) -> Result<usize, Halt>
     }
 }
 
-// The word that stands behind white space.
+// The word after white space.
 #[inline]
 #[tactic(auto, using(crate::proofs::Words::behind_space_is), unfolding(crate::specs::Contents::word_text))]
 fn word_text(bytes: &[u8]) -> Result<Word<'_>, Halt>
@@ -173,7 +172,7 @@ fn word_text(bytes: &[u8]) -> Result<Word<'_>, Halt>
     ended_word(bytes.trim_ascii_start(), bytes.len())
 }
 
-// The word that begins the bytes, of so many with the white space before them.
+// The word at the front of the bytes. With the white space before it, it has `taken` bytes.
 #[inline]
 #[tactic(auto, unfolding(crate::specs::Contents::ended_word))]
 fn ended_word(bytes: &[u8], taken: usize) -> Result<Word<'_>, Halt>
@@ -189,7 +188,7 @@ fn ended_word(bytes: &[u8], taken: usize) -> Result<Word<'_>, Halt>
     }
 }
 
-// Whether a byte ends a word that takes so many bytes.
+// Whether a byte ends a word of `taken` bytes.
 #[inline]
 fn is_word_end(byte: u8, taken: usize) -> bool
     ensures { result ≡ is_word_end byte taken }
@@ -197,7 +196,7 @@ fn is_word_end(byte: u8, taken: usize) -> bool
     byte.is_ascii_whitespace() && taken < WORD_ROOM
 }
 
-// Why a text of so many bytes has no end, where there is room for so many.
+// Why a text of `count` bytes, which may have at most `most`, has no end.
 #[inline]
 fn no_end(count: usize, most: usize) -> Halt
     requires { most < 2 ^ 32 }
@@ -211,7 +210,7 @@ fn no_end(count: usize, most: usize) -> Halt
     Halt::Ended
 }
 
-// The bytes of a word as text. A `#` alone, of which an input can hold the most, needs no test.
+// The bytes of a word as text. A single `#` needs no check, and no other word can come as often in an input.
 #[inline(always)]
 fn text_of_word(bytes: &[u8]) -> Result<&str, Halt>
     ensures { map_answer (λ text. text.now) result ≡ utf8 bytes.now }
@@ -222,7 +221,7 @@ fn text_of_word(bytes: &[u8]) -> Result<&str, Halt>
     text_of(bytes)
 }
 
-/// Whether the bytes are a `#` alone.
+/// Whether the bytes are a single `#`.
 #[inline(always)]
 pub fn is_hash(bytes: &[u8]) -> bool
     ensures { result ≡ true → bytes.now ≡ codes "#" }
@@ -230,7 +229,7 @@ pub fn is_hash(bytes: &[u8]) -> bool
     matches!(bytes, [b'#'])
 }
 
-// The bytes of a line as text. An empty line, of which an input can hold the most, needs no test.
+// The bytes of a line as text. An empty line needs no check, and no other line can come as often in an input.
 #[inline(always)]
 fn text_of_line(bytes: &[u8]) -> Result<&str, Halt>
     ensures { map_answer (λ text. text.now) result ≡ utf8 bytes.now }
@@ -241,7 +240,7 @@ fn text_of_line(bytes: &[u8]) -> Result<&str, Halt>
     text_of(bytes)
 }
 
-// The bytes as text.
+// The bytes as text, if they are UTF-8.
 #[inline(always)]
 #[tactic(auto, using(crate::proofs::Words::is_text, crate::proofs::Words::no_text))]
 fn text_of(bytes: &[u8]) -> Result<&str, Halt>
@@ -253,7 +252,7 @@ fn text_of(bytes: &[u8]) -> Result<&str, Halt>
     }
 }
 
-/// The number that a text is: digits, before which one `+` may stand.
+/// The number that a text is: digits, with an optional `+` before them.
 #[tactic(auto, using(crate::proofs::Words::parsed))]
 pub fn number(text: &str) -> Option<usize>
     ensures { result ≡ number_text text.now }

@@ -1,13 +1,13 @@
-//! How images of several ways to store pixels store them.
+//! Ways to store pixels, for the formats that have several.
 
 /// How an ATC texture stores its pixels.
 #[derive(Clone, Copy, Debug, PartialEq, Eq, PartialOrd, Ord, Hash)]
 pub enum AtcCompression {
     /// No alpha.
     Rgb,
-    /// Alpha as it is.
+    /// Explicit alpha.
     RgbaExplicit,
-    /// Alpha between two values of its block.
+    /// Alpha interpolated between two values of the block.
     RgbaInterpolated,
     /// None of these.
     Unknown,
@@ -16,23 +16,23 @@ pub enum AtcCompression {
 /// How a DDS stores its pixels.
 #[derive(Clone, Copy, Debug, PartialEq, Eq, PartialOrd, Ord, Hash)]
 pub enum DdsCompression {
-    /// BC1, which is DXT1.
+    /// BC1, also known as DXT1.
     Bc1,
-    /// BC2, which is DXT3. The same with premultiplied alpha, DXT2, is `Unknown`.
+    /// BC2, also known as DXT3. DXT2, which has premultiplied alpha, is `Unknown`.
     Bc2,
-    /// BC3, which is DXT5. The same with premultiplied alpha, DXT4, is `Unknown`.
+    /// BC3, also known as DXT5. DXT4, which has premultiplied alpha, is `Unknown`.
     Bc3,
-    /// BC4, of one channel.
+    /// BC4, with one channel.
     Bc4,
-    /// BC5, of two channels.
+    /// BC5, with two channels.
     Bc5,
-    /// BC6H, of floats.
+    /// BC6H, with floating-point channels.
     Bc6h,
     /// BC7.
     Bc7,
-    /// 32 bits a pixel, with alpha.
+    /// 32 bits per pixel, with alpha.
     Rgba32,
-    /// 24 bits a pixel.
+    /// 24 bits per pixel.
     Rgb24,
     /// None of these.
     Unknown,
@@ -56,19 +56,19 @@ pub enum Compression {
 pub enum PkmCompression {
     /// ETC1.
     Etc1,
-    /// ETC2 with no alpha.
+    /// ETC2 without alpha.
     Etc2,
     /// ETC2 with one bit of alpha.
     Etc2A1,
     /// ETC2 with eight bits of alpha.
     Etc2A8,
-    /// EAC of one channel.
+    /// EAC with one channel.
     EacR,
-    /// EAC of two channels.
+    /// EAC with two channels.
     EacRg,
-    /// EAC of one signed channel.
+    /// EAC with one signed channel.
     EacRSigned,
-    /// EAC of two signed channels.
+    /// EAC with two signed channels.
     EacRgSigned,
     /// None of these.
     Unknown,
@@ -77,23 +77,23 @@ pub enum PkmCompression {
 /// How a PowerVR texture stores its pixels.
 #[derive(Clone, Copy, Debug, PartialEq, Eq, PartialOrd, Ord, Hash)]
 pub enum PvrtcCompression {
-    /// PVRTC of 2 bits a pixel, with no alpha.
+    /// PVRTC with 2 bits per pixel, without alpha.
     Pvrtc2BppRgb,
-    /// PVRTC of 2 bits a pixel, with alpha.
+    /// PVRTC with 2 bits per pixel, with alpha.
     Pvrtc2BppRgba,
-    /// PVRTC of 4 bits a pixel, with no alpha.
+    /// PVRTC with 4 bits per pixel, without alpha.
     Pvrtc4BppRgb,
-    /// PVRTC of 4 bits a pixel, with alpha.
+    /// PVRTC with 4 bits per pixel, with alpha.
     Pvrtc4BppRgba,
-    /// ETC2 with no alpha.
+    /// ETC2 without alpha.
     Etc2Rgb,
     /// ETC2 with eight bits of alpha.
     Etc2Rgba,
     /// ETC2 with one bit of alpha.
     Etc2RgbA1,
-    /// EAC of one channel.
+    /// EAC with one channel.
     EacR11,
-    /// EAC of two channels.
+    /// EAC with two channels.
     EacRg11,
     /// None of these.
     Unknown,

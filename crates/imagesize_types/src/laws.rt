@@ -1,5 +1,4 @@
-//! Laws of the comparisons and the hashes of the public types. A law is what the contract of a
-//! function says, and the function itself does nothing.
+//! Laws of the comparisons and hashes of the public types. The contract of each function states a law, and its body is empty.
 ghost use Rattle.imagesize_types.specs.Comparisons.{IsLawfulHash, IsLawfulOrder, RankedBy};
 ghost use Rattle.imagesize_types.specs.Ranks.{atc_rank, dds_rank, heif_rank, pkm_rank, pvrtc_rank};
 

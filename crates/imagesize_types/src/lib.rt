@@ -1,4 +1,4 @@
-//! What formats have in common: sizes, ways to store pixels, and tests and tables of bytes.
+//! What formats have in common: sizes, and ways to store pixels.
 #![tactic(auto)]
 
 pub mod compression;

@@ -18,7 +18,7 @@ pub struct ImageSize {
     pub height: usize,
 }
 
-/// How many pixels a size has, which 64 bits need not hold.
+/// The number of pixels, which may need more than 64 bits.
 #[inline(always)]
 pub fn area(size: &ImageSize) -> u128
     ensures { result ≡ area_of size.now }
@@ -41,7 +41,7 @@ impl Ord for ImageSize {
     fn cmp(&self, other: &ImageSize) -> Ordering
         ensures value { result ≡ size_cmp self.now other.now }
 
-        // Less and Greater say which size is below the other, and Equal that they are one size.
+        // `Less` and `Greater` say which size is smaller, and `Equal` says that both are the same.
         ensures order { MatchOrdering result
             (IsBelow self.now other.now) (self.now ≡ other.now) (IsBelow other.now self.now) }
         ensures greater_area { area_of other.now < area_of self.now → result ≡ Ordering.Greater }

@@ -8,7 +8,7 @@ use Rattle.std.proofs.lemmas.Nat.{mul-le}
 use Rattle.imagesize.specs.Meaning.{meaning}
 use Rattle.imagesize_io.specs.Answers.{IsLast, over_reader}
 use Rattle.imagesize_io.specs.Telling.{Telling, may_fail}
-use Rattle.imagesize_source.specs.Reading.{is_fault}
+use Rattle.imagesize_source.specs.Errors.{is_fault}
 use Rattle.imagesize_source.specs.declared.error.ImageError.{ImageError}
 use Rattle.imagesize_types.specs.Order.{area_of}
 use Rattle.imagesize_types.specs.declared.size.ImageSize.{ImageSize}

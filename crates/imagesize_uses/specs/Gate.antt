@@ -4,7 +4,7 @@ use Rattle.std.specs.declared.io.Error.{Error}
 use Rattle.imagesize.specs.Meaning.{meaning}
 use Rattle.imagesize_io.specs.Answers.{IsLast, over_reader}
 use Rattle.imagesize_source.specs.Limits.{allowance}
-use Rattle.imagesize_source.specs.Reading.{is_fault}
+use Rattle.imagesize_source.specs.Errors.{is_fault}
 use Rattle.imagesize_io.specs.Telling.{Telling, IsHonest}
 use Rattle.imagesize_source.specs.declared.error.ImageError.{ImageError}
 use Rattle.imagesize_source.specs.State.{total}

@@ -1,4 +1,4 @@
-//! A cache of probes: an answer is kept with the bytes that it rests on, and holds for each input that has them.
+//! A cache of probes: a result is kept with the bytes that it depends on, and holds for each input that has them.
 ghost use Rattle.std.specs.Prelude.{◌≡◌, ℕ, List, IfOk, IsTrue};
 ghost use Rattle.imagesize.specs.Meaning.{meaning};
 ghost use Rattle.imagesize.specs.Traced.{IsSame};
@@ -10,20 +10,20 @@ ghost use Rattle.imagesize_uses.specs.Cache.{IsKept};
 use imagesize::{Span, Trace, blob_trace};
 use std::alloc::{AllocError, Allocator};
 
-/// What is kept of an input: its length, its type and size, and the bytes that tell them.
+/// What is kept of an input: its length, its type and size, and the bytes that these depend on.
 #[derive(Debug, Drop)]
 pub struct Kept<A: Allocator> {
-    /// How many bytes the input has.
+    /// The length of the input in bytes.
     pub length: usize,
-    /// Its type and size, and the spans of the bytes that tell them.
+    /// Its type and size, and the spans of the bytes that these depend on.
     pub trace: Trace<A>,
-    /// The bytes in these spans, span behind span.
+    /// The bytes in these spans, one span after another.
     pub bytes: Vec<u8, A>,
 }
 
-/// Probes an input, and keeps the answer with the bytes that it rests on.
+/// Probes an input, and keeps the result with the bytes that it depends on.
 ///
-/// Errors: `AllocError` where memory for the spans or their bytes was refused.
+/// Errors: `AllocError` if memory for the spans or their bytes cannot be allocated.
 pub fn keep<A: Allocator + Copy>(alloc: A, data: &[u8]) -> Result<Kept<A>, AllocError>
     ensures { IfOk result (IsKept «data».now) }
 {
@@ -36,19 +36,19 @@ pub fn keep<A: Allocator + Copy>(alloc: A, data: &[u8]) -> Result<Kept<A>, Alloc
     })
 }
 
-/// Whether what is kept of an input holds for another one, by its length and the kept bytes alone.
+/// Whether the kept result also holds for another input, judged by its length and the kept bytes alone.
 #[tactic(auto, using(crate::proofs::Spans::agrees_by_bytes, crate::proofs::Spans::bytes_by_agreement))]
 pub fn still_holds<A: Allocator>(kept: &Kept<A>, data: &[u8]) -> bool
-    // Where it holds, the other input has the type, the size and the spans of the one that is kept.
+    // If it holds, the other input has the type, the size and the spans of the kept one.
     ensures same { (d : List ℕ) → IsKept d kept.now → IsTrue result → IsSame d «data».now }
 
-    // It holds for each input that agrees with that one on the spans.
+    // It holds for each input that agrees with the kept one on the spans.
     ensures found { (d : List ℕ) → IsKept d kept.now → Agrees d «data».now (meaning d 0).marks → IsTrue result }
 {
     data.len() == kept.length && has_bytes(data, &kept.trace.spans, &kept.bytes)
 }
 
-// The bytes of an input in the spans, span behind span.
+// The bytes of an input in the spans, one span after another.
 fn bytes_in<A: Allocator>(alloc: A, data: &[u8], spans: &[Span]) -> Result<Vec<u8, A>, AllocError>
     ensures { IfOk result (λ bytes. bytes.items ≡ bytes_of «data».now spans.now) }
 {
@@ -59,7 +59,7 @@ fn bytes_in<A: Allocator>(alloc: A, data: &[u8], spans: &[Span]) -> Result<Vec<u
     Ok(bytes)
 }
 
-// Whether an input has these bytes in the spans, span behind span.
+// Whether an input has these bytes in the spans, one span after another.
 fn has_bytes(data: &[u8], spans: &[Span], bytes: &[u8]) -> bool
     ensures same { IsTrue result → bytes_of «data».now spans.now ≡ bytes.now }
     ensures found { bytes_of «data».now spans.now ≡ bytes.now → IsTrue result }

@@ -2,13 +2,12 @@
 ghost use Rattle.std.specs.Prelude.{◌≡◌, ◌<◌};
 ghost use Rattle.std.specs.Int.{div_ceil};
 ghost use Rattle.imagesize.specs.Meaning.{size_of};
-ghost use Rattle.imagesize_source.specs.Reading.{map_answer};
-ghost use Rattle.imagesize_uses.specs.Document.{page_size_of, points_of};
+ghost use Rattle.imagesize_uses.specs.Document.{on_page, points_of};
 
 use imagesize::{ImageResult, ImageSize, ImageType};
 use std::io::Cursor;
 
-/// A size on a page, in points, of which 72 are an inch.
+/// A size on a page in points, which are 1/72 inch.
 #[derive(Clone, Copy, Debug, PartialEq, Eq)]
 pub struct PageSize {
     /// The width in points.
@@ -17,12 +16,12 @@ pub struct PageSize {
     pub height: u128,
 }
 
-/// The least whole points that hold an image of a known type, printed at a number of pixels to the inch.
+/// The size of an image of a known type on a page, printed at a number of pixels per inch. Points are rounded up.
 ///
-/// Errors: those of `ImageType::reader_size`, but that no reading fails.
+/// Errors: those of `ImageType::reader_size`, except that no read fails.
 pub fn size_on_page(kind: ImageType, data: &[u8], pixels_per_inch: u32) -> ImageResult<PageSize>
     requires { 0 < pixels_per_inch }
-    ensures { result ≡ map_answer (page_size_of pixels_per_inch) (size_of kind «data».now).answer }
+    ensures { result ≡ on_page pixels_per_inch (size_of kind «data».now).answer }
 {
     let ImageSize { width, height } = kind.reader_size(&mut Cursor::new(data))?;
     Ok(PageSize {
@@ -31,7 +30,7 @@ pub fn size_on_page(kind: ImageType, data: &[u8], pixels_per_inch: u32) -> Image
     })
 }
 
-// The least whole points that hold so many pixels.
+// The length of this many pixels in points, rounded up.
 fn points(pixels: usize, pixels_per_inch: u32) -> u128
     requires { 0 < pixels_per_inch }
     ensures { result ≡ points_of pixels_per_inch pixels }

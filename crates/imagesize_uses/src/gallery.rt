@@ -1,5 +1,5 @@
-//! An index of a gallery: sizes from the fronts of files.
-ghost use Rattle.std.specs.Prelude.{◌≡◌, ℕ, ◌++◌, List, IfSome, Ok, false, None, if◌then◌else◌};
+//! An index of a gallery: sizes from the first bytes of files.
+ghost use Rattle.std.specs.Prelude.{◌≡◌, ℕ, ◌++◌, List, IfSome, Ok, None, if◌then◌else◌};
 ghost use Rattle.std.specs.Result.{result_ok};
 ghost use Rattle.imagesize.specs.Counts.{lasts_as};
 ghost use Rattle.imagesize.specs.Types.{lasts};
@@ -7,15 +7,15 @@ ghost use Rattle.imagesize.specs.Meaning.{kind_of, meaning};
 
 use imagesize::{ImageSize, ImageType, blob_size, image_type};
 
-/// The size in pixels of the image in a file, by the file's first bytes; none where more bytes are needed to tell it,
-/// and none where the bytes are of no type or their type's layout refuses them.
+/// The size in pixels of the image in a file, from the file's first bytes. `None` if the size needs more bytes, or if these
+/// have an error.
 ///
-/// Bytes that follow may change the size of a HEIF, an icon and a TGA, so no front tells theirs.
+/// Appended bytes may change the size of a HEIF, an icon and a TGA: for these types the result is always `None`.
 pub fn size_by_front(front: &[u8]) -> Option<ImageSize>
-    // A size is that of the file, whatever bytes follow.
+    // A size is the size of the whole file, whatever bytes are appended.
     ensures stays { IfSome result (λ size. (rest : List ℕ) → (meaning (front.now ++ rest) 0).answer ≡ Ok size) }
 
-    // Of each other type, every size that the front has is told.
+    // For each other type, every size that the first bytes have is returned.
     ensures value { result ≡ (if lasts_as (kind_of front.now 0).answer then result_ok (meaning front.now 0).answer else None) }
 {
     match image_type(front) {
@@ -24,7 +24,7 @@ pub fn size_by_front(front: &[u8]) -> Option<ImageSize>
     }
 }
 
-// Whether bytes that follow leave a size of this type as it is.
+// Whether appended bytes cannot change a size of this type.
 fn told_by_front(kind: ImageType) -> bool
     ensures { result ≡ lasts kind }
 {

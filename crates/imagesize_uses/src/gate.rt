@@ -1,5 +1,5 @@
-//! A gate for uploads: an image is admitted where it has few enough pixels.
-ghost use Rattle.std.specs.Prelude.{◌≡◌, ℕ, ◌*◌, ◌+◌, ◌-◌, ◌^◌, ◌<◌, ◌≤◌, ◌||◌, IfErr, IfOk, IsErr, None, Some, is_none, length, nat_eq, option_map, take, true};
+//! A check of uploads: an image is admitted if it has few enough pixels.
+ghost use Rattle.std.specs.Prelude.{◌≡◌, ◌*◌, ◌+◌, ◌-◌, ◌^◌, ◌<◌, ◌≤◌, ◌||◌, IfOk, IsErr, None, Some, is_none, length, nat_eq, option_map, take, true};
 ghost use Rattle.imagesize_io.specs.Answers.{Leaves};
 ghost use Rattle.imagesize_io.specs.Telling.{ReadTells, SeekTells, count_after, failure_after, failure_after_read, may_fail};
 ghost use Rattle.imagesize_uses.specs.Gate.{Admits, Decides, IfTooLarge, IsFaultOf, gate_verdict, limit_of, limited_count, limited_failure};
@@ -12,28 +12,28 @@ use std::io::{self, SeekFrom};
 /// Why an image is not admitted.
 #[derive(Debug, Drop)]
 pub enum Rejection {
-    /// It has a size, of more pixels than may be.
+    /// The image has this size, which is too many pixels.
     TooLarge(ImageSize),
     /// No size was found, for this reason.
     NoSize(ImageError),
 }
 
-/// What a gate answers.
+/// The result of the check.
 #[derive(Debug, Drop)]
 pub struct Admission {
-    /// The size in pixels of the image that is admitted, or why none is.
+    /// The size in pixels of the admitted image, or why none is admitted.
     pub verdict: Result<ImageSize, Rejection>,
-    /// How many bytes of the reader were taken to say so.
+    /// How many bytes were read from the reader.
     pub taken: u64,
 }
 
-/// Admits the image in a reader's bytes where its size has no more pixels than a limit.
+/// Admits the image in a reader's bytes if its size has at most `most_pixels` pixels.
 ///
-/// The reader stands at an unstated place then, and may be used again.
+/// Afterwards the reader's offset is unspecified, and the reader may be used again.
 pub fn admit<R: Told>(reader: &mut R, most_pixels: u64) -> Admission
     ensures admits { Admits (R.telling reader.old) most_pixels result }
 
-    // Over every reader, also one that lies:
+    // For every reader, even one that reports a wrong length:
     ensures few { IfOk result.verdict (λ size. size.width * size.height ≤ most_pixels) }
     ensures many { IfTooLarge result.verdict (λ size. most_pixels < size.width * size.height) }
     ensures counts { R.count reader.new ≡ option_map (λ c. c + result.taken) (R.count reader.old) }
@@ -47,7 +47,7 @@ pub fn admit<R: Told>(reader: &mut R, most_pixels: u64) -> Admission
     }
 }
 
-// What a gate says of a size, or of its refusal.
+// The verdict on a size, or on its error.
 fn judge(answer: ImageResult<ImageSize>, most_pixels: u64) -> Result<ImageSize, Rejection>
     ensures { result ≡ gate_verdict most_pixels answer }
 {
@@ -58,14 +58,14 @@ fn judge(answer: ImageResult<ImageSize>, most_pixels: u64) -> Result<ImageSize, 
     }
 }
 
-/// Gives what another reader gives, up to a number of bytes: each read behind them is a fault.
+/// Gives what another reader gives, up to a number of bytes: each read past them is a fault.
 #[derive(Drop)]
 pub struct Limited<'a, R: Told> {
     /// The other reader.
     pub reader: &'a mut R,
-    /// How many bytes may still be given.
+    /// How many bytes may still be read.
     pub left: u64,
-    /// The error of the last call that failed, where that was a read behind the limit.
+    /// The error of the last call that failed, if that was a read past the limit.
     pub spent: Option<io::Error>,
     pub ghost short: { left < 2 ^ 64 },
     pub ghost ends: { is_none spent || nat_eq left 0 ≡ true },
@@ -74,7 +74,7 @@ pub struct Limited<'a, R: Told> {
 impl<R: Told> Told for Limited<'_, R> {
     ghost telling = { λ r. may_fail (R.telling r.reader.now) };
 
-    // It rises as what is left falls, so no call gives more than was left. It also tells the count of the reader below.
+    // It rises as `left` falls, so no call gives more bytes than were left. It also has the count of the other reader.
     ghost count = { λ r. limited_count r.reader.ghost_name (R.count r.reader.now) r.left };
 
     ghost failure = { λ r. limited_failure r.spent (R.failure r.reader.now) };
@@ -86,7 +86,8 @@ impl<R: Told> Told for Limited<'_, R> {
             ≡ count_after (limited_count self.old.reader.ghost_name (R.count self.old.reader.now) self.old.left) result }
         ensures fails { limited_failure self.new.spent (R.failure self.new.reader.now)
             ≡ failure_after_read (limited_failure self.old.spent (R.failure self.old.reader.now)) result }
-        // Before the end it fails only where the other reader does: a read is one of it, into no more room than is left.
+        // Before the limit, a read makes one read of the other reader, of at most `left` bytes, and fails only if that one
+        // does.
         ensures below { 0 < self.old.left → ReadTells (R.telling self.old.reader.now) (R.telling self.new.reader.now)
             (take self.old.left room.new) result }
         ensures last { 0 < self.old.left → R.failure self.new.reader.now ≡ failure_after_read (R.failure self.old.reader.now) result }
@@ -119,18 +120,18 @@ impl<R: Told> Told for Limited<'_, R> {
     }
 }
 
-/// Admits as `admit` does an upload that is said to have this length, and takes no more than these and 64,
-/// whatever the reader does. Where it gives more and the size was not found in these, the refusal is a fault.
+/// Works like `admit`, for an upload that should have this length. It reads at most 64 bytes more, whatever the reader does.
+/// If the reader reports a greater length and the size needs more bytes than that, the error is a fault.
 pub fn admit_within<R: Told>(reader: &mut R, length: u64, most_pixels: u64) -> Admission
     ensures admits { Admits (may_fail (R.telling reader.old)) most_pixels result }
 
-    // Over every reader, also one that lies:
+    // For every reader, even one that reports a wrong length:
     ensures few { IfOk result.verdict (λ size. size.width * size.height ≤ most_pixels) }
     ensures many { IfTooLarge result.verdict (λ size. most_pixels < size.width * size.height) }
     ensures counts { R.count reader.new ≡ option_map (λ c. c + result.taken) (R.count reader.old) }
     ensures limit { result.taken ≤ limit_of length }
 
-    // Below the limit a fault is the reader's own, and the image is judged where it tells none.
+    // Below the limit a fault is the reader's own, and without a fault the image is judged.
     ensures fault { result.taken < limit_of length → IsFaultOf (R.failure reader.new) result.verdict }
     ensures whole { Decides (R.telling reader.old) (R.failure reader.new) (limit_of length) most_pixels result }
 {

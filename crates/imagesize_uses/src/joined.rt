@@ -1,4 +1,4 @@
-//! A reader of one's own: over two slices, the second behind the first.
+//! A custom reader: over two slices, one after the other.
 ghost use Rattle.std.specs.Prelude.{◌≡◌, ℕ, ◌+◌, ◌-◌, ◌++◌, ◌<◌, ◌≤◌, ◌^◌, min, length, take, Some, None, false};
 ghost use Rattle.imagesize.specs.Meaning.{meaning};
 ghost use Rattle.imagesize_source.specs.Input.{part};
@@ -17,7 +17,7 @@ pub struct Joined<'a> {
 }
 
 impl<'a> Joined<'a> {
-    /// The bytes of both, from the first on.
+    /// The bytes of both, read from the first one on.
     pub fn new(first: &'a [u8], second: &'a [u8]) -> Joined<'a>
         requires { length first.now + length second.now < 2 ^ 63 }
         ensures first { result.first ≡ first.entry }
@@ -32,7 +32,7 @@ impl<'a> Joined<'a> {
     }
 }
 
-/// It tells the bytes of both and its place, cannot fail, is never interrupted and counts nothing. A read ends where
+/// Its model is the bytes of both and its offset. It cannot fail, is never interrupted and counts nothing. A read ends where
 /// the first slice does.
 impl Told for Joined<'_> {
     ghost telling = { λ r. Some (record {
@@ -65,7 +65,7 @@ impl Told for Joined<'_> {
     }
 }
 
-// The bytes from a place of two slices on, up to the end of the one that they stand in.
+// The bytes of two slices from an offset on, up to the end of the slice that has this offset.
 #[tactic(auto, using(crate::proofs::Joins::in_first, crate::proofs::Joins::in_second))]
 fn rest_of<'a>(first: &'a [u8], second: &'a [u8], place: usize) -> &'a [u8]
     requires { place ≤ length first.now + length second.now }
@@ -90,7 +90,7 @@ pub(crate) fn copy_front(bytes: &[u8], room: &mut [u8]) -> usize
     count
 }
 
-/// The size in pixels of the image whose bytes stand in two slices, the second behind the first.
+/// The size in pixels of the image whose bytes are in two slices, one after the other.
 ///
 /// Errors: those of `imagesize::blob_size`.
 pub fn joined_size(first: &[u8], second: &[u8]) -> ImageResult<ImageSize>

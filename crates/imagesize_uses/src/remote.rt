@@ -1,4 +1,4 @@
-//! An input that is fetched, as by range requests, until its type and size are known.
+//! An input that is fetched, for example by range requests, until its type and size are known.
 ghost use Rattle.std.specs.Prelude.{◌≡◌, ℕ, ◌+◌, ◌*◌, ◌^◌, ◌<◌, ◌≤◌, ◌++◌, List, Option, Some, length, take, IfErr, IfOk};
 ghost use Rattle.imagesize.specs.Meaning.{meaning};
 ghost use Rattle.imagesize_source.specs.Counts.{places};
@@ -12,21 +12,21 @@ use imagesize::{ImageResult, ImageSize, ImageType, PartsAnswer, Span, parts_prob
 use std::alloc::{AllocError, Allocator};
 use std::io::{self, ErrorKind};
 
-/// An input whose bytes stand elsewhere, and are fetched by place.
+/// An input whose bytes are elsewhere, and are fetched by offset.
 pub trait Remote {
     /// Its bytes.
     ghost input: { Self → List ℕ };
 
-    /// How many fetches there were: each that gave bytes, and those that failed as far as it counts them.
+    /// How many fetches there were: each that gave bytes, and the failed ones as far as it counts them.
     ghost fetches: { Self → ℕ };
 
-    /// How many bytes they asked for, all together.
+    /// How many bytes they requested in all.
     ghost asked: { Self → ℕ };
 
-    /// The last of them.
+    /// The last fetch.
     ghost last: { Self → Option Fetch };
 
-    /// How many bytes it has.
+    /// The length of the input in bytes.
     fn length(&self) -> u64
         ensures length { result ≡ length (input self.now) }
         ensures short { result < 2 ^ 63 };
@@ -42,23 +42,23 @@ pub trait Remote {
         ensures last { last self.new ≡ Some (record { wanted = length room.new; gave = result }) };
 }
 
-/// What an input is.
+/// Type and size of an input.
 #[derive(Debug, Drop)]
 pub struct Probed {
-    /// The type, where one was found.
+    /// The type, if one was found.
     pub kind: Option<ImageType>,
-    /// The size in pixels, or why there is none.
+    /// The size in pixels, or the error.
     pub answer: ImageResult<ImageSize>,
 }
 
-/// Why nothing is known of an input.
+/// Why an input could not be probed.
 #[derive(Debug, Drop)]
 pub enum Interrupted {
     /// A fetch failed.
     Failed(io::Error),
-    /// A fetch gave fewer bytes than were asked for.
+    /// A fetch gave fewer bytes than it requested.
     Short,
-    /// There was no memory for the parts.
+    /// Memory for the parts could not be allocated.
     Memory,
 }
 
@@ -70,10 +70,10 @@ impl From<AllocError> for Interrupted {
     }
 }
 
-/// Type and size of the image in an input of which what is needed is fetched, and nothing else.
+/// Reads type and size of the image in an input, and fetches only what is needed for them.
 ///
-/// Errors: the first fetch that fails or gives too few bytes, and `Interrupted::Memory` where memory for the parts was refused.
-/// No fetch failed before `Interrupted::Memory`, and none gave too few bytes.
+/// Errors: the first fetch that fails or gives too few bytes, and `Memory` if memory for the parts cannot be allocated.
+/// Before `Memory`, no fetch failed or gave too few bytes.
 pub fn probe_remote<A: Allocator + Copy, R: Remote>(
     alloc: A,
     remote: &mut R,
@@ -81,14 +81,14 @@ pub fn probe_remote<A: Allocator + Copy, R: Remote>(
     ensures answer { IfOk result (IsOf (R.input remote.old)) }
     ensures stops { Stops (R.last remote.old) (R.last remote.new) result }
 
-    // There are no more fetches than the spans of the trace have places, each counted once.
+    // There are at most as many fetches as the spans of the trace cover bytes, each byte counted once.
     ensures few { R.fetches remote.new ≤ R.fetches remote.old + places (length (R.input remote.old)) (meaning (R.input remote.old) 0).marks }
 
-    // Each asks for at most the bytes of one span, where no texts are read.
+    // Except for text formats, each fetch requests at most the bytes of one span.
     ensures most { R.asked remote.new ≤ R.asked remote.old
         + places (length (R.input remote.old)) (meaning (R.input remote.old) 0).marks * most_at_once (R.input remote.old) }
 
-    // It ends without an answer only where a byte is wanted: for what is told without any it wants no memory and makes no fetch.
+    // It fails only if a byte is needed: a result that needs none allocates nothing and makes no fetch.
     ensures some { IfErr result (λ _. 0 < places (length (R.input remote.old)) (meaning (R.input remote.old) 0).marks) }
 {
     let whole = remote.length();
@@ -105,7 +105,7 @@ pub fn probe_remote<A: Allocator + Copy, R: Remote>(
     }
 }
 
-// Fetches the bytes of a span behind those that are there.
+// Fetches the bytes of a span, and appends them.
 fn fetch_part<A: Allocator, R: Remote>(
     alloc: A,
     remote: &mut R,
@@ -128,7 +128,7 @@ fn fetch_part<A: Allocator, R: Remote>(
     }
 }
 
-/// An input in memory as one that is fetched: a fetch gives no more bytes than a limit, and after a number of fetches each fails.
+/// An input in memory that is fetched. A fetch gives at most `most` bytes, and after a number of fetches each fails.
 #[derive(Drop)]
 pub struct Held<'a> {
     bytes: &'a [u8],
@@ -141,7 +141,7 @@ pub struct Held<'a> {
 }
 
 impl<'a> Held<'a> {
-    /// These bytes, with at most `most` of them a fetch, and with `left` fetches that do not fail.
+    /// An input with these bytes. Each fetch gives at most `most` of them, and the first `left` fetches succeed.
     pub fn new(bytes: &'a [u8], most: usize, left: u64) -> Held<'a>
         ensures { result.bytes.now ≡ bytes.now }
     {
@@ -191,7 +191,7 @@ impl Remote for Held<'_> {
     }
 }
 
-// Copies what is there of the bytes from a place on, at most so many, and answers how many that is.
+// Copies the bytes from an offset on, as far as there are any and at most `most`, and returns how many were copied.
 fn copy_part(bytes: &[u8], place: u64, most: usize, room: &mut [u8]) -> usize
     ensures bound { result ≤ length room.new }
     ensures copied { take result room.new ≡ part bytes.now place result }

@@ -1,4 +1,4 @@
-//! Each caller once, on worked inputs.
+//! Each caller once, on test vectors.
 
 use crate::cache::{keep, still_holds};
 use crate::document::{PageSize, size_on_page};
@@ -14,7 +14,7 @@ use std::test::Fail;
 // A GIF of 100 by 100.
 const GIF: &[u8] = b"GIF89ad\0d\0\0\0";
 
-// A JPEG of 7 by 5 behind 30 empty segments, read to its end.
+// A JPEG of 7 by 5 pixels with 30 empty segments before its frame, read to its end.
 const LONG_JPEG: &[u8] = b"\xFF\xD8\
     \xFF\xE0\0\x02\xFF\xE0\0\x02\xFF\xE0\0\x02\xFF\xE0\0\x02\xFF\xE0\0\x02\xFF\xE0\0\x02\
     \xFF\xE0\0\x02\xFF\xE0\0\x02\xFF\xE0\0\x02\xFF\xE0\0\x02\xFF\xE0\0\x02\xFF\xE0\0\x02\

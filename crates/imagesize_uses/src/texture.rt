@@ -1,4 +1,4 @@
-//! A checker of textures: a file is a texture in a compression that is wanted, with sides that are powers of two.
+//! A checker of textures: a file must be a texture in a given compression, with sides that are powers of two.
 ghost use Rattle.std.specs.Prelude.{◌≡◌, ◌≤◌, ◌↔◌, IfErr, IfOk, IsTrue};
 ghost use Rattle.std.specs.Option.{option_copied};
 ghost use Rattle.std.specs.Int.{is_power_of_two};
@@ -9,14 +9,14 @@ ghost use Rattle.imagesize_types.specs.declared.size.ImageSize.{ImageSize};
 
 use imagesize::{CompressionFamily, ImageError, ImageSize, ImageType, blob_size, image_type};
 
-/// Why a file is not the texture that is wanted.
+/// Why a file is not such a texture.
 #[derive(Debug, Drop)]
 pub enum Flaw {
-    /// It is no image, or has no size, for this reason.
+    /// It is not an image, or has no size, for this reason.
     NoImage(ImageError),
-    /// It is of this type, whose compression is another or not known.
+    /// It has this type, whose compression is another or unknown.
     OtherCompression(ImageType),
-    /// A side is no power of two, or is too long.
+    /// A side is not a power of two, or is too long.
     Sides(ImageSize),
 }
 
@@ -39,8 +39,8 @@ pub struct Texture {
     pub container: Option<&'static str>,
 }
 
-/// The texture that a file's bytes hold, where it is compressed as is wanted and each of its sides is a power of two
-/// of no more pixels than a limit.
+/// The texture in a file's bytes. Its compression must be of this family, and each side a power of two of at most `most_side`
+/// pixels.
 ///
 /// Errors: the first flaw of the type, of its compression, of the size and of the sides.
 pub fn check_texture(
@@ -48,12 +48,12 @@ pub fn check_texture(
     family: CompressionFamily,
     most_side: usize,
 ) -> Result<Texture, Flaw>
-    // A texture that is answered is as wanted, and stands in the container that is named.
+    // A returned texture meets these conditions, and is in the named container.
     ensures texture { IfOk result (λ texture. IsTexture «data».now family most_side texture.size) }
     ensures container { IfOk result (λ texture.
         IfOk (kind_of «data».now 0).answer (λ type. option_copied texture.container ≡ container_of type)) }
 
-    // What is refused is none, and the flaw is so.
+    // A rejected file does not meet them, and the flaw is the one that is returned.
     ensures flaw { IfErr result (IsFlaw «data».now family most_side) }
     ensures none { IfErr result (λ _. (size : ImageSize) → IsTexture «data».now family most_side size → ⊥) }
 {
@@ -71,14 +71,14 @@ pub fn check_texture(
     })
 }
 
-// Whether each side is a power of two of no more pixels than a limit.
+// Whether each side is a power of two of at most `most_side` pixels.
 fn has_sides(size: ImageSize, most_side: usize) -> bool
     ensures { IsTrue result ↔ HasSides most_side size }
 {
     is_side(size.width, most_side) && is_side(size.height, most_side)
 }
 
-// Whether a side is a power of two of no more pixels than a limit.
+// Whether a side is a power of two of at most `most_side` pixels.
 fn is_side(side: usize, most_side: usize) -> bool
     ensures { IsTrue result ↔ (IsTrue (is_power_of_two side) × (side ≤ most_side)) }
 {

@@ -1,4 +1,4 @@
-//! What is returned of inputs that are read as a type, and of readers that stand behind other bytes.
+//! The results for inputs that are read as a type, and for readers whose offset is not 0.
 
 use crate::checks::parts::{How, fetch};
 use crate::inputs::{DDS, GIF, LOSSY_WEBP, PNM_WITH_A_COMMENT};
@@ -10,10 +10,10 @@ use std::io::Cursor;
 use std::process::Abort;
 use std::test::Fail;
 
-// A width and a height in pixels, or the text of a refusal.
+// A width and a height in pixels, or the text of an error.
 type Wanted<'a> = Result<(usize, usize), &'a str>;
 
-// An input that is read as a type, of which it need not be.
+// An input that is read as a type, which need not be its own.
 #[derive(Clone, Copy)]
 struct ReadAs {
     // What it shows.
@@ -22,9 +22,9 @@ struct ReadAs {
     bytes: &'static [u8],
     // The type that it is read as.
     kind: ImageType,
-    // Its size, or its refusal.
+    // Its size, or its error.
     answer: Wanted<'static>,
-    // How many bytes a reader gives of it for its size.
+    // How many bytes a reader gives for its size.
     taken: u64,
 }
 
@@ -91,7 +91,7 @@ fn read_as() -> &'static [ReadAs] {
     &READ_AS
 }
 
-// Whether a size is the wanted one, or a refusal has the wanted text.
+// Whether a size is the expected one, or an error has the expected text.
 fn is_answer(
     alloc: Global,
     wanted: Wanted<'_>,
@@ -119,7 +119,7 @@ fn places_of_a_size_count_from_the_first_byte(rt: HostRuntime) -> Result<(), Fai
     Ok(())
 }
 
-// A type reads a size, wherever the reader stands.
+// A type reads a size, whatever the reader's offset is.
 fn check_size_as(
     rt: &(impl Abort + AllocGlobal),
     bytes: &[u8],
@@ -143,7 +143,7 @@ fn check_size_as(
     Ok(())
 }
 
-// A type reads a size from the parts of an input, a byte at a time, by no more bytes than a reader gives for it.
+// A type reads a size from the parts of an input, byte by byte, and fetches no more bytes than a reader gives for it.
 fn check_parts_as(rt: &(impl Abort + AllocGlobal), row: &ReadAs) -> Result<(), Fail> {
     let alloc = rt.alloc();
     let fetched = fetch(alloc, &row.kind, row.bytes, How::OneByte)

@@ -1,4 +1,4 @@
-//! Whether a worked input has its answer everywhere.
+//! Whether each call has the expected result for a test vector.
 
 pub mod failures;
 pub mod parts;
@@ -12,10 +12,10 @@ use imagesize_readers::allocators::Refusing;
 use std::alloc::{AllocError, Allocator, Global};
 use std::fmt::Display;
 
-// An input that is longer is read by each call once, by one byte a read and by blocks, and no more.
+// A longer input is read by each call once, with one byte per read and in blocks, and no more.
 const LONG: usize = 5_000;
 
-/// Checks a worked input: its slice, readers of all kinds, parts, spans, and memory and calls that fail.
+/// Checks a test vector: its slice, many readers, parts, spans, and memory and calls that fail.
 pub fn check(alloc: Global, row: &Row<'_>) -> Result<(), Wrong> {
     check_slice(alloc, row)?;
     readers::check_whole(alloc, row)?;
@@ -39,14 +39,14 @@ pub fn check(alloc: Global, row: &Row<'_>) -> Result<(), Wrong> {
     }
 }
 
-// What is checked of an input that has a type.
+// The checks for an input that has a type.
 fn check_typed(alloc: Global, row: &Row<'_>, kind: ImageType) -> Result<(), Wrong> {
     readers::check_size_as(alloc, row, kind)?;
     failures::check_failures(alloc, &row.bytes, kind)?;
     failures::check_interruptions(alloc, &row.bytes, kind)
 }
 
-/// Whether a type is that of a row.
+/// Whether a type is the type of a row.
 pub fn is_kind(alloc: Global, row: &Row<'_>, kind: Option<ImageType>) -> Result<bool, AllocError> {
     match kind {
         Some(kind) => Ok(format!(in alloc; "{kind:?}")?.as_str() == row.kind),
@@ -54,7 +54,7 @@ pub fn is_kind(alloc: Global, row: &Row<'_>, kind: Option<ImageType>) -> Result<
     }
 }
 
-/// Whether a size is that of a row, or a refusal has its text.
+/// Whether a size is the size of a row, or an error has its text.
 pub fn is_answer(
     alloc: Global,
     row: &Row<'_>,
@@ -72,7 +72,7 @@ fn is_refusal(alloc: Global, row: &Row<'_>, error: &ImageError) -> Result<bool, 
     Ok(error.to_string(alloc)?.as_str() == row.answer)
 }
 
-/// Whether a type is that of a row, or its refusal has the text of one of no type.
+/// Whether a type is the type of a row. If the row has no type, whether the error has the text for that.
 pub fn is_type(
     alloc: Global,
     row: &Row<'_>,
@@ -84,7 +84,7 @@ pub fn is_type(
     }
 }
 
-// The calls on a slice have the answer.
+// The calls on a slice have the expected result.
 fn check_slice(alloc: Global, row: &Row<'_>) -> Result<(), Wrong> {
     let found = image_type(&row.bytes);
     holds(is_type(alloc, row, &found)?, "the type of the slice")?;
@@ -92,7 +92,7 @@ fn check_slice(alloc: Global, row: &Row<'_>) -> Result<(), Wrong> {
     holds(is_answer(alloc, row, &answer)?, "the size of the slice")
 }
 
-// Whether bytes that follow may change a size of this type.
+// Whether appended bytes may change a size of this type.
 fn may_change(kind: Option<ImageType>) -> bool {
     matches!(
         kind,
@@ -100,7 +100,7 @@ fn may_change(kind: Option<ImageType>) -> bool {
     )
 }
 
-// Bytes that follow change no size, but of the types of which they may.
+// Appended bytes change no size, except for the types that allow it.
 fn check_followed(alloc: Global, row: &Row<'_>) -> Result<(), Wrong> {
     if blob_size(&row.bytes).is_err() || may_change(image_type(&row.bytes).ok()) {
         return Ok(());
@@ -117,7 +117,7 @@ fn check_followed(alloc: Global, row: &Row<'_>) -> Result<(), Wrong> {
     Ok(())
 }
 
-// The size is the same with these bytes behind.
+// The size is the same after these bytes are appended.
 fn check_behind(alloc: Global, row: &Row<'_>, behind: &[u8]) -> Result<(), Wrong> {
     let mut bytes = Vec::new(alloc);
     bytes.extend_from_slice(&row.bytes)?;
@@ -129,7 +129,7 @@ fn check_behind(alloc: Global, row: &Row<'_>, behind: &[u8]) -> Result<(), Wrong
     )
 }
 
-// Whether a trace is that of a row.
+// Whether a trace has the spans of a row.
 fn is_traced<A: Allocator>(
     alloc: Global,
     row: &Row<'_>,
@@ -148,12 +148,12 @@ fn check_trace(alloc: Global, row: &Row<'_>, spans: &[Span]) -> Result<(), Wrong
     holds(is_traced(alloc, row, spans, &trace)?, "the trace")
 }
 
-/// Whether a place lies in one of the spans.
+/// Whether one of the spans has this offset.
 pub fn has(spans: &[Span], place: u64) -> bool {
     spans.iter().any(|span| span.start <= place && place - span.start < span.len)
 }
 
-// The bytes of a row, of which one is changed.
+// The bytes of a row with one of them changed.
 fn changed(alloc: Global, row: &Row<'_>, place: usize) -> Result<Vec<u8>, AllocError> {
     let mut bytes = Vec::new(alloc);
     bytes.extend_from_slice(&row.bytes)?;
@@ -163,7 +163,7 @@ fn changed(alloc: Global, row: &Row<'_>, place: usize) -> Result<Vec<u8>, AllocE
     Ok(bytes)
 }
 
-// Each byte of an input that lies in no span, changed alone, changes nothing.
+// A byte that lies in no span can be changed, and the result is the same.
 fn check_free_bytes(alloc: Global, row: &Row<'_>, spans: &[Span]) -> Result<(), Wrong> {
     for place in 0..row.bytes.len() {
         if !has(spans, place as u64) {
@@ -192,7 +192,7 @@ fn growths(spans: usize) -> u64 {
     growths
 }
 
-// Each growth of the spans is refused in turn: nothing is left then, and the next call has the trace.
+// Each growth of the spans fails in turn. Then nothing stays allocated, and the next call has the trace.
 fn check_growths(alloc: Global, row: &Row<'_>, spans: &[Span]) -> Result<(), Wrong> {
     let growths = growths(spans.len());
     for turn in 0..growths {

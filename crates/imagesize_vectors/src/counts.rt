@@ -1,4 +1,4 @@
-//! How many bytes are taken, and which calls are made of a reader.
+//! How many bytes are read, and which calls of a reader are made.
 
 use crate::inputs::{ETC2, GIF, NESTED_JPEG, TGA};
 use imagesize::{
@@ -8,17 +8,17 @@ use imagesize_readers::readers::{Calls, Counting, Cutting};
 use std::io::{Cursor, ErrorKind};
 use std::test::Fail;
 
-// An input that stands behind four other bytes, and from whose first byte on a reader is asked.
+// An input that comes after four other bytes, with the reader at its first byte.
 const GIF_BEHIND: &[u8] = b"abcdGIF89ad\0d\0\0\0";
 
-// An input, and what is taken of it.
+// An input, and how many bytes of it are read.
 struct Taken {
     bytes: &'static [u8],
-    // How many bytes are before its first one.
+    // How many bytes come before its first one.
     place: u64,
-    // How many are taken for its type.
+    // How many are read for its type.
     of_type: u64,
-    // How many are taken for its type and its size.
+    // How many are read for its type and its size.
     whole: u64,
 }
 
@@ -144,8 +144,8 @@ struct Made {
     of_size: (u32, u32),
 }
 
-// A call asks for the place and for the length once each, and one that reads the type goes back to the place
-// once. A reading then seeks where the reader stands elsewhere, and reads once, but in the window.
+// A call asks for the offset and for the length once each, and one that detects the type goes back to the offset once. Each
+// read then seeks if the reader is at another offset, and reads once, unless the window has the bytes.
 static MADE: [Made; 5] = [
     Made {
         bytes: GIF,
@@ -193,7 +193,7 @@ fn made_rows() -> &'static [Made] {
     &MADE
 }
 
-// The reader of a row, which counts the calls that are made of it.
+// The reader of a row, which counts the calls that are made.
 fn counted<'a>(row: &Made, made: &'a mut (u32, u32)) -> Calls<'a, Cursor<&'static [u8]>> {
     Calls {
         reader: cursor_at(row.bytes, row.place),

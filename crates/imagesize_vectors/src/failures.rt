@@ -1,4 +1,4 @@
-//! What is told beside a fault, and of readers that are interrupted.
+//! What is returned with a fault, and for readers that are interrupted.
 
 use crate::checks::failures::{Call, fault_of, interruptions, is_same, refusal_of};
 use crate::inputs::{GIF, ICON, JPEG_SIZE, jpeg_behind};
@@ -17,7 +17,7 @@ fn the_type_beside_a_fault_is_that_of_the_bytes(rt: HostRuntime) {
             last: None,
         };
         let probed = reader_probe(&mut reader);
-        // The first four calls ask for the place and the length, go back, and read the twelve bytes of the type.
+        // The first four calls ask for the offset and the length, go back, and read the twelve bytes of the type.
         let kind = if turn < 4 { None } else { Some(ImageType::Ico) };
         assert_eq!(rt; probed.kind, kind, "call {turn}");
         if probed.answer.is_ok() {
@@ -42,7 +42,7 @@ fn interrupted_reads_take_no_byte(rt: HostRuntime) {
     }
 }
 
-// A reader of one byte a read, of which every second read is interrupted.
+// A reader with one byte per read, in which every second read is interrupted.
 fn halting(bytes: &[u8], left: u64, error: io::Error) -> Cutting<'static, Halting<'_>> {
     Cutting::one_byte(Halting {
         reader: Interrupted {
@@ -70,7 +70,7 @@ fn sixty_four_tries_are_those_of_a_whole_call(rt: HostRuntime) -> Result<(), Fai
             );
             assert!(rt; is_same(rt.alloc(), &fault, &error)?, "{call:?}");
         }
-        // The type takes twelve bytes, so that only twelve reads of it are interrupted.
+        // The type needs twelve bytes, so that only twelve reads of it are interrupted.
         assert!(rt; refusal_of(Call::Type, halting(&bytes, 65, error)).is_none());
     }
     Ok(())

@@ -1,11 +1,11 @@
-//! What is returned of files.
+//! The results for files.
 
 use imagesize::{ImageError, ImageResult, ImageSize, Reason, size};
 use std::fs;
 use std::io::{self, ErrorKind};
 use std::test::Fail;
 
-// The fault of a file, where there is one.
+// The fault of a file, if there is one.
 fn fault_of(answer: ImageResult<ImageSize>) -> Option<io::Error> {
     match answer {
         Err(ImageError::IoError(Reason::Fault(error))) => Some(error),

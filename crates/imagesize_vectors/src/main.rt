@@ -1,5 +1,5 @@
-//! Worked inputs with their answers, over slices and over readers of all kinds. The program prints the size of each file
-//! that is named, and of a table of worked inputs each row that has not its answer everywhere.
+//! Test vectors over slices and over many readers. The program prints the size of each named file. For a table of test
+//! vectors it prints each row that does not have the expected result everywhere.
 #![tactic(auto)]
 
 #[cfg(test)]
@@ -31,7 +31,7 @@ use std::alloc::Global;
 use std::rt::Files;
 use std::{env, fs, io};
 
-// Prints what is found of each file that is named.
+// Prints what is found in each named file.
 fn main(rt: HostRuntime) -> io::Result<()> {
     let mut names = env::args(&rt)?;
     let _program = names.next();
@@ -53,7 +53,7 @@ fn print_size(rt: &(impl Files + Print + AllocGlobal), name: &str) -> io::Result
     }
 }
 
-// Prints each row of a table that fails, each type of which it has none, and how many rows there are; the tests name some.
+// Prints each row of a table that fails, each type without a row, and the numbers of rows and of those that tests name.
 fn print_table(rt: &(impl Files + Print + AllocGlobal), name: &str) -> io::Result<()> {
     let text = fs::read_to_string(rt, name)?;
     let mut at = 0u64;
@@ -74,7 +74,7 @@ fn print_table(rt: &(impl Files + Print + AllocGlobal), name: &str) -> io::Resul
     println!(rt; "{rows} worked inputs, of which tests name {named}")
 }
 
-// Prints each type of which a table has no row.
+// Prints each type that has no row in a table.
 fn print_lacking(rt: &impl Print, table: &str) -> io::Result<()> {
     for image in ImageType::all() {
         let name = image.name();
@@ -85,7 +85,7 @@ fn print_lacking(rt: &impl Print, table: &str) -> io::Result<()> {
     Ok(())
 }
 
-// Whether the row of a line is of the type of this name, whatever its compression.
+// Whether the row of a line has the type with this name, whatever its compression.
 fn is_of_type(line: &str, name: &str) -> bool {
     match line.split('\t').nth(2) {
         Some(kind) => kind.split('(').next() == Some(name),
@@ -93,7 +93,7 @@ fn is_of_type(line: &str, name: &str) -> bool {
     }
 }
 
-// Checks the worked input of a line, and returns whether a test names it.
+// Checks the test vector of a line, and returns whether a test names it.
 fn check_line(alloc: Global, line: &str) -> Result<bool, Wrong> {
     let row = row_of(alloc, line)?;
     check(alloc, &row)?;

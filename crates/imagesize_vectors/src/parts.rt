@@ -1,5 +1,5 @@
-//! Few bytes of large inputs are fetched, and parts of any shape tell what they have. That the worked inputs have their
-//! answers by parts is checked with the rest of them.
+//! Few bytes of large inputs are fetched, and parts of any shape give what they have. The other checks of the test vectors
+//! also check their results from parts.
 
 use crate::checks::parts::{Both, How, TypeAndSize, fetch};
 use crate::inputs::{GIF, TURNED, jpeg_behind};
@@ -8,7 +8,7 @@ use std::alloc::{AllocError, Global};
 use std::process::Abort;
 use std::test::Fail;
 
-// A JPEG with 216,000 bytes before its frame, and 2,000,000 behind it.
+// A JPEG with 216,000 bytes before its frame, and 2,000,000 after it.
 fn long_jpeg(alloc: Global) -> Result<Vec<u8>, AllocError> {
     let mut bytes = Vec::new(alloc);
     bytes.extend_from_slice(b"\xFF\xD8\xFF\xE1\x4E\x20")?;
@@ -23,7 +23,7 @@ fn long_jpeg(alloc: Global) -> Result<Vec<u8>, AllocError> {
     Ok(bytes)
 }
 
-// A TIFF of 2 MiB whose directory of twelve entries stands at its end.
+// A TIFF of 2 MiB with its directory of twelve entries at the end.
 fn long_tiff(alloc: Global) -> Result<Vec<u8>, AllocError> {
     let mut bytes = Vec::new(alloc);
     bytes.extend_from_slice(b"II*\0\0\0\x20\0")?;
@@ -37,7 +37,7 @@ fn long_tiff(alloc: Global) -> Result<Vec<u8>, AllocError> {
     Ok(bytes)
 }
 
-// An AVIF of 64 by 48 pixels, turned, whose pixels are a megabyte.
+// An AVIF of 64 by 48 pixels, rotated, with a megabyte of pixels.
 fn long_avif(alloc: Global) -> Result<Vec<u8>, AllocError> {
     let mut bytes = Vec::new(alloc);
     bytes.extend_from_slice(TURNED)?;
@@ -56,7 +56,7 @@ fn long_pnm(alloc: Global) -> Result<Vec<u8>, AllocError> {
     Ok(bytes)
 }
 
-// A large input has its answer by so many rounds and bytes at most.
+// A large input has its result after at most so many rounds and bytes.
 fn check_large(
     rt: &(impl Abort + AllocGlobal),
     input: &[u8],
@@ -96,7 +96,7 @@ fn few_bytes_of_large_inputs_are_wanted(rt: HostRuntime) -> Result<(), Fail> {
     check_large(&rt, &tiff, (7, 5), How::Exactly, (26, 158))?;
     check_large(&rt, &tiff, (7, 5), How::Blocks(4095), (2, 4096 + 146))?;
     let avif = long_avif(alloc)?;
-    // the bytes of the short one, and the head of the box behind them
+    // the bytes of the short one, and the head of the box after them
     check_large(&rt, &avif, (48, 64), How::Exactly, (10, 69 + 8))?;
     check_large(&rt, &avif, (48, 64), How::Blocks(4095), (1, 4096))?;
     let pnm = long_pnm(alloc)?;
@@ -111,7 +111,7 @@ fn span(start: u64, len: u64) -> Span {
     Span { start, len }
 }
 
-// Bytes behind others.
+// One sequence of bytes after another.
 fn joined(alloc: Global, first: &[u8], second: &[u8]) -> Result<Vec<u8>, AllocError> {
     let mut bytes = Vec::new(alloc);
     bytes.extend_from_slice(first)?;
@@ -119,12 +119,12 @@ fn joined(alloc: Global, first: &[u8], second: &[u8]) -> Result<Vec<u8>, AllocEr
     Ok(bytes)
 }
 
-// Whether a GIF of 12 bytes is told.
+// Whether a GIF of 12 bytes is found.
 fn is_gif(answer: &PartsAnswer<Both>) -> bool {
     matches!(answer, PartsAnswer::Found((Some(ImageType::Gif), Ok(_))))
 }
 
-// Whether a byte is wanted, and which.
+// The offset of the byte that is requested, if one is.
 fn wanted_of(answer: &PartsAnswer<Both>) -> Option<u64> {
     match answer {
         PartsAnswer::Wanted(wanted) => Some(wanted.start),
@@ -136,7 +136,7 @@ fn wanted_of(answer: &PartsAnswer<Both>) -> Option<u64> {
 fn parts_in_any_shape_tell_what_they_have(rt: HostRuntime) -> Result<(), Fail> {
     let gif = GIF;
     let twice = joined(rt.alloc(), gif, gif)?;
-    // beyond the end, twice, empty, behind the end, and overlapping
+    // past the end, twice, empty, after the end, and overlapping
     assert!(rt; is_gif(&parts_probe(gif, &[span(0, u64::MAX)], 12)));
     assert!(rt; is_gif(&parts_probe(&twice, &[span(0, 12), span(0, 12)], 12)));
     assert!(rt; is_gif(&parts_probe(gif, &[span(3, 0), span(0, 12), span(0, 0)], 12)));

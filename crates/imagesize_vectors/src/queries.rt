@@ -1,4 +1,4 @@
-//! What a type returns of itself.
+//! What a type returns about itself.
 
 use imagesize::{
     AtcCompression, Compression, CompressionFamily, DdsCompression, ImageType, PkmCompression,

@@ -1,4 +1,4 @@
-//! What is returned of readers that lie about their length, stand behind it, or never end.
+//! The results for readers that lie about their length, are past their end, or never end.
 
 use crate::inputs::GIF;
 use imagesize::{
@@ -68,7 +68,7 @@ fn the_greatest_told_lengths_change_no_answer(rt: HostRuntime) -> Result<(), Fai
 
 #[test]
 fn a_read_that_gives_nothing_is_the_last(rt: HostRuntime) {
-    // The reads of a type and of a size: those that give bytes, and the one that gives none.
+    // How many reads the type and the size make: those that give bytes, and the one that gives none.
     for (bytes, of_type, of_size) in [(b"".as_slice(), 1, 1), (b"GIF89ad\0d", 2, 3)] {
         let claiming = || Claiming {
             reader: Cursor::new(bytes),
@@ -148,7 +148,7 @@ static STREAMS: [Stream; 5] = [
         part: b"\n",
         kind: ImageType::Hdr,
     },
-    // A BigTIFF that claims as many entries as it can, and entries of tag 0 and of field type 1.
+    // A BigTIFF that claims the greatest number of entries, and whose entries have tag 0 and field type 1.
     Stream {
         head: b"II+\0\x08\0\0\0\x10\0\0\0\0\0\0\0\xFF\xFF\xFF\xFF\xFF\xFF\xFF\xFF",
         part: b"\0\0\x01\0\0\0\0\0\0\0\0\0\0\0\0\0\0\0\0\0",
@@ -160,7 +160,7 @@ fn streams() -> &'static [Stream] {
     &STREAMS
 }
 
-// The reader of an input without end, which tells a length of 100.
+// The reader of an input without end, which reports a length of 100.
 fn endless(stream: &Stream) -> Claiming<Endless<'static>> {
     Claiming {
         reader: Endless {
@@ -173,7 +173,7 @@ fn endless(stream: &Stream) -> Claiming<Endless<'static>> {
     }
 }
 
-// Whether a budget of 164 bytes was spent, those of the told length and 64.
+// Whether a budget of 164 bytes was spent: the reported length plus 64.
 fn is_spent(answer: &ImageResult<ImageSize>) -> bool {
     matches!(
         answer,

@@ -1,10 +1,10 @@
-//! The table of worked inputs: a row a line, its cells parted by tabs.
+//! The table of test vectors: one row per line, with its cells separated by tabs.
 
 use imagesize::Span;
 use std::alloc::{AllocError, AllocFailed, Global};
 use std::fmt;
 
-/// A worked input, and what is answered of it.
+/// A test vector, with its expected result.
 #[derive(Drop)]
 pub struct Row<'a> {
     /// What it shows.
@@ -13,11 +13,11 @@ pub struct Row<'a> {
     pub bytes: Vec<u8>,
     /// Its type, or `-` for none.
     pub kind: &'a str,
-    /// Its size, as `100x100`, or its refusal.
+    /// Its size, as `100x100`, or its error.
     pub answer: &'a str,
-    /// The spans of its readings in their order, where they are compared.
+    /// The spans of its reads, in order, if they are compared.
     pub spans: Option<Vec<Span>>,
-    /// How many bytes a reader gives of it for its type and its size, where they are compared.
+    /// How many bytes a reader gives for its type and its size, if they are compared.
     pub taken: Option<u64>,
 }
 
@@ -26,12 +26,12 @@ pub struct Row<'a> {
 pub struct Wrong {
     /// What it is.
     pub what: &'static str,
-    /// How many there are, where these are too many.
+    /// How many there are, if these are too many.
     pub count: Option<u64>,
 }
 
 impl Wrong {
-    /// This, in a row as a whole.
+    /// This mistake, in a row as a whole.
     pub fn new(what: &'static str) -> Wrong {
         Wrong { what, count: None }
     }
@@ -59,7 +59,7 @@ impl fmt::Display for Wrong {
     }
 }
 
-/// Nothing where this is so, and else what is wrong.
+/// `Ok` if this is so, and else what is wrong.
 pub fn holds(is_so: bool, what: &'static str) -> Result<(), Wrong> {
     if is_so { Ok(()) } else { Err(Wrong::new(what)) }
 }
@@ -85,7 +85,7 @@ pub fn row_of<'a>(alloc: Global, line: &'a str) -> Result<Row<'a>, Wrong> {
     })
 }
 
-// The first cell of some, and the others.
+// The first cell, and the others.
 fn first_cell(cells: &str) -> Result<(&str, &str), Wrong> {
     cells
         .split_once('\t')
@@ -98,7 +98,7 @@ fn number_of(text: &str) -> Result<u64, Wrong> {
         .ok_or(Wrong::new("a number is wanted"))
 }
 
-// The bytes that a text writes: groups in hex, each with how many times it stands, or `-` for no byte.
+// The bytes that a text writes: groups in hex, each with how often it repeats, or `-` for no byte.
 fn bytes_of(alloc: Global, text: &str) -> Result<Vec<u8>, Wrong> {
     let mut bytes = Vec::new(alloc);
     if text == "-" {
@@ -128,7 +128,7 @@ fn decoded(alloc: Global, digits: &str) -> Result<Vec<u8>, Wrong> {
     Ok(bytes)
 }
 
-// Puts a part behind the bytes, so many times.
+// Appends a part to the bytes, so many times.
 fn extend_times(bytes: &mut Vec<u8>, part: &[u8], times: u64) -> Result<(), AllocError> {
     for _ in 0..times {
         bytes.extend_from_slice(part)?;
@@ -136,7 +136,7 @@ fn extend_times(bytes: &mut Vec<u8>, part: &[u8], times: u64) -> Result<(), Allo
     Ok(())
 }
 
-// The spans that a text writes, as `0+12 6+2`: `-` for none, and `?` where they are not compared.
+// The spans that a text writes, as `0+12 6+2`: `-` for none, and `?` if they are not compared.
 fn spans_of(alloc: Global, text: &str) -> Result<Option<Vec<Span>>, Wrong> {
     let mut spans = Vec::new(alloc);
     match text {

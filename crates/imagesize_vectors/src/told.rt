@@ -1,9 +1,9 @@
-//! What is promised over readers that tell their bytes: each of these is proved of readers that there are.
+//! What is promised for readers with a model: each of these is proved for an actual reader.
 ghost use Rattle.std.specs.Prelude.{◌≡◌, ◌+◌, ◌^◌, ◌<◌, ◌≤◌, length, false, true, IfErr, Some};
 ghost use Rattle.imagesize_io.specs.Answers.{IsLast, RisesWithin};
 ghost use Rattle.std.specs.Io.Cursor.{cursor_inner};
 ghost use Rattle.imagesize.specs.Meaning.{meaning, size_of};
-ghost use Rattle.imagesize_source.specs.Reading.{is_fault, is_stopped, is_faulted};
+ghost use Rattle.imagesize_source.specs.Errors.{is_fault, is_stopped, is_faulted};
 ghost use Rattle.imagesize_source.specs.State.{total};
 
 #[cfg(test)]
@@ -16,8 +16,8 @@ use std::io::{self, Cursor};
 #[cfg(test)]
 use std::test::Fail;
 
-/// The size in pixels through a reader of which a call fails, or the fault of that failure; the refusals of the layouts
-/// are those of `blob_size`.
+/// The size in pixels through a reader with a call that fails, or the fault of that failure. Other errors are those of
+/// `blob_size`.
 pub fn size_or_fault(bytes: &[u8], left: u64, error: io::Error) -> ImageResult<ImageSize>
     ensures size { is_stopped result ≡ false → (meaning bytes.now 0).answer ≡ result }
     ensures fault { is_stopped result ≡ true → is_faulted result ≡ true }
@@ -32,8 +32,8 @@ pub fn size_or_fault(bytes: &[u8], left: u64, error: io::Error) -> ImageResult<I
     })
 }
 
-/// The size in pixels through a reader of one byte a read, of which every second read is interrupted, at most 64
-/// times: that of `blob_size`, or its refusal.
+/// The size in pixels through a reader with one byte per read, in which every second read is interrupted, at most 64 times.
+/// The result is that of `blob_size`.
 pub fn size_in_pieces(bytes: &[u8], left: u64, error: io::Error) -> ImageResult<ImageSize>
     requires { left ≤ 64 }
     ensures { result ≡ (meaning bytes.now 0).answer }
@@ -49,8 +49,7 @@ pub fn size_in_pieces(bytes: &[u8], left: u64, error: io::Error) -> ImageResult<
     }))
 }
 
-/// The size in pixels through a reader whose reads give pieces of these lengths, in bytes: that of `blob_size`, or its
-/// refusal.
+/// The size in pixels through a reader whose reads give pieces of these lengths in bytes. The result is that of `blob_size`.
 pub fn size_by_lengths(bytes: &[u8], lengths: &[usize]) -> ImageResult<ImageSize>
     ensures { result ≡ (meaning bytes.now 0).answer }
 {
@@ -62,8 +61,8 @@ pub fn size_by_lengths(bytes: &[u8], lengths: &[usize]) -> ImageResult<ImageSize
     })
 }
 
-/// The size in pixels through a reader whose first reads are interrupted, at most 64 times: that of `blob_size`, or its
-/// refusal.
+/// The size in pixels through a reader whose first reads are interrupted, at most 64 times. The result is that of
+/// `blob_size`.
 pub fn size_at_last(bytes: &[u8], left: u64, error: io::Error) -> ImageResult<ImageSize>
     requires { left ≤ 64 }
     ensures { result ≡ (meaning bytes.now 0).answer }
@@ -76,8 +75,8 @@ pub fn size_at_last(bytes: &[u8], left: u64, error: io::Error) -> ImageResult<Im
     })
 }
 
-/// The size in pixels of this type through a reader that counts, whose count rises by no more than the readings' bytes;
-/// the errors are those of `ImageType::reader_size`, a fault where the count is full.
+/// The size in pixels, as this type, through a counting reader. Its count rises by at most the lengths of the spans. The
+/// errors are those of `ImageType::reader_size`, and a fault if the count is full.
 pub fn counted_size(
     kind: ImageType,
     reader: &mut Counting<'_, Cursor<&[u8]>>,
@@ -90,14 +89,14 @@ pub fn counted_size(
     kind.reader_size(reader)
 }
 
-/// What is found through a reader that counts, whose count rises by the bytes that are taken.
+/// What is found through a counting reader, whose count rises by the bytes that are read.
 pub fn counted_probe(reader: &mut Counting<'_, Cursor<&[u8]>>) -> Probed
     ensures { reader.new.count.now ≡ reader.old.count.now + result.taken }
 {
     reader_probe(reader)
 }
 
-/// The size in pixels through a reader that is lent and of which a call fails: a fault is its last failure.
+/// The size in pixels through a borrowed reader with a call that fails: a fault is its last failure.
 pub fn lent_size(reader: &mut Failing<Cursor<&[u8]>>) -> ImageResult<ImageSize>
     ensures { IfErr result (λ e. is_fault e ≡ true → IsLast (Some reader.new.last) e) }
 {
@@ -105,7 +104,7 @@ pub fn lent_size(reader: &mut Failing<Cursor<&[u8]>>) -> ImageResult<ImageSize>
     probed.answer
 }
 
-/// The size in pixels of this type through a cursor that another call has read from: that of its bytes, or the refusal.
+/// The size in pixels, as this type, through a cursor that another call has read from. The result is that of its bytes.
 pub fn size_again(kind: ImageType, reader: &mut Cursor<&[u8]>) -> ImageResult<ImageSize>
     requires { length (cursor_inner reader.old).now < 2 ^ 63 }
     ensures { result ≡ (size_of kind (cursor_inner reader.old).now).answer }

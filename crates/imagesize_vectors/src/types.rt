@@ -52,7 +52,7 @@ fn hash_of<T: Hash>(value: &T) -> u64 {
     state.finish()
 }
 
-// Two values of a list are ordered as their places in it are, and alike where these are.
+// Two values of a list are ordered as their positions in it are, and equal if these are.
 fn check_pair<T: Ord + Hash + Debug>(rt: &impl Abort, one: &T, other: &T, order: Ordering) {
     assert_eq!(rt; one.cmp(other), order, "{one:?} and {other:?}");
     assert_eq!(rt;
@@ -69,7 +69,7 @@ fn check_pair<T: Ord + Hash + Debug>(rt: &impl Abort, one: &T, other: &T, order:
     );
 }
 
-// The values of a list are in their order, and a copy of each is the same.
+// The values of a list are in order, and a copy of each is the same.
 fn check_list<T: Ord + Hash + Debug + Clone + Drop>(
     rt: &impl Abort,
     all: &[T],
@@ -89,7 +89,7 @@ fn types_are_ordered_as_they_are_listed(rt: HostRuntime) -> Result<(), Fail> {
     check_list(&rt, ImageType::all())
 }
 
-// No place is left out of the list.
+// No position is left out of the list.
 #[test]
 fn places_are_counted_from_0(rt: HostRuntime) -> Result<(), Fail> {
     let mut places: Vec<u32> = ImageType::all()
@@ -103,7 +103,7 @@ fn places_are_counted_from_0(rt: HostRuntime) -> Result<(), Fail> {
     Ok(())
 }
 
-// What was collected is in its order, and there is so much of it.
+// What was collected is in order, and has this length.
 fn check_collected<T: Ord + Hash + Debug + Clone + Drop>(
     rt: &impl Abort,
     all: Result<Vec<T>, AllocError>,

@@ -1,15 +1,15 @@
 -- ILBM: how a walk along its chunks goes, how many bytes they are read from, and what it sees of an input.
-use Rattle.std.proofs.Common.{false, ℕ, ◌+◌, ◌*◌, ◌<◌, ◌≤◌, true, List, length, arith}
-use Rattle.imagesize_walked.specs.Ilbm.{ilbm, ilbm_chunks, ilbm_named, bitmap_header, chunk_bytes, chunk_length, is_bitmap_header, is_body}
+use Rattle.std.proofs.Common.{◌≡◌, false, ℕ, ◌+◌, ◌*◌, ◌<◌, ◌≤◌, true, List, length, arith}
+use Rattle.imagesize_walked.specs.Ilbm.{ilbm, ilbm_chunks, ilbm_named, bitmap_header, chunk_bytes, chunk_length, is_bitmap_header, is_body, ilbm_chunk}
 use Rattle.imagesize_types.specs.declared.size.ImageSize.{ImageSize}
-use Rattle.imagesize_source.specs.declared.halt.Halt.TheVariants.{Corrupted}
+use Rattle.imagesize_source.specs.declared.halt.Halt.TheVariants.{Corrupted, Ended}
+use Rattle.imagesize_source.specs.Reading.{refuses}
 use Rattle.imagesize_source.specs.Agreement.{IsLocal}
 use Rattle.imagesize_source.specs.Chain.{Said, Next, Advances, records}
 use Rattle.imagesize_source.specs.Counts.{AtMost}
 use Rattle.imagesize_source.specs.Extension.{Plain, Lasts}
-use Rattle.imagesize_source.specs.Layout.{Layout, refuse, done}
+use Rattle.imagesize_source.specs.Layout.{Layout, refuse, done, layout_reads}
 use Rattle.imagesize_source.specs.State.{total}
-use Rattle.imagesize_source.specs.Walk.{CanFollow}
 use Rattle.imagesize_source.proofs.Advances.{Tells, advances}
 use Rattle.imagesize_source.proofs.Ahead.{Ahead, chain_ahead}
 use Rattle.imagesize_source.proofs.PastTheEnd.{bytes_beyond}
@@ -26,7 +26,7 @@ by_name P place head body header other =
     (λ _. on_test P (is_body head) (refuse Corrupted) (done (Next tt (place + chunk_bytes (chunk_length head)))) (λ _. body)
     (λ _. other))
 
-ilbm_advances : (d : List ℕ) → Advances ilbm_chunks d
+pub ilbm_advances : (d : List ℕ) → Advances ilbm_chunks d
 ilbm_advances = advances ilbm_chunks
     (λ passed place head. by_name (Tells (λ p. place < p)) place head tt (λ width height. tt) (omega arith))
     (λ passed place. (omega arith, omega arith))
@@ -57,12 +57,9 @@ ilbm_within d =
     )) in
     omega arith
 
--- a walk can follow the chunks
-pub ilbm_follows : CanFollow ilbm_chunks
-ilbm_follows = record {
-  advances = ilbm_advances;
-  beyond = λ passed place d h. bytes_beyond d place 8 (λ head. ilbm_named place head) h (omega arith);
-}
+-- from the end of the input on there is no chunk
+pub ilbm_ends : (d : List ℕ) (place : ℕ) → length d ≤ place → layout_reads d (ilbm_chunk place) ≡ refuses Ended
+ilbm_ends d place h = bytes_beyond d place 8 (λ head. ilbm_named place head) h (omega arith)
 
 pub ilbm_laws : RecordedLaws 12 18 20 true false ilbm (records ilbm_chunks)
 ilbm_laws = record { local = ilbm_local; cost = ilbm_cost; within = ilbm_within; lasts = λ _. answers_last ilbm ilbm_lasts }

@@ -1,5 +1,5 @@
 -- JPEG: how a walk along its segments goes, how many bytes they are read from, and what it sees of an input.
-use Rattle.std.proofs.Common.{false, zero-add, ◌≡◌, ℕ, ◌+◌, ◌-◌, ◌*◌, ◌^◌, ◌<◌, ◌≤◌, Bool, true, cond, eqb, List, [], ◌∷◌, ◌++◌, length, Result, Ok, Err, IfOk, refl, sym, ap, ◌∙◌, subst, arith, slice_index}
+use Rattle.std.proofs.Common.{false, zero-add, ◌≡◌, ℕ, ◌+◌, ◌-◌, ◌*◌, ◌^◌, ◌<◌, ◌≤◌, Bool, true, cond, eqb, List, [], ◌∷◌, ◌++◌, length, Result, Ok, Err, IfOk, refl, sym, ap, ◌∙◌, subst, arith, slice_index, IfErr}
 use Rattle.std.proofs.lemmas.Bool.Decides.{nat_tests}
 use Rattle.std.proofs.lemmas.List.Sums.{sum_by-append}
 use Rattle.std.specs.Prelude.{count_by}
@@ -7,7 +7,7 @@ use Rattle.imagesize_walked.specs.Jpeg.{jpeg, jpeg_segments, jpeg_segment, jpeg_
 use Rattle.imagesize_walked.specs.Walks.{depth_behind, LeadsTo, LeadsOn, Nested, Stands}
 use Rattle.imagesize_types.specs.declared.size.ImageSize.{ImageSize}
 use Rattle.imagesize_source.specs.declared.halt.Halt.{Halt}
-use Rattle.imagesize_source.specs.declared.halt.Halt.TheVariants.{Corrupted}
+use Rattle.imagesize_source.specs.declared.halt.Halt.TheVariants.{Corrupted, Ended}
 use Rattle.imagesize_source.specs.Agreement.{IsLocal}
 use Rattle.imagesize_source.specs.Chain.{Said, Decided, Next, Advances, records, start}
 use Rattle.imagesize_source.specs.Counts.{AtMost}
@@ -15,10 +15,10 @@ use Rattle.imagesize_source.specs.Extension.{Plain, Lasts}
 use Rattle.imagesize_source.specs.Input.{span_of}
 use Rattle.imagesize_source.specs.declared.endian.Endian.TheVariants.{Big}
 use Rattle.imagesize_source.specs.Layout.{Layout, layout_reads, refuse, done}
-use Rattle.imagesize_source.specs.Reading.{Reads, put_behind, bytes_at, number_at}
+use Rattle.imagesize_source.specs.Reading.{Reads, put_behind, bytes_at, number_at, refuses}
 use Rattle.imagesize_source.specs.Paying.{Nears}
 use Rattle.imagesize_source.specs.State.{State, Runs, total}
-use Rattle.imagesize_source.specs.Walk.{CanFollow, KeepsOn, said_at}
+use Rattle.imagesize_source.specs.Walk.{KeepsOn, said_at}
 use Rattle.imagesize_source.specs.declared.walk.Found.{Found}
 use Rattle.imagesize_source.proofs.Advances.{Tells, advances, tells}
 use Rattle.imagesize_source.proofs.PastTheEnd.{bytes_beyond}
@@ -42,7 +42,7 @@ by_head P k place head none frame other =
     (λ _. other (slice_index head 1))))
     (λ _. none)
 
-jpeg_advances : (d : List ℕ) → Advances jpeg_segments d
+pub jpeg_advances : (d : List ℕ) → Advances jpeg_segments d
 jpeg_advances = advances jpeg_segments
     (λ markers place head. by_head (Tells (λ p. place < p)) (depth markers) place head tt (λ height width. tt)
     (λ marker length. omega arith))
@@ -123,13 +123,16 @@ pub segment_as : {a b : State} {r : Result (Said ℕ ImageSize) Halt} (k place :
 segment_as {a} {b} {r} k place run markers h =
     subst (λ n. Runs a b r (layout_reads a.held.input (jpeg_segment n place))) (sym h.nested.is) run
 
--- a walk can follow the segments
-pub jpeg_follows : CanFollow jpeg_segments
-jpeg_follows = record {
-  advances = jpeg_advances;
-  beyond = λ markers place d h. bytes_beyond d place 2 (λ head. cond (eqb (slice_index head 0) 0xFF)
-      (jpeg_marked (depth markers) place (slice_index head 1)) (refuse Corrupted)) h (omega arith);
-}
+-- a segment that was not read leaves the depth
+pub stands_stay : (k behind place : ℕ) (markers : List ℕ) (r : Result (Found ℕ ImageSize) Halt) → Stands k markers place
+    → IfErr r (λ _. behind ≡ k) → IfErr r (λ _. Stands behind markers place)
+stands_stay k behind place markers (Ok found) h same = tt
+stands_stay k behind place markers (Err why) h same = subst (λ n. Stands n markers place) (sym same) h
+
+-- from the end of the input on there is none
+pub jpeg_ends : (d : List ℕ) (depth place : ℕ) → length d ≤ place → layout_reads d (jpeg_segment depth place) ≡ refuses Ended
+jpeg_ends d depth place h = bytes_beyond d place 2 (λ head. cond (eqb (slice_index head 0) 0xFF)
+    (jpeg_marked depth place (slice_index head 1)) (refuse Corrupted)) h (omega arith)
 
 -- What may be read from a place on: the bytes there, and 6 more where a segment can begin. A length below 2
 -- leads to one of its own bytes, which is not FF.

@@ -1,5 +1,9 @@
 -- What the walks of the code hold and say, of one record at a place.
-use Rattle.std.specs.Prelude.{◌≡◌, ℕ, ◌+◌, ◌-◌, ◌<◌, ◌≤◌, ◌==◌, List, if◌then◌else◌}
+use Rattle.std.specs.Prelude.{◌≡◌, ℕ, ◌+◌, ◌-◌, ◌<◌, ◌≤◌, ◌==◌, List, length, if◌then◌else◌, Option, None}
+use Rattle.std.specs.Option.{ForSome}
+use Rattle.imagesize_source.specs.Layout.{Layout, if_there}
+use Rattle.imagesize_source.specs.Layout.Layout.{done}
+use Rattle.imagesize_types.specs.Largest.{area_if_some, greatest_area, last_largest}
 use Rattle.imagesize_source.specs.Chain.{Said, Decided, Next}
 use Rattle.imagesize_types.specs.declared.size.ImageSize.{ImageSize}
 use Rattle.imagesize_walked.specs.Jpeg.{depth, count_starts, count_ends}
@@ -39,3 +43,14 @@ RoleLeadsOn depth marker (role.Other behind) = LeadsTo depth marker behind
 pub record IsIcon (size : ImageSize) : Type 0 where
   pub wide : size.width ≤ 256
   pub high : size.height ≤ 256
+
+-- so many entries of icons were read, and this is the largest of their sizes, with its area
+pub record Seen (count : ℕ) (largest : Option ImageSize) (sizes : List ImageSize) : Type 0 where
+  pub many : length sizes ≡ count
+  pub is : last_largest sizes ≡ largest
+  pub area : greatest_area sizes ≡ area_if_some largest
+  pub icon : ForSome largest IsIcon
+
+-- the first bytes of the entry at an offset, of which so many are behind it; none behind the last
+abbrev pub entry_in : ℕ → ℕ → ℕ → Layout (Option (List ℕ))
+entry_in count seen place = if seen == count then done None else if_there place 2 done

@@ -1,4 +1,4 @@
-//! The formats of records.
+//! Image formats whose size is in one of a sequence of segments, chunks or entries.
 
 pub mod ico;
 pub mod ilbm;

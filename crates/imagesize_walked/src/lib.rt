@@ -1,4 +1,4 @@
-//! Formats whose sizes stand behind records.
+//! Formats whose size is found by a walk along segments, chunks or entries.
 #![tactic(auto)]
 
 pub mod formats;

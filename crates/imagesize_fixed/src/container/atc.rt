@@ -1,4 +1,4 @@
-//! ATC textures, by GL_AMD_compressed_ATC_texture, in PKM files and in DDS files.
+//! ATC textures in PKM files and in DDS files: GL_AMD_compressed_ATC_texture.
 ghost use Rattle.std.specs.Prelude.{◌≡◌, ◌≤◌, length, drop};
 ghost use Rattle.imagesize_fixed.specs.Atc.{atc, atc_compression, atc_data_types, is_atc};
 ghost use Rattle.imagesize_types.specs.Table.{look_up};
@@ -13,7 +13,7 @@ use imagesize_source::source::Source;
 use imagesize_types::compression::AtcCompression;
 use imagesize_types::size::ImageSize;
 
-/// Whether it is a PKM file of an ATC data type.
+/// Whether the input begins as a PKM file with an ATC data type.
 #[inline(always)]
 pub fn matches(head: &[u8; 12]) -> bool
     ensures { result ≡ is_atc head.now }
@@ -21,7 +21,7 @@ pub fn matches(head: &[u8; 12]) -> bool
     is_atc(head)
 }
 
-// Whether these bytes begin a PKM file of an ATC data type.
+// Whether these bytes begin a PKM file with an ATC data type.
 #[inline(always)]
 #[tactic(auto, unfolding(crate::specs::Atc::is_atc))]
 fn is_atc(header: &[u8]) -> bool
@@ -33,7 +33,7 @@ fn is_atc(header: &[u8]) -> bool
             || matches!(header, [_, _, _, _, _, _, 0x87, 0xEE, ..]))
 }
 
-/// How the pixels are stored, by the data type where it is there.
+/// How the pixels are stored, from the data type. `Unknown` if the input ends before it or is not a PKM file.
 #[inline(always)]
 #[tactic(auto, using(imagesize_source::proofs::Runs::steps), unfolding(crate::specs::Atc::atc_compression))]
 pub fn detect_compression<S: Source>(source: &mut S) -> Result<AtcCompression, Halt>
@@ -49,7 +49,7 @@ pub fn detect_compression<S: Source>(source: &mut S) -> Result<AtcCompression, H
     Ok(compression(data_type(&header)))
 }
 
-// The data type of a PKM header.
+// The data type in a PKM header.
 #[tactic(auto, using(imagesize_source::proofs::Bytes::last_two))]
 fn data_type(header: &[u8; 8]) -> u16
     ensures { result ≡ number endian.Big (drop 6 header.now) }
@@ -57,7 +57,7 @@ fn data_type(header: &[u8; 8]) -> u16
     u16::from_be_bytes([header[6], header[7]])
 }
 
-// How the pixels of a data type are stored.
+// How pixels with this data type are stored.
 fn compression(data_type: u16) -> AtcCompression
     ensures { result ≡ look_up atc_data_types AtcCompression.Unknown data_type }
 {
@@ -69,7 +69,8 @@ fn compression(data_type: u16) -> AtcCompression
     }
 }
 
-/// The width and the height, by the header that is there.
+/// The width and the height in pixels, from a DDS header, a PKM header with an ATC data type, or else an older PowerVR
+/// header.
 #[inline(always)]
 #[tactic(auto, using(imagesize_source::proofs::Runs::steps))]
 pub fn size<S: Source>(source: &mut S) -> Result<ImageSize, Halt>

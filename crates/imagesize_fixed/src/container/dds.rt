@@ -1,5 +1,4 @@
-//! DirectDraw surfaces, by `DDS_HEADER`, `DDS_PIXELFORMAT` and `DDS_HEADER_DXT10` of the Programming Guide
-//! for DDS (Direct3D).
+//! DirectDraw surfaces: `DDS_HEADER`, `DDS_PIXELFORMAT` and `DDS_HEADER_DXT10` in the Programming Guide for DDS (Direct3D).
 ghost use Rattle.std.specs.Prelude.{◌≡◌};
 ghost use Rattle.imagesize_fixed.specs.Dds.{dds, dds_bit_counts, dds_codes, dds_compression, dds_number_of, dxgi_formats, is_dds};
 ghost use Rattle.imagesize_types.specs.Table.{look_up, look_up_text};
@@ -13,7 +12,7 @@ use imagesize_source::{Endian, Halt};
 use imagesize_types::compression::DdsCompression;
 use imagesize_types::size::ImageSize;
 
-/// Whether the magic number stands first.
+/// Whether the input begins with the magic number.
 #[inline(always)]
 pub fn matches(head: &[u8; 12]) -> bool
     ensures { result ≡ is_dds head.now }
@@ -21,7 +20,7 @@ pub fn matches(head: &[u8; 12]) -> bool
     is_dds(head)
 }
 
-// Whether the magic number stands first.
+// Whether the bytes begin with the magic number.
 #[inline(always)]
 #[tactic(auto, unfolding(crate::specs::Dds::is_dds))]
 pub(super) fn is_dds(header: &[u8]) -> bool
@@ -30,7 +29,8 @@ pub(super) fn is_dds(header: &[u8]) -> bool
     matches!(header, [b'D', b'D', b'S', b' ', ..])
 }
 
-/// How the pixels are stored, by the four-character code where it is there.
+/// How the pixels are stored, from the four-character code and the fields that it refers to. `Unknown` if the input ends
+/// before them.
 #[inline(always)]
 #[tactic(auto, using(imagesize_source::proofs::Runs::steps, imagesize_source::proofs::Runs::missed_before), unfolding(crate::specs::Dds::dds_compression))]
 pub fn detect_compression<S: Source>(source: &mut S) -> Result<DdsCompression, Halt>
@@ -49,7 +49,7 @@ pub fn detect_compression<S: Source>(source: &mut S) -> Result<DdsCompression, H
     Ok(code_compression(&code))
 }
 
-// How the pixels are stored, by the format of the extended header where it is there.
+// How the pixels are stored, from the format in the extended header. `Unknown` if the input ends before it.
 #[tactic(auto, using(imagesize_source::proofs::Runs::steps, imagesize_source::proofs::Numbers::little_4))]
 fn extended_compression<S: Source>(source: &mut S) -> Result<DdsCompression, Halt>
     ensures { Follows (S.state source.old) (S.state source.new) result (if_there 128 4 (λ bs. done (dds_number_of dxgi_formats bs))) }
@@ -61,7 +61,7 @@ fn extended_compression<S: Source>(source: &mut S) -> Result<DdsCompression, Hal
     Ok(format_compression(u32::from_le_bytes(format)))
 }
 
-// How the pixels are stored, by the bits of a pixel where they are there.
+// How the pixels are stored, from the bits per pixel. `Unknown` if the input ends before them.
 #[tactic(auto, using(imagesize_source::proofs::Runs::steps, imagesize_source::proofs::Numbers::little_4))]
 fn plain_compression<S: Source>(source: &mut S) -> Result<DdsCompression, Halt>
     ensures { Follows (S.state source.old) (S.state source.new) result (if_there 88 4 (λ bs. done (dds_number_of dds_bit_counts bs))) }
@@ -73,7 +73,7 @@ fn plain_compression<S: Source>(source: &mut S) -> Result<DdsCompression, Halt>
     Ok(bits_compression(u32::from_le_bytes(bits)))
 }
 
-// How the pixels of a four-character code are stored.
+// How pixels with this four-character code are stored.
 fn code_compression(code: &[u8; 4]) -> DdsCompression
     ensures { result ≡ look_up_text dds_codes DdsCompression.Unknown code.now }
 {
@@ -89,7 +89,7 @@ fn code_compression(code: &[u8; 4]) -> DdsCompression
     }
 }
 
-// How the pixels of a DXGI format are stored.
+// How pixels in this DXGI format are stored.
 fn format_compression(format: u32) -> DdsCompression
     ensures { result ≡ look_up dxgi_formats DdsCompression.Unknown format }
 {
@@ -100,7 +100,7 @@ fn format_compression(format: u32) -> DdsCompression
     }
 }
 
-// How pixels of so many bits are stored.
+// How pixels with this many bits are stored.
 fn bits_compression(bits: u32) -> DdsCompression
     ensures { result ≡ look_up dds_bit_counts DdsCompression.Unknown bits }
 {
@@ -111,7 +111,7 @@ fn bits_compression(bits: u32) -> DdsCompression
     }
 }
 
-/// The height and the width.
+/// The height and the width in pixels. Returns `Ended` if the input ends before them.
 #[inline(always)]
 #[tactic(auto, using(imagesize_source::proofs::Runs::steps))]
 pub fn size<S: Source>(source: &mut S) -> Result<ImageSize, Halt>

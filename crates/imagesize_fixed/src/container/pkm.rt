@@ -1,4 +1,4 @@
-//! PKM files, which hold textures in ETC1, ETC2 and EAC: the header of `etcpack` (Ericsson) and of `etc2comp`.
+//! PKM files, which contain textures in ETC1, ETC2 and EAC: the header of `etcpack` (Ericsson) and of `etc2comp`.
 ghost use Rattle.std.specs.Prelude.{◌≡◌};
 ghost use Rattle.imagesize_fixed.specs.Pkm.{is_eac, is_pkm, pkm, pkm_compression, pkm_data_types};
 ghost use Rattle.imagesize_types.specs.Table.{look_up};
@@ -10,7 +10,7 @@ use imagesize_source::{Endian, Halt};
 use imagesize_types::compression::PkmCompression;
 use imagesize_types::size::ImageSize;
 
-/// Whether the tag stands first, and a version behind it.
+/// Whether the input begins with the tag and a known version.
 #[inline(always)]
 pub fn matches(head: &[u8; 12]) -> bool
     ensures { result ≡ is_pkm head.now }
@@ -18,7 +18,7 @@ pub fn matches(head: &[u8; 12]) -> bool
     is_pkm(head)
 }
 
-/// Whether the data type is one of EAC.
+/// Whether the input begins as a PKM file with an EAC data type.
 #[inline(always)]
 #[tactic(auto, unfolding(crate::specs::Pkm::is_eac))]
 pub fn matches_eac(head: &[u8; 12]) -> bool
@@ -27,7 +27,7 @@ pub fn matches_eac(head: &[u8; 12]) -> bool
     is_pkm(head) && head[6] == 0x16 && head[7] >= 0x08 && head[7] <= 0x0B
 }
 
-/// Whether these bytes begin with the tag, and a version behind it.
+/// Whether the bytes begin with the tag and a known version.
 #[inline(always)]
 #[tactic(auto, unfolding(crate::specs::Pkm::is_pkm))]
 pub fn is_pkm(header: &[u8]) -> bool
@@ -36,7 +36,7 @@ pub fn is_pkm(header: &[u8]) -> bool
     matches!(header, [b'P', b'K', b'M', b' ', b'1' | b'2', b'0', ..])
 }
 
-/// How the pixels are stored, by the data type where it is there.
+/// How the pixels are stored, from the data type. `Unknown` if the input ends before it.
 #[inline(always)]
 #[tactic(auto, using(imagesize_source::proofs::Runs::steps, imagesize_source::proofs::Numbers::big_2), unfolding(crate::specs::Pkm::pkm_compression))]
 pub fn detect_compression<S: Source>(source: &mut S) -> Result<PkmCompression, Halt>
@@ -49,7 +49,7 @@ pub fn detect_compression<S: Source>(source: &mut S) -> Result<PkmCompression, H
     Ok(compression(u16::from_be_bytes(data_type)))
 }
 
-// How the pixels of a data type are stored.
+// How pixels with this data type are stored.
 fn compression(data_type: u16) -> PkmCompression
     ensures { result ≡ look_up pkm_data_types PkmCompression.Unknown data_type }
 {
@@ -66,7 +66,8 @@ fn compression(data_type: u16) -> PkmCompression
     }
 }
 
-/// The width and the height. Those that are rounded up to whole blocks are read too.
+/// The width and the height in pixels. The sizes that are rounded up to whole blocks are read too. Returns `Ended` if the
+/// input ends before any of these.
 #[inline(always)]
 #[tactic(auto, using(imagesize_source::proofs::Runs::steps))]
 pub fn size<S: Source>(source: &mut S) -> Result<ImageSize, Halt>

@@ -1,4 +1,4 @@
-//! PowerVR textures, by the PVR File Format Specification (version 3) and its appendix on the older header.
+//! PowerVR textures: the PVR File Format Specification (version 3) and its appendix on the older header.
 ghost use Rattle.std.specs.Prelude.{◌≡◌};
 ghost use Rattle.imagesize_fixed.specs.Pvrtc.{is_pvr3, is_pvrtc, pvr2, pvr3, pvrtc, pvrtc_compression, pvrtc_format_of, pvrtc_formats};
 ghost use Rattle.imagesize_types.specs.Table.{look_up};
@@ -12,7 +12,7 @@ use imagesize_source::{Endian, Halt};
 use imagesize_types::compression::PvrtcCompression;
 use imagesize_types::size::ImageSize;
 
-/// Whether the length of the older header stands first, or the version of the newer.
+/// Whether the input begins with the length of the older header, or with the version of the newer one.
 #[inline(always)]
 #[tactic(auto, unfolding(crate::specs::Pvrtc::is_pvrtc))]
 pub fn matches(head: &[u8; 12]) -> bool
@@ -29,7 +29,7 @@ fn is_version_3(header: &[u8]) -> bool
     matches!(header, [b'P', b'V', b'R', 3, ..])
 }
 
-/// How the pixels are stored, which the newer header tells.
+/// How the pixels are stored, from the newer header. `Unknown` for the older header.
 #[inline(always)]
 #[tactic(auto, using(imagesize_source::proofs::Runs::steps, imagesize_source::proofs::Runs::missed_before), unfolding(crate::specs::Pvrtc::pvrtc_compression))]
 pub fn detect_compression<S: Source>(source: &mut S) -> Result<PvrtcCompression, Halt>
@@ -45,7 +45,7 @@ pub fn detect_compression<S: Source>(source: &mut S) -> Result<PvrtcCompression,
     format(source)
 }
 
-// How the pixels are stored, by the format where it is there.
+// How the pixels are stored, from the pixel format. `Unknown` if the input ends before it.
 #[inline(always)]
 #[tactic(auto, using(imagesize_source::proofs::Runs::steps, imagesize_source::proofs::Numbers::little_8))]
 fn format<S: Source>(source: &mut S) -> Result<PvrtcCompression, Halt>
@@ -58,7 +58,7 @@ fn format<S: Source>(source: &mut S) -> Result<PvrtcCompression, Halt>
     Ok(format_compression(u64::from_le_bytes(format)))
 }
 
-// How the pixels of a format are stored.
+// How pixels in this format are stored.
 fn format_compression(format: u64) -> PvrtcCompression
     ensures { result ≡ look_up pvrtc_formats PvrtcCompression.Unknown format }
 {
@@ -76,7 +76,7 @@ fn format_compression(format: u64) -> PvrtcCompression
     }
 }
 
-/// The height and the width, by the header that is there.
+/// The height and the width in pixels, from the newer or the older header. Returns `Ended` if the input ends before them.
 #[inline(always)]
 #[tactic(auto, using(imagesize_source::proofs::Runs::steps))]
 pub fn size<S: Source>(source: &mut S) -> Result<ImageSize, Halt>
@@ -89,7 +89,7 @@ pub fn size<S: Source>(source: &mut S) -> Result<ImageSize, Halt>
     older_size(source)
 }
 
-// The height and the width of the newer header.
+// The height and the width in the newer header.
 #[inline(always)]
 #[tactic(auto, using(imagesize_source::proofs::Runs::steps))]
 fn newer_size<S: Source>(source: &mut S) -> Result<ImageSize, Halt>
@@ -100,7 +100,7 @@ fn newer_size<S: Source>(source: &mut S) -> Result<ImageSize, Halt>
     Ok(ImageSize { width, height })
 }
 
-// The height and the width of the older header.
+// The height and the width in the older header.
 #[inline(always)]
 #[tactic(auto, using(imagesize_source::proofs::Runs::steps))]
 pub(super) fn older_size<S: Source>(source: &mut S) -> Result<ImageSize, Halt>

@@ -1,4 +1,4 @@
-//! Sprites of the editor Aseprite, by the header of "Aseprite File Format (.ase/.aseprite) Specifications".
+//! Sprites of the editor Aseprite: the header in "Aseprite File Format (.ase/.aseprite) Specifications".
 ghost use Rattle.std.specs.Prelude.{◌≡◌};
 ghost use Rattle.imagesize_fixed.specs.Aseprite.{is_aseprite, aseprite};
 ghost use Rattle.imagesize_source.specs.State.{Follows};
@@ -8,7 +8,7 @@ use imagesize_source::source::Source;
 use imagesize_source::{Endian, Halt};
 use imagesize_types::size::ImageSize;
 
-/// Whether the magic number 0xA5E0 stands behind the length of the file.
+/// Whether the magic number 0xA5E0 comes after the length of the file.
 #[inline(always)]
 #[tactic(auto, unfolding(crate::specs::Aseprite::is_aseprite))]
 pub fn matches(head: &[u8; 12]) -> bool
@@ -17,7 +17,7 @@ pub fn matches(head: &[u8; 12]) -> bool
     matches!(head, [_, _, _, _, 0xE0, 0xA5, ..])
 }
 
-/// The width and the height of the sprite.
+/// The width and the height of the sprite in pixels. Returns `Ended` if the input ends before them.
 #[inline(always)]
 #[tactic(auto, using(imagesize_source::proofs::Runs::steps))]
 pub fn size<S: Source>(source: &mut S) -> Result<ImageSize, Halt>

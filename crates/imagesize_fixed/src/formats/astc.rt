@@ -1,4 +1,4 @@
-//! Textures in ASTC, by the header of the files of `astcenc` ("The .astc File Format").
+//! Textures in ASTC: the file header of `astcenc` ("The .astc File Format").
 ghost use Rattle.std.specs.Prelude.{◌≡◌};
 ghost use Rattle.imagesize_fixed.specs.Astc.{is_astc, astc};
 ghost use Rattle.imagesize_source.specs.State.{Follows};
@@ -8,7 +8,7 @@ use imagesize_source::source::Source;
 use imagesize_source::{Endian, Halt};
 use imagesize_types::size::ImageSize;
 
-/// Whether the magic number stands first.
+/// Whether the input begins with the magic number.
 #[inline(always)]
 #[tactic(auto, unfolding(crate::specs::Astc::is_astc))]
 pub fn matches(head: &[u8; 12]) -> bool
@@ -17,7 +17,7 @@ pub fn matches(head: &[u8; 12]) -> bool
     matches!(head, [0x13, 0xAB, 0xA1 | 0xA0, 0x5C, ..])
 }
 
-/// The first two of the three dimensions.
+/// The first two of the three dimensions, in pixels. Returns `Ended` if the input ends before them.
 #[inline(always)]
 #[tactic(auto, using(imagesize_source::proofs::Runs::steps))]
 pub fn size<S: Source>(source: &mut S) -> Result<ImageSize, Halt>

@@ -1,4 +1,4 @@
-//! Windows bitmaps, by `BITMAPFILEHEADER` and `BITMAPINFOHEADER` of the Windows GDI reference ("Bitmap Storage").
+//! Windows bitmaps: `BITMAPFILEHEADER` and `BITMAPINFOHEADER` in the Windows GDI reference ("Bitmap Storage").
 ghost use Rattle.std.specs.Prelude.{◌≡◌};
 ghost use Rattle.imagesize_fixed.specs.Bmp.{is_bmp, bmp};
 ghost use Rattle.imagesize_source.specs.State.{Follows};
@@ -8,7 +8,7 @@ use imagesize_source::source::Source;
 use imagesize_source::{Endian, Halt};
 use imagesize_types::size::ImageSize;
 
-/// Whether the file is of the type `BM`.
+/// Whether the file has the type `BM`.
 #[inline(always)]
 #[tactic(auto, unfolding(crate::specs::Bmp::is_bmp))]
 pub fn matches(head: &[u8; 12]) -> bool
@@ -17,7 +17,7 @@ pub fn matches(head: &[u8; 12]) -> bool
     matches!(head, [b'B', b'M', ..])
 }
 
-/// The width and the height, which is read as a number without a sign.
+/// The width and the height in pixels, read as unsigned numbers. Returns `Ended` if the input ends before them.
 #[inline(always)]
 #[tactic(auto, using(imagesize_source::proofs::Runs::steps))]
 pub fn size<S: Source>(source: &mut S) -> Result<ImageSize, Halt>

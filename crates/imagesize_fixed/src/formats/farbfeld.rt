@@ -1,4 +1,4 @@
-//! Farbfeld, by "FORMAT" of the manual page farbfeld(5).
+//! Farbfeld: "FORMAT" in the manual page farbfeld(5).
 ghost use Rattle.std.specs.Prelude.{◌≡◌};
 ghost use Rattle.imagesize_fixed.specs.Farbfeld.{is_farbfeld, farbfeld};
 ghost use Rattle.imagesize_source.specs.State.{Follows};
@@ -8,7 +8,7 @@ use imagesize_source::source::Source;
 use imagesize_source::{Endian, Halt};
 use imagesize_types::size::ImageSize;
 
-/// Whether the magic value stands first.
+/// Whether the input begins with the magic value.
 #[inline(always)]
 #[tactic(auto, unfolding(crate::specs::Farbfeld::is_farbfeld))]
 pub fn matches(head: &[u8; 12]) -> bool
@@ -17,7 +17,7 @@ pub fn matches(head: &[u8; 12]) -> bool
     matches!(head, [b'f', b'a', b'r', b'b', b'f', b'e', b'l', b'd', ..])
 }
 
-/// The width and the height.
+/// The width and the height in pixels. Returns `Ended` if the input ends before them.
 #[inline(always)]
 #[tactic(auto, using(imagesize_source::proofs::Runs::steps))]
 pub fn size<S: Source>(source: &mut S) -> Result<ImageSize, Halt>

@@ -1,4 +1,4 @@
-//! GIF, by sections 17 (Header) and 18 (Logical Screen Descriptor) of the GIF89a Specification.
+//! GIF: sections 17 (Header) and 18 (Logical Screen Descriptor) of the GIF89a Specification.
 ghost use Rattle.std.specs.Prelude.{◌≡◌};
 ghost use Rattle.imagesize_fixed.specs.Gif.{is_gif, gif};
 ghost use Rattle.imagesize_source.specs.State.{Follows};
@@ -8,7 +8,7 @@ use imagesize_source::source::Source;
 use imagesize_source::{Endian, Halt};
 use imagesize_types::size::ImageSize;
 
-/// Whether the signature stands first, of either version.
+/// Whether the input begins with `GIF8`, as both versions do.
 #[inline(always)]
 #[tactic(auto, unfolding(crate::specs::Gif::is_gif))]
 pub fn matches(head: &[u8; 12]) -> bool
@@ -17,7 +17,7 @@ pub fn matches(head: &[u8; 12]) -> bool
     matches!(head, [b'G', b'I', b'F', b'8', ..])
 }
 
-/// The width and the height of the logical screen.
+/// The width and the height of the logical screen in pixels. Returns `Ended` if the input ends before them.
 #[inline(always)]
 #[tactic(auto, using(imagesize_source::proofs::Runs::steps))]
 pub fn size<S: Source>(source: &mut S) -> Result<ImageSize, Halt>

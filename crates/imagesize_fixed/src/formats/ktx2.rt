@@ -1,4 +1,4 @@
-//! KTX 2.0, by the fields `identifier`, `pixelWidth` and `pixelHeight` of the Khronos KTX File Format Specification.
+//! KTX 2.0: the fields `identifier`, `pixelWidth` and `pixelHeight` in the Khronos KTX File Format Specification.
 ghost use Rattle.std.specs.Prelude.{◌≡◌};
 ghost use Rattle.imagesize_fixed.specs.Ktx2.{is_ktx2, ktx2};
 ghost use Rattle.imagesize_source.specs.State.{Follows};
@@ -8,7 +8,7 @@ use imagesize_source::source::Source;
 use imagesize_source::{Endian, Halt};
 use imagesize_types::size::ImageSize;
 
-/// Whether the identifier stands first.
+/// Whether the input begins with the identifier.
 #[inline(always)]
 #[tactic(auto, unfolding(crate::specs::Ktx2::is_ktx2))]
 pub fn matches(head: &[u8; 12]) -> bool
@@ -22,7 +22,7 @@ pub fn matches(head: &[u8; 12]) -> bool
     )
 }
 
-/// The width and the height of the texture at its first level.
+/// The width and the height of the texture in pixels, at its first level. Returns `Ended` if the input ends before them.
 #[inline(always)]
 #[tactic(auto, using(imagesize_source::proofs::Runs::steps))]
 pub fn size<S: Source>(source: &mut S) -> Result<ImageSize, Halt>

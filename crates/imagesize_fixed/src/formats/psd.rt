@@ -1,4 +1,4 @@
-//! Photoshop documents, by "File Header Section" of the Adobe Photoshop File Formats Specification.
+//! Photoshop documents: "File Header Section" in the Adobe Photoshop File Formats Specification.
 ghost use Rattle.std.specs.Prelude.{◌≡◌};
 ghost use Rattle.imagesize_fixed.specs.Psd.{is_psd, psd};
 ghost use Rattle.imagesize_source.specs.State.{Follows};
@@ -8,7 +8,7 @@ use imagesize_source::source::Source;
 use imagesize_source::{Endian, Halt};
 use imagesize_types::size::ImageSize;
 
-/// Whether the signature stands first.
+/// Whether the input begins with the signature.
 #[inline(always)]
 #[tactic(auto, unfolding(crate::specs::Psd::is_psd))]
 pub fn matches(head: &[u8; 12]) -> bool
@@ -17,7 +17,7 @@ pub fn matches(head: &[u8; 12]) -> bool
     matches!(head, [b'8', b'B', b'P', b'S', ..])
 }
 
-/// The height and the width.
+/// The height and the width in pixels. Returns `Ended` if the input ends before them.
 #[inline(always)]
 #[tactic(auto, using(imagesize_source::proofs::Runs::steps))]
 pub fn size<S: Source>(source: &mut S) -> Result<ImageSize, Halt>

@@ -1,4 +1,4 @@
-//! QOI, by the header of the Quite OK Image Format Specification 1.0.
+//! QOI: the header in the Quite OK Image Format Specification 1.0.
 ghost use Rattle.std.specs.Prelude.{◌≡◌};
 ghost use Rattle.imagesize_fixed.specs.Qoi.{is_qoi, qoi};
 ghost use Rattle.imagesize_source.specs.State.{Follows};
@@ -8,7 +8,7 @@ use imagesize_source::source::Source;
 use imagesize_source::{Endian, Halt};
 use imagesize_types::size::ImageSize;
 
-/// Whether the magic bytes stand first.
+/// Whether the input begins with the magic bytes.
 #[inline(always)]
 #[tactic(auto, unfolding(crate::specs::Qoi::is_qoi))]
 pub fn matches(head: &[u8; 12]) -> bool
@@ -17,7 +17,7 @@ pub fn matches(head: &[u8; 12]) -> bool
     matches!(head, [b'q', b'o', b'i', b'f', ..])
 }
 
-/// The width and the height.
+/// The width and the height in pixels. Returns `Ended` if the input ends before them.
 #[inline(always)]
 #[tactic(auto, using(imagesize_source::proofs::Runs::steps))]
 pub fn size<S: Source>(source: &mut S) -> Result<ImageSize, Halt>

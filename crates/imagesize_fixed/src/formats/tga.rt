@@ -1,4 +1,4 @@
-//! TGA, by "Truevision TGA File Format Specification", version 2.0: fields 1 to 5 (the header) and the footer.
+//! TGA: fields 1 to 5 (the header) and the footer in "Truevision TGA File Format Specification", version 2.0.
 ghost use Rattle.std.specs.Prelude.{◌≡◌, length};
 ghost use Rattle.imagesize_fixed.specs.Tga.{is_map_sound, is_pixel_sound, is_tga, is_tga_footer, lacks_its_map, may_be_tga, tga, tga_by_header};
 ghost use Rattle.imagesize_source.specs.State.{Follows, IsSound};
@@ -8,7 +8,8 @@ use imagesize_source::source::Source;
 use imagesize_source::{Endian, Halt};
 use imagesize_types::size::ImageSize;
 
-/// Whether the footer has the signature, or the header alone can be that of a TGA.
+/// Whether the input is a TGA. Its types must be known, and the footer must have the signature or the header must be
+/// consistent.
 pub fn matches<S: Source>(source: &mut S, head: &[u8; 12]) -> Result<bool, Halt>
     ensures { Follows (S.state source.old) (S.state source.new) result (is_tga (length (S.state source.old).held.input) head.now) }
 {
@@ -16,7 +17,7 @@ pub fn matches<S: Source>(source: &mut S, head: &[u8; 12]) -> Result<bool, Halt>
     matches_by_length(source, head, length)
 }
 
-// Whether an input of this length, with this head, is a TGA.
+// Whether an input of this length in bytes, with this head, is a TGA.
 #[tactic(auto, using(imagesize_source::proofs::Runs::steps), unfolding(crate::specs::Tga::is_tga))]
 fn matches_by_length<S: Source>(source: &mut S, head: &[u8; 12], length: u64) -> Result<bool, Halt>
     requires { IsSound (S.state source.old) }
@@ -58,7 +59,7 @@ fn may_be_tga(head: &[u8; 12]) -> bool
     matches!(head[2], 1 | 2 | 3 | 9 | 10 | 11) && head[1] <= 1
 }
 
-// Whether the signature ends the footer.
+// Whether the footer ends with the signature.
 #[tactic(auto, unfolding(crate::specs::Tga::is_tga_footer))]
 fn is_footer(footer: &[u8; 18]) -> bool
     ensures { result ≡ is_tga_footer footer.now }
@@ -66,7 +67,7 @@ fn is_footer(footer: &[u8; 18]) -> bool
     *footer == *b"TRUEVISION-XFILE.\0"
 }
 
-// Whether the pixels are indices of a colour map that the file does not have.
+// Whether the pixels are indices into a colour map that the file does not have.
 #[tactic(auto, unfolding(crate::specs::Tga::lacks_its_map))]
 fn lacks_its_map(head: &[u8; 12]) -> bool
     ensures { result ≡ lacks_its_map head.now }
@@ -74,7 +75,7 @@ fn lacks_its_map(head: &[u8; 12]) -> bool
     (head[2] == 1 || head[2] == 9) && head[1] == 0
 }
 
-// Whether the fields of the colour map are all zero, or where it has one its entries are of a known size.
+// Whether the fields of the colour map are all zero without a map, and its entries have a known size with one.
 #[tactic(auto, unfolding(crate::specs::Tga::is_map_sound))]
 fn is_map_sound(map_type: u8, map: &[u8; 4], bits: u8) -> bool
     ensures { result ≡ is_map_sound map_type map.now bits }
@@ -85,7 +86,7 @@ fn is_map_sound(map_type: u8, map: &[u8; 4], bits: u8) -> bool
     matches!(bits, 0 | 8 | 16 | 24 | 32)
 }
 
-// Whether the pixels go from left to right, and are of a known size with a known count of alpha bits.
+// Whether the pixels go from left to right, and have a known size with a known number of alpha bits.
 #[tactic(auto, unfolding(crate::specs::Tga::is_pixel_sound))]
 fn is_pixel_sound(bits: u8, descriptor: u8) -> bool
     ensures { result ≡ is_pixel_sound bits descriptor }
@@ -102,7 +103,7 @@ fn is_pixel_sound(bits: u8, descriptor: u8) -> bool
     }
 }
 
-/// The width and the height.
+/// The width and the height in pixels. Returns `Ended` if the input ends before them.
 #[inline(always)]
 #[tactic(auto, using(imagesize_source::proofs::Runs::steps))]
 pub fn size<S: Source>(source: &mut S) -> Result<ImageSize, Halt>

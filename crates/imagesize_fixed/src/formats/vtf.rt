@@ -1,4 +1,4 @@
-//! Valve textures, by "VTF header" of the Valve Texture Format.
+//! Valve textures: "VTF header" in the Valve Texture Format.
 ghost use Rattle.std.specs.Prelude.{◌≡◌};
 ghost use Rattle.imagesize_fixed.specs.Vtf.{is_vtf, vtf};
 ghost use Rattle.imagesize_source.specs.State.{Follows};
@@ -8,7 +8,7 @@ use imagesize_source::source::Source;
 use imagesize_source::{Endian, Halt};
 use imagesize_types::size::ImageSize;
 
-/// Whether the signature stands first.
+/// Whether the input begins with the signature.
 #[inline(always)]
 #[tactic(auto, unfolding(crate::specs::Vtf::is_vtf))]
 pub fn matches(head: &[u8; 12]) -> bool
@@ -17,7 +17,7 @@ pub fn matches(head: &[u8; 12]) -> bool
     matches!(head, [b'V', b'T', b'F', 0, ..])
 }
 
-/// The width and the height of the largest mipmap.
+/// The width and the height of the largest mipmap in pixels. Returns `Ended` if the input ends before them.
 #[inline(always)]
 #[tactic(auto, using(imagesize_source::proofs::Runs::steps))]
 pub fn size<S: Source>(source: &mut S) -> Result<ImageSize, Halt>

@@ -1,4 +1,4 @@
-//! WebP, by RFC 9649, sections 2.4 (the file header) and 2.5 to 2.7 (its three forms), and RFC 6386, section 9.1.
+//! WebP: RFC 9649, sections 2.4 (the file header) and 2.5 to 2.7 (its three forms), and RFC 6386, section 9.1.
 ghost use Rattle.std.specs.Prelude.{◌≡◌, ◌%◌, ◌^◌};
 ghost use Rattle.imagesize_fixed.specs.Webp.{is_webp, webp, lossy_webp, lossless_webp, extended_webp};
 ghost use Rattle.imagesize_source.specs.State.{Follows};
@@ -8,7 +8,7 @@ use imagesize_source::source::Source;
 use imagesize_source::{Endian, Halt};
 use imagesize_types::size::ImageSize;
 
-/// Whether a RIFF form of the type `WEBP` stands first.
+/// Whether the input begins with a RIFF header of the type `WEBP`.
 #[inline(always)]
 #[tactic(auto, unfolding(crate::specs::Webp::is_webp))]
 pub fn matches(head: &[u8; 12]) -> bool
@@ -20,7 +20,8 @@ pub fn matches(head: &[u8; 12]) -> bool
     )
 }
 
-/// The width and the height of the canvas, or of the one image.
+/// The width and the height in pixels of the canvas, or of the only image. Returns `InvalidVp8Tag` if the fourth byte of the
+/// first chunk's name is not that of `VP8 `, `VP8L` or `VP8X`. Returns `Ended` if the input ends before the size.
 #[inline(always)]
 #[tactic(auto, using(imagesize_source::proofs::Runs::steps))]
 pub fn size<S: Source>(source: &mut S) -> Result<ImageSize, Halt>
@@ -35,7 +36,7 @@ pub fn size<S: Source>(source: &mut S) -> Result<ImageSize, Halt>
     }
 }
 
-// Of each dimension the low 14 bits; above them stands how to scale it.
+// The low 14 bits of each field are the dimension. The bits above say how to scale it.
 #[inline(always)]
 #[tactic(auto, using(imagesize_source::proofs::Runs::steps))]
 fn lossy_size<S: Source>(source: &mut S) -> Result<ImageSize, Halt>
@@ -46,7 +47,7 @@ fn lossy_size<S: Source>(source: &mut S) -> Result<ImageSize, Halt>
     Ok(ImageSize { width, height })
 }
 
-// 14 bits each for the width less one and the height less one.
+// 14 bits each for the width minus one and the height minus one.
 #[inline(always)]
 #[tactic(auto, using(imagesize_source::proofs::Runs::steps))]
 fn lossless_size<S: Source>(source: &mut S) -> Result<ImageSize, Halt>
@@ -58,7 +59,7 @@ fn lossless_size<S: Source>(source: &mut S) -> Result<ImageSize, Halt>
     Ok(ImageSize { width, height })
 }
 
-// 24 bits each for the width less one and the height less one.
+// 24 bits each for the width minus one and the height minus one.
 #[inline(always)]
 #[tactic(auto, using(imagesize_source::proofs::Runs::steps))]
 fn extended_size<S: Source>(source: &mut S) -> Result<ImageSize, Halt>

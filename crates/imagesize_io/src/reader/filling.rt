@@ -1,4 +1,4 @@
-//! A room that is filled from a place on: by one read after another, within the budget.
+//! Fills a buffer from an offset on, by one read after another, within the budget.
 ghost use Rattle.std.specs.Prelude.{◌≡◌, ℕ, max, ◌+◌, ◌^◌, ◌<◌, ◌≤◌, length, IfOk, IfErr, OnOk, Some, true, false};
 ghost use Rattle.imagesize_source.specs.Limits.{most_retries};
 ghost use Rattle.imagesize_io.specs.Telling.{account, count_after};
@@ -10,10 +10,10 @@ use crate::{Stop, Told};
 use imagesize_source::Halt;
 use std::io::{self, SeekFrom};
 
-// How many interruptions of reads are tried again in one call.
+// How many interrupted reads are tried again in one call.
 const MAX_RETRIES: u64 = 64;
 
-// What a stop ends the call with after so many tries; nothing where the read may be tried again.
+// The error that a stopped read ends with after `tries` retries, or `None` if it may be tried again.
 #[cold]
 #[inline(never)]
 fn ending(stop: Stop, tries: u64) -> Option<io::Error>
@@ -26,7 +26,7 @@ fn ending(stop: Stop, tries: u64) -> Option<io::Error>
     }
 }
 
-// What a call of the reader answered. The error of one that failed is kept, and halts the reading.
+// Passes on the result of a call of the reader. An error is kept in `fault`, and `Failed` is returned.
 #[inline(always)]
 fn keep_fault<T>(answer: Result<T, io::Error>, fault: &mut Option<io::Error>) -> Result<T, Halt>
     ensures fault { fault.new ≡ fault_after fault.old answer }
@@ -41,7 +41,7 @@ fn keep_fault<T>(answer: Result<T, io::Error>, fault: &mut Option<io::Error>) ->
     }
 }
 
-// One read, tried again where it is interrupted.
+// One read, which is tried again if it is interrupted.
 #[inline(always)]
 fn read_retrying<R: Told>(
     reader: &mut R,
@@ -73,7 +73,7 @@ fn read_retrying<R: Told>(
     }
 }
 
-// One read from the place where the reader stands, which is counted and moves the place on.
+// One read from the reader's offset `place`. Counts the bytes, and advances the offset.
 #[inline(always)]
 fn read_counted<R: Told>(
     reader: &mut R,
@@ -88,7 +88,7 @@ fn read_counted<R: Told>(
     ensures failed { IfErr result (λ halt. halt ≡ Halt.Failed) }
 {
     let count = read_retrying(reader, &mut progress.retries, &mut progress.fault, room)?;
-    // Most reads fill the room, whose length the compiler knows.
+    // Most reads fill the buffer, whose length the compiler knows.
     if count == room.len() {
         progress.taken += room.len() as u64;
         progress.place = place.saturating_add(room.len() as u64);
@@ -99,7 +99,7 @@ fn read_counted<R: Told>(
     Ok(count)
 }
 
-// One read of at most what the budget leaves.
+// One read of at most as many bytes as the budget leaves.
 #[inline(always)]
 fn read_some<R: Told>(
     reader: &mut R,
@@ -120,7 +120,7 @@ fn read_some<R: Told>(
     read_counted(reader, progress, place, &mut room[..left as usize])
 }
 
-// Reads from the place where the reader stands until the room is full or the bytes end.
+// Reads from the reader's offset `place` until the buffer is full or the input ends.
 #[inline(always)]
 fn fill<R: Told>(
     reader: &mut R,
@@ -144,7 +144,7 @@ fn fill<R: Told>(
     Ok(count + rest)
 }
 
-// The same as `fill_rest`. Inlined, so that the room of its answer is made there alone.
+// Calls `fill_rest`. Inlined, so that stack space for its result is set up on this path alone.
 #[inline(always)]
 fn fill_behind<R: Told>(
     reader: &mut R,
@@ -160,7 +160,7 @@ fn fill_behind<R: Told>(
     Ok(count)
 }
 
-// Reads on until the room is full or the bytes end, one read after another.
+// Reads on until the buffer is full or the input ends, one read after another.
 #[cold]
 #[inline(never)]
 fn fill_rest<R: Told>(
@@ -184,8 +184,8 @@ fn fill_rest<R: Told>(
     Ok(filled)
 }
 
-// Goes to a place, and answers whether the reader stands there: it does not go above the told length. What the
-// seek answers is not asked.
+// Seeks to an offset, and returns whether the reader is there: it does not seek past the reported length. The offset that the
+// seek returns is not checked.
 #[inline(always)]
 fn go_to<R: Told>(reader: &mut R, progress: &mut Progress, place: u64) -> Result<bool, Halt>
     ensures stand { GoesTo (stand (R.telling reader.old) progress.old)
@@ -215,7 +215,7 @@ fn go_to<R: Told>(reader: &mut R, progress: &mut Progress, place: u64) -> Result
     Ok(true)
 }
 
-// Reads from a place on until the room is full or the bytes end.
+// Reads from an offset on until the buffer is full or the input ends.
 #[inline(always)]
 pub(super) fn read_from<R: Told>(
     reader: &mut R,

@@ -1,4 +1,4 @@
-//! A text out of what the reader holds: it takes the bytes that it would take byte by byte.
+//! A text from the bytes that the reader holds: it reads the same bytes as a read byte by byte would.
 ghost use Rattle.std.specs.Prelude.{◌≡◌, ◌+◌, ◌^◌, ◌<◌, ◌≤◌, true, IfSome, None, Ok, length, take};
 ghost use Rattle.imagesize_source.specs.Limits.{most_held};
 ghost use Rattle.imagesize_io.specs.Held.{IsWhole};
@@ -9,8 +9,8 @@ use super::Ledger;
 use crate::Told;
 use imagesize_source::Text;
 
-/// The text at a place out of what the reader holds, if the reader stands there and holds all of it. Nothing is
-/// read else, and the text has to be read byte by byte.
+/// The text at an offset from the bytes that the reader holds, if the reader is at that offset and holds all of the text.
+/// Otherwise nothing is read, and the text has to be read byte by byte.
 #[inline(always)]
 pub(super) fn read_held<R: Told>(
     reader: &mut R,
@@ -36,8 +36,8 @@ pub(super) fn read_held<R: Told>(
     Some(count)
 }
 
-// Whether the reader stands at a place, and the budget pays for so many bytes there. The place is within the told
-// length, and behind the window, which takes in none of what follows.
+// Whether the reader is at an offset, and the budget allows `most` bytes there. The offset must lie within the reported
+// length and past the end of the window, so that the window keeps none of the bytes.
 #[inline(always)]
 fn pays_there(ledger: &Ledger, place: u64, most: u64) -> bool
     ensures stands { result ≡ true → ledger.now.progress.place ≡ place }

@@ -1,4 +1,4 @@
-//! The text of a reader: out of what the reader holds, or byte by byte, since what is read is taken.
+//! Texts from a reader: from the bytes that it holds, or byte by byte, so that no byte after the text is read.
 ghost use Rattle.imagesize_io.specs.ReaderState.{ReadsText};
 ghost use Rattle.imagesize_io.specs.Telling.{account};
 
@@ -9,7 +9,7 @@ use crate::Told;
 use imagesize_source::text::is_end;
 use imagesize_source::{Halt, Text};
 
-/// Reads the text from a place on into the buffer, as far as that goes, and takes nothing behind it.
+/// Reads the text from an offset on into the buffer, as far as it fits, and no byte after it.
 #[inline(always)]
 pub(super) fn read_text<R: Told>(
     reader: &mut R,
@@ -27,7 +27,7 @@ pub(super) fn read_text<R: Told>(
     read_by_bytes(reader, ledger, place, text, room)
 }
 
-// Reads the text byte by byte. A call of its own, since a buffered reader holds most texts.
+// Reads the text byte by byte. Not inlined, since a buffered reader holds most texts.
 #[inline(never)]
 fn read_by_bytes<R: Told>(
     reader: &mut R,

@@ -1,4 +1,4 @@
-//! A reading through the window: what it has is not read again, and what follows it is kept.
+//! Reads through the window: its bytes are not read again, and the bytes after it are kept.
 ghost use Rattle.std.specs.Prelude.{◌<◌, ◌≤◌};
 ghost use Rattle.imagesize_io.specs.ReaderState.{ReadsAt, ReadsOn};
 ghost use Rattle.imagesize_io.specs.Standing.{stand, ReadsFrom};
@@ -11,7 +11,7 @@ use crate::progress::Progress;
 use crate::window::{copy_kept, keep, keep_front};
 use imagesize_source::Halt;
 
-// Reads from a place on: from the reader alone where it lies behind the window. What follows the window is kept.
+// Reads from an offset on, from the reader alone if the offset is past the window. Bytes right after the window are kept.
 #[inline(always)]
 fn read_windowed<R: Told>(
     reader: &mut R,
@@ -34,7 +34,7 @@ fn read_windowed<R: Told>(
     Ok(count)
 }
 
-// Reads from a place on: what the window has of it, and what follows from the reader.
+// Reads from an offset on: first the window's bytes, then the reader's.
 #[inline(always)]
 fn read_within<R: Told>(
     reader: &mut R,
@@ -55,7 +55,7 @@ fn read_within<R: Told>(
     Ok(copied + count)
 }
 
-// A reading that began in the window goes on behind it.
+// Continues a read past the window in which it began.
 #[cold]
 #[inline(never)]
 fn read_across<R: Told>(
@@ -71,7 +71,7 @@ fn read_across<R: Told>(
     read_from(reader, progress, place, room)
 }
 
-// Reads from a place on.
+// Reads from an offset on.
 #[inline(always)]
 pub(super) fn read_on<R: Told>(
     reader: &mut R,
@@ -88,7 +88,7 @@ pub(super) fn read_on<R: Told>(
     read_windowed(reader, ledger, place, room)
 }
 
-// The same as `read_above`. Inlined, so that the room of its answer is made there alone.
+// Calls `read_above`. Inlined, so that stack space for its result is set up on this path alone.
 #[inline(always)]
 fn read_beyond<R: Told>(
     reader: &mut R,
@@ -104,8 +104,8 @@ fn read_beyond<R: Told>(
     Ok(count)
 }
 
-// A reading above the told length goes on only where the last reading ended. Elsewhere it sees the end of the
-// input, also where the window has bytes. A call of its own, since few readings are.
+// A read past the reported length continues only where the last read ended. Anywhere else it sees the end of the input, even
+// if the window has bytes there. Not inlined, since few reads get here.
 #[cold]
 #[inline(never)]
 fn read_above<R: Told>(

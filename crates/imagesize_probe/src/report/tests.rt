@@ -9,7 +9,7 @@ use std::alloc::Global;
 use std::io::{self, Cursor, ErrorKind, SeekFrom, Write};
 use std::test::Fail;
 
-// Reports on the bytes of a slice, from its first one on.
+// Reports on the bytes of a slice, from its first byte on.
 fn report_bytes(name: &str, bytes: &[u8], written: &mut Vec<u8>) -> io::Result<bool>
     ensures line { IfOk result (λ sized. IsSomeAnd
         (answer_line name.now (result_ok (kind_of bytes.now 0).answer) (meaning bytes.now 0).answer)
@@ -77,7 +77,7 @@ fn lines_of_refusals_say_why(rt: HostRuntime) -> Result<(), Fail> {
     Ok(())
 }
 
-// Reports on the bytes of a slice, and on the bytes that this rests on.
+// Reports on the bytes of a slice, and on the bytes that the result depends on.
 fn report_slice(alloc: Global, name: &str, bytes: &[u8], written: &mut Vec<u8>) -> io::Result<bool>
     ensures { IfOk result (ReportsSpans bytes.now name.now (Some written.old.items) (Some written.new.items)) }
 {
@@ -146,7 +146,7 @@ fn line_of_a_fault_has_its_text(rt: HostRuntime) -> Result<(), Fail> {
     Ok(())
 }
 
-// A writer that takes so many bytes and then fails.
+// A writer that accepts so many bytes and then fails.
 #[derive(Drop)]
 struct Full {
     left: usize,

@@ -55,7 +55,7 @@ impl Open for Shelf {
     }
 }
 
-// These bytes in memory of their own.
+// A copy of these bytes.
 fn copied(alloc: Global, bytes: &[u8]) -> ImageResult<Vec<u8>>
     ensures same { IfOk result (λ copy. copy.items ≡ bytes.now) }
     ensures refused { IfErr result (λ e. e ≡ IoError Memory) }
@@ -67,7 +67,7 @@ fn copied(alloc: Global, bytes: &[u8]) -> ImageResult<Vec<u8>>
     }
 }
 
-// So many bytes of 0.
+// `count` bytes of 0.
 fn zeros(alloc: Global, count: usize) -> ImageResult<Vec<u8>> {
     let mut bytes = Vec::new(alloc);
     match bytes.resize(count, 0) {
@@ -76,12 +76,12 @@ fn zeros(alloc: Global, count: usize) -> ImageResult<Vec<u8>> {
     }
 }
 
-// Why there is no other file.
+// The error for any other file.
 fn lost() -> io::Error {
     io::Error::new(ErrorKind::NotFound, "no such file on the shelf")
 }
 
-// Has the same bytes behind every name.
+// Has the same bytes for every name.
 #[derive(Drop)]
 struct Same<'a> {
     alloc: Global,
@@ -108,7 +108,7 @@ impl<'a> Open for Same<'a> {
     }
 }
 
-// Fails at a write of lines, at a send, or at neither.
+// Fails when lines are written, when they are flushed, or never.
 #[derive(Drop)]
 struct Weak {
     written: usize,
@@ -142,7 +142,7 @@ fn strings(alloc: Global, texts: &[&str]) -> Result<Vec<String>, AllocError> {
     Ok(all)
 }
 
-// What the program ends with, of these arguments over the files of the shelf.
+// The exit status for these arguments over the files of the shelf.
 fn run_on_shelf<W: Write, E: Write>(
     alloc: Global,
     arguments: &[String],
@@ -158,7 +158,7 @@ fn run_on_shelf<W: Write, E: Write>(
     )
 }
 
-// The lines of names behind each of which these bytes are, and the status.
+// The lines for names that all have these bytes, and the status.
 fn run_same(
     alloc: Global,
     names: &[String],
@@ -239,7 +239,7 @@ fn the_usage_is_written_where_none_is_named(rt: HostRuntime) -> Result<(), Fail>
 fn an_output_that_fails_ends_the_run(rt: HostRuntime) -> Result<(), Fail> {
     let alloc = rt.alloc();
     let names = strings(alloc, &["tiny.gif", "cut.gif", "tiny.gif"])?;
-    // The first line has 22 bytes and the second one 44; what fails, and how many files were opened before.
+    // The first line has 22 bytes and the second one 44. The row says what fails, and how many files were opened before that.
     for (written, sent, fault, asked) in [
         (0, 9, ErrorKind::StorageFull, 1),
         (21, 9, ErrorKind::StorageFull, 1),
@@ -364,7 +364,7 @@ fn files_are_read_whole_up_to_a_length(rt: HostRuntime) -> Result<(), Fail> {
     Ok(())
 }
 
-// What the program writes of these arguments over the files of this machine, where it ends with 1.
+// What the program writes for these arguments over the files of this machine, if its status is 1.
 fn refused_lines<R: Files + AllocGlobal + Abort>(
     rt: &R,
     arguments: &[&str],

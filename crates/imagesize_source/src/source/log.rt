@@ -6,7 +6,7 @@ ghost use Rattle.imagesize_source.specs.declared.span.Span.{Span};
 use crate::Span;
 use std::marker::Model;
 
-/// The spans that were recorded, in their order. They take no memory, and nothing is done with them when the code runs.
+/// The recorded spans, in order. They exist in proofs only: compiled code neither stores nor reads them.
 #[derive(Drop)]
 pub struct SpanLog {
     pub ghost spans: { List Span },

@@ -1,5 +1,5 @@
-//! The bytes of a slice as a source that records which of them its readings saw. It takes nothing, and no reading of
-//! it fails but for want of memory.
+//! A slice as a source that records which bytes each read saw. It reads nothing from a reader, and a read fails only if an
+//! allocation does.
 ghost use Rattle.std.specs.Prelude.{◌≡◌, ◌-◌, ◌^◌, ◌<◌, ◌≤◌, [], ◌++◌, true, min, length, IfErr, OnErr, OnOk};
 ghost use Rattle.imagesize_source.specs.Buffer.{Holds};
 ghost use Rattle.imagesize_source.specs.Input.{span_at};
@@ -14,17 +14,16 @@ use crate::part::{copy_part, text_at};
 use crate::{Halt, ImageError, Reason, Span, Text};
 use std::alloc::Allocator;
 
-/// A slice that is read by place, and the spans of the readings so far, in their order. A reading that saw no byte has no
-/// span.
+/// A slice that is read at offsets, and the spans of the reads so far, in order. A read that saw no byte has no span.
 #[derive(Drop)]
 pub struct RecordingSource<'a, B: SpanBuffer> {
     /// The bytes that are read.
     pub bytes: &'a [u8],
-    /// What the spans are put into.
+    /// The buffer that the spans are written to.
     pub buffer: B,
-    /// How many spans there are.
+    /// How many spans were recorded.
     pub count: usize,
-    /// All of them.
+    /// All recorded spans.
     pub log: SpanLog,
     ghost written: { Holds (B.shown buffer) (B.places buffer) log.spans },
     ghost counted: { count ≡ min (length log.spans) (2 ^ 64 - 1) },
@@ -32,7 +31,7 @@ pub struct RecordingSource<'a, B: SpanBuffer> {
 }
 
 impl<'a, A: Allocator> RecordingSource<'a, Vec<Span, A>> {
-    /// The source of a slice's bytes that puts spans into memory. It has none so far.
+    /// A source of a slice's bytes that allocates memory for its spans. It has no spans yet.
     pub fn in_memory(alloc: A, bytes: &'a [u8]) -> Self
         ensures bytes { result.bytes.now ≡ bytes.now }
         ensures spans { result.log.spans ≡ [] }
@@ -47,7 +46,7 @@ impl<'a, A: Allocator> RecordingSource<'a, Vec<Span, A>> {
 }
 
 impl<'a, 'b> RecordingSource<'a, &'b mut [Span]> {
-    /// The source of a slice's bytes that puts spans into a room that is lent. It has none so far.
+    /// A source of a slice's bytes that writes its spans to the caller's buffer. It has no spans yet.
     pub fn in_room(bytes: &'a [u8], room: &'b mut [Span]) -> Self
         ensures bytes { result.bytes.now ≡ bytes.now }
         ensures same_reference { result.buffer.ghost_name ≡ room.entry.ghost_name }
@@ -64,7 +63,7 @@ impl<'a, 'b> RecordingSource<'a, &'b mut [Span]> {
 }
 
 impl<B: SpanBuffer> RecordingSource<'_, B> {
-    // Records so many bytes from a place on; no byte has no span.
+    // Records `count` bytes from an offset on. Without bytes it records no span.
     #[tactic(auto, unfolding(crate::specs::Input::span_at))]
     fn record(&mut self, start: u64, count: usize) -> Result<(), Halt>
         ensures same_home { B.home self.new.buffer ≡ B.home self.old.buffer }

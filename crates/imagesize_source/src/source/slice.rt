@@ -1,4 +1,4 @@
-//! The bytes of a slice as a source. It takes nothing, and no reading of it fails.
+//! A slice as a source. It reads nothing from a reader, and no read fails.
 ghost use Rattle.std.specs.Prelude.{◌<◌, ◌-◌, length};
 ghost use Rattle.imagesize_source.specs.State.{slice_state};
 
@@ -6,7 +6,7 @@ use super::Source;
 use crate::part::{copy_part, text_at};
 use crate::{Halt, ImageError, Reason, Text};
 
-/// A slice that is read by place.
+/// A slice that is read at offsets.
 #[derive(Clone, Copy, Debug)]
 pub struct SliceSource<'a> {
     pub bytes: &'a [u8],

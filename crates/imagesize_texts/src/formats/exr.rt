@@ -1,4 +1,4 @@
-//! OpenEXR, by "OpenEXR File Layout": its attributes up to the first data window that is not reversed.
+//! OpenEXR: "OpenEXR File Layout". Walks along the attributes up to the first data window that is not reversed.
 ghost use Rattle.std.specs.Prelude.{◌≡◌, ◌+◌, ◌<◌, ◌≤◌, length, IfOk};
 ghost use Rattle.imagesize_source.specs.Chain.{chain_at};
 ghost use Rattle.imagesize_source.specs.Paying.{Paid};
@@ -14,7 +14,7 @@ use imagesize_source::walk::{Found, Records, walk};
 use imagesize_source::{Endian, Halt};
 use imagesize_types::size::ImageSize;
 
-/// Whether the magic number stands first.
+/// Whether the input begins with the magic number.
 #[inline]
 #[tactic(auto, unfolding(crate::specs::Exr::is_exr))]
 pub fn matches(head: &[u8; 12]) -> bool
@@ -23,7 +23,14 @@ pub fn matches(head: &[u8; 12]) -> bool
     matches!(head, [0x76, 0x2F, 0x31, 0x01, ..])
 }
 
-/// The sides of the first data window that is not reversed.
+/// The size in pixels of the first data window that is not reversed.
+///
+/// # Errors
+///
+/// - `DataWindowNotFound`: the attributes end before such a window.
+/// - `NoDelimiter`: a name is too long.
+/// - `NotUtf8`: a name is not UTF-8.
+/// - `Ended`: the input ends before the size.
 #[tactic(auto, using(imagesize_source::proofs::Runs::steps))]
 pub fn size<S: Source>(source: &mut S) -> Result<ImageSize, Halt>
     ensures { Runs (S.state source.old) (S.state source.new) result
@@ -33,7 +40,7 @@ pub fn size<S: Source>(source: &mut S) -> Result<ImageSize, Halt>
     find_window(source, name_room(version))
 }
 
-// How many bytes a name may have, with the zero that ends it.
+// The greatest length of a name in bytes, with the zero that ends it.
 #[inline]
 #[tactic(auto, unfolding(crate::specs::Exr::name_room))]
 fn name_room(version: u32) -> usize
@@ -44,7 +51,7 @@ fn name_room(version: u32) -> usize
     if version & 0x400 == 0 { 32 } else { 256 }
 }
 
-// The size by the attributes, whose names may have so many bytes.
+// The size from the attributes, whose names have at most `names` bytes.
 fn find_window<S: Source>(source: &mut S, names: usize) -> Result<ImageSize, Halt>
     requires some { 0 < names }
     requires few { names ≤ 256 }
@@ -58,7 +65,7 @@ fn find_window<S: Source>(source: &mut S, names: usize) -> Result<ImageSize, Hal
     walk(attributes, source, 8)
 }
 
-// The attributes, whose names may have so many bytes and are read into the room.
+// The attributes. Their names have at most `names` bytes, and are read into `room`.
 #[derive(Drop)]
 struct Attributes {
     names: usize,
@@ -72,9 +79,9 @@ impl Records for Attributes {
 
     ghost said = { λ attributes passed place. exr_attribute attributes.names place };
 
-    ghost keeps = { λ attributes passed place. attributes.names ≤ 256 };
+    ghost keeps = { λ attributes passed place. (0 < attributes.names) × (attributes.names ≤ 256) };
 
-    // The attribute at a place.
+    // Reads the attribute at an offset.
     #[tactic(auto, using(imagesize_source::proofs::Runs::steps, imagesize_source::proofs::Runs::missed_before))]
     fn read_record<S: Source>(
         &mut self,
@@ -108,9 +115,16 @@ impl Records for Attributes {
             },
         })
     }
+
+    // The input ends before the size.
+    #[inline(always)]
+    #[tactic(auto, using(crate::proofs::Exr::exr_ends))]
+    fn at_end(&self) -> Result<ImageSize, Halt> {
+        Err(Halt::Ended)
+    }
 }
 
-// The name at a place, up to a byte 0, which stands among so many bytes.
+// The name at an offset, up to a zero byte that must be among the first `names` bytes.
 fn read_name<'a, S: Source>(
     source: &mut S,
     place: u64,
@@ -127,7 +141,7 @@ fn read_name<'a, S: Source>(
     read_line_capped(source, place, 0, &mut room[..names])
 }
 
-// The name so far behind a place. A place above 2^64 - 1 is behind the end of every input.
+// The name at `place + distance`. An offset above 2^64 - 1 is past the end of every input.
 fn read_name_behind<'a, S: Source>(
     source: &mut S,
     place: u64,
@@ -144,7 +158,7 @@ fn read_name_behind<'a, S: Source>(
     read_name(source, place.saturating_add(distance), names, room)
 }
 
-// Whether a name is that of the data window.
+// Whether this is the name of the data window.
 #[inline]
 #[tactic(auto, unfolding(crate::specs::Exr::is_data_window))]
 fn is_data_window(name: &str) -> bool
@@ -156,7 +170,7 @@ fn is_data_window(name: &str) -> bool
     )
 }
 
-// Whether a type is that of a box of whole numbers.
+// Whether this is the type of a box of integers.
 #[inline]
 #[tactic(auto, unfolding(crate::specs::Exr::is_box))]
 fn is_box(type_name: &str) -> bool
@@ -165,7 +179,7 @@ fn is_box(type_name: &str) -> bool
     matches!(type_name.as_bytes(), [b'b', b'o', b'x', b'2', b'i'])
 }
 
-// The size of a window, unless it is reversed.
+// The size of a data window, or `None` if the window is reversed.
 #[tactic(auto, unfolding(crate::specs::Exr::window_size))]
 fn window_size(bytes: &[u8; 16]) -> Option<ImageSize>
     ensures { result ≡ window_size bytes.now }
@@ -175,7 +189,7 @@ fn window_size(bytes: &[u8; 16]) -> Option<ImageSize>
     box_size(width, height)
 }
 
-// The signed number of the four bytes from a place on.
+// The signed number that the four bytes from an offset on encode.
 #[tactic(auto, using(crate::proofs::Exr::signed_four))]
 fn signed_at(bytes: &[u8; 16], place: usize) -> i32
     requires { place ≤ 12 }
@@ -189,7 +203,7 @@ fn signed_at(bytes: &[u8; 16], place: usize) -> i32
     ])
 }
 
-// How many there are from a number to another that is no less, with both.
+// How many integers there are from `low` to `high`, including both. `None` if `low` is above `high`.
 #[tactic(auto, unfolding(crate::specs::Exr::window_side))]
 fn side(low: i32, high: i32) -> Option<usize>
     ensures { result ≡ window_side low high }
@@ -200,7 +214,7 @@ fn side(low: i32, high: i32) -> Option<usize>
     Some(high.abs_diff(low) as usize + 1)
 }
 
-// The size of a box of these sides.
+// The size with these sides, if both are known.
 #[inline]
 fn box_size(width: Option<usize>, height: Option<usize>) -> Option<ImageSize>
     ensures { result ≡ size_within width height }

@@ -1,5 +1,5 @@
-//! Radiance RGBE, by "Picture File Format" of the Radiance reference manual.
-ghost use Rattle.std.specs.Prelude.{◌≡◌, ℕ, option_map};
+//! Radiance RGBE: "Picture File Format" in the Radiance reference manual.
+ghost use Rattle.std.specs.Prelude.{◌≡◌, option_map};
 ghost use Rattle.imagesize_source.specs.State.{Runs, Follows};
 ghost use Rattle.imagesize_texts.specs.Contents.{words};
 ghost use Rattle.imagesize_texts.specs.Hdr.{hdr, hdr_identifier, hdr_line, hdr_size, is_hdr, is_identifier, is_resolution, second_and_fourth};
@@ -11,10 +11,10 @@ use imagesize_source::source::Source;
 use imagesize_source::walk::{Found, Records, walk};
 use imagesize_types::size::ImageSize;
 
-// A line behind the first takes no more bytes of an input than this.
+// A line after the first has at most this many bytes, including its line feed.
 const LINE_ROOM: usize = 256;
 
-/// Whether the first line is the identifier.
+/// Whether the input begins with a line that is one of the two identifiers.
 #[inline(always)]
 #[tactic(auto, unfolding(crate::specs::Hdr::is_hdr))]
 pub fn matches(head: &[u8; 12]) -> bool
@@ -39,8 +39,17 @@ pub fn matches(head: &[u8; 12]) -> bool
     ) || matches!(head, [b'#', b'?', b'R', b'G', b'B', b'E', b'\n', ..])
 }
 
-/// The height and the width, which are the second and the fourth word of the first line that begins with an axis.
-#[tactic(auto, using(imagesize_source::proofs::Runs::steps, crate::proofs::Hdr::hdr_follows))]
+/// The height and the width in pixels: the second and the fourth word of the first line that begins with an axis.
+///
+/// # Errors
+///
+/// - `InvalidHdrIdentifier`: the first line begins with no identifier.
+/// - `InvalidHdrDimensionsLine`: the line with the size does not have four words.
+/// - `HdrDimensionsNotFound`: the second or the fourth word is not a number.
+/// - `NoDelimiter`: a line is too long.
+/// - `NotUtf8`: a line is not UTF-8.
+/// - `Ended`: the input ends before the size.
+#[tactic(auto, using(imagesize_source::proofs::Runs::steps))]
 pub fn size<S: Source>(source: &mut S) -> Result<ImageSize, Halt>
     ensures { Runs (S.state source.old) (S.state source.new) result
         (hdr (S.state source.old).held.input) }
@@ -52,7 +61,7 @@ pub fn size<S: Source>(source: &mut S) -> Result<ImageSize, Halt>
     walk(lines, source, first)
 }
 
-// How many bytes the first line takes, which has to be the identifier.
+// Reads the first line, which must begin with an identifier, and returns its length in bytes with the line feed.
 #[tactic(auto, using(imagesize_source::proofs::Runs::steps))]
 fn read_identifier<S: Source>(source: &mut S) -> Result<u64, Halt>
     ensures { Follows (S.state source.old) (S.state source.new) result hdr_identifier }
@@ -65,7 +74,7 @@ fn read_identifier<S: Source>(source: &mut S) -> Result<u64, Halt>
     Ok(line.len() as u64 + 1)
 }
 
-// The lines behind the first, which are read into the room.
+// The lines after the first, which are read into `room`.
 #[derive(Drop)]
 struct Lines {
     room: [u8; LINE_ROOM],
@@ -80,7 +89,7 @@ impl Records for Lines {
 
     ghost keeps = { λ _ passed place. Unit {0} };
 
-    // The line at a place.
+    // Reads the line at an offset.
     #[tactic(auto, using(imagesize_source::proofs::Runs::steps))]
     fn read_record<S: Source>(
         &mut self,
@@ -99,6 +108,13 @@ impl Records for Lines {
             held: (),
             length: line.len() as u64 + 1,
         })
+    }
+
+    // The input ends before the size.
+    #[inline(always)]
+    #[tactic(auto, using(crate::proofs::Hdr::hdr_ends))]
+    fn at_end(&self) -> Result<ImageSize, Halt> {
+        Err(Halt::Ended)
     }
 }
 
@@ -135,7 +151,7 @@ fn is_resolution(text: &str) -> bool
     matches!(text.as_bytes(), [b'-' | b'+', b'X' | b'Y', ..])
 }
 
-// The second and the fourth of exactly four words.
+// The second and the fourth word, if there are exactly four.
 fn lengths(text: &str) -> Option<(&str, &str)>
     ensures { option_map (λ lengths. (lengths.0.now, lengths.1.now)) result ≡ second_and_fourth (words text.now) }
 {
@@ -150,7 +166,7 @@ fn lengths(text: &str) -> Option<(&str, &str)>
     }
 }
 
-// The size of these sides.
+// The size with these sides, or `HdrDimensionsNotFound` if one of them is missing.
 fn hdr_size(height: Option<usize>, width: Option<usize>) -> Result<ImageSize, Halt>
     ensures { result ≡ hdr_size height width }
 {

@@ -1,5 +1,5 @@
-//! The portable bitmaps, by the manual pages pbm(5), pgm(5) and ppm(5) of Netpbm.
-ghost use Rattle.std.specs.Prelude.{◌≡◌, ℕ};
+//! Portable bitmaps: the manual pages pbm(5), pgm(5) and ppm(5) of Netpbm.
+ghost use Rattle.std.specs.Prelude.{◌≡◌};
 ghost use Rattle.imagesize_source.specs.State.{Runs};
 ghost use Rattle.imagesize_source.specs.declared.walk.Found.TheVariants as found;
 ghost use Rattle.imagesize_texts.specs.Pnm.{is_blank, is_comment, is_pnm, pnm, pnm_size, pnm_word};
@@ -11,7 +11,7 @@ use imagesize_source::source::Source;
 use imagesize_source::walk::{Found, Records, walk};
 use imagesize_types::size::ImageSize;
 
-/// Whether a magic number from `P1` to `P6` stands first.
+/// Whether the input begins with a magic number from `P1` to `P6`.
 #[inline(always)]
 #[tactic(auto, unfolding(crate::specs::Pnm::is_pnm))]
 pub fn matches(head: &[u8; 12]) -> bool
@@ -20,8 +20,15 @@ pub fn matches(head: &[u8; 12]) -> bool
     matches!(head, [b'P', b'1'..=b'6', ..])
 }
 
-/// The width and the height, which are the first two words that are neither in a comment nor blank.
-#[tactic(auto, using(crate::proofs::Pnm::pnm_follows))]
+/// The width and the height in pixels. The width is the first word that is neither blank nor in a comment, and the height is
+/// the next word.
+///
+/// # Errors
+///
+/// - `PnmDimensionsNotFound`: the width or the height is not a number.
+/// - `NoDelimiter`: a word or a comment is too long.
+/// - `NotUtf8`: a word is not UTF-8.
+/// - `Ended`: the input ends before the size.
 pub fn size<S: Source>(source: &mut S) -> Result<ImageSize, Halt>
     ensures { Runs (S.state source.old) (S.state source.new) result
         (pnm (S.state source.old).held.input) }
@@ -32,7 +39,7 @@ pub fn size<S: Source>(source: &mut S) -> Result<ImageSize, Halt>
     walk(words, source, 2)
 }
 
-// The words behind the magic number, which are read into the room.
+// The words after the magic number, which are read into `room`.
 #[derive(Drop)]
 struct Words {
     room: [u8; WORD_ROOM],
@@ -47,7 +54,8 @@ impl Records for Words {
 
     ghost keeps = { λ _ passed place. Unit {0} };
 
-    // The word at a place: with the height, where it is the width, and where it begins a comment with the rest of that.
+    // Reads the word at an offset. After the width it reads the height too, and at the start of a comment the rest of the
+    // comment.
     #[tactic(auto, using(imagesize_source::proofs::Runs::steps, imagesize_source::proofs::Runs::missed_before))]
     fn read_record<S: Source>(
         &mut self,
@@ -71,9 +79,16 @@ impl Records for Words {
         let size = pnm_size(width, number(next.text.trim()))?;
         Ok(Found::Answer(size))
     }
+
+    // The input ends before the size.
+    #[inline(always)]
+    #[tactic(auto, using(crate::proofs::Pnm::pnm_ends))]
+    fn at_end(&self) -> Result<ImageSize, Halt> {
+        Err(Halt::Ended)
+    }
 }
 
-// A word that says nothing of the size. It takes so many bytes.
+// A word of `taken` bytes that does not give the size.
 #[inline(always)]
 fn pass(taken: u64) -> Found<(), ImageSize>
     ensures { result ≡ found.Other tt taken }
@@ -90,11 +105,11 @@ fn pass(taken: u64) -> Found<(), ImageSize>
 fn is_comment(text: &str) -> bool
     ensures { result ≡ is_comment text.now }
 {
-    // The commonest is seen as it is.
+    // The most common case needs no trimming.
     is_hash(text.as_bytes()) || matches!(text.trim().as_bytes(), [b'#', ..])
 }
 
-// Whether a word is white space alone.
+// Whether a word is white space only.
 #[inline]
 #[tactic(auto, unfolding(crate::specs::Pnm::is_blank))]
 fn is_blank(text: &str) -> bool
@@ -103,7 +118,7 @@ fn is_blank(text: &str) -> bool
     text.trim().is_empty()
 }
 
-// The size of these sides.
+// The size with these sides, or `PnmDimensionsNotFound` if one of them is missing.
 fn pnm_size(width: Option<usize>, height: Option<usize>) -> Result<ImageSize, Halt>
     ensures { result ≡ pnm_size width height }
 {

@@ -7,7 +7,7 @@ use std::alloc::{AllocError, Global};
 use std::fmt::Display;
 use std::io::{self, Cursor, ErrorKind};
 
-/// The calls that a reader is given to.
+/// The calls that take a reader.
 #[derive(Clone, Copy, Debug)]
 pub enum Call {
     /// `reader_type`
@@ -16,7 +16,7 @@ pub enum Call {
     Size,
     /// `reader_probe`
     Probe,
-    /// the size by a type
+    /// the size as a type
     SizeAs(ImageType),
 }
 
@@ -25,7 +25,7 @@ pub fn calls(kind: ImageType) -> [Call; 4] {
     [Call::Type, Call::Size, Call::Probe, Call::SizeAs(kind)]
 }
 
-/// The refusal of a call, where it refuses.
+/// The error of a call, if there is one.
 pub fn refusal_of<R: Told>(call: Call, mut reader: R) -> Option<ImageError> {
     match call {
         Call::Type => reader_type(reader).err(),
@@ -43,7 +43,7 @@ pub fn fault_of<R: Told>(call: Call, reader: R) -> Option<io::Error> {
     }
 }
 
-/// Whether two errors have one kind, one number of the system and one text.
+/// Whether two errors have the same `ErrorKind`, the same number of the system and the same text.
 pub fn is_same(alloc: Global, error: &io::Error, other: &io::Error) -> Result<bool, AllocError> {
     Ok(
         error.kind() == other.kind()
@@ -52,7 +52,7 @@ pub fn is_same(alloc: Global, error: &io::Error, other: &io::Error) -> Result<bo
     )
 }
 
-// Errors with a kind alone, a text and a number of the system, one of which other readers return at their end.
+// Errors with an `ErrorKind` alone, a text and a number of the system. Other readers return one of them at their end.
 fn failures() -> [io::Error; 4] {
     [
         io::Error::from(ErrorKind::InvalidData),
@@ -62,7 +62,7 @@ fn failures() -> [io::Error; 4] {
     ]
 }
 
-/// Errors of the kind of an interruption.
+/// Errors whose `ErrorKind` is `Interrupted`.
 pub fn interruptions() -> [io::Error; 3] {
     [
         io::Error::from(ErrorKind::Interrupted),
@@ -71,10 +71,10 @@ pub fn interruptions() -> [io::Error; 3] {
     ]
 }
 
-/// How many failures are made in turn, at most. No input of so many calls is tried.
+/// How many calls fail in turn, at most. No input that needs so many calls is tried.
 pub const TURNS: u64 = 10_000;
 
-// Each read and seek of a call fails in turn, until one more than the call makes; the fault is that failure.
+// Each read and seek of a call fails in turn, until one more than the call makes. The fault is that failure.
 fn check_turns(alloc: Global, bytes: &[u8], call: Call, failure: io::Error) -> Result<(), Wrong> {
     let mut turns = 0;
     for turn in 0..TURNS {
@@ -90,7 +90,7 @@ fn check_turns(alloc: Global, bytes: &[u8], call: Call, failure: io::Error) -> R
         holds(is_same(alloc, &fault, &failure)?, "the fault of a failure")?;
         turns = turn + 1;
     }
-    // Each call asks for the place and for the length, and those of the type read behind it.
+    // Each call asks for the offset and for the length. Those that detect the type also seek back and read.
     let least = match call {
         Call::SizeAs(_) => 2,
         _ => 4,
@@ -98,7 +98,7 @@ fn check_turns(alloc: Global, bytes: &[u8], call: Call, failure: io::Error) -> R
     holds(least <= turns && turns < TURNS, "the calls that may fail")
 }
 
-/// Over these bytes, of this type, the failure of each read and each seek in turn is the fault that a call answers.
+/// For these bytes and this type, each read and each seek fails in turn, and the call returns that failure as its fault.
 pub fn check_failures(alloc: Global, bytes: &[u8], kind: ImageType) -> Result<(), Wrong> {
     for failure in failures() {
         for call in calls(kind) {
@@ -108,7 +108,7 @@ pub fn check_failures(alloc: Global, bytes: &[u8], kind: ImageType) -> Result<()
     Ok(())
 }
 
-// Reads that are interrupted 64 times change nothing; one more is the fault that is answered.
+// 64 interrupted reads change nothing. With one more, the call returns its error as the fault.
 fn check_interrupted(
     alloc: Global,
     bytes: &[u8],
@@ -132,7 +132,7 @@ fn check_interrupted(
     }
 }
 
-/// Over these bytes, of this type, reads are tried again 64 times in each call.
+/// For these bytes and this type, reads are tried again 64 times in each call.
 pub fn check_interruptions(alloc: Global, bytes: &[u8], kind: ImageType) -> Result<(), Wrong> {
     for error in interruptions() {
         for call in calls(kind) {

@@ -1,4 +1,4 @@
-//! Types and sizes from parts of inputs, fetched as they are wanted.
+//! Types and sizes from parts of inputs, which are fetched as they are requested.
 
 use super::{has, is_answer, is_kind, is_type};
 use crate::table::{Row, Wrong, holds};
@@ -7,16 +7,16 @@ use imagesize::{
 };
 use std::alloc::{AllocError, Global};
 
-/// How a caller fetches what is wanted.
+/// How a caller fetches what is requested.
 #[derive(Clone, Copy, PartialEq, Eq)]
 pub enum How {
-    /// the wanted span
+    /// the requested span
     Exactly,
     /// its first byte
     OneByte,
-    /// the blocks that it touches, of one byte more than this, which is one less than a power of two
+    /// the blocks that it touches; a block has one byte more than this number, which is one less than a power of two
     Blocks(u64),
-    /// more on both sides of it, so that parts overlap, with each part before the others at every second time
+    /// more on both sides of it, so that parts overlap, and every second part is put before the others
     Shuffled,
 }
 
@@ -33,19 +33,19 @@ fn part_for(how: How, wanted: &Span, whole: u64) -> Span {
     Span { start, len }
 }
 
-/// Type and size, as both are asked for.
+/// Type and size, if both are requested.
 pub type Both = (Option<ImageType>, ImageResult<ImageSize>);
 
-/// What is asked of the parts of an input.
+/// What is requested from the parts of an input.
 pub trait Asked {
-    /// What is found.
+    /// The result.
     type Answer: Drop;
 
-    /// Asks these parts of an input of this length.
+    /// Makes the call for these parts of an input of this length.
     fn ask(&self, bytes: &[u8], parts: &[Span], whole: u64) -> PartsAnswer<Self::Answer>;
 }
 
-/// Type and size are asked for.
+/// Requests type and size.
 #[derive(Clone, Copy)]
 pub struct TypeAndSize;
 
@@ -57,7 +57,7 @@ impl Asked for TypeAndSize {
     }
 }
 
-// The type alone is asked for.
+// Requests the type alone.
 #[derive(Clone, Copy)]
 struct TypeAlone;
 
@@ -69,7 +69,7 @@ impl Asked for TypeAlone {
     }
 }
 
-// The size is asked for by a type.
+// Requests the size as a type.
 impl Asked for ImageType {
     type Answer = ImageResult<ImageSize>;
 
@@ -78,18 +78,18 @@ impl Asked for ImageType {
     }
 }
 
-/// What was asked for, and what was fetched until it was found.
+/// A result, and what was fetched until it was found.
 #[derive(Drop)]
 pub struct Fetched<T> {
     /// How many parts.
     pub rounds: usize,
     /// How many bytes.
     pub bytes: usize,
-    /// What was found.
+    /// The result.
     pub found: T,
 }
 
-// The bytes of an input in these parts, one behind another.
+// The bytes of an input in these parts, one after another.
 fn bytes_in(alloc: Global, input: &[u8], parts: &[Span]) -> Result<Vec<u8>, AllocError> {
     let mut bytes = Vec::new(alloc);
     for part in parts {
@@ -100,7 +100,7 @@ fn bytes_in(alloc: Global, input: &[u8], parts: &[Span]) -> Result<Vec<u8>, Allo
     Ok(bytes)
 }
 
-/// Fetches what is wanted from no part on, until there is an answer.
+/// Fetches what is requested, starting without parts, until there is a result.
 pub fn fetch<A: Asked>(
     alloc: Global,
     asked: &A,
@@ -132,10 +132,10 @@ pub fn fetch<A: Asked>(
     Err(Wrong::new("parts without end are wanted"))
 }
 
-// How many bytes an input of few records has at most.
+// The greatest length in bytes of an input with few records.
 const SMALL: usize = 200;
 
-// How many rounds there are at most where exactly what is wanted is fetched, and where its first byte alone is.
+// The most rounds if exactly the requested span is fetched, and if only its first byte is.
 fn most_rounds(kind: Option<ImageType>) -> (usize, usize) {
     match kind {
         Some(ImageType::Gif | ImageType::Qoi | ImageType::Aseprite) => (1, 12),
@@ -157,7 +157,7 @@ fn most_rounds(kind: Option<ImageType>) -> (usize, usize) {
     }
 }
 
-// How many bytes the readings of these spans see.
+// How many bytes the reads of these spans see.
 fn seen_of(spans: &[Span]) -> usize {
     let mut seen = 0u64;
     for span in spans {
@@ -166,7 +166,7 @@ fn seen_of(spans: &[Span]) -> usize {
     seen as usize
 }
 
-// An input has its answer, by so many rounds at most.
+// An input has its result after at most `most` rounds.
 fn check_rounds(alloc: Global, row: &Row<'_>, how: How, most: usize) -> Result<(), Wrong> {
     let fetched = fetch(alloc, &TypeAndSize, &row.bytes, how)?;
     let (kind, answer) = &fetched.found;
@@ -181,7 +181,7 @@ fn check_rounds(alloc: Global, row: &Row<'_>, how: How, most: usize) -> Result<(
     Ok(())
 }
 
-// The same for a row. By its type it is known of small inputs alone, and a large one takes too long byte by byte.
+// The most rounds for a row. By its type they are known for small inputs only, and a large one takes too long byte by byte.
 fn rounds_of(row: &Row<'_>) -> (usize, usize) {
     match &row.spans {
         Some(spans) if row.bytes.len() <= SMALL => {
@@ -193,7 +193,7 @@ fn rounds_of(row: &Row<'_>) -> (usize, usize) {
     }
 }
 
-/// An input has its answer, however its parts are fetched.
+/// An input has its result, however its parts are fetched.
 pub fn check_parts(alloc: Global, row: &Row<'_>) -> Result<(), Wrong> {
     let (exactly, one_by_one) = rounds_of(row);
     let blocks = |of: usize| row.bytes.len().div_ceil(of);
@@ -208,7 +208,7 @@ pub fn check_parts(alloc: Global, row: &Row<'_>) -> Result<(), Wrong> {
     check_rounds(alloc, row, How::Shuffled, exactly)
 }
 
-// The type alone is told from no more bytes than type and size are, and so is the size by the type.
+// The type alone needs no more bytes than type and size, and neither does the size as that type.
 fn check_alone(alloc: Global, row: &Row<'_>, most: usize) -> Result<(), Wrong> {
     let fetched = fetch(alloc, &TypeAlone, &row.bytes, How::OneByte)?;
     holds(
@@ -229,7 +229,7 @@ fn check_alone(alloc: Global, row: &Row<'_>, most: usize) -> Result<(), Wrong> {
     }
 }
 
-/// What is wanted of an input whose format has no text lies whole in a span of its trace; of a text it begins in one.
+/// Except for text formats, a requested span lies whole in a span of the input's trace. For text formats its first byte does.
 pub fn check_wanted(alloc: Global, row: &Row<'_>, spans: &[Span]) -> Result<(), Wrong> {
     let is_text = matches!(
         image_type(&row.bytes),

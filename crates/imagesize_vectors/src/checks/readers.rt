@@ -1,4 +1,4 @@
-//! Readers of a worked input.
+//! Readers of a test vector.
 ghost use Rattle.std.specs.Prelude.{None};
 
 use super::{is_answer, is_kind, is_type};
@@ -8,7 +8,7 @@ use imagesize_readers::readers::{Counting, Cutting};
 use std::alloc::{AllocError, Global};
 use std::io::{self, BufReader, Cursor, SeekFrom};
 
-// Whether the calls on readers have the answer; each call is given one of them.
+// Whether the calls on readers have the expected result. Each call gets one of the readers.
 fn are_answered<R: Told>(
     alloc: Global,
     row: &Row<'_>,
@@ -28,7 +28,7 @@ fn are_answered<R: Told>(
     )
 }
 
-/// A cursor, one byte a read, and a buffered reader have the answer.
+/// A cursor, one byte per read, and a buffered reader have the expected result.
 pub fn check_whole(alloc: Global, row: &Row<'_>) -> Result<(), Wrong> {
     let cursor = || Cursor::new(row.bytes.as_slice());
     let whole = are_answered(alloc, row, cursor(), cursor(), cursor())?;
@@ -41,7 +41,7 @@ pub fn check_whole(alloc: Global, row: &Row<'_>) -> Result<(), Wrong> {
     holds(is_answer(alloc, row, &buffered)?, "a buffered reader")
 }
 
-// Whether reads that give pieces of these lengths have the answer.
+// Whether reads that give pieces of these lengths have the expected result.
 fn are_answered_by(alloc: Global, row: &Row<'_>, lengths: &[usize]) -> Result<bool, AllocError> {
     let bytes = row.bytes.as_slice();
     let reader = || Cutting {
@@ -52,7 +52,7 @@ fn are_answered_by(alloc: Global, row: &Row<'_>, lengths: &[usize]) -> Result<bo
     are_answered(alloc, row, reader(), reader(), reader())
 }
 
-/// Pieces of any lengths have the answer.
+/// Pieces of any lengths have the expected result.
 pub fn check_pieces(alloc: Global, row: &Row<'_>) -> Result<(), Wrong> {
     holds(are_answered_by(alloc, row, &[2])?, "pieces of 2 bytes")?;
     holds(are_answered_by(alloc, row, &[3])?, "pieces of 3 bytes")?;
@@ -69,7 +69,7 @@ pub fn check_pieces(alloc: Global, row: &Row<'_>) -> Result<(), Wrong> {
     holds(many, "pieces of many lengths")
 }
 
-/// A counting reader counts what is taken, and for the type no more.
+/// A counting reader counts the bytes read, and no more of them for the type.
 pub fn check_counts(alloc: Global, row: &Row<'_>) -> Result<(), Wrong> {
     let mut whole = 0;
     let answer = reader_size(Counting {
@@ -90,7 +90,7 @@ pub fn check_counts(alloc: Global, row: &Row<'_>) -> Result<(), Wrong> {
     holds(of_type <= whole, "the count of a reader for its type")
 }
 
-// Does what another reader does, and keeps the greatest place that it was sent to.
+// Does what another reader does, and keeps the greatest offset that it was sent to.
 #[derive(Drop)]
 struct Sent<'a, R: Told> {
     reader: R,
@@ -116,7 +116,7 @@ impl<R: Told> Told for Sent<'_, R> {
     }
 }
 
-/// A size is read without a seek behind the end.
+/// A size is read without a seek past the end.
 pub fn check_places(alloc: Global, row: &Row<'_>) -> Result<(), Wrong> {
     let mut greatest = 0;
     let answer = reader_size(Sent {
@@ -130,7 +130,7 @@ pub fn check_places(alloc: Global, row: &Row<'_>) -> Result<(), Wrong> {
     holds(greatest <= row.bytes.len() as u64, "a seek behind the end")
 }
 
-/// The type reads the size, wherever the reader stands.
+/// The type reads the size, whatever the reader's offset is.
 pub fn check_size_as(alloc: Global, row: &Row<'_>, kind: ImageType) -> Result<(), Wrong> {
     for place in [0, 4, 1000] {
         let mut cursor = Cursor::new(row.bytes.as_slice());

@@ -1,18 +1,18 @@
 //! Windows icons, by `ICONDIR` and `ICONDIRENTRY` of "Icons" (Win32).
-ghost use Rattle.std.specs.Prelude.{◌≡◌, ◌≤◌, ◌+◌, ◌*◌, Some, ok_or};
+ghost use Rattle.std.specs.Prelude.{◌≡◌, ◌<◌, ◌≤◌, ◌*◌, IfOk, IfSome, Some, ok_or};
 ghost use Rattle.std.specs.Option.{ForSome};
 ghost use Rattle.imagesize_walked.specs.Ico.{ico, icon_entries, icon_side, icon_size, is_ico};
-ghost use Rattle.imagesize_walked.specs.Walks.{IsIcon};
+ghost use Rattle.imagesize_walked.specs.Walks.{IsIcon, Seen, entry_in};
 ghost use Rattle.imagesize_types.specs.Largest.{later_largest};
 ghost use Rattle.imagesize_types.specs.Order.{area_of};
 ghost use Rattle.imagesize_source.specs.declared.halt.Halt.TheVariants as halt;
 ghost use Rattle.imagesize_source.specs.Chain.{chain_at};
-ghost use Rattle.imagesize_source.specs.Layout.{if_there};
-ghost use Rattle.imagesize_source.specs.Layout.Layout.{«done»};
+ghost use Rattle.imagesize_source.specs.Paying.{Paid};
 ghost use Rattle.imagesize_source.specs.State.{Runs, Follows, IsSound};
 
 use imagesize_source::readings::{read_if_there, read_u16};
 use imagesize_source::source::Source;
+use imagesize_source::walk::{Found, Records, walk};
 use imagesize_source::{Endian, Halt};
 use imagesize_types::size::ImageSize;
 
@@ -34,35 +34,88 @@ pub fn size<S: Source>(source: &mut S) -> Result<ImageSize, Halt>
     largest(source, count)
 }
 
-// The largest of so many images, of which those count whose entries are there.
+// The size of the largest of `count` icons. Icons whose entries lie past the end of the input do not count.
 fn largest<S: Source>(source: &mut S, count: u16) -> Result<ImageSize, Halt>
     requires { IsSound (S.state source.old) }
     ensures { Runs (S.state source.old) (S.state source.new) result
         (chain_at (icon_entries count) (S.state source.old).held.input) }
 {
-    let mut best: Option<ImageSize> = None;
-    for index in 0..count {
-        let Some(bytes) = read_entry(source, index)? else {
-            return answer(best);
+    let entries = Entries {
+        count,
+        seen: 0,
+        largest: None,
+    };
+    walk(entries, source, 6)
+}
+
+// The entries of the directory: how many it counts, how many were read, and the largest size of these.
+#[derive(Drop)]
+struct Entries {
+    count: u16,
+    seen: u16,
+    largest: Option<ImageSize>,
+    ghost few: { seen ≤ count },
+}
+
+impl Records for Entries {
+    type Held = ImageSize;
+
+    type Answer = ImageSize;
+
+    ghost said = { λ entries sizes place. (icon_entries entries.count).said sizes place };
+
+    ghost keeps = { λ entries sizes place. Seen entries.seen entries.largest sizes };
+
+    // Reads the entry at an offset.
+    #[inline]
+    fn read_record<S: Source>(
+        &mut self,
+        source: &mut S,
+        place: u64,
+    ) -> Result<Found<ImageSize, ImageSize>, Halt> {
+        let Some(bytes) = self.read_entry(source, place)? else {
+            return Ok(Found::Answer(answer(self.largest)?));
         };
-        best = Some(larger(best, icon_size(bytes)));
+        let size = icon_size(bytes);
+        self.largest = Some(larger(self.largest, size));
+        self.seen += 1;
+        Ok(Found::Other {
+            held: size,
+            length: 16,
+        })
     }
-    answer(best)
+
+    // The largest size so far.
+    #[inline(always)]
+    fn at_end(&self) -> Result<ImageSize, Halt> {
+        answer(self.largest)
+    }
 }
 
-// The first two bytes of an entry, or none where the input ends before the second.
-#[inline]
-fn read_entry<S: Source>(source: &mut S, index: u16) -> Result<Option<[u8; 2]>, Halt>
-    ensures { Follows (S.state source.old) (S.state source.new) result (if_there (6 + 16 * index) 2 done) }
-{
-    read_if_there::<S, 2>(source, 6 + 16 * index as u64)
+impl Entries {
+    // The first two bytes of the next entry. `None` if all are read, or if the input ends before the second byte.
+    #[inline(always)]
+    #[tactic(auto, using(imagesize_source::proofs::Runs::steps))]
+    fn read_entry<S: Source>(&self, source: &mut S, place: u64) -> Result<Option<[u8; 2]>, Halt>
+        ensures pays { IfOk result (λ entry. IfSome entry (λ _. Paid (S.state source.old) (S.state source.new) place)) }
+        ensures more { IfOk result (λ entry. IfSome entry (λ _. self.now.seen < self.now.count)) }
+        ensures runs { Follows (S.state source.old) (S.state source.new) result (entry_in self.now.count self.now.seen place) }
+    {
+        if self.seen == self.count {
+            // The proof needs that the input is not so long.
+            let _told = source.told();
+            return Ok(None);
+        }
+        read_if_there::<S, 2>(source, place)
+    }
 }
 
-// What is answered at the end of the list.
-fn answer(best: Option<ImageSize>) -> Result<ImageSize, Halt>
-    ensures { result ≡ ok_or best halt.Corrupted }
+// The size at the end of the list.
+#[inline(always)]
+fn answer(largest: Option<ImageSize>) -> Result<ImageSize, Halt>
+    ensures { result ≡ ok_or largest halt.Corrupted }
 {
-    best.ok_or(Halt::Corrupted)
+    largest.ok_or(Halt::Corrupted)
 }
 
 // The one of greater area, and of two that are alike the second.

@@ -1,4 +1,4 @@
-//! Interleaved bitmaps, by "EA IFF 85" (forms and chunks) and its supplement "ILBM" (the bitmap header).
+//! Interleaved bitmaps: "EA IFF 85" (forms and chunks) and its supplement "ILBM" (the bitmap header).
 ghost use Rattle.imagesize_source.specs.State.{Runs};
 ghost use Rattle.std.specs.Prelude.{◌≡◌};
 ghost use Rattle.imagesize_walked.specs.Ilbm.{chunk_bytes, chunk_length, ilbm, ilbm_chunk, is_bitmap_header, is_body, is_ilbm};
@@ -9,7 +9,7 @@ use imagesize_source::walk::{Found, Records, walk};
 use imagesize_source::{Endian, Halt};
 use imagesize_types::size::ImageSize;
 
-/// Whether a form of the type `ILBM` or `PBM ` stands first.
+/// Whether the input begins with a form of the type `ILBM` or `PBM `.
 #[inline(always)]
 #[tactic(auto, unfolding(crate::specs::Ilbm::is_ilbm))]
 pub fn matches(head: &[u8; 12]) -> bool
@@ -20,15 +20,16 @@ pub fn matches(head: &[u8; 12]) -> bool
             || matches!(head, [_, _, _, _, _, _, _, _, b'P', b'B', b'M', b' ', ..]))
 }
 
-/// The width and the height of the first bitmap header that stands before the pixels.
-#[tactic(auto, using(crate::proofs::Ilbm::ilbm_follows))]
+/// The width and the height in pixels, from the first bitmap header before the pixels. Returns `Corrupted` if the pixels come
+/// first, and `Ended` if the input ends before the size.
+#[tactic(auto, using(crate::proofs::Ilbm::ilbm_advances))]
 pub fn size<S: Source>(source: &mut S) -> Result<ImageSize, Halt>
     ensures { Runs (S.state source.old) (S.state source.new) result (ilbm (S.state source.old).held.input) }
 {
     walk(Chunks, source, 12)
 }
 
-// The chunks behind the form's type.
+// The chunks after the form's type.
 #[derive(Clone, Copy)]
 struct Chunks;
 
@@ -41,7 +42,7 @@ impl Records for Chunks {
 
     ghost keeps = { λ _ passed place. Unit {0} };
 
-    // The chunk at a place.
+    // Reads the chunk at an offset.
     #[tactic(auto, using(imagesize_source::proofs::Runs::steps))]
     fn read_record<S: Source>(
         &mut self,
@@ -62,6 +63,13 @@ impl Records for Chunks {
             length: chunk_bytes(chunk_length(&head)),
         })
     }
+
+    // The input ends before the size.
+    #[inline(always)]
+    #[tactic(auto, using(crate::proofs::Ilbm::ilbm_ends))]
+    fn at_end(&self) -> Result<ImageSize, Halt> {
+        Err(Halt::Ended)
+    }
 }
 
 #[inline(always)]
@@ -78,7 +86,7 @@ fn is_body(head: &[u8; 8]) -> bool
     matches!(head, [b'B', b'O', b'D', b'Y', ..])
 }
 
-// The length of a chunk's data.
+// The length of a chunk's data in bytes.
 #[inline(always)]
 #[tactic(auto, using(imagesize_source::proofs::Bytes::last_four), unfolding(crate::specs::Ilbm::chunk_length))]
 fn chunk_length(head: &[u8; 8]) -> u32
@@ -87,7 +95,7 @@ fn chunk_length(head: &[u8; 8]) -> u32
     u32::from_be_bytes([head[4], head[5], head[6], head[7]])
 }
 
-// How many bytes a chunk has whose data is so long, with its name, its length and the padding of odd data.
+// The length of a chunk in bytes: its name, its length, its data, and the padding after data of an odd length.
 #[inline(always)]
 fn chunk_bytes(length: u32) -> u64
     ensures { result ≡ chunk_bytes length }

@@ -1,5 +1,5 @@
-//! JPEG, by ITU-T T.81, annex B: its segments up to the first frame that is of the image itself.
-ghost use Rattle.std.specs.Prelude.{◌≡◌, ◌↔◌, ◌<◌, ◌+◌, ◌^◌, IfOk, IsTrue};
+//! JPEG: ITU-T T.81, annex B. Walks along the segments up to the first frame of the image itself.
+ghost use Rattle.std.specs.Prelude.{◌≡◌, ◌↔◌, ◌<◌, ◌+◌, ◌^◌, IfOk, IfErr, IsTrue};
 ghost use Rattle.imagesize_walked.specs.Jpeg.{depth, is_frame, is_jpeg, is_own_end, is_own_frame, jpeg, jpeg_segment};
 ghost use Rattle.imagesize_walked.specs.Walks.{depth_behind, LeadsOn, RoleLeadsOn, Stands};
 ghost use Rattle.imagesize_source.specs.Walk.{said_at};
@@ -13,7 +13,7 @@ use imagesize_source::walk::{Found, Records, walk};
 use imagesize_source::{Endian, Halt};
 use imagesize_types::size::ImageSize;
 
-/// Whether the start of the image stands first, and another marker behind it.
+/// Whether the input begins with the start of an image and the first byte of another marker.
 #[inline(always)]
 #[tactic(auto, unfolding(crate::specs::Jpeg::is_jpeg))]
 pub fn matches(head: &[u8; 12]) -> bool
@@ -22,15 +22,16 @@ pub fn matches(head: &[u8; 12]) -> bool
     matches!(head, [0xFF, 0xD8, 0xFF, ..])
 }
 
-/// The lines, and the samples of a line, of the first frame that is not that of an image within the image.
-#[tactic(auto, using(crate::proofs::Jpeg::jpeg_follows, crate::proofs::Jpeg::stands_first))]
+/// The width and the height in pixels, from the first frame that does not belong to an image within the image. Returns
+/// `Corrupted` if a segment does not begin with FF or the image ends before its frame, and `Ended` if the input does.
+#[tactic(auto, using(crate::proofs::Jpeg::jpeg_advances, crate::proofs::Jpeg::stands_first))]
 pub fn size<S: Source>(source: &mut S) -> Result<ImageSize, Halt>
     ensures { Runs (S.state source.old) (S.state source.new) result (jpeg (S.state source.old).held.input) }
 {
     walk(Segments { depth: 0 }, source, 2)
 }
 
-// The segments behind the start of the image. The next one stands so deep within it.
+// The segments after the start of the image. `depth` says how many images within the image the next segment is in.
 #[derive(Clone, Copy)]
 struct Segments {
     depth: u64,
@@ -45,9 +46,9 @@ impl Records for Segments {
 
     ghost keeps = { λ segments markers place. Stands segments.depth markers place };
 
-    // The segment at a place.
+    // Reads the segment at an offset.
     #[inline]
-    #[tactic(auto, using(crate::proofs::Jpeg::stands_on, crate::proofs::Jpeg::segment_as, crate::proofs::Jpeg::shallow))]
+    #[tactic(auto, using(crate::proofs::Jpeg::stands_on, crate::proofs::Jpeg::stands_stay, crate::proofs::Jpeg::segment_as, crate::proofs::Jpeg::shallow))]
     fn read_record<S: Source>(
         &mut self,
         source: &mut S,
@@ -55,20 +56,26 @@ impl Records for Segments {
     ) -> Result<Found<u8, ImageSize>, Halt> {
         self.read_segment(source, place)
     }
+
+    // The input ends before the size.
+    #[inline(always)]
+    fn at_end(&self) -> Result<ImageSize, Halt> {
+        Err(Halt::Ended)
+    }
 }
 
-// What a marker is to the image itself.
+// What a marker means for the image itself.
 #[derive(Clone, Copy)]
 enum Role {
     // It starts a frame of the image.
     Frame,
     // It ends the image.
     End,
-    // Neither. The next segment stands so deep.
+    // Neither. `depth` is the depth of the next segment.
     Other { depth: u64 },
 }
 
-// What a marker is that stands so deep within the image. Most are none of those from C0 to D9.
+// What a marker at this depth means. Most markers are not from C0 to D9.
 #[inline(always)]
 #[tactic(auto, unfolding(crate::specs::Walks::LeadsTo))]
 fn role_of(depth: u64, marker: u8) -> Role
@@ -92,7 +99,7 @@ fn role_of(depth: u64, marker: u8) -> Role
 }
 
 impl Segments {
-    // The segment at a place.
+    // Reads the segment at an offset.
     #[inline]
     #[tactic(auto, using(imagesize_source::proofs::Runs::steps))]
     fn read_segment<S: Source>(
@@ -103,6 +110,7 @@ impl Segments {
         requires { self.now.depth + 1 < 2 ^ 64 }
         ensures nears { IfOk result (λ found. Nears (S.state source.old) (S.state source.new) place (said_at place found)) }
         ensures depth { IfOk result (λ found. LeadsOn self.old.depth self.new.depth (said_at place found)) }
+        ensures stays { IfErr result (λ _. self.new.depth ≡ self.old.depth) }
         ensures runs { Follows (S.state source.old) (S.state source.new) (map_answer (said_at place) result) (jpeg_segment self.old.depth place) }
     {
         let [first, marker] = read_bytes::<S, 2>(source, place)?;
@@ -152,7 +160,7 @@ fn is_own_end(depth: u64, marker: u8) -> bool
     depth == 0 && marker == 0xD9
 }
 
-// The depth behind a segment with this marker.
+// The depth after a segment with this marker.
 #[inline(always)]
 fn depth_behind(depth: u64, marker: u8) -> u64
     requires fits { depth + 1 < 2 ^ 64 }

@@ -10,7 +10,7 @@ use Rattle.imagesize_types.specs.declared.size.ImageSize.{ImageSize}
 use Rattle.imagesize_source.proofs.Halts.{stated_same}
 use Rattle.imagesize.proofs.Endings.{slice_unstopped}
 use Rattle.imagesize_source.proofs.Agreement.{same_by_local}
-use Rattle.imagesize.specs.Meaning.{meaning, meaning_reads}
+use Rattle.imagesize.specs.Meaning.{meaning_reads}
 use Rattle.imagesize.proofs.calls.blob_size.Goals as goal
 
 pub returns-clause-short : goal.returns-clause-short

@@ -1,4 +1,4 @@
-use Rattle.std.proofs.Common.{Result, refl, sym, ap, ◌∙◌}
+use Rattle.std.proofs.Common.{Result, refl, ap, ◌∙◌}
 use Rattle.imagesize.proofs.Detection.{kind_lasts}
 use Rattle.imagesize.proofs.Endings.{never_stopped, slice_answer, slice_unstopped}
 use Rattle.imagesize.proofs.Locality.{local_kind}

@@ -1,10 +1,9 @@
-use Rattle.std.proofs.Common.{Result, IfErr, IfSome, ◌≡◌, false, refl, sym, ap, subst, rules}
+use Rattle.std.proofs.Common.{Result, IfErr, ◌≡◌, false, refl, sym, ap, subst, rules}
 use Rattle.imagesize.proofs.Endings.{budget_counted, fault_last, kept_plain, leaves_reader, no_memory}
 use Rattle.imagesize.proofs.Meanings.{size_answers}
 use Rattle.imagesize.specs.Meaning.{size_of}
-use Rattle.imagesize.specs.Probed.{SpentAll}
 use Rattle.imagesize_io.specs.Answers.{Answers}
-use Rattle.imagesize_source.specs.Errors.{is_memory, budget_spent}
+use Rattle.imagesize_source.specs.Errors.{is_memory}
 use Rattle.imagesize_source.specs.declared.error.ImageError.{ImageError}
 use Rattle.imagesize_types.specs.declared.size.ImageSize.{ImageSize}
 use Rattle.imagesize.proofs.calls.size_opened.Goals as goal
@@ -15,9 +14,7 @@ returns-clause-answers g c = λ telling opens. subst (λ r. Answers telling (λ 
 
 pub returns-clause-spent : goal.returns-clause-spent
 returns-clause-spent g c =
-    subst (λ (r : Result ImageSize ImageError). IfErr r (λ e. IfSome (budget_spent e) (SpentAll (g.R.Told.count c.args.reader.now)
-    (g.R.Told.count c.reader.new)))) (sym c.with_error.ensures)
-    (budget_counted c.args.opened.told _ _ _ _ (ap (λ s. s.frame.budget) c.new-source.ensures.state)
+    rw c.with_error.ensures (budget_counted c.args.opened.told _ _ _ _ (ap (λ s. s.frame.budget) c.new-source.ensures.state)
     (ap (λ s. s.frame.since) c.new-source.ensures.state) (kept_plain c.size-found.new.source.ledger.progress.fault _ refl)
     c.size-found.ensures (search rules))
 

@@ -1,4 +1,4 @@
-use Rattle.std.proofs.Common.{Option, Result, IfErr, IfSome, ℕ, ◌≤◌, ◌≡◌, false, refl, sym, ap, subst}
+use Rattle.std.proofs.Common.{Result, IfErr, IfSome, ◌≤◌, ◌≡◌, false, refl, sym, ap, subst}
 use Rattle.imagesize.proofs.Endings.{budget_least, kept_plain, no_memory}
 use Rattle.imagesize.proofs.Meanings.{kind_answers}
 use Rattle.imagesize.proofs.Short.{answers_end, no_kind}

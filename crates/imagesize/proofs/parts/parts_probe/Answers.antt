@@ -1,6 +1,6 @@
 use Rattle.std.proofs.Common.{◌≡◌, ◌<◌, ◌^◌, Result, ◌∙◌, ap, sym, subst, false}
 use Rattle.imagesize.proofs.Wanted.{SaysOfEach, moved, tells, type_refused, type_sized, type_wanted, unstopped_type}
-use Rattle.imagesize.specs.Meaning.{kind_of, meaning, size_of, kind_reads, size_reads}
+use Rattle.imagesize.specs.Meaning.{meaning, kind_reads, size_reads}
 use Rattle.imagesize.specs.Parted.{IfFound, IsProbed, Says, has_texts, texts_of}
 use Rattle.imagesize.specs.declared.parts.PartsAnswer.TheVariants.{Found, Wanted}
 use Rattle.imagesize.specs.declared.types.ImageType.{ImageType}

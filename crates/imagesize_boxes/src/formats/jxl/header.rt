@@ -1,5 +1,5 @@
 //! The header of a JPEG XL codestream, by ISO/IEC 18181-1, annex D: the size and the orientation of the image.
-ghost use Rattle.std.specs.Prelude.{◌≡◌, ℕ, ◌+◌, ◌*◌, ◌^◌, ◌<◌, ◌≤◌, length, take, IfSome, ok_or};
+ghost use Rattle.std.specs.Prelude.{◌≡◌, ◌+◌, ◌*◌, ◌^◌, ◌<◌, ◌≤◌, length, take, IfSome, ok_or};
 ghost use Rattle.imagesize_boxes.specs.Walks.{found_in};
 ghost use Rattle.imagesize_boxes.specs.Jxl.{exchanges_sides, has_signature, jxl_header, jxl_size, side_fields, side_bits, width_by, width_side};
 ghost use Rattle.imagesize_types.specs.Sides.{exchange_if};

@@ -1,14 +1,14 @@
 use Rattle.std.proofs.Common.{◌≡◌, ◌<◌, ◌^◌, false, subst}
 use Rattle.imagesize.proofs.Wanted.{SaysOfEach, moved, tells}
 use Rattle.imagesize.specs.Parted.{Fits, IfFound}
-use Rattle.imagesize_png.specs.Png.{png_of}
-use Rattle.imagesize_source.specs.Reading.{is_stopped}
+use Rattle.imagesize_png.specs.Png.{png_of, png_reads}
+use Rattle.imagesize_source.specs.Errors.{is_stopped}
 use Rattle.imagesize_png.proofs.parts.parts_size.Goals as goal
 
 pub returns-clause-says : goal.returns-clause-says
 returns-clause-says c =
     let new = c.new-source.ensures in
-    moved (SaysOfEach false (λ d. png_of d 0) c.size_of_parts.result) _ _ _ _ _ _
+    moved (SaysOfEach false (λ d. png_reads d 0) c.size_of_parts.result) _ _ _ _ _ _
     new.told new.spans new.bytes c.size_of_parts.ensures.says
 
 pub returns-clause-complete : goal.returns-clause-complete

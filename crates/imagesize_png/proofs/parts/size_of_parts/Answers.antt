@@ -1,35 +1,32 @@
-use Rattle.std.proofs.Common.{◌≡◌, false, sym, ap, ◌∙◌, subst}
-use Rattle.std.specs.Prelude.{option_map}
+use Rattle.std.proofs.Common.{◌≡◌, false, sym, subst}
 use Rattle.imagesize.proofs.Wanted.{called, fits, says_of, unstopped}
-use Rattle.imagesize.specs.Parted.{Fits, IfFound, SaysOf, found_or_wanted, wanted_of}
+use Rattle.imagesize.specs.Parted.{Fits, IfFound, SaysOf}
 use Rattle.imagesize_png.proofs.Laws.{png_local}
-use Rattle.imagesize_png.specs.Png.{png_of}
-use Rattle.imagesize_source.specs.Reading.{is_stopped}
+use Rattle.imagesize_png.specs.Png.{png_of, png_reads}
+use Rattle.imagesize_source.specs.Errors.{end_of_input, is_stopped}
+use Rattle.imagesize_source.specs.Halts.{with_error}
 use Rattle.imagesize_png.proofs.parts.size_of_parts.Goals as goal
 
 pub returns-clause-says : goal.returns-clause-says
 returns-clause-says c = λ d has short.
     let old = c.args.source.now in let s = c.size-found.new.source in let new = c.forget.ensures in
-    subst (λ a. SaysOf false (png_of d 0) old.told old.spans.now old.bytes.now a) (sym (c.found_or_wanted.ensures
-    ∙ ap (λ m. found_or_wanted c.size-found.result (option_map (wanted_of false) m)) c.missed_part-wanted.ensures))
-    (says_of false (λ x. png_of x 0) (png_local 0) d old.told old.spans.now old.bytes.now has short s.log.spans s.missed _
-    (called (λ x. png_of x 0) _ _ _ _ _ _ _ _ _ _ _ _ _ _ new.told new.spans new.bytes new.seen new.missed c.size-found.ensures
+    subst (λ a. SaysOf false (png_of d 0) old.told old.spans.now old.bytes.now a) (sym c.found_or_wanted.ensures)
+    (says_of false (λ x. png_reads x 0) (png_local 0) d old.told old.spans.now old.bytes.now has short s.log.spans s.missed end_of_input 0 _
+    (called (λ x. png_reads x 0) _ _ _ _ _ _ _ _ _ _ _ _ _ _ new.told new.spans new.bytes new.seen new.missed c.size-found.ensures
     s.seen s.lacks))
 
 pub returns-clause-fits : goal.returns-clause-fits
 returns-clause-fits c =
     let old = c.args.source.now in let s = c.size-found.new.source in let new = c.forget.ensures in
-    let call = called (λ x. png_of x 0) old.told _ _ old.spans.now _ _ old.bytes.now _ _ _ _ _ _ _
+    let call = called (λ x. png_reads x 0) old.told _ _ old.spans.now _ _ old.bytes.now _ _ _ _ _ _ _
     new.told new.spans new.bytes new.seen new.missed c.size-found.ensures s.seen s.lacks in
-    subst (λ a. Fits old.told a) (sym (c.found_or_wanted.ensures
-    ∙ ap (λ m. found_or_wanted c.size-found.result (option_map (wanted_of false) m)) c.missed_part-wanted.ensures))
-    (fits false old.told old.spans.now old.bytes.now s.missed c.size-found.result _ call.lacks)
+    subst (λ a. Fits old.told a) (sym c.found_or_wanted.ensures)
+    (fits false old.told old.spans.now old.bytes.now s.missed (with_error end_of_input 0 c.size-found.result) _ call.lacks)
 
 pub returns-clause-unstopped : goal.returns-clause-unstopped
 returns-clause-unstopped c = λ short.
     let old = c.args.source.now in let s = c.size-found.new.source in let new = c.forget.ensures in
-    let call = called (λ x. png_of x 0) old.told _ _ old.spans.now _ _ old.bytes.now _ _ _ _ _ _ _
+    let call = called (λ x. png_reads x 0) old.told _ _ old.spans.now _ _ old.bytes.now _ _ _ _ _ _ _
     new.told new.spans new.bytes new.seen new.missed c.size-found.ensures s.seen s.lacks in
-    subst (λ a. IfFound a (λ answer. is_stopped answer ≡ false)) (sym (c.found_or_wanted.ensures
-    ∙ ap (λ m. found_or_wanted c.size-found.result (option_map (wanted_of false) m)) c.missed_part-wanted.ensures))
-    (unstopped (λ x. png_of x 0) old.told old.spans.now old.bytes.now false s.log.spans s.missed c.size-found.result short call)
+    subst (λ a. IfFound a (λ answer. is_stopped answer ≡ false)) (sym c.found_or_wanted.ensures)
+    (unstopped (λ x. png_reads x 0) old.told old.spans.now old.bytes.now false s.log.spans s.missed end_of_input 0 c.size-found.result short call)

@@ -1,4 +1,4 @@
-//! What spans are put into.
+//! Buffers for spans.
 ghost use Rattle.std.specs.Prelude.{◌≡◌, ℕ, ◌-◌, ◌^◌, ◌<◌, ◌≤◌, [], ◌∷◌, ◌++◌, Bool, List, true, false, min, length, take, IfErr, OnErr, OnOk};
 ghost use Rattle.imagesize_source.specs.Buffer.{Holds};
 ghost use Rattle.imagesize_source.specs.declared.span.Span.{Span};
@@ -6,21 +6,21 @@ ghost use Rattle.imagesize_source.specs.declared.span.Span.{Span};
 use crate::{Halt, Span};
 use std::alloc::Allocator;
 
-/// What spans are put into, one behind another.
+/// A buffer that spans are appended to.
 pub trait SpanBuffer: Drop {
-    /// What it shows of so many spans that were put into it.
+    /// The spans that the buffer shows after `count` spans were appended.
     ghost shown: { Self → ℕ → List Span };
 
-    /// For how many of so many spans it has places.
+    /// How many of `count` appended spans fit into the buffer.
     ghost places: { Self → ℕ → ℕ };
 
-    /// The name of the borrow behind it.
+    /// The name of the borrow of the caller's buffer.
     ghost home: { Self → ℕ };
 
-    /// Whether it takes memory, which may be refused.
+    /// Whether the buffer allocates memory, which can fail.
     ghost allocates: { Bool };
 
-    /// Puts a span behind so many others, where there is a place. It fails for want of memory alone, and then nothing is put.
+    /// Appends a span to `count` others, if it fits. Fails only if an allocation does, and then appends nothing.
     fn put(&mut self, count: usize, span: Span) -> Result<(), Halt>
         ensures same_home { home self.new ≡ home self.old }
         ensures added { OnOk result ((spans : List Span) → count ≡ min (length spans) (2 ^ 64 - 1)
@@ -31,7 +31,7 @@ pub trait SpanBuffer: Drop {
         ensures refused { IfErr result (λ halt. (halt ≡ Halt.Memory) × (allocates ≡ true)) };
 }
 
-/// Memory, which has all of them.
+/// Allocated memory, which grows with the spans.
 impl<A: Allocator> SpanBuffer for Vec<Span, A> {
     ghost shown = { λ s _. s.items };
 
@@ -49,7 +49,7 @@ impl<A: Allocator> SpanBuffer for Vec<Span, A> {
     }
 }
 
-/// A room that is lent, which has as many of them as it has places.
+/// The caller's buffer, which keeps as many spans as fit.
 impl SpanBuffer for &mut [Span] {
     ghost shown = { λ s count. take count s.now };
 
