@@ -10,7 +10,7 @@ use Rattle.imagesize_source.specs.Known.{sure_of}
 use Rattle.imagesize_source.specs.Reading.{Reads, is_faulted, put_behind}
 use Rattle.imagesize_source.specs.State.{State, Misses}
 use Rattle.imagesize_source.proofs.Agreement.{covered_one_of}
-use Rattle.imagesize_source.specs.Stream.{Shares}
+use Rattle.imagesize_source.specs.Sharing.{Shares}
 use Rattle.imagesize_stream.specs.Stream.{AllBelow, Begins, Says, came, stream_input, stream_state}
 use Rattle.imagesize_stream.proofs.Beginning.{Run, begins_left, begins_shares, shares_begun, unknown_behind}
 use Rattle.imagesize_stream.proofs.Called.{Called, all_seen, answered, is_short}

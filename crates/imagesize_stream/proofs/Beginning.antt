@@ -8,7 +8,7 @@ use Rattle.imagesize_source.specs.declared.span.Span.{Span}
 use Rattle.imagesize_source.specs.Agreement.{is_covered}
 use Rattle.imagesize_source.specs.Known.{AllKnown, byte_in_parts}
 use Rattle.imagesize_source.proofs.Known.{filled_at, length-filled_input}
-use Rattle.imagesize_source.specs.Stream.{Shares}
+use Rattle.imagesize_source.specs.Sharing.{Shares}
 use Rattle.imagesize_stream.specs.Stream.{AllBelow, Begins, byte_at, came, run_of, stream_input}
 use Rattle.imagesize_stream.proofs.Streaming.{in_run, not_before, not_behind}
 

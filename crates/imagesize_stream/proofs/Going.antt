@@ -14,7 +14,7 @@ use Rattle.imagesize_source.proofs.Agreement.{covered-left}
 use Rattle.imagesize_source.proofs.ChainLaws.{chain_induction}
 use Rattle.imagesize_source.proofs.Chains.{chain_next, chain_stop}
 use Rattle.imagesize_source.proofs.Runs.{past-recorded}
-use Rattle.imagesize_source.specs.Stream.{Stood}
+use Rattle.imagesize_source.specs.Sharing.{Stood}
 use Rattle.imagesize_stream.specs.Stream.{Begins, Reach, came, stream_input, stream_state}
 use Rattle.imagesize_stream.proofs.Asking.{missed_is, missed_covered}
 use Rattle.imagesize_stream.proofs.Beginning.{Run, begins_shares, unknown_behind}

@@ -22,15 +22,15 @@ returns g c = λ first whole front s.
     by_fault c.walk_on.result ((whole front).answer)
     (λ faultless.
     let says = says_begun (λ e. chain_from (chain_of first (g.R.Records.said c.args.records.now)) e (record { held = s.held; place = c.args.stand.now.place }))
-    (λ d e. chain_shared (chain_of first (g.R.Records.said c.args.records.now)) d e (c.requires.follows.advances d)
-    (c.requires.follows.advances e) (record { held = s.held; place = c.args.stand.now.place }))
+    (λ d e. chain_shared (chain_of first (g.R.Records.said c.args.records.now)) d e (c.requires.follows d)
+    (c.requires.follows e) (record { held = s.held; place = c.args.stand.now.place }))
     a.told a.start a.kept.now a.chunk.now front run (omega (arith, a.within)) short b.log.spans b.missed _ call faultless in
     sym (ap (λ (w : Reads _). w.answer) (s.resumes front (begins_all front c.args.stand.now.told long)
     ∙ ap (put_behind s.before) (says.is front (begins_all front a.told (omega (arith, new.told, s.as_many)))))))
-    (λ faults. none_missed _ (λ d e. chain_shared (chain_of first (g.R.Records.said c.args.records.now)) d e (c.requires.follows.advances d)
-    (c.requires.follows.advances e) (record { held = s.held; place = c.args.stand.now.place })) a.told a.start a.kept.now a.chunk.now front run (omega (arith, a.within)) short b.log.spans b.missed _ call faults
+    (λ faults. none_missed _ (λ d e. chain_shared (chain_of first (g.R.Records.said c.args.records.now)) d e (c.requires.follows d)
+    (c.requires.follows e) (record { held = s.held; place = c.args.stand.now.place })) a.told a.start a.kept.now a.chunk.now front run (omega (arith, a.within)) short b.log.spans b.missed _ call faults
     (omega (arith, new.told, s.as_many))
     (λ p here.
     let above = chain_above (chain_of first (g.R.Records.said c.args.records.now)) (length c.args.room.now + 1) c.requires.reaches _
-    (c.requires.follows.advances _) (record { held = s.held; place = c.args.stand.now.place }) p here in
+    (c.requires.follows _) (record { held = s.held; place = c.args.stand.now.place }) p here in
     omega (arith, above, start_is, c.args.stand.now.ahead)))

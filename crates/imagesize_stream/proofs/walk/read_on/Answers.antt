@@ -33,8 +33,8 @@ returns-clause-says g c = λ first whole front s.
     says_behind front c.args.chunk.now c.args.stand.now.told whole _ s.before c.walk_on-found.result s.resumes
     (subst (λ k. Says (front ++ c.args.chunk.now) k
     (λ e. chain_from (chain_of first (g.R.Records.said c.args.records.now)) e (record { held = s.held; place = c.args.stand.now.place })) c.walk_on-found.result) new.told
-    (says_begun _ (λ d e. chain_shared (chain_of first (g.R.Records.said c.args.records.now)) d e (c.requires.follows.advances d)
-    (c.requires.follows.advances e) (record { held = s.held; place = c.args.stand.now.place }))
+    (says_begun _ (λ d e. chain_shared (chain_of first (g.R.Records.said c.args.records.now)) d e (c.requires.follows d)
+    (c.requires.follows e) (record { held = s.held; place = c.args.stand.now.place }))
     a.told a.start a.kept.now a.chunk.now (front ++ c.args.chunk.now) run (omega (arith, a.within)) (subst (λ k. k < 2 ^ 63) (sym new.told) c.args.stand.now.short)
     b.log.spans b.missed _ call (sym c.is_faulted.ensures ∙ c.if-is_faulted.false)))
 
@@ -182,12 +182,12 @@ returns-then-is_faulted-clause-complete g c = λ none first whole front s d begi
     let run = run_held front c.args.chunk.now a.kept.now a.chunk.now c.args.stand.now.start c.args.stand.now.passed a.start s.as_many
     (new.kept ∙ ap (λ k. take k c.args.room.now) c.saturating_sub-count.ensures ∙ s.rest)
     (new.chunk ∙ c.bytes_behind-unread.ensures ∙ ap (λ k. drop k c.args.chunk.now) c.saturating_sub.ensures) start_is in
-    complete_begun _ (λ d e. chain_shared (chain_of first (g.R.Records.said c.args.records.now)) d e (c.requires.follows.advances d) (c.requires.follows.advances e)
+    complete_begun _ (λ d e. chain_shared (chain_of first (g.R.Records.said c.args.records.now)) d e (c.requires.follows d) (c.requires.follows e)
     (record { held = s.held; place = c.args.stand.now.place }))
     a.told a.start a.kept.now a.chunk.now (front ++ c.args.chunk.now) run (omega (arith, a.within)) short b.log.spans b.missed _ call faults d
     (subst (λ k. Begins (front ++ c.args.chunk.now) k d) (sym new.told) begins) (as_long ∙ sym new.told)
     (λ p here.
-    let above = chain_above (chain_of first (g.R.Records.said c.args.records.now)) (length c.args.room.now + 1) c.requires.reaches d (c.requires.follows.advances d)
+    let above = chain_above (chain_of first (g.R.Records.said c.args.records.now)) (length c.args.room.now + 1) c.requires.reaches d (c.requires.follows d)
     (record { held = s.held; place = c.args.stand.now.place }) p here in
     omega (arith, above, start_is, c.args.stand.now.ahead))
     (λ p here. omega (
