@@ -8,5 +8,6 @@ pub mod Probed
 pub mod Queries
 pub mod Ranks
 pub mod Short
+pub mod Streamed
 pub mod Traced
 pub mod Types

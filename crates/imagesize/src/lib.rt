@@ -9,6 +9,7 @@ mod names;
 mod parts;
 mod queries;
 mod spans;
+mod stream;
 mod trace;
 mod types;
 

@@ -51,9 +51,9 @@ fn has_sound_header<S: Source>(source: &mut S, head: &[u8; 12]) -> Result<bool, 
     Ok(is_pixel_sound(bits, descriptor))
 }
 
-// Whether the image type and the type of the colour map are known.
+/// Whether the image type and the type of the colour map are known.
 #[tactic(auto, unfolding(crate::specs::Tga::may_be_tga))]
-fn may_be_tga(head: &[u8; 12]) -> bool
+pub fn may_be_tga(head: &[u8; 12]) -> bool
     ensures { result ≡ may_be_tga head.now }
 {
     matches!(head[2], 1 | 2 | 3 | 9 | 10 | 11) && head[1] <= 1

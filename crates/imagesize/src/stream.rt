@@ -1,0 +1,3 @@
+//! An image whose bytes come in pieces.
+
+mod front;
