@@ -1,5 +1,6 @@
 pub mod Compressions
 pub mod Counts
+pub mod Heard
 pub mod Kind
 pub mod Meaning
 pub mod Names

@@ -1,5 +1,5 @@
 -- Types and sizes of an image whose bytes come in pieces.
-use Rattle.std.specs.Prelude.{ℕ, List, length, if◌then◌else◌, Option, None, Some}
+use Rattle.std.specs.Prelude.{ℕ, Bool, true, false, List, length, if◌then◌else◌, Option, None, Some}
 use Rattle.imagesize.specs.Kind.{first_row, tga_or_none, with_compression}
 use Rattle.imagesize.specs.Types.{rows, way_of}
 use Rattle.imagesize.specs.declared.stream.front.First.{First}
@@ -35,3 +35,9 @@ at_fixed (Texts reads) = refuse Corrupted
 -- the layout of a type's size, where that is at fixed offsets
 abbrev pub fixed_layout : ImageType → Layout ImageSize
 fixed_layout type = at_fixed (way_of type)
+
+-- a size is at fixed offsets
+abbrev pub is_at_fixed : {X : Type 0} → Way X → Bool
+is_at_fixed (Fixed layout) = true
+is_at_fixed (Recorded each reads begun) = false
+is_at_fixed (Texts reads) = false

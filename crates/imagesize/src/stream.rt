@@ -1,3 +1,4 @@
 //! An image whose bytes come in pieces.
 
 mod front;
+mod hear;

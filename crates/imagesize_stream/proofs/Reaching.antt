@@ -60,3 +60,10 @@ reach_covered d low high (reading r start f) reach place is =
     covered_onward (read_of d r start).marks (read_of d r start).answer (λ bs. layout_reads d (f bs)) place ((low ≤ place) × (place < high)) is
     (λ here. let h = covered_reading d r start place here in (omega (arith, h.0, reach.0), omega (arith, h.1, reach.1)))
     (λ bs later. reach_covered d low high (f bs) (reach.2 bs) place later)
+
+-- what reads so far reads no farther
+pub reach_more : {X : Type 0} (low high more : ℕ) (t : Layout X) → high ≤ more → Reach low high t → Reach low more t
+reach_more low high more (done x) far reach = tt
+reach_more low high more (refuse e) far reach = tt
+reach_more low high more (field order start n f) far reach = (reach.0, omega (arith, far, reach.1), λ v. reach_more low high more (f v) far (reach.2 v))
+reach_more low high more (reading r start f) far reach = (reach.0, omega (arith, far, reach.1), λ bs. reach_more low high more (f bs) far (reach.2 bs))

@@ -27,6 +27,7 @@ pub(crate) enum First {
 }
 
 /// The type, by the first bytes.
+#[derive(Clone, Copy)]
 pub(crate) struct FirstBytes;
 
 impl Fixed for FirstBytes {
@@ -50,6 +51,7 @@ impl Fixed for FirstBytes {
 }
 
 /// The size of an image of a type whose sizes are at fixed offsets.
+#[derive(Clone, Copy)]
 pub(crate) struct FixedSize {
     pub(crate) image: ImageType,
 }
