@@ -17,16 +17,22 @@ use imagesize_types::size::ImageSize;
 #[derive(Drop)]
 pub(crate) enum Heard {
     /// Bytes are missing that tell the type, or the size of this type.
-    Missing { image: Option<ImageType> },
+    Missing {
+        image: Option<ImageType>,
+    },
     /// The type, if there is one, and the size.
     Answer {
         image: Option<ImageType>,
         size: Result<ImageSize, Halt>,
     },
     /// The type, whose size is not at fixed offsets.
-    Records { image: ImageType },
+    Records {
+        image: ImageType,
+    },
     /// The first bytes of what may be a TGA.
-    MaybeTga { head: [u8; 12] },
+    MaybeTga {
+        head: [u8; 12],
+    },
 }
 
 /// What the first bytes say, of which the room has so many and the others come.

@@ -20,7 +20,9 @@ returns-then-is_faulted-clause-hears c =
 pub hear_size-requires-clause-image : goal.hear_size-requires-clause-image
 hear_size-requires-clause-image c =
     let says = c.read_front-found.ensures.says (sym c.is_faulted.ensures ∙ c.if-is_faulted.false) in
-    type_said (take c.args.passed c.args.room.now ++ c.args.chunk.now) c.args.told c.in-Ok-Type.image (rw c.in-Ok-Type.is at says)
+    type_said (take c.args.passed c.args.room.now ++ c.args.chunk.now) c.args.told c.in-Ok-Type.image
+    (subst (λ x. Says (take c.args.passed c.args.room.now ++ c.args.chunk.now) c.args.told (λ d. layout_reads d first_layout) (Ok x)) c.in-Ok-Type.field-0-is
+    (rw c.in-Ok-Type.is at says))
 
 pub returns-in-Err-clause-hears : goal.returns-in-Err-clause-hears
 returns-in-Err-clause-hears c =

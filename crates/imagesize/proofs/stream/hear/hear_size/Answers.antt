@@ -1,4 +1,4 @@
-use Rattle.std.proofs.Common.{◌≡◌, ◌+◌, ◌++◌, true, false, length, take, sym, ap, ◌∙◌, arith}
+use Rattle.std.proofs.Common.{◌≡◌, ◌++◌, true, length, take, sym, ◌∙◌, arith}
 use Rattle.imagesize.proofs.Hearing.{came_long, size_fits, size_missing, size_said, type_is}
 use Rattle.imagesize.specs.Streamed.{is_at_fixed}
 use Rattle.imagesize.specs.Types.{way_of}
