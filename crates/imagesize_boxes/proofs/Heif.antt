@@ -81,11 +81,11 @@ search_beyond tag d place far =
     chain_stop (search_for tag place) d (start (search_for tag place)) (Err Ended) (ap (λ r. verdict r.answer) none)
     ∙ ap (λ r. record { answer = Err Ended; marks = r.marks }) none
 
-pub search_saturated : {a b : State} {r : Result FoundBox Halt} (tag : List ℕ) (place : ℕ)
-    → Runs a b r (chain_at (search_for tag (min place (2 ^ 64 - 1))) a.held.input)
+pub search_saturated : {a b : State} {r : Result FoundBox Halt} (tag : List ℕ) (place at : ℕ)
+    → Runs a b r (chain_at (search_for tag at) a.held.input) → at ≡ min place (2 ^ 64 - 1)
     → Runs a b r (chain_at (search_for tag place) a.held.input)
-search_saturated tag place h = saturated_by (λ p d. chain_at (search_for tag p) d) (refuses Ended) place
-    (λ d p far. search_beyond tag d p far) h
+search_saturated tag place at = saturated_by (λ p d. chain_at (search_for tag p) d) (refuses Ended) place at
+    (λ d p far. search_beyond tag d p far)
 
 -- what holds of each property, by its name
 by_named : (P : Layout (Option Property) → Type 0) (left place : ℕ) (head : List ℕ) → P (done None) → P (refuse Corrupted)
@@ -301,11 +301,11 @@ none_gathered all place d far =
     chain_stop (properties all place) d (start (properties all place)) (Err NotEnoughData) (ap (λ r. verdict r.answer) says)
     ∙ ap (λ r. record { answer = Err NotEnoughData; marks = r.marks }) says
 
-pub list_saturated : {a b : State} {r : Result ImageSize Halt} (all place : ℕ)
-    → Runs a b r (chain_at (properties all (min place (2 ^ 64 - 1))) a.held.input)
+pub list_saturated : {a b : State} {r : Result ImageSize Halt} (all place at : ℕ)
+    → Runs a b r (chain_at (properties all at) a.held.input) → at ≡ min place (2 ^ 64 - 1)
     → Runs a b r (chain_at (properties all place) a.held.input)
-list_saturated all place h = saturated_by (λ p d. chain_at (properties all p) d)
-    (record { answer = Err NotEnoughData; marks = [] }) place (λ d p far. none_gathered all p d far) h
+list_saturated all place at = saturated_by (λ p d. chain_at (properties all p) d)
+    (record { answer = Err NotEnoughData; marks = [] }) place at (λ d p far. none_gathered all p d far)
 
 -- the compression is read from at most 12 bytes, and is always told
 pub heif_compression_laws : (place : ℕ) (head : List ℕ) → CompressionLaws 12 (heif_compression place head)

@@ -235,12 +235,14 @@ none_there header count place d far = by_count (eqb 0 count) refl where
       let none = entries_end header count 0 None None [] (record { many = refl; wide = refl; high = refl }) more d place far in
       chain_stop c d (start c) (Err Ended) (ap (λ r. verdict r.answer) none) ∙ ap (λ r. record { answer = Err Ended; marks = r.marks }) none
 
-pub entries_saturated : {a b : State} {r : Result ImageSize Halt} (header : Header) (count : ℕ)
-    → Runs a b r (chain_at (record { first = min (header.directory + count_bytes header.version) (2 ^ 64 - 1); said = (tiff_entries header count).said }) a.held.input)
+pub entries_saturated : {a b : State} {r : Result ImageSize Halt} (header : Header) (count at : ℕ)
+    → Runs a b r (chain_at (record { first = at; said = (tiff_entries header count).said }) a.held.input)
+    → at ≡ min (header.directory + count_bytes header.version) (2 ^ 64 - 1)
     → Runs a b r (chain_at (tiff_entries header count) a.held.input)
-entries_saturated header count h = saturated_by (λ p d. chain_at (record { first = p; said = (tiff_entries header count).said }) d)
-    (record { answer = cond (eqb 0 count) (Err NoDimensionsInIfd) (Err Ended); marks = [] }) (header.directory + count_bytes header.version)
-    (λ d p far. none_there header count p d far) h
+entries_saturated header count at =
+    saturated_by (λ p d. chain_at (record { first = p; said = (tiff_entries header count).said }) d)
+    (record { answer = cond (eqb 0 count) (Err NoDimensionsInIfd) (Err Ended); marks = [] })
+    (header.directory + count_bytes header.version) at (λ d p far. none_there header count p d far)
 
 -- an entry has 12 bytes, and 20 in BigTIFF
 entry_few : (version : Version) → head_bytes version + value_bytes version ≤ 20
