@@ -1,5 +1,5 @@
 -- How calls end: over a reader they want no memory, and spend a budget whole; over a slice nothing stops them.
-use Rattle.std.proofs.Common.{◌≡◌, ℕ, ◌+◌, ◌-◌, ◌^◌, ◌≤◌, min, Bool, true, false, Option, Some, None, Result, Ok, Err, IfErr, IfSome, inl, inr, refl, sym, ap, ◌∙◌, subst, arith}
+use Rattle.std.proofs.Common.{◌≡◌, ℕ, ◌+◌, ◌-◌, ◌^◌, ◌≤◌, min, true, false, Option, Some, None, Result, Ok, Err, IfErr, IfSome, inl, inr, refl, sym, ap, ◌∙◌, subst, arith}
 use Rattle.std.specs.Prelude.{option_map}
 use Rattle.imagesize.specs.Probed.{SpentAll}
 use Rattle.std.specs.declared.io.Error.{Error}
@@ -9,10 +9,10 @@ use Rattle.imagesize_io.specs.ReaderState.{Opens, start_state}
 use Rattle.imagesize_io.specs.StopOf.{kept_error, last_failed}
 use Rattle.imagesize_io.specs.Telling.{Telling}
 use Rattle.imagesize_io.specs.declared.reader.Opened.{Opened}
-use Rattle.imagesize_source.specs.Errors.{is_fault, is_memory as is_memory_error, is_stopped as is_stopped_error, budget_spent}
+use Rattle.imagesize_source.specs.Errors.{is_fault, is_memory, is_stopped as is_stopped_error, budget_spent}
 use Rattle.imagesize_source.specs.Halts.{error_by, with_error}
 use Rattle.imagesize_source.specs.Outcome.{outcome_of, stated}
-use Rattle.imagesize_source.specs.Reading.{Reads, is_memory, is_faulted, is_stop, is_stopped}
+use Rattle.imagesize_source.specs.Reading.{Reads, is_faulted, is_stop, is_stopped}
 use Rattle.imagesize_source.specs.declared.halt.Halt.{Halt}
 use Rattle.imagesize_source.proofs.Halts.{error_fault, error_memory, error_spent, stated_goes_on, stated_same}
 use Rattle.imagesize_io.specs.Standing.{behind_of, drift}
@@ -20,52 +20,31 @@ use Rattle.imagesize_source.specs.State.{State, Runs}
 use Rattle.imagesize_source.specs.declared.error.ImageError.{ImageError}
 use Rattle.std.proofs.lemmas.Bool.{false_from_ne_true}
 
-without : (h : Halt) (records is : Bool) → is_memory h ≡ is → (is_memory h ≡ true → records ≡ true) → records ≡ false
-    → is_memory h ≡ false
-without h records true is wants none = absurd (let on : true ≡ false = sym (wants is) ∙ none in cc)
-without h records false is wants none = is
-
--- a source that records nothing is refused no memory
-pub unrefused : {X : Type 0} {a b : State} (r : Result X Halt) (reads : Reads X) → a.frame.records ≡ false → Runs a b r reads
-    → IfErr r (λ h. is_memory h ≡ false)
-unrefused (Ok x) reads none h = tt
-unrefused {b = b} (Err halt) reads none h = without halt b.frame.records (is_memory halt) refl (λ refused. (h.ended.memory refused).0)
-    (ap (λ f. f.records) h.frame ∙ none)
-
 -- the error that a source keeps is a fault, or none of the stops
 pub record Plain (b : State) : Type 0 where
-  pub memory : is_memory_error b.failure ≡ false
   pub spent : budget_spent b.failure ≡ None
 
--- a reader's source records nothing, so no call over it is refused memory
-pub no_memory : {X : Type 0} {a b : State} (r : Result X Halt) (reads : Reads X) → a.frame.records ≡ false → Plain b → Runs a b r reads
-    → IfErr (with_error b.failure b.frame.budget r) (λ e. is_memory_error e ≡ false)
-no_memory (Ok x) reads none plain h = tt
-no_memory {b = b} (Err halt) reads none plain h =
-    error_memory b.failure b.frame.budget halt plain.memory (unrefused (Err halt) reads none h)
+-- so no call over a reader is refused memory
+pub no_memory : {X : Type 0} (fault : Option Error) (budget : ℕ) (r : Result X Halt)
+    → IfErr (with_error (kept_error fault) budget r) (λ e. is_memory e ≡ false)
+no_memory fault budget (Ok x) = tt
+no_memory None budget (Err halt) = error_memory (kept_error None) budget halt refl
+no_memory (Some e) budget (Err halt) = error_memory (kept_error (Some e)) budget halt refl
 
--- a source that counts nothing stops a call by a fault, or for want of memory
-pub only_fault : {X : Type 0} {a b : State} (r : Result X Halt) (reads : Reads X) → a.frame.counts ≡ false
-    → IfErr r (λ h. is_memory h ≡ false) → Runs a b r reads → is_faulted r ≡ false → is_stopped r ≡ false
-only_fault (Ok x) reads uncounted memory h no_fault = refl
-only_fault {b = b} (Err halt) reads uncounted memory h no_fault = false_from_ne_true (is_stop halt) (λ stops. elim (stop_cases halt stops) [
+-- a source that counts nothing stops a call by a fault alone
+pub only_fault : {X : Type 0} {a b : State} (r : Result X Halt) (reads : Reads X) → a.frame.counts ≡ false → Runs a b r reads
+    → is_faulted r ≡ false → is_stopped r ≡ false
+only_fault (Ok x) reads uncounted h no_fault = refl
+only_fault {b = b} (Err halt) reads uncounted h no_fault = false_from_ne_true (is_stop halt) (λ stops. elim (stop_cases halt stops) [
   | inl faults ↦ let no : true ≡ false = sym faults ∙ no_fault in (cc)
-  | inr other ↦ elim other [
-    | inl spent ↦ let no : true ≡ false = sym (h.ended.budget spent).0 ∙ ap (λ f. f.counts) h.frame ∙ uncounted in (cc)
-    | inr refused ↦ let no : true ≡ false = sym refused ∙ memory in (cc)
-  ]
+  | inr spent ↦ let no : true ≡ false = sym (h.ended.budget spent).0 ∙ ap (λ f. f.counts) h.frame ∙ uncounted in (cc)
 ])
 
--- one that cannot fail stops it for want of memory alone
-pub stops_for_memory : {X : Type 0} {a b : State} (r : Result X Halt) (reads : Reads X) → a.held.honest ≡ true → a.held.can_fail ≡ false
-    → a.frame.counts ≡ false → IfErr r (λ h. is_memory h ≡ false) → Runs a b r reads → is_stopped r ≡ false
-stops_for_memory r reads honest sure uncounted memory h = only_fault r reads uncounted memory h
-    (false_from_ne_true (is_faulted r) (λ faults. let no : true ≡ false = sym (h.fault honest faults) ∙ sure in (cc)))
-
--- over a slice that records nothing nothing does
+-- over a slice nothing stops a call
 pub never_stopped : {X : Type 0} {a b : State} (r : Result X Halt) (reads : Reads X) → a.held.honest ≡ true → a.held.can_fail ≡ false
-    → a.frame.counts ≡ false → a.frame.records ≡ false → Runs a b r reads → is_stopped r ≡ false
-never_stopped r reads honest sure uncounted none h = stops_for_memory r reads honest sure uncounted (unrefused r reads none h) h
+    → a.frame.counts ≡ false → Runs a b r reads → is_stopped r ≡ false
+never_stopped r reads honest sure uncounted h = only_fault r reads uncounted h
+    (false_from_ne_true (is_faulted r) (λ faults. let no : true ≡ false = sym (h.fault honest faults) ∙ sure in (cc)))
 
 -- what is answered over a slice is what its readings state, and none of the stops
 pub slice_answer : {X : Type 0} {a b : State} (failure : ImageError) (budget : ℕ) (r : Result X Halt) (reads : Reads X)
@@ -142,8 +121,8 @@ fault_last {b = b} failure fault (Err halt) reads is h = λ faults.
 
 -- the error that a reader keeps is a fault
 pub kept_plain : (fault : Option Error) (b : State) → b.failure ≡ kept_error fault → Plain b
-kept_plain None b is = record { memory = ap (λ e. is_memory_error e) is; spent = ap (λ e. budget_spent e) is }
-kept_plain (Some e) b is = record { memory = ap (λ e. is_memory_error e) is; spent = ap (λ e. budget_spent e) is }
+kept_plain None b is = record { spent = ap (λ e. budget_spent e) is }
+kept_plain (Some e) b is = record { spent = ap (λ e. budget_spent e) is }
 
 -- and the reader is left as it was, but for its place and the interruptions that came
 pub leaves_reader : {X : Type 0} {a b : State} (telling mid new : Option Telling) (count : Option ℕ) (home : ℕ) (opened : Opened)

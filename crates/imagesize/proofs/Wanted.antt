@@ -11,7 +11,7 @@ use Rattle.imagesize.specs.Parted.{Fits, HasKnown, IfFound, IsProbed, Says, Says
 use Rattle.imagesize.specs.declared.parts.PartsAnswer.{PartsAnswer}
 use Rattle.imagesize.specs.declared.parts.PartsAnswer.TheVariants.{Found, Wanted}
 use Rattle.imagesize.specs.declared.types.ImageType.{ImageType}
-use Rattle.imagesize.proofs.Endings.{slice_unstopped, unrefused, only_fault}
+use Rattle.imagesize.proofs.Endings.{slice_unstopped, only_fault}
 use Rattle.imagesize_types.specs.declared.size.ImageSize.{ImageSize}
 use Rattle.imagesize_source.specs.declared.error.ImageError.{ImageError}
 use Rattle.imagesize_source.specs.declared.halt.Halt.{Halt}
@@ -155,8 +155,7 @@ module _ {X : Type 0} (texts : Bool) (f : List ℕ → Reads X) (is_local : IsLo
       → Agrees (filled_input n spans bytes) d (f (filled_input n spans bytes)).marks
   agreed log missed r call no_fault =
       let honest = is_short n short in
-      let on = only_fault r (f (filled_input n spans bytes)) refl
-      (unrefused r (f (filled_input n spans bytes)) refl call.runs) call.runs no_fault in
+      let on = only_fault r (f (filled_input n spans bytes)) refl call.runs no_fault in
       let marked : log ≡ (f (filled_input n spans bytes)).marks = logged (parts_state n spans bytes log missed)
       (parts_state n spans bytes ([] ++ (f (filled_input n spans bytes)).marks) None) log (f (filled_input n spans bytes)).marks
       (call.runs.state honest on ∙ past-parts n spans bytes [] None (f (filled_input n spans bytes)).marks) refl refl in
@@ -168,8 +167,7 @@ module _ {X : Type 0} (texts : Bool) (f : List ℕ → Reads X) (is_local : IsLo
       → r ≡ (f d).answer
   right log missed r call no_fault =
       let honest = is_short n short in
-      let on = only_fault r (f (filled_input n spans bytes)) refl
-      (unrefused r (f (filled_input n spans bytes)) refl call.runs) call.runs no_fault in
+      let on = only_fault r (f (filled_input n spans bytes)) refl call.runs no_fault in
       let all : f d ≡ f (filled_input n spans bytes) = same_by_local f is_local (filled_input n spans bytes) d (agreed log missed r call no_fault) in
       sym (call.runs.answer honest on) ∙ ap (λ w. w.answer) (sym all)
 
@@ -177,8 +175,7 @@ module _ {X : Type 0} (texts : Bool) (f : List ℕ → Reads X) (is_local : IsLo
   right_stated : (log : List Span) (missed : Option Missing) (failure : ImageError) (budget : ℕ) (r : Result X Halt)
       → Called f n spans bytes log missed r → is_faulted r ≡ false → with_error failure budget r ≡ (outcome_of (f d)).answer
   right_stated log missed failure budget r call no_fault =
-      let on = only_fault r (f (filled_input n spans bytes)) refl
-      (unrefused r (f (filled_input n spans bytes)) refl call.runs) call.runs no_fault in
+      let on = only_fault r (f (filled_input n spans bytes)) refl call.runs no_fault in
       stated_same failure budget r on ∙ ap stated (right log missed r call no_fault)
 
   -- what is missed lies in one of its marks, and whole where no texts are read
@@ -344,7 +341,7 @@ unstopped {X} f n spans bytes texts log missed failure budget r short call = by_
   by_test true faults None c = absurd (c.runs.misses (is_short n short) faults).told
   by_test true faults (Some m) c = tt
   by_test false no_fault m c = slice_unstopped failure budget r
-      (only_fault r (f (filled_input n spans bytes)) refl (unrefused r (f (filled_input n spans bytes)) refl c.runs) c.runs no_fault)
+      (only_fault r (f (filled_input n spans bytes)) refl c.runs no_fault)
 
 pub unstopped_type : (type : ImageType) (answer : PartsAnswer (Result ImageSize ImageError)) → IfFound answer (λ r. is_stopped_error r ≡ false)
     → IfFound (with_type type answer) (λ found. is_stopped_error found.1 ≡ false)

@@ -1,19 +1,12 @@
 -- What `blob_trace` answers.
-use Rattle.std.specs.Prelude.{◌≡◌, ℕ, Bool, false, List, Result, Ok, Err}
+use Rattle.std.specs.Prelude.{◌≡◌, ℕ, false, List}
 use Rattle.std.specs.Result.{result_ok}
 use Rattle.std.specs.List.{All}
 use Rattle.imagesize.specs.Meaning.{kind_of, meaning}
 use Rattle.imagesize.specs.Parted.{IsWithin}
 use Rattle.imagesize.specs.declared.trace.Trace.{Trace}
 use Rattle.imagesize_source.specs.Errors.{is_stopped}
-use Rattle.imagesize_source.specs.Reading.{is_memory}
-use Rattle.imagesize_source.specs.declared.halt.Halt.{Halt}
 use Rattle.imagesize_source.specs.declared.span.Span.{Span}
-
--- memory was refused
-abbrev pub lacks_memory : {X : Type 0} → Result X Halt → Bool
-lacks_memory (Ok _) = false
-lacks_memory (Err halt) = is_memory halt
 
 -- type and answer are those of the layouts, and the spans are their marks; no failure, spent budget or want of
 -- memory is an answer

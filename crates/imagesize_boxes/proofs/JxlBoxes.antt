@@ -158,7 +158,7 @@ Plainly (Ok x) = Unit {0}
 Plainly (Err e) = (is_failure e ≡ false) × ((b : State) → EndedBy b e)
 
 plain_corrupted : Plainly {X = ℕ} (Err Corrupted)
-plain_corrupted = (refl, λ b. record { budget = λ e. absurd cc; memory = λ e. absurd cc; fault = λ e. absurd cc })
+plain_corrupted = (refl, λ b. record { budget = λ e. absurd cc; fault = λ e. absurd cc })
 
 plain_found : {X : Type 0} (list : List ℕ) (t : Fields X) → Plainly (found_by (field_at list) t)
 unfolding field_at
@@ -174,7 +174,7 @@ plain_size front =
     on_test Plainly (ltb (length front) 2) (Err Corrupted) _ (λ _. plain_corrupted)
     (λ _. on_test Plainly (has_signature front) (found_by (field_at (bits_of front)) jxl_header) (Err InvalidJxlSignature)
     (λ _. plain_found (bits_of front) jxl_header)
-    (λ _. (refl, λ b. record { budget = λ e. absurd cc; memory = λ e. absurd cc; fault = λ e. absurd cc })))
+    (λ _. (refl, λ b. record { budget = λ e. absurd cc; fault = λ e. absurd cc })))
 
 sized_by : {b : State} (r : Result ImageSize Halt) → IsSound b → Plainly r → Runs b b r (record { answer = r; marks = [] })
 sized_by {b} (Ok size) sound plain = reads_nothing b (Ok size) sound refl tt

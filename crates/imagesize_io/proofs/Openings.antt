@@ -3,7 +3,7 @@ use Rattle.std.proofs.Common.{◌≡◌, ℕ, ◌+◌, ◌-◌, ◌^◌, ◌<◌
 use Rattle.std.proofs.lemmas.Bool.Decides.{nat_tests}
 use Rattle.imagesize_source.specs.declared.error.ImageError.{ImageError}
 use Rattle.imagesize_source.specs.declared.halt.Halt.{Halt}
-use Rattle.imagesize_source.specs.declared.halt.Halt.TheVariants.{Failed, Memory, Spent}
+use Rattle.imagesize_source.specs.declared.halt.Halt.TheVariants.{Failed, Spent}
 use Rattle.imagesize_source.specs.Errors.{is_fault, is_stopped as is_stopped_error}
 use Rattle.imagesize_source.specs.Halts.{error_by, with_error}
 use Rattle.imagesize_source.specs.Outcome.{outcome_of, stated}
@@ -13,7 +13,7 @@ use Rattle.std.specs.declared.io.Error.{Error}
 use Rattle.imagesize_io.specs.Answers.{AnswersAs, TakesAs, Answers, IsLast, Leaves, Takes}
 use Rattle.imagesize_io.specs.Standing.{behind_of, in_all}
 use Rattle.imagesize_io.specs.StopOf.{fault_of, last_failed}
-use Rattle.imagesize_source.specs.Reading.{Reads, is_failure, is_stop, is_stopped, is_memory, is_spent}
+use Rattle.imagesize_source.specs.Reading.{Reads, is_failure, is_stop, is_stopped, is_spent}
 use Rattle.imagesize_io.specs.ReaderState.{start_state, Opens}
 use Rattle.imagesize_source.specs.State.{Behind, EndedBy, State, Held, Runs, state_after, total}
 use Rattle.imagesize_io.specs.Telling.{Telling, IsHonest, at_place}
@@ -53,11 +53,10 @@ start_holds t count home honest =
     let none : leb 0 n ≡ true = zero_leb n in
     rw (waits, short, same, none) refl
 
--- a stop is a failure, a spent budget or refused memory
-pub stop_cases : (h : Halt) → is_stop h ≡ true → (is_failure h ≡ true) ⊎ ((is_spent h ≡ true) ⊎ (is_memory h ≡ true))
+-- a stop is a failure or a spent budget
+pub stop_cases : (h : Halt) → is_stop h ≡ true → (is_failure h ≡ true) ⊎ (is_spent h ≡ true)
 stop_cases Failed stops = inl refl
-stop_cases Spent stops = inr (inl refl)
-stop_cases Memory stops = inr (inr refl)
+stop_cases Spent stops = inr refl
 stop_cases _ stops = absurd cc
 
 -- what is known of a state that a call began with, over an honest reader
@@ -65,7 +64,6 @@ record Starts (t : Telling) (a : State) : Type 0 where
   held : a.held ≡ claim t
   budget : a.frame.budget ≡ length t.bytes + 64
   counts : a.frame.counts ≡ true
-  records : a.frame.records ≡ false
   front : a.front ≡ 0
   taken : a.taken ≡ 0
 
@@ -75,15 +73,9 @@ fault_only {X} t a b h reads starts run small stops =
     let honest : a.held.honest ≡ true = ap (λ k. k.honest) starts.held in
     elim (stop_cases h stops) [
       | inl faults ↦ (faults, sym (ap (λ k. k.can_fail) starts.held) ∙ run.fault honest faults)
-      | inr other ↦ elim other [
-        | inl spent ↦
-            let all = run.ended.budget spent in
-            absurd (omega (arith, all.1, ap (λ f. f.budget) run.frame, starts.budget, starts.taken, run.within honest, small))
-        | inr refused ↦
-            let on : b.frame.records ≡ true = (run.ended.memory refused).0 in
-            let off : b.frame.records ≡ false = ap (λ f. f.records) run.frame ∙ starts.records in
-            absurd cc
-      ]
+      | inr spent ↦
+          let all = run.ended.budget spent in
+          absurd (omega (arith, all.1, ap (λ f. f.budget) run.frame, starts.budget, starts.taken, run.within honest, small))
     ]
 
 failure_told : (failed : Option (Option ImageError)) (failure : ImageError) → is_some failed ≡ true
@@ -132,7 +124,6 @@ error_goes_on {X} b (Err halt) told ended goes_on = by_stop (is_stop halt) refl 
       → is_stopped_error {X = X} (Err (error_by b.failure b.frame.budget k)) ≡ true
   stopped Failed stops fault = fault_stops b.failure (fault refl)
   stopped Spent stops fault = refl
-  stopped Memory stops fault = refl
   stopped _ stops fault = absurd cc
 
   by_stop : (s : Bool) → is_stop halt ≡ s → is_stop halt ≡ false
@@ -159,7 +150,6 @@ starts_at t count home honest = record {
   held = start_holds t count home honest;
   budget = least_of (length t.bytes) honest.short;
   counts = refl;
-  records = refl;
   front = refl;
   taken = refl;
 }

@@ -423,7 +423,6 @@ frame_of told budget home since behind = record {
   told = told;
   budget = budget;
   counts = true;
-  records = false;
   home = home;
   since = since;
   behind = behind;
@@ -451,7 +450,6 @@ pub ended_by : (a : Account) (home : ℕ) (p : Progress) (st : Option Standing) 
     → EndedBy (state_at (reader_frame a home p) st (failures_of p.fault a.failure) w p.taken) e
 ended_by a home p st w e stops = record {
   budget = λ spent. (refl, stops.budget spent);
-  memory = λ refused. absurd (let no = sym refused ∙ stops.memory in cc);
   fault = λ failed. (stops.fault failed, kept_fault p.fault a.failure (stops.fault failed));
 }
 

@@ -6,7 +6,7 @@ use Rattle.imagesize_io.specs.declared.progress.Progress.{Progress}
 use Rattle.std.specs.declared.io.Error.{Error}
 use Rattle.imagesize_io.specs.StopOf.{kept_error, last_failed}
 use Rattle.imagesize_source.specs.Input.{part}
-use Rattle.imagesize_source.specs.Reading.{is_failure, is_memory, is_stop, is_spent}
+use Rattle.imagesize_source.specs.Reading.{is_failure, is_stop, is_spent}
 use Rattle.imagesize_source.specs.State.{Behind}
 use Rattle.imagesize_io.specs.Telling.{Account, Telling, bytes_given}
 
@@ -96,7 +96,6 @@ drift count taken = option_map (λ c. (c - taken, taken - c)) count
 -- Only a failure or a spent budget stops a read: the budget is what was taken, and the failure is the last one.
 pub record StopsBy (p : Progress) (failure : Option (Option Error)) (halt : Halt) : Type 0 where
   pub stops : is_stop halt ≡ true
-  pub memory : is_memory halt ≡ false
   pub budget : is_spent halt ≡ true → p.budget ≡ p.taken
   pub fault : is_failure halt ≡ true → last_failed p.fault failure ≡ Some (kept_error p.fault)
 

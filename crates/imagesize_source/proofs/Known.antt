@@ -215,7 +215,7 @@ module _ (n : ℕ) (spans : List Span) (bytes : List ℕ) (log : List Span) (mis
             within = within;
           };
         };
-        ended = record { budget = λ e. absurd cc; memory = λ is. absurd cc; fault = λ faults. tt };
+        ended = record { budget = λ e. absurd cc; fault = λ faults. tt };
       })
 
   -- how long a reading of k bytes is

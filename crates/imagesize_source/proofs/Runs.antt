@@ -8,7 +8,7 @@ use Rattle.imagesize_source.specs.Input.{part, span_at, span_of}
 use Rattle.imagesize_source.specs.Numbers.{number}
 use Rattle.imagesize_source.specs.declared.halt.Halt.{Halt}
 use Rattle.imagesize_source.specs.declared.halt.Halt.TheVariants.{Ended}
-use Rattle.imagesize_source.specs.Reading.{Reads, go_on, put_behind, and_then, bytes_at, number_at, part_read, bytes_read, number_read, map_answer, is_stopped, is_faulted, is_failure, is_spent, is_memory}
+use Rattle.imagesize_source.specs.Reading.{Reads, go_on, put_behind, and_then, bytes_at, number_at, part_read, bytes_read, number_read, map_answer, is_stopped, is_faulted, is_failure, is_spent}
 use Rattle.std.specs.Prelude.{Option, None, Some, IfSome, IsSomeAnd, option_map}
 use Rattle.imagesize_source.specs.State.{State, Held, Runs, EndedBy, Misses, Missed, total, state_after, step}
 use Rattle.imagesize_source.proofs.Parts.{part_length}
@@ -21,17 +21,14 @@ or_false false y is = (refl, is)
 pub plain_end : {X : Type 0} (b : State) (r : Result X Halt) → is_stopped r ≡ false → IfErr r (EndedBy b)
 plain_end b (Ok x) goes_on = tt
 plain_end b (Err halt) goes_on =
-    let no = or_false (is_failure halt || is_spent halt) (is_memory halt) goes_on in
-    let none = or_false (is_failure halt) (is_spent halt) no.0 in record {
+    let none = or_false (is_failure halt) (is_spent halt) goes_on in record {
       budget = λ spent. absurd (let out = sym spent ∙ none.1 in cc);
-      memory = λ refused. absurd (let out = sym refused ∙ no.1 in cc);
       fault = λ failed. absurd (let out = sym failed ∙ none.0 in cc);
     }
 
 pub without_fault : {X : Type 0} (r : Result X Halt) → is_stopped r ≡ false → is_faulted r ≡ false
 without_fault (Ok x) goes_on = refl
-without_fault (Err halt) goes_on =
-    (or_false (is_failure halt) (is_spent halt) (or_false (is_failure halt || is_spent halt) (is_memory halt) goes_on).0).0
+without_fault (Err halt) goes_on = (or_false (is_failure halt) (is_spent halt) goes_on).0
 
 -- the same readings, answered otherwise where nothing stopped them
 pub answered : {X Y : Type 0} {a b : State} {x : X} {reads : Reads X} (r : Result Y Halt) (other : Reads Y) → Runs a b (Ok x) reads
@@ -83,7 +80,7 @@ bytes_missing {a} {b} d room place k n h long short =
     let got : length (part d place (length room)) ≡ min n (length room) = ap length (part_is is) ∙ length-take n room in
     let too_few : leb k (length d - place) ≡ false = not_there d place k (rw (← long) (omega arith)) in
     rw too_few refl)
-    refl refl (record { budget = λ e. absurd cc; memory = λ e. absurd cc; fault = λ e. absurd cc })
+    refl refl (record { budget = λ e. absurd cc; fault = λ e. absurd cc })
 
 -- a reading that was stopped gave none
 pub bytes_stopped : {X : Type 0} {a b : State} (d : List ℕ) (place k : ℕ) (bytes : X → List ℕ) (r : Result X Halt) (why : Halt)

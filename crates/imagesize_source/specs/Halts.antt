@@ -12,7 +12,6 @@ use Rattle.imagesize_source.specs.Errors.{end_of_input}
 abbrev pub error_by : ImageError → ℕ → Halt → ImageError
 error_by failure budget halt.Failed = failure
 error_by failure budget halt.Spent = IoError (reason.BudgetSpent budget)
-error_by failure budget halt.Memory = IoError reason.Memory
 error_by failure budget halt.Ended = end_of_input
 error_by failure budget halt.Corrupted = CorruptedImage
 error_by failure budget halt.NotSupported = NotSupported

@@ -54,7 +54,7 @@ sure_of m = record { start = m.start; len = m.sure }
 -- the known parts as a source: it counts nothing, and what it misses is a failure
 abbrev pub parts_state : ℕ → List Span → List ℕ → List Span → Option Missing → State
 parts_state n spans bytes seen missed = record {
-  frame = record { told = n; budget = 0; counts = false; records = false; home = 0; since = None; behind = None; parts = Some (spans, bytes) };
+  frame = record { told = n; budget = 0; counts = false; home = 0; since = None; behind = None; parts = Some (spans, bytes) };
   held = record { honest = nat_lt n (2 ^ 63); input = filled_input n spans bytes; can_fail = true };
   front = 0;
   taken = 0;

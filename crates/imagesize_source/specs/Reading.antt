@@ -1,7 +1,7 @@
 -- What readings answer, and the spans that they saw.
 use Rattle.std.specs.Prelude.{ℕ, ◌-◌, Bool, true, false, ◌||◌, List, [], ◌++◌, length, nat_le, if◌then◌else◌, Result, Ok, Err}
 use Rattle.imagesize_source.specs.declared.halt.Halt.{Halt}
-use Rattle.imagesize_source.specs.declared.halt.Halt.TheVariants.{Ended, Failed, Memory, Spent}
+use Rattle.imagesize_source.specs.declared.halt.Halt.TheVariants.{Ended, Failed, Spent}
 use Rattle.imagesize_source.specs.declared.span.Span.{Span}
 use Rattle.imagesize_source.specs.declared.text.Text.{Text}
 use Rattle.imagesize_source.specs.declared.endian.Endian.{Endian}
@@ -84,7 +84,7 @@ most (AllOf k) = k
 most (PartOf k) = k
 most (TextOf t k) = k
 
--- A call of the reader that failed, a spent budget and refused memory end a call at once, whatever a layout says.
+-- A call of the reader that failed and a spent budget end a call at once, whatever a layout says.
 abbrev pub is_failure : Halt → Bool
 is_failure Failed = true
 is_failure _ = false
@@ -93,12 +93,8 @@ abbrev pub is_spent : Halt → Bool
 is_spent Spent = true
 is_spent _ = false
 
-abbrev pub is_memory : Halt → Bool
-is_memory Memory = true
-is_memory _ = false
-
 abbrev pub is_stop : Halt → Bool
-is_stop halt = is_failure halt || is_spent halt || is_memory halt
+is_stop halt = is_failure halt || is_spent halt
 
 -- a result that ends a call at once, and one by a call of the reader that failed
 abbrev pub is_stopped : {X : Type 0} → Result X Halt → Bool

@@ -7,7 +7,7 @@ use Rattle.imagesize_source.specs.declared.halt.Halt.{Halt}
 use Rattle.imagesize_source.specs.declared.span.Span.{Span}
 use Rattle.imagesize_source.specs.Errors.{end_of_input, is_fault}
 use Rattle.imagesize_source.specs.Layout.{Layout, layout_reads}
-use Rattle.imagesize_source.specs.Reading.{Reads, is_stopped, is_failure, is_faulted, is_memory, is_spent}
+use Rattle.imagesize_source.specs.Reading.{Reads, is_stopped, is_failure, is_faulted, is_spent}
 
 -- What never changes of a reader behind a source: its bytes, whether a call of it can fail, and how many interruptions
 -- of it come in all, where that is known.
@@ -16,14 +16,13 @@ pub record Behind : Type 0 where
   pub can_fail : Bool
   pub interruptions : Option ℕ
 
--- What never changes: the told length and the budget, whether bytes taken are counted and memory is taken for spans,
--- the name of the borrow behind the source, by how much what the reader itself counts is above what was taken,
--- and below it, what else never changes of a reader that tells it, and the parts that are known, of a source of parts.
+-- What never changes: the told length and the budget, whether bytes taken are counted, the name of the borrow behind the
+-- source, by how much what the reader itself counts is above what was taken, and below it, what else never changes of a
+-- reader that tells it, and the parts that are known, of a source of parts.
 pub record Frame : Type 0 where
   pub told : ℕ
   pub budget : ℕ
   pub counts : Bool
-  pub records : Bool
   pub home : ℕ
   pub since : Option (ℕ × ℕ)
   pub behind : Option Behind
@@ -78,11 +77,10 @@ total (s ∷ spans) = s.len + total spans
 abbrev pub IsSound : State → Type 0
 IsSound a = a.held.honest ≡ true → (a.frame.told ≡ length a.held.input) × (length a.held.input < 2 ^ 63)
 
--- A spent budget comes only of a source that counts, and is the bytes taken; refused memory only of one that takes it for
--- spans, and over an input that has a byte. Of a source that tells its failures, a failure is the last one, and a fault.
+-- A spent budget comes only of a source that counts, and is the bytes taken. Of a source that tells its failures, a failure
+-- is the last one, and a fault.
 pub record EndedBy (b : State) (halt : Halt) : Type 0 where
   pub budget : is_spent halt ≡ true → (b.frame.counts ≡ true) × (b.frame.budget ≡ b.taken)
-  pub memory : is_memory halt ≡ true → (b.frame.records ≡ true) × (0 < length b.held.input)
   pub fault : is_failure halt ≡ true → IfSome b.failed (λ failed. (failed ≡ Some b.failure) × (is_fault b.failure ≡ true))
 
 -- A failed call made the first of these spans' readings, saw the next one's bytes up to what it missed, which lies whole
@@ -122,7 +120,7 @@ Follows a b r layout = Runs a b r (layout_reads a.held.input layout)
 -- a slice as a source: it counts nothing, records nothing and cannot fail
 abbrev pub slice_state : List ℕ → State
 slice_state d = record {
-  frame = record { told = length d; budget = 0; counts = false; records = false; home = 0; since = None; behind = None; parts = None };
+  frame = record { told = length d; budget = 0; counts = false; home = 0; since = None; behind = None; parts = None };
   held = record { honest = true; input = d; can_fail = false };
   front = 0;
   taken = 0;
@@ -132,11 +130,10 @@ slice_state d = record {
   failed = None;
 }
 
--- a slice whose readings' spans are recorded behind these, with the name of the borrow of their buffer: memory can be
--- refused where that buffer takes any
-abbrev pub recording_state : List ℕ → List Span → Bool → ℕ → State
-recording_state d spans allocates home = record {
-  frame = record { told = length d; budget = 0; counts = false; records = allocates; home = home; since = None; behind = None; parts = None };
+-- a slice whose readings' spans are recorded behind these, with the name of the borrow of their buffer
+abbrev pub recording_state : List ℕ → List Span → ℕ → State
+recording_state d spans home = record {
+  frame = record { told = length d; budget = 0; counts = false; home = home; since = None; behind = None; parts = None };
   held = record { honest = true; input = d; can_fail = false };
   front = 0;
   taken = 0;

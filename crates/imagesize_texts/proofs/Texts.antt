@@ -18,7 +18,7 @@ use Rattle.imagesize_source.specs.Extension.{Plain, Never, Lasts}
 use Rattle.imagesize_source.specs.Input.{span_at, span_of}
 use Rattle.imagesize_source.specs.Layout.{Layout, layout_reads, accept}
 use Rattle.imagesize_source.specs.Layout.Layout.{refuse, «done», field}
-use Rattle.imagesize_source.specs.Reading.{Reads, gives, and_then, go_on, number_at, number_read, refuses, put_behind, text_part, text_read, is_stop, map_answer, is_failure, is_memory, is_spent, is_stopped, is_faulted}
+use Rattle.imagesize_source.specs.Reading.{Reads, gives, and_then, go_on, number_at, number_read, refuses, put_behind, text_part, text_read, is_stop, map_answer, is_failure, is_spent, is_stopped, is_faulted}
 use Rattle.imagesize_source.specs.State.{State, Runs, EndedBy, total}
 use Rattle.imagesize_source.specs.Text.{is_ended, space_before}
 use Rattle.imagesize_source.proofs.Advances.{Tells, Begins}
@@ -37,7 +37,6 @@ pub record Harmless (e : Halt) : Type 0 where
   pub goes_on : is_stop e ≡ false
   pub no_fault : is_failure e ≡ false
   pub none_spent : is_spent e ≡ false
-  pub memory : is_memory e ≡ false
 
 -- an answer, or such a refusal
 abbrev pub Judged : {X : Type 0} → Result X Halt → Type 0
@@ -56,7 +55,6 @@ judged_ended : {X : Type 0} (b : State) (r : Result X Halt) → Judged r → IfE
 judged_ended b (Ok x) h = tt
 judged_ended b (Err e) h = record {
   budget = λ is. absurd (let no = h.none_spent in cc);
-  memory = λ is. absurd (let no = h.memory in cc);
   fault = λ is. absurd (let no = h.no_fault in cc);
 }
 
@@ -86,13 +84,13 @@ text_stopped d t place k e f h = record {
 
 no_end_harmless : (most count : ℕ) → Harmless (no_end most count)
 no_end_harmless most count = on_test Harmless (eqb count most) (NoDelimiter most) Ended
-    (λ _. record { goes_on = refl; no_fault = refl; none_spent = refl; memory = refl })
-    (λ _. record { goes_on = refl; no_fault = refl; none_spent = refl; memory = refl })
+    (λ _. record { goes_on = refl; no_fault = refl; none_spent = refl })
+    (λ _. record { goes_on = refl; no_fault = refl; none_spent = refl })
 
 utf8_judged : (bs : List ℕ) → Judged (utf8 bs)
 unfolding utf8
 utf8_judged bs = on_test Judged (is_utf8 bs) (Ok bs) (Err NotUtf8) (λ _. tt)
-    (λ _. record { goes_on = refl; no_fault = refl; none_spent = refl; memory = refl })
+    (λ _. record { goes_on = refl; no_fault = refl; none_spent = refl })
 
 line_judged : (delimiter most : ℕ) (bs : List ℕ) → Judged (line_text delimiter most bs)
 unfolding line_text

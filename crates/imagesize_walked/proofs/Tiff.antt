@@ -184,7 +184,7 @@ pub entries_done : {a : State} (header : Header) (count : ℕ) (entries : List E
 entries_done {a} header count entries place sound many =
     subst (λ t. Runs {X = Said Entry ImageSize} a a (Err NoDimensionsInIfd) (layout_reads a.held.input t))
     (sym (end_said header count entries place many))
-    (reads_nothing a (Err NoDimensionsInIfd) sound refl (record { budget = λ e. absurd cc; memory = λ e. absurd cc; fault = λ e. absurd cc }))
+    (reads_nothing a (Err NoDimensionsInIfd) sound refl (record { budget = λ e. absurd cc; fault = λ e. absurd cc }))
 
 -- what a record says behind others, by the entry that was read
 module _ {a b : State} (header : Header) (count i : ℕ) (width height : Option ℕ) (more : i ≢ count) (place : ℕ) (entries : List Entry)

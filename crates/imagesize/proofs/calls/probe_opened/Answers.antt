@@ -15,8 +15,7 @@ returns-clause-spent g c =
 
 pub returns-clause-memory : goal.returns-clause-memory
 returns-clause-memory g c =
-    rw c.with_error.ensures (no_memory _ _ (ap (λ s. s.frame.records) c.new-source.ensures.state)
-    (kept_plain c.probe-kind.new.source.ledger.progress.fault _ refl) c.probe-kind.ensures.runs)
+    rw c.with_error.ensures (no_memory c.probe-kind.new.source.ledger.progress.fault _ _)
 
 pub returns-clause-fault : goal.returns-clause-fault
 returns-clause-fault g c =

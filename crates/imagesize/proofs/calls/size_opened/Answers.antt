@@ -21,8 +21,7 @@ returns-clause-spent g c =
 pub returns-clause-memory : goal.returns-clause-memory
 returns-clause-memory g c =
     subst (λ (r : Result ImageSize ImageError). IfErr r (λ e. is_memory e ≡ false)) (sym c.with_error.ensures)
-    (no_memory _ _ (ap (λ s. s.frame.records) c.new-source.ensures.state)
-    (kept_plain c.size-found.new.source.ledger.progress.fault _ refl) c.size-found.ensures)
+    (no_memory c.size-found.new.source.ledger.progress.fault _ _)
 
 pub returns-clause-fault : goal.returns-clause-fault
 returns-clause-fault g c =

@@ -25,5 +25,4 @@ returns-clause-spent g c =
 pub returns-clause-memory : goal.returns-clause-memory
 returns-clause-memory g c =
     subst (λ (r : Result ImageType ImageError). IfErr r (λ e. is_memory e ≡ false)) (sym c.with_error.ensures)
-    (no_memory _ _ (ap (λ s. s.frame.records) c.new-source.ensures.state)
-    (kept_plain c.detect-found.new.source.ledger.progress.fault _ refl) c.detect-found.ensures)
+    (no_memory c.detect-found.new.source.ledger.progress.fault _ _)

@@ -2,7 +2,7 @@ use Rattle.std.proofs.Common.{◌≡◌, false, sym, ap, ◌∙◌, subst}
 use Rattle.imagesize.proofs.Locality.{local_kind}
 use Rattle.imagesize.proofs.Wanted.{both_are, called, fits, says_of, unstopped}
 use Rattle.imagesize.specs.Meaning.{kind_of, kind_reads}
-use Rattle.imagesize.specs.Parted.{Fits, IfFound, SaysOf, found_or_wanted}
+use Rattle.imagesize.specs.Parted.{Fits, IfFound, SaysOf}
 use Rattle.imagesize_source.specs.Errors.{end_of_input, is_stopped}
 use Rattle.imagesize_source.specs.Halts.{with_error}
 use Rattle.imagesize_source.specs.State.{Frame}
