@@ -10,7 +10,7 @@ use Rattle.std.proofs.lemmas.List.Sums.{sum_by_push}
 use Rattle.std.specs.Int.{w32, from_be_bytes}
 use Rattle.std.specs.List.{find, last_or, sum_by}
 use Rattle.std.specs.Option.{option_or}
-use Rattle.std.specs.Prelude.{codes, flat_map, fold, nat_lt, nat_le, unwrap_or, ok_or, option_map, IfErr, slice_get, filter}
+use Rattle.std.specs.Prelude.{codes, flat_map, fold, nat_lt, nat_le, unwrap_or, ok_or, option_map, slice_get, filter}
 use Rattle.imagesize_boxes.specs.Heif.{heif_compression, is_general, is_named, box_size, box_searched, search_for, searched_box, extents_size, property_named, property_found, property_at, property_bytes, extents_of, rotations_of, skipped_bytes, no_pixels, largest_or_none, largest_extents, turn_by, heif_answer, property_or_answer, properties, heif, heif_in_meta, heif_in_iprp, boxes_in_iprp, boxes_in_meta, heif_boxes}
 use Rattle.imagesize_boxes.specs.Walks.{Amounts, Largest, earlier_largest, gathered_with, gathered_answer}
 use Rattle.imagesize_boxes.specs.declared.container.heif.FoundBox.{FoundBox}
@@ -25,13 +25,13 @@ use Rattle.imagesize_source.specs.declared.halt.Halt.{Halt}
 use Rattle.imagesize_source.specs.declared.halt.Halt.TheVariants.{Corrupted, Ended, InvalidHeifBoxSize, NotEnoughData}
 use Rattle.imagesize_source.specs.declared.endian.Endian.TheVariants.{Big}
 use Rattle.imagesize_source.specs.Agreement.{IsLocal}
-use Rattle.imagesize_source.specs.Chain.{Said, Decided, Next, Advances, start, verdict, records, chain_from, chain_at, count_behind}
+use Rattle.imagesize_source.specs.Chain.{Said, Decided, Next, Advances, start, verdict, records, chain_at, count_behind}
 use Rattle.imagesize_source.specs.Counts.{AtMost}
 use Rattle.imagesize_source.specs.Input.{span_of}
 use Rattle.imagesize_source.specs.Layout.{Layout, bytes, refuse, done, layout_reads, bind, whole}
 use Rattle.imagesize_source.specs.Numbers.{number}
-use Rattle.imagesize_source.specs.Reading.{and_then, bytes_at, bytes_read, number_at, number_read, refuses, is_faulted, map_answer}
-use Rattle.imagesize_source.specs.State.{State, Runs, EndedBy, total}
+use Rattle.imagesize_source.specs.Reading.{and_then, bytes_at, bytes_read, number_at, number_read, refuses, map_answer}
+use Rattle.imagesize_source.specs.State.{State, Runs, total}
 use Rattle.imagesize_source.proofs.Always.{CompressionLaws}
 use Rattle.imagesize_source.proofs.Advances.{Tells, advances}
 use Rattle.imagesize_source.proofs.Spends.{Spends, Onto, chain_onto, left, said_to, spends_then}
@@ -42,7 +42,7 @@ use Rattle.imagesize_source.proofs.Counts.{begun_cost, then_within, total-span_o
 use Rattle.imagesize_source.proofs.Bytes.{first_four}
 use Rattle.imagesize_source.proofs.Layouts.{no_part, no_span}
 use Rattle.imagesize_source.proofs.Agreement.{local_bytes, local_then, local_number, without_texts}
-use Rattle.imagesize_source.proofs.Reached.{runs_bind, refused_bind, reached_now}
+use Rattle.imagesize_source.proofs.Reached.{runs_bind, refused_bind}
 use Rattle.imagesize_source.proofs.Tests.{on_test}
 use Rattle.imagesize_source.proofs.Way.{RecordedLaws}
 use Rattle.imagesize_source.proofs.Lists.{last_push}
@@ -81,11 +81,11 @@ search_beyond tag d place far =
     chain_stop (search_for tag place) d (start (search_for tag place)) (Err Ended) (ap (λ r. verdict r.answer) none)
     ∙ ap (λ r. record { answer = Err Ended; marks = r.marks }) none
 
-pub search_saturated : {a b : State} {r : Result FoundBox Halt} (tag : List ℕ) (place : ℕ)
-    → Runs a b r (chain_at (search_for tag (min place (2 ^ 64 - 1))) a.held.input)
+pub search_saturated : {a b : State} {r : Result FoundBox Halt} (tag : List ℕ) (place at : ℕ)
+    → Runs a b r (chain_at (search_for tag at) a.held.input) → at ≡ min place (2 ^ 64 - 1)
     → Runs a b r (chain_at (search_for tag place) a.held.input)
-search_saturated tag place h = saturated_by (λ p d. chain_at (search_for tag p) d) (refuses Ended) place
-    (λ d p far. search_beyond tag d p far) h
+search_saturated tag place at = saturated_by (λ p d. chain_at (search_for tag p) d) (refuses Ended) place at
+    (λ d p far. search_beyond tag d p far)
 
 -- what holds of each property, by its name
 by_named : (P : Layout (Option Property) → Type 0) (left place : ℕ) (head : List ℕ) → P (done None) → P (refuse Corrupted)
@@ -284,17 +284,6 @@ module _ {b end : State} (all : ℕ) (g : Gathered) (place : ℕ) (held : List P
       (layout_reads b.held.input (bind (property_at (all - sum_by skipped_bytes held) place) (property_or_answer held place)))
   listed_out e run = said_by (refused_bind (property_at g.left place) (property_or_answer held place) run)
 
-  pub listed_end : Runs b end (Ok None) (layout_reads b.held.input (property_at g.left place))
-      → Runs b end (map_answer Decided (gathered_answer g))
-      (layout_reads b.held.input (bind (property_at (all - sum_by skipped_bytes held) place) (property_or_answer held place)))
-  listed_end run = said_by (runs_bind (map_answer Decided (gathered_answer g)) (property_at g.left place) (property_or_answer held place) run
-      (λ d. answers all g held place d h ∙ answer_read d g.best g.turn) (no_stop g.best).0 (no_stop g.best).1) where
-        no_stop : (best : Option ImageSize)
-            → (is_faulted (map_answer {Y = Said Property ImageSize} Decided (ok_or (option_map (turn_by g.turn) best) NotEnoughData)) ≡ false)
-            × IfErr (map_answer {Y = Said Property ImageSize} Decided (ok_or (option_map (turn_by g.turn) best) NotEnoughData)) (EndedBy end)
-        no_stop None = (refl, record { budget = λ e. absurd cc; memory = λ e. absurd cc; fault = λ e. absurd cc })
-        no_stop (Some size) = (refl, tt)
-
 pub list_ends : (all : ℕ) (g : Gathered) (held : List Property) → Amounts all g held → (d : List ℕ) (place : ℕ) → length d ≤ place
     → layout_reads d (bind (property_at (all - sum_by skipped_bytes held) place) (property_or_answer held place))
     ≡ record { answer = map_answer Decided (gathered_answer g); marks = [] }
@@ -312,11 +301,11 @@ none_gathered all place d far =
     chain_stop (properties all place) d (start (properties all place)) (Err NotEnoughData) (ap (λ r. verdict r.answer) says)
     ∙ ap (λ r. record { answer = Err NotEnoughData; marks = r.marks }) says
 
-pub list_saturated : {a b : State} {r : Result ImageSize Halt} (all place : ℕ)
-    → Runs a b r (chain_at (properties all (min place (2 ^ 64 - 1))) a.held.input)
+pub list_saturated : {a b : State} {r : Result ImageSize Halt} (all place at : ℕ)
+    → Runs a b r (chain_at (properties all at) a.held.input) → at ≡ min place (2 ^ 64 - 1)
     → Runs a b r (chain_at (properties all place) a.held.input)
-list_saturated all place h = saturated_by (λ p d. chain_at (properties all p) d)
-    (record { answer = Err NotEnoughData; marks = [] }) place (λ d p far. none_gathered all p d far) h
+list_saturated all place at = saturated_by (λ p d. chain_at (properties all p) d)
+    (record { answer = Err NotEnoughData; marks = [] }) place at (λ d p far. none_gathered all p d far)
 
 -- the compression is read from at most 12 bytes, and is always told
 pub heif_compression_laws : (place : ℕ) (head : List ℕ) → CompressionLaws 12 (heif_compression place head)

@@ -414,10 +414,10 @@ unfolding span_at
 as_beyond d t place k f h = ap (λ bs. record { answer = f bs; marks = span_at place (length bs) }) (text_none d t place k h)
 
 -- no input is so long that a text stands beyond 64 bits
-pub text_saturated : {X : Type 0} {a b : State} {r : Result X Halt} (t : Text) (place k : ℕ) (f : List ℕ → Result X Halt)
-    → Runs a b r (text_as a.held.input t (min place (2 ^ 64 - 1)) k f) → Runs a b r (text_as a.held.input t place k f)
-text_saturated t place k f h = saturated_by (λ p d. text_as d t p k f) (record { answer = f []; marks = [] }) place
-    (λ d p far. as_beyond d t p k f far) h
+pub text_saturated : {X : Type 0} {a b : State} {r : Result X Halt} (t : Text) (place at k : ℕ) (f : List ℕ → Result X Halt)
+    → Runs a b r (text_as a.held.input t at k f) → at ≡ min place (2 ^ 64 - 1) → Runs a b r (text_as a.held.input t place k f)
+text_saturated t place at k f = saturated_by (λ p d. text_as d t p k f) (record { answer = f []; marks = [] }) place at
+    (λ d p far. as_beyond d t p k f far)
 
 -- readings behind readings last where both do
 pub lasts_then : {X Y : Type 0} (r : List ℕ → Reads X) (f : X → List ℕ → Reads Y) → Lasts r → ((y : X) → Lasts (f y))

@@ -2,6 +2,7 @@
 use Rattle.std.specs.Prelude.{ℕ, ◌+◌, Bool, ◌&&◌, List, [], ◌∷◌, length, codes, ◌==◌, if◌then◌else◌, Option, None, Some, ℤ, ◌-ℤ◌, int_le, unsigned_abs, bit_and}
 use Rattle.std.specs.Int.{w32, cast_signed}
 use Rattle.imagesize_types.specs.Head.{begins, four_at}
+use Rattle.imagesize_types.specs.Sides.{size_if_known}
 use Rattle.imagesize_types.specs.declared.size.ImageSize.{ImageSize}
 use Rattle.imagesize_source.specs.declared.halt.Halt.TheVariants.{DataWindowNotFound}
 use Rattle.imagesize_source.specs.declared.endian.Endian.TheVariants.{Little}
@@ -39,14 +40,9 @@ signed_at place bs = cast_signed w32 (number Little (four_at place bs))
 unfoldable pub window_side : ℤ → ℤ → Option ℕ
 window_side low high = if int_le low high then Some (unsigned_abs (high -ℤ low) + 1) else None
 
-abbrev pub size_within : Option ℕ → Option ℕ → Option ImageSize
-size_within (Some width) (Some height) = Some (record { width = width; height = height })
-size_within (Some width) None = None
-size_within None height = None
-
 -- the size of a box, which is xMin, yMin, xMax and yMax; a reversed box has no size
 unfoldable pub window_size : List ℕ → Option ImageSize
-window_size bs = size_within (window_side (signed_at 0 bs) (signed_at 8 bs)) (window_side (signed_at 4 bs) (signed_at 12 bs))
+window_size bs = size_if_known (window_side (signed_at 0 bs) (signed_at 8 bs)) (window_side (signed_at 4 bs) (signed_at 12 bs))
 
 abbrev pub exr_window : ℕ → ℕ → Option ImageSize → Layout (Said (Unit {0}) ImageSize)
 exr_window place taken (Some size) = done (Decided size)

@@ -1,6 +1,7 @@
 -- Radiance RGBE, by "Picture File Format" of the Radiance reference manual.
-use Rattle.std.specs.Prelude.{ℕ, ◌+◌, Bool, List, codes, [], ◌∷◌, ◌++◌, ◌||◌, ◌==◌, length, slice_index_or, if◌then◌else◌, Option, None, Some, Result, Ok, Err}
+use Rattle.std.specs.Prelude.{ℕ, ◌+◌, Bool, List, codes, [], ◌∷◌, ◌++◌, ◌||◌, ◌==◌, length, slice_index_or, if◌then◌else◌, Option, None, Some, Result, Err, ok_or}
 use Rattle.imagesize_types.specs.Head.{begins}
+use Rattle.imagesize_types.specs.Sides.{size_if_known}
 use Rattle.imagesize_types.specs.declared.size.ImageSize.{ImageSize}
 use Rattle.imagesize_source.specs.declared.halt.Halt.{Halt}
 use Rattle.imagesize_source.specs.declared.halt.Halt.TheVariants.{HdrDimensionsNotFound, InvalidHdrDimensionsLine, InvalidHdrIdentifier}
@@ -30,19 +31,13 @@ hdr_identifier = line_at 0x0A 0 11 check_identifier
 unfoldable pub is_resolution : List ℕ → Bool
 is_resolution text = (begins (codes "-Y") text || begins (codes "+Y") text) || (begins (codes "-X") text || begins (codes "+X") text)
 
--- the size; an error if one of the numbers is not known
-abbrev pub hdr_size : Option ℕ → Option ℕ → Result ImageSize Halt
-hdr_size (Some height) (Some width) = Ok (record { width = width; height = height })
-hdr_size (Some height) None = Err HdrDimensionsNotFound
-hdr_size None width = Err HdrDimensionsNotFound
-
 -- the second and the fourth of four words: the lengths of the two axes
 unfoldable pub second_and_fourth : List (List ℕ) → Option (List ℕ × List ℕ)
 second_and_fourth ws = if length ws == 4 then Some (slice_index_or ws 1 [], slice_index_or ws 3 []) else None
 
 abbrev pub hdr_lengths : Option (List ℕ × List ℕ) → Result ImageSize Halt
 hdr_lengths None = Err InvalidHdrDimensionsLine
-hdr_lengths (Some lengths) = hdr_size (number_text lengths.0) (number_text lengths.1)
+hdr_lengths (Some lengths) = ok_or (size_if_known (number_text lengths.1) (number_text lengths.0)) HdrDimensionsNotFound
 
 -- the size from such a line; the first length is the height, whatever the axes are
 abbrev pub resolution : List ℕ → Result ImageSize Halt

@@ -1,7 +1,8 @@
 -- The portable bitmaps, by pbm(5), pgm(5) and ppm(5) of Netpbm.
-use Rattle.std.specs.Prelude.{ℕ, ◌+◌, Bool, List, length, codes, nat_le, slice_index, ◌&&◌, ◌==◌, if◌then◌else◌, Option, None, Some, Result, Ok, Err}
+use Rattle.std.specs.Prelude.{ℕ, ◌+◌, Bool, List, length, codes, nat_le, slice_index, ◌&&◌, ◌==◌, if◌then◌else◌, Option, Result, ok_or}
 use Rattle.std.specs.Str.{trim}
 use Rattle.imagesize_types.specs.Head.{begins}
+use Rattle.imagesize_types.specs.Sides.{size_if_known}
 use Rattle.imagesize_types.specs.declared.size.ImageSize.{ImageSize}
 use Rattle.imagesize_source.specs.declared.halt.Halt.{Halt}
 use Rattle.imagesize_source.specs.declared.halt.Halt.TheVariants.{PnmDimensionsNotFound}
@@ -27,9 +28,7 @@ is_blank text = length (trim text) == 0
 
 -- the size; an error if one of the numbers is not known
 abbrev pub pnm_size : Option ℕ → Option ℕ → Result ImageSize Halt
-pnm_size (Some width) (Some height) = Ok (record { width = width; height = height })
-pnm_size (Some width) None = Err PnmDimensionsNotFound
-pnm_size None height = Err PnmDimensionsNotFound
+pnm_size width height = ok_or (size_if_known width height) PnmDimensionsNotFound
 
 -- these bytes say nothing about the size
 abbrev pub pnm_passed : ℕ → ℕ → Layout (Said (Unit {0}) ImageSize)

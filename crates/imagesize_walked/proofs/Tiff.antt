@@ -1,13 +1,13 @@
 -- TIFF: how a walk along the entries goes, how many bytes they are read from, and what it sees of an input.
 use Rattle.std.proofs.Common.{◌≡◌, ◌≢◌, ℕ, ◌+◌, ◌-◌, ◌*◌, ◌^◌, ◌<◌, ◌≤◌, min, Bool, true, false, cond, eqb, List, [], ◌∷◌, ◌++◌, length, take, Option, Some, None, Result, Ok, Err, refl, sym, ap, ◌∙◌, subst, arith}
-use Rattle.std.proofs.Math.Nat.{mul-add}
 use Rattle.std.proofs.lemmas.Bool.Decides.{nat_tests}
 use Rattle.std.proofs.lemmas.List.{append-nil, length_push}
 use Rattle.std.proofs.lemmas.List.Elements.{filter-append}
 use Rattle.std.specs.Prelude.{filter, option_and_then}
 use Rattle.std.specs.List.{last_or}
 use Rattle.imagesize_walked.specs.Walks.{Known}
-use Rattle.imagesize_walked.specs.Tiff.{byte_order, size_or_next, count_bytes, directory_at, tiff_begun, entry_bytes, head_bytes, field_type_in, field_type_of, last_value, size_in, size_if_known, stated_place, tag_in, tiff, tiff_directory, tiff_entries, tiff_entry, tiff_head, tiff_header, tiff_value, value_bytes, value_of, version_of, whole_value, directory_begun}
+use Rattle.imagesize_types.specs.Sides.{size_if_known}
+use Rattle.imagesize_walked.specs.Tiff.{byte_order, size_or_next, count_bytes, directory_at, tiff_begun, entry_bytes, head_bytes, field_type_in, field_type_of, last_value, size_in, stated_place, tag_in, tiff, tiff_directory, tiff_entries, tiff_entry, tiff_head, tiff_header, tiff_value, value_bytes, value_of, version_of, whole_value, directory_begun}
 use Rattle.imagesize_walked.specs.declared.formats.tiff.Entry.{Entry}
 use Rattle.imagesize_walked.specs.declared.formats.tiff.Header.{Header}
 use Rattle.imagesize_walked.specs.declared.formats.tiff.FieldType.{FieldType}
@@ -164,14 +164,6 @@ size_known : (i : ℕ) (width height : Option ℕ) (entries : List Entry) → Kn
     → size_in entries ≡ size_if_known width height
 size_known i width height entries h = ap (λ w. size_if_known w (last_value 0x101 entries)) h.wide ∙ ap (size_if_known width) h.high
 
--- no input is so long that an entry stands beyond 64 bits
-entry_beyond : (d : List ℕ) (header : Header) (place : ℕ) → length d ≤ place → layout_reads d (tiff_entry header place) ≡ refuses Ended
-unfolding tiff_entry tiff_head
-entry_beyond d header place h = bytes_beyond d place (head_bytes header.version)
-    (λ head. accept (field_type_of header.version (field_type_in header.order (take 4 head)))
-    (λ field_type. bind (tiff_value header.version (place + head_bytes header.version))
-    (λ value. done (entry_of header (take 4 head) field_type value)))) h (head_some header.version)
-
 -- the record of an entry, where there are more, and where there are none
 more_said : (header : Header) (count i : ℕ) (width height : Option ℕ) (entries : List Entry) (place : ℕ) → Known i width height entries
     → i ≢ count → (tiff_entries header count).said entries place ≡ record_behind header entries place
@@ -243,12 +235,14 @@ none_there header count place d far = by_count (eqb 0 count) refl where
       let none = entries_end header count 0 None None [] (record { many = refl; wide = refl; high = refl }) more d place far in
       chain_stop c d (start c) (Err Ended) (ap (λ r. verdict r.answer) none) ∙ ap (λ r. record { answer = Err Ended; marks = r.marks }) none
 
-pub entries_saturated : {a b : State} {r : Result ImageSize Halt} (header : Header) (count : ℕ)
-    → Runs a b r (chain_at (record { first = min (header.directory + count_bytes header.version) (2 ^ 64 - 1); said = (tiff_entries header count).said }) a.held.input)
+pub entries_saturated : {a b : State} {r : Result ImageSize Halt} (header : Header) (count at : ℕ)
+    → Runs a b r (chain_at (record { first = at; said = (tiff_entries header count).said }) a.held.input)
+    → at ≡ min (header.directory + count_bytes header.version) (2 ^ 64 - 1)
     → Runs a b r (chain_at (tiff_entries header count) a.held.input)
-entries_saturated header count h = saturated_by (λ p d. chain_at (record { first = p; said = (tiff_entries header count).said }) d)
-    (record { answer = cond (eqb 0 count) (Err NoDimensionsInIfd) (Err Ended); marks = [] }) (header.directory + count_bytes header.version)
-    (λ d p far. none_there header count p d far) h
+entries_saturated header count at =
+    saturated_by (λ p d. chain_at (record { first = p; said = (tiff_entries header count).said }) d)
+    (record { answer = cond (eqb 0 count) (Err NoDimensionsInIfd) (Err Ended); marks = [] })
+    (header.directory + count_bytes header.version) at (λ d p far. none_there header count p d far)
 
 -- an entry has 12 bytes, and 20 in BigTIFF
 entry_few : (version : Version) → head_bytes version + value_bytes version ≤ 20

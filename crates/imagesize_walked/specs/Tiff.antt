@@ -1,7 +1,8 @@
 -- TIFF, by "TIFF Revision 6.0" (section 2), and BigTIFF, by "The BigTIFF File Format".
-use Rattle.std.specs.Prelude.{◌≡◌, ℕ, ◌+◌, ◌==◌, min, Bool, List, codes, [], ◌∷◌, ◌++◌, ◌||◌, length, take, drop, filter, if◌then◌else◌, Option, None, Some, option_and_then, Result, Ok, Err}
+use Rattle.std.specs.Prelude.{ℕ, ◌+◌, ◌==◌, min, Bool, List, codes, [], ◌∷◌, ◌++◌, ◌||◌, length, take, drop, filter, if◌then◌else◌, Option, None, Some, option_and_then, Result, Ok, Err}
 use Rattle.std.specs.List.{last_or}
 use Rattle.imagesize_types.specs.Head.{begins}
+use Rattle.imagesize_types.specs.Sides.{size_if_known}
 use Rattle.imagesize_types.specs.Table.{look_up}
 use Rattle.imagesize_types.specs.declared.size.ImageSize.{ImageSize}
 use Rattle.imagesize_walked.specs.declared.formats.tiff.Entry.{Entry}
@@ -123,11 +124,6 @@ tiff_entry header place =
 -- the value of the last entry with this tag
 abbrev pub last_value : ℕ → List Entry → Option ℕ
 last_value tag entries = option_and_then (λ entry. entry.value) (last_or None (filter (λ entry. entry.tag == tag) entries))
-
--- the size, if both sides are known
-abbrev pub size_if_known : Option ℕ → Option ℕ → Option ImageSize
-size_if_known (Some width) (Some height) = Some (record { width = width; height = height })
-size_if_known _ _ = None
 
 -- the size that the entries give (section 3, ImageWidth and ImageLength)
 abbrev pub size_in : List Entry → Option ImageSize

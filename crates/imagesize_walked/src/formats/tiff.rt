@@ -1,6 +1,6 @@
 //! TIFF, by "TIFF Revision 6.0" (section 2), and BigTIFF, by "The BigTIFF File Format".
 ghost use Rattle.std.specs.Prelude.{◌≡◌, ◌+◌, ◌<◌, ◌≤◌, IfOk, ◌==◌, if◌then◌else◌, false, take, length};
-ghost use Rattle.imagesize_walked.specs.Tiff.{byte_order, count_bytes, directory_at, head_bytes, is_tiff, field_type_in, field_type_of, size_if_known, stated_place, tag_in, tiff, tiff_entries, tiff_entry, tiff_head, tiff_header, tiff_value, value_bytes, value_of, version_of};
+ghost use Rattle.imagesize_walked.specs.Tiff.{byte_order, count_bytes, directory_at, head_bytes, is_tiff, field_type_in, field_type_of, stated_place, tag_in, tiff, tiff_entries, tiff_entry, tiff_head, tiff_header, tiff_value, value_bytes, value_of, version_of};
 ghost use Rattle.imagesize_source.specs.Chain.{chain_at};
 ghost use Rattle.imagesize_source.specs.Paying.{ahead_of};
 ghost use Rattle.imagesize_walked.specs.Walks.{Known};
@@ -13,7 +13,7 @@ use imagesize_source::readings::{
 use imagesize_source::source::Source;
 use imagesize_source::walk::{Found, Records, walk};
 use imagesize_source::{Endian, Halt};
-use imagesize_types::size::ImageSize;
+use imagesize_types::size::{ImageSize, size_if_known};
 
 /// Whether the input begins with a byte order, followed by a version in that order.
 #[inline(always)]
@@ -191,8 +191,8 @@ struct Entries<const HEAD: usize, const VALUE: usize> {
     header: Header,
     count: u64,
     seen: u64,
-    width: Option<u32>,
-    height: Option<u32>,
+    width: Option<usize>,
+    height: Option<usize>,
     ghost few: { seen ≤ count },
     ghost head: { HEAD ≡ head_bytes header.version },
     ghost value: { VALUE ≡ value_bytes header.version },
@@ -223,7 +223,7 @@ impl<const HEAD: usize, const VALUE: usize> Records for Entries<HEAD, VALUE> {
         self.seen += 1;
         self.width = side_behind(0x100, self.width, &entry);
         self.height = side_behind(0x101, self.height, &entry);
-        match size_of_sides(self.width, self.height) {
+        match size_if_known(self.width, self.height) {
             Some(size) => Ok(Found::Answer(size)),
             None => Ok(Found::Other {
                 held: entry,
@@ -256,29 +256,15 @@ fn count_bytes(version: Version) -> u64
 #[derive(Clone, Copy)]
 struct Entry {
     tag: u16,
-    value: Option<u32>,
+    value: Option<usize>,
 }
 
 // The width or the height after one more entry. An entry with that tag replaces it by its own value, or by `None`.
 #[inline(always)]
-fn side_behind(tag: u16, side: Option<u32>, entry: &Entry) -> Option<u32>
+fn side_behind(tag: u16, side: Option<usize>, entry: &Entry) -> Option<usize>
     ensures { result ≡ (if entry.now.tag == tag then entry.now.value else side) }
 {
     if entry.tag == tag { entry.value } else { side }
-}
-
-// The size, if both the width and the height are known.
-#[inline(always)]
-fn size_of_sides(width: Option<u32>, height: Option<u32>) -> Option<ImageSize>
-    ensures { result ≡ size_if_known width height }
-{
-    match (width, height) {
-        (Some(width), Some(height)) => Some(ImageSize {
-            width: width as usize,
-            height: height as usize,
-        }),
-        _ => None,
-    }
 }
 
 // Reads the entry at an offset, with a head of `HEAD` bytes and a value of `VALUE` bytes. Its field type is checked before its
@@ -393,13 +379,13 @@ fn field_type_of(version: Version, field_type: u16) -> Result<FieldType, Halt>
 
 // The number that a value begins with, from its first four bytes.
 #[inline(always)]
-fn value_of(order: Endian, field_type: FieldType, value: [u8; 4]) -> Option<u32>
+fn value_of(order: Endian, field_type: FieldType, value: [u8; 4]) -> Option<usize>
     ensures { result ≡ value_of order field_type value }
 {
     let [first, second, _, _] = value;
     match field_type {
-        FieldType::Short => Some(order.u16([first, second]) as u32),
-        FieldType::Long => Some(order.u32(value)),
+        FieldType::Short => Some(order.u16([first, second]) as usize),
+        FieldType::Long => Some(order.u32(value) as usize),
         FieldType::Other => None,
     }
 }
