@@ -28,7 +28,7 @@ ONES = ("zero one two three four five six seven eight nine ten eleven twelve thi
 WORDS = {word: number for number, word in enumerate(ONES)}
 WORDS.update({tens: 20 + 10 * n for n, tens in enumerate(TENS)})
 WORDS.update({f"{tens}-{one}": 20 + 10 * n + WORDS[one] for n, tens in enumerate(TENS) for one in ONES[1:10]})
-LONGEST = 30
+LONGEST = 25
 # Words of the proofs that no reader knows. Code and headings of tables of code are not read.
 OLD = (r"places?|rooms?|lent|lends?|lending|hand(?:s|ed)? over|told|taken|answers?|answered|refusals?|halts?|marks|bytes that follow|"
        r"kinds?|worked inputs?|edits?|the gate|cures?|cured|behind|wants|wanted|stands?|chains?|that of a|those of a|so it is|(?<!each )of which")
