@@ -36,9 +36,9 @@ pub record Held : Type 0 where
   pub input : List ℕ
   pub can_fail : Bool
 
--- The state of a source. `front` is how many of its first bytes it holds, and `taken` how many bytes it has read.
--- `failure` is the error that a failed call returns. A source that reports it also has what its last failed read
--- missed, and the error of its last failure.
+-- The state of a source. `front` is how many of its first bytes it holds, `taken` how many bytes it has read, and
+-- `recorded` the spans that it has recorded. `failure` is the error that a failed call returns. A source that reports
+-- it also has what its last failed read missed, and the error of its last failure.
 pub record State : Type 0 where
   pub frame : Frame
   pub held : Held

@@ -32,8 +32,8 @@ IfNoSize (Err (TooLarge _)) P = Unit {0}
 IfNoSize (Err (NoSize e)) P = P e
 
 -- Over an honest reader, an image that is admitted or too large has the returned size. An image that is rejected with
--- an error has no size for this reason, or a call failed. If no call can fail, the verdict is right. The bytes read
--- are at most the total length of the layouts' spans, and at most the input's length plus the allowance.
+-- an error has no size for this reason, or a call failed. If no call can fail, the verdict is that on the image. The
+-- bytes read are at most the total length of the layouts' spans, and at most the input's length plus the allowance.
 pub record AdmitsOf (t : Telling) (most : ℕ) (admission : Admission) : Type 0 where
   pub image : IfOk admission.verdict (λ size. (over_reader t meaning).answer ≡ Ok size)
   pub too_large : IfTooLarge admission.verdict (λ size. (over_reader t meaning).answer ≡ Ok size)
