@@ -15,7 +15,7 @@ use Rattle.imagesize_source.specs.Reading.{is_stopped as has_stopped}
 use Rattle.imagesize_source.specs.State.{State}
 use Rattle.imagesize_io.specs.Telling.{Telling, IsHonest}
 
--- A named type is that of the input. If no call failed, a type is named if the input has one.
+-- A named type is that of the input. If nothing stopped the call, a type is named if the input has one.
 pub record FindsKind (a : State) (place : ℕ) (found : Option ImageType) (r : Result ImageSize Halt) : Type 0 where
   pub right : a.held.honest ≡ true → IfSome found (λ type. (kind_reads a.held.input place).answer ≡ Ok type)
   pub whole : a.held.honest ≡ true → has_stopped r ≡ false → found ≡ result_ok (kind_reads a.held.input place).answer

@@ -14,8 +14,8 @@ pub record AnswersAs {X : Type 0} (t : Telling) (reads : Outcome X) (r : Result 
   pub answer : is_stopped r ≡ false → reads.answer ≡ r
   pub fault : is_stopped r ≡ true → (is_faulted r ≡ true) × (t.can_fail ≡ true)
 
--- The bytes read are at most the total length of the spans. If no call failed, they are at least the offsets that the
--- spans cover.
+-- The bytes read are at most the total length of the spans. If nothing stopped the call, they are at least the
+-- offsets that the spans cover.
 pub record TakesAs {X : Type 0} (t : Telling) (reads : Outcome X) (r : Result X ImageError) (taken : ℕ) : Type 0 where
   pub most : taken ≤ total reads.marks
   pub least : is_stopped r ≡ false → places (length t.bytes) reads.marks ≤ taken

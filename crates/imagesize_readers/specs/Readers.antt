@@ -10,7 +10,7 @@ interrupted_more more told = option_map {T = Telling} (λ t. record t { interrup
 abbrev pub halting_telling : List ℕ → ℕ → ℕ → Option Telling
 halting_telling bytes place left = Some (record { bytes = bytes; place = place; can_fail = false; interruptions = left })
 
--- a reader with a model is at an offset within its bytes or at their end
+-- a reader with a model is at this offset, if that is within its bytes or at their end
 abbrev pub StandsAt : Option Telling → Option Telling → ℕ → Type 0
 StandsAt None new place = Unit {0}
 StandsAt (Some t) new place = place ≤ length t.bytes → new ≡ Some (at_place t place)
