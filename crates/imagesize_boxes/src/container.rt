@@ -1,3 +1,3 @@
-//! Containers of images, in boxes.
+//! Containers that hold images of several compressions, in boxes.
 
 pub mod heif;

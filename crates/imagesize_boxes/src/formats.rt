@@ -1,3 +1,3 @@
-//! The formats of boxes.
+//! Formats of one compression, in boxes.
 
 pub mod jxl;

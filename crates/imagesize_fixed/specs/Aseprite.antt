@@ -6,7 +6,7 @@ use Rattle.imagesize_source.specs.declared.endian.Endian.TheVariants.{Little}
 use Rattle.imagesize_source.specs.Layout.{Layout}
 use Rattle.imagesize_source.specs.Layout.Layout.{field, «done»}
 
--- the magic number 0xA5E0 stands behind the length of the file
+-- whether the magic number 0xA5E0 comes after the length of the file
 unfoldable pub is_aseprite : List ℕ → Bool
 is_aseprite head = stands_at 4 (0xE0 ∷ 0xA5 ∷ []) head
 

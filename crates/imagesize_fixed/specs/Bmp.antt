@@ -6,7 +6,7 @@ use Rattle.imagesize_source.specs.declared.endian.Endian.TheVariants.{Little}
 use Rattle.imagesize_source.specs.Layout.{Layout}
 use Rattle.imagesize_source.specs.Layout.Layout.{field, «done»}
 
--- the type of the file
+-- whether the input begins with the file type
 unfoldable pub is_bmp : List ℕ → Bool
 is_bmp head = begins (codes "BM") head
 

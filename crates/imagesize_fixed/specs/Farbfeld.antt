@@ -6,7 +6,7 @@ use Rattle.imagesize_source.specs.declared.endian.Endian.TheVariants.{Big}
 use Rattle.imagesize_source.specs.Layout.{Layout}
 use Rattle.imagesize_source.specs.Layout.Layout.{field, «done»}
 
--- the magic value
+-- whether the input begins with the magic value
 unfoldable pub is_farbfeld : List ℕ → Bool
 is_farbfeld head = begins (codes "farbfeld") head
 

@@ -6,7 +6,7 @@ use Rattle.imagesize_source.specs.declared.endian.Endian.TheVariants.{Big}
 use Rattle.imagesize_source.specs.Layout.{Layout}
 use Rattle.imagesize_source.specs.Layout.Layout.{field, «done»}
 
--- the signature
+-- whether the input begins with the signature
 unfoldable pub is_psd : List ℕ → Bool
 is_psd head = begins (codes "8BPS") head
 

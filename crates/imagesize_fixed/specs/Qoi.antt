@@ -6,7 +6,7 @@ use Rattle.imagesize_source.specs.declared.endian.Endian.TheVariants.{Big}
 use Rattle.imagesize_source.specs.Layout.{Layout}
 use Rattle.imagesize_source.specs.Layout.Layout.{field, «done»}
 
--- the magic bytes
+-- whether the input begins with the magic bytes
 unfoldable pub is_qoi : List ℕ → Bool
 is_qoi head = begins (codes "qoif") head
 

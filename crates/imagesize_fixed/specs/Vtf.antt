@@ -6,7 +6,7 @@ use Rattle.imagesize_source.specs.declared.endian.Endian.TheVariants.{Little}
 use Rattle.imagesize_source.specs.Layout.{Layout}
 use Rattle.imagesize_source.specs.Layout.Layout.{field, «done»}
 
--- the signature
+-- whether the input begins with the signature
 unfoldable pub is_vtf : List ℕ → Bool
 is_vtf head = begins (codes "VTF" ++ 0 ∷ []) head
 

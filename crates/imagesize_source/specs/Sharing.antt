@@ -1,4 +1,4 @@
--- An input that shares bytes with a longer one, and how far a walk comes in both.
+-- An input that shares bytes with a longer one, and how far a walk gets in both.
 use Rattle.std.specs.Prelude.{◌≡◌, ℕ, ◌≤◌, ◌<◌, true, List, length, slice_index}
 use Rattle.imagesize_source.specs.declared.span.Span.{Span}
 use Rattle.imagesize_source.specs.Agreement.{is_covered}
@@ -6,13 +6,13 @@ use Rattle.imagesize_source.specs.Chain.{Chain, Along, chain_from, next_record}
 use Rattle.imagesize_source.specs.Reading.{put_behind}
 use Rattle.imagesize_source.specs.State.{State, Missed, state_after}
 
--- d is no longer than e, and has each place of these spans, with the byte that e has there
+-- d is no longer than e, contains each offset of the spans, and has the byte of e there
 pub record Shares (d e : List ℕ) (spans : List Span) : Type 0 where
   pub no_longer : length d ≤ length e
   pub there : (place : ℕ) → is_covered spans place ≡ true → (place < length d) × (slice_index d place ≡ slice_index e place)
 
--- How far a walk came from the record t on, before a reading failed: the record at this place is the next one. The readings
--- before it had marks that lead each input there that shares them.
+-- How far a walk got from position t on before a read failed: the next record is at this offset. Every input that
+-- shares the spans of the reads before (`made`) gets to the same record.
 pub record Stood {C X : Type 0} (c : Chain C X) (P : List C → Type 0) (a b : State) (t : Along C) (place : ℕ) : Type 0 where
   pub held : List C
   pub known : P held

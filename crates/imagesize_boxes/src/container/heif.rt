@@ -1,5 +1,5 @@
-//! HEIF and AVIF, by ISO/IEC 14496-12, sections 4.2 (boxes), 4.3 (`ftyp`) and 8.11.1 (`meta`), and ISO/IEC 23008-12
-//! (the brands, the properties and their list); the brands of AVIF by the AV1 Image File Format.
+//! HEIF and AVIF. ISO/IEC 14496-12, sections 4.2 (boxes), 4.3 (`ftyp`) and 8.11.1 (`meta`); ISO/IEC 23008-12 (the brands, the
+//! properties and their list). The brands of AVIF are those of the AV1 Image File Format.
 ghost use Rattle.std.specs.Prelude.{◌≡◌, ◌+◌, ◌<◌, ◌≤◌, Some, IfOk};
 ghost use Rattle.imagesize_boxes.specs.Heif.{box_size, brand_compression, compatible_compression, extents_size, heif, heif_compression, heif_in_iprp, heif_in_meta, is_general, is_heif, is_named, properties, property_at, property_bytes, search_for, searched_box, skipped_bytes, turn_by};
 ghost use Rattle.imagesize_boxes.specs.Walks.{Amounts, property_said, earlier_largest, gathered_with, gathered_answer, IsLeftFor};
@@ -17,7 +17,7 @@ use imagesize_source::{Endian, Halt};
 use imagesize_types::compression::Compression;
 use imagesize_types::size::{ImageSize, area};
 
-/// Whether a box of the type of files stands first.
+/// Whether the input begins with a file type box (`ftyp`).
 #[inline(always)]
 #[tactic(auto, unfolding(crate::specs::Heif::is_heif))]
 pub fn matches(head: &[u8; 12]) -> bool
@@ -26,7 +26,7 @@ pub fn matches(head: &[u8; 12]) -> bool
     matches!(head, [_, _, _, _, b'f', b't', b'y', b'p', ..])
 }
 
-/// How the pixels are stored, by the major brand, or by the compatible brands where that is general.
+/// How the pixels are compressed, by the major brand. If that is a general one, the compatible brands decide.
 #[tactic(auto, using(imagesize_source::proofs::Runs::steps), unfolding(crate::specs::Heif::heif_compression))]
 pub fn detect_compression<S: Source>(
     source: &mut S,
@@ -40,7 +40,7 @@ pub fn detect_compression<S: Source>(
     if !is_general(brand) {
         return Ok(brand_compression(brand));
     }
-    // the version and the first two compatible brands
+    // The version and the first two compatible brands.
     let mut brands = [0u8; 12];
     if !read_whole_behind(source, place, 12, &mut brands)? {
         return Ok(Compression::Unknown);
@@ -79,8 +79,8 @@ fn brand_compression(brand: &[u8]) -> Compression
     }
 }
 
-/// The width and the height of the largest extents among the properties, of several the first, exchanged where the
-/// last rotation is a quarter or three quarters of a turn.
+/// The width and the height in pixels, of the image with the greatest area among the properties, or the first of several. The two
+/// are exchanged if the last rotation is a quarter turn or three quarters.
 #[tactic(auto, using(imagesize_source::proofs::Runs::steps))]
 pub fn size<S: Source>(source: &mut S) -> Result<ImageSize, Halt>
     ensures { Runs (S.state source.old) (S.state source.new) result
@@ -91,7 +91,7 @@ pub fn size<S: Source>(source: &mut S) -> Result<ImageSize, Halt>
     size_in_meta(source, meta)
 }
 
-// The size by the box of metadata, which begins with its version and flags.
+// The size from the `meta` box, which begins with its version and flags.
 #[inline(always)]
 #[tactic(auto, using(imagesize_source::proofs::Runs::steps))]
 fn size_in_meta<S: Source>(source: &mut S, meta: FoundBox) -> Result<ImageSize, Halt>
@@ -103,7 +103,7 @@ fn size_in_meta<S: Source>(source: &mut S, meta: FoundBox) -> Result<ImageSize, 
     size_in_iprp(source, iprp)
 }
 
-// The size by the box of item properties.
+// The size from the `iprp` box, which holds the item properties.
 #[inline(always)]
 #[tactic(auto, using(imagesize_source::proofs::Runs::steps))]
 fn size_in_iprp<S: Source>(source: &mut S, iprp: FoundBox) -> Result<ImageSize, Halt>
@@ -114,14 +114,14 @@ fn size_in_iprp<S: Source>(source: &mut S, iprp: FoundBox) -> Result<ImageSize, 
     largest(source, ipco)
 }
 
-// A box that a search has found.
+// A box that a search found.
 #[derive(Clone, Copy)]
 struct FoundBox {
     place: u64,
     size: u32,
 }
 
-// The first box of a name, from so far behind a place on. A place above 2^64 - 1 is behind the end of every input.
+// Finds the first box with a name, from `place + distance` on. An offset above 2^64 - 1 is past the end of every input.
 #[inline(always)]
 #[tactic(auto, using(crate::proofs::Heif::search_saturated))]
 fn search<S: Source>(
@@ -182,7 +182,7 @@ impl Records for Boxes {
         })
     }
 
-    // The input ends before such a box.
+    // The input ends before a box of this name.
     #[inline(always)]
     #[tactic(auto, using(crate::proofs::Heif::search_ends))]
     fn at_end(&self) -> Result<FoundBox, Halt> {
@@ -190,7 +190,7 @@ impl Records for Boxes {
     }
 }
 
-// How many bytes a box has, by its first four.
+// The size of a box in bytes, from its first four bytes.
 #[inline(always)]
 #[tactic(auto, using(crate::proofs::Heif::big_four), unfolding(crate::specs::Heif::box_size))]
 fn box_size(head: &[u8; 8]) -> u32
@@ -199,7 +199,7 @@ fn box_size(head: &[u8; 8]) -> u32
     u32::from_be_bytes([head[0], head[1], head[2], head[3]])
 }
 
-// Whether a box has a name.
+// Whether the box has this name.
 #[inline(always)]
 #[tactic(auto, unfolding(crate::specs::Heif::is_named))]
 fn is_named(head: &[u8; 8], name: &[u8; 4]) -> bool
@@ -208,7 +208,7 @@ fn is_named(head: &[u8; 8], name: &[u8; 4]) -> bool
     head[4] == name[0] && head[5] == name[1] && head[6] == name[2] && head[7] == name[3]
 }
 
-// The first bytes of what a box holds, behind its size and its name.
+// The first `N` bytes of a box's content, after its size and its name.
 #[inline(always)]
 fn read_content<S: Source, const N: usize>(source: &mut S, place: u64) -> Result<[u8; N], Halt>
     requires { 0 < N }
@@ -221,26 +221,26 @@ fn read_content<S: Source, const N: usize>(source: &mut S, place: u64) -> Result
 // What a property says.
 #[derive(Clone, Copy)]
 enum Property {
-    // The size of an image.
+    // The size of an image in pixels.
     Extents(ImageSize),
-    // So many quarters of a turn.
+    // A rotation, in quarter turns.
     Rotation(u8),
-    // Neither. It has so many bytes.
+    // Another box, of this size in bytes.
     Skipped(u32),
 }
 
-// What the properties so far amount to.
+// What the properties so far add up to.
 #[derive(Clone, Copy)]
 struct Gathered {
-    // How many bytes of the list the boxes that were passed have left.
+    // The size of the list's box in bytes, less the sizes of the skipped boxes.
     left: u32,
-    // The largest extents.
+    // The greatest image size so far.
     best: Option<ImageSize>,
-    // The last rotation, in quarters of a turn.
+    // The last rotation, in quarter turns.
     turn: Option<u8>,
 }
 
-// The size by the properties in this box.
+// The size from the properties in this box.
 #[inline(always)]
 #[tactic(auto, using(crate::proofs::Heif::list_saturated))]
 fn largest<S: Source>(source: &mut S, ipco: FoundBox) -> Result<ImageSize, Halt>
@@ -303,7 +303,8 @@ impl Records for Properties {
     }
 }
 
-// The property at a place, or none where the list ends: so many bytes are left for the boxes that are passed.
+// Reads the property at an offset, or returns `None` at the end of the list. A box is skipped only if it is smaller than `left`
+// bytes.
 #[inline(always)]
 #[tactic(auto, using(imagesize_source::proofs::Runs::steps, imagesize_source::proofs::Runs::missed_before))]
 fn read_property<S: Source>(source: &mut S, place: u64, left: u32) -> Result<Option<Property>, Halt>
@@ -336,7 +337,7 @@ fn read_property<S: Source>(source: &mut S, place: u64, left: u32) -> Result<Opt
     Ok(Some(Property::Skipped(size)))
 }
 
-// How far behind a property the next stands.
+// How many bytes after a property the next one begins.
 #[inline(always)]
 fn property_bytes(property: Property) -> u64
     ensures { result ≡ property_bytes property }
@@ -348,7 +349,7 @@ fn property_bytes(property: Property) -> u64
     }
 }
 
-// With one property more.
+// Adds one more property.
 #[inline(always)]
 fn gather(gathered: Gathered, property: Property) -> Gathered
     requires { skipped_bytes property ≤ gathered.left }
@@ -370,7 +371,7 @@ fn gather(gathered: Gathered, property: Property) -> Gathered
     }
 }
 
-// The width and the height of an image's extents.
+// The width and the height in pixels, from the content of an `ispe` box.
 #[inline(always)]
 #[tactic(auto, using(crate::proofs::Heif::big_four), unfolding(crate::specs::Heif::extents_size))]
 fn extents_size(content: &[u8; 12]) -> ImageSize
@@ -382,7 +383,7 @@ fn extents_size(content: &[u8; 12]) -> ImageSize
     }
 }
 
-// The one of greater area, and of two that are alike the first. One without pixels is no better than none.
+// The size of greater area, or the first of two equal ones. A size without pixels is never greater.
 #[inline(always)]
 fn larger(best: Option<ImageSize>, size: ImageSize) -> ImageSize
     ensures { result ≡ earlier_largest best size }
@@ -398,7 +399,7 @@ fn larger(best: Option<ImageSize>, size: ImageSize) -> ImageSize
     }
 }
 
-// What is answered at the end of the list.
+// The result at the end of the list.
 #[inline(always)]
 fn answer(gathered: Gathered) -> Result<ImageSize, Halt>
     ensures { result ≡ gathered_answer gathered }
@@ -409,7 +410,7 @@ fn answer(gathered: Gathered) -> Result<ImageSize, Halt>
     }
 }
 
-// A quarter and three quarters of a turn exchange width and height.
+// Exchanges the width and the height for a quarter turn or three quarters.
 #[inline(always)]
 fn turn_by(size: ImageSize, turn: Option<u8>) -> ImageSize
     ensures { result ≡ turn_by turn size }

@@ -16,7 +16,7 @@ use imagesize_source::walk::{Found, Records, walk};
 use imagesize_source::{Endian, Halt};
 use imagesize_types::size::ImageSize;
 
-/// Whether a directory of icons stands first.
+/// Whether the input begins with a directory of icons.
 #[inline(always)]
 #[tactic(auto, unfolding(crate::specs::Ico::is_ico))]
 pub fn matches(head: &[u8; 12]) -> bool
@@ -25,7 +25,7 @@ pub fn matches(head: &[u8; 12]) -> bool
     matches!(head, [0, 0, 1, 0, ..])
 }
 
-/// The width and the height of the image of greatest area, and of several the last.
+/// The width and the height in pixels of the image with the greatest area, or the last of several.
 #[tactic(auto, using(imagesize_source::proofs::Runs::steps))]
 pub fn size<S: Source>(source: &mut S) -> Result<ImageSize, Halt>
     ensures { Runs (S.state source.old) (S.state source.new) result (ico (S.state source.old).held.input) }
@@ -48,7 +48,7 @@ fn largest<S: Source>(source: &mut S, count: u16) -> Result<ImageSize, Halt>
     walk(entries, source, 6)
 }
 
-// The entries of the directory: how many it counts, how many were read, and the largest size of these.
+// The entries of the directory: their stated number, how many were read, and the largest size among these.
 #[derive(Drop)]
 struct Entries {
     count: u16,
@@ -102,7 +102,7 @@ impl Entries {
         ensures runs { Follows (S.state source.old) (S.state source.new) result (entry_in self.now.count self.now.seen place) }
     {
         if self.seen == self.count {
-            // The proof needs that the input is not so long.
+            // The proof needs that the length is below 2^63.
             let _told = source.told();
             return Ok(None);
         }
@@ -118,7 +118,7 @@ fn answer(largest: Option<ImageSize>) -> Result<ImageSize, Halt>
     largest.ok_or(Halt::Corrupted)
 }
 
-// The one of greater area, and of two that are alike the second.
+// The size of greater area, or the second of two equal ones.
 fn larger(best: Option<ImageSize>, size: ImageSize) -> ImageSize
     requires best { ForSome best IsIcon }
     requires is { IsIcon size }
@@ -131,7 +131,7 @@ fn larger(best: Option<ImageSize>, size: ImageSize) -> ImageSize
     }
 }
 
-// How many pixels an icon has.
+// The area of an icon in pixels.
 fn area(size: &ImageSize) -> usize
     requires { IsIcon size.now }
     ensures { result ≡ area_of size.now }
@@ -139,7 +139,7 @@ fn area(size: &ImageSize) -> usize
     size.width * size.height
 }
 
-// The size that an entry begins with.
+// The size from the first two bytes of an entry.
 fn icon_size(bytes: [u8; 2]) -> ImageSize
     ensures icon { IsIcon result }
     ensures is { result ≡ icon_size bytes }
@@ -151,7 +151,7 @@ fn icon_size(bytes: [u8; 2]) -> ImageSize
     }
 }
 
-// A width or a height, of which 0 stands for 256.
+// A width or a height in pixels. The byte 0 means 256.
 fn icon_side(byte: u8) -> usize
     ensures most { result ≤ 256 }
     ensures is { result ≡ icon_side byte }

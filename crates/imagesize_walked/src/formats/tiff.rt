@@ -15,7 +15,7 @@ use imagesize_source::walk::{Found, Records, walk};
 use imagesize_source::{Endian, Halt};
 use imagesize_types::size::{ImageSize, size_if_known};
 
-/// Whether the order of the bytes stands first, and the version behind it.
+/// Whether the input begins with a byte order, followed by a version in that order.
 #[inline(always)]
 #[tactic(auto, unfolding(crate::specs::Tiff::is_tiff))]
 pub fn matches(head: &[u8; 12]) -> bool
@@ -27,7 +27,7 @@ pub fn matches(head: &[u8; 12]) -> bool
     )
 }
 
-/// The width and the height, by the first entry of the first directory behind which both are known.
+/// The width and the height in pixels. They are known after the first entry of the first directory that completes them.
 #[tactic(auto, using(imagesize_source::proofs::Runs::steps))]
 pub fn size<S: Source>(source: &mut S) -> Result<ImageSize, Halt>
     ensures { Runs (S.state source.old) (S.state source.new) result (tiff (S.state source.old).held.input) }
@@ -37,14 +37,14 @@ pub fn size<S: Source>(source: &mut S) -> Result<ImageSize, Halt>
     find_size(source, &header, count)
 }
 
-// Which of the two formats it is.
+// Which of the two formats the file has.
 #[derive(Clone, Copy)]
 enum Version {
     Tiff,
     BigTiff,
 }
 
-// The order of all numbers, which format it is, and where the first directory stands.
+// The byte order of all numbers, the version, and the offset of the first directory.
 #[derive(Clone, Copy)]
 struct Header {
     order: Endian,
@@ -52,7 +52,7 @@ struct Header {
     directory: u64,
 }
 
-// The header.
+// Reads the header.
 #[tactic(auto, using(imagesize_source::proofs::Runs::steps, imagesize_source::proofs::Layouts::binding), unfolding(crate::specs::Tiff::tiff_header))]
 fn read_header<S: Source>(source: &mut S) -> Result<Header, Halt>
     ensures { Follows (S.state source.old) (S.state source.new) result tiff_header }
@@ -65,7 +65,7 @@ fn read_header<S: Source>(source: &mut S) -> Result<Header, Halt>
     Ok(header)
 }
 
-// The order of all numbers, by the first two bytes.
+// The byte order of all numbers, from the first two bytes.
 #[inline(always)]
 fn byte_order(mark: [u8; 2]) -> Result<Endian, Halt>
     ensures { result ≡ byte_order mark }
@@ -77,7 +77,7 @@ fn byte_order(mark: [u8; 2]) -> Result<Endian, Halt>
     }
 }
 
-// The format, by the number behind the order.
+// The version, from the number after the byte order.
 #[inline(always)]
 fn version_of(number: u16) -> Result<Version, Halt>
     ensures { result ≡ version_of number }
@@ -89,7 +89,7 @@ fn version_of(number: u16) -> Result<Version, Halt>
     }
 }
 
-// The header whose directory stands at a place, which is never 0.
+// The header for a directory at this offset, which must not be 0.
 #[inline(always)]
 fn directory_at(order: Endian, version: Version, place: u64) -> Result<Header, Halt>
     ensures { result ≡ directory_at order version place }
@@ -104,7 +104,7 @@ fn directory_at(order: Endian, version: Version, place: u64) -> Result<Header, H
     })
 }
 
-// The place of the first directory, as it is stated.
+// Reads the offset of the first directory, as the file states it.
 #[tactic(auto, using(imagesize_source::proofs::Runs::steps), unfolding(crate::specs::Tiff::stated_place))]
 fn read_place<S: Source>(source: &mut S, order: Endian, version: Version) -> Result<u64, Halt>
     ensures { Follows (S.state source.old) (S.state source.new) result (stated_place order version) }
@@ -118,7 +118,7 @@ fn read_place<S: Source>(source: &mut S, order: Endian, version: Version) -> Res
     }
 }
 
-// The same of BigTIFF, behind the size of a place and two bytes that are zero.
+// Reads the offset of the first directory in a BigTIFF. Before it come the size of an offset and two bytes that must be zero.
 #[tactic(auto, using(imagesize_source::proofs::Runs::steps), unfolding(crate::specs::Tiff::stated_place))]
 fn read_big_place<S: Source>(source: &mut S, order: Endian) -> Result<u64, Halt>
     ensures { Follows (S.state source.old) (S.state source.new) result (stated_place order Version.BigTiff) }
@@ -133,7 +133,7 @@ fn read_big_place<S: Source>(source: &mut S, order: Endian) -> Result<u64, Halt>
     Ok(place)
 }
 
-// How many entries the directory says that it has.
+// Reads how many entries the directory states that it has.
 #[tactic(auto, using(imagesize_source::proofs::Runs::steps))]
 fn read_count<S: Source>(source: &mut S, header: &Header) -> Result<u64, Halt>
     ensures { Runs (S.state source.old) (S.state source.new) result
@@ -148,7 +148,7 @@ fn read_count<S: Source>(source: &mut S, header: &Header) -> Result<u64, Halt>
     }
 }
 
-// The size by the first so many entries of the directory.
+// The size from the first `count` entries of the directory.
 fn find_size<S: Source>(source: &mut S, header: &Header, count: u64) -> Result<ImageSize, Halt>
     requires { IsSound (S.state source.old) }
     ensures { Runs (S.state source.old) (S.state source.new) result
@@ -160,8 +160,8 @@ fn find_size<S: Source>(source: &mut S, header: &Header, count: u64) -> Result<I
     }
 }
 
-// The same, by how many bytes the head and the value of an entry have. An offset above 2^64 - 1 is past the end of every
-// input.
+// The size from the first `count` entries. An entry has a head of `HEAD` bytes and a value of `VALUE` bytes. An offset above 2^64
+// - 1 is past the end of every input.
 #[inline(always)]
 fn find_size_of<S: Source, const HEAD: usize, const VALUE: usize>(
     source: &mut S,
@@ -185,7 +185,7 @@ fn find_size_of<S: Source, const HEAD: usize, const VALUE: usize>(
     walk(entries, source, first)
 }
 
-// The entries of the directory: how many it counts, how many were read, and the sides that these tell.
+// The entries of the directory: their stated number, how many were read, and the width and the height from these.
 #[derive(Drop)]
 struct Entries<const HEAD: usize, const VALUE: usize> {
     header: Header,
@@ -215,7 +215,7 @@ impl<const HEAD: usize, const VALUE: usize> Records for Entries<HEAD, VALUE> {
         place: u64,
     ) -> Result<Found<Entry, ImageSize>, Halt> {
         if self.seen == self.count {
-            // The proof needs that the input is not so long.
+            // The proof needs that the length is below 2^63.
             let _told = source.told();
             return Err(Halt::NoDimensionsInIfd);
         }
@@ -252,14 +252,14 @@ fn count_bytes(version: Version) -> u64
     }
 }
 
-// What an entry says: its tag, and its value where its field type has one that a side can be.
+// What an entry says: its tag, and its value if its field type can hold a width or a height.
 #[derive(Clone, Copy)]
 struct Entry {
     tag: u16,
     value: Option<usize>,
 }
 
-// A side of the image behind an entry: where it has the side's tag its value, also where it has none.
+// The width or the height after one more entry. An entry with that tag replaces it by its own value, or by `None`.
 #[inline(always)]
 fn side_behind(tag: u16, side: Option<usize>, entry: &Entry) -> Option<usize>
     ensures { result ≡ (if entry.now.tag == tag then entry.now.value else side) }
@@ -267,8 +267,8 @@ fn side_behind(tag: u16, side: Option<usize>, entry: &Entry) -> Option<usize>
     if entry.tag == tag { entry.value } else { side }
 }
 
-// The entry at a place, by how many bytes its head and its value have. Its field type is judged before its value is
-// read.
+// Reads the entry at an offset, with a head of `HEAD` bytes and a value of `VALUE` bytes. Its field type is checked before its
+// value is read.
 #[inline(always)]
 #[tactic(auto, using(imagesize_source::proofs::Runs::steps, imagesize_source::proofs::Layouts::binding), unfolding(crate::specs::Tiff::tiff_entry))]
 fn read_entry<S: Source, const HEAD: usize, const VALUE: usize>(
@@ -290,7 +290,7 @@ fn read_entry<S: Source, const HEAD: usize, const VALUE: usize>(
     })
 }
 
-// The head of an entry, of whose bytes the first four count.
+// Reads the head of an entry, and returns its first four bytes.
 #[inline(always)]
 #[tactic(auto, using(imagesize_source::proofs::Runs::steps), unfolding(crate::specs::Tiff::tiff_head))]
 fn read_head<S: Source, const HEAD: usize>(
@@ -307,7 +307,7 @@ fn read_head<S: Source, const HEAD: usize>(
     Ok(first_four(&head))
 }
 
-// The value of an entry, of whose bytes the first four count: the end of the input must not cut it.
+// Reads the value of an entry, and returns its first four bytes. It is an error if the input ends within the value.
 #[inline(always)]
 #[tactic(auto, using(imagesize_source::proofs::Runs::steps), unfolding(crate::specs::Tiff::tiff_value))]
 fn read_value<S: Source, const VALUE: usize>(
@@ -350,7 +350,7 @@ fn field_type_in(order: Endian, head: [u8; 4]) -> u16
     order.u16([first, second])
 }
 
-// What an entry's value is, by its field type.
+// What the value of an entry is, by its field type.
 #[derive(Clone, Copy)]
 enum FieldType {
     // A number of two bytes.
@@ -361,7 +361,7 @@ enum FieldType {
     Other,
 }
 
-// What the value of a field type is. Three field types are those of BigTIFF alone.
+// What the value of a field type is. Three field types exist in BigTIFF only.
 #[inline(always)]
 fn field_type_of(version: Version, field_type: u16) -> Result<FieldType, Halt>
     ensures value { result ≡ field_type_of version field_type }
@@ -377,7 +377,7 @@ fn field_type_of(version: Version, field_type: u16) -> Result<FieldType, Halt>
     }
 }
 
-// The number that the first four bytes of a value begin with.
+// The number that a value begins with, from its first four bytes.
 #[inline(always)]
 fn value_of(order: Endian, field_type: FieldType, value: [u8; 4]) -> Option<usize>
     ensures { result ≡ value_of order field_type value }
