@@ -1,3 +1,4 @@
 //! The formats of boxes.
 
+pub mod heif;
 pub mod jxl;

@@ -1,5 +1,4 @@
 //! Formats whose sizes stand in boxes.
 #![tactic(auto)]
 
-pub mod container;
 pub mod formats;
