@@ -28,7 +28,8 @@ use Rattle.imagesize_source.proofs.Halts.{stated_ok, stated_same}
 use Rattle.imagesize_source.specs.State.{State, Runs}
 use Rattle.imagesize_source.proofs.Agreement.{covered-left, covered-one, covered-right, same_by_local}
 use Rattle.imagesize_source.proofs.Runs.{marks_onward}
-use Rattle.imagesize_source.proofs.Known.{filled_at, has_known, known_below, length-filled_input, past-parts, unknown_free}
+use Rattle.imagesize_source.proofs.Known.{filled_at, has_known, known_below, length-filled_input, unknown_free}
+use Rattle.imagesize_source.proofs.KnownReadings.{past-parts}
 
 -- ---- one list of spans, cut at two of them
 

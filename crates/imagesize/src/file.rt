@@ -30,7 +30,7 @@ pub fn size<F: Files, P: AsPath + Drop>(rt: &F, alloc: Global, path: P) -> Image
 {
     let file = fs::open(rt, path)?;
     let reader = with_buffer(BufReader::new(alloc, file))?;
-    reader_size(KeptReader::new(reader))
+    reader_size(KeptReader::at_start(reader))
 }
 
 // The buffered reader, or `Memory` if its buffer could not be allocated.

@@ -13,10 +13,10 @@ use Rattle.std.specs.Option.{option_or}
 use Rattle.std.specs.Prelude.{codes, flat_map, fold, nat_lt, nat_le, unwrap_or, ok_or, option_map, slice_get, filter}
 use Rattle.imagesize_boxes.specs.Heif.{heif_compression, is_general, is_named, box_size, box_searched, search_for, searched_box, extents_size, property_named, property_found, property_at, property_bytes, extents_of, rotations_of, skipped_bytes, no_pixels, largest_or_none, largest_extents, turn_by, heif_answer, property_or_answer, properties, heif, heif_in_meta, heif_in_iprp, boxes_in_iprp, boxes_in_meta, heif_boxes}
 use Rattle.imagesize_boxes.specs.Walks.{Amounts, Largest, earlier_largest, gathered_with, gathered_answer}
-use Rattle.imagesize_boxes.specs.declared.container.heif.FoundBox.{FoundBox}
-use Rattle.imagesize_boxes.specs.declared.container.heif.Gathered.{Gathered}
-use Rattle.imagesize_boxes.specs.declared.container.heif.Property.{Property}
-use Rattle.imagesize_boxes.specs.declared.container.heif.Property.TheVariants.{Extents, Rotation, Skipped}
+use Rattle.imagesize_boxes.specs.declared.formats.heif.FoundBox.{FoundBox}
+use Rattle.imagesize_boxes.specs.declared.formats.heif.Gathered.{Gathered}
+use Rattle.imagesize_boxes.specs.declared.formats.heif.Property.{Property}
+use Rattle.imagesize_boxes.specs.declared.formats.heif.Property.TheVariants.{Extents, Rotation, Skipped}
 use Rattle.imagesize_types.specs.Head.{four_at}
 use Rattle.imagesize_types.specs.Largest.{greatest_area, area_if_some}
 use Rattle.imagesize_types.specs.Order.{area_of}

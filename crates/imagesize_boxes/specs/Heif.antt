@@ -9,9 +9,9 @@ use Rattle.imagesize_types.specs.Table.{look_up_text}
 use Rattle.imagesize_types.specs.declared.compression.Compression.{Compression}
 use Rattle.imagesize_types.specs.declared.compression.Compression.TheVariants.{Av1, Hevc, Jpeg, Unknown}
 use Rattle.imagesize_types.specs.declared.size.ImageSize.{ImageSize}
-use Rattle.imagesize_boxes.specs.declared.container.heif.FoundBox.{FoundBox}
-use Rattle.imagesize_boxes.specs.declared.container.heif.Property.{Property}
-use Rattle.imagesize_boxes.specs.declared.container.heif.Property.TheVariants.{Extents, Rotation, Skipped}
+use Rattle.imagesize_boxes.specs.declared.formats.heif.FoundBox.{FoundBox}
+use Rattle.imagesize_boxes.specs.declared.formats.heif.Property.{Property}
+use Rattle.imagesize_boxes.specs.declared.formats.heif.Property.TheVariants.{Extents, Rotation, Skipped}
 use Rattle.imagesize_source.specs.declared.halt.Halt.TheVariants.{Corrupted, InvalidHeifBoxSize, NotEnoughData}
 use Rattle.imagesize_source.specs.declared.endian.Endian.TheVariants.{Big}
 use Rattle.imagesize_source.specs.Chain.{Said, Decided, Next, Chain, chain_at, records, count_behind}

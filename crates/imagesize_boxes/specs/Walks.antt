@@ -3,9 +3,9 @@ use Rattle.std.specs.Prelude.{◌≡◌, ◌==◌, true, find, flat_map, is_some
 use Rattle.imagesize_boxes.specs.Fields.{Fields, found_by}
 use Rattle.std.specs.List.{last_or, sum_by}
 use Rattle.imagesize_boxes.specs.Heif.{extents_of, largest_extents, largest_or_none, no_pixels, property_bytes, rotations_of, skipped_bytes, turn_by}
-use Rattle.imagesize_boxes.specs.declared.container.heif.Gathered.{Gathered}
-use Rattle.imagesize_boxes.specs.declared.container.heif.Property.{Property}
-use Rattle.imagesize_boxes.specs.declared.container.heif.Property.TheVariants.{Extents, Rotation, Skipped}
+use Rattle.imagesize_boxes.specs.declared.formats.heif.Gathered.{Gathered}
+use Rattle.imagesize_boxes.specs.declared.formats.heif.Property.{Property}
+use Rattle.imagesize_boxes.specs.declared.formats.heif.Property.TheVariants.{Extents, Rotation, Skipped}
 use Rattle.imagesize_boxes.specs.declared.formats.jxl.boxes.BoxHead.{BoxHead}
 use Rattle.imagesize_source.specs.declared.halt.Halt.{Halt}
 use Rattle.imagesize_source.specs.declared.halt.Halt.TheVariants.{Corrupted, NotEnoughData}

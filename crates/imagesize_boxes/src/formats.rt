@@ -1,3 +1,4 @@
 //! Formats of one compression, in boxes.
 
+pub mod heif;
 pub mod jxl;

@@ -6,10 +6,11 @@ use Rattle.imagesize_types.specs.Table.{look_up, look_up_text}
 use Rattle.imagesize_types.specs.declared.size.ImageSize.{ImageSize}
 use Rattle.imagesize_types.specs.declared.compression.DdsCompression.{DdsCompression}
 use Rattle.imagesize_types.specs.declared.compression.DdsCompression.TheVariants.{Bc1, Bc2, Bc3, Bc4, Bc5, Bc6h, Bc7, Rgba32, Rgb24, Unknown}
+use Rattle.imagesize_fixed.specs.Sides.{height_first}
 use Rattle.imagesize_source.specs.declared.endian.Endian.TheVariants.{Little}
 use Rattle.imagesize_source.specs.Numbers.{number}
 use Rattle.imagesize_source.specs.Layout.{Layout, if_there}
-use Rattle.imagesize_source.specs.Layout.Layout.{field, «done»}
+use Rattle.imagesize_source.specs.Layout.Layout.{«done»}
 
 -- whether the input begins with the magic number
 unfoldable pub is_dds : List ℕ → Bool
@@ -49,4 +50,4 @@ dds_compression = if_there 84 4 dds_compression_by
 
 -- the height, then the width
 abbrev pub dds : Layout ImageSize
-dds = field Little 12 4 (λ height. field Little 16 4 (λ width. done (record { width = width; height = height })))
+dds = height_first Little 4 12 16

@@ -5,6 +5,7 @@ use Rattle.imagesize_types.specs.Table.{look_up}
 use Rattle.imagesize_types.specs.declared.size.ImageSize.{ImageSize}
 use Rattle.imagesize_types.specs.declared.compression.PkmCompression.{PkmCompression}
 use Rattle.imagesize_types.specs.declared.compression.PkmCompression.TheVariants.{Etc1, Etc2, Etc2A1, Etc2A8, EacR, EacRg, EacRSigned, EacRgSigned, Unknown}
+use Rattle.imagesize_fixed.specs.Sides.{sides}
 use Rattle.imagesize_source.specs.declared.endian.Endian.TheVariants.{Big}
 use Rattle.imagesize_source.specs.Numbers.{number}
 use Rattle.imagesize_source.specs.Layout.{Layout, if_there}
@@ -34,5 +35,4 @@ pkm_compression = if_there 6 2 (λ bs. done (pkm_compression_of bs))
 
 -- The width and the height in whole blocks are read and not used. The width and the height of the image follow.
 abbrev pub pkm : Layout ImageSize
-pkm = field Big 8 2 (λ _. field Big 10 2 (λ _. field Big 12 2 (λ width. field Big 14 2 (λ height.
-    done (record { width = width; height = height })))))
+pkm = field Big 8 2 (λ _. field Big 10 2 (λ _. sides Big 2 12 14))

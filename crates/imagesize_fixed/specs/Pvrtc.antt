@@ -5,10 +5,11 @@ use Rattle.imagesize_types.specs.Table.{look_up}
 use Rattle.imagesize_types.specs.declared.size.ImageSize.{ImageSize}
 use Rattle.imagesize_types.specs.declared.compression.PvrtcCompression.{PvrtcCompression}
 use Rattle.imagesize_types.specs.declared.compression.PvrtcCompression.TheVariants.{Pvrtc2BppRgb, Pvrtc2BppRgba, Pvrtc4BppRgb, Pvrtc4BppRgba, Etc2Rgb, Etc2Rgba, Etc2RgbA1, EacR11, EacRg11, Unknown}
+use Rattle.imagesize_fixed.specs.Sides.{height_first}
 use Rattle.imagesize_source.specs.declared.endian.Endian.TheVariants.{Little}
 use Rattle.imagesize_source.specs.Numbers.{number}
 use Rattle.imagesize_source.specs.Layout.{Layout, if_there, bytes}
-use Rattle.imagesize_source.specs.Layout.Layout.{field, «done»}
+use Rattle.imagesize_source.specs.Layout.Layout.{«done»}
 
 -- whether the input begins with the version of the new header, version 3
 unfoldable pub is_pvr3 : List ℕ → Bool
@@ -38,10 +39,10 @@ pvrtc_compression = if_there 0 4 pvrtc_compression_by
 
 -- the height, then the width, in the new header and in the old one
 abbrev pub pvr3 : Layout ImageSize
-pvr3 = field Little 24 4 (λ height. field Little 28 4 (λ width. done (record { width = width; height = height })))
+pvr3 = height_first Little 4 24 28
 
 abbrev pub pvr2 : Layout ImageSize
-pvr2 = field Little 4 4 (λ height. field Little 8 4 (λ width. done (record { width = width; height = height })))
+pvr2 = height_first Little 4 4 8
 
 abbrev pub pvrtc : Layout ImageSize
 pvrtc = bytes 0 4 (λ tag. if is_pvr3 tag then pvr3 else pvr2)

@@ -3,6 +3,7 @@ use Rattle.std.specs.Prelude.{ℕ, ◌-◌, ◌%◌, ◌/◌, Bool, true, false,
 use Rattle.std.specs.List.{list_any}
 use Rattle.std.specs.Str.{bytes_eq}
 use Rattle.imagesize_types.specs.declared.size.ImageSize.{ImageSize}
+use Rattle.imagesize_fixed.specs.Sides.{sides}
 use Rattle.imagesize_source.specs.declared.endian.Endian.TheVariants.{Little}
 use Rattle.imagesize_source.specs.Layout.{Layout, bytes}
 use Rattle.imagesize_source.specs.Layout.Layout.{field, «done»}
@@ -56,4 +57,4 @@ is_tga n head =
 
 -- the width, then the height
 abbrev pub tga : Layout ImageSize
-tga = field Little 12 2 (λ width. field Little 14 2 (λ height. done (record { width = width; height = height })))
+tga = sides Little 2 12 14

@@ -36,6 +36,17 @@ impl<R: Read + Seek + Drop> KeptReader<R> {
             place: None,
         }
     }
+
+    /// Wraps a buffered reader at offset 0, as of a file that was just opened, and does not ask for its offset.
+    pub fn at_start(reader: BufReader<R>) -> Self
+        ensures reader { result.reader ≡ reader }
+        ensures place { result.place ≡ Some 0 }
+    {
+        KeptReader {
+            reader,
+            place: Some(0),
+        }
+    }
 }
 
 impl<R: Read + Seek + Drop> Told for KeptReader<R> {

@@ -81,7 +81,7 @@ impl<R: Files + AllocGlobal> Open for Disk<'_, R> {
     {
         let file = fs::open(self.rt, name)?;
         let reader = buffered_reader(BufReader::new(self.rt.alloc(), file))?;
-        Ok(KeptReader::new(reader))
+        Ok(KeptReader::at_start(reader))
     }
 
     fn load(&mut self, name: &str) -> ImageResult<Vec<u8>>

@@ -87,6 +87,22 @@ fn a_walk_in_a_block_makes_four_calls(rt: HostRuntime) -> Result<(), Fail> {
     Ok(())
 }
 
+// A reader at its start is not asked for its offset: the two seeks are to the end and back.
+#[test]
+fn a_reader_at_its_start_makes_two_seeks(rt: HostRuntime) -> Result<(), Fail> {
+    let bytes = [7u8; 4096];
+    let mut made = NONE;
+    let counted = Counted {
+        inner: Cursor::new(bytes.as_slice()),
+        made: &mut made,
+    };
+    let mut reader = KeptReader::at_start(BufReader::new(rt.alloc(), counted)?);
+    walk(&rt, &mut reader, 4096, 40)?;
+    drop(reader);
+    assert_eq!(rt; made, Made { reads: 1, seeks: 2 });
+    Ok(())
+}
+
 #[test]
 fn a_walk_over_blocks_makes_two_calls_a_place(rt: HostRuntime) -> Result<(), Fail> {
     let made = made_on_walk(&rt, 1_000_000, 10_000)?;

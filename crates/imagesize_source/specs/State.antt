@@ -130,7 +130,7 @@ slice_state d = record {
   failed = None;
 }
 
--- A slice as a source that records these spans of its reads. `home` is the name of the borrow of their buffer.
+-- A slice whose spans are recorded after these. `home` names the borrow of the buffer.
 abbrev pub recording_state : List ℕ → List Span → ℕ → State
 recording_state d spans home = record {
   frame = record { told = length d; budget = 0; counts = false; home = home; since = None; behind = None; parts = None };

@@ -77,7 +77,7 @@ pub(crate) fn is_closed(text: Text, bytes: &[u8]) -> bool
 }
 
 // Whether the delimiter is among the bytes.
-#[tactic(auto, using(crate::proofs::Known::line_ended))]
+#[tactic(auto, using(crate::proofs::TextEnds::line_ended))]
 fn line_is_closed(delimiter: u8, bytes: &[u8]) -> bool
     ensures { result ≡ is_ended (Text.Line delimiter) bytes.now }
 {

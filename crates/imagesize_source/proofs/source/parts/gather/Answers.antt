@@ -1,6 +1,6 @@
 use Rattle.std.proofs.Common.{arith, refl, sym, ◌∙◌, length, ◌+◌, ◌≤◌, ◌≡◌}
 use Rattle.imagesize_source.specs.Known.{filled_input}
-use Rattle.imagesize_source.proofs.Known.{gathered_run, known_run}
+use Rattle.imagesize_source.proofs.Gathering.{gathered_run, known_run}
 use Rattle.imagesize_source.proofs.Parts.{part_none}
 use Rattle.imagesize_source.proofs.source.parts.gather.Goals as goal
 

@@ -1,6 +1,6 @@
 use Rattle.std.proofs.Common.{sym, ap, ◌∙◌, arith}
 use Rattle.imagesize_source.specs.Input.{part}
-use Rattle.imagesize_source.proofs.Known.{found_none, found_run}
+use Rattle.imagesize_source.proofs.Gathering.{found_none, found_run}
 use Rattle.imagesize_source.proofs.source.parts.known_from.Goals as goal
 
 pub returns-then-has_place-clause-known : goal.returns-then-has_place-clause-known

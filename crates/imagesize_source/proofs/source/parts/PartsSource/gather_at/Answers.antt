@@ -1,5 +1,5 @@
 use Rattle.std.proofs.Common.{◌-◌, ◌+◌, refl}
-use Rattle.imagesize_source.proofs.Known.{parts_read, parts_missing, state_is}
+use Rattle.imagesize_source.proofs.KnownReadings.{parts_read, parts_missing, state_is}
 use Rattle.imagesize_source.proofs.source.parts.PartsSource.gather_at.Goals as goal
 
 pub returns-then-found-wanted-clause-runs : goal.returns-then-found-wanted-clause-runs

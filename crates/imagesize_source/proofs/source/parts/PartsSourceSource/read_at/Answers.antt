@@ -1,6 +1,7 @@
 use Rattle.std.proofs.Common.{◌≡◌, ◌-◌, min, arith, refl, ap, ◌∙◌, length, take}
 use Rattle.imagesize_source.specs.Input.{part}
-use Rattle.imagesize_source.proofs.Known.{front_fits, front_part, parts_read, state_is}
+use Rattle.imagesize_source.proofs.Gathering.{front_fits, front_part}
+use Rattle.imagesize_source.proofs.KnownReadings.{parts_read, state_is}
 use Rattle.imagesize_source.proofs.source.parts.PartsSourceSource.read_at.Goals as goal
 
 pub copy_from_slice-requires : goal.copy_from_slice-requires

@@ -1,5 +1,5 @@
 use Rattle.std.proofs.Common.{◌-◌, ◌+◌, ◌∙◌, refl}
-use Rattle.imagesize_source.proofs.Known.{cut_is, parts_text, parts_text_missing, state_is}
+use Rattle.imagesize_source.proofs.KnownReadings.{cut_is, parts_text, parts_text_missing, state_is}
 use Rattle.imagesize_source.proofs.source.parts.PartsSourceSource.read_text.Goals as goal
 
 pub returns-then-is_cut-clause-runs : goal.returns-then-is_cut-clause-runs

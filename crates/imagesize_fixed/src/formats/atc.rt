@@ -6,7 +6,7 @@ ghost use Rattle.imagesize_source.specs.Numbers.{number};
 ghost use Rattle.imagesize_source.specs.declared.endian.Endian.TheVariants as endian;
 ghost use Rattle.imagesize_source.specs.State.{Follows};
 
-use crate::container::{dds, pkm, pvrtc};
+use crate::formats::{dds, pkm, pvrtc};
 use imagesize_source::Halt;
 use imagesize_source::readings::{read_exact_at, read_whole_at};
 use imagesize_source::source::Source;

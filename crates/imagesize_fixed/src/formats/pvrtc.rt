@@ -6,7 +6,8 @@ ghost use Rattle.imagesize_source.specs.State.{Follows};
 ghost use Rattle.imagesize_source.specs.Layout.{if_there};
 ghost use Rattle.imagesize_source.specs.Layout.Layout.{«done»};
 
-use imagesize_source::readings::{read_bytes, read_u32, read_whole_at};
+use crate::readings::height_first_u32;
+use imagesize_source::readings::{read_bytes, read_whole_at};
 use imagesize_source::source::Source;
 use imagesize_source::{Endian, Halt};
 use imagesize_types::compression::PvrtcCompression;
@@ -95,9 +96,7 @@ pub fn size<S: Source>(source: &mut S) -> Result<ImageSize, Halt>
 fn newer_size<S: Source>(source: &mut S) -> Result<ImageSize, Halt>
     ensures { Follows (S.state source.old) (S.state source.new) result pvr3 }
 {
-    let height = read_u32(source, 24, Endian::Little)? as usize;
-    let width = read_u32(source, 28, Endian::Little)? as usize;
-    Ok(ImageSize { width, height })
+    height_first_u32(source, Endian::Little, 24, 28)
 }
 
 // The height and the width in the older header.
@@ -106,7 +105,5 @@ fn newer_size<S: Source>(source: &mut S) -> Result<ImageSize, Halt>
 pub(super) fn older_size<S: Source>(source: &mut S) -> Result<ImageSize, Halt>
     ensures { Follows (S.state source.old) (S.state source.new) result pvr2 }
 {
-    let height = read_u32(source, 4, Endian::Little)? as usize;
-    let width = read_u32(source, 8, Endian::Little)? as usize;
-    Ok(ImageSize { width, height })
+    height_first_u32(source, Endian::Little, 4, 8)
 }

@@ -1,6 +1,6 @@
 use Rattle.std.proofs.Common.{rules}
 use Rattle.imagesize_boxes.proofs.Heif.{amounts_on, listed_next, listed_out}
-use Rattle.imagesize_boxes.proofs.container.heif.PropertiesRecords.read_record.Goals as goal
+use Rattle.imagesize_boxes.proofs.formats.heif.PropertiesRecords.read_record.Goals as goal
 
 pub returns-in_err-property-clause-runs : goal.returns-in_err-property-clause-runs
 returns-in_err-property-clause-runs g c = λ held amounts.

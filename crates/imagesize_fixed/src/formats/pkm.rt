@@ -4,6 +4,7 @@ ghost use Rattle.imagesize_fixed.specs.Pkm.{is_eac, is_pkm, pkm, pkm_compression
 ghost use Rattle.imagesize_types.specs.Table.{look_up};
 ghost use Rattle.imagesize_source.specs.State.{Follows};
 
+use crate::readings::sides_u16;
 use imagesize_source::readings::{read_u16, read_whole_at};
 use imagesize_source::source::Source;
 use imagesize_source::{Endian, Halt};
@@ -75,7 +76,5 @@ pub fn size<S: Source>(source: &mut S) -> Result<ImageSize, Halt>
 {
     let _padded_width = read_u16(source, 8, Endian::Big)?;
     let _padded_height = read_u16(source, 10, Endian::Big)?;
-    let width = read_u16(source, 12, Endian::Big)? as usize;
-    let height = read_u16(source, 14, Endian::Big)? as usize;
-    Ok(ImageSize { width, height })
+    sides_u16(source, Endian::Big, 12, 14)
 }

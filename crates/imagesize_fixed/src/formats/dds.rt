@@ -6,7 +6,8 @@ ghost use Rattle.imagesize_source.specs.State.{Follows};
 ghost use Rattle.imagesize_source.specs.Layout.{if_there};
 ghost use Rattle.imagesize_source.specs.Layout.Layout.{«done»};
 
-use imagesize_source::readings::{read_u32, read_whole_at};
+use crate::readings::height_first_u32;
+use imagesize_source::readings::read_whole_at;
 use imagesize_source::source::Source;
 use imagesize_source::{Endian, Halt};
 use imagesize_types::compression::DdsCompression;
@@ -117,7 +118,5 @@ fn bits_compression(bits: u32) -> DdsCompression
 pub fn size<S: Source>(source: &mut S) -> Result<ImageSize, Halt>
     ensures { Follows (S.state source.old) (S.state source.new) result dds }
 {
-    let height = read_u32(source, 12, Endian::Little)? as usize;
-    let width = read_u32(source, 16, Endian::Little)? as usize;
-    Ok(ImageSize { width, height })
+    height_first_u32(source, Endian::Little, 12, 16)
 }

@@ -1,3 +1,0 @@
-//! Containers that hold images of several compressions, in boxes.
-
-pub mod heif;
