@@ -16,7 +16,7 @@ use Rattle.imagesize_source.specs.Reading.{Reads, is_faulted, is_stop, is_stoppe
 use Rattle.imagesize_source.specs.declared.halt.Halt.{Halt}
 use Rattle.imagesize_source.proofs.Halts.{error_fault, error_memory, error_spent, stated_goes_on, stated_same}
 use Rattle.imagesize_io.specs.Standing.{behind_of, drift}
-use Rattle.imagesize_source.specs.State.{State, Runs}
+use Rattle.imagesize_source.specs.State.{State, Runs, since_of, model_of}
 use Rattle.imagesize_source.specs.declared.error.ImageError.{ImageError}
 use Rattle.std.proofs.lemmas.Bool.{false_from_ne_true}
 
@@ -96,12 +96,12 @@ all_spent (Some n) before after taken up is = (is.1, up ∙ ap (λ k. option_map
 
 -- a named count rose by all of it
 pub budget_counted : {X : Type 0} {a b : State} (told : ℕ) (before after : Option ℕ) (r : Result X Halt) (reads : Reads X)
-    → a.frame.budget ≡ min (told + 64) (2 ^ 64 - 1) → a.frame.since ≡ drift before 0 → Plain b → Runs a b r reads
-    → b.frame.since ≡ drift after b.taken → IfErr (with_error b.failure b.frame.budget r) (λ e. IfSome (budget_spent e) (SpentAll before after))
+    → a.frame.budget ≡ min (told + 64) (2 ^ 64 - 1) → since_of a.frame.backing ≡ drift before 0 → Plain b → Runs a b r reads
+    → since_of b.frame.backing ≡ drift after b.taken → IfErr (with_error b.failure b.frame.budget r) (λ e. IfSome (budget_spent e) (SpentAll before after))
 budget_counted told before after (Ok x) reads start counts plain h counted = tt
 budget_counted {b = b} told before after (Err halt) reads start counts plain h counted =
     all_spent (budget_spent (error_by b.failure b.frame.budget halt)) before after b.taken
-    (rose before after b.taken (sym counted ∙ ap (λ f. f.since) h.frame ∙ counts))
+    (rose before after b.taken (sym counted ∙ ap (λ f. since_of f.backing) h.frame ∙ counts))
     (budget_taken told b.taken (Err halt) reads start plain h refl)
 
 last_told : (b : State) (failure : Option (Option Error)) (fault : Option Error) → b.failed ≡ Some (last_failed fault failure)
@@ -127,6 +127,6 @@ kept_plain (Some e) b is = record { spent = ap (λ e. budget_spent e) is }
 -- and the reader is left as it was, but for its place and the interruptions that came
 pub leaves_reader : {X : Type 0} {a b : State} (telling mid new : Option Telling) (count : Option ℕ) (home : ℕ) (opened : Opened)
     (told retries : ℕ) (fault : Option Error) (r : Result X Halt) (reads : Reads X) → a ≡ start_state mid count home opened.told
-    → b.frame.behind ≡ behind_of told retries fault new → Runs a b r reads → Opens telling mid (Ok opened) → Leaves telling new
+    → model_of b.frame.backing ≡ behind_of told retries fault new → Runs a b r reads → Opens telling mid (Ok opened) → Leaves telling new
 leaves_reader telling mid new count home opened told retries fault r reads start is h opens = opened_leaves telling mid new opened told
-    retries fault opens (sym is ∙ ap (λ f. f.behind) h.frame ∙ ap (λ s. s.frame.behind) start)
+    retries fault opens (sym is ∙ ap (λ f. model_of f.backing) h.frame ∙ ap (λ s. model_of s.frame.backing) start)

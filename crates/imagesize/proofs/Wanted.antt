@@ -25,7 +25,7 @@ use Rattle.imagesize_source.specs.Halts.{error_of, with_error}
 use Rattle.imagesize_source.specs.Outcome.{outcome_of, stated}
 use Rattle.imagesize_source.specs.Reading.{Reads, go_on, is_faulted}
 use Rattle.imagesize_source.proofs.Halts.{stated_ok, stated_same}
-use Rattle.imagesize_source.specs.State.{State, Runs}
+use Rattle.imagesize_source.specs.State.{State, Runs, parts_of}
 use Rattle.imagesize_source.proofs.Agreement.{covered-left, covered-one, covered-right, same_by_local}
 use Rattle.imagesize_source.proofs.Runs.{marks_onward}
 use Rattle.imagesize_source.proofs.Known.{filled_at, has_known, known_below, length-filled_input, unknown_free}
@@ -378,7 +378,7 @@ pub called : {X : Type 0} (f : List ℕ → Reads X) (n m k : ℕ) (spans others
     → before ≡ None → Runs (parts_state k given their first before) (parts_state m others content log missed) r (f (filled_input k given their))
     → AllKnown m others content log → ForSome missed (Lacks m others content) → Called f n spans bytes log missed r
 called f n m k spans others given bytes content their first log before missed r told is_spans is_bytes none unmissed runs seen lacks =
-    let parts = both_are others given content their (ap (λ a. a.parts) runs.frame) in
+    let parts = both_are others given content their (ap (λ a. parts_of a.backing) runs.frame) in
     let one = moved (λ x y z. Runs (parts_state k given their first before) (parts_state x y z log missed) r (f (filled_input k given their))
     × AllKnown x y z log × ForSome missed (Lacks x y z)) k m given others their content (ap (λ a. a.told) runs.frame) parts.0 parts.1
     (runs, seen, lacks) in

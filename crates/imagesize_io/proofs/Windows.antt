@@ -19,7 +19,7 @@ use Rattle.imagesize_io.specs.Standing.{Standing, GivesFrom, behind, stand, drif
 use borrow.Rule.Slice.PartMut.{put_mid}
 use Rattle.imagesize_io.proofs.Filling.{part-add, take_more, length-put}
 use Rattle.imagesize_source.proofs.Slices.{front_is}
-use Rattle.imagesize_source.specs.State.{Behind as Unchanged, State, Frame, Held, Runs, EndedBy, IsSound, state_after, step, total, new_bytes, front_after}
+use Rattle.imagesize_source.specs.State.{Behind as Unchanged, State, Frame, Held, Runs, EndedBy, IsSound, state_after, step, total, new_bytes, front_after, Reader}
 use Rattle.imagesize_source.proofs.Counts.{total_there}
 use Rattle.imagesize_source.proofs.Parts.{part_whole}
 
@@ -423,10 +423,7 @@ frame_of told budget home since behind = record {
   told = told;
   budget = budget;
   counts = true;
-  home = home;
-  since = since;
-  behind = behind;
-  parts = None;
+  backing = Reader home since behind;
 }
 
 same_frames : (told told' budget budget' home : ℕ) (s s' : Option (ℕ × ℕ)) (b b' : Option Unchanged) → told ≡ told' → budget ≡ budget'

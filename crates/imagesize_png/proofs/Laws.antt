@@ -22,7 +22,7 @@ use Rattle.imagesize_source.specs.Numbers.{number}
 use Rattle.imagesize_source.specs.Halts.{error_of, with_error}
 use Rattle.imagesize_source.specs.Outcome.{stated}
 use Rattle.imagesize_source.specs.Reading.{bytes_at, go_on, map_answer, number_at}
-use Rattle.imagesize_source.specs.State.{State, Runs, total}
+use Rattle.imagesize_source.specs.State.{State, Runs, total, since_of}
 use Rattle.imagesize_source.specs.declared.endian.Endian.TheVariants.{Big}
 use Rattle.imagesize_source.specs.declared.error.ImageError.{ImageError}
 use Rattle.imagesize_source.specs.declared.halt.Halt.{Halt}
@@ -147,9 +147,9 @@ rises (Some c) (Some d) taken k same few =
 -- and how far a count rose
 pub png_counts : (telling mid : Option Telling) (count after : Option ℕ) (home : ℕ) (opened : Opened) (a b : State)
     (r : Result ImageSize Halt) → a ≡ start_state mid count home opened.told → is_some b.failed ≡ true → Opens telling mid (Ok opened)
-    → Runs a b r (png_reads a.held.input opened.place) → b.frame.since ≡ drift after b.taken → CountsWithin telling count after png_of
+    → Runs a b r (png_reads a.held.input opened.place) → since_of b.frame.backing ≡ drift after b.taken → CountsWithin telling count after png_of
 png_counts None mid count after home opened a b r start told opens h counted = tt
 png_counts (Some t) mid count after home opened a b r start told opens h counted = λ honest.
     let takes = opened_takes (Some t) mid count home opened b r png_reads told opens
     (subst (λ s. Runs s b r (png_reads s.held.input opened.place)) start h) honest in
-    rises count after b.taken _ (sym counted ∙ ap (λ f. f.since) h.frame ∙ ap (λ s. s.frame.since) start) takes.most
+    rises count after b.taken _ (sym counted ∙ ap (λ f. since_of f.backing) h.frame ∙ ap (λ s. since_of s.frame.backing) start) takes.most

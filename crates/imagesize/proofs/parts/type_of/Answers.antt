@@ -5,7 +5,7 @@ use Rattle.imagesize.specs.Meaning.{kind_of, kind_reads}
 use Rattle.imagesize.specs.Parted.{Fits, IfFound, SaysOf}
 use Rattle.imagesize_source.specs.Errors.{end_of_input, is_stopped}
 use Rattle.imagesize_source.specs.Halts.{with_error}
-use Rattle.imagesize_source.specs.State.{Frame}
+use Rattle.imagesize_source.specs.State.{Frame, parts_of}
 use Rattle.imagesize.proofs.parts.type_of.Goals as goal
 
 pub returns-clause-says : goal.returns-clause-says
@@ -33,10 +33,10 @@ returns-clause-unstopped c = λ short.
     (unstopped (λ x. kind_reads x 0) old.told old.spans.now old.bytes.now false s.log.spans s.missed end_of_input 0 c.detect-found.result short call)
 
 pub returns-clause-spans : goal.returns-clause-spans
-returns-clause-spans c = (both_are _ _ _ _ (ap (λ (a : Frame). a.parts) c.detect-found.ensures.frame)).0 ∙ c.forget.ensures.spans
+returns-clause-spans c = (both_are _ _ _ _ (ap (λ (a : Frame). parts_of a.backing) c.detect-found.ensures.frame)).0 ∙ c.forget.ensures.spans
 
 pub returns-clause-bytes : goal.returns-clause-bytes
-returns-clause-bytes c = (both_are _ _ _ _ (ap (λ (a : Frame). a.parts) c.detect-found.ensures.frame)).1 ∙ c.forget.ensures.bytes
+returns-clause-bytes c = (both_are _ _ _ _ (ap (λ (a : Frame). parts_of a.backing) c.detect-found.ensures.frame)).1 ∙ c.forget.ensures.bytes
 
 pub returns-clause-told : goal.returns-clause-told
 returns-clause-told c = ap (λ (a : Frame). a.told) c.detect-found.ensures.frame ∙ c.forget.ensures.told

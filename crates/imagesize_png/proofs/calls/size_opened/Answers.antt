@@ -6,6 +6,7 @@ use Rattle.imagesize_png.specs.Png.{png_of}
 use Rattle.imagesize_source.specs.Errors.{is_memory}
 use Rattle.imagesize_source.specs.declared.error.ImageError.{ImageError}
 use Rattle.imagesize_types.specs.declared.size.ImageSize.{ImageSize}
+use Rattle.imagesize_source.specs.State.{since_of}
 use Rattle.imagesize_png.proofs.calls.size_opened.Goals as goal
 
 pub returns-clause-answers : goal.returns-clause-answers
@@ -19,7 +20,7 @@ returns-clause-counts g c = λ telling opens.
 pub returns-clause-spent : goal.returns-clause-spent
 returns-clause-spent g c =
     rw c.with_error.ensures (budget_counted c.args.opened.told _ _ _ _ (ap (λ s. s.frame.budget) c.new-source.ensures.state)
-    (ap (λ s. s.frame.since) c.new-source.ensures.state) (kept_plain c.size-found.new.source.ledger.progress.fault _ refl)
+    (ap (λ s. since_of s.frame.backing) c.new-source.ensures.state) (kept_plain c.size-found.new.source.ledger.progress.fault _ refl)
     c.size-found.ensures (search rules))
 
 pub returns-clause-memory : goal.returns-clause-memory
