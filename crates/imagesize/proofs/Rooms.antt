@@ -11,8 +11,10 @@ use Rattle.imagesize_source.specs.declared.halt.Halt.{Halt}
 use Rattle.imagesize_source.specs.declared.span.Span.{Span}
 
 -- the spans are the marks
-pub recorded_marks : (d held e : List ℕ) (first spans : List Span) (home there : ℕ) (r : Result ImageSize Halt) → held ≡ d
-    → first ≡ [] → Runs (recording_state held first false home) (recording_state e spans false there) r (meaning_reads held 0) → spans ≡ (meaning d 0).marks
+pub recorded_marks : (d held e : List ℕ) (first spans : List Span) (home there : ℕ) (r : Result ImageSize Halt)
+    → held ≡ d
+    → first ≡ [] → Runs (recording_state held first false home) (recording_state e spans false there) r
+    (meaning_reads held 0) → spans ≡ (meaning d 0).marks
 recorded_marks d held e first spans home there r bytes none h =
     let on = never_stopped r (meaning_reads held 0) refl refl refl refl h in
     spans_of (h.state refl on ∙ past-recording held first (meaning_reads held 0).marks false home)
@@ -26,7 +28,8 @@ counted_marks d spans count short same counted seen =
     omega (arith, counted, seen, short, ap length same, ap total same, cost_within d 0)
 
 -- a room holds as many of them as it has places for
-pub room_marks : (marks spans room new : List Span) (count : ℕ) → spans ≡ marks → count ≡ length marks → take (length spans) room ≡ take
+pub room_marks : (marks spans room new : List Span) (count : ℕ) → spans ≡ marks → count ≡ length marks
+    → take (length spans) room ≡ take
     (length room) spans → new ≡ room → take count new ≡ take (length new) marks
 room_marks marks spans room new count are is written same =
     ap (λ xs. take count xs) same

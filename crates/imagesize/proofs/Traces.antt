@@ -26,7 +26,8 @@ use Rattle.imagesize_source.specs.declared.halt.Halt.{Halt}
 use Rattle.imagesize_source.specs.declared.span.Span.{Span}
 
 -- one state has one list of spans
-pub spans_of : {d e : List ℕ} {s t : List Span} {a b : Bool} {g h : ℕ} → recording_state e s a g ≡ recording_state d t b h → s ≡ t
+pub spans_of : {d e : List ℕ} {s t : List Span} {a b : Bool} {g h : ℕ}
+    → recording_state e s a g ≡ recording_state d t b h → s ≡ t
 spans_of e = let same = ap (λ (a : State). a.recorded) e in (cc)
 
 memory_there : {X : Type 0} (r : Result X Halt) → lacks_memory r ≡ false → IfErr r (λ halt. is_memory halt ≡ false)
@@ -35,18 +36,21 @@ memory_there (Err halt) memory = memory
 
 -- over a slice no failure and no spent budget ends a call
 goes_on : (d after : List ℕ) (spans : List Span) (r : Result ImageSize Halt) (reads : Reads ImageSize)
-    → Runs (recording_state d [] true 0) (recording_state after spans true 0) r reads → lacks_memory r ≡ false → is_stopped r ≡ false
+    → Runs (recording_state d [] true 0) (recording_state after spans true 0) r reads → lacks_memory r ≡ false
+    → is_stopped r ≡ false
 goes_on d after spans r reads h memory = stops_for_memory r reads refl refl refl (memory_there r memory) h
 
 -- where memory was found, the spans are those of the readings
 marked : (d after : List ℕ) (spans : List Span) (r : Result ImageSize Halt) → Runs (recording_state d [] true 0)
     (recording_state after spans true 0) r (meaning_reads d 0) → lacks_memory r ≡ false → spans ≡ (meaning d 0).marks
-marked d after spans r h memory = spans_of (h.state refl (goes_on d after spans r (meaning_reads d 0) h memory) ∙ past-recording d []
+marked d after spans r h memory =
+    spans_of (h.state refl (goes_on d after spans r (meaning_reads d 0) h memory) ∙ past-recording d []
     (meaning_reads d 0).marks true 0)
 
 -- and the answer is theirs
 answered : (d after : List ℕ) (spans : List Span) (failure : ImageError) (budget : ℕ) (r : Result ImageSize Halt)
-    → Runs (recording_state d [] true 0) (recording_state after spans true 0) r (meaning_reads d 0) → lacks_memory r ≡ false
+    → Runs (recording_state d [] true 0) (recording_state after spans true 0) r (meaning_reads d 0)
+    → lacks_memory r ≡ false
     → with_error failure budget r ≡ (meaning d 0).answer
 answered d after spans failure budget r h memory =
     slice_answer failure budget r (meaning_reads d 0) refl (goes_on d after spans r (meaning_reads d 0) h memory) h
@@ -55,9 +59,12 @@ answered d after spans failure budget r h memory =
 all_held : (items spans : List Span) → items ≡ take (length spans) spans → items ≡ spans
 all_held items spans held = held ∙ take_all (length spans) spans (omega arith)
 
-pub traced : {A : Type 0} (d after : List ℕ) (spans : List Span) (failure : ImageError) (budget : ℕ) (r : Result ImageSize Halt) (t : Trace A)
-    → t.answer ≡ with_error failure budget r → Runs (recording_state d [] true 0) (recording_state after spans true 0) r (meaning_reads d 0)
-    → FindsKind (recording_state d [] true 0) 0 t.kind r → t.spans.items ≡ take (length spans) spans → lacks_memory r ≡ false → Traces d t
+pub traced : {A : Type 0} (d after : List ℕ) (spans : List Span) (failure : ImageError) (budget : ℕ)
+    (r : Result ImageSize Halt) (t : Trace A)
+    → t.answer ≡ with_error failure budget r
+    → Runs (recording_state d [] true 0) (recording_state after spans true 0) r (meaning_reads d 0)
+    → FindsKind (recording_state d [] true 0) 0 t.kind r → t.spans.items ≡ take (length spans) spans
+    → lacks_memory r ≡ false → Traces d t
 traced d after spans failure budget r t is h finds held memory =
     let on = goes_on d after spans r (meaning_reads d 0) h memory in
     record {
@@ -68,36 +75,47 @@ traced d after spans failure budget r t is h finds held memory =
     }
 
 -- the spans are together at most as long as is stated
-pub spans_stated : (d after : List ℕ) (items spans : List Span) (r : Result ImageSize Halt) → Runs (recording_state d [] true 0)
-    (recording_state after spans true 0) r (meaning_reads d 0) → items ≡ take (length spans) spans → lacks_memory r ≡ false
+pub spans_stated : (d after : List ℕ) (items spans : List Span) (r : Result ImageSize Halt)
+    → Runs (recording_state d [] true 0)
+    (recording_state after spans true 0) r (meaning_reads d 0) → items ≡ take (length spans) spans
+    → lacks_memory r ≡ false
     → total items ≤ stated_bytes d 0
 spans_stated d after items spans r h held memory =
     rw (all_held items spans held ∙ marked d after spans r h memory) (cost_stated d 0)
 
 -- and as there are bytes and 64 more
-pub spans_within : (d after : List ℕ) (items spans : List Span) (r : Result ImageSize Halt) → Runs (recording_state d [] true 0)
-    (recording_state after spans true 0) r (meaning_reads d 0) → items ≡ take (length spans) spans → lacks_memory r ≡ false
+pub spans_within : (d after : List ℕ) (items spans : List Span) (r : Result ImageSize Halt)
+    → Runs (recording_state d [] true 0)
+    (recording_state after spans true 0) r (meaning_reads d 0) → items ≡ take (length spans) spans
+    → lacks_memory r ≡ false
     → total items ≤ length d + 64
 spans_within d after items spans r h held memory =
     rw (all_held items spans held ∙ marked d after spans r h memory) (omega (arith, cost_within d 0))
 
 -- each of them can be cut by, and there are no more of them than that
-pub spans_cut : (d after : List ℕ) (items spans : List Span) (r : Result ImageSize Halt) → Runs (recording_state d [] true 0)
-    (recording_state after spans true 0) r (meaning_reads d 0) → items ≡ take (length spans) spans → lacks_memory r ≡ false
+pub spans_cut : (d after : List ℕ) (items spans : List Span) (r : Result ImageSize Halt)
+    → Runs (recording_state d [] true 0)
+    (recording_state after spans true 0) r (meaning_reads d 0) → items ≡ take (length spans) spans
+    → lacks_memory r ≡ false
     → AreWithin (length d) items
 spans_cut d after items spans r h held memory =
-    subst (AreWithin (length d)) (sym (all_held items spans held ∙ marked d after spans r h memory)) (meaning_within d 0)
+    subst (AreWithin (length d)) (sym (all_held items spans held ∙ marked d after spans r h memory))
+    (meaning_within d 0)
 
-pub spans_few : (d after : List ℕ) (items spans : List Span) (r : Result ImageSize Halt) → Runs (recording_state d [] true 0)
-    (recording_state after spans true 0) r (meaning_reads d 0) → items ≡ take (length spans) spans → lacks_memory r ≡ false
+pub spans_few : (d after : List ℕ) (items spans : List Span) (r : Result ImageSize Halt)
+    → Runs (recording_state d [] true 0)
+    (recording_state after spans true 0) r (meaning_reads d 0) → items ≡ take (length spans) spans
+    → lacks_memory r ≡ false
     → length items ≤ length d + 64
 spans_few d after items spans r h held memory =
     omega (arith, ap length (all_held items spans held ∙ marked d after spans r h memory), marks_few d 0)
 
 -- a size stays, whatever bytes follow
-pub answer_lasts : (d after : List ℕ) (spans : List Span) (failure : ImageError) (budget : ℕ) (r : Result ImageSize Halt)
+pub answer_lasts : (d after : List ℕ) (spans : List Span) (failure : ImageError) (budget : ℕ)
+    (r : Result ImageSize Halt)
     (q : Result ImageSize ImageError) → q ≡ with_error failure budget r
-    → Runs (recording_state d [] true 0) (recording_state after spans true 0) r (meaning_reads d 0) → lacks_memory r ≡ false
+    → Runs (recording_state d [] true 0) (recording_state after spans true 0) r (meaning_reads d 0)
+    → lacks_memory r ≡ false
     → IsTrue (lasts_as (kind_of d 0).answer) → IfOk q (λ size. (x : List ℕ) → (meaning (d ++ x) 0).answer ≡ Ok size)
 answer_lasts d after spans failure budget r q is h memory =
     size_lasts d 0 q (is ∙ answered d after spans failure budget r h memory)

@@ -45,8 +45,9 @@ is_general brand = list_any (λ general. bytes_eq brand general) general_brands
 -- behind the major brand and its version: the first compatible brand, or where that is general the second
 abbrev pub compatible_compression : Option (List ℕ) → Compression
 compatible_compression None = Unknown
-compatible_compression (Some more) = if is_general (four_at 4 more) then brand_compression (four_at 8 more) else brand_compression
-    (four_at 4 more)
+compatible_compression (Some more) =
+    if is_general (four_at 4 more) then brand_compression (four_at 8 more)
+    else brand_compression (four_at 4 more)
 
 -- the major brand, or where that is general the compatible ones behind these twelve bytes
 unfoldable pub heif_compression : ℕ → List ℕ → Layout Compression

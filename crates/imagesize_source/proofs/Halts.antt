@@ -8,7 +8,8 @@ use Rattle.imagesize_source.specs.Halts.{error_by, error_of, with_error}
 use Rattle.imagesize_source.specs.Outcome.{stated}
 use Rattle.imagesize_source.specs.Reading.{is_failure, is_spent, is_memory, is_stop, is_stopped}
 
-pub refused_same : (failure : ImageError) (budget : ℕ) (h : Halt) → is_stop h ≡ false → error_by failure budget h ≡ error_of h
+pub refused_same : (failure : ImageError) (budget : ℕ) (h : Halt) → is_stop h ≡ false
+    → error_by failure budget h ≡ error_of h
 refused_same failure budget halt.Failed is = absurd cc
 refused_same failure budget halt.Spent is = absurd cc
 refused_same failure budget halt.Memory is = absurd cc
@@ -40,7 +41,8 @@ stated_ok (Ok y) x is = let same : y ≡ x = cc in ap Ok same
 stated_ok (Err h) x is = absurd cc
 
 -- an error is a fault only of a failed call, refused memory only of that, and a spent budget only of a halt that says so
-pub error_memory : (failure : ImageError) (budget : ℕ) (h : Halt) → is_memory_error failure ≡ false → is_memory h ≡ false
+pub error_memory : (failure : ImageError) (budget : ℕ) (h : Halt) → is_memory_error failure ≡ false
+    → is_memory h ≡ false
     → is_memory_error (error_by failure budget h) ≡ false
 error_memory failure budget halt.Failed plain is = plain
 error_memory failure budget halt.Memory plain is = absurd cc

@@ -23,14 +23,16 @@ span_is : (d : List ℕ) (place k m n : ℕ) → n ≡ min k (length d - place) 
 unfolding span_of
 span_is d place k m n count same = ap (span_at place) (count ∙ ap (λ j. min j (length d - place)) (sym same))
 
-same_state : (d e : List ℕ) (spans after : List Span) (allocates : Bool) (home there : ℕ) → e ≡ d → after ≡ spans → there ≡ home
+same_state : (d e : List ℕ) (spans after : List Span) (allocates : Bool) (home there : ℕ) → e ≡ d → after ≡ spans
+    → there ≡ home
     → recording_state e after allocates there ≡ recording_state d spans allocates home
 same_state d e spans after allocates home there bytes same name =
     ap (λ x. recording_state x after allocates there) bytes ∙ ap (λ x. recording_state d x allocates there) same
     ∙ ap (recording_state d spans allocates) name
 
 -- readings of a slice whose spans were recorded
-recording_runs : {X : Type 0} {reads : Reads X} (d e : List ℕ) (spans after : List Span) (allocates : Bool) (home there : ℕ) (x : X)
+recording_runs : {X : Type 0} {reads : Reads X} (d e : List ℕ) (spans after : List Span) (allocates : Bool)
+    (home there : ℕ) (x : X)
     → length d < 2 ^ 63 → e ≡ d → there ≡ home → reads.answer ≡ Ok x → after ≡ spans ++ reads.marks → Runs
     (recording_state d spans allocates home) (recording_state e after allocates there) (Ok x) reads
 recording_runs {X} {reads} d e spans after allocates home there x short bytes name is recorded =
@@ -40,9 +42,11 @@ recording_runs {X} {reads} d e spans after allocates home there x short bytes na
     ∙ sym (past-recording d spans reads.marks allocates home))
 
 -- a reading of bytes
-pub recording_reads : (d e room old : List ℕ) (spans after : List Span) (allocates : Bool) (home there : ℕ) (place n : ℕ)
+pub recording_reads : (d e room old : List ℕ) (spans after : List Span) (allocates : Bool) (home there : ℕ)
+    (place n : ℕ)
     → length d < 2 ^ 63 → e ≡ d → there ≡ home → n ≡ min (length old) (length d - place)
-    → room ≡ part d place (length old) ++ drop n old → length room ≡ length old → after ≡ spans ++ span_at place n → Runs
+    → room ≡ part d place (length old) ++ drop n old → length room ≡ length old → after ≡ spans ++ span_at place n
+    → Runs
     (recording_state d spans allocates home) (recording_state e after allocates there) (Ok (take n room))
     (part_read d place (length room))
 recording_reads d e room old spans after allocates home there place n short bytes name count copied kept recorded =
@@ -51,14 +55,18 @@ recording_reads d e room old spans after allocates home there place n short byte
     (recorded ∙ ap (λ s. spans ++ s) (span_is d place (length old) (length room) n count kept))
 
 -- a reading of a text
-pub recording_reads_text : (d e old copied found : List ℕ) (t : Text) (spans after : List Span) (allocates : Bool) (home there : ℕ)
-    (place : ℕ) → length d < 2 ^ 63 → e ≡ d → there ≡ home → found ≡ text_part d t place (length old) → length found ≤ length old
+pub recording_reads_text : (d e old copied found : List ℕ) (t : Text) (spans after : List Span) (allocates : Bool)
+    (home there : ℕ)
+    (place : ℕ) → length d < 2 ^ 63 → e ≡ d → there ≡ home → found ≡ text_part d t place (length old)
+    → length found ≤ length old
     → copied ≡ found → after ≡ spans ++ span_at place (length found) → Runs (recording_state d spans allocates home)
     (recording_state e after allocates there) (Ok (take (length found) (copied ++ drop (length found) old)))
     (text_read d t place (length (copied ++ drop (length found) old)))
-recording_reads_text d e old copied found t spans after allocates home there place short bytes name is fits same recorded =
+recording_reads_text d e old copied found t spans after allocates home there place short bytes name is fits same
+    recorded =
     let front = copied_is d old copied found t place is fits same in
-    recording_runs d e spans after allocates home there (take (length found) (copied ++ drop (length found) old)) short bytes name
+    recording_runs d e spans after allocates home there
+    (take (length found) (copied ++ drop (length found) old)) short bytes name
     (ap Ok (sym (front.0 ∙ front.1)))
     (recorded ∙ ap (λ bs. spans ++ span_at place (length bs)) front.1)
 
@@ -68,13 +76,17 @@ pub written_on : (shown : ℕ → List Span) (places : ℕ → ℕ) (spans log :
 written_on shown places spans log s pushed held = subst (Holds shown places) (sym pushed) held
 
 -- it is counted
-pub counted_on : (spans log : List Span) (s : Span) (count after : ℕ) → log ≡ spans ++ s ∷ [] → count ≡ min (length spans) (2 ^ 64 - 1)
+pub counted_on : (spans log : List Span) (s : Span) (count after : ℕ) → log ≡ spans ++ s ∷ []
+    → count ≡ min (length spans) (2 ^ 64 - 1)
     → after ≡ min (count + 1) (2 ^ 64 - 1) → after ≡ min (length log) (2 ^ 64 - 1)
-counted_on spans log s count after pushed is more = omega (arith, is, more, ap length pushed, length-append spans (s ∷ []))
+counted_on spans log s count after pushed is more =
+    omega (arith, is, more, ap length pushed, length-append spans (s ∷ []))
 
 -- it has a byte
-pub seen_on : (spans log : List Span) (s : Span) → log ≡ spans ++ s ∷ [] → 0 < s.len → length spans ≤ total spans → length log ≤ total log
+pub seen_on : (spans log : List Span) (s : Span) → log ≡ spans ++ s ∷ [] → 0 < s.len → length spans ≤ total spans
+    → length log ≤ total log
 seen_on spans log s pushed some seen =
-    let all : total log ≡ total spans + s.len = ap total pushed ∙ total-append spans (s ∷ []) ∙ ap (λ n. total spans + n)
+    let all : total log ≡ total spans + s.len = ap total pushed ∙ total-append spans (s ∷ [])
+    ∙ ap (λ n. total spans + n)
     (add-zero s.len) in
     omega (arith, ap length pushed, length-append spans (s ∷ []), all, some, seen)

@@ -5,7 +5,8 @@ use Rattle.imagesize.proofs.spans.blob_spans.Goals as goal
 
 pub returns-then-count-room-clause-cuts : goal.returns-then-count-room-clause-cuts
 returns-then-count-room-clause-cuts c = λ fits.
-    front_within _ (meaning c.args.«data».now 0).marks _ _ _ _ c.record_spans-count.ensures.count c.record_spans.ensures.count
+    front_within _ (meaning c.args.«data».now 0).marks _ _ _ _ c.record_spans-count.ensures.count
+    c.record_spans.ensures.count
     (omega (arith, length-take c.record_spans-count.result c.args.room.now))
     c.record_spans.ensures.spans (meaning_within c.args.«data».now 0)
 

@@ -5,4 +5,5 @@ use Rattle.imagesize_source.proofs.source.recording.RecordingSourceSource.read_a
 pub returns-clause-runs : goal.returns-clause-runs
 returns-clause-runs g c =
     recording_reads _ _ _ _ _ _ _ _ _ _ _ (omega arith) c.in_ok-record.ensures.bytes c.in_ok-record.ensures.same_home
-    c.copy_part-count.ensures.count c.copy_part-count.ensures.copied c.copy_part-count.auto.room c.in_ok-record.ensures.recorded
+    c.copy_part-count.ensures.count c.copy_part-count.ensures.copied c.copy_part-count.auto.room
+    c.in_ok-record.ensures.recorded
