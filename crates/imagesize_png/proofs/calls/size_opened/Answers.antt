@@ -15,7 +15,8 @@ returns-clause-answers g c = λ telling opens. subst (λ r. Answers telling png_
 
 pub returns-clause-counts : goal.returns-clause-counts
 returns-clause-counts g c = λ telling opens.
-    png_counts telling _ _ _ _ c.args.opened _ _ _ c.new-source.ensures.state refl opens c.size-found.ensures (search rules)
+    png_counts telling _ _ _ _ c.args.opened _ _ _ c.new-source.ensures.state refl opens c.size-found.ensures
+    (search rules)
 
 pub returns-clause-spent : goal.returns-clause-spent
 returns-clause-spent g c =
@@ -30,10 +31,12 @@ returns-clause-memory g c =
 
 pub returns-clause-fault : goal.returns-clause-fault
 returns-clause-fault g c =
-    rw c.with_error.ensures (fault_last _ c.size-found.new.source.ledger.progress.fault _ _ (search rules) c.size-found.ensures)
+    rw c.with_error.ensures
+    (fault_last _ c.size-found.new.source.ledger.progress.fault _ _ (search rules) c.size-found.ensures)
 
 pub returns-clause-leaves : goal.returns-clause-leaves
 returns-clause-leaves g c = λ telling opens.
     leaves_reader telling _ _ _ _ c.args.opened
-    c.size-found.new.source.ledger.progress.told c.size-found.new.source.ledger.progress.retries c.size-found.new.source.ledger.progress.fault _ _
+    c.size-found.new.source.ledger.progress.told c.size-found.new.source.ledger.progress.retries
+    c.size-found.new.source.ledger.progress.fault _ _
     c.new-source.ensures.state (search rules) c.size-found.ensures opens
