@@ -20,7 +20,7 @@ behind-onward marks more (Ok y) g =
 behind-onward marks more (Err e) g = refl
 
 -- what goes on from an answer that itself goes on
-onward-and_then : {X Y Z : Type 0} (marks : List Span) (r : Result X Halt) (f : X → Reads Y) (g : Y → Reads Z)
+pub onward-and_then : {X Y Z : Type 0} (marks : List Span) (r : Result X Halt) (f : X → Reads Y) (g : Y → Reads Z)
     (both : X → Reads Z)
     → ((x : X) → both x ≡ and_then (f x) g) → go_on marks r both ≡ and_then (go_on marks r f) g
 onward-and_then marks (Ok x) f g both is = ap (put_behind marks) (is x) ∙ behind-onward marks (f x).marks (f x).answer g
