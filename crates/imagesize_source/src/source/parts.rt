@@ -322,7 +322,7 @@ fn count_before(start: u64, place: u64, most: u64) -> u64
 }
 
 // The bytes after the first `count`.
-#[tactic(auto, using(crate::proofs::Gathering::slice_behind))]
+#[tactic(auto, using(crate::proofs::Known::slice_behind))]
 fn bytes_behind(bytes: &[u8], count: u64) -> &[u8]
     ensures { result.now ≡ drop count bytes.now }
 {
