@@ -36,7 +36,7 @@ class Program(unittest.TestCase):
 
     def run_it(self, *arguments: str, stdout: int = subprocess.PIPE) -> "subprocess.CompletedProcess[str]":
         command = [sys.executable, "-m", "imagesize_proved", *arguments]
-        environment = {**os.environ, "PYTHONPATH": str(PACKAGE)}
+        environment = {**os.environ, "PYTHONPATH": str(PACKAGE), "PYTHONUNBUFFERED": ""}  # with a buffer, as for most users
         return subprocess.run(command, cwd=self.folder, env=environment, stdout=stdout, stderr=subprocess.PIPE, text=True)
 
     def test_table(self) -> None:

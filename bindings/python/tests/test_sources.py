@@ -86,7 +86,9 @@ class Reading(unittest.TestCase):
     def test_whole_walk_is_few_rounds(self) -> None:
         image = Sliced(jpeg(1 << 18, 2))
         self.assertEqual(image.probe(), (7, 5))
-        self.assertLess(len(image.fetched), 30)
+        lengths = [length for _, length in image.fetched]
+        self.assertEqual(lengths[:-1], [4096] * 8 + [4096 << number // 2 + 1 for number in range(len(lengths) - 9)])
+        self.assertLess(len(lengths), 30)
 
     def test_length_is_asked_once(self) -> None:
         """However many rounds a file takes, its end is sought once."""
@@ -202,7 +204,14 @@ class Reading(unittest.TestCase):
 
     def test_array_of_numbers(self) -> None:
         data = jpeg(3)
-        self.assertEqual(imagesize.probe(array.array("I", data + bytes(-len(data) % 4))).size, (7, 5))
+        for code, size in ("H", 2), ("I", 4):
+            self.assertEqual(imagesize.probe(array.array(code, data + bytes(-len(data) % size))).size, (7, 5))
+
+    def test_array_of_rows(self) -> None:
+        data = jpeg(3)
+        rows = memoryview(data + bytes(-len(data) % 3)).cast("B", (-(-len(data) // 3), 3))
+        self.assertEqual(imagesize.probe(rows).size, (7, 5))
+        self.assertEqual(imagesize.spans(rows), imagesize.spans(bytes(rows)))
 
     def test_spans_of_a_large_file(self) -> None:
         with tempfile.NamedTemporaryFile() as file:
