@@ -49,6 +49,10 @@ class Program(unittest.TestCase):
         ])
         self.assertEqual(said.stderr, "")
 
+    def test_compression(self) -> None:
+        (self.folder / "a.dds").write_bytes(b"DDS \x7c\0\0\0\x07\x10\0\0\5\0\0\0\7\0\0\0" + bytes(64) + b"DXT1" + bytes(40))
+        self.assertEqual(self.run_it("a.dds").stdout, "Dds(Bc1)                7x5  a.dds\n")
+
     def test_status(self) -> None:
         for arguments, status in (("a.gif",), 0), (("a.gif", "b/d.gif"), 0), (("a.gif", "c.jpg"), 1), (("none",), 1), ((), 2):
             self.assertEqual(self.run_it(*arguments).returncode, status, arguments)
