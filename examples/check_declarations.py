@@ -37,7 +37,7 @@ BOUND = {
     "*mut usize": "size_t *",
     "*mut Span": "imagesize_span *",
 }
-# A parameter that the header calls otherwise: by its name and its type in C.
+# Parameters with another name in the header, by their name and their type in C.
 RENAMED = {"number": "type", "kind": "type", ("length", "size_t *"): "written"}
 
 

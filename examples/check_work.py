@@ -1,4 +1,4 @@
-"""Runs the program and that of `size` as a user does, and counts the work for a result: what no proof and no test sees.
+"""Runs the program and that of `size` as a user does, and counts the work for a result: what neither a proof nor a test shows.
 
     python3 check_work.py FOLDER PROBE SIZES
 
@@ -66,7 +66,7 @@ def check_program(probe):
 
 
 def limited(limit, most, *command, **settings):
-    """The same of a command that may have no more of something."""
+    """The output of a command under a limit of the system, and its status."""
     return run(*command, preexec_fn=lambda: resource.setrlimit(limit, (most, most)), **settings)
 
 
@@ -133,7 +133,7 @@ def check_calls(probe, sizes):
 
 
 def collected(program, function, *arguments):
-    """How many instructions a function takes, with those that it calls; of no function, the whole program."""
+    """The instructions of a function and of those that it calls. Without a function, those of the whole program."""
     toggle = [f"--toggle-collect={function}"] if function else []
     told = run("valgrind", "--tool=callgrind", "--callgrind-out-file=/dev/null", *toggle, program, *arguments)[1]
     return int(re.search(r"Collected : (\d+)", told).group(1))

@@ -19,7 +19,7 @@ import tempfile
 
 HERE = pathlib.Path(__file__).resolve().parent
 TIMES = 100
-# A call, and the most that it may take on a file by what the others take there.
+# Each call, and a bound on its instructions for a file, from the instructions of the other calls there.
 BOUNDS = (
     ("size", lambda crate, found: crate + 10),
     ("probe", lambda crate, found: 2 * found["size"] + 100),
@@ -42,14 +42,14 @@ def rows():
 
 
 def instructions(program, call, times, file):
-    """How many instructions the program takes."""
+    """The instructions of the whole program."""
     command = ["valgrind", "--tool=callgrind", "--callgrind-out-file=/dev/null", program, call, str(times), file]
     run = subprocess.run(command, check=True, capture_output=True, text=True)
     return int(re.search(r"I +refs: +([0-9,]+)", run.stderr)[1].replace(",", ""))
 
 
 def of_a_call(program, call, file):
-    """How many of them one call takes."""
+    """The instructions of one call."""
     return (instructions(program, call, 2 * TIMES, file) - instructions(program, call, TIMES, file)) / TIMES
 
 
