@@ -1,4 +1,4 @@
-"""Counts the instructions of a call of the library on ordinary files, beside those of the crate's blob_size, by callgrind.
+"""Counts the instructions of a call of the library on ordinary files, and those of the crate's blob_size, by callgrind.
 
     python3 count.py FOLDER
 
@@ -6,7 +6,7 @@ FOLDER has the program `repeat`, as `run` compiles it. The script prints a line 
 instructions, and the instructions of each call that `repeat` knows. The instructions of a call that does nothing are left out.
 The status is 1 if a call is above its bound. imagesize_size may take as many as the crate, and 10 more for the call. The other
 calls may take a multiple of imagesize_probe: code that finds a result twice, or reads a text byte by byte, takes more. 63 more
-parts may cost 400 instructions: they are counted once, and a reading looks at the first part before it looks at them.
+parts may cost 400 instructions: they are counted once, and a read looks at the first part before the others.
 """
 
 import concurrent.futures

@@ -28,7 +28,7 @@ SECONDS = 10
 
 
 class RemoteError(Exception):
-    """A server does not send the ranges that were requested."""
+    """The server does not send the requested ranges."""
 
 
 class Remote:
