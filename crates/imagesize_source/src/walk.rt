@@ -76,7 +76,7 @@ pub fn walk<S: Source, R: Records + Drop>(
 /// Walks on from the record at this offset, and returns the result.
 ///
 /// If a read fails, `records` and `place` are those of the record that it belongs to. The walk can go on from there.
-#[inline]
+#[inline(always)]
 pub fn walk_on<S: Source, R: Records>(
     records: &mut R,
     place: &mut u64,

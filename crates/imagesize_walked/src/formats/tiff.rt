@@ -1,6 +1,7 @@
 //! TIFF, by "TIFF Revision 6.0" (section 2), and BigTIFF, by "The BigTIFF File Format".
 ghost use Rattle.std.specs.Prelude.{◌≡◌, ◌+◌, ◌<◌, ◌≤◌, IfOk, ◌==◌, if◌then◌else◌, false, take, length};
 ghost use Rattle.imagesize_walked.specs.Tiff.{byte_order, count_bytes, directory_at, head_bytes, is_tiff, field_type_in, field_type_of, stated_place, tag_in, tiff, tiff_entries, tiff_entry, tiff_head, tiff_header, tiff_value, value_bytes, value_of, version_of};
+ghost use Rattle.imagesize_types.specs.Sides.{size_if_known};
 ghost use Rattle.imagesize_source.specs.Chain.{chain_at};
 ghost use Rattle.imagesize_source.specs.Paying.{ahead_of};
 ghost use Rattle.imagesize_walked.specs.Walks.{Known};
@@ -191,8 +192,8 @@ struct Entries<const HEAD: usize, const VALUE: usize> {
     header: Header,
     count: u64,
     seen: u64,
-    width: Option<usize>,
-    height: Option<usize>,
+    width: Option<u32>,
+    height: Option<u32>,
     ghost few: { seen ≤ count },
     ghost head: { HEAD ≡ head_bytes header.version },
     ghost value: { VALUE ≡ value_bytes header.version },
@@ -223,7 +224,7 @@ impl<const HEAD: usize, const VALUE: usize> Records for Entries<HEAD, VALUE> {
         self.seen += 1;
         self.width = side_behind(0x100, self.width, &entry);
         self.height = side_behind(0x101, self.height, &entry);
-        match size_if_known(self.width, self.height) {
+        match size_of_sides(self.width, self.height) {
             Some(size) => Ok(Found::Answer(size)),
             None => Ok(Found::Other {
                 held: entry,
@@ -242,6 +243,25 @@ impl<const HEAD: usize, const VALUE: usize> Records for Entries<HEAD, VALUE> {
     }
 }
 
+// The size, where both sides are known.
+#[inline(always)]
+fn size_of_sides(width: Option<u32>, height: Option<u32>) -> Option<ImageSize>
+    ensures { result ≡ size_if_known width height }
+{
+    size_if_known(in_pixels(width), in_pixels(height))
+}
+
+// A side in pixels.
+#[inline(always)]
+fn in_pixels(side: Option<u32>) -> Option<usize>
+    ensures { result ≡ side }
+{
+    match side {
+        Some(side) => Some(side as usize),
+        None => None,
+    }
+}
+
 #[inline(always)]
 fn count_bytes(version: Version) -> u64
     ensures { result ≡ count_bytes version }
@@ -256,12 +276,12 @@ fn count_bytes(version: Version) -> u64
 #[derive(Clone, Copy)]
 struct Entry {
     tag: u16,
-    value: Option<usize>,
+    value: Option<u32>,
 }
 
 // The width or the height after one more entry. An entry with that tag replaces it by its own value, or by `None`.
 #[inline(always)]
-fn side_behind(tag: u16, side: Option<usize>, entry: &Entry) -> Option<usize>
+fn side_behind(tag: u16, side: Option<u32>, entry: &Entry) -> Option<u32>
     ensures { result ≡ (if entry.now.tag == tag then entry.now.value else side) }
 {
     if entry.tag == tag { entry.value } else { side }
@@ -379,13 +399,13 @@ fn field_type_of(version: Version, field_type: u16) -> Result<FieldType, Halt>
 
 // The number that a value begins with, from its first four bytes.
 #[inline(always)]
-fn value_of(order: Endian, field_type: FieldType, value: [u8; 4]) -> Option<usize>
+fn value_of(order: Endian, field_type: FieldType, value: [u8; 4]) -> Option<u32>
     ensures { result ≡ value_of order field_type value }
 {
     let [first, second, _, _] = value;
     match field_type {
-        FieldType::Short => Some(order.u16([first, second]) as usize),
-        FieldType::Long => Some(order.u32(value) as usize),
+        FieldType::Short => Some(order.u16([first, second]) as u32),
+        FieldType::Long => Some(order.u32(value)),
         FieldType::Other => None,
     }
 }

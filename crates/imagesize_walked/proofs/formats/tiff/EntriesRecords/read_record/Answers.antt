@@ -21,7 +21,7 @@ returns-in-Some-clause-runs g c = λ entries known.
     entry_said s.header s.count s.seen s.width s.height c.if-self.false c.args.place entries known c.in_ok-entry.entry
     c.side_behind-self.result c.side_behind-self-2.result
     (Some c.in-Some.size) c.side_behind-self.ensures c.side_behind-self-2.ensures
-    (sym c.size_if_known.ensures ∙ c.in-Some.is) c.in_ok-entry.ensures.runs
+    (sym c.size_of_sides.ensures ∙ c.in-Some.is) c.in_ok-entry.ensures.runs
 
 pub returns-in-None-clause-keeps : goal.returns-in-None-clause-keeps
 returns-in-None-clause-keeps g c = λ entries known.
@@ -36,4 +36,4 @@ returns-in-None-clause-runs g c = λ entries known.
     rw length (entry_said s.header s.count s.seen s.width s.height c.if-self.false c.args.place entries known
     c.in_ok-entry.entry
     c.side_behind-self.result c.side_behind-self-2.result None c.side_behind-self.ensures c.side_behind-self-2.ensures
-    (sym c.size_if_known.ensures ∙ c.in-None.is) c.in_ok-entry.ensures.runs)
+    (sym c.size_of_sides.ensures ∙ c.in-None.is) c.in_ok-entry.ensures.runs)
