@@ -96,7 +96,7 @@ static int is_none(const imagesize_image *image)
     return image->type == 0 && image->compression == 0 && image->width == 0 && image->height == 0;
 }
 
-/* Some bytes by a reader, a stream, a descriptor and a path: each has this size, and few bytes are read. */
+/* The same bytes by a reader, a stream, a descriptor and a path: each gives this size, and few bytes are read. */
 static void sized(const uint8_t *bytes, size_t length, uint64_t width, uint64_t height, size_t most_readings, size_t most_given)
 {
     struct input input = {bytes, length, 0, 0, 0};
@@ -130,14 +130,14 @@ static void images(uint8_t *bytes)
     sized(bytes, tiff(bytes, 3000001), 5, 7, 2, 2 * 4096);
 }
 
-/* Where a reading fails its status is returned, whichever it is, and no number is left from before. */
+/* If a read fails, the call returns its status, whatever it is, and the image has no number from before. */
 static void failing_readings(uint8_t *bytes)
 {
     struct input input = {bytes, jpeg(bytes, 3, 65533), 0, 0, 1};
     for (; input.failing <= 4; input.failing++) {
         imagesize_image image = {1, 2, 3, 4};
         input.readings = 0;
-        expect(imagesize_reader_probe(&input, read_input, input.length, &image) == IMAGESIZE_FAULT && is_none(&image), "a failed reading");
+        expect(imagesize_reader_probe(&input, read_input, input.length, &image) == IMAGESIZE_FAULT && is_none(&image), "a failed read");
     }
 }
 
@@ -156,7 +156,7 @@ static void refused_images(void)
     expect(given <= IMAGESIZE_FILE_MOST && given > IMAGESIZE_FILE_MOST / 2, "and 64 MiB of them are read");
 }
 
-/* What is no file of an image: errno says why. */
+/* Inputs that are no regular file: errno says why. */
 static void no_files(void)
 {
     imagesize_image image = {1, 2, 3, 4};
@@ -182,7 +182,7 @@ static void no_files(void)
     remove(folder);
 }
 
-/* A file that became shorter since it was asked for its length. */
+/* A file that became shorter after its length was read. */
 static void shrunk_files(void)
 {
     FILE *file = tmpfile();

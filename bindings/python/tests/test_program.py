@@ -36,7 +36,7 @@ class Program(unittest.TestCase):
 
     def run_it(self, *arguments: str, stdout: int = subprocess.PIPE) -> "subprocess.CompletedProcess[str]":
         command = [sys.executable, "-m", "imagesize_proved", *arguments]
-        environment = {**os.environ, "PYTHONPATH": str(PACKAGE)}
+        environment = {**os.environ, "PYTHONPATH": str(PACKAGE), "PYTHONUNBUFFERED": ""}  # with a buffer, as for most users
         return subprocess.run(command, cwd=self.folder, env=environment, stdout=stdout, stderr=subprocess.PIPE, text=True)
 
     def test_table(self) -> None:
@@ -48,6 +48,10 @@ class Program(unittest.TestCase):
             "-                         -  b: Is a directory",
         ])
         self.assertEqual(said.stderr, "")
+
+    def test_compression(self) -> None:
+        (self.folder / "a.dds").write_bytes(b"DDS \x7c\0\0\0\x07\x10\0\0\5\0\0\0\7\0\0\0" + bytes(64) + b"DXT1" + bytes(40))
+        self.assertEqual(self.run_it("a.dds").stdout, "Dds(Bc1)                7x5  a.dds\n")
 
     def test_status(self) -> None:
         for arguments, status in (("a.gif",), 0), (("a.gif", "b/d.gif"), 0), (("a.gif", "c.jpg"), 1), (("none",), 1), ((), 2):

@@ -46,8 +46,9 @@ is_general brand = list_any (λ general. bytes_eq brand general) general_brands
 -- version.
 abbrev pub compatible_compression : Option (List ℕ) → Compression
 compatible_compression None = Unknown
-compatible_compression (Some more) = if is_general (four_at 4 more) then brand_compression (four_at 8 more) else brand_compression
-    (four_at 4 more)
+compatible_compression (Some more) =
+    if is_general (four_at 4 more) then brand_compression (four_at 8 more)
+    else brand_compression (four_at 4 more)
 
 -- The major brand decides. If it is general, the compatible brands after these twelve bytes do.
 unfoldable pub heif_compression : ℕ → List ℕ → Layout Compression

@@ -6,8 +6,13 @@ use Rattle.imagesize_source.proofs.Way.{FixedLaws}
 
 pub sides_laws : {first outside : ℕ} {order : Endian} {k at_width at_height : ℕ} → k + k ≤ outside - first
     → FixedLaws first outside (sides order k at_width at_height)
-sides_laws few = record { few = (omega (arith, few), λ width. (omega (arith, few), λ height. tt)); plain = λ width height. tt }
+sides_laws few = record {
+  few = (omega (arith, few), λ width. (omega (arith, few), λ height. tt));
+  plain =
+      λ width height. tt;
+}
 
 pub height_first_laws : {first outside : ℕ} {order : Endian} {k at_height at_width : ℕ} → k + k ≤ outside - first
     → FixedLaws first outside (height_first order k at_height at_width)
-height_first_laws few = record { few = (omega (arith, few), λ height. (omega (arith, few), λ width. tt)); plain = λ height width. tt }
+height_first_laws few =
+    record { few = (omega (arith, few), λ height. (omega (arith, few), λ width. tt)); plain = λ height width. tt }

@@ -11,7 +11,7 @@ use Rattle.imagesize_source.specs.Reading.{part_read, text_read, map_answer}
 use Rattle.imagesize_io.specs.StopOf.{Failures, failures_of}
 use Rattle.imagesize_io.specs.Telling.{Account, Fails, Telling, at_place}
 use Rattle.imagesize_io.specs.Standing.{Standing, KeepsCounts, behind, behind_of, steady, stand_of, stand, drift}
-use Rattle.imagesize_source.specs.State.{State, Frame, Held, Runs}
+use Rattle.imagesize_source.specs.State.{State, Frame, Held, Runs, Reader}
 
 -- no claim about the reader
 abbrev pub no_claim : Held
@@ -34,10 +34,7 @@ reader_frame a home p = record {
   told = p.told;
   budget = p.budget;
   counts = true;
-  home = home;
-  since = drift a.count p.taken;
-  behind = behind a.telling p;
-  parts = None;
+  backing = Reader home (drift a.count p.taken) (behind a.telling p);
 }
 
 -- a reader as a source
@@ -76,10 +73,7 @@ start_state telling count home told = state_at
       told = told;
       budget = min (told + allowance) (2 ^ 64 - 1);
       counts = true;
-      home = home;
-      since = drift count 0;
-      behind = behind_of told 0 None telling;
-      parts = None;
+      backing = Reader home (drift count 0) (behind_of told 0 None telling);
     })
     (stand_of told told None (steady telling 0)) (failures_of None None) [] 0
 

@@ -8,7 +8,8 @@ use Rattle.imagesize_source.specs.Halts.{error_by, error_of, with_error}
 use Rattle.imagesize_source.specs.Outcome.{stated}
 use Rattle.imagesize_source.specs.Reading.{is_failure, is_spent, is_stop, is_stopped}
 
-pub refused_same : (failure : ImageError) (budget : ℕ) (h : Halt) → is_stop h ≡ false → error_by failure budget h ≡ error_of h
+pub refused_same : (failure : ImageError) (budget : ℕ) (h : Halt) → is_stop h ≡ false
+    → error_by failure budget h ≡ error_of h
 refused_same failure budget halt.Failed is = absurd cc
 refused_same failure budget halt.Spent is = absurd cc
 refused_same failure budget _ is = refl

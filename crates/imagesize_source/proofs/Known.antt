@@ -1,8 +1,9 @@
 -- Which bytes parts know.
-use Rattle.std.proofs.Common.{◌≡◌, ℕ, zero, suc, ◌+◌, ◌-◌, ◌<◌, ◌≤◌, Bool, true, false, ◌||◌, cond, leb, List, [], ◌∷◌, ◌++◌, length, drop, get_or, slice_index, None, Some, is_some, refl, sym, ap, ◌∙◌, subst, arith}
+use Rattle.std.proofs.lemmas.Bool.{cases_lt}
+use Rattle.std.proofs.Common.{◌≡◌, ℕ, zero, suc, ◌+◌, ◌-◌, ◌<◌, ◌≤◌, Bool, true, false, ◌||◌, cond, leb, List, [], ◌∷◌, ◌++◌, length, drop, get_or, slice_index, None, Some, is_some, refl, sym, ap, ◌∙◌, subst, arith, min, take, ◌⊎◌, inl, inr}
 use Rattle.std.specs.Prelude.{unwrap_or}
 use Rattle.std.proofs.lemmas.Bool.Decides.{nat_tests}
-use Rattle.std.proofs.lemmas.List.{length-append}
+use Rattle.std.proofs.lemmas.List.{length-append, take_all, length-drop, drop_all}
 use Rattle.std.proofs.lemmas.List.FromFn.{length-map-range_with_len, get_or-map-range_with_len}
 use Rattle.std.proofs.Math.Seq.{drop-append_seam}
 use Rattle.imagesize_source.specs.declared.span.Span.{Span}
@@ -13,7 +14,8 @@ use Rattle.imagesize_source.proofs.Parts.{part_length, part_at}
 
 pub length-filled_input : (n : ℕ) (spans : List Span) (bytes : List ℕ) → length (filled_input n spans bytes) ≡ n
 unfolding filled_input
-length-filled_input n spans bytes = length-map-range_with_len (λ place. unwrap_or (byte_in_parts n spans bytes place) 0) 0 n
+length-filled_input n spans bytes =
+    length-map-range_with_len (λ place. unwrap_or (byte_in_parts n spans bytes place) 0) 0 n
 
 pub filled_at : (n : ℕ) (spans : List Span) (bytes : List ℕ) (place : ℕ) → place < n
     → slice_index (filled_input n spans bytes) place ≡ unwrap_or (byte_in_parts n spans bytes place) 0
@@ -25,13 +27,17 @@ filled_at n spans bytes place below =
 reaches_below : (n : ℕ) (s : Span) (place : ℕ) → reaches n s place ≡ true → place < n
 reaches_below n s place is = grind (arith, nat_tests)
 
-pub known_below : (n : ℕ) (spans : List Span) (bytes : List ℕ) (place : ℕ) → is_some (byte_in_parts n spans bytes place) ≡ true → place < n
+pub known_below : (n : ℕ) (spans : List Span) (bytes : List ℕ) (place : ℕ)
+    → is_some (byte_in_parts n spans bytes place) ≡ true → place < n
 known_below n [] bytes place is = absurd cc
-known_below n (s ∷ spans) bytes place is = by_test (reaches n s place) refl (known_below n spans (drop (length_within n s) bytes) place) is where
-  by_test : (test : Bool) → reaches n s place ≡ test → (is_some (byte_in_parts n spans (drop (length_within n s) bytes) place) ≡ true → place < n)
-      → is_some (cond test (byte_of bytes (place - s.start)) (byte_in_parts n spans (drop (length_within n s) bytes) place)) ≡ true → place < n
-  by_test true has later is = reaches_below n s place has
-  by_test false has later is = later is
+known_below n (s ∷ spans) bytes place is =
+    by_test (reaches n s place) refl (known_below n spans (drop (length_within n s) bytes) place) is where
+      by_test : (test : Bool) → reaches n s place ≡ test
+          → (is_some (byte_in_parts n spans (drop (length_within n s) bytes) place) ≡ true → place < n)
+          → is_some (cond test (byte_of bytes (place - s.start))
+          (byte_in_parts n spans (drop (length_within n s) bytes) place)) ≡ true → place < n
+      by_test true has later is = reaches_below n s place has
+      by_test false has later is = later is
 
 -- the first bytes are those of the first part
 front_byte : (xs ys : List ℕ) (i : ℕ) → i < length xs → get_or (xs ++ ys) i 0 ≡ get_or xs i 0
@@ -39,7 +45,8 @@ front_byte [] ys i below = absurd (omega (arith, below))
 front_byte (x ∷ xs) ys zero below = refl
 front_byte (x ∷ xs) ys (suc i) below = front_byte xs ys i (omega (arith, below))
 
-offset : (n : ℕ) (s : Span) (place : ℕ) → reaches n s place ≡ true → (s.start + (place - s.start) ≡ place) × (place - s.start < length_within n s)
+offset : (n : ℕ) (s : Span) (place : ℕ) → reaches n s place ≡ true
+    → (s.start + (place - s.start) ≡ place) × (place - s.start < length_within n s)
 offset n s place is = (grind (arith, nat_tests), grind (arith, nat_tests))
 
 byte_some : (bytes : List ℕ) (i b : ℕ) → byte_of bytes i ≡ Some b → get_or bytes i 0 ≡ b
@@ -52,30 +59,36 @@ byte_some bytes i b is = by_test (leb (suc i) (length bytes)) is where
 pub has_known : (d : List ℕ) (spans : List Span) (bytes : List ℕ) (place b : ℕ) → bytes_of d spans ≡ bytes
     → byte_in_parts (length d) spans bytes place ≡ Some b → slice_index d place ≡ b
 has_known d [] bytes place b parts is = absurd cc
-has_known d (s ∷ spans) bytes place b parts is = by_test (reaches (length d) s place) refl (has_known d spans (drop (length_within (length d) s) bytes) place b) is where
-  first : List ℕ
-  first = part d s.start s.len
+has_known d (s ∷ spans) bytes place b parts is =
+    by_test (reaches (length d) s place) refl
+    (has_known d spans (drop (length_within (length d) s) bytes) place b) is where
+      first : List ℕ
+      first = part d s.start s.len
 
-  by_test : (test : Bool) → reaches (length d) s place ≡ test
-      → (bytes_of d spans ≡ drop (length_within (length d) s) bytes → byte_in_parts (length d) spans (drop (length_within (length d) s) bytes) place ≡ Some b
-      → slice_index d place ≡ b)
-      → cond test (byte_of bytes (place - s.start)) (byte_in_parts (length d) spans (drop (length_within (length d) s) bytes) place) ≡ Some b
-      → slice_index d place ≡ b
-  by_test true has later is =
-      let at = offset (length d) s place has in
-      let below : place - s.start < length first = omega (arith, at.1, part_length d s.start s.len) in
-      let small : place - s.start < s.len = omega (arith, at.1) in
-      sym (part_at d s.start s.len (place - s.start) small ∙ ap (slice_index d) at.0)
-      ∙ sym (front_byte first (bytes_of d spans) (place - s.start) below)
-      ∙ ap (λ bs. get_or bs (place - s.start) 0) parts ∙ byte_some bytes (place - s.start) b is
-  by_test false has later is =
-      let rest : bytes_of d spans ≡ drop (length_within (length d) s) bytes =
-      sym (drop-append_seam first (bytes_of d spans)) ∙ ap (λ k. drop k (first ++ bytes_of d spans)) (part_length d s.start s.len)
-      ∙ ap (drop (length_within (length d) s)) parts in
-      later rest is
+      by_test : (test : Bool) → reaches (length d) s place ≡ test
+          → (bytes_of d spans ≡ drop (length_within (length d) s) bytes
+          → byte_in_parts (length d) spans (drop (length_within (length d) s) bytes) place ≡ Some b
+          → slice_index d place ≡ b)
+          → cond test (byte_of bytes (place - s.start))
+          (byte_in_parts (length d) spans (drop (length_within (length d) s) bytes) place) ≡ Some b
+          → slice_index d place ≡ b
+      by_test true has later is =
+          let at = offset (length d) s place has in
+          let below : place - s.start < length first = omega (arith, at.1, part_length d s.start s.len) in
+          let small : place - s.start < s.len = omega (arith, at.1) in
+          sym (part_at d s.start s.len (place - s.start) small ∙ ap (slice_index d) at.0)
+          ∙ sym (front_byte first (bytes_of d spans) (place - s.start) below)
+          ∙ ap (λ bs. get_or bs (place - s.start) 0) parts ∙ byte_some bytes (place - s.start) b is
+      by_test false has later is =
+          let rest : bytes_of d spans ≡ drop (length_within (length d) s) bytes =
+          sym (drop-append_seam first (bytes_of d spans))
+          ∙ ap (λ k. drop k (first ++ bytes_of d spans)) (part_length d s.start s.len)
+          ∙ ap (drop (length_within (length d) s)) parts in
+          later rest is
 
 -- and each place of its parts is known
-pub covered_known : (d : List ℕ) (spans : List Span) (bytes : List ℕ) (place : ℕ) → bytes_of d spans ≡ bytes → place < length d
+pub covered_known : (d : List ℕ) (spans : List Span) (bytes : List ℕ) (place : ℕ) → bytes_of d spans ≡ bytes
+    → place < length d
     → is_covered spans place ≡ true → is_some (byte_in_parts (length d) spans bytes place) ≡ true
 covered_known d [] bytes place parts below is = absurd cc
 covered_known d (s ∷ spans) bytes place parts below is = by_test (reaches (length d) s place) refl
@@ -86,36 +99,43 @@ covered_known d (s ∷ spans) bytes place parts below is = by_test (reaches (len
       not_first : reaches (length d) s place ≡ false → has_place s place ≡ false
       not_first misses = grind (arith, nat_tests)
 
-      later : (test : Bool) → has_place s place ≡ test → test ≡ false → test || is_covered spans place ≡ true → is_covered spans place ≡ true
+      later : (test : Bool) → has_place s place ≡ test → test ≡ false → test || is_covered spans place ≡ true
+          → is_covered spans place ≡ true
       later true has misses is = absurd cc
       later false has misses is = is
 
       by_test : (test : Bool) → reaches (length d) s place ≡ test
           → (bytes_of d spans ≡ drop (length_within (length d) s) bytes → is_covered spans place ≡ true
           → is_some (byte_in_parts (length d) spans (drop (length_within (length d) s) bytes) place) ≡ true)
-          → is_some (cond test (byte_of bytes (place - s.start)) (byte_in_parts (length d) spans (drop (length_within (length d) s) bytes) place)) ≡ true
+          → is_some (cond test (byte_of bytes (place - s.start))
+          (byte_in_parts (length d) spans (drop (length_within (length d) s) bytes) place)) ≡ true
       by_test true has on =
           let at = offset (length d) s place has in
-          let long : length bytes ≡ length first + length (bytes_of d spans) = ap length (sym parts) ∙ length-append first (bytes_of d spans) in
+          let long : length bytes ≡ length first + length (bytes_of d spans) = ap length (sym parts)
+          ∙ length-append first (bytes_of d spans) in
           let there : leb (suc (place - s.start)) (length bytes) ≡ true =
-          (let below : place - s.start < length bytes = omega (arith, at.1, long, part_length d s.start s.len) in grind (arith, nat_tests)) in
+          (let below : place - s.start < length bytes = omega (arith, at.1, long, part_length d s.start s.len) in
+          grind (arith, nat_tests)) in
           ap (λ (test : Bool). is_some (cond test (Some (get_or bytes (place - s.start) 0)) None)) there
       by_test false has on =
           let rest : bytes_of d spans ≡ drop (length_within (length d) s) bytes =
-          sym (drop-append_seam first (bytes_of d spans)) ∙ ap (λ k. drop k (first ++ bytes_of d spans)) (part_length d s.start s.len)
+          sym (drop-append_seam first (bytes_of d spans))
+          ∙ ap (λ k. drop k (first ++ bytes_of d spans)) (part_length d s.start s.len)
           ∙ ap (drop (length_within (length d) s)) parts in
           on rest
           (later (has_place s place) refl (not_first has) is)
 
 -- no part has a place that is not known
-pub unknown_free : (d : List ℕ) (n : ℕ) (spans : List Span) (bytes : List ℕ) (place : ℕ) → HasParts d n spans bytes → place < n
+pub unknown_free : (d : List ℕ) (n : ℕ) (spans : List Span) (bytes : List ℕ) (place : ℕ) → HasParts d n spans bytes
+    → place < n
     → is_some (byte_in_parts n spans bytes place) ≡ false → is_covered spans place ≡ false
 unknown_free d n spans bytes place has below none = by_test (is_covered spans place) refl where
   by_test : (test : Bool) → is_covered spans place ≡ test → test ≡ false
   by_test false is = refl
   by_test true is =
       let some = covered_known d spans bytes place has.bytes (omega (arith, below, has.as_long)) is in
-      let no : is_some (byte_in_parts n spans bytes place) ≡ true = ap (λ m. is_some (byte_in_parts m spans bytes place)) (sym has.as_long) ∙ some in
+      let no : is_some (byte_in_parts n spans bytes place) ≡ true =
+      ap (λ m. is_some (byte_in_parts m spans bytes place)) (sym has.as_long) ∙ some in
       absurd (let both : false ≡ true = sym none ∙ no in cc)
 
 pub span_known : (n : ℕ) (spans : List Span) (bytes : List ℕ) (start count : ℕ) (s : Span)
@@ -125,22 +145,38 @@ span_known n spans bytes start count s so at long place has =
     let above : s.start ≤ place = grind (arith, nat_tests) in
     let below : place < s.start + s.len = grind (arith, nat_tests) in
     let same : start + (place - start) ≡ place = omega (arith, above, at) in
-    subst (λ p. is_some (byte_in_parts n spans bytes p) ≡ true) same (so (place - start) (omega (arith, above, below, at, long)))
+    subst (λ p. is_some (byte_in_parts n spans bytes p) ≡ true) same
+    (so (place - start) (omega (arith, above, below, at, long)))
 
-pub pushed_known : (n : ℕ) (spans : List Span) (bytes : List ℕ) (log more : List Span) (s : Span) → AllKnown n spans bytes log
-    → ((place : ℕ) → has_place s place ≡ true → is_some (byte_in_parts n spans bytes place) ≡ true) → more ≡ log ++ s ∷ [] → AllKnown n spans bytes more
-pushed_known n spans bytes log more s all also is place here = by_part (is_covered log place) refl (has_place s place) refl where
-  split : (xs : List Span) → is_covered (xs ++ s ∷ []) place ≡ is_covered xs place || (has_place s place || false)
-  split [] = refl
-  split (x ∷ xs) =
-      let Goal : Bool → Type 0 = λ b. b || is_covered (xs ++ s ∷ []) place ≡ (b || is_covered xs place) || (has_place s place || false) in
-      elim (has_place x place) as Goal [ true ↦ refl | false ↦ split xs ]
+pub pushed_known : (n : ℕ) (spans : List Span) (bytes : List ℕ) (log more : List Span) (s : Span)
+    → AllKnown n spans bytes log
+    → ((place : ℕ) → has_place s place ≡ true → is_some (byte_in_parts n spans bytes place) ≡ true)
+    → more ≡ log ++ s ∷ [] → AllKnown n spans bytes more
+pushed_known n spans bytes log more s all also is place here =
+    by_part (is_covered log place) refl (has_place s place) refl where
+      split : (xs : List Span) → is_covered (xs ++ s ∷ []) place ≡ is_covered xs place || (has_place s place || false)
+      split [] = refl
+      split (x ∷ xs) =
+          let Goal : Bool → Type 0 = λ b. b || is_covered (xs ++ s ∷ []) place
+          ≡ (b || is_covered xs place) || (has_place s place || false) in
+          elim (has_place x place) as Goal [ true ↦ refl | false ↦ split xs ]
 
-  by_part : (first : Bool) → is_covered log place ≡ first → (last : Bool) → has_place s place ≡ last
-      → is_some (byte_in_parts n spans bytes place) ≡ true
-  by_part true is_first last is_last = all place is_first
-  by_part false is_first true is_last = also place is_last
-  by_part false is_first false is_last =
-      absurd (let none : is_covered more place ≡ false = ap (λ l. is_covered l place) is ∙ split log
-      ∙ ap (λ b. b || (has_place s place || false)) is_first ∙ ap (λ b. b || false) is_last in
-      let no : true ≡ false = sym here ∙ none in cc)
+      by_part : (first : Bool) → is_covered log place ≡ first → (last : Bool) → has_place s place ≡ last
+          → is_some (byte_in_parts n spans bytes place) ≡ true
+      by_part true is_first last is_last = all place is_first
+      by_part false is_first true is_last = also place is_last
+      by_part false is_first false is_last =
+          absurd (let none : is_covered more place ≡ false = ap (λ l. is_covered l place) is ∙ split log
+          ∙ ap (λ b. b || (has_place s place || false)) is_first ∙ ap (λ b. b || false) is_last in
+          let no : true ≡ false = sym here ∙ none in cc)
+
+-- what stands behind so many bytes, by the slice that the code takes
+pub slice_behind : (bs : List ℕ) (k : ℕ)
+    → take (length bs - min k (length bs)) (drop (min k (length bs)) bs) ≡ drop k bs
+slice_behind bs k = take_all (length bs - min k (length bs)) (drop (min k (length bs)) bs)
+    (omega (arith, length-drop (min k (length bs)) bs))
+    ∙ by_far (cases_lt k (length bs))
+  where
+    by_far : (k < length bs) ⊎ (length bs ≤ k) → drop (min k (length bs)) bs ≡ drop k bs
+    by_far (inl less) = let all : min k (length bs) ≡ k = omega (arith, less) in ap (λ j. drop j bs) all
+    by_far (inr far) = drop_all (min k (length bs)) bs (omega (arith, far)) ∙ sym (drop_all k bs far)

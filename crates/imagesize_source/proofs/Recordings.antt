@@ -67,13 +67,17 @@ pub written_on : (buffer spans log : List Span) (s : Span) → log ≡ spans ++ 
 written_on buffer spans log s pushed held = subst (Holds buffer) (sym pushed) held
 
 -- it is counted
-pub counted_on : (spans log : List Span) (s : Span) (count after : ℕ) → log ≡ spans ++ s ∷ [] → count ≡ min (length spans) (2 ^ 64 - 1)
+pub counted_on : (spans log : List Span) (s : Span) (count after : ℕ) → log ≡ spans ++ s ∷ []
+    → count ≡ min (length spans) (2 ^ 64 - 1)
     → after ≡ min (count + 1) (2 ^ 64 - 1) → after ≡ min (length log) (2 ^ 64 - 1)
-counted_on spans log s count after pushed is more = omega (arith, is, more, ap length pushed, length-append spans (s ∷ []))
+counted_on spans log s count after pushed is more =
+    omega (arith, is, more, ap length pushed, length-append spans (s ∷ []))
 
 -- it has a byte
-pub seen_on : (spans log : List Span) (s : Span) → log ≡ spans ++ s ∷ [] → 0 < s.len → length spans ≤ total spans → length log ≤ total log
+pub seen_on : (spans log : List Span) (s : Span) → log ≡ spans ++ s ∷ [] → 0 < s.len → length spans ≤ total spans
+    → length log ≤ total log
 seen_on spans log s pushed some seen =
-    let all : total log ≡ total spans + s.len = ap total pushed ∙ total-append spans (s ∷ []) ∙ ap (λ n. total spans + n)
+    let all : total log ≡ total spans + s.len = ap total pushed ∙ total-append spans (s ∷ [])
+    ∙ ap (λ n. total spans + n)
     (add-zero s.len) in
     omega (arith, ap length pushed, length-append spans (s ∷ []), all, some, seen)

@@ -31,14 +31,18 @@ shares-right s t a = record { no_longer = a.no_longer; there = λ place h. a.the
 span_there : (d e : List ℕ) (place n : ℕ) → Shares d e (span_at place n) → 0 < n → place + n ≤ length d
 span_there d e place n a some =
     let same : place + (n - 1) + 1 ≡ place + n = omega (arith, some) in
-    let last = (a.there (place + (n - 1)) (covered-one place n (n - 1) (omega (arith, some)))).0 in omega (arith, last, same)
+    let last = (a.there (place + (n - 1)) (covered-one place n (n - 1) (omega (arith, some)))).0 in
+    omega (arith, last, same)
 
 -- as many bytes of a reading are there
-shared_count : (d e : List ℕ) (place k : ℕ) → Shares d e (span_of e place k) → min k (length d - place) ≡ min k (length e - place)
+shared_count : (d e : List ℕ) (place k : ℕ) → Shares d e (span_of e place k)
+    → min k (length d - place) ≡ min k (length e - place)
 unfolding span_of
 shared_count d e place k a = by_some (cases_lt 0 (min k (length e - place))) where
-  by_some : (0 < min k (length e - place)) ⊎ (min k (length e - place) ≤ 0) → min k (length d - place) ≡ min k (length e - place)
-  by_some (inl some) = let all = span_there d e place (min k (length e - place)) a some in let few = a.no_longer in omega (arith, all, few, some)
+  by_some : (0 < min k (length e - place)) ⊎ (min k (length e - place) ≤ 0)
+      → min k (length d - place) ≡ min k (length e - place)
+  by_some (inl some) = let all = span_there d e place (min k (length e - place)) a some in let few = a.no_longer in
+      omega (arith, all, few, some)
   by_some (inr none) = let few = a.no_longer in omega (arith, few, none)
 
 shared_span : (d e : List ℕ) (place k : ℕ) → Shares d e (span_of e place k) → span_of d place k ≡ span_of e place k
@@ -46,7 +50,8 @@ unfolding span_of
 shared_span d e place k a = ap (span_at place) (shared_count d e place k a)
 
 -- the first bytes of a part
-shared_first : (d e : List ℕ) (place n k : ℕ) → n ≤ length (part e place k) → n ≤ length (part d place k) → Shares d e (span_at place n)
+shared_first : (d e : List ℕ) (place n k : ℕ) → n ≤ length (part e place k) → n ≤ length (part d place k)
+    → Shares d e (span_at place n)
     → take n (part d place k) ≡ take n (part e place k)
 shared_first d e place n k few also a =
     ext_get_or 0 (take n (part d place k)) (take n (part e place k))
@@ -74,7 +79,8 @@ shared_bytes d e place k a =
     let test : leb k (length d - place) ≡ leb k (length e - place) = grind (arith, nat_tests) in
     rw (test, shared_part d e place k a) refl
 
-shared_number : (d e : List ℕ) (order : Endian) (place k : ℕ) → Shares d e (span_of e place k) → number_at d order place k ≡ number_at e order place k
+shared_number : (d e : List ℕ) (order : Endian) (place k : ℕ) → Shares d e (span_of e place k)
+    → number_at d order place k ≡ number_at e order place k
 unfolding number_at
 shared_number d e order place k a = ap (map_answer (number order)) (shared_bytes d e place k a)
 
@@ -101,8 +107,10 @@ shared_text d e t place k a = by_some (cases_lt 0 n) where
     by_end : (is : Bool) → is_ended t xs ≡ is → text_front t ys ≡ text_front t xs
     by_end true is =
         let ended : is_ended t (text_front t xs) ≡ true = front_any t xs ∙ is in
-        let here : text_front t (text_front t xs ++ drop n ys) ≡ text_front t (text_front t xs) = front_more t (text_front t xs) (drop n ys) ended in
-        let also : text_front t (text_front t xs ++ drop n xs) ≡ text_front t (text_front t xs) = front_more t (text_front t xs) (drop n xs) ended in
+        let here : text_front t (text_front t xs ++ drop n ys) ≡ text_front t (text_front t xs) =
+        front_more t (text_front t xs) (drop n ys) ended in
+        let also : text_front t (text_front t xs ++ drop n xs) ≡ text_front t (text_front t xs) =
+        front_more t (text_front t xs) (drop n xs) ended in
         ap (text_front t) (sym (take-append-drop n ys) ∙ ap (λ zs. zs ++ drop n ys) same) ∙ here
         ∙ sym also ∙ ap (text_front t) (ap (λ zs. zs ++ drop n xs) (sym (front_take t xs)) ∙ take-append-drop n xs)
     by_end false is =
@@ -119,10 +127,12 @@ shared_text d e t place k a = by_some (cases_lt 0 n) where
       let zero_is : n ≡ 0 = omega (arith, none) in
       by_front (omega (arith, none)) (ap (λ m. take m ys) zero_is ∙ sym (ap (λ m. take m xs) zero_is) ∙ front_take t xs)
 
-shared_reading : (d e : List ℕ) (r : Reading) (place : ℕ) → Shares d e (read_of e r place).marks → read_of d r place ≡ read_of e r place
+shared_reading : (d e : List ℕ) (r : Reading) (place : ℕ) → Shares d e (read_of e r place).marks
+    → read_of d r place ≡ read_of e r place
 shared_reading d e (AllOf k) place a = rw (shared_span d e place k a, shared_bytes d e place k a) refl
 shared_reading d e (PartOf k) place a = rw (shared_span d e place k a, shared_part d e place k a) refl
-shared_reading d e (TextOf t k) place a = ap (λ bs. record { answer = Ok bs; marks = span_at place (length bs) }) (shared_text d e t place k a)
+shared_reading d e (TextOf t k) place a =
+    ap (λ bs. record { answer = Ok bs; marks = span_at place (length bs) }) (shared_text d e t place k a)
 
 -- what goes on from an answer rests on its spans
 shares_first : {d e : List ℕ} {X Y : Type 0} (spans : List Span) (r : Result X Halt) (f : X → Reads Y)
@@ -131,29 +141,35 @@ shares_first spans (Ok x) f a = shares-left spans (f x).marks a
 shares_first spans (Err e) f a = a
 
 onward_shared : {d e : List ℕ} {X Y : Type 0} (spans : List Span) (r : Result X Halt) (f g : X → Reads Y)
-    → Shares d e (go_on spans r f).marks → ((x : X) → Shares d e (f x).marks → g x ≡ f x) → go_on spans r g ≡ go_on spans r f
+    → Shares d e (go_on spans r f).marks → ((x : X) → Shares d e (f x).marks → g x ≡ f x)
+    → go_on spans r g ≡ go_on spans r f
 onward_shared spans (Ok x) f g a same = ap (put_behind spans) (same x (shares-right spans (f x).marks a))
 onward_shared spans (Err e) f g a same = refl
 
 -- An input that shares the marks of a layout has the same answer and the same marks.
-pub shared : {X : Type 0} (d e : List ℕ) (t : Layout X) → Shares d e (layout_reads e t).marks → layout_reads d t ≡ layout_reads e t
+pub shared : {X : Type 0} (d e : List ℕ) (t : Layout X) → Shares d e (layout_reads e t).marks
+    → layout_reads d t ≡ layout_reads e t
 shared d e (done x) a = refl
 shared d e (refuse x) a = refl
 shared d e (field order place k f) a =
-    let here : Shares d e (span_of e place k) = shares_first (span_of e place k) (number_at e order place k) (λ v. layout_reads e (f v)) a in
+    let here : Shares d e (span_of e place k) =
+    shares_first (span_of e place k) (number_at e order place k) (λ v. layout_reads e (f v)) a in
     rw (shared_span d e place k here, shared_number d e order place k here)
-    (onward_shared (span_of e place k) (number_at e order place k) (λ v. layout_reads e (f v)) (λ v. layout_reads d (f v)) a (λ v. shared d e (f v)))
+    (onward_shared (span_of e place k) (number_at e order place k) (λ v. layout_reads e (f v))
+    (λ v. layout_reads d (f v)) a (λ v. shared d e (f v)))
 shared d e (reading r place f) a =
     let here : Shares d e (read_of e r place).marks = shares_first (read_of e r place).marks (read_of e r place).answer
     (λ bs. layout_reads e (f bs)) a in
     rw (shared_reading d e r place here)
-    (onward_shared (read_of e r place).marks (read_of e r place).answer (λ bs. layout_reads e (f bs)) (λ bs. layout_reads d (f bs)) a
+    (onward_shared (read_of e r place).marks (read_of e r place).answer (λ bs. layout_reads e (f bs))
+    (λ bs. layout_reads d (f bs)) a
     (λ bs. shared d e (f bs)))
 
 -- and so it is of a chain from some records on
 module _ {C X : Type 0} (c : Chain C X) (d e : List ℕ) (adv_d : Advances c d) (adv : Advances c e) where
   pub chain_shared : (t : Along C) → Shares d e (chain_from c e t).marks → chain_from c d t ≡ chain_from c e t
-  chain_shared = chain_induction c e (λ t. Shares d e (chain_from c e t).marks → chain_from c d t ≡ chain_from c e t) adv
+  chain_shared = chain_induction c e
+      (λ t. Shares d e (chain_from c e t).marks → chain_from c d t ≡ chain_from c e t) adv
       (λ t v place is later a.
       let u : Along C = record { held = t.held ++ v ∷ []; place = place } in
       let all : Shares d e ((next_record c e t).marks ++ (chain_from c e u).marks) = subst (λ w. Shares d e w.marks)
@@ -162,7 +178,8 @@ module _ {C X : Type 0} (c : Chain C X) (d e : List ℕ) (adv_d : Advances c d) 
       (shares-left (next_record c e t).marks (chain_from c e u).marks all) in
       let is_d : (next_record c d t).answer ≡ Ok (Next v place) = ap (λ w. w.answer) here ∙ is in
       chain_next c d t v place adv_d is_d ∙ ap (λ w. put_behind w.marks (chain_from c d u)) here
-      ∙ ap (put_behind (next_record c e t).marks) (later (shares-right (next_record c e t).marks (chain_from c e u).marks all))
+      ∙ ap (put_behind (next_record c e t).marks)
+      (later (shares-right (next_record c e t).marks (chain_from c e u).marks all))
       ∙ sym (chain_next c e t v place adv is))
       (λ t r is a.
       let all : Shares d e (next_record c e t).marks = subst (λ w. Shares d e w.marks) (chain_stop c e t r is) a in
@@ -171,13 +188,17 @@ module _ {C X : Type 0} (c : Chain C X) (d e : List ℕ) (adv_d : Advances c d) 
       chain_stop c d t r is_d ∙ ap (λ w. record { answer = r; marks = w.marks }) here ∙ sym (chain_stop c e t r is))
 
   -- an input that shares the marks of the readings up to a record comes to it, and goes on from there
-  pub leads_on : (t u : Along C) (made : List Span) (v : C) (place : ℕ) → (Shares d e made → chain_from c d t ≡ put_behind made (chain_from c d u))
+  pub leads_on : (t u : Along C) (made : List Span) (v : C) (place : ℕ)
+      → (Shares d e made → chain_from c d t ≡ put_behind made (chain_from c d u))
       → (next_record c e u).answer ≡ Ok (Next v place) → Shares d e (made ++ (next_record c e u).marks)
-      → chain_from c d t ≡ put_behind (made ++ (next_record c e u).marks) (chain_from c d (record { held = u.held ++ v ∷ []; place = place }))
+      → chain_from c d t ≡ put_behind (made ++ (next_record c e u).marks)
+      (chain_from c d (record { held = u.held ++ v ∷ []; place = place }))
   leads_on t u made v place so_far is a =
-      let here : next_record c d u ≡ next_record c e u = shared d e (c.said u.held u.place) (shares-right made (next_record c e u).marks a) in
+      let here : next_record c d u ≡ next_record c e u =
+      shared d e (c.said u.held u.place) (shares-right made (next_record c e u).marks a) in
       let is_d : (next_record c d u).answer ≡ Ok (Next v place) = ap (λ w. w.answer) here ∙ is in
       so_far (shares-left made (next_record c e u).marks a)
       ∙ ap (put_behind made) (chain_next c d u v place adv_d is_d
       ∙ ap (λ w. put_behind w.marks (chain_from c d (record { held = u.held ++ v ∷ []; place = place }))) here)
-      ∙ behind-behind made (next_record c e u).marks (chain_from c d (record { held = u.held ++ v ∷ []; place = place }))
+      ∙ behind-behind made (next_record c e u).marks
+      (chain_from c d (record { held = u.held ++ v ∷ []; place = place }))

@@ -13,10 +13,12 @@ use Rattle.imagesize_source.proofs.Runs.{past-held, past-none, past-past, plain_
 use Rattle.imagesize_source.proofs.Sharing.{leads_on}
 
 -- Since a, a walk has come from the record t on to a place; it is in the state b, behind records that hold such a list.
-pub record Strides {C X : Type 0} (c : Chain C X) (P : List C → Type 0) (a b : State) (t : Along C) (place : ℕ) : Type 0 where
+pub record Strides {C X : Type 0} (c : Chain C X) (P : List C → Type 0) (a b : State) (t : Along C)
+    (place : ℕ) : Type 0 where
   pub held : List C
   pub known : P held
-  pub reached : Reached a b (chain_from c a.held.input t) (chain_from c a.held.input (record { held = held; place = place }))
+  pub reached : Reached a b (chain_from c a.held.input t)
+      (chain_from c a.held.input (record { held = held; place = place }))
   pub made : List Span
   pub ahead : a.held.honest ≡ true → t.place ≤ place
   pub state : a.held.honest ≡ true → b ≡ state_after a made
@@ -35,7 +37,8 @@ module _ {C X : Type 0} (c : Chain C X) where
     leads = λ honest d shares. refl;
   }
 
-module _ {C X : Type 0} (c : Chain C X) (adv : (d : List ℕ) → Advances c d) (P : List C → Type 0) {a b : State} {t : Along C} {place : ℕ}
+module _ {C X : Type 0} (c : Chain C X) (adv : (d : List ℕ) → Advances c d)
+    (P : List C → Type 0) {a b : State} {t : Along C} {place : ℕ}
     (w : Strides c P a b t place) where
   abbrev here : Along C
   here = record { held = w.held; place = place }
@@ -52,7 +55,8 @@ module _ {C X : Type 0} (c : Chain C X) (adv : (d : List ℕ) → Advances c d) 
     reached = walk_on c adv here w.reached v next (run w.held w.known);
     made = w.made ++ (next_record c b.held.input here).marks;
     ahead = λ honest.
-        let is : (next_record c a.held.input here).answer ≡ Ok (Next v next) = ap (λ r. r.answer) (sym (read_there honest)) ∙ (run w.held w.known).answer
+        let is : (next_record c a.held.input here).answer ≡ Ok (Next v next) =
+        ap (λ r. r.answer) (sym (read_there honest)) ∙ (run w.held w.known).answer
         (ap (λ x. x.honest) (still_held honest) ∙ honest) refl in
         let so_far = w.ahead honest in let on = (adv a.held.input here v next is).0 in omega arith;
     state = λ honest. (run w.held w.known).state (ap (λ x. x.honest) (still_held honest) ∙ honest) refl
@@ -60,11 +64,13 @@ module _ {C X : Type 0} (c : Chain C X) (adv : (d : List ℕ) → Advances c d) 
         ∙ past-past a w.made (next_record c b.held.input here).marks;
     leads = λ honest d shares.
         let same : next_record c b.held.input here ≡ next_record c a.held.input here = read_there honest in
-        let is : (next_record c a.held.input here).answer ≡ Ok (Next v next) = ap (λ r. r.answer) (sym same) ∙ (run w.held w.known).answer
+        let is : (next_record c a.held.input here).answer ≡ Ok (Next v next) = ap (λ r. r.answer) (sym same)
+        ∙ (run w.held w.known).answer
         (ap (λ x. x.honest) (still_held honest) ∙ honest) refl in
         leads_on c d a.held.input (adv d) (adv a.held.input) t here w.made v next (w.leads honest d) is
         (subst (λ r. Shares d a.held.input (w.made ++ r.marks)) same shares)
-        ∙ ap (λ r. put_behind (w.made ++ r.marks) (chain_from c d (record { held = w.held ++ v ∷ []; place = next }))) (sym same);
+        ∙ ap (λ r. put_behind (w.made ++ r.marks) (chain_from c d (record { held = w.held ++ v ∷ []; place = next })))
+        (sym same);
   } where
     still_held : a.held.honest ≡ true → b.held ≡ a.held
     still_held honest = ap (λ s. s.held) (w.state honest) ∙ past-held a w.made
@@ -82,8 +88,10 @@ module _ {C X : Type 0} (c : Chain C X) (adv : (d : List ℕ) → Advances c d) 
   -- at an offset beyond every input nothing more is read
   pub strides_past : (r : Result X Halt) → 2 ^ 63 ≤ place → IsSound b → is_stopped r ≡ false
       → ((held : List C) (d : List ℕ) → P held → length d ≤ place
-      → layout_reads d (c.said held place) ≡ record { answer = map_answer Decided r; marks = [] }) → Runs a b r (chain_from c a.held.input t)
-  strides_past r far sound goes_on none = reached_now w.reached r sound (without_fault r goes_on) (plain_end b r goes_on)
+      → layout_reads d (c.said held place) ≡ record { answer = map_answer Decided r; marks = [] })
+      → Runs a b r (chain_from c a.held.input t)
+  strides_past r far sound goes_on none =
+      reached_now w.reached r sound (without_fault r goes_on) (plain_end b r goes_on)
       (λ honest short.
       let out = none w.held a.held.input w.known (omega arith) in
       chain_stop c a.held.input here r (ap (λ q. verdict q.answer) out ∙ decided r)
@@ -106,5 +114,6 @@ module _ {C X : Type 0} (c : Chain C X) (adv : (d : List ℕ) → Advances c d) 
         let is = w.state honest in
         subst (λ s. Missed s end (next_record c a.held.input here).marks) is
         (subst (λ r. Missed b end r.marks) (read_there honest)
-        ((run w.held w.known).misses (ap (λ s. s.held.honest) is ∙ ap (λ x. x.honest) (past-held a w.made) ∙ honest) faults));
+        ((run w.held w.known).misses
+        (ap (λ s. s.held.honest) is ∙ ap (λ x. x.honest) (past-held a w.made) ∙ honest) faults));
   }

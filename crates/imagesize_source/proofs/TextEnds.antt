@@ -18,10 +18,12 @@ any_found p bs = any_below p bs ∙ some_test (leb (suc (position_or_len p bs)) 
   any_below p [] = refl
   any_below p (b ∷ bs) =
       let later = any_below p bs in
-      let Goal : Bool → Type 0 = λ is. is || list_any p bs ≡ leb (suc (cond (not is) (1 + position_or_len p bs) 0)) (suc (length bs)) in
+      let Goal : Bool → Type 0 =
+      λ is. is || list_any p bs ≡ leb (suc (cond (not is) (1 + position_or_len p bs) 0)) (suc (length bs)) in
       elim (p b) as Goal [ true ↦ grind (arith, nat_tests) | false ↦ later ∙ grind (arith, nat_tests) ]
 
-pub line_ended : (delimiter : ℕ) (bs : List ℕ) → is_some (position (λ b. eqb b delimiter) bs) ≡ is_ended (Line delimiter) bs
+pub line_ended : (delimiter : ℕ) (bs : List ℕ)
+    → is_some (position (λ b. eqb b delimiter) bs) ≡ is_ended (Line delimiter) bs
 unfolding is_ended
 line_ended delimiter bs = sym (any_found (λ b. eqb b delimiter) bs)
 
@@ -29,13 +31,16 @@ pub word_is_ended : (bs : List ℕ) (start : ℕ) → position (λ b. not (is_as
     → is_some (position is_ascii_whitespace (take (length bs - start) (drop start bs))) ≡ is_ended Word bs
 unfolding is_ended
 word_is_ended bs start begins =
-    let at : position_or_len (λ b. not (is_ascii_whitespace b)) bs ≡ start = (found (λ b. not (is_ascii_whitespace b)) bs start begins).0 in
-    ap (λ xs. is_some (position is_ascii_whitespace xs)) (take_all (length bs - start) (drop start bs) (omega (arith, length-drop start bs)))
+    let at : position_or_len (λ b. not (is_ascii_whitespace b)) bs ≡ start =
+    (found (λ b. not (is_ascii_whitespace b)) bs start begins).0 in
+    ap (λ xs. is_some (position is_ascii_whitespace xs))
+    (take_all (length bs - start) (drop start bs) (omega (arith, length-drop start bs)))
     ∙ sym (any_found is_ascii_whitespace (drop start bs))
     ∙ ap (λ k. list_any is_ascii_whitespace (drop k bs)) (sym at)
 
 pub blank_not_ended : (bs : List ℕ) → position (λ b. not (is_ascii_whitespace b)) bs ≡ None → is_ended Word bs ≡ false
 unfolding is_ended
 blank_not_ended bs none =
-    let far : length bs ≤ position_or_len (λ b. not (is_ascii_whitespace b)) bs = not_found (λ b. not (is_ascii_whitespace b)) bs none in
+    let far : length bs ≤ position_or_len (λ b. not (is_ascii_whitespace b)) bs =
+    not_found (λ b. not (is_ascii_whitespace b)) bs none in
     ap (list_any is_ascii_whitespace) (drop_all (position_or_len (λ b. not (is_ascii_whitespace b)) bs) bs far)

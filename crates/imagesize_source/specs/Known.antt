@@ -7,7 +7,7 @@ use Rattle.imagesize_source.specs.declared.span.Span.{Span}
 use Rattle.imagesize_source.specs.Agreement.{is_covered}
 use Rattle.imagesize_source.specs.Errors.{end_of_input}
 use Rattle.imagesize_source.specs.Input.{part}
-use Rattle.imagesize_source.specs.State.{State}
+use Rattle.imagesize_source.specs.State.{State, Parts}
 
 -- how many bytes of a span lie within an input of n bytes
 abbrev pub length_within : ℕ → Span → ℕ
@@ -56,7 +56,7 @@ sure_of m = record { start = m.start; len = m.sure }
 -- The known parts as a source. It counts no bytes, and a read of a missing byte fails.
 abbrev pub parts_state : ℕ → List Span → List ℕ → List Span → Option Missing → State
 parts_state n spans bytes seen missed = record {
-  frame = record { told = n; budget = 0; counts = false; home = 0; since = None; behind = None; parts = Some (spans, bytes) };
+  frame = record { told = n; budget = 0; counts = false; backing = Parts spans bytes };
   held = record { honest = nat_lt n (2 ^ 63); input = filled_input n spans bytes; can_fail = true };
   front = 0;
   taken = 0;

@@ -16,17 +16,42 @@ pub record Behind : Type 0 where
   pub can_fail : Bool
   pub interruptions : Option ℕ
 
--- What never changes about a source. `told` is the reported length, and `counts` says whether the bytes read are counted.
--- `home` names the borrow of the reader or the buffer. `since` says by how much the reader's own count is above `taken`,
--- and by how much it is below. `behind` is the model of its reader, and `parts` are the known parts of an input.
+-- What is behind a source, and never changes: a slice; a slice, and the name of the borrow of the buffer for its spans; the
+-- known parts of an input, and their bytes; or a reader. Of a reader it is the name of its borrow, by how much the reader's
+-- own count is above `taken` and by how much it is below, and the model of the reader.
+pub data Backing : Type 0 where
+  Slice : Backing
+  Recorded : ℕ → Backing
+  Parts : List Span → List ℕ → Backing
+  Reader : ℕ → Option (ℕ × ℕ) → Option Behind → Backing
+
+-- the parts of it, if these are known
+abbrev pub parts_of : Backing → Option (List Span × List ℕ)
+parts_of (Parts spans bytes) = Some (spans, bytes)
+parts_of _ = None
+
+-- the name of the borrow of its buffer
+abbrev pub home_of : Backing → ℕ
+home_of (Recorded home) = home
+home_of _ = 0
+
+-- what is known of the count of its reader
+abbrev pub since_of : Backing → Option (ℕ × ℕ)
+since_of (Reader home since behind) = since
+since_of _ = None
+
+-- the model of its reader
+abbrev pub model_of : Backing → Option Behind
+model_of (Reader home since behind) = behind
+model_of _ = None
+
+-- What never changes about a source: the reported length, the budget, whether the bytes read are counted, and what is
+-- behind it.
 pub record Frame : Type 0 where
   pub told : ℕ
   pub budget : ℕ
   pub counts : Bool
-  pub home : ℕ
-  pub since : Option (ℕ × ℕ)
-  pub behind : Option Behind
-  pub parts : Option (List Span × List ℕ)
+  pub backing : Backing
 
 -- The bytes that the source claims to read, as long as it is honest, and whether a call on it may fail.
 pub record Held : Type 0 where
@@ -120,7 +145,7 @@ Follows a b r layout = Runs a b r (layout_reads a.held.input layout)
 -- a slice as a source: it counts nothing, records nothing and cannot fail
 abbrev pub slice_state : List ℕ → State
 slice_state d = record {
-  frame = record { told = length d; budget = 0; counts = false; home = 0; since = None; behind = None; parts = None };
+  frame = record { told = length d; budget = 0; counts = false; backing = Slice };
   held = record { honest = true; input = d; can_fail = false };
   front = 0;
   taken = 0;
@@ -133,7 +158,7 @@ slice_state d = record {
 -- A slice whose spans are recorded after these. `home` names the borrow of the buffer.
 abbrev pub recording_state : List ℕ → List Span → ℕ → State
 recording_state d spans home = record {
-  frame = record { told = length d; budget = 0; counts = false; home = home; since = None; behind = None; parts = None };
+  frame = record { told = length d; budget = 0; counts = false; backing = Recorded home };
   held = record { honest = true; input = d; can_fail = false };
   front = 0;
   taken = 0;

@@ -15,7 +15,7 @@ pub enum Text {
 
 /// How many bytes the text at the front of the bytes has.
 #[tactic(auto, using(crate::proofs::Texts::fronts))]
-pub(crate) fn text_length(text: Text, bytes: &[u8]) -> usize
+pub fn text_length(text: Text, bytes: &[u8]) -> usize
     ensures length { result ≡ length (text_front text bytes.now) }
     ensures within { result ≤ length bytes.now }
 {

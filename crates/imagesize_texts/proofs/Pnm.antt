@@ -33,19 +33,23 @@ by_word P place w passed comment height =
     (λ _. on_test P (is_blank w.text) (pnm_passed place w.taken) (pnm_height place w) (λ _. passed) (λ _. height))
 
 -- and of the size that the width and the height give
-by_size : (P : Layout (Said (Unit {0}) ImageSize) → Type 0) (width height : Option ℕ) → ((size : ImageSize) → P (done (Decided size)))
+by_size : (P : Layout (Said (Unit {0}) ImageSize) → Type 0) (width height : Option ℕ)
+    → ((size : ImageSize) → P (done (Decided size)))
     → ((e : Halt) → P (accept (Err e) (λ (size : ImageSize). done (Decided size))))
     → P (accept (pnm_size width height) (λ size. done (Decided size)))
-by_size P width height decided refused = found_by P (pnm_size width height) (λ size. done (Decided size)) (λ size _. decided size) refused
+by_size P width height decided refused =
+    found_by P (pnm_size width height) (λ size. done (Decided size)) (λ size _. decided size) refused
 
 pub pnm_advances : (d : List ℕ) → Advances pnm_words d
 pnm_advances = advances pnm_words
     (λ passed place. word_tells place (pnm_word place) (λ p. place < p)
     (λ w some. by_word (Tells (λ p. place < p)) place w (omega arith)
-    (passed_tells 0x0A (place + w.taken) 1024 (λ rest. pnm_passed place (w.taken + rest)) (λ p. place < p) (λ n. omega arith))
+    (passed_tells 0x0A (place + w.taken) 1024 (λ rest. pnm_passed place (w.taken + rest)) (λ p. place < p)
+    (λ n. omega arith))
     (word_tells (place + w.taken) (λ next. accept (pnm_size (number_text w.text) (number_text (trim next.text)))
     (λ size. done (Decided size))) (λ p. place < p)
-    (λ next _. by_size (Tells (λ p. place < p)) (number_text w.text) (number_text (trim next.text)) (λ size. tt) (λ e. tt)))))
+    (λ next _. by_size (Tells (λ p. place < p)) (number_text w.text) (number_text (trim next.text)) (λ size. tt)
+    (λ e. tt)))))
     (λ passed place. word_begins place (pnm_word place) place (omega arith))
 
 pub pnm_local : IsLocal true pnm
@@ -70,11 +74,13 @@ pnm_within d =
     let most = chain_ahead pnm_words d (pnm_advances d)
     (λ passed place. word_onto place (pnm_word place) (said_to (λ _. None)) place (omega arith)
     (λ w. by_word (Ahead (place + w.taken)) place w (omega arith)
-    (passed_onto 0x0A (place + w.taken) 1024 (λ rest. pnm_passed place (w.taken + rest)) (said_to (λ _. None)) (place + w.taken)
+    (passed_onto 0x0A (place + w.taken) 1024 (λ rest. pnm_passed place (w.taken + rest)) (said_to (λ _. None))
+    (place + w.taken)
     (omega arith) (λ n. omega arith))
     (word_onto (place + w.taken) (λ next. accept (pnm_size (number_text w.text) (number_text (trim next.text)))
     (λ size. done (Decided size))) (said_to (λ _. None)) (place + w.taken) (omega arith)
-    (λ next. by_size (Ahead (place + w.taken + next.taken)) (number_text w.text) (number_text (trim next.text)) (λ size. tt)
+    (λ next. by_size (Ahead (place + w.taken + next.taken)) (number_text w.text) (number_text (trim next.text))
+    (λ size. tt)
     (λ e. tt))))) in
     omega arith
 
@@ -82,5 +88,6 @@ pub pnm_laws : TextsLaws 12 true true pnm
 pnm_laws = record { local = pnm_local; within = λ d. omega (arith, pnm_within d); lasts = λ _. pnm_lasts }
 
 -- from the end of the input on there is no word
-pub pnm_ends : (d : List ℕ) (place : ℕ) → length d ≤ place → layout_reads d (word place (pnm_word place)) ≡ refuses Ended
+pub pnm_ends : (d : List ℕ) (place : ℕ) → length d ≤ place
+    → layout_reads d (word place (pnm_word place)) ≡ refuses Ended
 pnm_ends d place h = word_beyond d place (pnm_word place) h

@@ -44,8 +44,9 @@ abbrev pub resolution : List ℕ → Result ImageSize Halt
 resolution text = hdr_lengths (second_and_fourth (words text))
 
 abbrev pub hdr_line : ℕ → List ℕ → Layout (Said (Unit {0}) ImageSize)
-hdr_line place text = if is_resolution text then accept (resolution text) (λ size. done (Decided size)) else done
-    (Next tt (place + (length text + 1)))
+hdr_line place text =
+    if is_resolution text then accept (resolution text) (λ size. done (Decided size))
+    else done (Next tt (place + (length text + 1)))
 
 -- the lines after the first, of at most 256 bytes each
 abbrev pub hdr_lines : ℕ → Chain (Unit {0}) ImageSize

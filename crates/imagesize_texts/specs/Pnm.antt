@@ -36,8 +36,9 @@ pnm_passed place taken = done (Next tt (place + taken))
 
 -- a comment goes on to the end of its line, which may be the end of its first word
 abbrev pub pnm_comment : ℕ → WordRead → Layout (Said (Unit {0}) ImageSize)
-pnm_comment place w = if w.ended_by == 0x0A then pnm_passed place w.taken else passed_line 0x0A (place + w.taken) 1024
-    (λ rest. pnm_passed place (w.taken + rest))
+pnm_comment place w =
+    if w.ended_by == 0x0A then pnm_passed place w.taken
+    else passed_line 0x0A (place + w.taken) 1024 (λ rest. pnm_passed place (w.taken + rest))
 
 -- the word after the width is the height
 abbrev pub pnm_height : ℕ → WordRead → Layout (Said (Unit {0}) ImageSize)

@@ -33,22 +33,27 @@ use Rattle.imagesize_source.proofs.Lists.{last_push}
 use Rattle.imagesize_types.proofs.Largest.{greatest_push}
 
 -- of one size more the later largest
-last_by : (best : Option ImageSize) (sizes : List ImageSize) (size : ImageSize) (greatest : ℕ) (b : Bool) → leb (area_if_some best)
-    (area_of size) ≡ b → greatest_area sizes ≡ area_if_some best → last_largest sizes ≡ best → greatest ≡ max (greatest_area sizes)
+last_by : (best : Option ImageSize) (sizes : List ImageSize) (size : ImageSize) (greatest : ℕ) (b : Bool)
+    → leb (area_if_some best)
+    (area_of size) ≡ b → greatest_area sizes ≡ area_if_some best → last_largest sizes ≡ best
+    → greatest ≡ max (greatest_area sizes)
     (area_of size)
     → last_or None (filter (λ s. eqb (area_of s) greatest) (sizes ++ size ∷ [])) ≡ cond b (Some size) best
 last_by best sizes size greatest true test area is most =
     let here : eqb (area_of size) greatest ≡ true = grind (arith, nat_tests) in
-    ap (last_or None) (filter-append (λ s. eqb (area_of s) greatest) sizes (size ∷ []) ∙ ap (λ b. filter (λ s. eqb (area_of s) greatest)
+    ap (last_or None) (filter-append (λ s. eqb (area_of s) greatest) sizes (size ∷ [])
+    ∙ ap (λ b. filter (λ s. eqb (area_of s) greatest)
     sizes ++ cond b (size ∷ []) []) here) ∙ last_push None (filter (λ s. eqb (area_of s) greatest) sizes) size
 last_by best sizes size greatest false test area is most =
     let not_here : eqb (area_of size) greatest ≡ false = grind (arith, nat_tests) in
     let same : greatest ≡ greatest_area sizes = grind (arith, nat_tests) in
-    ap (last_or None) (filter-append (λ s. eqb (area_of s) greatest) sizes (size ∷ []) ∙ ap (λ b. filter (λ s. eqb (area_of s) greatest)
+    ap (last_or None) (filter-append (λ s. eqb (area_of s) greatest) sizes (size ∷ [])
+    ∙ ap (λ b. filter (λ s. eqb (area_of s) greatest)
     sizes ++ cond b (size ∷ []) []) not_here ∙ append-nil (filter (λ s. eqb (area_of s) greatest) sizes))
     ∙ ap (λ n. last_or None (filter (λ s. eqb (area_of s) n) sizes)) same ∙ is
 
-area_by : (best : Option ImageSize) (size : ImageSize) (b : Bool) → leb (area_if_some best) (area_of size) ≡ b → max (area_if_some best)
+area_by : (best : Option ImageSize) (size : ImageSize) (b : Bool) → leb (area_if_some best) (area_of size) ≡ b
+    → max (area_if_some best)
     (area_of size) ≡ area_if_some (cond b (Some size) best)
 area_by best size true test = grind (arith, nat_tests)
 area_by best size false test = grind (arith, nat_tests)
@@ -61,9 +66,11 @@ pub seen_on : (count : ℕ) (best : Option ImageSize) (sizes : List ImageSize) (
     → ForSome (later_largest best size) IsIcon → Seen (count + 1) (later_largest best size) (sizes ++ size ∷ [])
 seen_on count best sizes size h icon = record {
   many = length_push sizes size ∙ ap (λ n. n + 1) h.many;
-  is = last_by best sizes size (greatest_area (sizes ++ size ∷ [])) (leb (area_if_some best) (area_of size)) refl h.area h.is
+  is = last_by best sizes size (greatest_area (sizes ++ size ∷ []))
+      (leb (area_if_some best) (area_of size)) refl h.area h.is
       (greatest_push sizes size);
-  area = greatest_push sizes size ∙ ap (λ n. max n (area_of size)) h.area ∙ area_by best size (leb (area_if_some best) (area_of size))
+  area = greatest_push sizes size ∙ ap (λ n. max n (area_of size)) h.area
+      ∙ area_by best size (leb (area_if_some best) (area_of size))
       refl;
   icon = icon;
 }
@@ -75,14 +82,17 @@ by_answer P None none some = none
 by_answer P (Some size) none some = some size
 
 -- and of each entry
-by_entry : (P : Layout (Said ImageSize ImageSize) → Type 0) (sizes : List ImageSize) (place : ℕ) (found : Option (List ℕ))
-    → P (icon_answer (last_largest sizes)) → ((size : ImageSize) → P (done (Next size (place + 16)))) → P (icon_entry sizes place found)
+by_entry : (P : Layout (Said ImageSize ImageSize) → Type 0) (sizes : List ImageSize) (place : ℕ)
+    (found : Option (List ℕ))
+    → P (icon_answer (last_largest sizes)) → ((size : ImageSize) → P (done (Next size (place + 16))))
+    → P (icon_entry sizes place found)
 by_entry P sizes place None end next = end
 by_entry P sizes place (Some bytes) end next = next (icon_size bytes)
 
 -- and of a record
 by_count : (P : Layout (Said ImageSize ImageSize) → Type 0) (count : ℕ) (sizes : List ImageSize) (place : ℕ)
-    → P (icon_answer (last_largest sizes)) → P (if_there place 2 (icon_entry sizes place)) → P ((icon_entries count).said sizes place)
+    → P (icon_answer (last_largest sizes)) → P (if_there place 2 (icon_entry sizes place))
+    → P ((icon_entries count).said sizes place)
 by_count P count sizes place end entry = on_test P (eqb (length sizes) count) (icon_answer (last_largest sizes))
     (if_there place 2 (icon_entry sizes place)) (λ _. end) (λ _. entry)
 
@@ -90,7 +100,8 @@ pub icon_advances : (count : ℕ) (d : List ℕ) → Advances (icon_entries coun
 icon_advances count = advances (icon_entries count)
     (λ sizes place. by_count (Tells (λ p. place < p)) count sizes place
     (by_answer (Tells (λ p. place < p)) (last_largest sizes) tt (λ size. tt))
-    (λ bs. by_entry (Tells (λ p. place < p)) sizes place (whole 2 bs) (by_answer (Tells (λ p. place < p)) (last_largest sizes) tt
+    (λ bs. by_entry (Tells (λ p. place < p)) sizes place (whole 2 bs)
+    (by_answer (Tells (λ p. place < p)) (last_largest sizes) tt
     (λ size. tt)) (λ size. omega arith)))
     (λ sizes place. by_count (Begins place) count sizes place
     (by_answer (Begins place) (last_largest sizes) tt (λ size. tt))
@@ -116,33 +127,41 @@ ico_within d = omega (
 )
 
 -- from the end of the input on there is no entry
-pub icon_ends : (count seen : ℕ) (best : Option ImageSize) (sizes : List ImageSize) → Seen seen best sizes → (d : List ℕ) (place : ℕ)
+pub icon_ends : (count seen : ℕ) (best : Option ImageSize) (sizes : List ImageSize) → Seen seen best sizes
+    → (d : List ℕ) (place : ℕ)
     → length d ≤ place → layout_reads d ((icon_entries count).said sizes place)
     ≡ record { answer = map_answer Decided (ok_or best Corrupted); marks = [] }
 icon_ends count seen best sizes h d place far = by_count (eqb (length sizes) count) where
-  ends : layout_reads d (icon_answer (last_largest sizes)) ≡ record { answer = map_answer Decided (ok_or best Corrupted); marks = [] }
+  ends : layout_reads d (icon_answer (last_largest sizes))
+      ≡ record { answer = map_answer Decided (ok_or best Corrupted); marks = [] }
   ends = ap (λ o. layout_reads d (icon_answer o)) h.is ∙ by_best best where
-    by_best : (best : Option ImageSize) → layout_reads d (icon_answer best) ≡ record { answer = map_answer Decided (ok_or best Corrupted); marks = [] }
+    by_best : (best : Option ImageSize)
+        → layout_reads d (icon_answer best) ≡ record { answer = map_answer Decided (ok_or best Corrupted); marks = [] }
     by_best None = refl
     by_best (Some size) = refl
 
-  by_count : (all : Bool) → layout_reads d (cond all (icon_answer (last_largest sizes)) (if_there place 2 (icon_entry sizes place)))
+  by_count : (all : Bool)
+      → layout_reads d (cond all (icon_answer (last_largest sizes)) (if_there place 2 (icon_entry sizes place)))
       ≡ record { answer = map_answer Decided (ok_or best Corrupted); marks = [] }
   by_count true = ends
   by_count false = there_beyond d place 2 (icon_entry sizes place) far ∙ ends
 
 -- at the count of entries the list ends
-ends_at : (count : ℕ) (d : List ℕ) (t : Along ImageSize) (size : ImageSize) (place : ℕ) → (next_record (icon_entries count) d t).answer
+ends_at : (count : ℕ) (d : List ℕ) (t : Along ImageSize) (size : ImageSize) (place : ℕ)
+    → (next_record (icon_entries count) d t).answer
     ≡ Ok (Next size place) → length t.held ≡ count → ⊥
 ends_at count d t size place is at =
     let all : eqb (length t.held) count ≡ true = grind (arith, nat_tests) in
-    tells (λ _. ⊥) d (icon_answer (last_largest t.held)) size place (by_answer (Tells (λ _. ⊥)) (last_largest t.held) tt (λ size. tt))
-    (sym (ap (λ test. (layout_reads d (cond test (icon_answer (last_largest t.held)) (if_there t.place 2 (icon_entry t.held t.place)))).answer)
+    tells (λ _. ⊥) d (icon_answer (last_largest t.held)) size place
+    (by_answer (Tells (λ _. ⊥)) (last_largest t.held) tt (λ size. tt))
+    (sym (ap (λ test. (layout_reads d
+    (cond test (icon_answer (last_largest t.held)) (if_there t.place 2 (icon_entry t.held t.place)))).answer)
     all) ∙ is)
 
 records_few : (count : ℕ) (d : List ℕ) → records (icon_entries count) d ≤ count + 1
 records_few count d =
-    let few = chain_induction (icon_entries count) d (λ t. length t.held ≤ count → records_from (icon_entries count) d t + length t.held
+    let few = chain_induction (icon_entries count) d
+    (λ t. length t.held ≤ count → records_from (icon_entries count) d t + length t.held
     ≤ count + 1) (icon_advances count d)
     (λ t size place is later fits.
     let apart : length t.held ≢ count = λ at. ends_at count d t size place is at in
@@ -157,14 +176,17 @@ records_few count d =
 
 -- an entry is read from at most 2 bytes
 entry_at_most : (count : ℕ) (sizes : List ImageSize) (place : ℕ) → AtMost 2 ((icon_entries count).said sizes place)
-entry_at_most count sizes place = by_count (AtMost 2) count sizes place (by_answer (AtMost 2) (last_largest sizes) tt (λ size. tt)) (
-  omega arith,
-  λ bs. by_entry (AtMost 0) sizes place (whole 2 bs) (by_answer (AtMost 0) (last_largest sizes) tt (λ size. tt)) (λ size. tt),
-)
+entry_at_most count sizes place =
+    by_count (AtMost 2) count sizes place (by_answer (AtMost 2) (last_largest sizes) tt (λ size. tt)) (
+      omega arith,
+      λ bs. by_entry (AtMost 0) sizes place (whole 2 bs) (by_answer (AtMost 0) (last_largest sizes) tt (λ size. tt))
+          (λ size. tt),
+    )
 
 -- what is seen of an input
 pub ico_local : IsLocal false ico
-ico_local = local_then (λ d. number_read d Little 4 2) (λ count d. chain_at (icon_entries count) d) (local_number Little 4 2)
+ico_local = local_then (λ d. number_read d Little 4 2) (λ count d. chain_at (icon_entries count) d)
+    (local_number Little 4 2)
     (λ count. local_chain (icon_entries count) (icon_advances count)
     (λ sizes place. without_texts false 2 ((icon_entries count).said sizes place) (entry_at_most count sizes place)))
 

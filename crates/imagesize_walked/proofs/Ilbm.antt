@@ -23,7 +23,8 @@ by_name : (P : Layout (Said (Unit {0}) ImageSize) → Type 0) (place : ℕ) (hea
     → P (bitmap_header place) → P (done (Next tt (place + chunk_bytes (chunk_length head)))) → P (ilbm_named place head)
 by_name P place head body header other =
     on_test P (is_bitmap_header head) (bitmap_header place) _ (λ _. header)
-    (λ _. on_test P (is_body head) (refuse Corrupted) (done (Next tt (place + chunk_bytes (chunk_length head)))) (λ _. body)
+    (λ _. on_test P (is_body head) (refuse Corrupted) (done (Next tt (place + chunk_bytes (chunk_length head))))
+    (λ _. body)
     (λ _. other))
 
 pub ilbm_advances : (d : List ℕ) → Advances ilbm_chunks d
@@ -32,11 +33,13 @@ ilbm_advances = advances ilbm_chunks
     (λ passed place. (omega arith, omega arith))
 
 pub ilbm_lasts : Lasts ilbm
-ilbm_lasts = lasts_chain ilbm_chunks ilbm_advances (λ passed place head. by_name Plain place head tt (λ width height. tt) tt)
+ilbm_lasts = lasts_chain ilbm_chunks ilbm_advances
+    (λ passed place head. by_name Plain place head tt (λ width height. tt) tt)
 
 -- a chunk is read from at most 12 bytes
 chunk_at_most : (passed : List (Unit {0})) (place : ℕ) → AtMost 12 (ilbm_chunks.said passed place)
-chunk_at_most passed place = (omega arith, λ head. by_name (AtMost 4) place head tt (omega arith, λ width. (omega arith, λ height. tt)) tt)
+chunk_at_most passed place =
+    (omega arith, λ head. by_name (AtMost 4) place head tt (omega arith, λ width. (omega arith, λ height. tt)) tt)
 
 pub ilbm_cost : (d : List ℕ) → 12 + total (ilbm d).marks ≤ 18 + 20 * records ilbm_chunks d
 ilbm_cost d = omega (arith, chain_cost ilbm_chunks d (ilbm_advances d) 12 chunk_at_most)
@@ -62,4 +65,10 @@ pub ilbm_ends : (d : List ℕ) (place : ℕ) → length d ≤ place → layout_r
 ilbm_ends d place h = bytes_beyond d place 8 (λ head. ilbm_named place head) h (omega arith)
 
 pub ilbm_laws : RecordedLaws 12 18 20 true false ilbm (records ilbm_chunks)
-ilbm_laws = record { local = ilbm_local; cost = ilbm_cost; within = ilbm_within; lasts = λ _. answers_last ilbm ilbm_lasts }
+ilbm_laws = record {
+  local = ilbm_local;
+  cost = ilbm_cost;
+  within = ilbm_within;
+  lasts =
+      λ _. answers_last ilbm ilbm_lasts;
+}

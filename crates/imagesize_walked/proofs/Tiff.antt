@@ -67,17 +67,20 @@ head_some BigTiff = omega arith
 
 -- what an entry's head and value say
 abbrev entry_of : Header → List ℕ → FieldType → List ℕ → Entry
-entry_of header head field_type value = record { tag = tag_in header.order head; value = value_of header.order field_type value }
+entry_of header head field_type value =
+    record { tag = tag_in header.order head; value = value_of header.order field_type value }
 
 abbrev says : Header → List Entry → ℕ → Entry → Layout (Said Entry ImageSize)
-says header entries place entry = done (size_or_next (size_in (entries ++ entry ∷ [])) entry (place + entry_bytes header.version))
+says header entries place entry =
+    done (size_or_next (size_in (entries ++ entry ∷ [])) entry (place + entry_bytes header.version))
 
 -- an entry behind others
 abbrev record_behind : Header → List Entry → ℕ → Layout (Said Entry ImageSize)
 record_behind header entries place = bind (tiff_entry header place) (says header entries place)
 
 -- what holds where a field type is refused and where its value is read
-by_field_type : (P : Layout (Said Entry ImageSize) → Type 0) (header : Header) (entries : List Entry) (place : ℕ) (head : List ℕ)
+by_field_type : (P : Layout (Said Entry ImageSize) → Type 0) (header : Header) (entries : List Entry) (place : ℕ)
+    (head : List ℕ)
     → ((e : Halt) → P (refuse e))
     → ((field_type : FieldType) → P
     (bind (bind (tiff_value header.version (place + head_bytes header.version))
@@ -85,7 +88,8 @@ by_field_type : (P : Layout (Said Entry ImageSize) → Type 0) (header : Header)
     → P (bind (accept (field_type_of header.version (field_type_in header.order head))
     (λ field_type. bind (tiff_value header.version (place + head_bytes header.version))
     (λ value. done (entry_of header head field_type value)))) (says header entries place))
-by_field_type P header entries place head out on = by_accepted P (field_type_of header.version (field_type_in header.order head))
+by_field_type P header entries place head out on =
+    by_accepted P (field_type_of header.version (field_type_in header.order head))
     (λ field_type. bind (tiff_value header.version (place + head_bytes header.version))
     (λ value. done (entry_of header head field_type value))) (says header entries place) out on
 
@@ -95,28 +99,34 @@ by_completed P None entry next stop on = on
 by_completed P (Some x) entry next stop on = stop x
 
 -- and where the value is cut, where the entry completes the size and where it does not
-by_value : (P : Layout (Said Entry ImageSize) → Type 0) (header : Header) (entries : List Entry) (place : ℕ) (head : List ℕ)
+by_value : (P : Layout (Said Entry ImageSize) → Type 0) (header : Header) (entries : List Entry) (place : ℕ)
+    (head : List ℕ)
     (field_type : FieldType) (value : List ℕ) → P (refuse InvalidIfdValueLength)
-    → ((size : ImageSize) → P (done (Decided size))) → ((entry : Entry) → P (done (Next entry (place + entry_bytes header.version))))
+    → ((size : ImageSize) → P (done (Decided size)))
+    → ((entry : Entry) → P (done (Next entry (place + entry_bytes header.version))))
     → P (bind (bind (accept (whole_value (whole (value_bytes header.version) value)) done)
     (λ value. done (entry_of header head field_type value))) (says header entries place))
 by_value P header entries place head field_type value cut stop on =
     by_whole P (whole (value_bytes header.version) value) (λ value. done (entry_of header head field_type value))
     (says header entries place) cut
-    (λ value. let entry : Entry = entry_of header head field_type value in by_completed P (size_in (entries ++ entry ∷ [])) entry
+    (λ value. let entry : Entry = entry_of header head field_type value in
+    by_completed P (size_in (entries ++ entry ∷ [])) entry
     (place + entry_bytes header.version) stop (on entry))
 
 -- what holds of each record
 by_count : (P : Layout (Said Entry ImageSize) → Type 0) (header : Header) (count : ℕ) (entries : List Entry) (place : ℕ)
-    → P (refuse NoDimensionsInIfd) → P (record_behind header entries place) → P ((tiff_entries header count).said entries place)
+    → P (refuse NoDimensionsInIfd) → P (record_behind header entries place)
+    → P ((tiff_entries header count).said entries place)
 by_count P header count entries place end entry = on_test P (eqb (length entries) count) (refuse NoDimensionsInIfd)
     (record_behind header entries place) (λ _. end) (λ _. entry)
 
-record_tells : (header : Header) (entries : List Entry) (place : ℕ) → Tells (λ p. place < p) (record_behind header entries place)
+record_tells : (header : Header) (entries : List Entry) (place : ℕ)
+    → Tells (λ p. place < p) (record_behind header entries place)
 unfolding tiff_entry tiff_head tiff_value
 record_tells header entries place = λ head.
     by_field_type (Tells (λ p. place < p)) header entries place (take 4 head) (λ e. tt)
-    (λ field_type value. by_value (Tells (λ p. place < p)) header entries place (take 4 head) field_type value tt (λ size. tt)
+    (λ field_type value. by_value (Tells (λ p. place < p)) header entries place (take 4 head) field_type value tt
+    (λ size. tt)
     (λ entry. omega (arith, head_some header.version)))
 
 record_begins : (header : Header) (entries : List Entry) (place : ℕ) → Begins place (record_behind header entries place)
@@ -125,18 +135,21 @@ record_begins header entries place = (omega arith, head_some header.version)
 
 pub entries_advance : (header : Header) (count : ℕ) (d : List ℕ) → Advances (tiff_entries header count) d
 entries_advance header count = advances (tiff_entries header count)
-    (λ entries place. by_count (Tells (λ p. place < p)) header count entries place tt (record_tells header entries place))
+    (λ entries place. by_count (Tells (λ p. place < p)) header count entries place tt
+    (record_tells header entries place))
     (λ entries place. by_count (Begins place) header count entries place tt (record_begins header entries place))
 
 last_by : (tag : ℕ) (entries : List Entry) (entry : Entry) (b : Bool) → eqb entry.tag tag ≡ b
     → last_or None (filter (λ e. eqb e.tag tag) (entries ++ entry ∷ [])) ≡ cond b (Some entry)
     (last_or None (filter (λ e. eqb e.tag tag) entries))
 last_by tag entries entry true is =
-    ap (last_or None) (filter-append (λ e. eqb e.tag tag) entries (entry ∷ []) ∙ ap (λ b. filter (λ e. eqb e.tag tag) entries ++ cond b
+    ap (last_or None) (filter-append (λ e. eqb e.tag tag) entries (entry ∷ [])
+    ∙ ap (λ b. filter (λ e. eqb e.tag tag) entries ++ cond b
     (entry ∷ []) []) is)
     ∙ last_push None (filter (λ e. eqb e.tag tag) entries) entry
 last_by tag entries entry false is =
-    ap (last_or None) (filter-append (λ e. eqb e.tag tag) entries (entry ∷ []) ∙ ap (λ b. filter (λ e. eqb e.tag tag) entries ++ cond b
+    ap (last_or None) (filter-append (λ e. eqb e.tag tag) entries (entry ∷ [])
+    ∙ ap (λ b. filter (λ e. eqb e.tag tag) entries ++ cond b
     (entry ∷ []) []) is ∙ append-nil (filter (λ e. eqb e.tag tag) entries))
 
 value_by : (b : Bool) (entry : Entry) (last : Option Entry) → option_and_then (λ e. e.value) (cond b (Some entry) last)
@@ -145,14 +158,18 @@ value_by true entry last = refl
 value_by false entry last = refl
 
 -- of one entry more the value is its own where it has the tag
-last_value_on : (tag : ℕ) (entries : List Entry) (entry : Entry) → last_value tag (entries ++ entry ∷ []) ≡ cond (eqb entry.tag tag)
+last_value_on : (tag : ℕ) (entries : List Entry) (entry : Entry)
+    → last_value tag (entries ++ entry ∷ []) ≡ cond (eqb entry.tag tag)
     entry.value (last_value tag entries)
-last_value_on tag entries entry = ap (option_and_then (λ e. e.value)) (last_by tag entries entry (eqb entry.tag tag) refl) ∙ value_by
+last_value_on tag entries entry =
+    ap (option_and_then (λ e. e.value)) (last_by tag entries entry (eqb entry.tag tag) refl) ∙ value_by
     (eqb entry.tag tag) entry (last_or None (filter (λ e. eqb e.tag tag) entries))
 
 -- with one entry more
-pub known_on : (i : ℕ) (width height wide high : Option ℕ) (entries : List Entry) (entry : Entry) → wide ≡ cond (eqb entry.tag 0x100)
-    entry.value width → high ≡ cond (eqb entry.tag 0x101) entry.value height → Known i width height entries → Known (i + 1) wide high
+pub known_on : (i : ℕ) (width height wide high : Option ℕ) (entries : List Entry) (entry : Entry)
+    → wide ≡ cond (eqb entry.tag 0x100)
+    entry.value width → high ≡ cond (eqb entry.tag 0x101) entry.value height → Known i width height entries
+    → Known (i + 1) wide high
     (entries ++ entry ∷ [])
 known_on i width height wide high entries entry is_wide is_high h = record {
   many = length_push entries entry ∙ ap (λ n. n + 1) h.many;
@@ -162,10 +179,12 @@ known_on i width height wide high entries entry is_wide is_high h = record {
 
 size_known : (i : ℕ) (width height : Option ℕ) (entries : List Entry) → Known i width height entries
     → size_in entries ≡ size_if_known width height
-size_known i width height entries h = ap (λ w. size_if_known w (last_value 0x101 entries)) h.wide ∙ ap (size_if_known width) h.high
+size_known i width height entries h = ap (λ w. size_if_known w (last_value 0x101 entries)) h.wide
+    ∙ ap (size_if_known width) h.high
 
 -- the record of an entry, where there are more, and where there are none
-more_said : (header : Header) (count i : ℕ) (width height : Option ℕ) (entries : List Entry) (place : ℕ) → Known i width height entries
+more_said : (header : Header) (count i : ℕ) (width height : Option ℕ) (entries : List Entry) (place : ℕ)
+    → Known i width height entries
     → i ≢ count → (tiff_entries header count).said entries place ≡ record_behind header entries place
 more_said header count i width height entries place h more =
     let many = h.many in
@@ -179,17 +198,21 @@ end_said header count entries place many =
     ap (λ test. cond test (refuse NoDimensionsInIfd) (record_behind header entries place)) all
 
 -- where there are none, nothing is read
-pub entries_done : {a : State} (header : Header) (count : ℕ) (entries : List Entry) (place : ℕ) → IsSound a → length entries ≡ count
-    → Runs {X = Said Entry ImageSize} a a (Err NoDimensionsInIfd) (layout_reads a.held.input ((tiff_entries header count).said entries place))
+pub entries_done : {a : State} (header : Header) (count : ℕ) (entries : List Entry) (place : ℕ) → IsSound a
+    → length entries ≡ count
+    → Runs {X = Said Entry ImageSize} a a (Err NoDimensionsInIfd)
+    (layout_reads a.held.input ((tiff_entries header count).said entries place))
 entries_done {a} header count entries place sound many =
     subst (λ t. Runs {X = Said Entry ImageSize} a a (Err NoDimensionsInIfd) (layout_reads a.held.input t))
     (sym (end_said header count entries place many))
     (reads_nothing a (Err NoDimensionsInIfd) sound refl (record { budget = λ e. absurd cc; fault = λ e. absurd cc }))
 
 -- what a record says behind others, by the entry that was read
-module _ {a b : State} (header : Header) (count i : ℕ) (width height : Option ℕ) (more : i ≢ count) (place : ℕ) (entries : List Entry)
+module _ {a b : State} (header : Header) (count i : ℕ) (width height : Option ℕ) (more : i ≢ count) (place : ℕ)
+    (entries : List Entry)
     (h : Known i width height entries) where
-  pub entry_said : (entry : Entry) (wide high : Option ℕ) (size : Option ImageSize) → wide ≡ cond (eqb entry.tag 0x100) entry.value width
+  pub entry_said : (entry : Entry) (wide high : Option ℕ) (size : Option ImageSize)
+      → wide ≡ cond (eqb entry.tag 0x100) entry.value width
       → high ≡ cond (eqb entry.tag 0x101) entry.value height → size_if_known wide high ≡ size
       → Runs a b (Ok entry) (layout_reads a.held.input (tiff_entry header place))
       → Runs a b (Ok (size_or_next size entry (place + entry_bytes header.version)))
@@ -204,19 +227,25 @@ module _ {a b : State} (header : Header) (count i : ℕ) (width height : Option 
       (λ d. ap (λ o. layout_reads d (done (size_or_next o entry next))) known) refl tt)
 
   pub entry_refused : (e : Halt) → Runs {X = Entry} a b (Err e) (layout_reads a.held.input (tiff_entry header place))
-      → Runs {X = Said Entry ImageSize} a b (Err e) (layout_reads a.held.input ((tiff_entries header count).said entries place))
+      → Runs {X = Said Entry ImageSize} a b (Err e)
+      (layout_reads a.held.input ((tiff_entries header count).said entries place))
   entry_refused e run = subst (λ t. Runs {X = Said Entry ImageSize} a b (Err e) (layout_reads a.held.input t))
-      (sym (more_said header count i width height entries place h more)) (refused_bind (tiff_entry header place) (says header entries place) run)
+      (sym (more_said header count i width height entries place h more))
+      (refused_bind (tiff_entry header place) (says header entries place) run)
 
 -- from the end of the input on there is no entry
-pub entries_end : (header : Header) (count i : ℕ) (width height : Option ℕ) (entries : List Entry) → Known i width height entries → i ≢ count
-    → (d : List ℕ) (place : ℕ) → length d ≤ place → layout_reads d ((tiff_entries header count).said entries place) ≡ refuses Ended
+pub entries_end : (header : Header) (count i : ℕ) (width height : Option ℕ) (entries : List Entry)
+    → Known i width height entries → i ≢ count
+    → (d : List ℕ) (place : ℕ) → length d ≤ place
+    → layout_reads d ((tiff_entries header count).said entries place) ≡ refuses Ended
 unfolding tiff_entry tiff_head
 entries_end header count i width height entries h more d place far =
     ap (layout_reads d) (more_said header count i width height entries place h more)
-    ∙ bytes_beyond d place (head_bytes header.version) (λ head. bind (accept (field_type_of header.version (field_type_in header.order (take 4 head)))
+    ∙ bytes_beyond d place (head_bytes header.version)
+    (λ head. bind (accept (field_type_of header.version (field_type_in header.order (take 4 head)))
     (λ field_type. bind (tiff_value header.version (place + head_bytes header.version))
-    (λ value. done (entry_of header (take 4 head) field_type value)))) (says header entries place)) far (head_some header.version)
+    (λ value. done (entry_of header (take 4 head) field_type value)))) (says header entries place)) far
+    (head_some header.version)
 
 -- so a directory beyond 64 bits serves as well at the greatest place
 none_there : (header : Header) (count place : ℕ) (d : List ℕ) → length d ≤ place
@@ -226,14 +255,24 @@ none_there header count place d far = by_count (eqb 0 count) refl where
   c : Chain Entry ImageSize
   c = record { first = place; said = (tiff_entries header count).said }
 
-  by_count : (all : Bool) → eqb 0 count ≡ all → chain_at c d ≡ record { answer = cond all (Err NoDimensionsInIfd) (Err Ended); marks = [] }
+  by_count : (all : Bool) → eqb 0 count ≡ all
+      → chain_at c d ≡ record { answer = cond all (Err NoDimensionsInIfd) (Err Ended); marks = [] }
   by_count true is = chain_stop c d (start c) (Err NoDimensionsInIfd)
-      (ap (λ test. verdict (layout_reads d (cond test (refuse NoDimensionsInIfd) (record_behind header [] place))).answer) is)
-      ∙ ap (λ test. record { answer = Err NoDimensionsInIfd; marks = (layout_reads d (cond test (refuse NoDimensionsInIfd) (record_behind header [] place))).marks }) is
+      (ap (λ test. verdict
+      (layout_reads d (cond test (refuse NoDimensionsInIfd) (record_behind header [] place))).answer) is)
+      ∙ ap (λ test. record {
+        answer = Err NoDimensionsInIfd;
+        marks =
+            (layout_reads d (cond test (refuse NoDimensionsInIfd) (record_behind header [] place))).marks;
+      }) is
   by_count false is =
-      let more : 0 ≢ count = λ same. absurd (let yes : eqb 0 count ≡ true = grind (arith, nat_tests) in let no : true ≡ false = sym yes ∙ is in cc) in
-      let none = entries_end header count 0 None None [] (record { many = refl; wide = refl; high = refl }) more d place far in
-      chain_stop c d (start c) (Err Ended) (ap (λ r. verdict r.answer) none) ∙ ap (λ r. record { answer = Err Ended; marks = r.marks }) none
+      let more : 0 ≢ count =
+      λ same. absurd (let yes : eqb 0 count ≡ true = grind (arith, nat_tests) in let no : true ≡ false = sym yes ∙ is in
+      cc) in
+      let none = entries_end header count 0 None None []
+      (record { many = refl; wide = refl; high = refl }) more d place far in
+      chain_stop c d (start c) (Err Ended) (ap (λ r. verdict r.answer) none)
+      ∙ ap (λ r. record { answer = Err Ended; marks = r.marks }) none
 
 pub entries_saturated : {a b : State} {r : Result ImageSize Halt} (header : Header) (count at : ℕ)
     → Runs a b r (chain_at (record { first = at; said = (tiff_entries header count).said }) a.held.input)
@@ -291,12 +330,14 @@ directory_within : (d : List ℕ) (header : Header) → total (tiff_directory d 
 directory_within d header =
     let most = total_behind d header.directory (count_bytes header.version) in
     on_answer (λ w. total w.marks ≤ length d) (span_of d header.directory (count_bytes header.version))
-    (number_at d header.order header.directory (count_bytes header.version)) (λ count. chain_at (tiff_entries header count) d)
+    (number_at d header.order header.directory (count_bytes header.version))
+    (λ count. chain_at (tiff_entries header count) d)
     (λ count is.
     let some = number_ok d header.order header.directory (count_bytes header.version) count is in
     let few = total-span_of d header.directory (count_bytes header.version) in
     let rest = entries_within header count d in
-    let all = total-append (span_of d header.directory (count_bytes header.version)) (chain_at (tiff_entries header count) d).marks in
+    let all = total-append (span_of d header.directory (count_bytes header.version))
+    (chain_at (tiff_entries header count) d).marks in
     omega arith)
     (λ e is. omega arith)
 
@@ -310,7 +351,11 @@ stated_at_most order Tiff = (omega arith, λ place. tt)
 stated_at_most order BigTiff = (
   omega arith,
   λ size. on_test (AtMost 10) (eqb size 8) _ _
-      (λ _. (omega arith, λ zeros. on_test (AtMost 8) (eqb zeros 0) (field order 8 8 done) _ (λ _. (omega arith, λ place. tt)) (λ _. tt)))
+      (λ _. (
+        omega arith,
+        λ zeros. on_test (AtMost 8) (eqb zeros 0) (field order 8 8 done) _
+            (λ _. (omega arith, λ place. tt)) (λ _. tt),
+      ))
       (λ _. tt),
 )
 
@@ -324,8 +369,10 @@ header_at_most = (
       (placed order version))))
       (λ order. (
         omega arith,
-        λ number. accepted_at_most 12 (version_of number) (λ version. bind (stated_place order version) (placed order version))
-            (λ version. at_most_bind 12 0 (stated_place order version) (placed order version) (stated_at_most order version)
+        λ number. accepted_at_most 12 (version_of number)
+            (λ version. bind (stated_place order version) (placed order version))
+            (λ version. at_most_bind 12 0 (stated_place order version) (placed order version)
+            (stated_at_most order version)
             (λ place. accepted_at_most 0 (directory_at order version place) done (λ header. tt))),
       )),
 )
@@ -352,7 +399,8 @@ record_cost : (header : Header) (count : ℕ) (entries : List Entry) (place : �
     → AtMost (20 * min 1 (count - length entries)) ((tiff_entries header count).said entries place)
 record_cost header count entries place fits =
     let k : ℕ = 20 * min 1 (count - length entries) in
-    on_test (AtMost k) (eqb (length entries) count) (refuse NoDimensionsInIfd) (record_behind header entries place) (λ _. tt)
+    on_test (AtMost k) (eqb (length entries) count) (refuse NoDimensionsInIfd) (record_behind header entries place)
+    (λ _. tt)
     (λ more.
     let below : length entries < count = grind (arith, nat_tests) in
     at_most_more 20 k (record_behind header entries place) (omega arith) (record_at_most header entries place))
@@ -373,22 +421,28 @@ entries_cost header count d =
     let rest = later (omega arith) in
     let next = records_next c d t entry place adv is in
     let marks : total (chain_from c d t).marks ≡ total (next_record c d t).marks + total (chain_from c d u).marks =
-    ap (λ w. total w.marks) (chain_next c d t entry place adv is) ∙ total-append (next_record c d t).marks (chain_from c d u).marks in
-    let few = at_most d (20 * min 1 (count - length t.held)) (c.said t.held t.place) (record_cost header count t.held t.place fits) in
+    ap (λ w. total w.marks) (chain_next c d t entry place adv is)
+    ∙ total-append (next_record c d t).marks (chain_from c d u).marks in
+    let few = at_most d (20 * min 1 (count - length t.held)) (c.said t.held t.place)
+    (record_cost header count t.held t.place fits) in
     omega arith)
     (λ t r is fits.
     let one = records_stop c d t r is in
-    let marks : total (chain_from c d t).marks ≡ total (next_record c d t).marks = ap (λ w. total w.marks) (chain_stop c d t r is) in
-    let few = at_most d (20 * min 1 (count - length t.held)) (c.said t.held t.place) (record_cost header count t.held t.place fits) in
+    let marks : total (chain_from c d t).marks ≡ total (next_record c d t).marks =
+    ap (λ w. total w.marks) (chain_stop c d t r is) in
+    let few = at_most d (20 * min 1 (count - length t.held)) (c.said t.held t.place)
+    (record_cost header count t.held t.place fits) in
     omega arith)
     (start c) in
     let most = all (omega arith) in omega arith
 
-directory_cost : (d : List ℕ) (header : Header) → total (tiff_directory d header).marks ≤ 8 + 20 * directory_begun d header
+directory_cost : (d : List ℕ) (header : Header)
+    → total (tiff_directory d header).marks ≤ 8 + 20 * directory_begun d header
 directory_cost d header = omega (
   arith,
   begun_cost 20 (span_of d header.directory (count_bytes header.version))
-      (number_at d header.order header.directory (count_bytes header.version)) (λ count. chain_at (tiff_entries header count) d)
+      (number_at d header.order header.directory (count_bytes header.version))
+      (λ count. chain_at (tiff_entries header count) d)
       (λ count. min count (records (tiff_entries header count) d)) 8 0
       (omega (arith, total-span_of d header.directory (count_bytes header.version), count_few header.version))
       (λ count. omega (arith, entries_cost header count d)),
@@ -398,7 +452,8 @@ directory_cost d header = omega (
 pub tiff_cost : (d : List ℕ) → 12 + total (tiff d).marks ≤ 36 + 20 * tiff_begun d
 tiff_cost d = omega (
   arith,
-  begun_cost 20 (layout_reads d tiff_header).marks (layout_reads d tiff_header).answer (tiff_directory d) (directory_begun d) 16 8
+  begun_cost 20 (layout_reads d tiff_header).marks (layout_reads d tiff_header).answer (tiff_directory d)
+      (directory_begun d) 16 8
       (at_most d 16 tiff_header header_at_most) (directory_cost d),
 )
 
@@ -435,44 +490,54 @@ unfolding tiff_header
 header_plain = λ mark. accepted_plain (byte_order mark)
     (λ order. field order 2 2 (λ number. accept (version_of number) (λ version. bind (stated_place order version)
     (placed order version))))
-    (λ order number. accepted_plain (version_of number) (λ version. bind (stated_place order version) (placed order version))
+    (λ order number. accepted_plain (version_of number)
+    (λ version. bind (stated_place order version) (placed order version))
     (λ version. stated_plain order version))
 
 -- bytes that follow change no number that was there
 count_more : (d x : List ℕ) (order : Endian) (place k count : ℕ) → number_at d order place k ≡ Ok count
     → number_at (d ++ x) order place k ≡ Ok count
 unfolding number_at
-count_more d x order place k count is = ap (map_answer (number order)) (bytes_more d x place k (number_ok d order place k count is)) ∙ is
+count_more d x order place k count is =
+    ap (map_answer (number order)) (bytes_more d x place k (number_ok d order place k count is)) ∙ is
 
 directory_lasts : (d x : List ℕ) (header : Header) (size : ImageSize) → (tiff_directory d header).answer ≡ Ok size
     → (tiff_directory (d ++ x) header).answer ≡ Ok size
-directory_lasts d x header size = by_count_read (number_at d header.order header.directory (count_bytes header.version)) refl where
-  by_count_read : (r : Result ℕ Halt) → number_at d header.order header.directory (count_bytes header.version) ≡ r
-      → (go_on (span_of d header.directory (count_bytes header.version)) r (λ count. chain_at (tiff_entries header count) d)).answer
-      ≡ Ok size → (tiff_directory (d ++ x) header).answer ≡ Ok size
-  by_count_read (Ok count) read is =
-      let read_more = count_more d x header.order header.directory (count_bytes header.version) count read in
-      let same = lasts_chain (tiff_entries header count) (entries_advance header count)
-      (λ entries place. by_count Plain header count entries place tt (record_plain header entries place)) d x size is in
-      ap (λ r. (go_on (span_of (d ++ x) header.directory (count_bytes header.version)) r (λ count. chain_at (tiff_entries header count)
-      (d ++ x))).answer) read_more ∙ ap (λ w. w.answer) same ∙ is
-  by_count_read (Err e) read is = absurd cc
+directory_lasts d x header size =
+    by_count_read (number_at d header.order header.directory (count_bytes header.version)) refl where
+      by_count_read : (r : Result ℕ Halt) → number_at d header.order header.directory (count_bytes header.version) ≡ r
+          → (go_on (span_of d header.directory (count_bytes header.version)) r
+          (λ count. chain_at (tiff_entries header count) d)).answer
+          ≡ Ok size → (tiff_directory (d ++ x) header).answer ≡ Ok size
+      by_count_read (Ok count) read is =
+          let read_more = count_more d x header.order header.directory (count_bytes header.version) count read in
+          let same = lasts_chain (tiff_entries header count) (entries_advance header count)
+          (λ entries place. by_count Plain header count entries place tt
+          (record_plain header entries place)) d x size is in
+          ap (λ r. (go_on (span_of (d ++ x) header.directory (count_bytes header.version)) r
+          (λ count. chain_at (tiff_entries header count)
+          (d ++ x))).answer) read_more ∙ ap (λ w. w.answer) same ∙ is
+      by_count_read (Err e) read is = absurd cc
 
 -- bytes that follow change no size
 pub tiff_lasts : (d x : List ℕ) (size : ImageSize) → (tiff d).answer ≡ Ok size → (tiff (d ++ x)).answer ≡ Ok size
 tiff_lasts d x size = by_header (layout_reads d tiff_header).answer refl where
   by_header : (r : Result Header Halt) → (layout_reads d tiff_header).answer ≡ r
-      → (go_on (layout_reads d tiff_header).marks r (tiff_directory d)).answer ≡ Ok size → (tiff (d ++ x)).answer ≡ Ok size
+      → (go_on (layout_reads d tiff_header).marks r (tiff_directory d)).answer ≡ Ok size
+      → (tiff (d ++ x)).answer ≡ Ok size
   by_header (Ok header) read is =
       let same = more d x tiff_header header header_plain read in
       ap (λ w. (and_then w (tiff_directory (d ++ x))).answer) same
-      ∙ ap (λ r. (go_on (layout_reads d tiff_header).marks r (tiff_directory (d ++ x))).answer) read ∙ directory_lasts d x header size is
+      ∙ ap (λ r. (go_on (layout_reads d tiff_header).marks r (tiff_directory (d ++ x))).answer) read
+      ∙ directory_lasts d x header size is
   by_header (Err e) read is = absurd cc
 
 -- an entry is of bytes alone
-entry_of_bytes : (header : Header) (count : ℕ) (entries : List Entry) (place : ℕ) → AllRead false ((tiff_entries header count).said entries place)
+entry_of_bytes : (header : Header) (count : ℕ) (entries : List Entry) (place : ℕ)
+    → AllRead false ((tiff_entries header count).said entries place)
 entry_of_bytes header count entries place =
-    on_test (AllRead false) (eqb (length entries) count) (refuse NoDimensionsInIfd) (record_behind header entries place) (λ _. tt)
+    on_test (AllRead false) (eqb (length entries) count) (refuse NoDimensionsInIfd) (record_behind header entries place)
+    (λ _. tt)
     (λ _. without_texts false 20 (record_behind header entries place) (record_at_most header entries place))
 
 -- what is seen of an input
@@ -480,7 +545,8 @@ pub tiff_local : IsLocal false tiff
 tiff_local = local_then (λ d. layout_reads d tiff_header) (λ header d. tiff_directory d header)
     (local_layout tiff_header (without_texts false 16 tiff_header header_at_most))
     (λ header. local_then (λ d. number_read d header.order header.directory (count_bytes header.version))
-    (λ count d. chain_at (tiff_entries header count) d) (local_number header.order header.directory (count_bytes header.version))
+    (λ count d. chain_at (tiff_entries header count) d)
+    (local_number header.order header.directory (count_bytes header.version))
     (λ count. local_chain (tiff_entries header count) (entries_advance header count) (entry_of_bytes header count)))
 
 pub tiff_laws : RecordedLaws 12 36 20 true false tiff tiff_begun

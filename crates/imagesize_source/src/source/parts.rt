@@ -227,8 +227,8 @@ fn whole_part(bytes: &[u8], place: u64, count: usize) -> Option<&[u8]>
     Some(&rest[..count])
 }
 
-// How many bytes from an offset on lie within an input of this length, up to the length of the buffer.
-fn count_there(told: u64, place: u64, room: usize) -> usize
+/// How many bytes from an offset on lie within an input of this length, up to the length of the buffer.
+pub fn count_there(told: u64, place: u64, room: usize) -> usize
     ensures { result ≡ min room (told - place) }
 {
     let left = told.saturating_sub(place);
@@ -239,8 +239,8 @@ fn count_there(told: u64, place: u64, room: usize) -> usize
     }
 }
 
-// Whether the text may go on after these bytes, within the input.
-fn is_cut(text: Text, bytes: &[u8], wanted: usize) -> bool
+/// Whether the text may go on after these bytes, within the input.
+pub fn is_cut(text: Text, bytes: &[u8], wanted: usize) -> bool
     ensures { result ≡ (nat_lt (length bytes.now) wanted && not (is_ended text bytes.now)) }
 {
     bytes.len() < wanted && !is_closed(text, bytes)
@@ -265,8 +265,8 @@ fn gather(spans: &[Span], bytes: &[u8], told: u64, place: u64, room: &mut [u8]) 
     count
 }
 
-// Copies the first of these bytes into the buffer from an index on, as many as fit, and returns how many it copied.
-fn put(run: &[u8], room: &mut [u8], index: usize) -> usize
+/// Copies the first of these bytes into the buffer from an index on, as many as fit, and returns how many it copied.
+pub fn put(run: &[u8], room: &mut [u8], index: usize) -> usize
     requires { index ≤ length room.old }
     ensures count { result ≡ min (length run.now) (length room.old - index) }
     ensures copied { room.new ≡ take index room.old ++ take result run.now ++ drop (index + result) room.old }
@@ -322,7 +322,7 @@ fn count_before(start: u64, place: u64, most: u64) -> u64
 }
 
 // The bytes after the first `count`.
-#[tactic(auto, using(crate::proofs::Gathering::slice_behind))]
+#[tactic(auto, using(crate::proofs::Known::slice_behind))]
 fn bytes_behind(bytes: &[u8], count: u64) -> &[u8]
     ensures { result.now ≡ drop count bytes.now }
 {

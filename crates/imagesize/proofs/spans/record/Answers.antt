@@ -1,5 +1,6 @@
 use Rattle.std.proofs.Common.{rules, arith, ap, ◌∙◌}
 use Rattle.imagesize.proofs.Traces.{recorded_answer, recorded_count, recorded_goes, recorded_kind, recorded_spans}
+use Rattle.imagesize_source.specs.State.{home_of}
 use Rattle.imagesize.proofs.spans.record.Goals as goal
 
 pub returns-clause-kind : goal.returns-clause-kind
@@ -22,6 +23,6 @@ returns-clause-count c =
 
 pub returns-clause-spans : goal.returns-clause-spans
 returns-clause-spans c =
-    let name = ap (λ f. f.home) c.probe-kind.ensures.runs.frame ∙ c.new-source.ensures.same_reference in
+    let name = ap (λ f. home_of f.backing) c.probe-kind.ensures.runs.frame ∙ c.new-source.ensures.same_reference in
     recorded_spans _ _ _ _ _ _ (rw (c.new-source.ensures.bytes, c.new-source.ensures.spans) at c.probe-kind.ensures.runs) _ _ _
     (returns-clause-count c) c.probe-kind.new.source.written (search (rules, name))

@@ -20,12 +20,14 @@ returns-in-None-clause-runs g c = λ first held keeps.
     let so_far = c.loop-answer.invariant.strides first held keeps in
     let on = strides_on _ c.requires.follows _ so_far
     (λ held. g.R.Records.keeps c.read_record.new.self held (c.loop-answer.at + c.in-Ok-Other.length)) _ _
-    (rw (c.in-Ok-Other.field-0-is, c.loop-answer.invariant.same) at c.in-Ok-Other.ensures.runs) (rw c.in-Ok-Other.field-0-is at c.in-Ok-Other.ensures.keeps) in
+    (rw (c.in-Ok-Other.field-0-is, c.loop-answer.invariant.same) at c.in-Ok-Other.ensures.runs)
+    (rw c.in-Ok-Other.field-0-is at c.in-Ok-Other.ensures.keeps) in
     let far : c.loop-answer.at + c.in-Ok-Other.length < 2 ^ 64 → ⊥ = c.in-None.ensures in
     let ends = rw (c.read_record.ensures.same, c.loop-answer.invariant.same) at c.at_end.ensures.ends in
     strides_past _ c.requires.follows _ on c.at_end.result (omega (arith, far))
     (c.in-Ok-Other.ensures.runs so_far.held so_far.known).sound_after c.at_end.ensures.goes_on
-    (λ held d known short. ends held (c.loop-answer.at + c.in-Ok-Other.length) known d (c.loop-answer.at + c.in-Ok-Other.length) short)
+    (λ held d known short. ends held (c.loop-answer.at + c.in-Ok-Other.length) known d
+    (c.loop-answer.at + c.in-Ok-Other.length) short)
 
 pub returns-in-Err-clause-runs : goal.returns-in-Err-clause-runs
 returns-in-Err-clause-runs g c = λ first held keeps.
@@ -40,10 +42,12 @@ returns-in-Err-clause-stands g c = λ first held keeps faults.
 pub loop-answer-preserved-in-Some : goal.loop-answer-preserved-in-Some
 loop-answer-preserved-in-Some g c =
     let knows = rw c.in-Ok-Other.field-0-is at c.in-Ok-Other.ensures.keeps in
-    let more = strides_on _ c.requires.follows _ (c.loop-answer.invariant.strides 0 c.requires.keeps.0 c.requires.keeps.1)
+    let more = strides_on _ c.requires.follows _
+    (c.loop-answer.invariant.strides 0 c.requires.keeps.0 c.requires.keeps.1)
     (λ held. g.R.Records.keeps c.read_record.new.self held (c.loop-answer.at + c.in-Ok-Other.length)) _ _
     (rw (c.in-Ok-Other.field-0-is, c.loop-answer.invariant.same) at c.in-Ok-Other.ensures.runs) knows in
-    let next : (c.loop-answer.at + c.in-Ok-Other.length < 2 ^ 64) × (c.in-Some.next ≡ c.loop-answer.at + c.in-Ok-Other.length) = c.in-Some.ensures in
+    let next : (c.loop-answer.at + c.in-Ok-Other.length < 2 ^ 64) ×
+    (c.in-Some.next ≡ c.loop-answer.at + c.in-Ok-Other.length) = c.in-Some.ensures in
     record {
       same = c.read_record.ensures.same ∙ c.loop-answer.invariant.same;
       some = rw next.1 (more.held, more.known);

@@ -4,7 +4,8 @@ use Rattle.imagesize_boxes.proofs.formats.heif.PropertiesRecords.read_record.Goa
 
 pub returns-in_err-property-clause-runs : goal.returns-in_err-property-clause-runs
 returns-in_err-property-clause-runs g c = λ held amounts.
-    let h = listed_out c.args.self.now.all c.args.self.now.gathered c.args.place held amounts _ c.in_err-property.ensures.runs in
+    let h = listed_out c.args.self.now.all c.args.self.now.gathered c.args.place held amounts _
+    c.in_err-property.ensures.runs in
     search (rules, h)
 
 pub returns-clause-keeps : goal.returns-clause-keeps
