@@ -40,7 +40,7 @@ pub fn blob_spans(data: &[u8], room: &mut [Span]) -> usize
     count
 }
 
-// What is found in a slice.
+// What a slice holds, and how many spans its reads have.
 #[derive(Drop)]
 pub(crate) struct Recorded {
     pub(crate) kind: Option<ImageType>,

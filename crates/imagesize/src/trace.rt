@@ -65,7 +65,7 @@ pub fn blob_trace<A: Allocator>(alloc: A, data: &[u8]) -> Result<Trace<A>, Alloc
     })
 }
 
-// So many spans without a byte.
+// A list of `count` empty spans.
 fn empty_spans<A: Allocator>(alloc: A, count: usize) -> Result<Vec<Span, A>, AllocError>
     ensures many { IfOk result (λ spans. length spans.items ≡ count) }
     ensures none { count ≡ 0 → IsOk result }

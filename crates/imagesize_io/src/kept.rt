@@ -37,7 +37,7 @@ impl<R: Read + Seek + Drop> KeptReader<R> {
         }
     }
 
-    /// Wraps a buffered reader at offset 0, as of a file that was just opened, and does not ask for its offset.
+    /// Wraps a buffered reader at offset 0, such as a file that was just opened. Does not ask for its offset.
     pub fn at_start(reader: BufReader<R>) -> Self
         ensures reader { result.reader ≡ reader }
         ensures place { result.place ≡ Some 0 }

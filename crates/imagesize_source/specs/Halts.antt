@@ -37,7 +37,7 @@ error_by failure budget halt.InvalidHdrDimensionsLine = IoError reason.InvalidHd
 error_by failure budget halt.HdrDimensionsNotFound = IoError reason.HdrDimensionsNotFound
 error_by failure budget halt.PnmDimensionsNotFound = IoError reason.PnmDimensionsNotFound
 
--- the error of a `Halt` that a layout states; it is never a failed call, a spent budget or a failed allocation
+-- the error of a `Halt` that a layout states; it is never a failed call or a spent budget
 abbrev pub error_of : Halt → ImageError
 error_of = error_by end_of_input 0
 

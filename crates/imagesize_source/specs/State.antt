@@ -16,26 +16,27 @@ pub record Behind : Type 0 where
   pub can_fail : Bool
   pub interruptions : Option ℕ
 
--- What is behind a source, and never changes: a slice; a slice, and the name of the borrow of the buffer for its spans; the
--- known parts of an input, and their bytes; or a reader. Of a reader it is the name of its borrow, by how much the reader's
--- own count is above `taken` and by how much it is below, and the model of the reader.
+-- What a source reads from; it never changes. `Slice` is a slice, and `Recorded` a slice with the name of the borrow
+-- of its span buffer. `Parts` are the known parts of an input and their bytes. `Reader` has the name of a reader's
+-- borrow, how its own count differs from `taken`, and its model. The difference is two numbers: how much the count is
+-- above `taken`, and how much below.
 pub data Backing : Type 0 where
   Slice : Backing
   Recorded : ℕ → Backing
   Parts : List Span → List ℕ → Backing
   Reader : ℕ → Option (ℕ × ℕ) → Option Behind → Backing
 
--- the parts of it, if these are known
+-- the known parts, if the source has parts
 abbrev pub parts_of : Backing → Option (List Span × List ℕ)
 parts_of (Parts spans bytes) = Some (spans, bytes)
 parts_of _ = None
 
--- the name of the borrow of its buffer
+-- the name of the borrow of its span buffer
 abbrev pub home_of : Backing → ℕ
 home_of (Recorded home) = home
 home_of _ = 0
 
--- what is known of the count of its reader
+-- how the count of its reader differs from `taken`
 abbrev pub since_of : Backing → Option (ℕ × ℕ)
 since_of (Reader home since behind) = since
 since_of _ = None
@@ -45,8 +46,8 @@ abbrev pub model_of : Backing → Option Behind
 model_of (Reader home since behind) = behind
 model_of _ = None
 
--- What never changes about a source: the reported length, the budget, whether the bytes read are counted, and what is
--- behind it.
+-- What never changes about a source: the reported length, the budget, whether the bytes read are counted, and what it
+-- reads from.
 pub record Frame : Type 0 where
   pub told : ℕ
   pub budget : ℕ

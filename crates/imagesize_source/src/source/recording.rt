@@ -60,7 +60,7 @@ impl<'a, 'b> RecordingSource<'a, 'b> {
     }
 }
 
-// Writes a span behind `count` others, if it fits.
+// Writes a span after `count` others, if it fits.
 fn put(buffer: &mut [Span], count: usize, span: Span)
     ensures { (spans : List Span) → count ≡ min (length spans) (2 ^ 64 - 1) → Holds buffer.old spans
         → Holds buffer.new (spans ++ span ∷ []) }
