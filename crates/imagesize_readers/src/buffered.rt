@@ -109,6 +109,37 @@ fn a_reader_of_known_length_makes_no_seek(rt: HostRuntime) -> Result<(), Fail> {
 }
 
 #[test]
+fn the_first_bytes_are_given_again_from_far_behind(rt: HostRuntime) -> Result<(), Fail> {
+    let mut bytes = Vec::from_elem(rt.alloc(), 7u8, 20_000)?;
+    bytes[13] = 1;
+    bytes[31] = 2;
+    bytes[32] = 3;
+    let mut made = NONE;
+    let counted = Counted {
+        inner: Cursor::new(bytes.as_slice()),
+        made: &mut made,
+    };
+    let mut reader = SizedReader::new(BufReader::new(rt.alloc(), counted)?, Some(20_000));
+    assert!(rt; matches!(reader.read_told(&mut [0u8; 12]), Ok(12)));
+    assert_eq!(rt; reader.seek_told(SeekFrom::Start(19_982))?, 19_982);
+    assert!(rt; matches!(reader.read_told(&mut [0u8; 18]), Ok(18)));
+    let mut room = [0u8; 2];
+    assert_eq!(rt; reader.seek_told(SeekFrom::Start(12))?, 12);
+    assert!(rt; matches!(reader.read_told(&mut room), Ok(2)));
+    assert_eq!(rt; room, [7, 1]);
+    assert_eq!(rt; reader.seek_told(SeekFrom::Current(0))?, 14);
+    assert_eq!(rt; reader.seek_told(SeekFrom::Start(31))?, 31);
+    assert!(rt; matches!(reader.read_told(&mut room), Ok(1)));
+    assert_eq!(rt; room, [2, 1]);
+    assert!(rt; matches!(reader.read_told(&mut room), Ok(2)));
+    assert_eq!(rt; room, [3, 7]);
+    drop(reader);
+    // The second seek is to offset 32, after the bytes that were kept.
+    assert_eq!(rt; made, Made { reads: 3, seeks: 2 });
+    Ok(())
+}
+
+#[test]
 fn a_reader_of_known_length_reads_nothing_at_its_end(rt: HostRuntime) -> Result<(), Fail> {
     let bytes = [1u8, 2, 3];
     let mut reader = SizedReader::new(
