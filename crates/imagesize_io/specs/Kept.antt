@@ -1,5 +1,7 @@
 -- The offset of a buffered reader, as far as it is known.
-use Rattle.std.specs.Prelude.{◌≡◌, ℕ, List, length, take, drop, ◌≤◌, ◌+◌, ◌^◌, ◌<◌, ◌⊎◌, nat_lt, if◌then◌else◌, Option, None, Some, Result, Ok, Err, IfSome, ⊤}
+use Rattle.std.specs.Prelude.{◌≡◌, ℕ, Bool, false, ◌==◌, List, length, take, drop, ◌≤◌, ◌+◌, ◌^◌, ◌<◌, ◌⊎◌, nat_lt, if◌then◌else◌, Option, None, Some, Result, Ok, Err, IfSome, ⊤}
+use Rattle.imagesize_source.specs.Input.{part}
+use Rattle.imagesize_io.specs.ReaderState.{kept_window}
 use Rattle.std.specs.Io.Buffered.{reader_buffer, reader_inner}
 use Rattle.std.specs.declared.io.buffered.BufReader.{BufReader}
 use Rattle.std.specs.declared.io.traits.SeekFrom.{SeekFrom}
@@ -40,3 +42,18 @@ abbrev pub HeldOf : {T A : Type 0} → BufReader T A → BufReader T A → List 
 HeldOf old new room n =
     (n ≤ length (reader_buffer old)) × (take n room ≡ take n (reader_buffer old)) × (reader_buffer new ≡ drop n (reader_buffer old))
     × (reader_inner new ≡ reader_inner old)
+
+-- whether the place is known to be the first
+abbrev pub is_start : Option ℕ → Bool
+is_start (Some place) = place == 0
+is_start None = false
+
+-- the first bytes, once these came from a place on: those at the start, and what the buffer has behind them
+abbrev pub front_after : Option ℕ → List ℕ → List ℕ → List ℕ → List ℕ
+front_after place front bytes buffer =
+    if is_start place then kept_window (kept_window front 0 bytes) (length bytes) buffer else front
+
+-- a read gives first bytes again, from a place on, and the place moves with them
+abbrev pub GivesAgain : {E : Type 0} → List ℕ → ℕ → List ℕ → Result ℕ E → Option ℕ → Type 0
+GivesAgain front place room r place' =
+    (n : ℕ) × (r ≡ Ok n) × (0 < n) × (take n room ≡ part front place n) × (place' ≡ Some (place + n))

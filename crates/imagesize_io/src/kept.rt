@@ -47,6 +47,20 @@ impl<R: Read + Seek + Drop> KeptReader<R> {
             place: Some(0),
         }
     }
+
+    // The bytes in the buffer.
+    pub(crate) fn buffer(&self) -> &[u8]
+        ensures { result.now ≡ reader_buffer self.now.reader }
+    {
+        self.reader.buffer()
+    }
+
+    // The offset, if it is known.
+    pub(crate) fn place(&self) -> Option<u64>
+        ensures { result ≡ self.now.place }
+    {
+        self.place
+    }
 }
 
 impl<R: Read + Seek + Drop> Told for KeptReader<R> {
