@@ -15,7 +15,7 @@ use imagesize_source::Text;
 use std::fs::OpenFile;
 use std::io::{self, BufReader, Read, Seek, SeekFrom};
 
-/// A buffered reader at offset 0, as of a file that was just opened, with the length of its input in bytes if that is known.
+/// A buffered reader at offset 0, as of a file that was just opened, with the length of its input in bytes if known.
 /// A seek to the end makes no call of the inner reader then, unless a read follows there. Nor does a seek back to the first
 /// bytes, from where the buffer no longer has them: these are kept, and are given again as they were read.
 ///

@@ -27,7 +27,7 @@ same_state : (d e : List ℕ) (spans after : List Span) (home there : ℕ) → e
     → recording_state e after there ≡ recording_state d spans home
 same_state d e spans after home there bytes same name =
     ap (λ x. recording_state x after there) bytes ∙ ap (λ x. recording_state d x there) same
-    ∙ ap (recording_state d spans ) name
+    ∙ ap (recording_state d spans) name
 
 -- readings of a slice whose spans were recorded
 recording_runs : {X : Type 0} {reads : Reads X} (d e : List ℕ) (spans after : List Span) (home there : ℕ) (x : X)

@@ -14,7 +14,7 @@ use imagesize_source::readings::read_bytes;
 use imagesize_source::source::Source;
 use imagesize_types::size::ImageSize;
 
-/// Whether a codestream or a signature box stands first.
+/// Whether the input begins with a codestream or with a signature box.
 #[inline(always)]
 #[tactic(auto, unfolding(crate::specs::Jxl::is_jxl))]
 pub fn matches(head: &[u8; 12]) -> bool
@@ -29,12 +29,15 @@ pub fn matches(head: &[u8; 12]) -> bool
         )
 }
 
-/// The width and the height in pixels, by the header of the codestream, as the image is shown: where its orientation
-/// says so, they are exchanged.
+/// The width and the height in pixels, from the header of the codestream, as the image is shown: some orientations
+/// exchange them.
 ///
-/// `Corrupted` where a box ends above 2^64-1, or the header is not there whole; `InvalidJxlBoxSize` of a box that is
-/// smaller than its head; `InvalidJxlSignature` of a codestream that does not begin with its signature; `Ended` where
-/// the input ends before its first two bytes, or before a box's head or long size, and of a part too short for its index.
+/// Errors:
+/// - `Corrupted` if a box ends above 2^64-1, or the header is cut.
+/// - `InvalidJxlBoxSize` if a box is smaller than its own header.
+/// - `InvalidJxlSignature` if the codestream does not begin with its signature.
+/// - `Ended` if the input ends within its first two bytes, or within the header of a box. The same of a `jxlp` box that is
+///   too short for its index.
 pub fn size<S: Source>(source: &mut S) -> Result<ImageSize, Halt>
     ensures { Runs (S.state source.old) (S.state source.new) result
         (jxl (S.state source.old).held.input) }
@@ -43,7 +46,7 @@ pub fn size<S: Source>(source: &mut S) -> Result<ImageSize, Halt>
     front.size()
 }
 
-// The first bytes of the codestream, which stands alone or in boxes.
+// The first bytes of the codestream, which is the whole input or is in boxes.
 #[tactic(auto, using(imagesize_source::proofs::Runs::steps))]
 fn read_codestream<S: Source>(source: &mut S) -> Result<Front, Halt>
     ensures { Runs (S.state source.old) (S.state source.new) result
@@ -55,7 +58,7 @@ fn read_codestream<S: Source>(source: &mut S) -> Result<Front, Halt>
     }
 }
 
-// Those of a codestream that stands alone; none where boxes stand.
+// The first bytes of an input that is a codestream, or `None` if it has boxes.
 #[tactic(auto, using(imagesize_source::proofs::Runs::steps))]
 fn read_start<S: Source>(source: &mut S) -> Result<Option<Front>, Halt>
     ensures { Follows (S.state source.old) (S.state source.new) result jxl_start }

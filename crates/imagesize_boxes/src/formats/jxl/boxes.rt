@@ -18,7 +18,7 @@ use imagesize_source::source::Source;
 use imagesize_source::walk::{Found, Records, walk};
 use imagesize_source::{Endian, Halt};
 
-// The first bytes of the codestream in the boxes behind the signature box.
+// The first bytes of the codestream, from the boxes after the signature box.
 pub(super) fn read_codestream<S: Source>(source: &mut S) -> Result<Front, Halt>
     ensures { Runs (S.state source.old) (S.state source.new) result
         (chain_at jxl_chain (S.state source.old).held.input) }
@@ -29,7 +29,7 @@ pub(super) fn read_codestream<S: Source>(source: &mut S) -> Result<Front, Halt>
     walk(boxes, source, 12)
 }
 
-// The boxes, and what those so far hold of the codestream.
+// The boxes, and the first bytes of the codestream from the boxes so far.
 #[derive(Drop)]
 struct Boxes {
     front: Front,
@@ -68,17 +68,17 @@ impl Records for Boxes {
     }
 }
 
-// The head of a box.
+// The header of a box.
 #[derive(Clone, Copy)]
 struct BoxHead {
     tag: [u8; 4],
-    // How many bytes the box has, with its head. An open box, which goes on to the end, has 0.
+    // The length of the box in bytes, including its header. 0 means that the box extends to the end of the input.
     size: u64,
-    // How many of them are the head.
+    // The length of the header in bytes.
     length: u64,
 }
 
-// The box at a place, behind boxes with these bytes of the codestream.
+// Reads the box at an offset. `front` has the bytes of the codestream from the boxes before it.
 #[tactic(auto, using(imagesize_source::proofs::Runs::steps, imagesize_source::proofs::Layouts::binding))]
 fn read_box<S: Source>(
     source: &mut S,
@@ -94,7 +94,7 @@ fn read_box<S: Source>(
     read_content(source, place, &head, front)
 }
 
-// The head of the box at a place.
+// Reads the header of the box at an offset.
 #[tactic(auto, using(imagesize_source::proofs::Runs::steps), unfolding(crate::specs::Jxl::box_head))]
 fn read_head<S: Source>(source: &mut S, place: u64) -> Result<BoxHead, Halt>
     ensures nears { IfOk result (λ head. ahead_of (S.state source.new) (place + 1) < ahead_of (S.state source.old) place) }
@@ -126,7 +126,7 @@ fn read_head<S: Source>(source: &mut S, place: u64) -> Result<BoxHead, Halt>
     }
 }
 
-// The size in the first eight bytes of a box; 1 stands for a longer one behind them.
+// The size in the first eight bytes of a box. 1 means that a size of eight bytes follows.
 #[inline]
 #[tactic(auto, using(imagesize_source::proofs::Bytes::first_four))]
 fn short_size(head: &[u8; 8]) -> u32
@@ -143,7 +143,7 @@ fn tag(head: &[u8; 8]) -> [u8; 4]
     [head[4], head[5], head[6], head[7]]
 }
 
-// The size of eight bytes behind the first eight of a box.
+// Reads the size of eight bytes after the first eight bytes of a box.
 fn read_long_size<S: Source>(source: &mut S, place: u64) -> Result<u64, Halt>
     ensures { Runs (S.state source.old) (S.state source.new) result
         (number_read (S.state source.old).held.input endian.Big (place + 8) 8) }
@@ -151,7 +151,7 @@ fn read_long_size<S: Source>(source: &mut S, place: u64) -> Result<u64, Halt>
     read_u64(source, place.saturating_add(8), Endian::Big)
 }
 
-// The head, where the box ends at 2^64-1 at the latest and not before its head does.
+// The header. It is an error if the box ends above 2^64-1, or within its own header.
 #[tactic(auto, using(std::proofs::lemmas::Nat::be_bytes_4))]
 fn check_head(place: u64, head: BoxHead) -> Result<BoxHead, Halt>
     requires { head.length ≤ 16 }
@@ -171,7 +171,7 @@ fn check_head(place: u64, head: BoxHead) -> Result<BoxHead, Halt>
     Ok(head)
 }
 
-// What the content of the box at a place says.
+// Reads the content of the box at an offset.
 #[tactic(auto, using(imagesize_source::proofs::Runs::steps, imagesize_source::proofs::Layouts::binding))]
 fn read_content<S: Source>(
     source: &mut S,
@@ -209,7 +209,7 @@ fn is_partial_box(head: &BoxHead) -> bool
     matches!(head.tag, [b'j', b'x', b'l', b'p'])
 }
 
-// How many bytes of content a box has. Of an open box as many as are looked at.
+// The length of a box's content in bytes. Of a box that extends to the end of the input, no more than `MOST` are needed.
 #[inline]
 fn room(head: &BoxHead) -> u64
     requires { 0 < head.now.size → head.now.length ≤ head.now.size }
@@ -221,7 +221,7 @@ fn room(head: &BoxHead) -> u64
     head.size - head.length
 }
 
-// The first bytes of the codestream, in the one box that has it whole.
+// Reads the first bytes of the codestream from a box that has all of it.
 #[tactic(auto, using(imagesize_source::proofs::Runs::steps, imagesize_source::proofs::Layouts::binding))]
 fn read_whole<S: Source>(source: &mut S, place: u64, head: &BoxHead) -> Result<Front, Halt>
     requires sound { IsSound (S.state source.old) }
@@ -232,7 +232,7 @@ fn read_whole<S: Source>(source: &mut S, place: u64, head: &BoxHead) -> Result<F
     read_piece(source, place, head.length, most)
 }
 
-// A piece of the codestream, behind its index.
+// Reads a part of the codestream, which follows its index in the box.
 #[tactic(auto, using(imagesize_source::proofs::Runs::steps, imagesize_source::proofs::Layouts::binding))]
 fn read_partial<S: Source>(
     source: &mut S,
@@ -256,7 +256,7 @@ fn read_partial<S: Source>(
     Ok(behind_piece(place, head, front, index, piece))
 }
 
-// What is there of so many bytes, so far behind a place. No byte is no reading.
+// Reads at most `most` bytes at a distance from an offset. For 0 bytes nothing is read.
 fn read_piece<S: Source>(
     source: &mut S,
     place: u64,
@@ -279,7 +279,7 @@ fn read_piece<S: Source>(
     Ok(piece)
 }
 
-// What is there, so far behind a place, into the room; and how many bytes that is.
+// Reads the bytes at a distance from an offset into the buffer, and returns how many there are.
 fn read_there<S: Source>(
     source: &mut S,
     place: u64,
@@ -294,7 +294,7 @@ fn read_there<S: Source>(
     source.read_at(place.saturating_add(distance), room)
 }
 
-// What a piece says: the walk ends where all bytes are there, or where its index says that it is the last.
+// The result of a part: it is the last one if all bytes are there, or if its index says so.
 fn behind_piece(
     place: u64,
     head: &BoxHead,
@@ -314,7 +314,7 @@ fn behind_piece(
     found_behind(place, head, front, piece)
 }
 
-// What a box with this piece says. An open box is the last.
+// The result of a box with this part. A box that extends to the end of the input is the last one.
 fn found_behind(place: u64, head: &BoxHead, front: &Front, piece: Front) -> Found<Front, Front>
     requires is { IsHead place head.now }
     requires fits { length front.now + length piece ≤ 16 }
@@ -331,7 +331,7 @@ fn found_behind(place: u64, head: &BoxHead, front: &Front, piece: Front) -> Foun
     }
 }
 
-// The bytes and the piece behind them.
+// The bytes, followed by the part.
 fn join(front: &Front, piece: &Front) -> Front
     requires { length front.now + length piece.now ≤ 16 }
     ensures { result ≡ front.now ++ piece.now }

@@ -7,10 +7,10 @@ use imagesize_source::Halt;
 use imagesize_types::size::ImageSize;
 use std::marker::Model;
 
-// How many of them are looked at.
+// No more bytes of a codestream are needed.
 pub(super) const MOST: usize = 16;
 
-// At most sixteen bytes: the first of a codestream, or a piece of them.
+// At most sixteen bytes: the first bytes of a codestream, or a part of them.
 #[derive(Drop)]
 pub(super) struct Front {
     bytes: [u8; MOST],
@@ -26,7 +26,7 @@ impl Model for Front {
 }
 
 impl Front {
-    // No byte.
+    // No bytes.
     pub(super) fn new() -> Front
         ensures { result ≡ [] }
     {
@@ -36,7 +36,7 @@ impl Front {
         }
     }
 
-    // The two bytes, and so many of those behind them.
+    // The two bytes, followed by the first `there` bytes of the others.
     #[inline]
     pub(super) fn of_start(start: [u8; 2], behind: [u8; 14], there: usize) -> Front
         requires { there ≤ 14 }
@@ -50,14 +50,14 @@ impl Front {
         }
     }
 
-    // How many bytes there are.
+    // The number of bytes.
     pub(super) fn len(&self) -> usize
         ensures { result ≡ length self.now }
     {
         self.len
     }
 
-    // For how many more there is room.
+    // How many more bytes fit.
     pub(super) fn room(&self) -> usize
         ensures is { result ≡ 16 - length self.now }
         ensures few { length self.now ≤ 16 }
@@ -71,7 +71,7 @@ impl Front {
         &self.bytes[..self.len]
     }
 
-    // Adds bytes for which there is room.
+    // Appends bytes, which must fit.
     pub(super) fn extend(&mut self, more: &[u8])
         requires { length self.old + length more.now ≤ 16 }
         ensures { self.new ≡ self.old ++ more.now }
@@ -81,7 +81,7 @@ impl Front {
         self.len = end;
     }
 
-    // The size by the header of the codestream.
+    // The size in the header of the codestream.
     #[inline(always)]
     pub(super) fn size(&self) -> Result<ImageSize, Halt>
         ensures { result ≡ jxl_size self.now }
