@@ -190,6 +190,9 @@ class Reading(unittest.TestCase):
                 with self.assertRaises(ImageError) as raised:
                     imagesize.probe(form)
                 self.assertEqual((raised.exception.status, raised.exception.image_type), (Status.NOT_SUPPORTED, None))
+            with self.assertRaises(ImageError) as raised:
+                imagesize.image_type(file.name)
+        self.assertEqual((raised.exception.image_type, raised.exception.filename), (None, file.name))
 
     def test_budget_of_any_length(self) -> None:
         """A budget may be longer than any input. It is 64 MiB where a call names no other, and the spans are 65536."""
