@@ -55,10 +55,10 @@ static size_t tiff(uint8_t *bytes, uint32_t offset)
     return offset + sizeof directory - 1;
 }
 
-/* An input in memory. It counts the bytes that are read, and may fail at one of its reads. */
+/* An input in memory. It counts the bytes that are read, and the first reads that have a block each. It may fail at one of its reads. */
 struct input {
     const uint8_t *bytes;
-    size_t length, readings, given, failing;
+    size_t length, readings, given, failing, small;
 };
 
 static uint32_t read_input(void *reader, uint8_t *bytes, size_t length, uint64_t offset)
@@ -67,6 +67,8 @@ static uint32_t read_input(void *reader, uint8_t *bytes, size_t length, uint64_t
     input->readings++;
     input->given += length;
     expect(length > 0 && offset < input->length && length <= input->length - offset, "only bytes of the input are read");
+    expect(offset % 4096 == 0 && ((offset + length) % 4096 == 0 || offset + length == input->length), "blocks of 4096 bytes are read");
+    input->small = input->given == 4096 * input->readings ? input->readings : input->small;
     if (input->readings == input->failing) {
         return IMAGESIZE_FAULT;
     }
@@ -99,7 +101,7 @@ static int is_none(const imagesize_image *image)
 /* The same bytes by a reader, a stream, a descriptor and a path: each gives this size, and few bytes are read. */
 static void sized(const uint8_t *bytes, size_t length, uint64_t width, uint64_t height, size_t most_readings, size_t most_given)
 {
-    struct input input = {bytes, length, 0, 0, 0};
+    struct input input = {bytes, length, 0, 0, 0, 0};
     imagesize_image image;
     expect(is_size(imagesize_reader_probe(&input, read_input, length, &image), &image, width, height), "the size by a reader");
     expect(input.readings <= most_readings && input.given <= most_given, "and few bytes are read");
@@ -133,7 +135,7 @@ static void images(uint8_t *bytes)
 /* If a read fails, the call returns its status, whatever it is, and the image has no number from before. */
 static void failing_readings(uint8_t *bytes)
 {
-    struct input input = {bytes, jpeg(bytes, 3, 65533), 0, 0, 1};
+    struct input input = {bytes, jpeg(bytes, 3, 65533), 0, 0, 1, 0};
     for (; input.failing <= 4; input.failing++) {
         imagesize_image image = {1, 2, 3, 4};
         input.readings = 0;
@@ -143,23 +145,33 @@ static void failing_readings(uint8_t *bytes)
 
 static void refused_images(void)
 {
-    struct input input = {gif, 9, 0, 0, 0};
+    struct input input = {gif, 9, 0, 0, 0, 0};
     imagesize_image image = {1, 2, 3, 4};
     expect(imagesize_reader_probe(&input, read_input, 9, &image) == IMAGESIZE_END_OF_INPUT && is_none(&image), "a short input");
     input.length = 0;
     expect(imagesize_reader_probe(&input, read_input, 0, &image) == IMAGESIZE_END_OF_INPUT && is_none(&image), "an empty input");
-    input = (struct input){(const uint8_t *)"\xff\xd8\xff\xe0\0\x10JFIF\0\x01", 12, 0, 0, 0};
+    input = (struct input){(const uint8_t *)"\xff\xd8\xff\xe0\0\x10JFIF\0\x01", 12, 0, 0, 0, 0};
     expect(imagesize_reader_probe(&input, read_input, 12, &image) == IMAGESIZE_END_OF_INPUT && image.type == IMAGESIZE_JPEG
                && image.width == 0, "a JPEG that is cut has a type");
     uint64_t given = 0;
     expect(imagesize_reader_probe(&given, read_segments, UINT64_C(1) << 40, &image) == IMAGESIZE_BUDGET_SPENT, "segments without end");
-    expect(given <= IMAGESIZE_FILE_MOST && given > IMAGESIZE_FILE_MOST / 2, "and 64 MiB of them are read");
+    expect(given == 64 << 20, "and 64 MiB of them are read");
+}
+
+/* A JPEG whose segments are far apart: after 64 blocks larger ones are read. */
+static void many_blocks(uint8_t *bytes)
+{
+    struct input input = {bytes, jpeg(bytes, 300, 9000), 0, 0, 0, 0};
+    imagesize_image image;
+    expect(is_size(imagesize_reader_probe(&input, read_input, input.length, &image), &image, 7, 5), "the size after many segments");
+    expect(input.small == 65 && input.readings < 80, "blocks grow after 64 of them");
 }
 
 /* Inputs that are no regular file: errno says why. */
 static void no_files(void)
 {
-    imagesize_image image = {1, 2, 3, 4};
+    const imagesize_image before = {1, 2, 3, 4};
+    imagesize_image image;
     char folder[] = "/tmp/imagesize-XXXXXX", pipe_name[64];
     if (mkdtemp(folder) == NULL || snprintf(pipe_name, sizeof pipe_name, "%s/pipe", folder) < 0 || mkfifo(pipe_name, 0600) != 0) {
         expect(0, "a pipe can be made");
@@ -168,12 +180,16 @@ static void no_files(void)
     const struct { const char *path; int why; } wrong[] = {{folder, EISDIR}, {pipe_name, ESPIPE}, {"/none/of/this", ENOENT}};
     for (size_t i = 0; i < 3; i++) {
         errno = 0;
+        image = before;
         expect(imagesize_path_probe(wrong[i].path, &image) == IMAGESIZE_FAULT && errno == wrong[i].why && is_none(&image), wrong[i].path);
     }
     int ends[2];
     FILE *stream = pipe(ends) == 0 ? fdopen(ends[0], "rb") : NULL;
-    expect(stream != NULL && imagesize_stdio_probe(stream, &image) == IMAGESIZE_FAULT && errno == ESPIPE, "a stream of a pipe");
-    expect(imagesize_fd_probe(-1, &image) == IMAGESIZE_FAULT && errno == EBADF, "no descriptor");
+    image = before;
+    expect(stream != NULL && imagesize_stdio_probe(stream, &image) == IMAGESIZE_FAULT && errno == ESPIPE && is_none(&image),
+           "a stream of a pipe");
+    image = before;
+    expect(imagesize_fd_probe(-1, &image) == IMAGESIZE_FAULT && errno == EBADF && is_none(&image), "no descriptor");
     if (stream != NULL) {
         fclose(stream);
         close(ends[1]);
@@ -207,6 +223,7 @@ int main(void)
     images(bytes);
     failing_readings(bytes);
     refused_images();
+    many_blocks(bytes);
     no_files();
     shrunk_files();
     free(bytes);

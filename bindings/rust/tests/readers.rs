@@ -267,8 +267,10 @@ fn a_walk_from_block_to_block_reads_each_byte_once_and_seeks_no_more() {
 
 #[test]
 fn a_walk_over_many_places_takes_few_readings() {
-    let mut reader = Counting::new(jpeg(1_000, 9_000));
+    let mut reader = Counting::new(jpeg(1_000, 3 * 4096 - 2));
     assert_eq!(reader_size(&mut reader).ok(), Some(pixels(7, 5)));
+    let grown = reader.readings.iter().position(|reading| reading.1 > 4096);
+    assert_eq!(grown, Some(65));
     assert!(
         reader.readings.len() <= 80,
         "{} readings",
@@ -321,7 +323,7 @@ fn a_walk_without_end_is_refused() {
     let mut endless = Endless { place: 0, given: 0 };
     let refused = reader_size(&mut endless).expect_err("no size");
     assert_eq!(refused.to_string(), "Read budget is spent");
-    assert!(endless.given <= 65 << 20, "{} bytes", endless.given);
+    assert_eq!(endless.given, 64 << 20);
 }
 
 #[test]
