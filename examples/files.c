@@ -198,6 +198,19 @@ static void no_files(void)
     remove(folder);
 }
 
+/* A stream that stands at its first byte, and one of an empty file. */
+static void streams(void)
+{
+    imagesize_image image;
+    FILE *file = tmpfile();
+    expect(file != NULL && imagesize_stdio_probe(file, &image) == IMAGESIZE_END_OF_INPUT && is_none(&image), "a stream of an empty file");
+    expect(file != NULL && fwrite(gif, 1, 12, file) == 12 && fseek(file, 0, SEEK_SET) == 0, "a file can be written");
+    expect(file != NULL && is_size(imagesize_stdio_probe(file, &image), &image, 640, 480) && ftell(file) == 0, "a stream at its start");
+    if (file != NULL) {
+        fclose(file);
+    }
+}
+
 /* A file that became shorter after its length was read. */
 static void shrunk_files(void)
 {
@@ -225,6 +238,7 @@ int main(void)
     refused_images();
     many_blocks(bytes);
     no_files();
+    streams();
     shrunk_files();
     free(bytes);
     printf("files and readers: %s\n", failures == 0 ? "as they should be" : "NOT as they should be");
