@@ -76,13 +76,19 @@ static uint32_t read_input(void *reader, uint8_t *bytes, size_t length, uint64_t
     return IMAGESIZE_ANSWERED;
 }
 
-/* An input of segments without end. */
+/* A JPEG of segments without end, each of this many bytes. It counts the bytes that are read. */
+struct segments {
+    uint64_t segment, given;
+};
+
 static uint32_t read_segments(void *reader, uint8_t *bytes, size_t length, uint64_t offset)
 {
-    *(uint64_t *)reader += length;
+    struct segments *of = reader;
+    const uint8_t head[4] = {0xff, 0xe0, (uint8_t)((of->segment - 2) >> 8), (uint8_t)(of->segment - 2)};
+    of->given += length;
     for (size_t i = 0; i < length; i++) {
-        uint64_t place = offset + i;
-        bytes[i] = place == 1 ? 0xd8 : (uint8_t)"\xff\xe0\0\x06\0\0\0\0"[(place + 6) % 8];
+        uint64_t place = offset + i, within = (place + of->segment - 2) % of->segment;
+        bytes[i] = place == 1 ? 0xd8 : within < 4 ? head[within] : 0;
     }
     bytes[0] = offset == 0 ? 0xff : bytes[0];
     return IMAGESIZE_ANSWERED;
@@ -153,9 +159,11 @@ static void refused_images(void)
     input = (struct input){(const uint8_t *)"\xff\xd8\xff\xe0\0\x10JFIF\0\x01", 12, 0, 0, 0, 0};
     expect(imagesize_reader_probe(&input, read_input, 12, &image) == IMAGESIZE_END_OF_INPUT && image.type == IMAGESIZE_JPEG
                && image.width == 0, "a JPEG that is cut has a type");
-    uint64_t given = 0;
-    expect(imagesize_reader_probe(&given, read_segments, UINT64_C(1) << 40, &image) == IMAGESIZE_BUDGET_SPENT, "segments without end");
-    expect(given == 64 << 20, "and 64 MiB of them are read");
+    for (uint64_t segment = 8; segment <= 3 * 4096; segment += 3 * 4096 - 8) {
+        struct segments of = {segment, 0};
+        expect(imagesize_reader_probe(&of, read_segments, UINT64_C(1) << 40, &image) == IMAGESIZE_BUDGET_SPENT, "segments without end");
+        expect(of.given == 64 << 20, "and 64 MiB of them are read");
+    }
 }
 
 /* A JPEG whose segments are far apart: after 64 blocks larger ones are read. */
