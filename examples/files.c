@@ -219,6 +219,21 @@ static void streams(void)
     }
 }
 
+/* A program without a standard input: the file that the call opens gets descriptor 0. */
+static void lowest_descriptor(void)
+{
+    imagesize_image image;
+    char name[] = "/tmp/imagesize-XXXXXX";
+    int descriptor = mkstemp(name);
+    expect(descriptor >= 0 && write(descriptor, gif, 12) == 12, "a file can be written");
+    close(0);
+    expect(is_size(imagesize_path_probe(name, &image), &image, 640, 480), "the size by descriptor 0");
+    if (descriptor > 0) {
+        close(descriptor);
+    }
+    remove(name);
+}
+
 /* A file that became shorter after its length was read. */
 static void shrunk_files(void)
 {
@@ -248,6 +263,7 @@ int main(void)
     no_files();
     streams();
     shrunk_files();
+    lowest_descriptor();
     free(bytes);
     printf("files and readers: %s\n", failures == 0 ? "as they should be" : "NOT as they should be");
     return failures != 0;
