@@ -6,7 +6,32 @@
  * The status is 0 if each call does what it should.
  */
 #define _POSIX_C_SOURCE 200809L
+#include <stdlib.h>
+
+/* The number of allocations before the one that fails. None fails if it is negative. */
+static long allocations = -1;
+
+static int may_allocate(void)
+{
+    return allocations < 0 || allocations-- > 0;
+}
+
+static void *limited_malloc(size_t size)
+{
+    return may_allocate() ? malloc(size) : NULL;
+}
+
+static void *limited_realloc(void *buffer, size_t size)
+{
+    return may_allocate() ? realloc(buffer, size) : NULL;
+}
+
+#define malloc limited_malloc
+#define realloc limited_realloc
 #include "imagesize_file.h"
+#undef malloc
+#undef realloc
+
 
 #include <inttypes.h>
 #include <string.h>
@@ -149,6 +174,25 @@ static void failing_readings(uint8_t *bytes)
     }
 }
 
+/* Each allocation fails in turn: the status is IMAGESIZE_OUT_OF_MEMORY, and all memory is freed. */
+static void failing_allocations(uint8_t *bytes)
+{
+    struct input input = {bytes, jpeg(bytes, 3, 65533), 0, 0, 0, 0};
+    for (long enough = 0; enough < 100; enough++) {
+        imagesize_image image = {1, 2, 3, 4};
+        allocations = enough;
+        uint32_t status = imagesize_reader_probe(&input, read_input, input.length, &image);
+        int is_enough = allocations >= 0;
+        allocations = -1;
+        if (status == IMAGESIZE_ANSWERED) {
+            expect(is_enough && enough >= 4, "memory is allocated as it is needed");
+            return;
+        }
+        expect(status == IMAGESIZE_OUT_OF_MEMORY && is_none(&image), "a failed allocation");
+    }
+    expect(0, "a hundred allocations are enough");
+}
+
 static void refused_images(void)
 {
     struct input input = {gif, 9, 0, 0, 0, 0};
@@ -258,6 +302,7 @@ int main(void)
     }
     images(bytes);
     failing_readings(bytes);
+    failing_allocations(bytes);
     refused_images();
     many_blocks(bytes);
     no_files();

@@ -182,7 +182,7 @@ class Reading(unittest.TestCase):
 
     def test_no_type_is_left_from_the_image_before(self) -> None:
         with tempfile.NamedTemporaryFile() as file:
-            file.write(b"no image, but a text\n" * 1000)
+            file.write(b"\0\0\2" + bytes(13) + b"\x18\5" + bytes(20000))  # a TGA but for its descriptor: its footer is read too
             file.flush()
             forms: List[Any] = [b"no image, but a text", file, file.name]
             for form in forms:
