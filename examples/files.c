@@ -178,6 +178,11 @@ static void failing_readings(uint8_t *bytes)
 static void failing_allocations(uint8_t *bytes)
 {
     struct input input = {bytes, jpeg(bytes, 3, 65533), 0, 0, 0, 0};
+    for (long before = 0; before < 2; before++) {
+        imagesize_image image = {1, 2, 3, 4};
+        allocations = before;
+        expect(imagesize_reader_probe(&input, read_input, 0, &image) == IMAGESIZE_OUT_OF_MEMORY && is_none(&image), "no memory at all");
+    }
     for (long enough = 0; enough < 100; enough++) {
         imagesize_image image = {1, 2, 3, 4};
         allocations = enough;
