@@ -182,7 +182,7 @@ class Reading(unittest.TestCase):
 
     def test_no_type_is_left_from_the_image_before(self) -> None:
         with tempfile.NamedTemporaryFile() as file:
-            file.write(b"no image, but a text\n" * 1000)
+            file.write(b"\0\0\2" + bytes(13) + b"\x18\5" + bytes(20000))  # a TGA but for its descriptor: its footer is read too
             file.flush()
             forms: List[Any] = [b"no image, but a text", file, file.name]
             for form in forms:
@@ -190,6 +190,9 @@ class Reading(unittest.TestCase):
                 with self.assertRaises(ImageError) as raised:
                     imagesize.probe(form)
                 self.assertEqual((raised.exception.status, raised.exception.image_type), (Status.NOT_SUPPORTED, None))
+            with self.assertRaises(ImageError) as raised:
+                imagesize.image_type(file.name)
+        self.assertEqual((raised.exception.image_type, raised.exception.filename), (None, file.name))
 
     def test_budget_of_any_length(self) -> None:
         """A budget may be longer than any input. It is 64 MiB where a call names no other, and the spans are 65536."""
