@@ -25,7 +25,7 @@ static uint32_t probe_stream(const char *name, imagesize_image *image)
     return status;
 }
 
-/* Whether a status tells of reading, and not of the image. */
+/* Whether a status is an error of reading, and not of the image. */
 static int is_failure(uint32_t status)
 {
     return status == IMAGESIZE_FAULT || status == IMAGESIZE_BUDGET_SPENT || status == IMAGESIZE_OUT_OF_MEMORY;

@@ -13,7 +13,7 @@ import sys
 import tempfile
 
 HERE = pathlib.Path(__file__).resolve().parent
-# A PNG that ends before its size. The table has the result of the calls that leave PNG out, and the Python package takes it.
+# A PNG that ends before its size. The table has the result of the calls that leave PNG out; the Python package reads PNG too.
 PNG = b"\x89PNG\r\n\x1a\n\0\0\0\r"
 CUT_PNG = "Png: failed to fill whole buffer", "0+8"
 
@@ -29,13 +29,13 @@ def rows(out):
 
 
 def printed(command, names, spans):
-    """What an example prints of some files."""
+    """The output of an example for some files."""
     asked = ["--spans"] if spans else []
     return subprocess.run([*command, *asked, *names], check=True, capture_output=True, text=True).stdout
 
 
 def wanted(line, spans):
-    """What it is to print of one."""
+    """The expected output for one file."""
     below = [] if spans in "-?" else [f"  {span}" for span in spans.split()]
     return "".join(text + "\n" for text in [line, *below])
 
@@ -57,7 +57,7 @@ def check_examples(out):
             for command, want in ([f"{out}/image"], by_c), ([sys.executable, str(HERE / "image.py")], by_python):
                 got = printed(command, names, with_spans)
                 assert got == want, differs(got, want)
-    print(f"{count} test vectors: both examples print their answers")
+    print(f"{count} test vectors: both examples print their results")
 
 
 def check_blocks(out):
@@ -72,11 +72,11 @@ def check_blocks(out):
         for option in ([], ["--stdio"]):
             got = printed([f"{out}/blocks", *option], names, False)
             assert got == want, differs(got, want)
-    print(f"{len(names)} test vectors by blocks: their answers")
+    print(f"{len(names)} test vectors by blocks: the example prints their results")
 
 
 def check_pipe(out):
-    """A pipe without a writer is an error, and is not waited for."""
+    """A pipe without a writer is an error at once."""
     with tempfile.TemporaryDirectory() as folder:
         pipe = f"{folder}/pipe"
         os.mkfifo(pipe)
@@ -86,7 +86,7 @@ def check_pipe(out):
 
 
 def differs(got, want):
-    """The first line that is another."""
+    """The first line that differs."""
     for a, b in zip(got.splitlines() + [""], want.splitlines() + [""]):
         if a != b:
             return f"got {a!r}, and not {b!r}"

@@ -16,7 +16,7 @@ import re
 import sys
 from enum import IntEnum
 
-# What the library says of each status. These texts are written down by hand, and are no output of the library.
+# The text of each status. The texts were written by hand, not taken from the library's output.
 TEXTS = {
     "ANSWERED": "No refusal",
     "NOT_SUPPORTED": "Could not decode image",
@@ -77,7 +77,7 @@ def header_constants(path):
 
 
 def plain(name):
-    """A name in small letters and digits alone, so that `END_OF_INPUT`, `EndOfInput` and `endOfInput` are one."""
+    """A name in lower case, without underscores, so that `END_OF_INPUT`, `EndOfInput` and `endOfInput` are one."""
     return name.replace("_", "").lower()
 
 
@@ -89,7 +89,7 @@ def compare(title, named, wanted):
 
 
 class Library:
-    """The calls of the library that name its numbers. Each returns None if the library knows no such number."""
+    """The library's calls for names and texts. Each returns None for an unknown number."""
 
     def __init__(self, path):
         self.library = ctypes.CDLL(str(pathlib.Path(path).resolve()))
@@ -116,7 +116,7 @@ def check_statuses(library, statuses):
 
 
 def compression_constant(kind, name):
-    """The constant of a compression that the library calls so: it begins with the container, which may be in the name."""
+    """The constant for a compression's name. It begins with the container, which the name may include."""
     if name in ("", "Unknown"):
         return plain("NO_COMPRESSION" if name == "" else "UNKNOWN_COMPRESSION")
     container = {"EAC": "PKM", "ETC2": "PKM", "PVRTC": "" if name.startswith("Pvrtc") else "PVR"}.get(kind, kind)
@@ -166,12 +166,12 @@ def lists_of(path):
 
 
 def check_png(path, number, types):
-    """PNG, which the header does not list, has a number of no type."""
+    """The number of PNG, which the header does not list, is the number of no other type."""
     assert number is None or number not in types.values() and number > 999, f"{path}: PNG is {number}"
 
 
 def check_module(path, lists):
-    """Each list that a module has is the header's; the family that stands for none may be left out. Returns how many names they have."""
+    """Each list of a module equals the header's, but NO_FAMILY may be left out. Returns the number of names."""
     found, count = lists_of(path), 0
     for name, title in [("Status", "status"), ("Kind", "type"), ("Compression", "compression"), ("Family", "family")]:
         members, wanted = found.get(name), dict(lists[title])
@@ -187,7 +187,7 @@ def check_module(path, lists):
 
 
 def names_of(library, types):
-    """The library's own names of all types, and those of their compressions."""
+    """The library's names of all types, and of their compressions."""
     numbers = [(number, code) for number in types.values() for code in range(256)]
     kinds, compressions = (
         {library.text(call, *pair) for pair in numbers} - {None, ""} for call in ("imagesize_type_name", "imagesize_compression_name")
@@ -196,7 +196,7 @@ def names_of(library, types):
 
 
 def check_declaration(path, library, lists):
-    """The types of a TypeScript declaration have the library's own names. Returns how many."""
+    """The types of a TypeScript declaration have the library's names. Returns the number of names."""
     text, count = pathlib.Path(path).read_text(), 0
     for title, wanted in names_of(library, lists["type"]).items():
         (body,) = re.findall(rf"^export type {title} =(.*?);$", text, re.DOTALL | re.MULTILINE)
@@ -207,7 +207,7 @@ def check_declaration(path, library, lists):
 
 
 def check_binding(path, library, lists):
-    """A binding's names are the library's. Returns how many."""
+    """A binding's names are the library's. Returns the number of names."""
     return check_declaration(path, library, lists) if path.endswith(".d.ts") else check_module(path, lists)
 
 

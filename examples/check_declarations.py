@@ -11,7 +11,7 @@ import pathlib
 import re
 import sys
 
-# What a caller passes for a parameter of the library: a slice is a pointer and a length.
+# The C types for a parameter of the library: a slice is a pointer and a length.
 PASSED = {
     "u32": ("uint32_t",),
     "u64": ("uint64_t",),
@@ -37,7 +37,7 @@ BOUND = {
     "*mut usize": "size_t *",
     "*mut Span": "imagesize_span *",
 }
-# A parameter that the header calls otherwise: by its name and its type in C.
+# Parameters with another name in the header, by their name and their type in C.
 RENAMED = {"number": "type", "kind": "type", ("length", "size_t *"): "written"}
 
 
@@ -59,7 +59,7 @@ def plain(text):
 
 
 def declared(header):
-    """The functions that the header declares: each name with its parameters. A name that is defined as another is that one."""
+    """The functions that the header declares, with their parameters. A name that is a macro for another one is replaced by it."""
     others = dict(re.findall(r"#define (imagesize_\w+) (imagesize_\w+)", header))
     found = [(others.get(name, name), listed) for name, listed in re.findall(r"uint32_t (\w+)\(([^)]*)\);", header)]
     assert len(found) == len(dict(found)) == header.count(");"), "a function is declared twice, or in a form that is not read"
@@ -94,14 +94,14 @@ def bound(path):
 
 
 def compare(title, functions, header):
-    """Each of these functions is declared by the header with the same parameters."""
+    """The header declares each of these functions with the same parameters."""
     for name, wanted in functions.items():
         got = header.get(name)
         assert got == wanted, f"{title}: {name} has the parameters {wanted}, and the header {got}"
 
 
 def check_spans(header, folder):
-    """The two numbers of a span have the same order and type in both."""
+    """The two numbers of a span have the same order and type in the library and the header."""
     (body,) = re.findall(r"typedef struct imagesize_span \{ (.*?) \} imagesize_span;", header)
     low = pathlib.Path(folder).parent.parent / "imagesize_source" / "src"
     (fields,) = [found for path in low.glob("*.rt") for found in re.findall(r"pub struct Span \{ (.*?) \}", plain(path.read_text()))]

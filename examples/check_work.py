@@ -1,10 +1,10 @@
-"""Runs the program and that of `size` as a user does, and counts the work for a result: what no proof and no test sees.
+"""Runs the program and that of `size` as a user does, and counts the work for a result: what neither a proof nor a test shows.
 
     python3 check_work.py FOLDER PROBE SIZES
 
 FOLDER has the library and gets what is built here, PROBE is the program `imagesize_probe`, and SIZES that of `imagesize_vectors`,
-which prints the size of each file that is named. System calls are counted by strace and instructions by valgrind, where they
-are there, within wide bounds: a body that does the work twice, or reads what it does not need, goes past them.
+which prints the size of each file that is named. System calls are counted by strace and instructions by valgrind, if they are
+installed. The bounds are wide: code that does the work twice, or reads bytes that it does not need, exceeds them.
 """
 
 import os
@@ -38,7 +38,7 @@ FILES = {
 
 
 def run(*command, **settings):
-    """The output, the errors and the status of a command."""
+    """The standard output, the standard error and the status of a command."""
     told = subprocess.run(command, capture_output="stdout" not in settings, text=True, **settings)
     return told.stdout, told.stderr, told.returncode
 
@@ -66,12 +66,12 @@ def check_program(probe):
 
 
 def limited(limit, most, *command, **settings):
-    """The same of a command that may have no more of something."""
+    """The output of a command under a limit of the system, and its status."""
     return run(*command, preexec_fn=lambda: resource.setrlimit(limit, (most, most)), **settings)
 
 
 def check_files(probe, sizes):
-    """Each file is closed after its size was read, and the buffer is small."""
+    """Each file is closed after its size is read, and the buffer is small."""
     sized = "tiny.gif: Gif 100x100\n"
     for command, line in [
         ([sizes], "100x100\n"),
@@ -85,7 +85,7 @@ def check_files(probe, sizes):
 
 
 def check_memory(probe):
-    """A file of 2 GiB, which is too long, loads no more than the longest file whose spans are shown, and the output's buffer is small."""
+    """A file of 2 GiB, which is too long for its spans, is not loaded, and the output's buffer is small."""
     with open("sparse.bin", "wb") as sparse:
         sparse.truncate(2 << 30)
     want = "sparse.bin: error: file is longer than 16777216 bytes\n", "", 1
@@ -101,7 +101,7 @@ def check_memory(probe):
 
 
 def traced(command, name):
-    """The system calls of a command from the first time on that it opens a file: each with its arguments and its result."""
+    """The system calls of a command, with arguments and results, from the first one that opens a file."""
     calls = "trace=open,openat,read,pread64,readv,lseek,write,writev"
     with tempfile.NamedTemporaryFile("r") as log:
         subprocess.run(["strace", "-f", "-o", log.name, "-e", calls, *command], stdout=subprocess.DEVNULL, check=False)
@@ -111,7 +111,7 @@ def traced(command, name):
 
 
 def counted(command, name):
-    """How often a command opens a file, reads, seeks and writes from then on, and how many bytes its reads give."""
+    """The numbers of opens, reads, seeks and writes of a command, and of the bytes that it reads."""
     calls = traced(command, name)
     read = [int(answer) for call, _, answer in calls if "read" in call]
     opens, seeks, writes = (sum(word in call for call, _, _ in calls) for word in ("open", "lseek", "write"))
@@ -119,8 +119,8 @@ def counted(command, name):
 
 
 def check_calls(probe, sizes):
-    """A file is opened once, its front alone is read, in blocks, and lines go out in blocks."""
-    front = {"opens": 1, "reads": 4, "bytes": 16384, "seeks": 4, "writes": 2}
+    """A file is opened once, only its first bytes are read, in blocks, and lines are written in blocks."""
+    front = {"opens": 1, "reads": 4, "bytes": 16384, "seeks": 0, "writes": 2}
     whole = {"opens": 1, "reads": 100, "bytes": len(LONG_JPEG) * 3 // 2, "seeks": 4, "writes": 20}
     for command, most in [
         ([sizes, "long.jpeg"], front),
@@ -133,14 +133,15 @@ def check_calls(probe, sizes):
 
 
 def collected(program, function, *arguments):
-    """How many instructions a function takes, with those that it calls; of no function, the whole program."""
+    """The instructions of a function and of those that it calls. Without a function, those of the whole program."""
     toggle = [f"--toggle-collect={function}"] if function else []
     told = run("valgrind", "--tool=callgrind", "--callgrind-out-file=/dev/null", *toggle, program, *arguments)[1]
     return int(re.search(r"Collected : (\d+)", told).group(1))
 
 
 def check_instructions(folder, probe):
-    """The bytes after the size are not read. Each segment and each byte of a text is read once, by a call and by the program."""
+    """The bytes after the size are not read. Each segment and each byte of a text is read once, by a call and by the program.
+    Spans are counted before they are written, so these are read twice."""
     program = f"{folder}/image_counted"
     sources = [f"-I{HERE.parent}/include", f"{HERE}/image.c", f"{folder}/libimagesize.a"]
     subprocess.run([os.environ.get("CC", "cc"), "-O1", "-o", program, *sources], check=True)
@@ -149,8 +150,8 @@ def check_instructions(folder, probe):
         ("tiny.gif", 300, 1000, 20_000, 20_000),
         ("long.gif", 300, 1000, 20_000, 8_000_000),
         ("long.jpeg", 45 * SEGMENTS, 300 * SEGMENTS, 450 * SEGMENTS, 2_600 * SEGMENTS),
-        ("long.hdr", 11 * len(LONG_HDR), 33 * len(LONG_HDR), 20 * len(LONG_HDR), 16 * len(LONG_HDR)),
-        ("long.pnm", 10 * len(LONG_PNM), 31 * len(LONG_PNM), 37 * len(LONG_PNM), 15 * len(LONG_PNM)),
+        ("long.hdr", 11 * len(LONG_HDR), 33 * len(LONG_HDR), 20 * len(LONG_HDR), 21 * len(LONG_HDR)),
+        ("long.pnm", 10 * len(LONG_PNM), 31 * len(LONG_PNM), 37 * len(LONG_PNM), 20 * len(LONG_PNM)),
     ]:
         for what, count, most in [
             ("imagesize_probe", collected(program, "imagesize_probe", name), of_probe),

@@ -1,4 +1,4 @@
-"""Counts the instructions of a call of the library on ordinary files, beside those of the crate's blob_size, by callgrind.
+"""Counts the instructions of a call of the library on ordinary files, and those of the crate's blob_size, by callgrind.
 
     python3 count.py FOLDER
 
@@ -6,7 +6,7 @@ FOLDER has the program `repeat`, as `run` compiles it. The script prints a line 
 instructions, and the instructions of each call that `repeat` knows. The instructions of a call that does nothing are left out.
 The status is 1 if a call is above its bound. imagesize_size may take as many as the crate, and 10 more for the call. The other
 calls may take a multiple of imagesize_probe: code that finds a result twice, or reads a text byte by byte, takes more. 63 more
-parts may cost 400 instructions: they are counted once, and a reading looks at the first part before it looks at them.
+parts may cost 400 instructions: they are counted once, and a read looks at the first part before the others.
 """
 
 import concurrent.futures
@@ -19,7 +19,7 @@ import tempfile
 
 HERE = pathlib.Path(__file__).resolve().parent
 TIMES = 100
-# A call, and the most that it may take on a file by what the others take there.
+# Each call, and a bound on its instructions for a file, from the instructions of the other calls there.
 BOUNDS = (
     ("size", lambda crate, found: crate + 10),
     ("probe", lambda crate, found: 2 * found["size"] + 100),
@@ -42,14 +42,14 @@ def rows():
 
 
 def instructions(program, call, times, file):
-    """How many instructions the program takes."""
+    """The instructions of the whole program."""
     command = ["valgrind", "--tool=callgrind", "--callgrind-out-file=/dev/null", program, call, str(times), file]
     run = subprocess.run(command, check=True, capture_output=True, text=True)
     return int(re.search(r"I +refs: +([0-9,]+)", run.stderr)[1].replace(",", ""))
 
 
 def of_a_call(program, call, file):
-    """How many of them one call takes."""
+    """The instructions of one call."""
     return (instructions(program, call, 2 * TIMES, file) - instructions(program, call, TIMES, file)) / TIMES
 
 

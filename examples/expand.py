@@ -2,9 +2,9 @@
 
     python3 expand.py TABLE OUT
 
-TABLE says its columns itself. Each of its rows becomes a line of OUT of three cells: the bytes in hex (`-` for no byte), the line
-that is printed of them, and their spans (`-` for none, `?` where they are not compared). Inputs of more than 5,000 bytes are left
-out: the proved program reads those.
+TABLE names its columns. Each of its rows becomes a line of OUT with three cells: the bytes in hex (`-` for none), the line that is
+printed for them, and their spans (`-` for none, `?` if they are not compared). Inputs of more than 5,000 bytes are left out: the
+proved program reads those.
 """
 
 import re
@@ -21,7 +21,7 @@ PLAIN = (
 
 
 def bytes_of(cell):
-    """The bytes of a cell, which writes them as groups. A group may be repeated."""
+    """The bytes of a cell, which has groups of them. A group may be repeated."""
     found = bytearray()
     for group in cell.replace("-", "").split():
         digits, _, times = group.partition("*")

@@ -6,7 +6,32 @@
  * The status is 0 if each call does what it should.
  */
 #define _POSIX_C_SOURCE 200809L
+#include <stdlib.h>
+
+/* The number of allocations before the one that fails. None fails if it is negative. */
+static long allocations = -1;
+
+static int may_allocate(void)
+{
+    return allocations < 0 || allocations-- > 0;
+}
+
+static void *limited_malloc(size_t size)
+{
+    return may_allocate() ? malloc(size) : NULL;
+}
+
+static void *limited_realloc(void *buffer, size_t size)
+{
+    return may_allocate() ? realloc(buffer, size) : NULL;
+}
+
+#define malloc limited_malloc
+#define realloc limited_realloc
 #include "imagesize_file.h"
+#undef malloc
+#undef realloc
+
 
 #include <inttypes.h>
 #include <string.h>
@@ -55,10 +80,10 @@ static size_t tiff(uint8_t *bytes, uint32_t offset)
     return offset + sizeof directory - 1;
 }
 
-/* An input in memory. It counts the bytes that are read, and may fail at one of its reads. */
+/* An input in memory. It counts the bytes that are read, and the first reads that have a block each. It may fail at one of its reads. */
 struct input {
     const uint8_t *bytes;
-    size_t length, readings, given, failing;
+    size_t length, readings, given, failing, small;
 };
 
 static uint32_t read_input(void *reader, uint8_t *bytes, size_t length, uint64_t offset)
@@ -67,6 +92,8 @@ static uint32_t read_input(void *reader, uint8_t *bytes, size_t length, uint64_t
     input->readings++;
     input->given += length;
     expect(length > 0 && offset < input->length && length <= input->length - offset, "only bytes of the input are read");
+    expect(offset % 4096 == 0 && ((offset + length) % 4096 == 0 || offset + length == input->length), "blocks of 4096 bytes are read");
+    input->small = input->given == 4096 * input->readings ? input->readings : input->small;
     if (input->readings == input->failing) {
         return IMAGESIZE_FAULT;
     }
@@ -74,13 +101,19 @@ static uint32_t read_input(void *reader, uint8_t *bytes, size_t length, uint64_t
     return IMAGESIZE_ANSWERED;
 }
 
-/* An input of segments without end. */
+/* A JPEG of segments without end, each of this many bytes. It counts the bytes that are read. */
+struct segments {
+    uint64_t segment, given;
+};
+
 static uint32_t read_segments(void *reader, uint8_t *bytes, size_t length, uint64_t offset)
 {
-    *(uint64_t *)reader += length;
+    struct segments *of = reader;
+    const uint8_t head[4] = {0xff, 0xe0, (uint8_t)((of->segment - 2) >> 8), (uint8_t)(of->segment - 2)};
+    of->given += length;
     for (size_t i = 0; i < length; i++) {
-        uint64_t place = offset + i;
-        bytes[i] = place == 1 ? 0xd8 : (uint8_t)"\xff\xe0\0\x06\0\0\0\0"[(place + 6) % 8];
+        uint64_t place = offset + i, within = (place + of->segment - 2) % of->segment;
+        bytes[i] = place == 1 ? 0xd8 : within < 4 ? head[within] : 0;
     }
     bytes[0] = offset == 0 ? 0xff : bytes[0];
     return IMAGESIZE_ANSWERED;
@@ -96,10 +129,10 @@ static int is_none(const imagesize_image *image)
     return image->type == 0 && image->compression == 0 && image->width == 0 && image->height == 0;
 }
 
-/* Some bytes by a reader, a stream, a descriptor and a path: each has this size, and few bytes are read. */
+/* The same bytes by a reader, a stream, a descriptor and a path: each gives this size, and few bytes are read. */
 static void sized(const uint8_t *bytes, size_t length, uint64_t width, uint64_t height, size_t most_readings, size_t most_given)
 {
-    struct input input = {bytes, length, 0, 0, 0};
+    struct input input = {bytes, length, 0, 0, 0, 0};
     imagesize_image image;
     expect(is_size(imagesize_reader_probe(&input, read_input, length, &image), &image, width, height), "the size by a reader");
     expect(input.readings <= most_readings && input.given <= most_given, "and few bytes are read");
@@ -130,36 +163,72 @@ static void images(uint8_t *bytes)
     sized(bytes, tiff(bytes, 3000001), 5, 7, 2, 2 * 4096);
 }
 
-/* Where a reading fails its status is returned, whichever it is, and no number is left from before. */
+/* If a read fails, the call returns its status, whatever it is, and the image has no number from before. */
 static void failing_readings(uint8_t *bytes)
 {
-    struct input input = {bytes, jpeg(bytes, 3, 65533), 0, 0, 1};
+    struct input input = {bytes, jpeg(bytes, 3, 65533), 0, 0, 1, 0};
     for (; input.failing <= 4; input.failing++) {
         imagesize_image image = {1, 2, 3, 4};
         input.readings = 0;
-        expect(imagesize_reader_probe(&input, read_input, input.length, &image) == IMAGESIZE_FAULT && is_none(&image), "a failed reading");
+        expect(imagesize_reader_probe(&input, read_input, input.length, &image) == IMAGESIZE_FAULT && is_none(&image), "a failed read");
     }
+}
+
+/* Each allocation fails in turn: the status is IMAGESIZE_OUT_OF_MEMORY, and all memory is freed. */
+static void failing_allocations(uint8_t *bytes)
+{
+    struct input input = {bytes, jpeg(bytes, 3, 65533), 0, 0, 0, 0};
+    for (long before = 0; before < 2; before++) {
+        imagesize_image image = {1, 2, 3, 4};
+        allocations = before;
+        expect(imagesize_reader_probe(&input, read_input, 0, &image) == IMAGESIZE_OUT_OF_MEMORY && is_none(&image), "no memory at all");
+    }
+    for (long enough = 0; enough < 100; enough++) {
+        imagesize_image image = {1, 2, 3, 4};
+        allocations = enough;
+        uint32_t status = imagesize_reader_probe(&input, read_input, input.length, &image);
+        int is_enough = allocations >= 0;
+        allocations = -1;
+        if (status == IMAGESIZE_ANSWERED) {
+            expect(is_enough && enough >= 4, "memory is allocated as it is needed");
+            return;
+        }
+        expect(status == IMAGESIZE_OUT_OF_MEMORY && is_none(&image), "a failed allocation");
+    }
+    expect(0, "a hundred allocations are enough");
 }
 
 static void refused_images(void)
 {
-    struct input input = {gif, 9, 0, 0, 0};
+    struct input input = {gif, 9, 0, 0, 0, 0};
     imagesize_image image = {1, 2, 3, 4};
     expect(imagesize_reader_probe(&input, read_input, 9, &image) == IMAGESIZE_END_OF_INPUT && is_none(&image), "a short input");
     input.length = 0;
     expect(imagesize_reader_probe(&input, read_input, 0, &image) == IMAGESIZE_END_OF_INPUT && is_none(&image), "an empty input");
-    input = (struct input){(const uint8_t *)"\xff\xd8\xff\xe0\0\x10JFIF\0\x01", 12, 0, 0, 0};
+    input = (struct input){(const uint8_t *)"\xff\xd8\xff\xe0\0\x10JFIF\0\x01", 12, 0, 0, 0, 0};
     expect(imagesize_reader_probe(&input, read_input, 12, &image) == IMAGESIZE_END_OF_INPUT && image.type == IMAGESIZE_JPEG
                && image.width == 0, "a JPEG that is cut has a type");
-    uint64_t given = 0;
-    expect(imagesize_reader_probe(&given, read_segments, UINT64_C(1) << 40, &image) == IMAGESIZE_BUDGET_SPENT, "segments without end");
-    expect(given <= IMAGESIZE_FILE_MOST && given > IMAGESIZE_FILE_MOST / 2, "and 64 MiB of them are read");
+    for (uint64_t segment = 8; segment <= 3 * 4096; segment += 3 * 4096 - 8) {
+        struct segments of = {segment, 0};
+        expect(imagesize_reader_probe(&of, read_segments, UINT64_C(1) << 40, &image) == IMAGESIZE_BUDGET_SPENT, "segments without end");
+        expect(of.given == 64 << 20, "and 64 MiB of them are read");
+    }
 }
 
-/* What is no file of an image: errno says why. */
+/* A JPEG whose segments are far apart: after 64 blocks larger ones are read. */
+static void many_blocks(uint8_t *bytes)
+{
+    struct input input = {bytes, jpeg(bytes, 300, 9000), 0, 0, 0, 0};
+    imagesize_image image;
+    expect(is_size(imagesize_reader_probe(&input, read_input, input.length, &image), &image, 7, 5), "the size after many segments");
+    expect(input.small == 65 && input.readings < 80, "blocks grow after 64 of them");
+}
+
+/* Inputs that are no regular file: errno says why. */
 static void no_files(void)
 {
-    imagesize_image image = {1, 2, 3, 4};
+    const imagesize_image before = {1, 2, 3, 4};
+    imagesize_image image;
     char folder[] = "/tmp/imagesize-XXXXXX", pipe_name[64];
     if (mkdtemp(folder) == NULL || snprintf(pipe_name, sizeof pipe_name, "%s/pipe", folder) < 0 || mkfifo(pipe_name, 0600) != 0) {
         expect(0, "a pipe can be made");
@@ -168,12 +237,16 @@ static void no_files(void)
     const struct { const char *path; int why; } wrong[] = {{folder, EISDIR}, {pipe_name, ESPIPE}, {"/none/of/this", ENOENT}};
     for (size_t i = 0; i < 3; i++) {
         errno = 0;
+        image = before;
         expect(imagesize_path_probe(wrong[i].path, &image) == IMAGESIZE_FAULT && errno == wrong[i].why && is_none(&image), wrong[i].path);
     }
     int ends[2];
     FILE *stream = pipe(ends) == 0 ? fdopen(ends[0], "rb") : NULL;
-    expect(stream != NULL && imagesize_stdio_probe(stream, &image) == IMAGESIZE_FAULT && errno == ESPIPE, "a stream of a pipe");
-    expect(imagesize_fd_probe(-1, &image) == IMAGESIZE_FAULT && errno == EBADF, "no descriptor");
+    image = before;
+    expect(stream != NULL && imagesize_stdio_probe(stream, &image) == IMAGESIZE_FAULT && errno == ESPIPE && is_none(&image),
+           "a stream of a pipe");
+    image = before;
+    expect(imagesize_fd_probe(-1, &image) == IMAGESIZE_FAULT && errno == EBADF && is_none(&image), "no descriptor");
     if (stream != NULL) {
         fclose(stream);
         close(ends[1]);
@@ -182,7 +255,35 @@ static void no_files(void)
     remove(folder);
 }
 
-/* A file that became shorter since it was asked for its length. */
+/* A stream that stands at its first byte, and one of an empty file. */
+static void streams(void)
+{
+    imagesize_image image;
+    FILE *file = tmpfile();
+    expect(file != NULL && imagesize_stdio_probe(file, &image) == IMAGESIZE_END_OF_INPUT && is_none(&image), "a stream of an empty file");
+    expect(file != NULL && fwrite(gif, 1, 12, file) == 12 && fseek(file, 0, SEEK_SET) == 0, "a file can be written");
+    expect(file != NULL && is_size(imagesize_stdio_probe(file, &image), &image, 640, 480) && ftell(file) == 0, "a stream at its start");
+    if (file != NULL) {
+        fclose(file);
+    }
+}
+
+/* A program without a standard input: the file that the call opens gets descriptor 0. */
+static void lowest_descriptor(void)
+{
+    imagesize_image image;
+    char name[] = "/tmp/imagesize-XXXXXX";
+    int descriptor = mkstemp(name);
+    expect(descriptor >= 0 && write(descriptor, gif, 12) == 12, "a file can be written");
+    close(0);
+    expect(is_size(imagesize_path_probe(name, &image), &image, 640, 480), "the size by descriptor 0");
+    if (descriptor > 0) {
+        close(descriptor);
+    }
+    remove(name);
+}
+
+/* A file that became shorter after its length was read. */
 static void shrunk_files(void)
 {
     FILE *file = tmpfile();
@@ -206,9 +307,13 @@ int main(void)
     }
     images(bytes);
     failing_readings(bytes);
+    failing_allocations(bytes);
     refused_images();
+    many_blocks(bytes);
     no_files();
+    streams();
     shrunk_files();
+    lowest_descriptor();
     free(bytes);
     printf("files and readers: %s\n", failures == 0 ? "as they should be" : "NOT as they should be");
     return failures != 0;

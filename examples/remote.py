@@ -24,11 +24,11 @@ import imagesize_proved  # noqa: E402
 BLOCK = 4096
 BUDGET = 1 << 20
 SECONDS = 10
-"""The most seconds that a server may send nothing, and that a range may take."""
+"""A server may send nothing for at most this many seconds, and a range may take at most as long."""
 
 
 class RemoteError(Exception):
-    """A server does not send the ranges that were requested."""
+    """The server does not send the requested ranges."""
 
 
 class Remote:

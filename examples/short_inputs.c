@@ -1,10 +1,10 @@
 /*
- * Calls the library over a hundred thousand short inputs, in eight threads at once. Each input ends at a page that cannot be
- * read, and so does each buffer: a call that reads or writes past a buffer of the caller faults. Then over what a caller may do wrong.
+ * Calls the library over a hundred thousand short inputs, in eight threads at once. Each input and each buffer ends at a page that
+ * cannot be read, so a call that reads or writes past its end faults. Then it makes the mistakes that a caller may make.
  *
  *     short_inputs
  *
- * The status is 0 where all is as it should be.
+ * The status is 0 if every expectation holds.
  */
 #define _DEFAULT_SOURCE
 #include "imagesize.h"
@@ -29,7 +29,7 @@ static void expect(int holds, const char *what)
     }
 }
 
-/* The end of memory, after which nothing can be read or written. */
+/* The end of a memory that is followed by a page that cannot be read or written. */
 static uint8_t *guarded_end(void)
 {
     size_t page = (size_t)sysconf(_SC_PAGESIZE), room = PAGES * page;
@@ -40,7 +40,7 @@ static uint8_t *guarded_end(void)
     return pages + room;
 }
 
-/* What a thread works with: where its input, its buffers of bytes and its buffer of spans end, and the last random number. */
+/* A thread's memory: where its input, its buffers of bytes and its buffer of spans end, and the last random number. */
 struct worker {
     uint8_t *input_end, *bytes_end;
     imagesize_span *spans_end;
@@ -55,7 +55,7 @@ static uint64_t random_number(struct worker *worker)
     return worker->random;
 }
 
-/* The fronts that short inputs begin with, so that most are of a type that is known. */
+/* The first bytes of short inputs, so that most have a known type. */
 static const struct front {
     const char *bytes;
     size_t length;
@@ -113,15 +113,15 @@ static int is_of_bytes(uint32_t status)
 /* The calls for type and size alone return the same as the call for both. */
 static void calls_agree(const uint8_t *bytes, size_t length, const struct answer *both)
 {
-    expect(is_of_bytes(both->status), "a probe answers a refusal of bytes");
-    expect(both->status == IMAGESIZE_ANSWERED || (both->width == 7 && both->height == 9), "no size beside a refusal");
+    expect(is_of_bytes(both->status), "a probe returns success or an error of the bytes");
+    expect(both->status == IMAGESIZE_ANSWERED || (both->width == 7 && both->height == 9), "no size with an error");
     struct answer size = nothing_told, type = nothing_told;
     size.status = imagesize_size(bytes, length, &size.width, &size.height);
     expect(size.status == both->status, "the size alone has the same status");
     expect(size.width == both->width && size.height == both->height, "and the same size");
     type.status = imagesize_type(bytes, length, &type.type, &type.compression);
-    expect((type.status == IMAGESIZE_ANSWERED) == (type.type != 0), "the type alone is told where it is told beside the size");
-    expect(type.type == both->type && type.compression == both->compression, "and is the same");
+    expect((type.status == IMAGESIZE_ANSWERED) == (type.type != 0), "imagesize_type finds a type if imagesize_probe does");
+    expect(type.type == both->type && type.compression == both->compression, "and the same type");
 }
 
 static void spans_lie_within(struct worker *worker, size_t length)
@@ -135,10 +135,10 @@ static void spans_lie_within(struct worker *worker, size_t length)
     }
 }
 
-/* What a call over parts returns: both, the type alone, or the size by the type that is already known. */
+/* The calls over parts: for both, for the type alone, or for the size as a known type. */
 enum asked { BOTH, TYPE, SIZE };
 
-/* A call over so many parts that a worker holds. */
+/* A call over the first `count` parts of a worker. */
 static uint32_t ask(const struct worker *worker, enum asked asked, const uint8_t *bytes, size_t length, size_t count,
                     uint64_t total, struct answer *a, imagesize_span *wanted)
 {
@@ -153,7 +153,7 @@ static uint32_t ask(const struct worker *worker, enum asked asked, const uint8_t
     }
 }
 
-/* One call with the parts of an input that these spans are. Their bytes, and the spans, end at a page that cannot be read. */
+/* One call over these spans of an input. Their bytes, and the spans, end at a page that cannot be read. */
 static struct answer ask_parts(struct worker *worker, enum asked asked, struct answer a, size_t length, const imagesize_span *parts,
                                size_t count, imagesize_span *wanted)
 {
@@ -176,12 +176,12 @@ static void parts_lead_to(struct worker *worker, enum asked asked, struct answer
     for (size_t count = 0; count < SPANS; count++) {
         struct answer a = ask_parts(worker, asked, before, length, parts, count, &wanted);
         if (a.status != IMAGESIZE_BYTES_WANTED) {
-            expect(is_same(&a, right), "the parts answer as the whole");
+            expect(is_same(&a, right), "the parts give the result of the whole input");
             return;
         }
         before.status = a.status;
-        expect(is_same(&a, &before), "beside a wanted part nothing else is told");
-        expect(wanted.len > 0 && wanted.start < length && wanted.len <= length - wanted.start, "a wanted part of the input");
+        expect(is_same(&a, &before), "a call that requests a part writes nothing else");
+        expect(wanted.len > 0 && wanted.start < length && wanted.len <= length - wanted.start, "the requested part lies within the input");
         parts[count] = wanted;
     }
     expect(0, "a call over parts ends");
@@ -201,7 +201,7 @@ static void parts_lead_to_each(struct worker *worker, size_t length, const struc
     }
 }
 
-/* Parts that no input may have: each call returns, and a part that it requests lies within the input. */
+/* Parts that contradict each other: each call returns, and a part that it requests lies within the input. */
 static void parts_of_any_kind(struct worker *worker, enum asked asked, size_t length)
 {
     imagesize_span parts[4], wanted = {0, 0};
@@ -215,9 +215,9 @@ static void parts_of_any_kind(struct worker *worker, enum asked asked, size_t le
     struct answer a = nothing_told;
     a.type = asked == SIZE ? IMAGESIZE_TIFF : 0;
     a.status = ask(worker, asked, worker->input_end - length, length, count, total, &a, &wanted);
-    expect(a.status == IMAGESIZE_BYTES_WANTED || is_of_bytes(a.status), "a call over parts answers, refuses bytes or wants some");
+    expect(a.status == IMAGESIZE_BYTES_WANTED || is_of_bytes(a.status), "a call over parts returns a result, an error or a request");
     if (a.status == IMAGESIZE_BYTES_WANTED) {
-        expect(wanted.len > 0 && wanted.start < total && wanted.len <= total - wanted.start, "and wants a part of the input");
+        expect(wanted.len > 0 && wanted.start < total && wanted.len <= total - wanted.start, "the requested part lies within the input");
     }
 }
 
@@ -225,8 +225,8 @@ static void text_of(struct worker *worker, uint32_t status)
 {
     size_t written = 0;
     char *end = (char *)worker->bytes_end;
-    expect(imagesize_status_text(status, end, 0, &written) == IMAGESIZE_BUFFER_TOO_SMALL, "no text has no byte");
-    expect(imagesize_status_text(status, end - written, written, &written) == IMAGESIZE_ANSWERED, "a room that is just enough");
+    expect(imagesize_status_text(status, end, 0, &written) == IMAGESIZE_BUFFER_TOO_SMALL, "every text has a byte");
+    expect(imagesize_status_text(status, end - written, written, &written) == IMAGESIZE_ANSWERED, "a buffer of exactly the text's length");
 }
 
 /* A thread's inputs. */
@@ -264,7 +264,7 @@ static void wrong_calls(void)
     uint32_t type = 5, compression = 6, answer = 8;
     uint64_t width = 7, height = 9;
     size_t written = 11;
-    expect(imagesize_probe(&nothing, 0, &type, &compression, &width, &height) == IMAGESIZE_END_OF_INPUT, "no byte has no type");
+    expect(imagesize_probe(&nothing, 0, &type, &compression, &width, &height) == IMAGESIZE_END_OF_INPUT, "an empty input has no type");
     expect(type == 5 && compression == 6 && width == 7 && height == 9, "and nothing is told");
     expect(imagesize_status_text(31, text, sizeof text, &written) == IMAGESIZE_UNKNOWN_STATUS, "31 is no status");
     expect(imagesize_status_text(UINT32_MAX, text, sizeof text, &written) == IMAGESIZE_UNKNOWN_STATUS, "nor is the greatest number");
@@ -273,17 +273,17 @@ static void wrong_calls(void)
     expect(imagesize_type_name(IMAGESIZE_GIF, IMAGESIZE_DDS_BC7, text, sizeof text, &written) == IMAGESIZE_UNKNOWN_TYPE,
            "a GIF has no compression");
     expect(imagesize_container_format(IMAGESIZE_DDS, IMAGESIZE_PKM_ETC1, text, sizeof text, &written) == IMAGESIZE_UNKNOWN_TYPE,
-           "a DDS has none of a PKM");
+           "a DDS has no compression of a PKM");
     expect(imagesize_compression_family(UINT32_MAX, 0, &answer) == IMAGESIZE_UNKNOWN_TYPE && answer == 8, "no family of no type");
     imagesize_span all = {0, 1};
     expect(imagesize_parts_size(UINT32_MAX, 0, &nothing, 1, &all, 1, 1, &width, &height, &all) == IMAGESIZE_UNKNOWN_TYPE && width == 7
                && height == 9 && all.len == 1, "no size of no type");
     expect(written == 11 && memcmp(text, "abcd", 4) == 0, "and nothing is told");
     expect(imagesize_type_name(IMAGESIZE_FARBFELD, 0, text, sizeof text, &written) == IMAGESIZE_BUFFER_TOO_SMALL && written == 8,
-           "a name that is too long tells its length");
+           "a name that is too long sets `written` to its length");
     expect(memcmp(text, "abcd", 4) == 0, "and a buffer that is too small stays as it was");
     expect(imagesize_type_name(IMAGESIZE_GIF, 0, text, sizeof text, &written) == IMAGESIZE_ANSWERED && written == 3, "a short name");
-    expect(memcmp(text, "Gifd", 4) == 0, "and nothing behind it has changed");
+    expect(memcmp(text, "Gifd", 4) == 0, "and nothing after it has changed");
     expect(imagesize_container_format(IMAGESIZE_GIF, 0, text, 0, &written) == IMAGESIZE_ANSWERED && written == 0, "a GIF has no container");
 }
 
@@ -300,7 +300,7 @@ static void queries(void)
     expect(imagesize_is_multi_compression_container(IMAGESIZE_GIF, 0, &answer) == IMAGESIZE_ANSWERED && answer == 0, "a GIF is none");
 }
 
-/* A PNG of 640 by 480 and what is cut from it, each before a page that cannot be read; then other bytes with a part of its signature. */
+/* A PNG of 640x480 and its prefixes, each before a page that cannot be read. Then other bytes with a part of its signature. */
 static void png(uint8_t *end)
 {
     static const char whole[] = "\x89PNG\r\n\x1a\n\0\0\0\x0dIHDR\0\0\x02\x80\0\0\x01\xe0";
@@ -311,17 +311,17 @@ static void png(uint8_t *end)
         uint64_t width = 7, height = 9;
         uint32_t status = length < 24 ? IMAGESIZE_END_OF_INPUT : IMAGESIZE_ANSWERED;
         memcpy(end - length, whole, length);
-        expect(imagesize_png_matches(end - length, length, &answer) == IMAGESIZE_ANSWERED && answer == (length >= 8), "eight bytes tell a PNG");
+        expect(imagesize_png_matches(end - length, length, &answer) == IMAGESIZE_ANSWERED && answer == (length >= 8), "eight bytes show a PNG");
         expect(imagesize_png_size(end - length, length, &width, &height) == status
                    && width == (length < 24 ? 7 : 640) && height == (length < 24 ? 9 : 480), "a PNG's size, or its end");
         all = (imagesize_span){0, length};
         expect(imagesize_png_parts_size(end - length, length, &all, 1, length, &width, &height, &wanted) == status
                    && width == (length < 24 ? 7 : 640) && height == (length < 24 ? 9 : 480) && wanted.start == 1 && wanted.len == 2,
-               "the same of all of it as one part");
+               "the whole input as one part has the same result");
         status = length < 24 ? IMAGESIZE_BYTES_WANTED : IMAGESIZE_ANSWERED;
         all = (imagesize_span){1, 2};
         expect(imagesize_png_parts_size(end - length, length, &(imagesize_span){0, length}, 1, 1000, &width, &height, &all) == status
-                   && (length == 24 || (all.start >= length && all.start + all.len <= 24)), "bytes of a longer input are wanted");
+                   && (length == 24 || (all.start >= length && all.start + all.len <= 24)), "bytes of a longer input are requested");
     }
     for (size_t i = 0; i < sizeof others / sizeof *others; i++) {
         size_t length = strlen(others[i]);
@@ -329,7 +329,7 @@ static void png(uint8_t *end)
         memcpy(end - length, others[i], length);
         expect(imagesize_png_matches(end - length, length, &answer) == IMAGESIZE_ANSWERED && answer == 0, "no PNG");
         expect(imagesize_png_size(end - length, length, &width, &height) == IMAGESIZE_NOT_SUPPORTED && width == 7 && height == 9,
-               "no PNG has no size");
+               "an input that is no PNG has no size");
     }
 }
 

@@ -153,8 +153,8 @@ typedef struct imagesize_span {
 
 /*
  * Detects the type from the first bytes, with its compression if the type has one. Twelve bytes are enough for most types, and
- * for the compression of a PKM and an ATC. A PVR and a DDS have their compression after these, a HEIF may have its brand there,
- * and a TGA has its footer at the end of the file.
+ * for the compression of a PKM and an ATC. A PVR and a DDS have their compression after these, and a HEIF may have its brand
+ * there. A TGA has its footer at the end of the file.
  *
  * Errors: IMAGESIZE_NOT_SUPPORTED, and IMAGESIZE_END_OF_INPUT if there are fewer than 12 bytes.
  */

@@ -5,30 +5,31 @@
  *     differential files FILE..
  *     differential check
  *
- * SAMPLES is a file with an input in hex a line. `made` goes first through each sample, each of its fronts, and each change of
- * one byte of a small one; then it makes inputs for so many seconds. Every EVERY-th is written to standard output with what the
- * library says of it, for the model to compare. It is process PART of PARTS, which share the work. `files` checks the laws over
- * whole files, with each front and each missing byte. `check` reads inputs in hex and prints the law that each breaks, or `-`.
+ * SAMPLES is a file with one input a line, in hex. `made` first checks each sample, each of its prefixes, and each change of one
+ * byte of a small sample. Then it generates inputs for SECONDS seconds. Every EVERY-th input is written to standard output with
+ * the library's result, which the model is compared with. This process is number PART of PARTS, which share the work. `files`
+ * checks the laws over whole files, with each prefix and each missing byte. `check` reads inputs in hex, and prints for each the
+ * law that it breaks, or `-`.
  *
- * A broken law is a line `LAW name hex`, and ends the run with status 1. The last line is `DONE`, and how often each thing was
- * done. The laws:
+ * A broken law is a line `LAW name hex`, and ends the run with status 1. The last line is `DONE` with the counts. The laws:
  *
- *     calls     imagesize_type and imagesize_size say what imagesize_probe says
- *     spans     each span has a byte and lies within the input, and all have at most 64 bytes more than the input
+ *     calls     imagesize_type and imagesize_size return the same as imagesize_probe
+ *     spans     each span has a byte and lies within the input; together they have at most 64 bytes more than the input
  *     local     with every byte outside the spans changed, type, size, error and spans are the same
- *     appended  bytes appended change no size, but that of a HEIF, an icon or a TGA
- *     front     the result of a front is that of the whole, unless the header says that more bytes may change it
- *     parts     fetched as it is wanted, with other bytes or cut short, the result is that of the whole, and nothing else is written
- *     missing   with one byte of the spans missing that byte is wanted; with any other byte missing the result is there
- *     typed     read as its own type the size is that of the input; read as another type, whole and by parts, it is one size
- *     read      imagesize_file.h over a file, in blocks of 16 bytes, finds what is in the whole, and reads within the input
- *     cut       with each read cut short, and now and then interrupted, it finds the same
- *     failing   where a read fails, or the file ends there, it says so, with errno and without a size, and reads no further
+ *     appended  appended bytes change no size, except that of a HEIF, an icon or a TGA
+ *     front     a prefix has the result of the whole input, unless the header says that more bytes may change it
+ *     parts     if each requested span is fetched, with bytes around it or in pieces, the result is that of the whole input, and
+ *               the call writes nothing else
+ *     missing   if one byte of the spans is missing, that byte is requested; if any other byte is missing, the result is the same
+ *     typed     the size as the input's own type is its size; as another type, the whole input and its parts give the same size
+ *     read      imagesize_file.h over a file, in blocks of 16 bytes, finds the result of the whole input, and reads within it
+ *     cut       with each read cut short, and some interrupted, it finds the same
+ *     failing   if a read fails, or the file ends there, it returns an error, with errno and without a size, and reads no further
  */
 #define _POSIX_C_SOURCE 200809L
 #include <unistd.h>
 
-/* The header reads memory here. */
+/* imagesize_file.h reads memory in this program. */
 static ssize_t read_memory(int file, void *bytes, size_t length, off_t offset);
 #define pread read_memory
 #include <imagesize_file.h>
@@ -56,7 +57,7 @@ struct answer {
     uint64_t width, height;
 };
 
-/* How often each thing was done. */
+/* The counts. */
 enum counter {
     INPUTS, PROBES, VECTORS, FRONTS_OF_SAMPLES, CHANGES_OF_ONE, CHANGES_OF_TWO, CALLS, LOCAL, APPENDED, FRONT, BY_PARTS, MISSING, TYPED,
     READ, CUT, FAILING, COUNTERS
@@ -86,13 +87,13 @@ static uint64_t below(uint64_t bound)
     return next() % bound;
 }
 
-/* True one time in so many. */
+/* True once in this many calls, on average. */
 static bool once_in(uint64_t times)
 {
     return below(times) == 0;
 }
 
-/* A number at an edge of some width, or any small one. */
+/* A number at the limit of some width in bits, or any small number. */
 static uint64_t edge(void)
 {
     static const uint8_t bits[] = {0, 1, 3, 4, 7, 8, 9, 14, 15, 16, 24, 31, 32, 33, 62, 63};
@@ -297,7 +298,7 @@ static void put_tiff(struct input *to)
     }
 }
 
-/* The head of a box, and its content by its size. */
+/* The header of a box, and the size of its content. */
 static void put_box(struct input *to, const char *name, uint64_t content)
 {
     put_big(to, once_in(24) ? edge() : content + 8, 4);
@@ -466,7 +467,7 @@ static void (*const grammars[])(struct input *) = {
     put_heif,  put_heif, put_jxl, put_jxl,  put_pnm, put_pnm,  put_hdr,  put_exr, put_anything,
 };
 
-/* Bends an input in one place. */
+/* Changes an input at one offset. */
 static void mutate(struct input *to)
 {
     size_t at = to->length ? below(to->length) : 0;
@@ -533,7 +534,7 @@ static size_t spans_of(const struct input *of, imagesize_span *spans)
     return count < SPANS ? count : SPANS;
 }
 
-/* Whether a span has a byte and lies within an input of so many bytes. */
+/* Whether a span has a byte and lies within an input of this length. */
 static bool within(imagesize_span span, uint64_t total)
 {
     return span.len > 0 && span.start < total && span.len <= total - span.start;
@@ -568,13 +569,13 @@ static bool is_local(const struct input *of, struct answer whole, const imagesiz
         && memcmp(spans, others, count * sizeof *spans) == 0;
 }
 
-/* The types whose size bytes that follow may change. */
+/* The types whose size appended bytes may change. */
 static bool may_change(uint32_t type)
 {
     return type == IMAGESIZE_HEIF || type == IMAGESIZE_ICO || type == IMAGESIZE_TGA;
 }
 
-/* Whether the result of a front may be what it is, where that of the whole is this. */
+/* Whether a prefix may have this result, if the whole input has that one. */
 static bool lasts(struct answer front, struct answer whole)
 {
     switch (front.status) {
@@ -612,7 +613,7 @@ static bool front_lasts(const struct input *of, struct answer whole, size_t leng
     return lasts(probe(of->bytes, length), whole);
 }
 
-/* Parts of an input that are known. */
+/* The known parts of an input. */
 static struct parts {
     uint8_t bytes[2 * ROOM];
     imagesize_span spans[PARTS];
@@ -636,7 +637,7 @@ static bool add_part(const struct input *of, imagesize_span part)
     return true;
 }
 
-/* What the known parts tell. What the call does not write is 0 then, and its status is STATUSES where it wrote too much. */
+/* The result over the known parts. Numbers that the call does not write are 0. If it wrote too much, the status is STATUSES. */
 static struct answer probe_known(uint64_t total, imagesize_span *wanted)
 {
     const uint32_t unwritten = 0xFEFEFEFE;
@@ -654,8 +655,8 @@ static struct answer probe_known(uint64_t total, imagesize_span *wanted)
                            is_sized ? found.height : 0};
 }
 
-/* Fetched as it is wanted the result is that of the whole: with up to `around` bytes beside it, or at most `most` bytes a time.
- * One of both changes nothing, since bytes before those that are wanted bring nothing new. */
+/* Fetching each requested span gives the result of the whole input: with up to `around` bytes on each side, or at most `most` bytes
+ * at a time. One of both limits is always off: with both, `most` could cut off the requested bytes. */
 static bool by_parts(const struct input *of, struct answer whole, uint64_t around, uint64_t most)
 {
     counted[BY_PARTS]++;
@@ -683,7 +684,7 @@ static bool by_parts(const struct input *of, struct answer whole, uint64_t aroun
     }
 }
 
-/* All bytes are known but one: the result, or that byte, where the result rests on it. */
+/* All bytes are known but one. If the result depends on that byte, the call requests it; otherwise the call returns the result. */
 static bool without(const struct input *of, struct answer whole, uint64_t place, bool rests_on)
 {
     imagesize_span wanted = {0, 0};
@@ -722,7 +723,7 @@ static bool without_any(const struct input *of, struct answer whole, const image
     return without(of, whole, place, rests_on(spans, count, place));
 }
 
-/* The size as a type by the known parts. The compression of a type that has one does not matter. */
+/* The size as this type over the known parts. The compression does not matter. */
 static struct answer size_known(uint32_t type, uint64_t total, imagesize_span *wanted)
 {
     struct answer found = {0};
@@ -737,7 +738,7 @@ static struct answer size_known(uint32_t type, uint64_t total, imagesize_span *w
     return found;
 }
 
-/* The size of a whole input as a type. */
+/* The size of a whole input, read as this type. */
 static struct answer size_as(const struct input *of, uint32_t type)
 {
     imagesize_span wanted = {0, 0};
@@ -748,7 +749,7 @@ static struct answer size_as(const struct input *of, uint32_t type)
     return size_known(type, of->length, &wanted);
 }
 
-/* Fetched as it is wanted the size as a type is that of the whole, and as its own type that of the input. */
+/* The size read as a type: parts give that of the whole input, and as its own type it is the size of the input. */
 static bool is_typed(const struct input *of, struct answer whole, uint32_t type)
 {
     struct answer sized = size_as(of, type);
@@ -772,7 +773,7 @@ static bool is_typed(const struct input *of, struct answer whole, uint32_t type)
     }
 }
 
-/* A file in memory: how often it was read, the read that fails, with which errno, and whether each read is cut short. */
+/* A file in memory: the number of reads, the read that fails, its errno, and whether each read is cut short. */
 static struct memory {
     const struct input *of;
     size_t reads, failing;
@@ -780,7 +781,7 @@ static struct memory {
     bool cut, beyond;
 } memory;
 
-/* As pread. Where a read fails without an errno the file ends. */
+/* Reads like pread. A read that fails without an errno is the end of the file. */
 static ssize_t read_memory(int file, void *bytes, size_t length, off_t offset)
 {
     uint64_t at = (uint64_t)offset, total = memory.of->length;
@@ -799,7 +800,7 @@ static ssize_t read_memory(int file, void *bytes, size_t length, off_t offset)
     return (ssize_t)length;
 }
 
-/* What imagesize_file.h finds in a file. Where a read is beyond the input, or there are too many, its status is STATUSES. */
+/* The result of imagesize_file.h over a file. If a read lies past the end, or there are too many, the status is STATUSES. */
 static struct answer probe_file(const struct input *of, size_t failing, int failure, bool cut)
 {
     int file = 7;
@@ -809,7 +810,7 @@ static struct answer probe_file(const struct input *of, size_t failing, int fail
     return (struct answer){memory.beyond ? STATUSES : status, image.type, image.compression, image.width, image.height};
 }
 
-/* The name of a law of files that an input breaks, or NULL: each read fails, or with `all` unset one of them. */
+/* The name of a law of files that an input breaks, or NULL. With `all` each read fails in turn, and otherwise one of them. */
 static const char *broken_reads(const struct input *of, struct answer whole, bool all)
 {
     const struct answer fault = {.status = IMAGESIZE_FAULT};
@@ -887,8 +888,8 @@ static const char *broken(const struct input *of, bool sample)
                                                                                                 : NULL;
 }
 
-/* The same of a whole file, with each of its fronts, each read that fails, and each byte missing on which its result rests, and its
- * neighbours. */
+/* The name of a law that a whole file breaks, or NULL: with each prefix, each read that fails, and each missing byte that the result
+ * depends on or that is next to one. */
 static const char *broken_file(const struct input *of)
 {
     static imagesize_span spans[SPANS];
@@ -908,7 +909,7 @@ static const char *broken_file(const struct input *of)
     return law;
 }
 
-/* Reads an input in hex. */
+/* Reads an input from hex. */
 static void read_hex(struct input *to, const char *line)
 {
     static const char digits[] = "0123456789abcdef";
@@ -955,7 +956,7 @@ static void check(const struct input *of)
     }
 }
 
-/* Each sample, each of its fronts, and each change of one byte of a small one: one process does one of so many. */
+/* Each sample, each of its prefixes, and each change of one byte of a small sample. The processes share them. */
 static void check_samples(size_t part, size_t parts)
 {
     static struct input made;
@@ -976,7 +977,7 @@ static void check_samples(size_t part, size_t parts)
     }
 }
 
-/* How many changes of two neighbouring bytes the smallest samples have. */
+/* The number of changes of two neighbouring bytes of the smallest samples. */
 static uint64_t pairs_of(const struct sample *of)
 {
     return of->length <= SMALLEST && of->length > 1 ? (of->length - 1) << 16 : 0;
@@ -991,7 +992,7 @@ static uint64_t all_pairs(void)
     return pairs;
 }
 
-/* A change of two bytes by its number. The numbers are gone through by a large step, so that each comes once. */
+/* A change of two bytes, by its number. The numbers are visited by a large step, each of them once. */
 static void set_pair(struct input *to, uint64_t number)
 {
     size_t index = 0;
@@ -1017,7 +1018,7 @@ static void make(struct input *to)
     }
 }
 
-/* Inputs for so many seconds: of four one is a change of two bytes, as long as there are such. */
+/* Generated inputs, for this many seconds. One of four is a change of two bytes, until all of these were made. */
 static void check_made(time_t end, size_t part, size_t parts)
 {
     static struct input made;

@@ -12,21 +12,21 @@ FOLDER = OUT / "encoded"
 
 @contextlib.contextmanager
 def alone():
-    """No other run replaces or reads the images meanwhile."""
+    """Keeps other runs from replacing or reading the images meanwhile."""
     with open(OUT / "encoded.lock", "w") as lock:
         fcntl.flock(lock, fcntl.LOCK_EX)
         yield
 
 
 def replace(folder):
-    """Replaces the images by those of a folder."""
+    """Replaces the images with those in a folder."""
     with alone():
         shutil.rmtree(FOLDER, ignore_errors=True)
         os.rename(folder, FOLDER)
 
 
 def links(folder):
-    """Links to the images in a folder, sorted by name. They stay as they are where the images are replaced."""
+    """Links to the images in a folder, sorted by name. The links keep their images if these are replaced."""
     with alone():
         for path in FOLDER.glob("*"):
             os.link(path, folder / path.name)

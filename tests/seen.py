@@ -1,4 +1,4 @@
-"""What tests/mutants and tests/callers share: the reasons of the mutants that no run sees, and how both end."""
+"""Shared by tests/mutants and tests/callers: the reasons of the unseen mutants, and how both programs end."""
 
 import pathlib
 
@@ -6,13 +6,13 @@ REASONS = pathlib.Path(__file__).resolve().parent / "unseen.tsv"
 
 
 def reasons():
-    """The reason of each mutant that is known to be unseen, by its file, the text of its line, and what is changed there."""
+    """The reason of each mutant that no run sees, by its file, the text of its line, and what is changed there."""
     rows = (row.split("\t") for row in REASONS.read_text().splitlines() if row and not row.startswith("#"))
     return {(name, text, how): reason for name, text, how, reason in rows}
 
 
 def told(found, known):
-    """Prints each unseen mutant with its reason. Returns whether each has one, and no other has one.
+    """Prints each unseen mutant with its reason. Returns whether each unseen mutant has a reason, and no other mutant has one.
 
     `found` has a row for each mutant: its file, its line, the text of the line, what is changed there, and whether it was seen.
     """

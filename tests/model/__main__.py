@@ -1,4 +1,4 @@
-"""Prints what the layouts say of files, read by read.
+"""Prints the results of the layouts for files, read by read.
 
     python3 tests/model FILE..
 """

@@ -1,4 +1,4 @@
-"""The formats of fixed offsets: the fields are read in the order of the table."""
+"""The fixed-offset formats: the fields are read in the order of the table."""
 
 from reading import Refused
 
@@ -25,7 +25,7 @@ TABLE = {
 
 
 def size(name, image):
-    """Width and height by a row of the table."""
+    """Width and height at the offsets in a row of the table."""
     order, length, fields = TABLE[name]
     read = image.little if order == "little" else image.big
     found = {what: read(offset, length, what) for offset, what in fields}
@@ -39,7 +39,7 @@ def pvr_size(image):
 
 
 def atc_size(image):
-    """An ATC texture is in a PKM file or in a DDS."""
+    """An ATC texture, in a PKM file or in a DDS."""
     if image.exactly(0, 4, "signature") == b"DDS ":
         return size("Dds", image)
     if is_atc_header(image.exactly(0, 8, "signature and data type")):

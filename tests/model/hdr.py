@@ -5,7 +5,7 @@ from texts import line, number_of, words_of
 
 
 def size(image):
-    """Second and fourth word of the first line that begins with an axis."""
+    """The second and fourth word of the first line that begins with an axis."""
     text, offset = line(image, 0, 11, b"\n", "identifier")
     if not text.startswith(("#?RADIANCE", "#?RGBE")):
         raise Refused("InvalidHdrIdentifier")

@@ -4,7 +4,7 @@ from reading import Refused
 
 
 def size(image):
-    """The extents of greatest area, turned as the last rotation says."""
+    """The size with the greatest area, turned by the last rotation."""
     meta, _ = search(image, b"meta", image.big(0, 4, "size of the first box"))
     image.exactly(meta + 8, 4, "version and flags of meta")
     iprp, _ = search(image, b"iprp", meta + 12)
@@ -19,7 +19,7 @@ def size(image):
 
 
 def search(image, wanted, offset):
-    """Offset and size of the first box of a name."""
+    """Offset and size of the first box with this name."""
     while True:
         head = image.exactly(offset, 8, f"size and name of a box, in search of {wanted.decode()}")
         length = int.from_bytes(head[:4], "big")
@@ -31,7 +31,7 @@ def search(image, wanted, offset):
 
 
 def properties(image, offset, left):
-    """All extents, and the last rotation, of the list from an offset on."""
+    """All sizes, and the last rotation, in the list that begins at an offset."""
     extents, rotation = [], None
     while True:
         head = image.available(offset, 8, "size and name of a property")

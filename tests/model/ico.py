@@ -4,7 +4,7 @@ from reading import Refused
 
 
 def size(image):
-    """The size of the entry of greatest area, of several such the last."""
+    """The size of the entry with the greatest area. Among equals the last one counts."""
     largest = None
     for entry in range(image.little(4, 2, "count of entries")):
         sides = image.available(6 + 16 * entry, 2, "width and height of an entry")

@@ -7,7 +7,7 @@ RATIOS = {1: (1, 1), 2: (12, 10), 3: (4, 3), 4: (3, 2), 5: (16, 9), 6: (5, 4), 7
 
 
 def size(image):
-    """Width and height by the codestream's fields."""
+    """Width and height from the codestream's fields."""
     front = image.exactly(0, 2, "signature")
     stream = front + image.available(2, 14, "codestream") if front == SIGNATURE else codestream(image)
     if len(stream) < 2:
@@ -18,7 +18,7 @@ def size(image):
 
 
 def codestream(image):
-    """The first sixteen bytes of the codestream, out of the boxes."""
+    """The first sixteen bytes of the codestream, from the boxes."""
     stream, offset = b"", 12
     while True:
         head, length, name = box(image, offset)
@@ -40,7 +40,7 @@ def codestream(image):
 
 
 def box(image, offset):
-    """Bytes of the head, size and name of a box; the size 0 is an open box."""
+    """The length of a box's header, the size of the box and its name. A box of size 0 extends to the end."""
     read = image.exactly(offset, 8, "size and name of a box")
     head, length, name = 8, int.from_bytes(read[:4], "big"), read[4:]
     if length == 1:
@@ -53,7 +53,7 @@ def box(image, offset):
 
 
 class Bits:
-    """Fields of bits, from the lowest bit of the first byte on."""
+    """Fields of bits, beginning at the lowest bit of the first byte."""
 
     def __init__(self, data):
         self.number, self.left = int.from_bytes(data, "little"), 8 * len(data)
@@ -69,7 +69,7 @@ class Bits:
 
 
 def sides(bits):
-    """Width and height, turned as the orientation says."""
+    """Width and height, turned by the orientation."""
     small = bits.take(1)
     height = side(bits, small)
     ratio = bits.take(3)
@@ -85,7 +85,7 @@ def sides(bits):
 
 
 def side(bits, small):
-    """One side: in units of eight pixels, or as a number of one of four lengths."""
+    """One side: in units of eight pixels, or as a number of 9, 13, 18 or 30 bits."""
     if small:
         return 8 * (bits.take(5) + 1)
     return bits.take((9, 13, 18, 30)[bits.take(2)]) + 1

@@ -1,4 +1,4 @@
-"""The type of an image by its first twelve bytes, and the compression within a type."""
+"""The type of an image from its first twelve bytes, and its compression."""
 
 from fixed import is_atc_header, is_pkm_header
 from reading import Refused
@@ -14,7 +14,7 @@ def is_eac(head):
     return is_pkm_header(head) and 0x1608 <= int.from_bytes(head[6:8], "big") <= 0x160B
 
 
-# The rows in their order: the first that holds decides.
+# The rows in order: the first one that holds decides.
 ROWS = (
     ("Jpeg", lambda h: h[:3] == b"\xff\xd8\xff"),
     ("Gif", lambda h: h[:4] == b"GIF8"),
@@ -77,7 +77,7 @@ def is_tga(head, image):
 
 
 def compression(name, image):
-    """The compression within a type: Unknown where it is not listed, or where the input ends first."""
+    """The compression of an image of this type: Unknown if it is not listed, or if the input ends first."""
     read = {"Heif": heif, "Atc": atc, "Pvrtc": pvr, "Eac": pkm, "Etc2": pkm, "Dds": dds}.get(name)
     if read is None:
         return None
@@ -99,7 +99,7 @@ def brand_of(name):
 
 
 def heif(image):
-    """The major brand, which is among the twelve bytes; after a general one the two compatible brands."""
+    """The major brand, which is in the first twelve bytes. After a general brand the two compatible brands are read."""
     found = brand_of(image.data[8:12])
     if found == "general":
         more = image.exactly(12, 12, "minor version and two brands")

@@ -1,4 +1,4 @@
-"""Type, size and spans of an image, by docs/LAYOUTS.md and nothing else."""
+"""Type, size and spans of an image, written from docs/LAYOUTS.md alone."""
 
 import dataclasses
 
@@ -33,7 +33,7 @@ SIZES = {
 
 @dataclasses.dataclass
 class Found:
-    """What the layouts say of an input."""
+    """The result of the layouts for an input."""
 
     kind: str  # the type, or None
     compression: str  # the compression within the type, or None

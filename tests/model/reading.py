@@ -4,7 +4,7 @@ MAX_OFFSET = 2**64 - 1
 
 
 class Refused(Exception):
-    """The image has no size. `args[0]` names the error as docs/LAYOUTS.md does, and after it what the error carries."""
+    """The image has no size. `args[0]` is the error's name in docs/LAYOUTS.md, and the rest is what the error carries."""
 
 
 class Input:
@@ -23,7 +23,7 @@ class Input:
         self.trace.append(text)
 
     def available(self, offset, length, why):
-        """The bytes at an offset, as many as there are of them. The span has just these bytes."""
+        """The bytes at an offset, or as many as the input has. The span has exactly these bytes."""
         found = self.data[offset : offset + length]
         if found:
             self.spans.append((offset, len(found)))
@@ -32,16 +32,16 @@ class Input:
         return found
 
     def exactly(self, offset, length, why, refusal="EndOfInput"):
-        """The bytes at an offset, all of them."""
+        """All bytes at an offset. If the input ends within them, the image has an error."""
         found = self.available(offset, length, why)
         if len(found) < length:
             raise Refused(refusal)
         return found
 
     def little(self, offset, length, why):
-        """A number without a sign, in little endian."""
+        """An unsigned number in little endian."""
         return int.from_bytes(self.exactly(offset, length, why), "little")
 
     def big(self, offset, length, why):
-        """A number without a sign, in big endian."""
+        """An unsigned number in big endian."""
         return int.from_bytes(self.exactly(offset, length, why), "big")

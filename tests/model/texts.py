@@ -9,7 +9,7 @@ WHITE_SPACE = "\t\n\x0b\x0c\r \x85\xa0\u1680\u2000\u2001\u2002\u2003\u2004\u2005
 
 
 def raw_line(image, offset, most, delimiter, why):
-    """A line of at most so many bytes, with its delimiter."""
+    """A line of at most this many bytes, with its delimiter."""
     found = image.data[offset : offset + most]
     end = found.find(delimiter)
     if end < 0:
@@ -47,12 +47,12 @@ def text_of(data):
 
 
 def words_of(text):
-    """What is between white space."""
+    """The words between white space."""
     return [found for found in re.split(f"[{WHITE_SPACE}]+", text) if found]
 
 
 def number_of(text):
-    """A number of at most 64 bits; None where the text is none."""
+    """A number of at most 64 bits; None if the text is no such number."""
     if not re.fullmatch(r"\+?[0-9]+", text):
         return None
     digits = text.lstrip("+").lstrip("0") or "0"

@@ -7,7 +7,7 @@ TWO_BYTES, FOUR_BYTES = (3, 8), (4, 9, 11, 13)
 
 
 def size(image):
-    """The first entry after which both sides are known."""
+    """Width and height, at the first entry after which both are known."""
     order, big, directory = header(image)
     number = image.little if order == "little" else image.big
     count, head_length, value_length = (8, 12, 8) if big else (2, 8, 4)
@@ -27,7 +27,7 @@ def size(image):
 
 
 def header(image):
-    """Byte order, whether it is a BigTIFF, and the offset of the first directory."""
+    """The byte order, whether it is a BigTIFF, and the offset of the first directory."""
     orders = {b"II": "little", b"MM": "big"}
     order = orders.get(image.exactly(0, 2, "byte order"))
     if order is None:
@@ -48,7 +48,7 @@ def header(image):
 
 
 def judge(field_type, big):
-    """Refuses a field type that the version does not have."""
+    """Raises an error for a field type that the version does not have."""
     if 16 <= field_type <= 18:
         if not big:
             raise Refused("IfdTypeForStandardTiff")
@@ -57,6 +57,6 @@ def judge(field_type, big):
 
 
 def carried(field_type, value, order):
-    """The number in a value; None where the field type carries none."""
+    """The number in a value; None if the field type has no number."""
     length = 2 if field_type in TWO_BYTES else 4 if field_type in FOUR_BYTES else 0
     return int.from_bytes(value[:length], order) if length else None

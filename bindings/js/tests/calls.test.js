@@ -188,7 +188,7 @@ test('a call that throws leaves the module usable', () => {
 
 test('more spans than are allowed are refused', () => {
   const many = jpegBehind(2000, 4);
-  assert.match(refused(() => spans(many, { limit: 100 }), 'TOO_MANY_SPANS').message, /rests on \d{4} spans/);
+  assert.match(refused(() => spans(many, { limit: 100 }), 'TOO_MANY_SPANS').message, /depends on \d{4} spans/);
   assert.ok(spans(many).length > 4000);
 });
 

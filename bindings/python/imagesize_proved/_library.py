@@ -152,10 +152,8 @@ def probe_two(front: bytes, more: bytes, start: int, total: int) -> Told:
 def probe_parts(known: bytes, spans: "array[int]", total: int) -> Told:
     """Type and size of the image in an input of `total` bytes, whose parts are known: start and length of each.
 
-    The first part has the input's first bytes: eight of them at least, or all.
+    The input is no PNG: its size is in the first block, so no other part is requested.
     """
-    if known.startswith(_SIGNATURE):
-        return _probe_png(known, spans, total)
     room = _room(len(known), total)
     room.spans.value, numbers = spans.buffer_info()
     room.count.value = numbers // 2

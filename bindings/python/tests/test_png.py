@@ -90,6 +90,7 @@ class Pngs(unittest.TestCase):
         self.assertEqual(imagesize.image_type(IMAGE[:8]), PNG)
         with self.assertRaises(ImageError) as raised:
             imagesize.spans(IMAGE, limit=2)
+        self.assertEqual(len(imagesize.spans(IMAGE, limit=3)), 3)
         self.assertEqual(raised.exception.status, Status.BUFFER_TOO_SMALL)
 
     def test_others(self) -> None:
@@ -115,6 +116,7 @@ class Pngs(unittest.TestCase):
             self.assertEqual(raised.exception.status, Status.BUDGET_SPENT)
 
     def test_the_type(self) -> None:
+        self.assertEqual(Kind.PNG, 1000)
         self.assertEqual((str(PNG), PNG.name, PNG.compression_name, PNG.container_format), ("Png", "Png", None, None))
         self.assertEqual((PNG.mime_type, PNG.extension), ("image/png", ".png"))
         self.assertEqual((PNG.compression_family, PNG.is_block_compressed), (None, False))

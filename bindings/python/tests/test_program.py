@@ -36,7 +36,7 @@ class Program(unittest.TestCase):
 
     def run_it(self, *arguments: str, stdout: int = subprocess.PIPE) -> "subprocess.CompletedProcess[str]":
         command = [sys.executable, "-m", "imagesize_proved", *arguments]
-        environment = {**os.environ, "PYTHONPATH": str(PACKAGE)}
+        environment = {**os.environ, "PYTHONPATH": str(PACKAGE), "PYTHONUNBUFFERED": ""}  # with a buffer, as for most users
         return subprocess.run(command, cwd=self.folder, env=environment, stdout=stdout, stderr=subprocess.PIPE, text=True)
 
     def test_table(self) -> None:
@@ -48,6 +48,10 @@ class Program(unittest.TestCase):
             "-                         -  b: Is a directory",
         ])
         self.assertEqual(said.stderr, "")
+
+    def test_compression(self) -> None:
+        (self.folder / "a.dds").write_bytes(b"DDS \x7c\0\0\0\x07\x10\0\0\5\0\0\0\7\0\0\0" + bytes(64) + b"DXT1" + bytes(40))
+        self.assertEqual(self.run_it("a.dds").stdout, "Dds(Bc1)                7x5  a.dds\n")
 
     def test_status(self) -> None:
         for arguments, status in (("a.gif",), 0), (("a.gif", "b/d.gif"), 0), (("a.gif", "c.jpg"), 1), (("none",), 1), ((), 2):
@@ -96,9 +100,10 @@ class Program(unittest.TestCase):
     def test_output_that_is_closed(self) -> None:
         reader, writer = os.pipe()
         os.close(reader)
-        said = self.run_it("a.gif", stdout=writer)
+        for arguments in ("a.gif",), ("a.gif",) * 1000, ("--json", "a.gif"):
+            said = self.run_it(*arguments, stdout=writer)
+            self.assertEqual((said.returncode, said.stderr), (1, ""))
         os.close(writer)
-        self.assertEqual((said.returncode, said.stderr), (1, ""))
 
     def test_version(self) -> None:
         self.assertEqual(self.run_it("--version").stdout, f"{imagesize_proved.__version__}\n")
@@ -113,4 +118,11 @@ class Program(unittest.TestCase):
         self.assertEqual(written([0, 0.5, 0.9], Terminal()), "")
         self.assertEqual(written([0, 0.5, 1.2], Terminal()), "\r2: b.gif\x1b[K\r\x1b[K")
         self.assertEqual(written([0, 1.2, 1.25], Terminal()), "\r1: a.gif\x1b[K\r\x1b[K")
+        self.assertEqual(written([0, 1, 1.05], Terminal()), "\r1: a.gif\x1b[K\r\x1b[K")
         self.assertEqual(written([0, 1.2, 1.5], io.StringIO()), "")
+        with mock.patch.dict(os.environ, {"COLUMNS": "6"}):
+            self.assertEqual(written([0, 0.5, 1.2], Terminal()), "\r2: b.\x1b[K\r\x1b[K")
+
+    def test_interrupt(self) -> None:
+        with mock.patch.object(program, "probe", side_effect=KeyboardInterrupt):
+            self.assertEqual(program.main(["a.gif"]), 130)

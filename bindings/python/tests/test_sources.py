@@ -3,6 +3,7 @@
 import array
 import asyncio
 import errno
+import gc
 import inspect
 import io
 import os
@@ -47,7 +48,7 @@ class Sliced:
 
 
 class Halting(io.RawIOBase):
-    """A file that gives its bytes seven at a time, and ends before its length."""
+    """A file that gives its bytes seven at a time, ends before its length, and refuses to read nothing."""
 
     def __init__(self, data: bytes, length: int) -> None:
         self.data, self.length, self.place = data, length, 0
@@ -63,6 +64,8 @@ class Halting(io.RawIOBase):
         return self.place
 
     def read(self, size: int = -1) -> bytes:
+        if size < 1:
+            raise ValueError(size)
         data = self.data[self.place : self.place + min(size, 7)]
         self.place += len(data)
         return data
@@ -86,7 +89,9 @@ class Reading(unittest.TestCase):
     def test_whole_walk_is_few_rounds(self) -> None:
         image = Sliced(jpeg(1 << 18, 2))
         self.assertEqual(image.probe(), (7, 5))
-        self.assertLess(len(image.fetched), 30)
+        lengths = [length for _, length in image.fetched]
+        self.assertEqual(lengths[:-1], [4096] * 8 + [4096 << number // 2 + 1 for number in range(len(lengths) - 9)])
+        self.assertLess(len(lengths), 30)
 
     def test_length_is_asked_once(self) -> None:
         """However many rounds a file takes, its end is sought once."""
@@ -126,6 +131,9 @@ class Reading(unittest.TestCase):
             Sliced(jpeg(40)).probe(budget=20000)
         self.assertIs(raised.exception.status, Status.BUDGET_SPENT)
         self.assertEqual(imagesize.probe(bytearray(jpeg(40)), budget=20000).size, (7, 5))
+        with self.assertRaises(ImageError) as raised:
+            imagesize.spans(io.BytesIO(jpeg(40)), budget=20000)
+        self.assertIs(raised.exception.status, Status.BUDGET_SPENT)
 
     def test_budget_of_the_first_block(self) -> None:
         """No source gives more bytes than the budget, and eleven tell no type."""
@@ -153,6 +161,39 @@ class Reading(unittest.TestCase):
         with self.assertRaises(ImageError) as raised:
             image.probe(budget=read - 1)
         self.assertIs(raised.exception.status, Status.BUDGET_SPENT)
+
+    def test_file_of_some_blocks(self) -> None:
+        """A path is read as any other source, and for the same budget."""
+
+        async def read(start: int, length: int) -> bytes:
+            return image.fetch(start, length)
+
+        for count in (1, 3, 12):
+            image = Sliced(jpeg(count))
+            self.assertEqual(asyncio.run(imagesize.probe_async(read, len(image.data))).size, (7, 5))
+            fetched = sum(length for _, length in image.fetched)
+            with tempfile.NamedTemporaryFile() as file:
+                file.write(image.data)
+                file.flush()
+                for budget in (1 << 26, fetched):
+                    self.assertEqual(imagesize.probe(file.name, budget=budget).size, (7, 5))
+                with self.assertRaises(ImageError) as raised:
+                    imagesize.probe(file.name, budget=fetched - 1)
+            self.assertIs(raised.exception.status, Status.BUDGET_SPENT)
+
+    def test_no_type_is_left_from_the_image_before(self) -> None:
+        with tempfile.NamedTemporaryFile() as file:
+            file.write(b"\0\0\2" + bytes(13) + b"\x18\5" + bytes(20000))  # a TGA but for its descriptor: its footer is read too
+            file.flush()
+            forms: List[Any] = [b"no image, but a text", file, file.name]
+            for form in forms:
+                self.assertEqual(imagesize.probe(GIF).size, (640, 480))
+                with self.assertRaises(ImageError) as raised:
+                    imagesize.probe(form)
+                self.assertEqual((raised.exception.status, raised.exception.image_type), (Status.NOT_SUPPORTED, None))
+            with self.assertRaises(ImageError) as raised:
+                imagesize.image_type(file.name)
+        self.assertEqual((raised.exception.image_type, raised.exception.filename), (None, file.name))
 
     def test_budget_of_any_length(self) -> None:
         """A budget may be longer than any input. It is 64 MiB where a call names no other, and the spans are 65536."""
@@ -195,6 +236,12 @@ class Reading(unittest.TestCase):
             with self.assertRaises(ImageError) as raised:
                 imagesize.spans(form, limit=23)
             self.assertIs(raised.exception.status, Status.BUFFER_TOO_SMALL)
+        with tempfile.NamedTemporaryFile() as file:
+            file.write(data)
+            file.flush()
+            with self.assertRaises(ImageError) as raised:
+                imagesize.spans(file.name, limit=23)
+        self.assertEqual((raised.exception.image_type, raised.exception.filename), (None, file.name))
 
     def test_spans_of_parts(self) -> None:
         for data in (jpeg(3), jpeg(40), jpeg(200, 4000)):
@@ -202,7 +249,14 @@ class Reading(unittest.TestCase):
 
     def test_array_of_numbers(self) -> None:
         data = jpeg(3)
-        self.assertEqual(imagesize.probe(array.array("I", data + bytes(-len(data) % 4))).size, (7, 5))
+        for code, size in ("H", 2), ("I", 4):
+            self.assertEqual(imagesize.probe(array.array(code, data + bytes(-len(data) % size))).size, (7, 5))
+
+    def test_array_of_rows(self) -> None:
+        data = jpeg(3)
+        rows = memoryview(data + bytes(-len(data) % 3)).cast("B", (-(-len(data) // 3), 3))
+        self.assertEqual(imagesize.probe(rows).size, (7, 5))
+        self.assertEqual(imagesize.spans(rows), imagesize.spans(bytes(rows)))
 
     def test_spans_of_a_large_file(self) -> None:
         with tempfile.NamedTemporaryFile() as file:
@@ -327,6 +381,7 @@ class Failing(unittest.TestCase):
         with tempfile.NamedTemporaryFile() as file:
             file.write(GIF)
             file.flush()
+            gc.collect()  # what earlier tests left is closed now, and not while this one counts
             before, interrupted = os.listdir("/proc/self/fd"), 0
             try:
                 for number in range(20000):

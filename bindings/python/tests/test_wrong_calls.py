@@ -213,6 +213,11 @@ class Buffers(unittest.TestCase):
             self.assertEqual((length, count, total, len(references)), (len(data), 2 + number, len(image), 5))
             self.results(references, 5)
 
+    def test_parts_that_touch_are_one(self) -> None:
+        image = b"\xff\xd8" + b"\xff\xe0\0\2" * 4096 + b"\xff\xc0\0\x11\x08\0\x05\0\x07" + bytes(8)
+        found = self.passed("_probe_parts", lambda: imagesize.probe(bytearray(image)))
+        self.assertEqual([(length, count) for _, length, _, count, *_ in found], [(8192, 1), (12288, 1), (16384, 1), (len(image), 1)])
+
     def test_spans(self) -> None:
         (asked, told) = self.passed("_spans", lambda: imagesize.spans(GIF))
         self.assertEqual((asked[:2], asked[3]), ((GIF, 12), 0))

@@ -42,7 +42,7 @@ use std::path::Path;
 /// bytes do not have it.
 ///
 /// Twelve bytes are enough for most types, and for the compression of a PKM and an ATC. A PVR and a DDS have their compression
-/// after these, a HEIF may have its brand there, and a TGA has its footer at the end of the file.
+/// after these, and a HEIF may have its brand there. A TGA has its footer at the end of the file.
 ///
 /// # Errors
 ///

@@ -267,8 +267,10 @@ fn a_walk_from_block_to_block_reads_each_byte_once_and_seeks_no_more() {
 
 #[test]
 fn a_walk_over_many_places_takes_few_readings() {
-    let mut reader = Counting::new(jpeg(1_000, 9_000));
+    let mut reader = Counting::new(jpeg(1_000, 3 * 4096 - 2));
     assert_eq!(reader_size(&mut reader).ok(), Some(pixels(7, 5)));
+    let grown = reader.readings.iter().position(|reading| reading.1 > 4096);
+    assert_eq!(grown, Some(65));
     assert!(
         reader.readings.len() <= 80,
         "{} readings",
@@ -276,19 +278,27 @@ fn a_walk_over_many_places_takes_few_readings() {
     );
 }
 
-/// A JPEG without end: its first two bytes, and then empty segments.
+/// A JPEG without end: its first two bytes, and then segments of this many bytes, with their markers.
 struct Endless {
+    segment: u64,
     place: u64,
     given: u64,
 }
 
 impl Read for Endless {
     fn read(&mut self, room: &mut [u8]) -> io::Result<usize> {
+        let [high, low] = (self.segment as u16 - 2).to_be_bytes();
         for byte in room.iter_mut() {
             *byte = match self.place {
                 0 => 0xFF,
                 1 => 0xD8,
-                place => [0xFF, 0xE1, 0, 2][(place % 4) as usize ^ 2],
+                place => match (place - 2) % self.segment {
+                    0 => 0xFF,
+                    1 => 0xE1,
+                    2 => high,
+                    3 => low,
+                    _ => 0,
+                },
             };
             self.place += 1;
         }
@@ -318,10 +328,16 @@ impl Seek for Endless {
 
 #[test]
 fn a_walk_without_end_is_refused() {
-    let mut endless = Endless { place: 0, given: 0 };
-    let refused = reader_size(&mut endless).expect_err("no size");
-    assert_eq!(refused.to_string(), "Read budget is spent");
-    assert!(endless.given <= 65 << 20, "{} bytes", endless.given);
+    for segment in [4, 3 * 4096] {
+        let mut endless = Endless {
+            segment,
+            place: 0,
+            given: 0,
+        };
+        let refused = reader_size(&mut endless).expect_err("no size");
+        assert_eq!(refused.to_string(), "Read budget is spent");
+        assert_eq!(endless.given, 64 << 20);
+    }
 }
 
 #[test]

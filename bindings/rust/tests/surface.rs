@@ -1,8 +1,8 @@
 //! What the types of the crate can do, and what the queries say.
 
 use imagesize::{
-    AtcCompression, Compression, CompressionFamily, DdsCompression, ImageError, ImageResult,
-    ImageSize, ImageType, PkmCompression, PvrtcCompression,
+    blob_size, AtcCompression, Compression, CompressionFamily, DdsCompression, ImageError,
+    ImageResult, ImageSize, ImageType, PkmCompression, PvrtcCompression,
 };
 use std::collections::{BTreeSet, HashSet};
 use std::error::Error;
@@ -22,6 +22,17 @@ fn the_types_have_the_traits_of_the_crate() {
     is_plain::<DdsCompression>();
     is_plain::<PkmCompression>();
     is_plain::<PvrtcCompression>();
+}
+
+#[test]
+fn an_image_whose_records_are_malformed_has_its_own_error() {
+    let icon_of_no_entries = b"\0\0\x01\0\0\0\0\0\0\0\0\0";
+    assert!(matches!(
+        blob_size(icon_of_no_entries),
+        Err(ImageError::CorruptedImage)
+    ));
+    let text = b"no image, but a text";
+    assert!(matches!(blob_size(text), Err(ImageError::NotSupported)));
 }
 
 #[test]

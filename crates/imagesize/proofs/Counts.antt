@@ -23,8 +23,10 @@ kind_outside Aseprite = omega arith
 kind_outside _ = omega arith
 
 -- with its type, a size is read from at most the bytes of its format
-size_most : (type : ImageType) (d : List ℕ) → kind_cost type + total (size_reads type d).marks ≤ most_as {E = Halt} (Ok type) d
-size_most type d = cost_way (kind_cost type) (outside_records type) (in_record type) (lasts type) (has_texts type) (way_of type)
+size_most : (type : ImageType) (d : List ℕ)
+    → kind_cost type + total (size_reads type d).marks ≤ most_as {E = Halt} (Ok type) d
+size_most type d = cost_way (kind_cost type) (outside_records type) (in_record type) (lasts type) (has_texts type)
+    (way_of type)
     (kind_outside type)
     (laws_of type) d
 

@@ -64,16 +64,23 @@ pub kind_few : (type : ImageType) → kind_cost type ≤ 37
 kind_few Tga = omega arith
 kind_few _ = omega arith
 
-with_costs : (place : ℕ) (head : List ℕ) (found : ImageType) → CostsBy kind_cost 37 12 (with_compression place head found)
+with_costs : (place : ℕ) (head : List ℕ) (found : ImageType)
+    → CostsBy kind_cost 37 12 (with_compression place head found)
 unfolding with_compression
-with_costs place head (Heif _) = costs_bind kind_cost 37 12 12 (heif_compression place head) _ (heif_compression_laws place head).few
+with_costs place head (Heif _) =
+    costs_bind kind_cost 37 12 12 (heif_compression place head) _ (heif_compression_laws place head).few
     (omega arith) (λ _. omega arith)
-with_costs place head (Atc _) = costs_bind kind_cost 37 12 8 atc_compression _ atc_compression_laws.few (omega arith) (λ _. omega arith)
-with_costs place head (Pvrtc _) = costs_bind kind_cost 37 12 12 pvrtc_compression _ pvrtc_compression_laws.few (omega arith)
+with_costs place head (Atc _) =
+    costs_bind kind_cost 37 12 8 atc_compression _ atc_compression_laws.few (omega arith) (λ _. omega arith)
+with_costs place head (Pvrtc _) =
+    costs_bind kind_cost 37 12 12 pvrtc_compression _ pvrtc_compression_laws.few (omega arith)
     (λ _. omega arith)
-with_costs place head (Eac _) = costs_bind kind_cost 37 12 2 pkm_compression _ pkm_compression_laws.few (omega arith) (λ _. omega arith)
-with_costs place head (Etc2 _) = costs_bind kind_cost 37 12 2 pkm_compression _ pkm_compression_laws.few (omega arith) (λ _. omega arith)
-with_costs place head (Dds _) = costs_bind kind_cost 37 12 8 dds_compression _ dds_compression_laws.few (omega arith) (λ _. omega arith)
+with_costs place head (Eac _) =
+    costs_bind kind_cost 37 12 2 pkm_compression _ pkm_compression_laws.few (omega arith) (λ _. omega arith)
+with_costs place head (Etc2 _) =
+    costs_bind kind_cost 37 12 2 pkm_compression _ pkm_compression_laws.few (omega arith) (λ _. omega arith)
+with_costs place head (Dds _) =
+    costs_bind kind_cost 37 12 8 dds_compression _ dds_compression_laws.few (omega arith) (λ _. omega arith)
 with_costs place head Tga = omega arith
 with_costs place head _ = omega arith
 
@@ -81,7 +88,8 @@ none_costs : (is : Bool) → CostsBy kind_cost 37 37 (tga_or_none is)
 none_costs true = omega arith
 none_costs false = omega arith
 
-by_costs : (n place : ℕ) (head : List ℕ) (found : Option ImageType) → CostsBy kind_cost 37 12 (kind_by n place head found)
+by_costs : (n place : ℕ) (head : List ℕ) (found : Option ImageType)
+    → CostsBy kind_cost 37 12 (kind_by n place head found)
 by_costs n place head (Some found) = with_costs place head found
 by_costs n place head None = costs_bind kind_cost 37 12 25 (is_tga n head) tga_or_none (is_tga_few n head) (omega arith)
     (λ is. none_costs is)
@@ -90,7 +98,8 @@ pub kind_costs : (n place : ℕ) → CostsBy kind_cost 37 0 (kind n place)
 kind_costs n place = (omega arith, λ head. by_costs n place head (first_row rows head))
 
 -- what a type is read from, by the type that is found
-pub kind_at_most : (d : List ℕ) (place : ℕ) → total (kind_reads d place).marks ≤ bound_of kind_cost 37 (kind_reads d place).answer
+pub kind_at_most : (d : List ℕ) (place : ℕ)
+    → total (kind_reads d place).marks ≤ bound_of kind_cost 37 (kind_reads d place).answer
 kind_at_most d place = omega (arith, costs kind_cost 37 0 d (kind (length d) place) (kind_costs (length d) place))
 
 few_of : (r : Result ImageType Halt) → bound_of kind_cost 37 r ≤ 37
@@ -105,19 +114,24 @@ kind_within d place = omega (arith, kind_at_most d place, few_of (kind_reads d p
 abbrev pub SameWay : ImageType → ImageType → Type 0
 SameWay found type = way_of type ≡ way_of found
 
-with_alike : (place : ℕ) (head : List ℕ) (found : ImageType) → Always (SameWay found) (with_compression place head found)
+with_alike : (place : ℕ) (head : List ℕ) (found : ImageType)
+    → Always (SameWay found) (with_compression place head found)
 unfolding with_compression
-with_alike place head (Heif k) = always_bind (SameWay (Heif k)) (heif_compression place head) _ (heif_compression_laws place head).answers
+with_alike place head (Heif k) =
+    always_bind (SameWay (Heif k)) (heif_compression place head) _ (heif_compression_laws place head).answers
     (λ _. refl)
 with_alike place head (Atc k) = always_bind (SameWay (Atc k)) atc_compression _ atc_compression_laws.answers (λ _. refl)
-with_alike place head (Pvrtc k) = always_bind (SameWay (Pvrtc k)) pvrtc_compression _ pvrtc_compression_laws.answers (λ _. refl)
+with_alike place head (Pvrtc k) =
+    always_bind (SameWay (Pvrtc k)) pvrtc_compression _ pvrtc_compression_laws.answers (λ _. refl)
 with_alike place head (Eac k) = always_bind (SameWay (Eac k)) pkm_compression _ pkm_compression_laws.answers (λ _. refl)
-with_alike place head (Etc2 k) = always_bind (SameWay (Etc2 k)) pkm_compression _ pkm_compression_laws.answers (λ _. refl)
+with_alike place head (Etc2 k) =
+    always_bind (SameWay (Etc2 k)) pkm_compression _ pkm_compression_laws.answers (λ _. refl)
 with_alike place head (Dds k) = always_bind (SameWay (Dds k)) dds_compression _ dds_compression_laws.answers (λ _. refl)
 with_alike place head _ = refl
 
 -- an answer behind readings is that behind what they answered
-onward_ok : {X Y : Type 0} (spans : List Span) (r : Result X Halt) (f : X → Reads Y) (y : Y) → (go_on spans r f).answer ≡ Ok y
+onward_ok : {X Y : Type 0} (spans : List Span) (r : Result X Halt) (f : X → Reads Y) (y : Y)
+    → (go_on spans r f).answer ≡ Ok y
     → (x : X) × (r ≡ Ok x) × ((f x).answer ≡ Ok y)
 onward_ok spans (Ok x) f y is = (x, refl, is)
 onward_ok spans (Err e) f y is = absurd cc
@@ -144,7 +158,8 @@ unfolding part
 part_kept d x place zero h = refl
 part_kept d x place (suc n) h =
     let short = length-drop place d in
-    ap (take (suc n)) (drop-append-le place d x (omega (arith, h))) ∙ take-append-le (suc n) (drop place d) x (omega (arith, h, short))
+    ap (take (suc n)) (drop-append-le place d x (omega (arith, h)))
+    ∙ take-append-le (suc n) (drop place d) x (omega (arith, h, short))
 
 fades : {X : Type 0} (u : X) (d x : List ℕ) (t : Layout X) (v w : X) → Fades u t → (layout_reads d t).answer ≡ Ok v
     → (layout_reads (d ++ x) t).answer ≡ Ok w → (w ≡ v) ⊎ (v ≡ u)
@@ -166,7 +181,8 @@ fades u d x (reading (TextOf t n) place f) v w h is more = absurd h
 if_there_fades : {X : Type 0} (u : X) (place n : ℕ) (f : Option (List ℕ) → Layout X) → f None ≡ done u
     → ((bs : List ℕ) → Fades u (f (Some bs))) → Fades u (if_there place n f)
 if_there_fades u place n f none some bs = (
-  λ cut. let short : leb n (length bs) ≡ false = grind (arith, nat_tests) in ap (λ (test : Bool). f (cond test (Some bs) None)) short ∙ none,
+  λ cut. let short : leb n (length bs) ≡ false = grind (arith, nat_tests) in
+      ap (λ (test : Bool). f (cond test (Some bs) None)) short ∙ none,
   by_test (leb n (length bs)),
 ) where
   by_test : (test : Bool) → Fades u (f (cond test (Some bs) None))
@@ -177,7 +193,8 @@ if_there_fades u place n f none some bs = (
 heif_fades : (place : ℕ) (head : List ℕ) → Fades heif_unknown (heif_compression place head)
 unfolding heif_compression
 heif_fades place head = on_test (Fades heif_unknown) (is_general (four_at 8 head)) _ _
-    (λ _. if_there_fades heif_unknown (place + 12) 12 (λ more. done (compatible_compression more)) refl (λ bs. tt)) (λ _. tt)
+    (λ _. if_there_fades heif_unknown (place + 12) 12 (λ more. done (compatible_compression more)) refl (λ bs. tt))
+    (λ _. tt)
 
 atc_fades : Fades atc_unknown atc_compression
 unfolding atc_compression
@@ -189,7 +206,8 @@ pkm_fades = if_there_fades pkm_unknown 6 2 (λ bs. done (pkm_compression_of bs))
 
 pvrtc_fades : Fades pvrtc_unknown pvrtc_compression
 unfolding pvrtc_compression
-pvrtc_fades = if_there_fades pvrtc_unknown 0 4 pvrtc_compression_by refl (λ tag. on_test (Fades pvrtc_unknown) (is_pvr3 tag) _ _
+pvrtc_fades = if_there_fades pvrtc_unknown 0 4 pvrtc_compression_by refl
+    (λ tag. on_test (Fades pvrtc_unknown) (is_pvr3 tag) _ _
     (λ _. if_there_fades pvrtc_unknown 8 8 (λ bs. done (pvrtc_format_of bs)) refl (λ bs. tt)) (λ _. tt))
 
 dds_fades : Fades dds_unknown dds_compression
@@ -201,13 +219,15 @@ dds_fades = if_there_fades dds_unknown 84 4 dds_compression_by refl (λ code.
     (λ _. if_there_fades dds_unknown 88 4 (λ bs. done (dds_number_of dds_bit_counts bs)) refl (λ bs. tt)) (λ _. tt)))
 
 -- so a type stays, with its compression where one was told
-type_stays : {C : Type 0} (of : C → ImageType) (u : C) (t : Layout C) (d x : List ℕ) (type after : ImageType) → Fades u t
+type_stays : {C : Type 0} (of : C → ImageType) (u : C) (t : Layout C) (d x : List ℕ) (type after : ImageType)
+    → Fades u t
     → ((c : C) → without_compression (of c) ≡ of u) → (layout_reads d (bind t (λ c. done (of c)))).answer ≡ Ok type
     → (layout_reads (d ++ x) (bind t (λ c. done (of c)))).answer ≡ Ok after → Stays type after
 type_stays {C} of u t d x type after h unknown is more =
     let first = onward_ok (layout_reads d t).marks (layout_reads d t).answer (λ c. layout_reads d (done (of c))) type
     (ap (λ r. r.answer) (sym (over-bind d t (λ c. done (of c)))) ∙ is) in
-    let second = onward_ok (layout_reads (d ++ x) t).marks (layout_reads (d ++ x) t).answer (λ c. layout_reads (d ++ x) (done (of c))) after
+    let second = onward_ok (layout_reads (d ++ x) t).marks (layout_reads (d ++ x) t).answer
+    (λ c. layout_reads (d ++ x) (done (of c))) after
     (ap (λ r. r.answer) (sym (over-bind (d ++ x) t (λ c. done (of c)))) ∙ more) in
     let found : of first.0 ≡ type = ok_is first.2 in
     let left : of second.0 ≡ after = ok_is second.2 in
@@ -221,27 +241,35 @@ compression_stays : (d x : List ℕ) (place : ℕ) (head : List ℕ) (found type
     → (layout_reads (d ++ x) (with_compression place head found)).answer ≡ Ok after → Stays type after
 unfolding with_compression
 compression_stays d x place head (Heif _) type after is more =
-    type_stays Heif heif_unknown (heif_compression place head) d x type after (heif_fades place head) (λ _. refl) is more
-compression_stays d x place head (Atc _) type after is more = type_stays Atc atc_unknown atc_compression d x type after atc_fades (λ _. refl) is more
+    type_stays Heif heif_unknown (heif_compression place head) d x type after (heif_fades place head)
+    (λ _. refl) is more
+compression_stays d x place head (Atc _) type after is more =
+    type_stays Atc atc_unknown atc_compression d x type after atc_fades (λ _. refl) is more
 compression_stays d x place head (Pvrtc _) type after is more =
     type_stays Pvrtc pvrtc_unknown pvrtc_compression d x type after pvrtc_fades (λ _. refl) is more
-compression_stays d x place head (Eac _) type after is more = type_stays Eac pkm_unknown pkm_compression d x type after pkm_fades (λ _. refl) is more
-compression_stays d x place head (Etc2 _) type after is more = type_stays Etc2 pkm_unknown pkm_compression d x type after pkm_fades (λ _. refl) is more
-compression_stays d x place head (Dds _) type after is more = type_stays Dds dds_unknown dds_compression d x type after dds_fades (λ _. refl) is more
+compression_stays d x place head (Eac _) type after is more =
+    type_stays Eac pkm_unknown pkm_compression d x type after pkm_fades (λ _. refl) is more
+compression_stays d x place head (Etc2 _) type after is more =
+    type_stays Etc2 pkm_unknown pkm_compression d x type after pkm_fades (λ _. refl) is more
+compression_stays d x place head (Dds _) type after is more =
+    type_stays Dds dds_unknown dds_compression d x type after dds_fades (λ _. refl) is more
 compression_stays d x place head _ type after is more = inl (sym (ok_is more) ∙ ok_is is)
 
-none_keeps : (d : List ℕ) (n place : ℕ) (head : List ℕ) (type : ImageType) → (layout_reads d (bind (is_tga n head) tga_or_none)).answer ≡ Ok type
+none_keeps : (d : List ℕ) (n place : ℕ) (head : List ℕ) (type : ImageType)
+    → (layout_reads d (bind (is_tga n head) tga_or_none)).answer ≡ Ok type
     → keeps type ≡ true → ⊥
 none_keeps d n place head type is stays =
     let both = ap (λ r. r.answer) (sym (over-bind d (is_tga n head) tga_or_none)) ∙ is in
-    let last = onward_ok (layout_reads d (is_tga n head)).marks (layout_reads d (is_tga n head)).answer (λ b. layout_reads d (tga_or_none b)) type both in
+    let last = onward_ok (layout_reads d (is_tga n head)).marks (layout_reads d (is_tga n head)).answer
+    (λ b. layout_reads d (tga_or_none b)) type both in
     let tga_found : type ≡ Tga = tga_is last.0 d type last.2 in
     let not_tga : keeps Tga ≡ true = ap keeps (sym tga_found) ∙ stays in
     absurd cc
 
 by_more : (d x : List ℕ) (place : ℕ) (head : List ℕ) (row : Option ImageType) (type : ImageType)
     → (layout_reads d (kind_by (length d) place head row)).answer ≡ Ok type → keeps type ≡ true → (after : ImageType)
-    × ((layout_reads (d ++ x) (kind_by (length (d ++ x)) place head row)).answer ≡ Ok after) × SameWay type after × Stays type after
+    × ((layout_reads (d ++ x) (kind_by (length (d ++ x)) place head row)).answer ≡ Ok after) × SameWay type after
+    × Stays type after
 by_more d x place head None type is stays = absurd (none_keeps d (length d) place head type is stays)
 by_more d x place head (Some found) type is stays =
     let before = always (SameWay found) d (with_compression place head found) (with_alike place head found) in
@@ -251,16 +279,20 @@ by_more d x place head (Some found) type is stays =
     (after.0, after.1, after.2 ∙ sym alike, compression_stays d x place head found type after.0 is after.1)
 
 -- behind a type that is kept, bytes that follow leave it, and a compression that is told
-pub kind_more : (d x : List ℕ) (place : ℕ) (type : ImageType) → (kind_reads d place).answer ≡ Ok type → keeps type ≡ true
+pub kind_more : (d x : List ℕ) (place : ℕ) (type : ImageType) → (kind_reads d place).answer ≡ Ok type
+    → keeps type ≡ true
     → (after : ImageType) × ((kind_reads (d ++ x) place).answer ≡ Ok after) × SameWay type after × Stays type after
 kind_more d x place type is stays =
-    let head = onward_ok (span_of d place 12) (bytes_at d place 12) (λ bs. layout_reads d (kind_by (length d) place bs (first_row rows bs))) type
+    let head = onward_ok (span_of d place 12) (bytes_at d place 12)
+    (λ bs. layout_reads d (kind_by (length d) place bs (first_row rows bs))) type
     is in
-    let there : bytes_at (d ++ x) place 12 ≡ Ok head.0 = bytes_more d x place 12 (bytes_ok d head.0 place 12 head.1) ∙ head.1 in
+    let there : bytes_at (d ++ x) place 12 ≡ Ok head.0 = bytes_more d x place 12 (bytes_ok d head.0 place 12 head.1)
+    ∙ head.1 in
     let after = by_more d x place head.0 (first_row rows head.0) type head.2 stays in (
       after.0,
       ap (λ r. (go_on (span_of (d ++ x) place 12) r
-          (λ bs. layout_reads (d ++ x) (kind_by (length (d ++ x)) place bs (first_row rows bs)))).answer) there ∙ after.1,
+          (λ bs. layout_reads (d ++ x) (kind_by (length (d ++ x)) place bs (first_row rows bs)))).answer) there
+          ∙ after.1,
       after.2,
       after.3,
     )
@@ -272,7 +304,8 @@ lasting _ stays = refl
 
 pub way_more : (d x : List ℕ) (place : ℕ) (type : ImageType) → (kind_reads d place).answer ≡ Ok type → lasts type ≡ true
     → (after : ImageType) × ((kind_reads (d ++ x) place).answer ≡ Ok after) × SameWay type after
-way_more d x place type is stays = let after = kind_more d x place type is (lasting type stays) in (after.0, after.1, after.2)
+way_more d x place type is stays = let after = kind_more d x place type is (lasting type stays) in
+    (after.0, after.1, after.2)
 
 pub kind_lasts : (d : List ℕ) (place : ℕ) (r : Result ImageType ImageError) → r ≡ (kind_of d place).answer
     → IfOk r (λ type. IsTrue (keeps type) → (x : List ℕ) → IsOkAnd (kind_of (d ++ x) place).answer (Stays type))

@@ -45,8 +45,15 @@ agrees n ([] ∷ Fss) each place within bare held =
     let behind = and_parts (is_eq (each.0 tt tt)) _ both.1 in
     let there : place (inl tt) ≡ n = eqb-true _ _ both.0 in
     let tied : each.0 tt tt ≡ Equal = (Equal-is (each.0 tt tt)).0 behind.0 in
-    let same : Equal ≡ nat_cmp (within (inl tt)) (within (inl tt)) = nat_cmp_is (within (inl tt)) (within (inl tt)) Equal refl in
-    (λ _. there, (λ _ _. tied ∙ same, agrees (n + 1) Fss each.1 (λ c. place (inr c)) (λ c. within (inr c)) behind.1 held))
+    let same : Equal ≡ nat_cmp (within (inl tt)) (within (inl tt)) =
+    nat_cmp_is (within (inl tt)) (within (inl tt)) Equal refl in (
+      λ _. there,
+      (
+        λ _ _. tied
+            ∙ same,
+        agrees (n + 1) Fss each.1 (λ c. place (inr c)) (λ c. within (inr c)) behind.1 held,
+      ),
+    )
 agrees n ((F ∷ Fs) ∷ Fss) each place within bare held =
     (held.0, (held.1.0, agrees (n + 1) Fss each.1 (λ c. place (inr c)) (λ c. within (inr c)) bare held.1.1))
 
@@ -84,7 +91,9 @@ listed_choices n (Fs ∷ Fss) each place within h (inr c) (inr d) =
 pub listed : (N : Record) (each : Each Ordering N.parts) (place within : N.D → ℕ) →
     bare_agree 0 N.parts each (λ c. place (N.make c)) ≡ true →
     HeldAgree 0 N.parts each (λ c. place (N.make c)) (λ c. within (N.make c)) → (x y : N.D) →
-    by Less Greater N.parts each (N.as_values x) (N.as_values y) ≡ ordering_then (nat_cmp (place x) (place y)) (nat_cmp (within x) (within y))
+    by Less Greater N.parts each (N.as_values x) (N.as_values y)
+    ≡ ordering_then (nat_cmp (place x) (place y)) (nat_cmp (within x) (within y))
 listed N each place within bare held x y =
     let all = agrees 0 N.parts each (λ c. place (N.make c)) (λ c. within (N.make c)) bare held in
-    rw (N.eta x, N.eta y) at (listed_choices 0 N.parts each (λ c. place (N.make c)) (λ c. within (N.make c)) all (N.as_values x) (N.as_values y))
+    rw (N.eta x, N.eta y) at
+    (listed_choices 0 N.parts each (λ c. place (N.make c)) (λ c. within (N.make c)) all (N.as_values x) (N.as_values y))

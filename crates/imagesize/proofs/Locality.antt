@@ -15,11 +15,13 @@ use Rattle.imagesize_source.specs.Reading.{Reads}
 
 -- the type sees an input by its marks
 pub local_kind : (place : ℕ) → IsLocal false (λ d. kind_reads d place)
-local_kind place = local_length (λ n d. layout_reads d (kind n place)) (λ n. local_layout (kind n place) (costed_texts false kind_cost 37 0 (kind n place) (kind_costs n place)))
+local_kind place = local_length (λ n d. layout_reads d (kind n place))
+    (λ n. local_layout (kind n place) (costed_texts false kind_cost 37 0 (kind n place) (kind_costs n place)))
 
 -- and a size does
 pub local_size : (type : ImageType) → IsLocal (has_texts type) (size_reads type)
-local_size type = local_way (kind_cost type) (outside_records type) (in_record type) (lasts type) (has_texts type) (way_of type)
+local_size type = local_way (kind_cost type) (outside_records type) (in_record type) (lasts type) (has_texts type)
+    (way_of type)
     (laws_of type)
 
 -- where no texts are read, none are among readings with them
@@ -30,5 +32,6 @@ widened false r is = λ d e long. alike_more true d e (r d) (r e) (is d e long)
 -- an input that agrees with another on its marks has the same type, the same size and the same marks
 pub local_meaning : (place : ℕ) → IsLocal true (λ d. meaning_reads d place)
 unfolding meaning_reads
-local_meaning place = local_then (λ d. kind_reads d place) size_reads (widened false (λ d. kind_reads d place) (local_kind place))
+local_meaning place =
+    local_then (λ d. kind_reads d place) size_reads (widened false (λ d. kind_reads d place) (local_kind place))
     (λ type. widened (has_texts type) (size_reads type) (local_size type))

@@ -25,16 +25,19 @@ use Rattle.imagesize_io.specs.declared.reader.Opened.{Opened}
 
 -- a type that was found, and the size by it
 pub found_then : {a m b : State} (type : ImageType) (r : Result ImageSize Halt) (place : ℕ)
-    → Runs a m (Ok type) (kind_reads a.held.input place) → Runs m b r (size_reads type m.held.input) → Runs a b r (meaning_reads a.held.input place)
+    → Runs a m (Ok type) (kind_reads a.held.input place) → Runs m b r (size_reads type m.held.input)
+    → Runs a b r (meaning_reads a.held.input place)
 unfolding meaning_reads
 found_then {a} {m} {b} type r place first second =
     runs_then (kind_reads a.held.input place) (λ found held. size_reads found held.input) first second
 
 -- no type was found
-pub none_found : {a b : State} (halt : Halt) (place : ℕ) → Runs {X = ImageType} a b (Err halt) (kind_reads a.held.input place)
+pub none_found : {a b : State} (halt : Halt) (place : ℕ)
+    → Runs {X = ImageType} a b (Err halt) (kind_reads a.held.input place)
     → Runs {X = ImageSize} a b (Err halt) (meaning_reads a.held.input place)
 unfolding meaning_reads
-none_found {a} {b} halt place h = runs_refused (kind_reads a.held.input place) (λ found. size_reads found a.held.input) h
+none_found {a} {b} halt place h =
+    runs_refused (kind_reads a.held.input place) (λ found. size_reads found a.held.input) h
 
 -- an honest budget is enough for a type and for every size
 bounded_kind : IsBounded kind_reads
@@ -45,21 +48,27 @@ bounded_meaning d place = omega (arith, cost_within d place)
 
 -- the type that a reader was found to hold
 pub kind_answers : (telling mid : Option Telling) (count : Option ℕ) (home : ℕ) (opened : Opened) (a b : State)
-    (r : Result ImageType Halt) → a ≡ start_state mid count home opened.told → is_some b.failed ≡ true → Opens telling mid (Ok opened)
-    → Runs a b r (kind_reads a.held.input opened.place) → Answers telling kind_of (with_error b.failure b.frame.budget r)
+    (r : Result ImageType Halt) → a ≡ start_state mid count home opened.told → is_some b.failed ≡ true
+    → Opens telling mid (Ok opened)
+    → Runs a b r (kind_reads a.held.input opened.place)
+    → Answers telling kind_of (with_error b.failure b.frame.budget r)
 kind_answers telling mid count home opened a b r start told opens h =
     opened_answers telling mid count home opened b r kind_reads bounded_kind told opens
     (subst (λ s. Runs s b r (kind_reads s.held.input opened.place)) start h)
 
-found_kind : (t : Telling) (mid : Option Telling) (count : Option ℕ) (home told place : ℕ) (a : State) (found : Option ImageType)
+found_kind : (t : Telling) (mid : Option Telling) (count : Option ℕ) (home told place : ℕ) (a : State)
+    (found : Option ImageType)
     (r : Result ImageSize Halt) → IsHonest t → Began t mid told place → a ≡ start_state mid count home told
-    → FindsKind a place found r → (IfSome found (λ type. (kind_reads t.bytes t.place).answer ≡ Ok type)) × (is_stopped r ≡ false
+    → FindsKind a place found r
+    → (IfSome found (λ type. (kind_reads t.bytes t.place).answer ≡ Ok type)) × (is_stopped r ≡ false
     → found ≡ result_ok (kind_reads t.bytes t.place).answer)
 found_kind t mid count home told place a found r honest began start finds =
-    let held : a.held ≡ claim t = ap (λ s. s.held) (start ∙ start_of t mid count home told place began) ∙ start_holds t count home honest
+    let held : a.held ≡ claim t = ap (λ s. s.held) (start ∙ start_of t mid count home told place began)
+    ∙ start_holds t count home honest
     in
     let is_honest : a.held.honest ≡ true = ap (λ h. h.honest) held in
-    let same : kind_reads a.held.input place ≡ kind_reads t.bytes t.place = ap (λ h. kind_reads h.input place) held ∙ ap (kind_reads t.bytes)
+    let same : kind_reads a.held.input place ≡ kind_reads t.bytes t.place = ap (λ h. kind_reads h.input place) held
+    ∙ ap (kind_reads t.bytes)
     began.at in (
       subst (λ reads. IfSome found (λ type. reads.answer ≡ Ok type)) same (finds.right is_honest),
       λ goes_on. finds.whole is_honest goes_on ∙ ap (λ reads. result_ok reads.answer) same,
@@ -76,13 +85,16 @@ same_kind (Ok type) = refl
 same_kind (Err halt) = refl
 
 -- type, size and count of a reader that was opened
-pub probes_opened : (telling mid : Option Telling) (count : Option ℕ) (home : ℕ) (opened : Opened) (a b : State) (probed : Probed)
-    (r : Result ImageSize Halt) → probed.answer ≡ with_error b.failure b.frame.budget r → a ≡ start_state mid count home opened.told
+pub probes_opened : (telling mid : Option Telling) (count : Option ℕ) (home : ℕ) (opened : Opened) (a b : State)
+    (probed : Probed)
+    (r : Result ImageSize Halt) → probed.answer ≡ with_error b.failure b.frame.budget r
+    → a ≡ start_state mid count home opened.told
     → is_some b.failed ≡ true → Opens telling mid (Ok opened) → Runs a b r (meaning_reads a.held.input opened.place)
     → FindsKind a opened.place probed.kind r → probed.taken ≡ b.taken → Probes telling probed
 probes_opened None mid count home opened a b probed r is start told opens h finds took = tt
 probes_opened (Some t) mid count home opened a b probed r is start told opens h finds took = λ honest.
-    let began : Began t mid opened.told opened.place = record { at_end = opens.0; length_told = opens.2; at = opens.1 } in
+    let began : Began t mid opened.told opened.place =
+    record { at_end = opens.0; length_told = opens.2; at = opens.1 } in
     let runs = subst (λ s. Runs s b r (meaning_reads s.held.input opened.place)) start h in
     let kinds = found_kind t mid count home opened.told opened.place a probed.kind r honest began start finds in
     let takes = subst (λ q. TakesAs t (meaning t.bytes t.place) q probed.taken) (sym is)
@@ -107,9 +119,12 @@ bounded_size : (type : ImageType) → IsBounded (λ d place. size_reads type d)
 bounded_size type d place = omega (arith, size_within type d)
 
 -- the size that a reader was found to have, read as a type
-pub size_answers : (telling mid : Option Telling) (count : Option ℕ) (home : ℕ) (opened : Opened) (a b : State) (type : ImageType)
-    (r : Result ImageSize Halt) → a ≡ start_state mid count home opened.told → is_some b.failed ≡ true → Opens telling mid (Ok opened)
-    → Runs a b r (size_reads type a.held.input) → Answers telling (λ d place. size_of type d) (with_error b.failure b.frame.budget r)
+pub size_answers : (telling mid : Option Telling) (count : Option ℕ) (home : ℕ) (opened : Opened) (a b : State)
+    (type : ImageType)
+    (r : Result ImageSize Halt) → a ≡ start_state mid count home opened.told → is_some b.failed ≡ true
+    → Opens telling mid (Ok opened)
+    → Runs a b r (size_reads type a.held.input)
+    → Answers telling (λ d place. size_of type d) (with_error b.failure b.frame.budget r)
 size_answers telling mid count home opened a b type r start told opens h =
     opened_answers telling mid count home opened b r (λ d place. size_reads type d) (bounded_size type) told opens
     (subst (λ s. Runs s b r (size_reads type s.held.input)) start h)

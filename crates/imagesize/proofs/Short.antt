@@ -21,7 +21,8 @@ no_head d place few = grind (arith, nat_tests)
 
 no_kind_reads : (d : List ℕ) (place : ℕ) → length d < place + 12 → (kind_reads d place).answer ≡ Err Ended
 no_kind_reads d place few =
-    ap (λ r. (go_on (span_of d place 12) r (λ head. layout_reads d (kind_by (length d) place head (first_row rows head)))).answer)
+    ap (λ r. (go_on (span_of d place 12) r
+    (λ head. layout_reads d (kind_by (length d) place head (first_row rows head)))).answer)
     (no_head d place few)
 
 pub no_kind : (d : List ℕ) (place : ℕ) → length d < place + 12 → (kind_of d place).answer ≡ Err end_of_input
@@ -29,11 +30,14 @@ no_kind d place few = ap stated (no_kind_reads d place few)
 
 pub no_meaning : (d : List ℕ) (place : ℕ) → length d < place + 12 → (meaning d place).answer ≡ Err end_of_input
 unfolding meaning_reads
-no_meaning d place few = ap (λ r. stated (go_on (kind_reads d place).marks r (λ found. size_reads found d)).answer) (no_kind_reads d place few)
+no_meaning d place few = ap (λ r. stated (go_on (kind_reads d place).marks r (λ found. size_reads found d)).answer)
+    (no_kind_reads d place few)
 
 -- so does an answer of a reader
 pub answers_end : {X : Type 0} (telling : Option Telling) (reads_of : List ℕ → ℕ → Outcome X) (r : Result X ImageError)
-    → ((d : List ℕ) (place : ℕ) → length d < place + 12 → (reads_of d place).answer ≡ Err end_of_input) → Answers telling reads_of r
+    → ((d : List ℕ) (place : ℕ) → length d < place + 12 → (reads_of d place).answer ≡ Err end_of_input)
+    → Answers telling reads_of r
     → Ends telling r
 answers_end None reads_of r short answers = tt
-answers_end (Some t) reads_of r short answers = λ honest few goes_on. sym ((answers honest).answer goes_on) ∙ short t.bytes t.place few
+answers_end (Some t) reads_of r short answers = λ honest few goes_on. sym ((answers honest).answer goes_on)
+    ∙ short t.bytes t.place few

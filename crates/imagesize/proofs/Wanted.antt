@@ -11,7 +11,7 @@ use Rattle.imagesize.specs.Parted.{Fits, HasKnown, IfFound, IsProbed, Says, Says
 use Rattle.imagesize.specs.declared.parts.PartsAnswer.{PartsAnswer}
 use Rattle.imagesize.specs.declared.parts.PartsAnswer.TheVariants.{Found, Wanted}
 use Rattle.imagesize.specs.declared.types.ImageType.{ImageType}
-use Rattle.imagesize.proofs.Endings.{slice_unstopped, unrefused, only_fault}
+use Rattle.imagesize.proofs.Endings.{slice_unstopped, only_fault}
 use Rattle.imagesize_types.specs.declared.size.ImageSize.{ImageSize}
 use Rattle.imagesize_source.specs.declared.error.ImageError.{ImageError}
 use Rattle.imagesize_source.specs.declared.halt.Halt.{Halt}
@@ -25,10 +25,11 @@ use Rattle.imagesize_source.specs.Halts.{error_of, with_error}
 use Rattle.imagesize_source.specs.Outcome.{outcome_of, stated}
 use Rattle.imagesize_source.specs.Reading.{Reads, go_on, is_faulted}
 use Rattle.imagesize_source.proofs.Halts.{stated_ok, stated_same}
-use Rattle.imagesize_source.specs.State.{State, Runs}
+use Rattle.imagesize_source.specs.State.{State, Runs, parts_of}
 use Rattle.imagesize_source.proofs.Agreement.{covered-left, covered-one, covered-right, same_by_local}
 use Rattle.imagesize_source.proofs.Runs.{marks_onward}
-use Rattle.imagesize_source.proofs.Known.{filled_at, has_known, known_below, length-filled_input, past-parts, unknown_free}
+use Rattle.imagesize_source.proofs.Known.{filled_at, has_known, known_below, length-filled_input, unknown_free}
+use Rattle.imagesize_source.proofs.KnownReadings.{past-parts}
 
 -- ---- one list of spans, cut at two of them
 
@@ -39,7 +40,8 @@ Among m spans = (P : Span → Bool) → P m ≡ true → list_any P spans ≡ tr
 any_left : (P : Span → Bool) (s t : List Span) → list_any P s ≡ true → list_any P (s ++ t) ≡ true
 any_left P [] t is = absurd cc
 any_left P (x ∷ s) t is = by_test (P x) (any_left P s t) is where
-  by_test : (b : Bool) → (list_any P s ≡ true → list_any P (s ++ t) ≡ true) → b || list_any P s ≡ true → b || list_any P (s ++ t) ≡ true
+  by_test : (b : Bool) → (list_any P s ≡ true → list_any P (s ++ t) ≡ true) → b || list_any P s ≡ true
+      → b || list_any P (s ++ t) ≡ true
   by_test true rest is = refl
   by_test false rest is = rest is
 
@@ -67,25 +69,30 @@ later_cut : (made seen rest others : List Span) (m mark : Span) → made ++ m �
 later_cut [] [] rest others m mark same = inr (inl (head_is same))
 later_cut [] (y ∷ seen) rest others m mark same =
     inr (inr (λ more P is. or_left (P y) (list_any P (seen ++ more)) (ap P (sym (head_is same)) ∙ is)))
-later_cut (x ∷ made) [] rest others m mark same = inl (λ P is. or_left (P x) (list_any P made) (ap P (head_is same) ∙ is))
-later_cut (x ∷ made) (y ∷ seen) rest others m mark same = later (later_cut made seen rest others m mark (tail_is same)) where
-  later : Among mark made ⊎ ((m ≡ mark) ⊎ ((more : List Span) → Among m (seen ++ more)))
-      → Among mark (x ∷ made) ⊎ ((m ≡ mark) ⊎ ((more : List Span) → Among m ((y ∷ seen) ++ more)))
-  later (inl before) = inl (λ P is. or_right (P x) (list_any P made) (before P is))
-  later (inr (inl at)) = inr (inl at)
-  later (inr (inr behind)) = inr (inr (λ more P is. or_right (P y) (list_any P (seen ++ more)) (behind more P is)))
+later_cut (x ∷ made) [] rest others m mark same =
+    inl (λ P is. or_left (P x) (list_any P made) (ap P (head_is same) ∙ is))
+later_cut (x ∷ made) (y ∷ seen) rest others m mark same =
+    later (later_cut made seen rest others m mark (tail_is same)) where
+      later : Among mark made ⊎ ((m ≡ mark) ⊎ ((more : List Span) → Among m (seen ++ more)))
+          → Among mark (x ∷ made) ⊎ ((m ≡ mark) ⊎ ((more : List Span) → Among m ((y ∷ seen) ++ more)))
+      later (inl before) = inl (λ P is. or_right (P x) (list_any P made) (before P is))
+      later (inr (inl at)) = inr (inl at)
+      later (inr (inr behind)) = inr (inr (λ more P is. or_right (P y) (list_any P (seen ++ more)) (behind more P is)))
 
 -- ---- a source of parts is stopped by what it misses alone
 
 -- The readings f on known parts: what they saw and missed, and their answer.
-pub record Called {X : Type 0} (f : List ℕ → Reads X) (n : ℕ) (spans : List Span) (bytes : List ℕ) (log : List Span) (missed : Option Missing)
+pub record Called {X : Type 0} (f : List ℕ → Reads X) (n : ℕ) (spans : List Span) (bytes : List ℕ) (log : List Span)
+    (missed : Option Missing)
     (r : Result X Halt) : Type 0 where
-  pub runs : Runs (parts_state n spans bytes [] None) (parts_state n spans bytes log missed) r (f (filled_input n spans bytes))
+  pub runs : Runs (parts_state n spans bytes [] None) (parts_state n spans bytes log missed) r
+      (f (filled_input n spans bytes))
   pub seen : AllKnown n spans bytes log
   pub lacks : ForSome missed (Lacks n spans bytes)
 
 logged : (a b : State) (s t : List Span) → a ≡ b → a.recorded ≡ Some s → b.recorded ≡ Some t → s ≡ t
-logged a b s t e here there = let same : ◌≡◌ {A = Option (List Span)} (Some s) (Some t) = sym here ∙ ap (λ (x : State). x.recorded) e ∙ there in (cc)
+logged a b s t e here there = let same : ◌≡◌ {A = Option (List Span)} (Some s) (Some t) = sym here
+    ∙ ap (λ (x : State). x.recorded) e ∙ there in (cc)
 
 is_short : (n : ℕ) → n < 2 ^ 63 → (parts_state n [] [] [] None).held.honest ≡ true
 is_short n short = grind (arith, nat_tests)
@@ -99,31 +106,39 @@ some_is e = cc
 pub filled_known : (n : ℕ) (spans : List Span) (bytes : List ℕ) → HasKnown (filled_input n spans bytes) n spans bytes
 filled_known n spans bytes = record {
   as_long = length-filled_input n spans bytes;
-  known = λ place byte is. filled_at n spans bytes place (known_below n spans bytes place (ap is_some is)) ∙ ap (λ o. unwrap_or o 0) is;
+  known = λ place byte is. filled_at n spans bytes place (known_below n spans bytes place (ap is_some is))
+      ∙ ap (λ o. unwrap_or o 0) is;
 }
 
 -- and so has one that has the parts
-pub parts_known : (d : List ℕ) (n : ℕ) (spans : List Span) (bytes : List ℕ) → HasParts d n spans bytes → HasKnown d n spans bytes
+pub parts_known : (d : List ℕ) (n : ℕ) (spans : List Span) (bytes : List ℕ) → HasParts d n spans bytes
+    → HasKnown d n spans bytes
 parts_known d n spans bytes has = record {
   as_long = has.as_long;
-  known = λ place byte is. has_known d spans bytes place byte has.bytes (ap (λ m. byte_in_parts m spans bytes place) has.as_long ∙ is);
+  known = λ place byte is. has_known d spans bytes place byte has.bytes
+      (ap (λ m. byte_in_parts m spans bytes place) has.as_long ∙ is);
 }
 
 -- a place that is known is one of a span
-known_covered : (n : ℕ) (spans : List Span) (bytes : List ℕ) (place : ℕ) → is_some (byte_in_parts n spans bytes place) ≡ true
+known_covered : (n : ℕ) (spans : List Span) (bytes : List ℕ) (place : ℕ)
+    → is_some (byte_in_parts n spans bytes place) ≡ true
     → is_covered spans place ≡ true
 known_covered n [] bytes place is = absurd cc
 known_covered n (s ∷ spans) bytes place is =
     by_test (reaches n s place) refl (known_covered n spans (drop (length_within n s) bytes) place) is where
       by_test : (test : Bool) → reaches n s place ≡ test
-          → (is_some (byte_in_parts n spans (drop (length_within n s) bytes) place) ≡ true → is_covered spans place ≡ true)
-          → is_some (cond test (byte_of bytes (place - s.start)) (byte_in_parts n spans (drop (length_within n s) bytes) place)) ≡ true
+          → (is_some (byte_in_parts n spans (drop (length_within n s) bytes) place) ≡ true
+          → is_covered spans place ≡ true)
+          → is_some (cond test (byte_of bytes (place - s.start))
+          (byte_in_parts n spans (drop (length_within n s) bytes) place)) ≡ true
           → has_place s place || is_covered spans place ≡ true
-      by_test true has later is = let there : has_place s place ≡ true = grind (arith, nat_tests) in or_left (has_place s place) (is_covered spans place) there
+      by_test true has later is = let there : has_place s place ≡ true = grind (arith, nat_tests) in
+          or_left (has_place s place) (is_covered spans place) there
       by_test false has later is = or_right (has_place s place) (is_covered spans place) (later is)
 
 -- and of an input that has the parts each place of a span is known
-pub known_where_covered : (d : List ℕ) (n : ℕ) (spans : List Span) (bytes : List ℕ) (place : ℕ) → HasParts d n spans bytes → place < n
+pub known_where_covered : (d : List ℕ) (n : ℕ) (spans : List Span) (bytes : List ℕ) (place : ℕ)
+    → HasParts d n spans bytes → place < n
     → is_some (byte_in_parts n spans bytes place) ≡ is_covered spans place
 known_where_covered d n spans bytes place has below = by_test (is_some (byte_in_parts n spans bytes place)) refl where
   by_test : (test : Bool) → is_some (byte_in_parts n spans bytes place) ≡ test → test ≡ is_covered spans place
@@ -136,7 +151,8 @@ some_byte (Some byte) is = (byte, refl)
 
 -- one that has them has the byte of the filled input where it is known
 same_known : (d : List ℕ) (n : ℕ) (spans : List Span) (bytes : List ℕ) (place : ℕ) → HasKnown d n spans bytes
-    → is_some (byte_in_parts n spans bytes place) ≡ true → slice_index d place ≡ slice_index (filled_input n spans bytes) place
+    → is_some (byte_in_parts n spans bytes place) ≡ true
+    → slice_index d place ≡ slice_index (filled_input n spans bytes) place
 same_known d n spans bytes place has is =
     let b = some_byte (byte_in_parts n spans bytes place) is in
     has.known place b.0 b.1 ∙ sym ((filled_known n spans bytes).known place b.0 b.1)
@@ -148,42 +164,46 @@ agrees_known d n spans bytes marks has all = record {
   same_byte = λ place here. same_known d n spans bytes place has (all place here);
 }
 
-module _ {X : Type 0} (texts : Bool) (f : List ℕ → Reads X) (is_local : IsLocal texts f) (d : List ℕ) (n : ℕ) (spans : List Span) (bytes : List ℕ)
+module _ {X : Type 0} (texts : Bool) (f : List ℕ → Reads X) (is_local : IsLocal texts f) (d : List ℕ) (n : ℕ)
+    (spans : List Span) (bytes : List ℕ)
     (has : HasKnown d n spans bytes) (short : n < 2 ^ 63) where
   -- where nothing is missed, it agrees with what was read
-  agreed : (log : List Span) (missed : Option Missing) (r : Result X Halt) → Called f n spans bytes log missed r → is_faulted r ≡ false
+  agreed : (log : List Span) (missed : Option Missing) (r : Result X Halt) → Called f n spans bytes log missed r
+      → is_faulted r ≡ false
       → Agrees (filled_input n spans bytes) d (f (filled_input n spans bytes)).marks
   agreed log missed r call no_fault =
       let honest = is_short n short in
-      let on = only_fault r (f (filled_input n spans bytes)) refl
-      (unrefused r (f (filled_input n spans bytes)) refl call.runs) call.runs no_fault in
+      let on = only_fault r (f (filled_input n spans bytes)) refl call.runs no_fault in
       let marked : log ≡ (f (filled_input n spans bytes)).marks = logged (parts_state n spans bytes log missed)
-      (parts_state n spans bytes ([] ++ (f (filled_input n spans bytes)).marks) None) log (f (filled_input n spans bytes)).marks
+      (parts_state n spans bytes ([] ++ (f (filled_input n spans bytes)).marks) None) log
+      (f (filled_input n spans bytes)).marks
       (call.runs.state honest on ∙ past-parts n spans bytes [] None (f (filled_input n spans bytes)).marks) refl refl in
       agrees_known d n spans bytes (f (filled_input n spans bytes)).marks has
       (subst (λ l. AllKnown n spans bytes l) marked call.seen)
 
   -- and the answer is its own
-  right : (log : List Span) (missed : Option Missing) (r : Result X Halt) → Called f n spans bytes log missed r → is_faulted r ≡ false
+  right : (log : List Span) (missed : Option Missing) (r : Result X Halt) → Called f n spans bytes log missed r
+      → is_faulted r ≡ false
       → r ≡ (f d).answer
   right log missed r call no_fault =
       let honest = is_short n short in
-      let on = only_fault r (f (filled_input n spans bytes)) refl
-      (unrefused r (f (filled_input n spans bytes)) refl call.runs) call.runs no_fault in
+      let on = only_fault r (f (filled_input n spans bytes)) refl call.runs no_fault in
       let all : f d ≡ f (filled_input n spans bytes) = same_by_local f is_local (filled_input n spans bytes) d (agreed log missed r call no_fault) in
       sym (call.runs.answer honest on) ∙ ap (λ w. w.answer) (sym all)
 
   -- what is answered is what it states
   right_stated : (log : List Span) (missed : Option Missing) (failure : ImageError) (budget : ℕ) (r : Result X Halt)
-      → Called f n spans bytes log missed r → is_faulted r ≡ false → with_error failure budget r ≡ (outcome_of (f d)).answer
+      → Called f n spans bytes log missed r → is_faulted r ≡ false
+      → with_error failure budget r ≡ (outcome_of (f d)).answer
   right_stated log missed failure budget r call no_fault =
-      let on = only_fault r (f (filled_input n spans bytes)) refl
-      (unrefused r (f (filled_input n spans bytes)) refl call.runs) call.runs no_fault in
+      let on = only_fault r (f (filled_input n spans bytes)) refl call.runs no_fault in
       stated_same failure budget r on ∙ ap stated (right log missed r call no_fault)
 
   -- what is missed lies in one of its marks, and whole where no texts are read
-  wanted_mark : (log : List Span) (s : Span) (made : List Span) (mark : Span) (rest : List Span) → AllKnown n spans bytes log → 0 < s.len
-      → log ≡ made ++ span_at mark.start (s.start - mark.start) → (f (filled_input n spans bytes)).marks ≡ made ++ mark ∷ rest
+  wanted_mark : (log : List Span) (s : Span) (made : List Span) (mark : Span) (rest : List Span)
+      → AllKnown n spans bytes log → 0 < s.len
+      → log ≡ made ++ span_at mark.start (s.start - mark.start)
+      → (f (filled_input n spans bytes)).marks ≡ made ++ mark ∷ rest
       → mark.start ≤ s.start → s.start + s.len ≤ mark.start + mark.len
       → (is_covered (f d).marks s.start ≡ true) × (texts ≡ false → has_whole (f d).marks s ≡ true)
   wanted_mark log s made mark rest seen some is_log all from fits =
@@ -200,16 +220,19 @@ module _ {X : Type 0} (texts : Bool) (f : List ℕ → Reads X) (is_local : IsLo
       begun : (x : Span) → Among x (f d).marks → has_place x s.start ≡ true → is_covered (f d).marks s.start ≡ true
       begun x among there = covered-any (f d).marks s.start ∙ among (λ y. has_place y s.start) there
 
-      both : Among mark (f d).marks → (is_covered (f d).marks s.start ≡ true) × (texts ≡ false → has_whole (f d).marks s ≡ true)
+      both : Among mark (f d).marks
+          → (is_covered (f d).marks s.start ≡ true) × (texts ≡ false → has_whole (f d).marks s ≡ true)
       both among =
           let begins = from in let ends = fits in let has_one = some in
           (begun mark among (grind (arith, nat_tests)), λ _. whole among)
 
-      not_seen : (parts : Parting texts (filled_input n spans bytes) d (f (filled_input n spans bytes)).marks (f d).marks) → is_covered log parts.place ≡ true → ⊥
+      not_seen : (parts : Parting texts (filled_input n spans bytes) d (f (filled_input n spans bytes)).marks
+          (f d).marks) → is_covered log parts.place ≡ true → ⊥
       not_seen parts here = parts.differs (same_known d n spans bytes parts.place has (seen parts.place here))
 
       -- the inputs part behind what was seen
-      later : (parts : Parting texts (filled_input n spans bytes) d (f (filled_input n spans bytes)).marks (f d).marks) → mark ≡ parts.mark → (parts.place < s.start) ⊎ (s.start ≤ parts.place) → s.start ≤ parts.place
+      later : (parts : Parting texts (filled_input n spans bytes) d (f (filled_input n spans bytes)).marks (f d).marks)
+          → mark ≡ parts.mark → (parts.place < s.start) ⊎ (s.start ≤ parts.place) → s.start ≤ parts.place
       later parts at (inr more) = more
       later parts at (inl less) =
           let has_it : has_place mark parts.place ≡ true = ap (λ x. has_place x parts.place) at ∙ parts.within in
@@ -219,11 +242,15 @@ module _ {X : Type 0} (texts : Bool) (f : List ℕ → Reads X) (is_local : IsLo
           let seen_it : is_covered part parts.place ≡ true =
           subst (λ p. is_covered part p ≡ true) same
           (covered-one mark.start (s.start - mark.start) (parts.place - mark.start) (omega (arith, less, above))) in
-          absurd (not_seen parts (subst (λ l. is_covered l parts.place ≡ true) (sym is_log) (covered-right made part parts.place seen_it)))
+          absurd (not_seen parts
+          (subst (λ l. is_covered l parts.place ≡ true) (sym is_log) (covered-right made part parts.place seen_it)))
 
-      at_parting : (parts : Parting texts (filled_input n spans bytes) d (f (filled_input n spans bytes)).marks (f d).marks) → mark ≡ parts.mark → (is_covered (f d).marks s.start ≡ true) × (texts ≡ false → has_whole (f d).marks s ≡ true)
+      at_parting : (parts : Parting texts (filled_input n spans bytes) d (f (filled_input n spans bytes)).marks
+          (f d).marks) → mark ≡ parts.mark
+          → (is_covered (f d).marks s.start ≡ true) × (texts ≡ false → has_whole (f d).marks s ≡ true)
       at_parting parts at =
-          let there : Among parts.other (f d).marks = subst (Among parts.other) (sym parts.there) (middle parts.seen parts.other parts.others) in
+          let there : Among parts.other (f d).marks =
+          subst (Among parts.other) (sym parts.there) (middle parts.seen parts.other parts.others) in
           let starts : parts.other.start ≡ mark.start = parts.start ∙ ap (λ x. x.start) (sym at) in
           let after : s.start ≤ parts.place = later parts at (cases_lt parts.place s.start) in
           let also = parts.also in let begins = from in (
@@ -232,7 +259,8 @@ module _ {X : Type 0} (texts : Bool) (f : List ℕ → Reads X) (is_local : IsLo
           )
 
       by_cut : (parts : Parting texts (filled_input n spans bytes) d (f (filled_input n spans bytes)).marks (f d).marks)
-          → Among parts.mark made ⊎ ((mark ≡ parts.mark) ⊎ ((more : List Span) → Among mark (parts.seen ++ more))) → (is_covered (f d).marks s.start ≡ true) × (texts ≡ false → has_whole (f d).marks s ≡ true)
+          → Among parts.mark made ⊎ ((mark ≡ parts.mark) ⊎ ((more : List Span) → Among mark (parts.seen ++ more)))
+          → (is_covered (f d).marks s.start ≡ true) × (texts ≡ false → has_whole (f d).marks s ≡ true)
       by_cut parts (inl before) = absurd (not_seen parts (subst (λ l. is_covered l parts.place ≡ true) (sym is_log)
           (covered-left made (span_at mark.start (s.start - mark.start)) parts.place
           (covered-any made parts.place ∙ before (λ x. has_place x parts.place) parts.within))))
@@ -240,44 +268,52 @@ module _ {X : Type 0} (texts : Bool) (f : List ℕ → Reads X) (is_local : IsLo
       by_cut parts (inr (inr among)) = both (subst (Among mark) (sym parts.there) (among (parts.other ∷ parts.others)))
 
   -- where something is missed, it is wanted
-  wants : (log : List Span) (m : Missing) (r : Result X Halt) → Called f n spans bytes log (Some m) r → is_faulted r ≡ true
+  wants : (log : List Span) (m : Missing) (r : Result X Halt) → Called f n spans bytes log (Some m) r
+      → is_faulted r ≡ true
       → Wants texts (f d).marks n spans bytes (wanted_of texts m)
   wants log m r call faults =
       let is = (call.runs.misses (is_short n short) faults).told in
       let lacks = call.lacks m refl in
-      let marked = wanted_mark log (sure_of m) is.made is.mark is.rest call.seen lacks.0 (some_is is.recorded) is.all is.behind is.within in (
+      let marked = wanted_mark log (sure_of m) is.made is.mark is.rest call.seen lacks.0
+      (some_is is.recorded) is.all is.behind is.within in (
         marked.0,
         lacks.3,
         λ none. ap (λ (t : Bool). has_whole (f d).marks (wanted_of t m)) none ∙ marked.1 none,
       )
 
   -- a failure misses something
-  says_wanted : {T : Type 0} (IsSo : T → Type 0) (found : T) (log : List Span) (missed : Option Missing) (r : Result X Halt)
+  says_wanted : {T : Type 0} (IsSo : T → Type 0) (found : T) (log : List Span) (missed : Option Missing)
+      (r : Result X Halt)
       → Called f n spans bytes log missed r → is_faulted r ≡ true
       → Says texts IsSo (f d).marks n spans bytes (found_or_wanted found (option_map (wanted_of texts) missed))
   says_wanted IsSo found log None r call faults = absurd (call.runs.misses (is_short n short) faults).told
   says_wanted IsSo found log (Some m) r call faults = wants log m r call faults
 
   -- by the code's test
-  pub says : {T : Type 0} (IsSo : T → Type 0) (found : T) (log : List Span) (missed : Option Missing) (r : Result X Halt)
+  pub says : {T : Type 0} (IsSo : T → Type 0) (found : T) (log : List Span) (missed : Option Missing)
+      (r : Result X Halt)
       → Called f n spans bytes log missed r → (is_faulted r ≡ false → IsSo found)
-      → Says texts IsSo (f d).marks n spans bytes (found_or_wanted found (option_map (wanted_of texts) (cond (is_faulted r) missed None)))
+      → Says texts IsSo (f d).marks n spans bytes
+      (found_or_wanted found (option_map (wanted_of texts) (cond (is_faulted r) missed None)))
   says IsSo found log missed r call is_so = by_test (is_faulted r) refl where
     by_test : (test : Bool) → is_faulted r ≡ test
-        → Says texts IsSo (f d).marks n spans bytes (found_or_wanted found (option_map (wanted_of texts) (cond test missed None)))
+        → Says texts IsSo (f d).marks n spans bytes
+        (found_or_wanted found (option_map (wanted_of texts) (cond test missed None)))
     by_test true faults = says_wanted IsSo found log missed r call faults
     by_test false no_fault = is_so no_fault
 
   pub says_of : (log : List Span) (missed : Option Missing) (failure : ImageError) (budget : ℕ) (r : Result X Halt)
       → Called f n spans bytes log missed r → SaysOf texts (outcome_of (f d)) n spans bytes
       (found_or_wanted (with_error failure budget r) (option_map (wanted_of texts) (cond (is_faulted r) missed None)))
-  says_of log missed failure budget r call = says (λ answer. answer ≡ (outcome_of (f d)).answer) (with_error failure budget r) log missed r call
+  says_of log missed failure budget r call =
+      says (λ answer. answer ≡ (outcome_of (f d)).answer) (with_error failure budget r) log missed r call
       (right_stated log missed failure budget r call)
 
 -- ---- the type beside a size
 
 -- what the type wants is wanted
-pub type_wanted : (d : List ℕ) (n : ℕ) (spans : List Span) (bytes : List ℕ) (w : Span) → Wants false (kind_of d 0).marks n spans bytes w
+pub type_wanted : (d : List ℕ) (n : ℕ) (spans : List Span) (bytes : List ℕ) (w : Span)
+    → Wants false (kind_of d 0).marks n spans bytes w
     → Wants (texts_of d) (meaning d 0).marks n spans bytes w
 unfolding meaning_reads
 type_wanted d n spans bytes w wants =
@@ -285,7 +321,8 @@ type_wanted d n spans bytes w wants =
     let more = marks_onward first (kind_reads d 0).answer (λ found. size_reads found d) in (
       ap (λ s. is_covered s w.start) more.1 ∙ covered-left first more.0 w.start wants.0,
       wants.1,
-      λ _. ap (λ s. has_whole s w) more.1 ∙ any_left (λ s. leb s.start w.start && leb (w.start + w.len) (s.start + s.len)) first more.0
+      λ _. ap (λ s. has_whole s w) more.1
+          ∙ any_left (λ s. leb s.start w.start && leb (w.start + w.len) (s.start + s.len)) first more.0
           (wants.2 refl),
     )
 
@@ -300,15 +337,18 @@ no_size d (Err halt) e same is =
     refused ∙ ap (λ r. stated (go_on (kind_reads d 0).marks r (λ found. size_reads found d)).answer) same
 
 -- a type that is refused is none
-pub type_refused : (d : List ℕ) (e : ImageError) → ◌≡◌ {A = Result ImageType ImageError} (Err e) (kind_of d 0).answer → IsProbed d (None, Err e)
+pub type_refused : (d : List ℕ) (e : ImageError) → ◌≡◌ {A = Result ImageType ImageError} (Err e) (kind_of d 0).answer
+    → IsProbed d (None, Err e)
 type_refused d e is = (
   ap (λ (r : Result ImageType ImageError). result_ok r) is,
   no_size d (kind_reads d 0).answer e refl is,
 )
 
 -- and a type that is found has its size
-pub type_sized : (d : List ℕ) (n : ℕ) (spans : List Span) (bytes : List ℕ) (type : ImageType) (answer : PartsAnswer (Result ImageSize ImageError))
-    → ◌≡◌ {A = Result ImageType ImageError} (Ok type) (kind_of d 0).answer → SaysOf (has_texts type) (size_of type d) n spans bytes answer
+pub type_sized : (d : List ℕ) (n : ℕ) (spans : List Span) (bytes : List ℕ) (type : ImageType)
+    (answer : PartsAnswer (Result ImageSize ImageError))
+    → ◌≡◌ {A = Result ImageType ImageError} (Ok type) (kind_of d 0).answer
+    → SaysOf (has_texts type) (size_of type d) n spans bytes answer
     → Says (texts_of d) (IsProbed d) (meaning d 0).marks n spans bytes (with_type type answer)
 unfolding meaning_reads
 type_sized d n spans bytes type (Found answer) is says =
@@ -323,19 +363,25 @@ type_sized d n spans bytes type (Wanted w) is says =
     ap (λ r. (go_on first r (λ found. size_reads found d)).marks) found in (
       ap (λ s. is_covered s w.start) marks ∙ covered-right first (size_reads type d).marks w.start says.0,
       says.1,
-      λ none. ap (λ s. has_whole s w) marks ∙ any_right (λ s. leb s.start w.start && leb (w.start + w.len) (s.start + s.len)) first
+      λ none. ap (λ s. has_whole s w) marks
+          ∙ any_right (λ s. leb s.start w.start && leb (w.start + w.len) (s.start + s.len)) first
           (size_reads type d).marks (says.2 (ap texts_as is ∙ none)),
     )
 
-pub tells : {T : Type 0} (texts : Bool) (IsSo : T → Type 0) (marks : List Span) (n : ℕ) (spans : List Span) (bytes : List ℕ)
+pub tells : {T : Type 0} (texts : Bool) (IsSo : T → Type 0) (marks : List Span) (n : ℕ) (spans : List Span)
+    (bytes : List ℕ)
     (answer : PartsAnswer T) → Says texts IsSo marks n spans bytes answer → AllKnown n spans bytes marks → Tells answer
 tells texts IsSo marks n spans bytes (Found found) says all = tt
-tells texts IsSo marks n spans bytes (Wanted w) says all = let no : true ≡ false = sym (all w.start says.0) ∙ says.1 in cc
+tells texts IsSo marks n spans bytes (Wanted w) says all = let no : true ≡ false = sym (all w.start says.0) ∙ says.1 in
+    cc
 
 -- a failure is never found
-pub unstopped : {X : Type 0} (f : List ℕ → Reads X) (n : ℕ) (spans : List Span) (bytes : List ℕ) (texts : Bool) (log : List Span)
-    (missed : Option Missing) (failure : ImageError) (budget : ℕ) (r : Result X Halt) → n < 2 ^ 63 → Called f n spans bytes log missed r
-    → IfFound (found_or_wanted (with_error failure budget r) (option_map (wanted_of texts) (cond (is_faulted r) missed None)))
+pub unstopped : {X : Type 0} (f : List ℕ → Reads X) (n : ℕ) (spans : List Span) (bytes : List ℕ) (texts : Bool)
+    (log : List Span)
+    (missed : Option Missing) (failure : ImageError) (budget : ℕ) (r : Result X Halt) → n < 2 ^ 63
+    → Called f n spans bytes log missed r
+    → IfFound (found_or_wanted (with_error failure budget r)
+    (option_map (wanted_of texts) (cond (is_faulted r) missed None)))
     (λ answer. is_stopped_error answer ≡ false)
 unstopped {X} f n spans bytes texts log missed failure budget r short call = by_test (is_faulted r) refl missed call where
   by_test : (test : Bool) → is_faulted r ≡ test → (m : Option Missing) → Called f n spans bytes log m r
@@ -344,15 +390,18 @@ unstopped {X} f n spans bytes texts log missed failure budget r short call = by_
   by_test true faults None c = absurd (c.runs.misses (is_short n short) faults).told
   by_test true faults (Some m) c = tt
   by_test false no_fault m c = slice_unstopped failure budget r
-      (only_fault r (f (filled_input n spans bytes)) refl (unrefused r (f (filled_input n spans bytes)) refl c.runs) c.runs no_fault)
+      (only_fault r (f (filled_input n spans bytes)) refl c.runs no_fault)
 
-pub unstopped_type : (type : ImageType) (answer : PartsAnswer (Result ImageSize ImageError)) → IfFound answer (λ r. is_stopped_error r ≡ false)
+pub unstopped_type : (type : ImageType) (answer : PartsAnswer (Result ImageSize ImageError))
+    → IfFound answer (λ r. is_stopped_error r ≡ false)
     → IfFound (with_type type answer) (λ found. is_stopped_error found.1 ≡ false)
 unstopped_type type (Found answer) is = is
 unstopped_type type (Wanted w) is = tt
 
-pub fits : {T : Type 0} (texts : Bool) (n : ℕ) (spans : List Span) (bytes : List ℕ) (missed : Option Missing) (found : T) (test : Bool)
-    → ForSome missed (Lacks n spans bytes) → Fits n (found_or_wanted found (option_map (wanted_of texts) (cond test missed None)))
+pub fits : {T : Type 0} (texts : Bool) (n : ℕ) (spans : List Span) (bytes : List ℕ) (missed : Option Missing)
+    (found : T) (test : Bool)
+    → ForSome missed (Lacks n spans bytes)
+    → Fits n (found_or_wanted found (option_map (wanted_of texts) (cond test missed None)))
 fits texts n spans bytes None found true lacks = tt
 fits true n spans bytes (Some m) found true lacks =
     let is = lacks m refl in (let some = is.0 in let few = is.1 in omega arith, is.2)
@@ -363,32 +412,44 @@ fits texts n spans bytes missed found false lacks = tt
 -- ---- what the call left behind has the same parts
 
 -- an answer says of each input that has the parts what these readings of it are
-abbrev pub SaysOfEach : {X : Type 0} → Bool → (List ℕ → Reads X) → PartsAnswer (Result X ImageError) → ℕ → List Span → List ℕ → Type 0
-SaysOfEach texts f answer n spans bytes = (d : List ℕ) → HasKnown d n spans bytes → n < 2 ^ 63 → SaysOf texts (outcome_of (f d)) n spans bytes answer
+abbrev pub SaysOfEach : {X : Type 0} → Bool → (List ℕ → Reads X) → PartsAnswer (Result X ImageError) → ℕ → List Span
+    → List ℕ → Type 0
+SaysOfEach texts f answer n spans bytes = (d : List ℕ) → HasKnown d n spans bytes → n < 2 ^ 63
+    → SaysOf texts (outcome_of (f d)) n spans bytes answer
 
 -- what holds of the parts of a source holds of those that it has them from
-pub moved : (P : ℕ → List Span → List ℕ → Type 0) (n m : ℕ) (spans others : List Span) (bytes content : List ℕ) → m ≡ n → others ≡ spans
+pub moved : (P : ℕ → List Span → List ℕ → Type 0) (n m : ℕ) (spans others : List Span) (bytes content : List ℕ) → m ≡ n
+    → others ≡ spans
     → content ≡ bytes → P m others content → P n spans bytes
 moved P n m spans others bytes content told is_spans is_bytes p =
     subst (λ z. P n spans z) is_bytes (subst (λ y. P n y content) is_spans (subst (λ x. P x others content) told p))
 
-pub both_are : (s t : List Span) (xs ys : List ℕ) → ◌≡◌ {A = Option (List Span × List ℕ)} (Some (s, xs)) (Some (t, ys)) → (s ≡ t) × (xs ≡ ys)
-both_are s t xs ys e = let is : ◌≡◌ {A = List Span × List ℕ} (s, xs) (t, ys) = cc in (ap (λ (p : List Span × List ℕ). p.0) is, ap (λ (p : List Span × List ℕ). p.1) is)
+pub both_are : (s t : List Span) (xs ys : List ℕ) → ◌≡◌ {A = Option (List Span × List ℕ)} (Some (s, xs)) (Some (t, ys))
+    → (s ≡ t) × (xs ≡ ys)
+both_are s t xs ys e = let is : ◌≡◌ {A = List Span × List ℕ} (s, xs) (t, ys) = cc in
+    (ap (λ (p : List Span × List ℕ). p.0) is, ap (λ (p : List Span × List ℕ). p.1) is)
 
-pub called : {X : Type 0} (f : List ℕ → Reads X) (n m k : ℕ) (spans others given : List Span) (bytes content their : List ℕ)
-    (first log : List Span) (before missed : Option Missing) (r : Result X Halt) → k ≡ n → given ≡ spans → their ≡ bytes → first ≡ []
-    → before ≡ None → Runs (parts_state k given their first before) (parts_state m others content log missed) r (f (filled_input k given their))
+pub called : {X : Type 0} (f : List ℕ → Reads X) (n m k : ℕ) (spans others given : List Span)
+    (bytes content their : List ℕ)
+    (first log : List Span) (before missed : Option Missing) (r : Result X Halt) → k ≡ n → given ≡ spans → their ≡ bytes
+    → first ≡ []
+    → before ≡ None → Runs (parts_state k given their first before) (parts_state m others content log missed) r
+    (f (filled_input k given their))
     → AllKnown m others content log → ForSome missed (Lacks m others content) → Called f n spans bytes log missed r
 called f n m k spans others given bytes content their first log before missed r told is_spans is_bytes none unmissed runs seen lacks =
-    let parts = both_are others given content their (ap (λ a. a.parts) runs.frame) in
+    let parts = both_are others given content their (ap (λ a. parts_of a.backing) runs.frame) in
     let one = moved (λ x y z. Runs (parts_state k given their first before) (parts_state x y z log missed) r (f (filled_input k given their))
     × AllKnown x y z log × ForSome missed (Lacks x y z)) k m given others their content (ap (λ a. a.told) runs.frame) parts.0 parts.1
     (runs, seen, lacks) in
-    let two = moved (λ x y z. Runs (parts_state x y z first before) (parts_state x y z log missed) r (f (filled_input x y z))
-    × AllKnown x y z log × ForSome missed (Lacks x y z)) n k spans given bytes their told is_spans is_bytes (one.0, one.1, one.2) in
+    let two = moved (λ x y z. Runs (parts_state x y z first before) (parts_state x y z log missed) r
+    (f (filled_input x y z))
+    × AllKnown x y z log × ForSome missed (Lacks x y z)) n k spans given bytes their told is_spans is_bytes
+    (one.0, one.1, one.2) in
     record {
-      runs = subst (λ l. Runs (parts_state n spans bytes l None) (parts_state n spans bytes log missed) r (f (filled_input n spans bytes))) none
-          (subst (λ m. Runs (parts_state n spans bytes first m) (parts_state n spans bytes log missed) r (f (filled_input n spans bytes)))
+      runs = subst (λ l. Runs (parts_state n spans bytes l None) (parts_state n spans bytes log missed) r
+          (f (filled_input n spans bytes))) none
+          (subst (λ m. Runs (parts_state n spans bytes first m) (parts_state n spans bytes log missed) r
+          (f (filled_input n spans bytes)))
           unmissed two.0);
       seen = two.1;
       lacks = two.2;

@@ -1,20 +1,11 @@
 -- What holds of the size of each type.
+use Rattle.std.proofs.Common.{arith}
 use Rattle.imagesize_boxes.proofs.Heif.{heif_laws}
 use Rattle.imagesize_boxes.proofs.Jxl.{jxl_laws}
-use Rattle.imagesize_fixed.proofs.Aseprite.{aseprite_laws}
-use Rattle.imagesize_fixed.proofs.Astc.{astc_laws}
 use Rattle.imagesize_fixed.proofs.Atc.{atc_laws}
-use Rattle.imagesize_fixed.proofs.Bmp.{bmp_laws}
-use Rattle.imagesize_fixed.proofs.Dds.{dds_laws}
-use Rattle.imagesize_fixed.proofs.Farbfeld.{farbfeld_laws}
-use Rattle.imagesize_fixed.proofs.Gif.{gif_laws}
-use Rattle.imagesize_fixed.proofs.Ktx2.{ktx2_laws}
 use Rattle.imagesize_fixed.proofs.Pkm.{pkm_laws}
-use Rattle.imagesize_fixed.proofs.Psd.{psd_laws}
 use Rattle.imagesize_fixed.proofs.Pvrtc.{pvrtc_laws}
-use Rattle.imagesize_fixed.proofs.Qoi.{qoi_laws}
-use Rattle.imagesize_fixed.proofs.Tga.{tga_laws}
-use Rattle.imagesize_fixed.proofs.Vtf.{vtf_laws}
+use Rattle.imagesize_fixed.proofs.Sides.{height_first_laws, sides_laws}
 use Rattle.imagesize_fixed.proofs.Webp.{webp_laws}
 use Rattle.imagesize_texts.proofs.Exr.{exr_laws}
 use Rattle.imagesize_texts.proofs.Hdr.{hdr_laws}
@@ -30,29 +21,30 @@ use Rattle.imagesize.specs.Types.{in_record, lasts, outside_records, way_of}
 use Rattle.imagesize.specs.declared.types.ImageType.TheVariants.{Aseprite, Astc, Atc, Bmp, Dds, Eac, Etc2, Exr, Farbfeld, Gif, Hdr, Heif, Ico, Ilbm, Jpeg, Jxl, Ktx2, Pnm, Pvrtc, Psd, Qoi, Tga, Tiff, Vtf, Webp}
 use Rattle.imagesize_source.proofs.Way.{Laws}
 
-pub laws_of : (type : ImageType) → Laws (kind_cost type) (outside_records type) (in_record type) (lasts type) (has_texts type) (way_of type)
-laws_of Aseprite = aseprite_laws
-laws_of Astc = astc_laws
+pub laws_of : (type : ImageType)
+    → Laws (kind_cost type) (outside_records type) (in_record type) (lasts type) (has_texts type) (way_of type)
+laws_of Aseprite = sides_laws (omega arith)
+laws_of Astc = sides_laws (omega arith)
 laws_of (Atc _) = atc_laws
-laws_of Bmp = bmp_laws
-laws_of (Dds _) = dds_laws
+laws_of Bmp = sides_laws (omega arith)
+laws_of (Dds _) = height_first_laws (omega arith)
 laws_of (Eac _) = pkm_laws
 laws_of (Etc2 _) = pkm_laws
 laws_of Exr = exr_laws
-laws_of Farbfeld = farbfeld_laws
-laws_of Gif = gif_laws
+laws_of Farbfeld = sides_laws (omega arith)
+laws_of Gif = sides_laws (omega arith)
 laws_of Hdr = hdr_laws
 laws_of (Heif _) = heif_laws
 laws_of Ico = ico_laws
 laws_of Ilbm = ilbm_laws
 laws_of Jpeg = jpeg_laws
 laws_of Jxl = jxl_laws
-laws_of Ktx2 = ktx2_laws
+laws_of Ktx2 = sides_laws (omega arith)
 laws_of Pnm = pnm_laws
 laws_of (Pvrtc _) = pvrtc_laws
-laws_of Psd = psd_laws
-laws_of Qoi = qoi_laws
-laws_of Tga = tga_laws
+laws_of Psd = height_first_laws (omega arith)
+laws_of Qoi = sides_laws (omega arith)
+laws_of Tga = sides_laws (omega arith)
 laws_of Tiff = tiff_laws
-laws_of Vtf = vtf_laws
+laws_of Vtf = sides_laws (omega arith)
 laws_of Webp = webp_laws

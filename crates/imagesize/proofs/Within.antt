@@ -47,7 +47,8 @@ by_count : (n place count : ℕ) (none : Bool) → eqb count 0 ≡ none → (0 <
     → AreWithin n (cond none [] (record { start = place; len = count } ∷ []))
 by_count n place count true is fits = All-nil (IsWithin n)
 by_count n place count false is fits =
-    let some : 0 < count = grind (arith, nat_tests) in one_within n (record { start = place; len = count }) (some, fits some)
+    let some : 0 < count = grind (arith, nat_tests) in
+    one_within n (record { start = place; len = count }) (some, fits some)
 
 span_within : (n place count : ℕ) → (0 < count → place + count ≤ n) → AreWithin n (span_at place count)
 unfolding span_at
@@ -77,7 +78,8 @@ layout_within d (field order place k f) = onward_within (length d) (span_of d pl
 layout_within d (reading r place f) = onward_within (length d) (read_of d r place).marks (read_of d r place).answer
     (λ bs. layout_reads d (f bs)) (read_within d r place) (λ bs. layout_within d (f bs))
 
-then_within : {X Y : Type 0} (n : ℕ) (r : Reads X) (f : X → Reads Y) → AreWithin n r.marks → ((x : X) → AreWithin n (f x).marks)
+then_within : {X Y : Type 0} (n : ℕ) (r : Reads X) (f : X → Reads Y) → AreWithin n r.marks
+    → ((x : X) → AreWithin n (f x).marks)
     → AreWithin n (and_then r f).marks
 then_within n r f first rest = onward_within n r.marks r.answer f first rest
 
@@ -89,7 +91,8 @@ record_within c d (Some u) = layout_within d (c.said u.held u.place)
 records_within : {C X : Type 0} (c : Chain C X) (d : List ℕ) (t : Along C) (indices : List ℕ)
     → AreWithin (length d) (flat_map (marks_of c d t) indices)
 records_within c d t [] = All-nil (IsWithin (length d))
-records_within c d t (i ∷ indices) = All-append (IsWithin (length d)) (marks_of c d t i) (flat_map (marks_of c d t) indices)
+records_within c d t (i ∷ indices) =
+    All-append (IsWithin (length d)) (marks_of c d t i) (flat_map (marks_of c d t) indices)
     (record_within c d (trail c d t i)) (records_within c d t indices)
 
 chain_within : {C X : Type 0} (c : Chain C X) (d : List ℕ) → AreWithin (length d) (chain_at c d).marks
@@ -98,7 +101,8 @@ chain_within c d = records_within c d (start c) (range_with_len 0 (records_from 
 
 -- of each format that is no layout
 ico_within : (d : List ℕ) → AreWithin (length d) (ico d).marks
-ico_within d = then_within (length d) (number_read d Little 4 2) (λ count. chain_at (icon_entries count) d) (reading_within d 4 2)
+ico_within d = then_within (length d) (number_read d Little 4 2) (λ count. chain_at (icon_entries count) d)
+    (reading_within d 4 2)
     (λ count. chain_within (icon_entries count) d)
 
 tiff_within : (d : List ℕ) → AreWithin (length d) (tiff d).marks
@@ -111,16 +115,19 @@ tiff_within d =
 heif_within : (d : List ℕ) → AreWithin (length d) (heif d).marks
 heif_within d =
     then_within (length d) (number_read d Big 0 4)
-    (λ first. and_then (chain_at (search_for (codes "meta") first) d) (λ meta. heif_in_meta meta d)) (reading_within d 0 4)
+    (λ first. and_then (chain_at (search_for (codes "meta") first) d) (λ meta. heif_in_meta meta d))
+    (reading_within d 0 4)
     (λ first. then_within (length d) (chain_at (search_for (codes "meta") first) d) (λ meta. heif_in_meta meta d)
     (chain_within (search_for (codes "meta") first) d)
     (λ meta. then_within (length d) (bytes_read d (meta.place + 8) 4)
     (λ version. and_then (chain_at (search_for (codes "iprp") (meta.place + 12)) d) (λ iprp. heif_in_iprp iprp d))
     (reading_within d (meta.place + 8) 4)
-    (λ version. then_within (length d) (chain_at (search_for (codes "iprp") (meta.place + 12)) d) (λ iprp. heif_in_iprp iprp d)
+    (λ version. then_within (length d) (chain_at (search_for (codes "iprp") (meta.place + 12)) d)
+    (λ iprp. heif_in_iprp iprp d)
     (chain_within (search_for (codes "iprp") (meta.place + 12)) d)
     (λ iprp. then_within (length d) (chain_at (search_for (codes "ipco") (iprp.place + 8)) d)
-    (λ ipco. chain_at (properties ipco.size (ipco.place + 8)) d) (chain_within (search_for (codes "ipco") (iprp.place + 8)) d)
+    (λ ipco. chain_at (properties ipco.size (ipco.place + 8)) d)
+    (chain_within (search_for (codes "ipco") (iprp.place + 8)) d)
     (λ ipco. chain_within (properties ipco.size (ipco.place + 8)) d)))))
 
 codestream_within : (d : List ℕ) (found : Option (List ℕ)) → AreWithin (length d) (codestream d found).marks
@@ -135,12 +142,14 @@ jxl_within d =
 
 exr_within : (d : List ℕ) → AreWithin (length d) (exr d).marks
 exr_within d =
-    then_within (length d) (number_read d Little 4 4) (λ version. chain_at (exr_attributes (name_room version)) d) (reading_within d 4 4)
+    then_within (length d) (number_read d Little 4 4) (λ version. chain_at (exr_attributes (name_room version)) d)
+    (reading_within d 4 4)
     (λ version. chain_within (exr_attributes (name_room version)) d)
 
 hdr_within : (d : List ℕ) → AreWithin (length d) (hdr d).marks
 hdr_within d =
-    then_within (length d) (layout_reads d hdr_identifier) (λ first. chain_at (hdr_lines first) d) (layout_within d hdr_identifier)
+    then_within (length d) (layout_reads d hdr_identifier) (λ first. chain_at (hdr_lines first) d)
+    (layout_within d hdr_identifier)
     (λ first. chain_within (hdr_lines first) d)
 
 -- what is owed of a size, by the way in which it is found
@@ -172,21 +181,25 @@ size_within type d = way_within (way_of type) d (type_marked type)
 
 pub meaning_within : (d : List ℕ) (place : ℕ) → AreWithin (length d) (meaning_reads d place).marks
 unfolding meaning_reads
-meaning_within d place = then_within (length d) (kind_reads d place) (λ found. size_reads found d) (layout_within d (kind (length d) place))
+meaning_within d place =
+    then_within (length d) (kind_reads d place) (λ found. size_reads found d) (layout_within d (kind (length d) place))
     (λ found. size_within found d)
 
 -- there are no more of them than they are long
 count_within : (n : ℕ) (spans : List Span) → AreWithin n spans → length spans ≤ total spans
 count_within n [] is = omega arith
 count_within n (s ∷ spans) is =
-    let here = is 0 s (omega arith) in let rest = count_within n spans (λ k d below. is (suc k) d (omega (arith, below))) in
+    let here = is 0 s (omega arith) in
+    let rest = count_within n spans (λ k d below. is (suc k) d (omega (arith, below))) in
     omega (arith, rest, here.0)
 
 pub marks_few : (d : List ℕ) (place : ℕ) → length (meaning_reads d place).marks ≤ length d + 64
-marks_few d place = omega (arith, count_within (length d) (meaning_reads d place).marks (meaning_within d place), cost_within d place)
+marks_few d place = omega
+    (arith, count_within (length d) (meaning_reads d place).marks (meaning_within d place), cost_within d place)
 
 -- those that a buffer begins with
-pub front_within : (n : ℕ) (marks new rest : List Span) (count again : ℕ) → count ≡ length marks → again ≡ length marks → length new ≡ count
+pub front_within : (n : ℕ) (marks new rest : List Span) (count again : ℕ) → count ≡ length marks → again ≡ length marks
+    → length new ≡ count
     → take again new ≡ take (length new) marks → AreWithin n marks → AreWithin n (take count (new ++ rest))
 front_within n marks new rest count again is also long written within =
     let same : new ≡ marks = sym (take_all again new (omega (arith, is, also, long))) ∙ written

@@ -1,4 +1,4 @@
--- The ways to store a texture's pixels, or an image's: their names, and their lists.
+-- The compressions of textures and of HEIF: their names and their lists.
 use Rattle.std.specs.Prelude.{ℕ, List, [], ◌∷◌, codes}
 use Rattle.imagesize_types.specs.declared.compression.AtcCompression.{AtcCompression}
 use Rattle.imagesize_types.specs.declared.compression.AtcCompression.TheVariants as atc
@@ -11,14 +11,14 @@ use Rattle.imagesize_types.specs.declared.compression.PkmCompression.TheVariants
 use Rattle.imagesize_types.specs.declared.compression.PvrtcCompression.{PvrtcCompression}
 use Rattle.imagesize_types.specs.declared.compression.PvrtcCompression.TheVariants as pvrtc
 
--- the name of a way to store an ATC texture
+-- the name of an ATC texture's compression
 abbrev pub atc_name_of : AtcCompression → List ℕ
 atc_name_of atc.Rgb = codes "Rgb"
 atc_name_of atc.RgbaExplicit = codes "RgbaExplicit"
 atc_name_of atc.RgbaInterpolated = codes "RgbaInterpolated"
 atc_name_of atc.Unknown = codes "Unknown"
 
--- the name of a way to store a DDS
+-- the name of a DDS's compression
 abbrev pub dds_name_of : DdsCompression → List ℕ
 dds_name_of dds.Bc1 = codes "Bc1"
 dds_name_of dds.Bc2 = codes "Bc2"
@@ -31,14 +31,14 @@ dds_name_of dds.Rgba32 = codes "Rgba32"
 dds_name_of dds.Rgb24 = codes "Rgb24"
 dds_name_of dds.Unknown = codes "Unknown"
 
--- the name of a way to store a HEIF
+-- the name of a HEIF's compression
 abbrev pub heif_name_of : Compression → List ℕ
 heif_name_of heif.Av1 = codes "Av1"
 heif_name_of heif.Hevc = codes "Hevc"
 heif_name_of heif.Jpeg = codes "Jpeg"
 heif_name_of heif.Unknown = codes "Unknown"
 
--- the name of a way to store a PKM file
+-- the name of a PKM file's compression
 abbrev pub pkm_name_of : PkmCompression → List ℕ
 pkm_name_of pkm.Etc1 = codes "Etc1"
 pkm_name_of pkm.Etc2 = codes "Etc2"
@@ -50,7 +50,7 @@ pkm_name_of pkm.EacRSigned = codes "EacRSigned"
 pkm_name_of pkm.EacRgSigned = codes "EacRgSigned"
 pkm_name_of pkm.Unknown = codes "Unknown"
 
--- the name of a way to store a PowerVR texture
+-- the name of a PowerVR texture's compression
 abbrev pub pvrtc_name_of : PvrtcCompression → List ℕ
 pvrtc_name_of pvrtc.Pvrtc2BppRgb = codes "Pvrtc2BppRgb"
 pvrtc_name_of pvrtc.Pvrtc2BppRgba = codes "Pvrtc2BppRgba"
@@ -63,7 +63,7 @@ pvrtc_name_of pvrtc.EacR11 = codes "EacR11"
 pvrtc_name_of pvrtc.EacRg11 = codes "EacRg11"
 pvrtc_name_of pvrtc.Unknown = codes "Unknown"
 
--- the ways to store an ATC texture, a DDS, a HEIF, a PKM file and a PowerVR texture, each in their order
+-- the compressions of an ATC texture, a DDS, a HEIF, a PKM file and a PowerVR texture, each list in its order
 abbrev pub atc_ways : List AtcCompression
 atc_ways = atc.Rgb ∷ atc.RgbaExplicit ∷ atc.RgbaInterpolated ∷ atc.Unknown ∷ []
 

@@ -1,4 +1,4 @@
--- How many bytes a type and its size are read from, and what bytes that follow leave.
+-- How many bytes a type and its size are read from, and what appended bytes cannot change.
 use Rattle.std.specs.Prelude.{◌≡◌, ℕ, Bool, true, false, ◌⊎◌, List, Result, Ok, Err}
 use Rattle.imagesize.specs.Meaning.{kind_of, meaning}
 use Rattle.imagesize.specs.Types.{in_record, lasts, outside_records, way_of}
@@ -13,12 +13,12 @@ use Rattle.imagesize_source.specs.Limits.{stated_fixed}
 use Rattle.imagesize_source.specs.State.{total}
 use Rattle.imagesize_source.specs.Way.{most_by, stated_by}
 
--- the lengths of the marks together, repeats counted
+-- the sum of the spans' lengths, with repeats
 abbrev pub cost : List ℕ → ℕ → ℕ
 cost d place = total (meaning d place).marks
 
--- What is stated of it: 41 of a refused type and of a size at fixed places, 64 and 20 for each record that is begun of
--- a size behind records, and 64 more than the input has of a text.
+-- The bound over all types, in bytes: 41 for an unknown type and for a size at fixed offsets. For a size in records:
+-- 64, and 20 for each record that is begun (540 in EXR). For a text: 64 more than the length of the input.
 abbrev pub stated_as : {E : Type 0} → Result ImageType E → List ℕ → ℕ
 stated_as (Ok type) d = stated_by (way_of type) d
 stated_as (Err _) d = stated_fixed
@@ -26,7 +26,7 @@ stated_as (Err _) d = stated_fixed
 abbrev pub stated_bytes : List ℕ → ℕ → ℕ
 stated_bytes d place = stated_as (kind_of d place).answer d
 
--- the most that is read by the format: 37 bytes where none is found
+-- the bound for each format, in bytes; 37 for an unknown type
 abbrev pub most_as : {E : Type 0} → Result ImageType E → List ℕ → ℕ
 most_as (Ok type) d = most_by (outside_records type) (in_record type) (way_of type) d
 most_as (Err _) d = 37
@@ -34,13 +34,13 @@ most_as (Err _) d = 37
 abbrev pub most_bytes : List ℕ → ℕ → ℕ
 most_bytes d place = most_as (kind_of d place).answer d
 
--- Bytes that follow change no such type, but for a compression that is unknown. The bytes behind an image may make it a TGA, or
--- no TGA any more.
+-- Appended bytes do not change such a type, except for an unknown compression. The bytes after an image may make it a
+-- TGA, or no TGA any more.
 abbrev pub keeps : ImageType → Bool
 keeps Tga = false
 keeps _ = true
 
--- the type, its compression unknown where it has several
+-- the type, with its compression unknown if it has several
 abbrev pub without_compression : ImageType → ImageType
 without_compression (Atc _) = Atc atc_unknown
 without_compression (Dds _) = Dds dds_unknown
@@ -50,11 +50,11 @@ without_compression (Heif _) = Heif heif_unknown
 without_compression (Pvrtc _) = Pvrtc pvrtc_unknown
 without_compression type = type
 
--- what was found is this type, or this one with its compression unknown
+-- the type found before is this one, or this one with its compression unknown
 abbrev pub Stays : ImageType → ImageType → Type 0
 Stays found type = (type ≡ found) ⊎ (found ≡ without_compression type)
 
--- bytes that follow change no size of what was found
+-- whether appended bytes cannot change a size of the type that was found
 abbrev pub lasts_as : {E : Type 0} → Result ImageType E → Bool
 lasts_as (Ok type) = lasts type
 lasts_as (Err _) = false

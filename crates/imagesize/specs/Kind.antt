@@ -13,12 +13,12 @@ use Rattle.imagesize_source.specs.Layout.Layout.{refuse, «done»}
 use Rattle.imagesize_source.specs.Layout.{Layout, bind, bytes}
 use Rattle.imagesize_source.specs.declared.halt.Halt.TheVariants.{NotSupported}
 
--- the type of the first row that holds
+-- the type of the first row whose test holds
 abbrev pub first_row : List Row → List ℕ → Option ImageType
 first_row [] head = None
 first_row (row ∷ rows) head = if row.holds head then Some row.found else first_row rows head
 
--- the same type, with its compression read where it has several
+-- the same type, with its compression if it has several
 unfoldable pub with_compression : ℕ → List ℕ → ImageType → Layout ImageType
 with_compression place head (Heif _) = bind (heif_compression place head) (λ compression. done (Heif compression))
 with_compression place head (Atc _) = bind atc_compression (λ compression. done (Atc compression))
@@ -31,11 +31,12 @@ with_compression place head found = done found
 abbrev pub tga_or_none : Bool → Layout ImageType
 tga_or_none is = if is then done Tga else refuse NotSupported
 
--- what an input of n bytes is at a place with this head: TGA has no signature at its beginning, so it comes last
+-- What an input of n bytes is at an offset, with these first twelve bytes. TGA comes last, since it has no signature
+-- at its beginning.
 abbrev pub kind_by : ℕ → ℕ → List ℕ → Option ImageType → Layout ImageType
 kind_by n place head (Some found) = with_compression place head found
 kind_by n place head None = bind (is_tga n head) tga_or_none
 
--- the type that an input of n bytes has at a place
+-- the type at an offset of an input of n bytes
 abbrev pub kind : ℕ → ℕ → Layout ImageType
 kind n place = bytes place 12 (λ head. kind_by n place head (first_row rows head))

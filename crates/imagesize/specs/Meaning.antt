@@ -9,26 +9,26 @@ use Rattle.imagesize_source.specs.Outcome.{Outcome, outcome_of}
 use Rattle.imagesize_source.specs.Reading.{Reads, and_then}
 use Rattle.imagesize_source.specs.Way.{by_way}
 
--- the readings of the type that an input has at a place
+-- the reads of the type at an offset
 abbrev pub kind_reads : List ℕ → ℕ → Reads ImageType
 kind_reads d place = layout_reads d (kind (length d) place)
 
--- the readings of the size that an input has, read as this type
+-- the reads of an input's size, read as this type
 abbrev pub size_reads : ImageType → List ℕ → Reads ImageSize
 size_reads type d = by_way (way_of type) d
 
--- the readings of the type that an input has at a place, then those of its size by that type
+-- the reads of the type at an offset, then the reads of the size by that type
 unfoldable pub meaning_reads : List ℕ → ℕ → Reads ImageSize
 meaning_reads d place = and_then (kind_reads d place) (λ found. size_reads found d)
 
--- the type that an input has at a place
+-- the type at an offset
 abbrev pub kind_of : List ℕ → ℕ → Outcome ImageType
 kind_of d place = outcome_of (kind_reads d place)
 
--- the size that an input has, read as this type
+-- the size of an input, read as this type
 abbrev pub size_of : ImageType → List ℕ → Outcome ImageSize
 size_of type d = outcome_of (size_reads type d)
 
--- the type that an input has at a place, then its size by that type
+-- the type at an offset, then the size by that type
 abbrev pub meaning : List ℕ → ℕ → Outcome ImageSize
 meaning d place = outcome_of (meaning_reads d place)

@@ -1,4 +1,4 @@
--- What `reader_probe` answers.
+-- What `reader_probe` returns.
 use Rattle.std.specs.Prelude.{◌≡◌, ℕ, ◌+◌, ◌≤◌, true, false, length, Option, None, Some, Result, Ok, IfSome, option_map}
 use Rattle.std.specs.Result.{result_ok}
 use Rattle.imagesize.specs.Counts.{most_bytes, stated_bytes}
@@ -15,14 +15,14 @@ use Rattle.imagesize_source.specs.Reading.{is_stopped as has_stopped}
 use Rattle.imagesize_source.specs.State.{State}
 use Rattle.imagesize_io.specs.Telling.{Telling, IsHonest}
 
--- A type that is named is the input's, and where nothing failed it is named if there is one.
+-- A named type is that of the input. If nothing stopped the call, a type is named if the input has one.
 pub record FindsKind (a : State) (place : ℕ) (found : Option ImageType) (r : Result ImageSize Halt) : Type 0 where
   pub right : a.held.honest ≡ true → IfSome found (λ type. (kind_reads a.held.input place).answer ≡ Ok type)
   pub whole : a.held.honest ≡ true → has_stopped r ≡ false → found ≡ result_ok (kind_reads a.held.input place).answer
 
--- Over an honest reader the answer is that of the layouts or a failure, the type named beside it is right, and the
--- bytes taken are those of their readings, at most as many as are stated, as the format's count, and the allowance more than
--- the input has. What is too short for a type ends there.
+-- Over an honest reader, the result is that of the layouts or a failure, and the named type is right. The bytes read
+-- are those of the layouts' reads, within three bounds: the one over all types, the one for the format, and the
+-- input's length plus the allowance. An input that is too short for a type is an end of input.
 pub record ProbesOf (t : Telling) (probed : Probed) : Type 0 where
   pub answer : AnswersAs t (over_reader t meaning) probed.answer
   pub takes : TakesAs t (over_reader t meaning) probed.answer probed.taken
@@ -37,6 +37,6 @@ abbrev pub Probes : Option Telling → Probed → Type 0
 Probes None probed = Unit {0}
 Probes (Some t) probed = IsHonest t → ProbesOf t probed
 
--- a budget of at least the allowance was spent, and a named count rose by all of it
+-- a budget of at least the allowance was spent, and the reader's count increased by all of it
 abbrev pub SpentAll : Option ℕ → Option ℕ → ℕ → Type 0
 SpentAll before after budget = (allowance ≤ budget) × (after ≡ option_map (λ count. count + budget) before)

@@ -1,4 +1,4 @@
--- What each type of image answers of compression and container.
+-- What the queries return for each image type.
 use Rattle.std.specs.Prelude.{ℕ, List, Bool, true, false, Option, None, Some, codes}
 use Rattle.imagesize.specs.declared.types.CompressionFamily.{CompressionFamily}
 use Rattle.imagesize.specs.declared.types.CompressionFamily.TheVariants as family
@@ -24,7 +24,7 @@ dds_family_of dds.Rgba32 = Some family.Uncompressed
 dds_family_of dds.Rgb24 = Some family.Uncompressed
 dds_family_of dds.Unknown = None
 
--- the family of a PKM's compression
+-- the family of a PKM file's compression
 abbrev pub pkm_family_of : PkmCompression → Option CompressionFamily
 pkm_family_of pkm.Etc1 = Some family.Etc
 pkm_family_of pkm.Etc2 = Some family.Etc
@@ -71,7 +71,7 @@ container_of Ktx2 = Some (codes "KTX2")
 container_of (Pvrtc _) = Some (codes "PowerVR")
 container_of _ = None
 
--- the type's container can hold several families
+-- whether the type's container can hold several families
 abbrev pub is_multi_container : ImageType → Bool
 is_multi_container (Dds _) = true
 is_multi_container Ktx2 = true

@@ -9,7 +9,7 @@ use Rattle.imagesize.specs.declared.types.ImageType.{ImageType}
 use Rattle.imagesize.specs.declared.types.ImageType.TheVariants.{Atc, Dds, Eac, Etc2, Heif, Pvrtc}
 use Rattle.imagesize_types.specs.Ranks.{atc_rank, dds_rank, heif_rank, pkm_rank, pvrtc_rank}
 
--- the place of a type's compression in the list of those that the type can have; 0 where it has none
+-- the position of a type's compression in the list of its compressions; 0 if the type has none
 abbrev pub compression_rank : ImageType → ℕ
 compression_rank (Atc compression) = atc_rank compression
 compression_rank (Dds compression) = dds_rank compression
@@ -19,15 +19,15 @@ compression_rank (Heif compression) = heif_rank compression
 compression_rank (Pvrtc compression) = pvrtc_rank compression
 compression_rank _ = 0
 
--- by the place of the type, and of one type by the place of the compression
+-- the order by the position of the type, then by the position of its compression
 abbrev pub type_cmp : ImageType → ImageType → Ordering
 type_cmp = then_cmp (on type_rank nat_cmp) (on compression_rank nat_cmp)
 
--- types are ordered so
+-- types are ordered in this way
 abbrev pub IsListed : (ImageType → ImageType → Ordering) → Type 0
 IsListed cmp = (x y : ImageType) → cmp x y ≡ type_cmp x y
 
--- each of a list is below the next
+-- whether each type of a list is below the next
 abbrev pub is_ascending : List ImageType → Bool
 is_ascending (x ∷ (y ∷ rest)) = is_lt (type_cmp x y) && is_ascending (y ∷ rest)
 is_ascending _ = true

@@ -1,4 +1,4 @@
--- The table of the types: all that is said of each one, but for its compressions.
+-- The table of the types: everything about each one except its compressions.
 use Rattle.std.specs.Prelude.{ℕ, Bool, true, false, List, [], ◌∷◌, ◌++◌, map, codes}
 use Rattle.imagesize_fixed.specs.Aseprite.{is_aseprite, aseprite}
 use Rattle.imagesize_fixed.specs.Astc.{is_astc, astc}
@@ -36,9 +36,9 @@ use Rattle.imagesize_types.specs.declared.compression.PkmCompression.TheVariants
 use Rattle.imagesize_types.specs.declared.compression.PvrtcCompression.TheVariants.{Unknown as pvrtc_unknown}
 use Rattle.imagesize_types.specs.declared.size.ImageSize.{ImageSize}
 
--- What is said of a type: its place in the list, counted from 0; its name; and how its size is told.
--- Of a size behind records `outside` is read outside of them and `in_record` in each, and `outside` is all of one at fixed
--- places, with the type in both. Where it `lasts`, bytes that follow leave it as it is.
+-- A type: its position in the list (from 0), its name, and how its size is stored. `outside` bounds the bytes read
+-- outside of records, and `in_record` those in each record. For fixed offsets, `outside` bounds all bytes. Both
+-- include the bytes of the type. If it `lasts`, appended bytes cannot change its size.
 pub record TypeFacts : Type 0 where
   pub rank : ℕ
   pub name : List ℕ
@@ -47,7 +47,7 @@ pub record TypeFacts : Type 0 where
   pub in_record : ℕ
   pub lasts : Bool
 
--- what is said of a type, written in this order
+-- a row of the table, with its fields in this order
 abbrev pub facts : ℕ → List ℕ → Way ImageSize → ℕ → ℕ → Bool → TypeFacts
 facts rank name way outside in_record lasts = record {
   rank = rank;
@@ -58,7 +58,7 @@ facts rank name way outside in_record lasts = record {
   lasts = lasts;
 }
 
--- The table. The sizes that bytes that follow may change are those whose list or footer these may belong to.
+-- The table. Appended bytes can change a size only if they may belong to the image's list or footer.
 abbrev pub facts_of : ImageType → TypeFacts
 facts_of Aseprite = facts 0 (codes "Aseprite") (Fixed aseprite) 41 20 true
 facts_of Astc = facts 1 (codes "Astc") (Fixed astc) 41 20 true
@@ -86,19 +86,19 @@ facts_of Tiff = facts 22 (codes "Tiff") (Recorded 20 tiff tiff_begun) 36 20 true
 facts_of Vtf = facts 23 (codes "Vtf") (Fixed vtf) 41 20 true
 facts_of Webp = facts 24 (codes "Webp") (Fixed webp) 41 20 true
 
--- the types in their order, each with each way to store it that it has
+-- the types in their order, each with each of its compressions
 abbrev pub types : List ImageType
 types =
     Aseprite ∷ Astc ∷ (map Atc atc_ways ++ (Bmp ∷ (map Dds dds_ways ++ (map Eac pkm_ways ++ (map Etc2 pkm_ways
     ++ (Exr ∷ Farbfeld ∷ Gif ∷ Hdr ∷ (map Heif heif_ways ++ (Ico ∷ Ilbm ∷ Jpeg ∷ Jxl ∷ Ktx2 ∷ Pnm ∷ (map Pvrtc pvrtc_ways
     ++ (Psd ∷ Qoi ∷ Tga ∷ Tiff ∷ Vtf ∷ Webp ∷ []))))))))))
 
--- A test of the first twelve bytes, and the type where it holds, its compression still unknown.
+-- A test of the first twelve bytes, and the type if it holds, with its compression still unknown.
 pub record Row : Type 0 where
   pub holds : List ℕ → Bool
   pub found : ImageType
 
--- the types that their first bytes tell, in the order in which they are tried
+-- the detection rules, in the order in which they are tried
 abbrev pub rows : List Row
 rows =
     record { holds = is_jpeg; found = Jpeg }
@@ -127,7 +127,7 @@ rows =
     ∷ record { holds = is_ilbm; found = Ilbm }
     ∷ []
 
--- the place of a type in its list
+-- the position of a type in its list
 abbrev pub type_rank : ImageType → ℕ
 type_rank type = (facts_of type).rank
 
@@ -135,18 +135,18 @@ type_rank type = (facts_of type).rank
 abbrev pub type_name_of : ImageType → List ℕ
 type_name_of type = (facts_of type).name
 
--- how the size of each type is told
+-- how the size of each type is stored
 abbrev pub way_of : ImageType → Way ImageSize
 way_of type = (facts_of type).way
 
--- what a size behind records is read from outside of them, and one at fixed places in all, with the type in both
+-- the bound on the bytes read outside of records, or on all bytes for fixed offsets; it includes the type
 abbrev pub outside_records : ImageType → ℕ
 outside_records type = (facts_of type).outside
 
--- what it is read from in each record
+-- the bound on the bytes read in each record
 abbrev pub in_record : ImageType → ℕ
 in_record type = (facts_of type).in_record
 
--- bytes that follow change no size of this type
+-- whether appended bytes cannot change a size of this type
 abbrev pub lasts : ImageType → Bool
 lasts type = (facts_of type).lasts

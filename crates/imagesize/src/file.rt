@@ -6,7 +6,8 @@ ghost use Rattle.imagesize_source.specs.declared.error.ImageError.TheVariants as
 ghost use Rattle.imagesize_source.specs.declared.error.Reason.TheVariants as reason;
 
 use crate::{ImageError, ImageResult, Reason, reader_size};
-use imagesize_io::KeptReader;
+use imagesize_io::SizedReader;
+use imagesize_io::sized::length_of;
 use imagesize_types::size::ImageSize;
 use std::alloc::Global;
 use std::fs;
@@ -29,8 +30,9 @@ pub fn size<F: Files, P: AsPath + Drop>(rt: &F, alloc: Global, path: P) -> Image
     ensures spent { IfErr result (λ e. IfSome (budget_spent e) (λ budget. allowance ≤ budget)) }
 {
     let file = fs::open(rt, path)?;
+    let length = length_of(&file);
     let reader = with_buffer(BufReader::new(alloc, file))?;
-    reader_size(KeptReader::new(reader))
+    reader_size(SizedReader::new(reader, length))
 }
 
 // The buffered reader, or `Memory` if its buffer could not be allocated.

@@ -8,11 +8,9 @@ ghost use Rattle.imagesize_source.specs.Layout.{bind};
 ghost use Rattle.imagesize_source.specs.State.{Follows, Runs, IsSound};
 
 use crate::types::ImageType;
-use imagesize_boxes::container::heif;
-use imagesize_boxes::formats::jxl;
-use imagesize_fixed::container::{atc, dds, pkm, pvrtc};
+use imagesize_boxes::formats::{heif, jxl};
 use imagesize_fixed::formats::{
-    aseprite, astc, bmp, farbfeld, gif, ktx2, psd, qoi, tga, vtf, webp,
+    aseprite, astc, atc, bmp, dds, farbfeld, gif, ktx2, pkm, psd, pvrtc, qoi, tga, vtf, webp,
 };
 use imagesize_source::Halt;
 use imagesize_source::readings::read_exact_at;

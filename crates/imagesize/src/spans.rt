@@ -1,12 +1,17 @@
 //! The bytes that a result depends on, in the caller's buffer.
-ghost use Rattle.std.specs.Prelude.{◌≡◌, ◌+◌, ◌<◌, ◌≤◌, ◌++◌, length, take, drop};
-ghost use Rattle.imagesize.specs.Meaning.{meaning};
+ghost use Rattle.std.specs.Prelude.{◌≡◌, ◌+◌, ◌<◌, ◌≤◌, ◌++◌, false, length, take, drop};
+ghost use Rattle.std.specs.Result.{result_ok};
+ghost use Rattle.imagesize.specs.Meaning.{kind_of, meaning};
 ghost use Rattle.imagesize.specs.Traced.{AreWithin};
+ghost use Rattle.imagesize_source.specs.Errors.{is_stopped};
 ghost use Rattle.imagesize_source.specs.Limits.{allowance};
 
-use crate::Span;
 use crate::calls::probe;
+use crate::types::ImageType;
+use crate::{ImageResult, Span};
+use imagesize_source::halt::with_error;
 use imagesize_source::source::recording::RecordingSource;
+use imagesize_types::size::ImageSize;
 
 /// The number of spans that `blob_trace` has for these bytes. If they fit, they are written to the front of the buffer, in
 /// order. No memory is allocated.
@@ -28,21 +33,37 @@ pub fn blob_spans(data: &[u8], room: &mut [Span]) -> usize
     ensures few { result ≤ length «data».now + allowance }
     ensures unchanged { length room.old < result → room.new ≡ room.old }
 {
-    let count = record_spans(data, &mut []);
+    let count = record(data, &mut []).count;
     if count <= room.len() {
-        record_spans(data, &mut room[..count]);
+        record(data, &mut room[..count]);
     }
     count
 }
 
-// Records the spans of a slice in the buffer, as many as fit, and returns how many there are.
-fn record_spans(data: &[u8], room: &mut [Span]) -> usize
-    ensures count { result ≡ length (meaning «data».now 0).marks }
-    ensures spans { take result room.new ≡ take (length room.new) (meaning «data».now 0).marks }
+// What a slice holds, and how many spans its reads have.
+#[derive(Drop)]
+pub(crate) struct Recorded {
+    pub(crate) kind: Option<ImageType>,
+    pub(crate) answer: ImageResult<ImageSize>,
+    // How many spans the reads have.
+    pub(crate) count: usize,
+}
+
+// Probes a slice and records the spans of the reads in the buffer, as many as fit.
+pub(crate) fn record(data: &[u8], buffer: &mut [Span]) -> Recorded
+    ensures kind { result.kind ≡ result_ok (kind_of «data».now 0).answer }
+    ensures answer { result.answer ≡ (meaning «data».now 0).answer }
+    ensures goes { is_stopped result.answer ≡ false }
+    ensures count { result.count ≡ length (meaning «data».now 0).marks }
+    ensures spans { take result.count buffer.new ≡ take (length buffer.new) (meaning «data».now 0).marks }
 {
     // The proof needs that the length is below 2^63.
     let _length = data.len();
-    let mut source = RecordingSource::in_room(data, room);
-    let _ = probe(&mut source, 0);
-    source.count
+    let mut source = RecordingSource::new(data, buffer);
+    let (kind, found) = probe(&mut source, 0);
+    Recorded {
+        kind,
+        answer: with_error(found, &source),
+        count: source.count,
+    }
 }

@@ -2,17 +2,14 @@
 ghost use Rattle.std.specs.Prelude.{◌≡◌, ℕ, ◌+◌, ◌≤◌, ◌++◌, IfOk, IsOk, IsTrue, List, Ok, length};
 ghost use Rattle.imagesize.specs.Counts.{lasts_as, stated_bytes};
 ghost use Rattle.imagesize.specs.Meaning.{kind_of, meaning};
-ghost use Rattle.imagesize.specs.Traced.{AreWithin, IsSame, Traces, lacks_memory};
+ghost use Rattle.imagesize.specs.Traced.{AreWithin, IsSame, Traces};
 ghost use Rattle.imagesize_source.specs.Limits.{allowance};
 ghost use Rattle.imagesize_source.specs.Agreement.{Agrees};
 ghost use Rattle.imagesize_source.specs.State.{total};
 
-use crate::calls::probe;
+use crate::spans::{Recorded, record};
 use crate::types::ImageType;
 use crate::{ImageResult, Span};
-use imagesize_source::Halt;
-use imagesize_source::halt::with_error;
-use imagesize_source::source::recording::RecordingSource;
 use imagesize_types::size::ImageSize;
 use std::alloc::{AllocError, Allocator};
 
@@ -58,21 +55,22 @@ pub fn blob_trace<A: Allocator>(alloc: A, data: &[u8]) -> Result<Trace<A>, Alloc
     ensures lasts { IsTrue (lasts_as (kind_of «data».now 0).answer) → IfOk result (λ t. IfOk t.answer (λ size.
         (x : List ℕ) → (meaning («data».now ++ x) 0).answer ≡ Ok size)) }
 {
-    let mut source = RecordingSource::in_memory(alloc, data);
-    let (kind, found) = probe(&mut source, 0);
-    if lacks_memory(&found) {
-        return Err(AllocError);
-    }
+    let count = record(data, &mut []).count;
+    let mut spans = empty_spans(alloc, count)?;
+    let Recorded { kind, answer, .. } = record(data, &mut spans);
     Ok(Trace {
         kind,
-        answer: with_error(found, &source),
-        spans: source.buffer,
+        answer,
+        spans,
     })
 }
 
-// Whether an allocation failed.
-fn lacks_memory(found: &Result<ImageSize, Halt>) -> bool
-    ensures { result ≡ lacks_memory found.now }
+// A list of `count` empty spans.
+fn empty_spans<A: Allocator>(alloc: A, count: usize) -> Result<Vec<Span, A>, AllocError>
+    ensures many { IfOk result (λ spans. length spans.items ≡ count) }
+    ensures none { count ≡ 0 → IsOk result }
 {
-    matches!(found, Err(Halt::Memory))
+    let mut spans = Vec::new(alloc);
+    spans.resize(count, Span { start: 0, len: 0 })?;
+    Ok(spans)
 }

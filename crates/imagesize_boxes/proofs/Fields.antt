@@ -1,10 +1,9 @@
 -- Fields of bits: what more bits leave, and the bits as a number.
-use Rattle.std.proofs.Common.{◌≡◌, ℕ, zero, suc, ◌+◌, ◌-◌, ◌*◌, ◌/◌, ◌%◌, ◌^◌, ◌<◌, ◌≤◌, Bool, true, false, cond, leb, List, [], ◌∷◌, ◌++◌, length, take, drop, get_or, slice_index_or, bit_and, Result, Ok, Err, refl, sym, ap, ◌∙◌, subst, add-one, arith}
+use Rattle.std.proofs.Common.{◌≡◌, ℕ, zero, suc, ◌+◌, ◌-◌, ◌*◌, ◌/◌, ◌%◌, ◌^◌, ◌<◌, ◌≤◌, Bool, true, false, cond, leb, List, [], ◌∷◌, ◌++◌, length, take, drop, get_or, bit_and, Result, Ok, Err, refl, sym, ap, ◌∙◌, subst, add-one, arith}
 use Rattle.std.proofs.lemmas.Bool.Decides.{nat_tests}
-use Rattle.std.proofs.lemmas.List.{append-nil, length-append, length-drop, length-take, length-take-le, drop-append-le, take-append-drop, take-append-le}
+use Rattle.std.proofs.lemmas.List.{length-append, length-drop, length-take, length-take-le, drop-append-le, take-append-drop, take-append-le}
 use Rattle.std.proofs.Math.Numerals.{one-add}
 use Rattle.std.proofs.Math.Pow.{mod-mod-pow}
-use Rattle.std.proofs.Math.Seq.{take-append_seam}
 use Rattle.std.proofs.lemmas.Nat.{and_mask, one_shl, pow_pos, mod-pow-add, shr-shr, field_of}
 use Rattle.std.specs.Int.{w128, from_le_bytes}
 use Rattle.imagesize_source.specs.declared.halt.Halt.{Halt}
@@ -19,19 +18,22 @@ use Rattle.imagesize_boxes.specs.Walks.{field_in}
 pub masked : (n count : ℕ) → count ≤ 30 → bit_and (n % 2 ^ 64) (1 * 2 ^ count % 2 ^ 64 - 1) ≡ n % 2 ^ count
 masked n count few =
     let all : (64 - count) + count ≡ 64 = omega arith in
-    rw (one_shl count 64 (omega arith)) (and_mask (n % 2 ^ 64) count ∙ ap (λ e. n % 2 ^ e % 2 ^ count) (sym all) ∙ mod-mod-pow n
+    rw (one_shl count 64 (omega arith))
+    (and_mask (n % 2 ^ 64) count ∙ ap (λ e. n % 2 ^ e % 2 ^ count) (sym all) ∙ mod-mod-pow n
     (64 - count) count)
 
 pub little_16 : (bs : List ℕ) → length bs ≡ 16 → from_le_bytes w128 bs ≡ number Little bs
 unfolding number
 little_16 bs is =
     subst (λ bs. from_le_bytes w128 bs ≡ number Little bs) (take-append-drop 8 bs) (on_eights (take 8 bs) (drop 8 bs)
-    (are_eight (take 8 bs) (length-take 8 bs ∙ omega (arith, is))) (are_eight (drop 8 bs) (length-drop 8 bs ∙ omega (arith, is)))) where
+    (are_eight (take 8 bs) (length-take 8 bs ∙ omega (arith, is)))
+    (are_eight (drop 8 bs) (length-drop 8 bs ∙ omega (arith, is)))) where
       on_eights : (xs ys : List ℕ) → Eight xs → Eight ys → from_le_bytes w128 (xs ++ ys) ≡ number Little (xs ++ ys)
       on_eights xs ys (eight a b c d e f g h) (eight i j k l m n o p) = omega arith
 
 -- what goes on alike is found alike
-alike : {X Y : Type 0} (r : Result X Halt) (f g : X → Result Y Halt) → ((x : X) → f x ≡ g x) → with_found r f ≡ with_found r g
+alike : {X Y : Type 0} (r : Result X Halt) (f g : X → Result Y Halt) → ((x : X) → f x ≡ g x)
+    → with_found r f ≡ with_found r g
 alike (Ok x) f g same = same x
 alike (Err e) f g same = refl
 
@@ -41,18 +43,22 @@ found_twice (Ok x) f g = refl
 found_twice (Err e) f g = refl
 
 -- what is found by fields that are read alike
-pub found_alike : {X : Type 0} (f g : ℕ → ℕ → Result ℕ Halt) (t : Fields X) → ((from count : ℕ) → f from count ≡ g from count)
+pub found_alike : {X : Type 0} (f g : ℕ → ℕ → Result ℕ Halt) (t : Fields X)
+    → ((from count : ℕ) → f from count ≡ g from count)
     → found_by f t ≡ found_by g t
 found_alike f g (found x) same = refl
-found_alike f g (bits from count h) same = rw (same from count) (alike (g from count) (λ n. found_by f (h n)) (λ n. found_by g (h n))
+found_alike f g (bits from count h) same =
+    rw (same from count) (alike (g from count) (λ n. found_by f (h n)) (λ n. found_by g (h n))
     (λ n. found_alike f g (h n) same))
 
 -- what goes on is found behind what it goes on from
-pub found-after : {X Y : Type 0} (field : ℕ → ℕ → Result ℕ Halt) (t : Fields X) (g : X → Fields Y) → found_by field (bind_fields t g)
+pub found-after : {X Y : Type 0} (field : ℕ → ℕ → Result ℕ Halt) (t : Fields X) (g : X → Fields Y)
+    → found_by field (bind_fields t g)
     ≡ with_found (found_by field t) (λ x. found_by field (g x))
 found-after field (found x) g = refl
 found-after field (bits from count f) g =
-    alike (field from count) (λ n. found_by field (bind_fields (f n) g)) (λ n. with_found (found_by field (f n)) (λ x. found_by field (g x)))
+    alike (field from count) (λ n. found_by field (bind_fields (f n) g))
+    (λ n. with_found (found_by field (f n)) (λ x. found_by field (g x)))
     (λ n. found-after field (f n) g)
     ∙ found_twice (field from count) (λ n. found_by field (f n)) (λ x. found_by field (g x))
 
@@ -113,14 +119,16 @@ drop_bits (suc k) [] h = no_bits
 drop_bits (suc k) (b ∷ list) (one_bit is rest) = drop_bits k list rest
 
 -- a field of the bits of bytes is that of their number
-pub field_same : (bytes : List ℕ) → ((i : ℕ) → get_or bytes i 0 < 256) → (from count : ℕ) → field_at (bits_of bytes) from count
+pub field_same : (bytes : List ℕ) → ((i : ℕ) → get_or bytes i 0 < 256) → (from count : ℕ)
+    → field_at (bits_of bytes) from count
     ≡ field_in (little bytes) (8 * length bytes) from count
 unfolding field_at
 field_same bytes small from count =
     let long = length-bits_of bytes in
     let value : binary (take count (drop from (bits_of bytes))) ≡ little bytes / 2 ^ from % 2 ^ count =
     binary_take count (drop from (bits_of bytes)) (drop_bits from (bits_of bytes) (are_bits bytes))
-    ∙ ap (λ n. n % 2 ^ count) (binary_drop from (bits_of bytes) (are_bits bytes) ∙ ap (λ n. n / 2 ^ from) (binary_of bytes small)) in
+    ∙ ap (λ n. n % 2 ^ count)
+    (binary_drop from (bits_of bytes) (are_bits bytes) ∙ ap (λ n. n / 2 ^ from) (binary_of bytes small)) in
     rw (long, value) refl
 
 is_there : (b : Bool) (m n : ℕ) → ◌≡◌ {A = Result ℕ Halt} (cond b (Ok m) (Err Corrupted)) (Ok n) → b ≡ true
@@ -128,7 +136,8 @@ is_there true m n is = refl
 is_there false m n is = absurd cc
 
 -- more bits leave a field that is there
-field_more : (list more : List ℕ) (from count n : ℕ) → field_at list from count ≡ Ok n → field_at (list ++ more) from count ≡ Ok n
+field_more : (list more : List ℕ) (from count n : ℕ) → field_at list from count ≡ Ok n
+    → field_at (list ++ more) from count ≡ Ok n
 unfolding field_at
 field_more list more from count n is =
     let long = length-append list more in
@@ -137,11 +146,13 @@ field_more list more from count n is =
     let after : leb (from + count) (length (list ++ more)) ≡ true = grind (arith, nat_tests) in
     let rest = length-drop from list in
     let same : take count (drop from (list ++ more)) ≡ take count (drop from list) =
-    ap (take count) (drop-append-le from list more (omega arith)) ∙ take-append-le count (drop from list) more (omega arith) in
+    ap (take count) (drop-append-le from list more (omega arith))
+    ∙ take-append-le count (drop from list) more (omega arith) in
     rw (after, same) (ap (λ b. cond b (Ok (binary (take count (drop from list)))) (Err Corrupted)) (sym test) ∙ is)
 
 found_on : {X : Type 0} (r : Result ℕ Halt) (other : Result ℕ Halt) (f g : ℕ → Result X Halt) (v : X)
-    → ((n : ℕ) → r ≡ Ok n → other ≡ Ok n) → ((n : ℕ) → f n ≡ Ok v → g n ≡ Ok v) → with_found r f ≡ Ok v → with_found other g ≡ Ok v
+    → ((n : ℕ) → r ≡ Ok n → other ≡ Ok n) → ((n : ℕ) → f n ≡ Ok v → g n ≡ Ok v) → with_found r f ≡ Ok v
+    → with_found other g ≡ Ok v
 found_on (Ok n) other f g v same rest is = rw (same n refl) (rest n is)
 found_on (Err e) other f g v same rest is = absurd cc
 
@@ -154,20 +165,9 @@ found_more list more (bits from count f) v is =
     (λ n. found_by (field_at (list ++ more)) (f n)) v
     (λ n at. field_more list more from count n at) (λ n at. found_more list more (f n) v at) is
 
--- bytes that were put in front are taken from there
-pub taken_back : (front rest : List ℕ) → take (length front) (front ++ rest) ≡ front
-taken_back front rest = take-append_seam front rest
-
--- and so are two, and others behind them
-pub taken_behind : (start room : List ℕ) (n : ℕ) → length start ≡ 2 → take (2 + n) (slice_index_or start 0 0 ∷ slice_index_or start 1 0
-    ∷ (room ++ [])) ≡ start ++ take n room
-taken_behind [] room n is = absurd (omega (arith, is))
-taken_behind (a ∷ []) room n is = absurd (omega (arith, is))
-taken_behind (a ∷ b ∷ []) room n is = let e : 2 + n ≡ suc (suc n) = omega arith in rw (e, append-nil room) refl
-taken_behind (a ∷ b ∷ x ∷ rest) room n is = absurd (omega (arith, is))
-
 -- the first bytes have the lowest bits
-little_take : (k : ℕ) (bytes : List ℕ) → ((i : ℕ) → get_or bytes i 0 < 256) → little (take k bytes) ≡ little bytes % 2 ^ (8 * k)
+little_take : (k : ℕ) (bytes : List ℕ) → ((i : ℕ) → get_or bytes i 0 < 256)
+    → little (take k bytes) ≡ little bytes % 2 ^ (8 * k)
 little_take zero bytes small = omega arith
 little_take (suc k) [] small = let some = pow_pos (8 * suc k) in omega arith
 little_take (suc k) (b ∷ bytes) small =
@@ -175,22 +175,26 @@ little_take (suc k) (b ∷ bytes) small =
     let rest = little_take k bytes (λ i. small (suc i)) in
     let n : ℕ = b + 256 * little bytes in
     let e : 8 * suc k ≡ 8 * k + 8 = omega arith in
-    let all : n % 2 ^ (8 * suc k) ≡ (n / 256 % 2 ^ (8 * k)) * 256 + n % 256 = ap (λ m. n % 2 ^ m) e ∙ mod-pow-add n (8 * k) 8 in
+    let all : n % 2 ^ (8 * suc k) ≡ (n / 256 % 2 ^ (8 * k)) * 256 + n % 256 = ap (λ m. n % 2 ^ m) e
+    ∙ mod-pow-add n (8 * k) 8 in
     let high : n / 256 ≡ little bytes = omega arith in
     let same : n / 256 % 2 ^ (8 * k) ≡ little bytes % 2 ^ (8 * k) = ap (λ m. m % 2 ^ (8 * k)) high in
     omega arith
 
 -- a field sees no bits behind those that are there
 lowest_alike : (n from count rest : ℕ) → n % 2 ^ (rest + count + from) / 2 ^ from % 2 ^ count ≡ n / 2 ^ from % 2 ^ count
-lowest_alike n from count rest = ap (λ m. m % 2 ^ count) (field_of n (rest + count) from) ∙ mod-mod-pow (n / 2 ^ from) rest count
+lowest_alike n from count rest = ap (λ m. m % 2 ^ count) (field_of n (rest + count) from)
+    ∙ mod-mod-pow (n / 2 ^ from) rest count
 
 field_lowest : (n there from count : ℕ) → field_in (n % 2 ^ there) there from count ≡ field_in n there from count
 field_lowest n there from count = by_test (leb (from + count) there) refl where
-  by_test : (within : Bool) → leb (from + count) there ≡ within → field_in (n % 2 ^ there) there from count ≡ field_in n there from count
+  by_test : (within : Bool) → leb (from + count) there ≡ within
+      → field_in (n % 2 ^ there) there from count ≡ field_in n there from count
   by_test true is =
       let within : from + count ≤ there = grind (arith, nat_tests) in
       let all : (there - (from + count)) + count + from ≡ there = omega arith in
-      let same : n % 2 ^ there / 2 ^ from % 2 ^ count ≡ n / 2 ^ from % 2 ^ count = ap (λ e. n % 2 ^ e / 2 ^ from % 2 ^ count) (sym all)
+      let same : n % 2 ^ there / 2 ^ from % 2 ^ count ≡ n / 2 ^ from % 2 ^ count =
+      ap (λ e. n % 2 ^ e / 2 ^ from % 2 ^ count) (sym all)
       ∙ lowest_alike n from count (there - (from + count)) in
       rw (is, same) refl
   by_test false is = rw is refl
@@ -202,7 +206,8 @@ small_take (suc k) (b ∷ bytes) small zero = small 0
 small_take (suc k) (b ∷ bytes) small (suc i) = small_take k bytes (λ j. small (suc j)) i
 
 -- a field of the first bytes is that of the number of all
-pub field_front : (bytes : List ℕ) (len : ℕ) → ((i : ℕ) → get_or bytes i 0 < 256) → len ≤ length bytes → (from count : ℕ)
+pub field_front : (bytes : List ℕ) (len : ℕ) → ((i : ℕ) → get_or bytes i 0 < 256) → len ≤ length bytes
+    → (from count : ℕ)
     → field_at (bits_of (take len bytes)) from count ≡ field_in (little bytes) (8 * len) from count
 field_front bytes len small within from count =
     let long : length (take len bytes) ≡ len = length-take-le len bytes within in

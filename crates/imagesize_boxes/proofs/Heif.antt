@@ -10,13 +10,13 @@ use Rattle.std.proofs.lemmas.List.Sums.{sum_by_push}
 use Rattle.std.specs.Int.{w32, from_be_bytes}
 use Rattle.std.specs.List.{find, last_or, sum_by}
 use Rattle.std.specs.Option.{option_or}
-use Rattle.std.specs.Prelude.{codes, flat_map, fold, nat_lt, nat_le, unwrap_or, ok_or, option_map, IfErr, slice_get, filter}
+use Rattle.std.specs.Prelude.{codes, flat_map, fold, nat_lt, nat_le, unwrap_or, ok_or, option_map, slice_get, filter}
 use Rattle.imagesize_boxes.specs.Heif.{heif_compression, is_general, is_named, box_size, box_searched, search_for, searched_box, extents_size, property_named, property_found, property_at, property_bytes, extents_of, rotations_of, skipped_bytes, no_pixels, largest_or_none, largest_extents, turn_by, heif_answer, property_or_answer, properties, heif, heif_in_meta, heif_in_iprp, boxes_in_iprp, boxes_in_meta, heif_boxes}
-use Rattle.imagesize_boxes.specs.Walks.{earlier_largest, gathered_with, gathered_answer}
-use Rattle.imagesize_boxes.specs.declared.container.heif.FoundBox.{FoundBox}
-use Rattle.imagesize_boxes.specs.declared.container.heif.Gathered.{Gathered}
-use Rattle.imagesize_boxes.specs.declared.container.heif.Property.{Property}
-use Rattle.imagesize_boxes.specs.declared.container.heif.Property.TheVariants.{Extents, Rotation, Skipped}
+use Rattle.imagesize_boxes.specs.Walks.{Amounts, Largest, earlier_largest, gathered_with, gathered_answer}
+use Rattle.imagesize_boxes.specs.declared.formats.heif.FoundBox.{FoundBox}
+use Rattle.imagesize_boxes.specs.declared.formats.heif.Gathered.{Gathered}
+use Rattle.imagesize_boxes.specs.declared.formats.heif.Property.{Property}
+use Rattle.imagesize_boxes.specs.declared.formats.heif.Property.TheVariants.{Extents, Rotation, Skipped}
 use Rattle.imagesize_types.specs.Head.{four_at}
 use Rattle.imagesize_types.specs.Largest.{greatest_area, area_if_some}
 use Rattle.imagesize_types.specs.Order.{area_of}
@@ -25,13 +25,13 @@ use Rattle.imagesize_source.specs.declared.halt.Halt.{Halt}
 use Rattle.imagesize_source.specs.declared.halt.Halt.TheVariants.{Corrupted, Ended, InvalidHeifBoxSize, NotEnoughData}
 use Rattle.imagesize_source.specs.declared.endian.Endian.TheVariants.{Big}
 use Rattle.imagesize_source.specs.Agreement.{IsLocal}
-use Rattle.imagesize_source.specs.Chain.{Said, Decided, Next, Advances, start, verdict, records, chain_from, chain_at, count_behind}
+use Rattle.imagesize_source.specs.Chain.{Said, Decided, Next, Advances, start, verdict, records, chain_at, count_behind}
 use Rattle.imagesize_source.specs.Counts.{AtMost}
 use Rattle.imagesize_source.specs.Input.{span_of}
 use Rattle.imagesize_source.specs.Layout.{Layout, bytes, refuse, done, layout_reads, bind, whole}
 use Rattle.imagesize_source.specs.Numbers.{number}
-use Rattle.imagesize_source.specs.Reading.{and_then, bytes_at, bytes_read, number_at, number_read, refuses, is_faulted}
-use Rattle.imagesize_source.specs.State.{State, Runs, EndedBy, total}
+use Rattle.imagesize_source.specs.Reading.{and_then, bytes_at, bytes_read, number_at, number_read, refuses, map_answer}
+use Rattle.imagesize_source.specs.State.{State, Runs, total}
 use Rattle.imagesize_source.proofs.Always.{CompressionLaws}
 use Rattle.imagesize_source.proofs.Advances.{Tells, advances}
 use Rattle.imagesize_source.proofs.Spends.{Spends, Onto, chain_onto, left, said_to, spends_then}
@@ -42,93 +42,76 @@ use Rattle.imagesize_source.proofs.Counts.{begun_cost, then_within, total-span_o
 use Rattle.imagesize_source.proofs.Bytes.{first_four}
 use Rattle.imagesize_source.proofs.Layouts.{no_part, no_span}
 use Rattle.imagesize_source.proofs.Agreement.{local_bytes, local_then, local_number, without_texts}
-use Rattle.imagesize_source.proofs.Reached.{runs_bind, refused_bind, reached_now}
+use Rattle.imagesize_source.proofs.Reached.{runs_bind, refused_bind}
 use Rattle.imagesize_source.proofs.Tests.{on_test}
-use Rattle.imagesize_source.proofs.Walks.{Walks, walks_start, walks_on, walks_stop, walks_out, walks_past}
 use Rattle.imagesize_source.proofs.Way.{RecordedLaws}
 use Rattle.imagesize_source.proofs.Lists.{last_push}
 use Rattle.imagesize_types.proofs.Largest.{greatest_push}
 
 -- the number of four bytes within others
-pub big_four : (bs : List ℕ) (i : ℕ) → i + 4 ≤ length bs → from_be_bytes w32 (slice_index_or bs i 0 ∷ slice_index_or bs (i + 1) 0
+pub big_four : (bs : List ℕ) (i : ℕ) → i + 4 ≤ length bs
+    → from_be_bytes w32 (slice_index_or bs i 0 ∷ slice_index_or bs (i + 1) 0
     ∷ slice_index_or bs (i + 2) 0 ∷ slice_index_or bs (i + 3) 0 ∷ []) ≡ number Big (four_at i bs)
 big_four bs i h =
-    let none : slice_index_or bs i 0 ≡ slice_index_or (drop i bs) 0 0 = ap (λ n. slice_index_or bs n 0) (sym (add-zero i))
+    let none : slice_index_or bs i 0 ≡ slice_index_or (drop i bs) 0 0 =
+    ap (λ n. slice_index_or bs n 0) (sym (add-zero i))
     ∙ sym (get_or-drop i bs 0 0) in
     rw (← get_or-drop i bs 1 0, ← get_or-drop i bs 2 0, ← get_or-drop i bs 3 0, none)
     (first_four (drop i bs) (omega (arith, length-drop i bs)))
 
 -- what holds of each box of a search
 by_searched : (P : Layout (Said (Unit {0}) FoundBox) → Type 0) (tag : List ℕ) (place : ℕ) (head : List ℕ)
-    → P (done (Decided (record { place = place; size = box_size head }))) → P (refuse (InvalidHeifBoxSize (box_size head)))
+    → P (done (Decided (record { place = place; size = box_size head })))
+    → P (refuse (InvalidHeifBoxSize (box_size head)))
     → (8 ≤ box_size head → P (done (Next tt (place + box_size head)))) → P (box_searched tag place head)
 by_searched P tag place head found small next =
     on_test P (is_named tag head) (done (Decided (record { place = place; size = box_size head }))) _ (λ _. found)
     (λ _. on_test P (nat_lt (box_size head) 8) (refuse (InvalidHeifBoxSize (box_size head)))
     (done (Next tt (place + box_size head))) (λ _. small) (λ no. next (grind (arith, nat_tests))))
 
-search_advances : (tag : List ℕ) (first : ℕ) (d : List ℕ) → Advances (search_for tag first) d
+pub search_advances : (tag : List ℕ) (first : ℕ) (d : List ℕ) → Advances (search_for tag first) d
 search_advances tag first = advances (search_for tag first)
     (λ passed place head. by_searched (Tells (λ p. place < p)) tag place head tt tt (λ big. omega arith))
     (λ passed place. (omega arith, omega arith))
 
--- how far a search has come
-abbrev pub SearchWalks : List ℕ → ℕ → State → State → ℕ → Type 0
-SearchWalks tag first a b place = Walks (search_for tag first) (λ passed. Unit {0}) a b place
+-- from the end of the input on there is no box
+pub search_ends : (tag : List ℕ) (d : List ℕ) (place : ℕ) → length d ≤ place
+    → layout_reads d (searched_box tag place) ≡ refuses Ended
+search_ends tag d place far = bytes_beyond d place 8 (λ head. box_searched tag place head) far (omega arith)
 
-pub search_start : (tag : List ℕ) (first : ℕ) (a : State) → SearchWalks tag first a a first
-search_start tag first a = walks_start (search_for tag first) (λ passed. Unit {0}) a tt
-
-pub search_on : {a b end : State} (tag : List ℕ) (first place next : ℕ) → SearchWalks tag first a b place
-    → Runs b end (Ok (Next tt next)) (layout_reads b.held.input (searched_box tag place)) → SearchWalks tag first a end next
-search_on tag first place next w run = walks_on (search_for tag first) (search_advances tag first) (λ passed. Unit {0}) w
-    (λ passed. Unit {0}) tt next (λ passed _. run) (λ passed _. tt)
-
-pub search_stop : {a b end : State} (tag : List ℕ) (first place : ℕ) (found : FoundBox) → SearchWalks tag first a b place
-    → Runs b end (Ok (Decided found)) (layout_reads b.held.input (searched_box tag place))
-    → Runs a end (Ok found) (chain_at (search_for tag first) a.held.input)
-search_stop tag first place found w run = walks_stop (search_for tag first) (search_advances tag first) (λ passed. Unit {0}) w found
-    (λ passed _. run)
-
-pub search_out : {a b end : State} (tag : List ℕ) (first place : ℕ) (e : Halt) → SearchWalks tag first a b place
-    → Runs b end (Err e) (layout_reads b.held.input (searched_box tag place)) → Runs a end (Err e) (chain_at (search_for tag first) a.held.input)
-search_out tag first place e w run = walks_out (search_for tag first) (search_advances tag first) (λ passed. Unit {0}) w e
-    (λ passed _. run)
-
-pub search_past : {a b : State} (tag : List ℕ) (first place : ℕ) → first < place → SearchWalks tag first a b place → 2 ^ 64 ≤ place
-    → Runs a b (Err Ended) (chain_at (search_for tag first) a.held.input)
-search_past tag first place behind w far = walks_past (search_for tag first) (search_advances tag first) (λ passed. Unit {0}) w
-    (omega arith) (omega arith)
-    (λ passed d _ h. bytes_beyond d place 8 (λ head. box_searched tag place head) h (omega arith))
-
-search_beyond : (tag : List ℕ) (d : List ℕ) (place : ℕ) → length d ≤ place → chain_at (search_for tag place) d ≡ refuses Ended
+search_beyond : (tag : List ℕ) (d : List ℕ) (place : ℕ) → length d ≤ place
+    → chain_at (search_for tag place) d ≡ refuses Ended
 search_beyond tag d place far =
-    let none = bytes_beyond d place 8 (λ head. box_searched tag place head) far (omega arith) in
+    let none = search_ends tag d place far in
     chain_stop (search_for tag place) d (start (search_for tag place)) (Err Ended) (ap (λ r. verdict r.answer) none)
     ∙ ap (λ r. record { answer = Err Ended; marks = r.marks }) none
 
-pub search_saturated : {a b : State} {r : Result FoundBox Halt} (tag : List ℕ) (place : ℕ)
-    → Runs a b r (chain_at (search_for tag (min place (2 ^ 64 - 1))) a.held.input)
+pub search_saturated : {a b : State} {r : Result FoundBox Halt} (tag : List ℕ) (place at : ℕ)
+    → Runs a b r (chain_at (search_for tag at) a.held.input) → at ≡ min place (2 ^ 64 - 1)
     → Runs a b r (chain_at (search_for tag place) a.held.input)
-search_saturated tag place h = saturated_by (λ p d. chain_at (search_for tag p) d) (refuses Ended) place
-    (λ d p far. search_beyond tag d p far) h
+search_saturated tag place at = saturated_by (λ p d. chain_at (search_for tag p) d) (refuses Ended) place at
+    (λ d p far. search_beyond tag d p far)
 
 -- what holds of each property, by its name
-by_named : (P : Layout (Option Property) → Type 0) (left place : ℕ) (head : List ℕ) → P (done None) → P (refuse Corrupted)
+by_named : (P : Layout (Option Property) → Type 0) (left place : ℕ) (head : List ℕ) → P (done None)
+    → P (refuse Corrupted)
     → P (bytes (place + 8) 12 (λ content. done (Some (Extents (extents_size content)))))
     → P (bytes (place + 8) 1 (λ content. done (Some (Rotation (slice_index content 0)))))
     → (8 ≤ box_size head → P (done (Some (Skipped (box_size head))))) → P (property_named left place head)
 by_named P left place head end bad extents rotation skipped =
     on_test P (nat_lt (box_size head) 8) (cond (is_named (codes "mdat") head) (done None) (refuse Corrupted)) _
     (λ _. on_test P (is_named (codes "mdat") head) (done None) (refuse Corrupted) (λ _. end) (λ _. bad))
-    (λ big. on_test P (is_named (codes "ispe") head) (bytes (place + 8) 12 (λ content. done (Some (Extents (extents_size content))))) _
+    (λ big. on_test P (is_named (codes "ispe") head)
+    (bytes (place + 8) 12 (λ content. done (Some (Extents (extents_size content))))) _
     (λ _. extents)
-    (λ _. on_test P (is_named (codes "irot") head) (bytes (place + 8) 1 (λ content. done (Some (Rotation (slice_index content 0))))) _
+    (λ _. on_test P (is_named (codes "irot") head)
+    (bytes (place + 8) 1 (λ content. done (Some (Rotation (slice_index content 0))))) _
     (λ _. rotation)
     (λ _. on_test P (nat_le left (box_size head)) (done None) (done (Some (Skipped (box_size head)))) (λ _. end)
     (λ _. skipped (grind (arith, nat_tests))))))
 
-by_found : (P : Layout (Option Property) → Type 0) (left place : ℕ) (found : Option (List ℕ)) → P (done None) → P (refuse Corrupted)
+by_found : (P : Layout (Option Property) → Type 0) (left place : ℕ) (found : Option (List ℕ)) → P (done None)
+    → P (refuse Corrupted)
     → P (bytes (place + 8) 12 (λ content. done (Some (Extents (extents_size content)))))
     → P (bytes (place + 8) 1 (λ content. done (Some (Rotation (slice_index content 0)))))
     → ((size : ℕ) → 8 ≤ size → P (done (Some (Skipped size)))) → P (property_found left place found)
@@ -143,7 +126,8 @@ by_answer P None turn none some = none
 by_answer P (Some size) turn none some = some (turn_by turn size)
 
 -- and of what stands in the list, behind these properties
-by_listed : (P : Layout (Said Property ImageSize) → Type 0) (held : List Property) (left place : ℕ) (found : Option (List ℕ))
+by_listed : (P : Layout (Said Property ImageSize) → Type 0) (held : List Property) (left place : ℕ)
+    (found : Option (List ℕ))
     → ((e : Halt) → P (refuse e)) → ((size : ImageSize) → P (done (Decided size)))
     → P (bytes (place + 8) 12 (λ content. done (Next (Extents (extents_size content)) (place + 20))))
     → P (bytes (place + 8) 1 (λ content. done (Next (Rotation (slice_index content 0)) (place + 9))))
@@ -155,22 +139,16 @@ by_listed P held left place found refused decided extents rotation skipped =
     (refused NotEnoughData) decided)
     (refused Corrupted) extents rotation skipped
 
-properties_advance : (all first : ℕ) (d : List ℕ) → Advances (properties all first) d
+pub properties_advance : (all first : ℕ) (d : List ℕ) → Advances (properties all first) d
 properties_advance all first = advances (properties all first)
-    (λ held place bs. by_listed (Tells (λ p. place < p)) held (all - sum_by skipped_bytes held) place (whole 8 bs) (λ e. tt) (λ size. tt)
+    (λ held place bs. by_listed (Tells (λ p. place < p)) held (all - sum_by skipped_bytes held) place (whole 8 bs)
+    (λ e. tt) (λ size. tt)
     (λ content. omega arith) (λ content. omega arith) (λ size big. omega arith))
     (λ held place. (
       omega arith,
       by_answer (Tells (λ _. ⊥)) (largest_extents (flat_map extents_of held))
           (last_or None (flat_map rotations_of held)) tt (λ size. tt),
     ))
-
--- These are the largest extents, of several the first.
-pub record Largest (best : Option ImageSize) (sizes : List ImageSize) : Type 0 where
-  is : largest_extents sizes ≡ best
-  first : largest_or_none sizes ≡ unwrap_or best no_pixels
-  area : greatest_area sizes ≡ area_if_some best
-  found : 0 < greatest_area sizes → is_some (find (λ s. eqb (area_of s) (greatest_area sizes)) sizes) ≡ true
 
 largest_some : (sizes : List ImageSize) (size : ImageSize) → largest_extents (sizes ++ size ∷ [])
     ≡ Some (largest_or_none (sizes ++ size ∷ []))
@@ -182,7 +160,8 @@ at_least m [] = omega arith
 at_least m (s ∷ sizes) = let rest = at_least (max m (area_of s)) sizes in omega arith
 
 -- none of them has a greater area
-none_above : (m n : ℕ) (sizes : List ImageSize) → fold max m (map area_of sizes) < n → find (λ s. eqb (area_of s) n) sizes ≡ None
+none_above : (m n : ℕ) (sizes : List ImageSize) → fold max m (map area_of sizes) < n
+    → find (λ s. eqb (area_of s) n) sizes ≡ None
 none_above m n [] below = refl
 none_above m n (s ∷ sizes) below =
     let more = at_least (max m (area_of s)) sizes in
@@ -200,7 +179,8 @@ first_of n sizes = cond (eqb n 0) no_pixels (unwrap_or (find (λ s. eqb (area_of
 first_filtered : (p : ImageSize → Bool) (sizes : List ImageSize) → slice_get (filter p sizes) 0 ≡ find p sizes
 first_filtered p [] = refl
 first_filtered p (s ∷ sizes) =
-    let Goal : Bool → Type 0 = λ b. slice_get (cond b (s ∷ filter p sizes) (filter p sizes)) 0 ≡ cond b (Some s) (find p sizes) in
+    let Goal : Bool → Type 0 = λ b. slice_get (cond b (s ∷ filter p sizes) (filter p sizes)) 0
+    ≡ cond b (Some s) (find p sizes) in
     elim (p s) as Goal [ true ↦ refl | false ↦ first_filtered p sizes ]
 
 first_is : (sizes : List ImageSize) → largest_or_none sizes ≡ first_of (greatest_area sizes) sizes
@@ -215,7 +195,8 @@ area_or : (best : Option ImageSize) → area_of (unwrap_or best no_pixels) ≡ a
 area_or None = refl
 area_or (Some size) = refl
 
-largest_by : (best : Option ImageSize) (sizes : List ImageSize) (size : ImageSize) (b : Bool) → nat_lt (area_if_some best) (area_of size)
+largest_by : (best : Option ImageSize) (sizes : List ImageSize) (size : ImageSize) (b : Bool)
+    → nat_lt (area_if_some best) (area_of size)
     ≡ b → Largest best sizes → Largest (Some (cond b size (unwrap_or best no_pixels))) (sizes ++ size ∷ [])
 largest_by best sizes size true test h =
     let was = h.area in
@@ -226,10 +207,13 @@ largest_by best sizes size true test h =
     let some : eqb (area_of size) 0 ≡ false = grind (arith, nat_tests) in
     let found : find (λ s. eqb (area_of s) (area_of size)) (sizes ++ size ∷ []) ≡ Some size =
     find-append (λ s. eqb (area_of s) (area_of size)) sizes (size ∷ [])
-    ∙ ap (λ o. option_or o (find (λ s. eqb (area_of s) (area_of size)) (size ∷ []))) (none_above 0 (area_of size) sizes more)
+    ∙ ap (λ o. option_or o (find (λ s. eqb (area_of s) (area_of size)) (size ∷ [])))
+    (none_above 0 (area_of size) sizes more)
     ∙ ap (λ b. cond b (Some size) None) here in
-    let first : largest_or_none (sizes ++ size ∷ []) ≡ size = first_is (sizes ++ size ∷ []) ∙ ap (λ n. first_of n (sizes ++ size ∷ [])) now
-    ∙ ap (λ b. cond b no_pixels (unwrap_or (find (λ s. eqb (area_of s) (area_of size)) (sizes ++ size ∷ [])) no_pixels)) some
+    let first : largest_or_none (sizes ++ size ∷ []) ≡ size = first_is (sizes ++ size ∷ [])
+    ∙ ap (λ n. first_of n (sizes ++ size ∷ [])) now
+    ∙ ap (λ b. cond b no_pixels
+    (unwrap_or (find (λ s. eqb (area_of s) (area_of size)) (sizes ++ size ∷ [])) no_pixels)) some
     ∙ ap (λ o. unwrap_or o no_pixels) found in
     record {
       is = largest_some sizes size ∙ ap Some first;
@@ -243,7 +227,8 @@ largest_by best sizes size false test h =
     let no_more : area_of size ≤ greatest_area sizes = grind (arith, nat_tests) in
     let now : greatest_area (sizes ++ size ∷ []) ≡ greatest_area sizes = omega arith in
     let p : ImageSize → Bool = λ s. eqb (area_of s) (greatest_area sizes) in
-    let found : 0 < greatest_area sizes → find p (sizes ++ size ∷ []) ≡ find p sizes = λ some. find-append p sizes (size ∷ []) ∙ or_first
+    let found : 0 < greatest_area sizes
+    → find p (sizes ++ size ∷ []) ≡ find p sizes = λ some. find-append p sizes (size ∷ []) ∙ or_first
     (find p sizes) (find p (size ∷ [])) (h.found some) in
     let first : largest_or_none (sizes ++ size ∷ []) ≡ unwrap_or best no_pixels =
     first_is (sizes ++ size ∷ []) ∙ ap (λ n. first_of n (sizes ++ size ∷ [])) now
@@ -254,33 +239,31 @@ largest_by best sizes size false test h =
       is = largest_some sizes size ∙ ap Some first;
       first = first;
       area = now ∙ h.area ∙ sym (area_or best);
-      found = λ some. ap (λ n. is_some (find (λ s. eqb (area_of s) n) (sizes ++ size ∷ []))) now ∙ ap is_some (found (omega arith))
+      found = λ some. ap (λ n. is_some (find (λ s. eqb (area_of s) n) (sizes ++ size ∷ []))) now
+          ∙ ap is_some (found (omega arith))
           ∙ h.found (omega arith);
     }
 
--- The properties so far amount to this.
-pub record Amounts (all : ℕ) (g : Gathered) (held : List Property) : Type 0 where
-  left : all - sum_by skipped_bytes held ≡ g.left
-  best : Largest g.best (flat_map extents_of held)
-  turn : last_or None (flat_map rotations_of held) ≡ g.turn
-
 none_more : {X : Type 0} (f : Property → List X) (held : List Property) (property : Property) → f property ≡ []
     → flat_map f (held ++ property ∷ []) ≡ flat_map f held
-none_more f held property none = flat_map-append f held (property ∷ []) ∙ ap (λ xs. flat_map f held ++ (xs ++ [])) none ∙ append-nil
+none_more f held property none = flat_map-append f held (property ∷ []) ∙ ap (λ xs. flat_map f held ++ (xs ++ [])) none
+    ∙ append-nil
     (flat_map f held)
 
-amounts_on : (all : ℕ) (g : Gathered) (held : List Property) (property : Property) → Amounts all g held
+pub amounts_on : (all : ℕ) (g : Gathered) (held : List Property) (property : Property) → Amounts all g held
     → Amounts all (gathered_with g property) (held ++ property ∷ [])
 amounts_on all g held (Extents size) h = record {
   left = let was = h.left in let push = sum_by_push skipped_bytes held (Extents size) in omega arith;
-  best = subst (Largest (Some (earlier_largest g.best size))) (sym (flat_map-append extents_of held (Extents size ∷ [])))
+  best = subst (Largest (Some (earlier_largest g.best size)))
+      (sym (flat_map-append extents_of held (Extents size ∷ [])))
       (largest_by g.best (flat_map extents_of held) size (nat_lt (area_if_some g.best) (area_of size)) refl h.best);
   turn = ap (last_or None) (none_more rotations_of held (Extents size) refl) ∙ h.turn;
 }
 amounts_on all g held (Rotation turn) h = record {
   left = let was = h.left in let push = sum_by_push skipped_bytes held (Rotation turn) in omega arith;
   best = subst (Largest g.best) (sym (none_more extents_of held (Rotation turn) refl)) h.best;
-  turn = ap (last_or None) (flat_map-append rotations_of held (Rotation turn ∷ [])) ∙ last_push None (flat_map rotations_of held) turn;
+  turn = ap (last_or None) (flat_map-append rotations_of held (Rotation turn ∷ []))
+      ∙ last_push None (flat_map rotations_of held) turn;
 }
 amounts_on all g held (Skipped size) h = record {
   left = let was = h.left in let push = sum_by_push skipped_bytes held (Skipped size) in omega arith;
@@ -288,128 +271,88 @@ amounts_on all g held (Skipped size) h = record {
   turn = ap (last_or None) (none_more rotations_of held (Skipped size) refl) ∙ h.turn;
 }
 
--- how far a walk along the properties has come
-abbrev pub ListWalks : ℕ → ℕ → State → State → ℕ → Gathered → Type 0
-ListWalks all first a b place g = Walks (properties all first) (Amounts all g) a b place
-
-pub list_start : (all first : ℕ) (a : State) → ListWalks all first a a first (record { left = all; best = None; turn = None })
-list_start all first a = walks_start (properties all first) (Amounts all (record { left = all; best = None; turn = None })) a
-    (record {
-      left = omega arith;
-      best = record { is = refl; first = refl; area = refl; found = λ some. absurd (omega arith) };
-      turn =
-          refl;
-    })
-
-list_said : {b end : State} {r : Result (Said Property ImageSize) Halt} (all : ℕ) (g : Gathered) (place : ℕ) (held : List Property)
-    → Amounts all g held → Runs b end r (layout_reads b.held.input (bind (property_at g.left place) (property_or_answer held place)))
-    → Runs b end r (layout_reads b.held.input (bind (property_at (all - sum_by skipped_bytes held) place) (property_or_answer held place)))
-list_said {b} {end} {r} all g place held h run =
-    subst (λ n. Runs b end r (layout_reads b.held.input (bind (property_at n place) (property_or_answer held place)))) (sym h.left) run
-
-pub list_on : {a b end : State} (all first place : ℕ) (g : Gathered) (property : Property) → ListWalks all first a b place g
-    → Runs b end (Ok (Some property)) (layout_reads b.held.input (property_at g.left place)) → ListWalks all first a end
-    (place + property_bytes property) (gathered_with g property)
-list_on all first place g property w run =
-    walks_on (properties all first) (properties_advance all first) (Amounts all g) w (Amounts all (gathered_with g property)) property
-    (place + property_bytes property)
-    (λ held h. list_said all g place held h (runs_bind (Ok (Next property (place + property_bytes property))) (property_at g.left place)
-    (property_or_answer held place) run (λ d. refl) refl tt))
-    (λ held h. amounts_on all g held property h)
-
-pub list_out : {a b end : State} (all first place : ℕ) (g : Gathered) (e : Halt) → ListWalks all first a b place g
-    → Runs {X = Option Property} b end (Err e) (layout_reads b.held.input (property_at g.left place)) → Runs {X = ImageSize} a end (Err e)
-    (chain_at (properties all first) a.held.input)
-list_out all first place g e w run =
-    walks_out (properties all first) (properties_advance all first) (Amounts all g) w e
-    (λ held h. list_said all g place held h (refused_bind (property_at g.left place) (property_or_answer held place) run))
-
 -- what is answered by what the properties amount to
-answers : (all : ℕ) (g : Gathered) (held : List Property) (place : ℕ) (d : List ℕ) → Amounts all g held → layout_reads d (property_or_answer held place None)
+answers : (all : ℕ) (g : Gathered) (held : List Property) (place : ℕ) (d : List ℕ) → Amounts all g held
+    → layout_reads d (property_or_answer held place None)
     ≡ layout_reads d (heif_answer g.best g.turn)
-answers all g held place d h = ap (λ o. layout_reads d (heif_answer o (last_or None (flat_map rotations_of held)))) h.best.is
+answers all g held place d h =
+    ap (λ o. layout_reads d (heif_answer o (last_or None (flat_map rotations_of held)))) h.best.is
     ∙ ap (λ t. layout_reads d (heif_answer g.best t)) h.turn
-
--- the list ends
-list_end_by : {a b end : State} (all first place : ℕ) (g : Gathered) (best : Option ImageSize) → g.best ≡ best
-    → ListWalks all first a b place g → Runs b end (Ok None) (layout_reads b.held.input (property_at g.left place))
-    → Runs a end (ok_or (option_map (turn_by g.turn) best) NotEnoughData) (chain_at (properties all first) a.held.input)
-list_end_by all first place g None is w run =
-    walks_out (properties all first) (properties_advance all first) (Amounts all g) w NotEnoughData
-    (λ held h. list_said all g place held h
-    (runs_bind (Err NotEnoughData) (property_at g.left place) (property_or_answer held place) run
-    (λ d. answers all g held place d h ∙ ap (λ o. layout_reads d (heif_answer o g.turn)) is) refl
-    (record { budget = λ e. absurd cc; memory = λ e. absurd cc; fault = λ e. absurd cc })))
-list_end_by all first place g (Some size) is w run =
-    walks_stop (properties all first) (properties_advance all first) (Amounts all g) w (turn_by g.turn size)
-    (λ held h. list_said all g place held h
-    (runs_bind (Ok (Decided (turn_by g.turn size))) (property_at g.left place) (property_or_answer held place) run
-    (λ d. answers all g held place d h ∙ ap (λ o. layout_reads d (heif_answer o g.turn)) is) refl tt))
-
-pub list_end : {a b end : State} (all first place : ℕ) (g : Gathered) → ListWalks all first a b place g
-    → Runs b end (Ok None) (layout_reads b.held.input (property_at g.left place)) → Runs a end (gathered_answer g)
-    (chain_at (properties all first) a.held.input)
-list_end all first place g w run = list_end_by all first place g g.best refl w run
 
 -- at a place beyond the input it ends too
 none_listed : (d : List ℕ) (held : List Property) (left place : ℕ) → length d ≤ place
-    → layout_reads d (bind (property_at left place) (property_or_answer held place)) ≡ layout_reads d (property_or_answer held place None)
+    → layout_reads d (bind (property_at left place) (property_or_answer held place))
+    ≡ layout_reads d (property_or_answer held place None)
 none_listed d held left place far = rw (no_part d place 8 far, no_span d place 8 far) refl
 
-answer_ended : (b : State) (best : Option ImageSize) (turn : Option ℕ)
-    → IfErr (ok_or (option_map (turn_by turn) best) NotEnoughData) (EndedBy b)
-answer_ended b None turn = record { budget = λ e. absurd cc; memory = λ e. absurd cc; fault = λ e. absurd cc }
-answer_ended b (Some size) turn = tt
+answer_read : (d : List ℕ) (best : Option ImageSize) (turn : Option ℕ) → layout_reads d (heif_answer best turn)
+    ≡ record { answer = map_answer Decided (ok_or (option_map (turn_by turn) best) NotEnoughData); marks = [] }
+answer_read d None turn = refl
+answer_read d (Some size) turn = refl
 
-answer_no_fault : (best : Option ImageSize) (turn : Option ℕ) → is_faulted (ok_or (option_map (turn_by turn) best) NotEnoughData)
-    ≡ false
-answer_no_fault None turn = refl
-answer_no_fault (Some size) turn = refl
+-- a record of the list, by what the properties before it amount to
+module _ {b end : State} (all : ℕ) (g : Gathered) (place : ℕ) (held : List Property) (h : Amounts all g held) where
+  said_by : {r : Result (Said Property ImageSize) Halt}
+      → Runs b end r (layout_reads b.held.input (bind (property_at g.left place) (property_or_answer held place)))
+      → Runs b end r (layout_reads b.held.input
+      (bind (property_at (all - sum_by skipped_bytes held) place) (property_or_answer held place)))
+  said_by {r} run =
+      subst (λ n. Runs b end r (layout_reads b.held.input (bind (property_at n place) (property_or_answer held place))))
+      (sym h.left) run
 
-answer_verdict : (d : List ℕ) (best : Option ImageSize) (turn : Option ℕ)
-    → (verdict (layout_reads d (heif_answer best turn)).answer ≡ Some (ok_or (option_map (turn_by turn) best) NotEnoughData))
-    × ((layout_reads d (heif_answer best turn)).marks ≡ [])
-answer_verdict d None turn = (refl, refl)
-answer_verdict d (Some size) turn = (refl, refl)
+  pub listed_next : (property : Property)
+      → Runs b end (Ok (Some property)) (layout_reads b.held.input (property_at g.left place))
+      → Runs b end (Ok (Next property (place + property_bytes property)))
+      (layout_reads b.held.input
+      (bind (property_at (all - sum_by skipped_bytes held) place) (property_or_answer held place)))
+  listed_next property run =
+      said_by (runs_bind (Ok (Next property (place + property_bytes property))) (property_at g.left place)
+      (property_or_answer held place) run (λ d. refl) refl tt)
 
-ends_beyond : (all first place : ℕ) (g : Gathered) (held : List Property) (d : List ℕ) → length d ≤ place → Amounts all g held
-    → chain_from (properties all first) d (record { held = held; place = place }) ≡ record { answer = gathered_answer g; marks = [] }
-ends_beyond all first place g held d far h =
-    let says = none_listed d held (all - sum_by skipped_bytes held) place far ∙ answers all g held place d h in
-    let is = answer_verdict d g.best g.turn in
-    chain_stop (properties all first) d (record { held = held; place = place }) (gathered_answer g)
-    (ap (λ r. verdict r.answer) says ∙ is.0) ∙ ap (λ marks. record { answer = gathered_answer g; marks = marks })
-    (ap (λ r. r.marks) says ∙ is.1)
+  pub listed_out : (e : Halt)
+      → Runs {X = Option Property} b end (Err e) (layout_reads b.held.input (property_at g.left place))
+      → Runs {X = Said Property ImageSize} b end (Err e)
+      (layout_reads b.held.input
+      (bind (property_at (all - sum_by skipped_bytes held) place) (property_or_answer held place)))
+  listed_out e run = said_by (refused_bind (property_at g.left place) (property_or_answer held place) run)
 
-pub list_past : {a b : State} (all first place : ℕ) (g : Gathered) → first < place → ListWalks all first a b place g → 2 ^ 64 ≤ place
-    → Runs a b (gathered_answer g) (chain_at (properties all first) a.held.input)
-list_past {a} all first place g behind w far =
-    reached_now w.reached (gathered_answer g) (w.sound behind) (answer_no_fault g.best g.turn) (answer_ended _ g.best g.turn)
-    (λ honest short. ends_beyond all first place g w.held a.held.input (omega arith) w.known)
+pub list_ends : (all : ℕ) (g : Gathered) (held : List Property) → Amounts all g held → (d : List ℕ) (place : ℕ)
+    → length d ≤ place
+    → layout_reads d (bind (property_at (all - sum_by skipped_bytes held) place) (property_or_answer held place))
+    ≡ record { answer = map_answer Decided (gathered_answer g); marks = [] }
+list_ends all g held h d place far =
+    none_listed d held (all - sum_by skipped_bytes held) place far ∙ answers all g held place d h
+    ∙ answer_read d g.best g.turn
 
-pub list_saturated : {a b : State} {r : Result ImageSize Halt} (all place : ℕ)
-    → Runs a b r (chain_at (properties all (min place (2 ^ 64 - 1))) a.held.input)
-    → Runs a b r (chain_at (properties all place) a.held.input)
-list_saturated all place h = saturated_by (λ p d. chain_at (properties all p) d)
-    (record { answer = Err NotEnoughData; marks = [] }) place
-    (λ d p far. ends_beyond all p p (record { left = all; best = None; turn = None }) [] d far
-    (record {
+none_gathered : (all place : ℕ) (d : List ℕ) → length d ≤ place
+    → chain_at (properties all place) d ≡ record { answer = Err NotEnoughData; marks = [] }
+none_gathered all place d far =
+    let says = list_ends all (record { left = all; best = None; turn = None }) [] (record {
       left = omega arith;
       best = record { is = refl; first = refl; area = refl; found = λ some. absurd (omega arith) };
-      turn =
-          refl;
-    }))
-    h
+      turn = refl;
+    }) d place far in
+    chain_stop (properties all place) d (start (properties all place)) (Err NotEnoughData)
+    (ap (λ r. verdict r.answer) says)
+    ∙ ap (λ r. record { answer = Err NotEnoughData; marks = r.marks }) says
+
+pub list_saturated : {a b : State} {r : Result ImageSize Halt} (all place at : ℕ)
+    → Runs a b r (chain_at (properties all at) a.held.input) → at ≡ min place (2 ^ 64 - 1)
+    → Runs a b r (chain_at (properties all place) a.held.input)
+list_saturated all place at = saturated_by (λ p d. chain_at (properties all p) d)
+    (record { answer = Err NotEnoughData; marks = [] }) place at (λ d p far. none_gathered all p d far)
 
 -- the compression is read from at most 12 bytes, and is always told
 pub heif_compression_laws : (place : ℕ) (head : List ℕ) → CompressionLaws 12 (heif_compression place head)
 unfolding heif_compression
 heif_compression_laws place head =
-    on_test (CompressionLaws 12) (is_general (four_at 8 head)) _ _ (λ _. record { few = (omega arith, λ _. tt); answers = λ _. tt })
+    on_test (CompressionLaws 12) (is_general (four_at 8 head)) _ _
+    (λ _. record { few = (omega arith, λ _. tt); answers = λ _. tt })
     (λ _. record { few = tt; answers = tt })
 
 -- a box that is passed, or a property, is read from at most 20 bytes
-search_at_most : (tag : List ℕ) (place : ℕ) (passed : List (Unit {0})) (q : ℕ) → AtMost 20 ((search_for tag place).said passed q)
+search_at_most : (tag : List ℕ) (place : ℕ) (passed : List (Unit {0})) (q : ℕ)
+    → AtMost 20 ((search_for tag place).said passed q)
 search_at_most tag place passed q = (omega arith, λ head. by_searched (AtMost 12) tag q head tt tt (λ big. tt))
 
 property_at_most : (all place : ℕ) (held : List Property) (q : ℕ) → AtMost 20 ((properties all place).said held q)
@@ -421,10 +364,13 @@ property_at_most all place held q = (
 
 search_cost : (tag : List ℕ) (place : ℕ) (d : List ℕ) → total (chain_at (search_for tag place) d).marks ≤ 20 * records
     (search_for tag place) d
-search_cost tag place d = chain_cost (search_for tag place) d (search_advances tag place d) 20 (search_at_most tag place)
+search_cost tag place d =
+    chain_cost (search_for tag place) d (search_advances tag place d) 20 (search_at_most tag place)
 
-properties_cost : (all place : ℕ) (d : List ℕ) → total (chain_at (properties all place) d).marks ≤ 20 * records (properties all place) d
-properties_cost all place d = chain_cost (properties all place) d (properties_advance all place d) 20 (property_at_most all place)
+properties_cost : (all place : ℕ) (d : List ℕ)
+    → total (chain_at (properties all place) d).marks ≤ 20 * records (properties all place) d
+properties_cost all place d =
+    chain_cost (properties all place) d (properties_advance all place d) 20 (property_at_most all place)
 
 -- what is seen of an input
 local_search : (tag : List ℕ) (place : ℕ) → IsLocal false (λ d. chain_at (search_for tag place) d)
@@ -450,7 +396,8 @@ pub heif_local : IsLocal false heif
 heif_local = local_then (λ d. number_read d Big 0 4) (λ first d. and_then (chain_at (search_for (codes "meta") first) d)
     (λ meta. heif_in_meta meta d))
     (local_number Big 0 4)
-    (λ first. local_then (λ d. chain_at (search_for (codes "meta") first) d) heif_in_meta (local_search (codes "meta") first)
+    (λ first. local_then (λ d. chain_at (search_for (codes "meta") first) d) heif_in_meta
+    (local_search (codes "meta") first)
     in_meta_local)
 
 in_iprp_cost : (iprp : FoundBox) (d : List ℕ) → total (heif_in_iprp iprp d).marks ≤ 20 * boxes_in_iprp iprp d
@@ -458,13 +405,15 @@ in_iprp_cost iprp d =
     let reads = chain_at (search_for (codes "ipco") (iprp.place + 8)) d in
     let all = begun_cost 20 reads.marks reads.answer (λ ipco. chain_at (properties ipco.size (ipco.place + 8)) d)
     (λ ipco. records (properties ipco.size (ipco.place + 8)) d) _ 0
-    (search_cost (codes "ipco") (iprp.place + 8) d) (λ ipco. omega (arith, properties_cost ipco.size (ipco.place + 8) d)) in
+    (search_cost (codes "ipco") (iprp.place + 8) d)
+    (λ ipco. omega (arith, properties_cost ipco.size (ipco.place + 8) d)) in
     omega arith
 
 in_meta_cost : (meta : FoundBox) (d : List ℕ) → total (heif_in_meta meta d).marks ≤ 4 + 20 * boxes_in_meta meta d
 in_meta_cost meta d =
     let reads = chain_at (search_for (codes "iprp") (meta.place + 12)) d in
-    let rest : total (and_then reads (λ iprp. heif_in_iprp iprp d)).marks ≤ 20 * (records (search_for (codes "iprp") (meta.place + 12)) d
+    let rest : total (and_then reads (λ iprp. heif_in_iprp iprp d)).marks ≤ 20 *
+    (records (search_for (codes "iprp") (meta.place + 12)) d
     + count_behind reads.answer (λ iprp. boxes_in_iprp iprp d)) =
     omega (
       arith,
@@ -473,16 +422,20 @@ in_meta_cost meta d =
     ) in
     omega (
       arith,
-      begun_cost 20 (span_of d (meta.place + 8) 4) (bytes_at d (meta.place + 8) 4) (λ version. and_then reads (λ iprp. heif_in_iprp iprp d))
-          (λ version. records (search_for (codes "iprp") (meta.place + 12)) d + count_behind reads.answer (λ iprp. boxes_in_iprp iprp d)) 4 0
+      begun_cost 20 (span_of d (meta.place + 8) 4) (bytes_at d (meta.place + 8) 4)
+          (λ version. and_then reads (λ iprp. heif_in_iprp iprp d))
+          (λ version. records (search_for (codes "iprp") (meta.place + 12)) d + count_behind reads.answer
+          (λ iprp. boxes_in_iprp iprp d)) 4 0
           (total-span_of d (meta.place + 8) 4) (λ version. omega (arith, rest)),
     )
 
 -- a box is read from at most 20 bytes
 pub heif_cost : (d : List ℕ) → 24 + total (heif d).marks ≤ 32 + 20 * heif_boxes d
 heif_cost d =
-    let rest : (first : ℕ) → total (and_then (chain_at (search_for (codes "meta") first) d) (λ meta. heif_in_meta meta d)).marks ≤ 4
-    + 20 * (records (search_for (codes "meta") first) d + count_behind (chain_at (search_for (codes "meta") first) d).answer
+    let rest : (first : ℕ)
+    → total (and_then (chain_at (search_for (codes "meta") first) d) (λ meta. heif_in_meta meta d)).marks ≤ 4
+    + 20 * (records (search_for (codes "meta") first) d + count_behind
+    (chain_at (search_for (codes "meta") first) d).answer
     (λ meta. boxes_in_meta meta d)) =
     λ first. let reads = chain_at (search_for (codes "meta") first) d in
     omega (
@@ -492,7 +445,8 @@ heif_cost d =
     ) in
     omega (
       arith,
-      begun_cost 20 (span_of d 0 4) (number_at d Big 0 4) (λ first. and_then (chain_at (search_for (codes "meta") first) d)
+      begun_cost 20 (span_of d 0 4) (number_at d Big 0 4)
+          (λ first. and_then (chain_at (search_for (codes "meta") first) d)
           (λ meta. heif_in_meta meta d)) (λ first. records (search_for (codes "meta") first) d + count_behind
           (chain_at (search_for (codes "meta") first) d).answer (λ meta. boxes_in_meta meta d)) 4 4
           (total-span_of d 0 4) rest,
@@ -502,9 +456,14 @@ heif_cost d =
 abbrev behind_head : FoundBox → Option ℕ
 behind_head found = Some (found.place + 8)
 
-search_spends : (tag : List ℕ) (first : ℕ) (d : List ℕ) → Spends (length d) first behind_head (chain_at (search_for tag first) d)
+search_spends : (tag : List ℕ) (first : ℕ) (d : List ℕ)
+    → Spends (length d) first behind_head (chain_at (search_for tag first) d)
 search_spends tag first d = chain_onto (search_for tag first) d behind_head (search_advances tag first d)
-    (λ held q. (omega arith, λ head. by_searched (Onto (said_to behind_head) (q + 8)) tag q head (omega arith) tt (λ big. omega arith)))
+    (λ held q. (
+      omega arith,
+      λ head. by_searched (Onto (said_to behind_head) (q + 8)) tag q head (omega arith) tt
+          (λ big. omega arith),
+    ))
 
 -- what goes on nowhere
 abbrev ends : ImageSize → Option ℕ
@@ -515,7 +474,8 @@ properties_spend all place d = chain_onto (properties all place) d ends (propert
     (λ held q. (
       omega arith,
       λ bs. by_listed (Onto (said_to ends) (q + 8)) held (all - sum_by skipped_bytes held) q (whole 8 bs)
-          (λ e. tt) (λ size. tt) (omega arith, λ content. omega arith) (omega arith, λ content. omega arith) (λ size big. omega arith),
+          (λ e. tt) (λ size. tt) (omega arith, λ content. omega arith) (omega arith, λ content. omega arith)
+          (λ size big. omega arith),
     ))
 
 version_spends : (d : List ℕ) (place : ℕ) (r : Result (List ℕ) Halt) → total (span_of d place 4) + left (length d)
@@ -525,11 +485,13 @@ version_spends d place (Err e) = omega (arith, total_behind d place 4)
 
 in_iprp_spends : (iprp : FoundBox) (d : List ℕ) → Spends (length d) (iprp.place + 8) ends (heif_in_iprp iprp d)
 in_iprp_spends iprp d = spends_then (length d) (iprp.place + 8) (λ ipco. ipco.place + 8) ends
-    (chain_at (search_for (codes "ipco") (iprp.place + 8)) d) (λ ipco. chain_at (properties ipco.size (ipco.place + 8)) d)
+    (chain_at (search_for (codes "ipco") (iprp.place + 8)) d)
+    (λ ipco. chain_at (properties ipco.size (ipco.place + 8)) d)
     (search_spends (codes "ipco") (iprp.place + 8) d) (λ ipco _. properties_spend ipco.size (ipco.place + 8) d)
 
 in_meta_spends : (meta : FoundBox) (d : List ℕ) → Spends (length d) (meta.place + 8) ends (heif_in_meta meta d)
-in_meta_spends meta d = spends_then (length d) (meta.place + 8) (λ version. meta.place + 8 + 4) ends (bytes_read d (meta.place + 8) 4)
+in_meta_spends meta d =
+    spends_then (length d) (meta.place + 8) (λ version. meta.place + 8 + 4) ends (bytes_read d (meta.place + 8) 4)
     (λ version. and_then (chain_at (search_for (codes "iprp") (meta.place + 12)) d) (λ iprp. heif_in_iprp iprp d))
     (version_spends d (meta.place + 8) (bytes_at d (meta.place + 8) 4))
     (λ version _. let here : meta.place + 8 + 4 ≡ meta.place + 12 = omega arith in
@@ -541,7 +503,8 @@ in_meta_spends meta d = spends_then (length d) (meta.place + 8) (λ version. met
 pub heif_within : (d : List ℕ) → 24 + total (heif d).marks ≤ length d + 28
 heif_within d = omega (
   arith,
-  then_within (number_read d Big 0 4) (λ first. and_then (chain_at (search_for (codes "meta") first) d) (λ meta. heif_in_meta meta d)) 4
+  then_within (number_read d Big 0 4)
+      (λ first. and_then (chain_at (search_for (codes "meta") first) d) (λ meta. heif_in_meta meta d)) 4
       (length d) (total-span_of d 0 4)
       (λ first _. omega (
         arith,

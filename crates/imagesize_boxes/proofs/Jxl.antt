@@ -41,14 +41,17 @@ content_ahead q held place head before sized =
     tt
     (λ enough. (
       before,
-      λ index. by_piece (Ahead (place + head.length + 4)) (place + (head.length + 4)) (min (box_room head - 4) (16 - length held))
+      λ index. by_piece (Ahead (place + head.length + 4)) (place + (head.length + 4))
+          (min (box_room head - 4) (16 - length held))
           (λ piece. done (partial_said held place head index piece))
-          (λ _. by_partial (End (place + head.length + 4)) held place head index [] tt (λ closed. let is = box_sized head closed in
+          (λ _. by_partial (End (place + head.length + 4)) held place head index [] tt
+          (λ closed. let is = box_sized head closed in
           let fits = sized closed in omega arith))
           (λ some. (
             omega arith,
             λ piece. by_partial (End (place + (head.length + 4) + min (box_room head - 4) (16 - length held))) held
-                place head index piece tt (λ closed. let is = box_sized head closed in let fits = sized closed in omega arith),
+                place head index piece tt
+                (λ closed. let is = box_sized head closed in let fits = sized closed in omega arith),
           )),
     ))
     (by_end (End q) held place head [] tt (λ closed. let fits = sized closed in omega arith))
@@ -59,14 +62,18 @@ box_ahead held place = (
   omega arith,
   λ front. by_head (Ahead (place + 8)) place front (box_content held place) (
     omega arith,
-    λ size. by_checked (Ahead (place + 8 + 8)) place (record { tag = drop 4 front; size = size; length = 16 }) (box_content held place)
+    λ size. by_checked (Ahead (place + 8 + 8)) place (record { tag = drop 4 front; size = size; length = 16 })
+        (box_content held place)
         (λ e. tt)
-        (λ _ sized. content_ahead (place + 8 + 8) held place (record { tag = drop 4 front; size = size; length = 16 }) (omega arith)
+        (λ _ sized. content_ahead (place + 8 + 8) held place (record { tag = drop 4 front; size = size; length = 16 })
+        (omega arith)
         sized),
   )
-      (by_checked (Ahead (place + 8)) place (record { tag = drop 4 front; size = number Big (take 4 front); length = 8 })
+      (by_checked (Ahead (place + 8)) place
+      (record { tag = drop 4 front; size = number Big (take 4 front); length = 8 })
       (box_content held place) (λ e. tt)
-      (λ _ sized. content_ahead (place + 8) held place (record { tag = drop 4 front; size = number Big (take 4 front); length = 8 })
+      (λ _ sized. content_ahead (place + 8) held place
+      (record { tag = drop 4 front; size = number Big (take 4 front); length = 8 })
       (omega arith) sized)),
 )
 
@@ -85,7 +92,8 @@ start_bound None = 2
 start_costs : CostsBy start_bound 16 0 jxl_start
 start_costs = (
   omega arith,
-  λ front. on_test (CostsBy start_bound 16 2) (has_signature front) (bytes_there 2 14 (λ more. done (Some (front ++ more))))
+  λ front. on_test (CostsBy start_bound 16 2) (has_signature front)
+      (bytes_there 2 14 (λ more. done (Some (front ++ more))))
       (done None) (λ _ more. omega arith) (λ _. omega arith),
 )
 
@@ -93,16 +101,20 @@ start_costs = (
 pub jxl_within : (d : List ℕ) → 12 + total (jxl d).marks ≤ length d + 28
 jxl_within d =
     let boxes = chain_ahead jxl_chain d (jxl_advances d) (λ pieces place. box_ahead (concat pieces) place) in
-    let found = then_within (layout_reads d jxl_start) (codestream d) 16 (length d) (at_most d 16 jxl_start start_few) (λ o _. by_start o boxes) in
-    let all = then_within (jxl_codestream d) (λ front. record { answer = jxl_size front; marks = [] }) (16 + length d) 0 found
+    let found = then_within (layout_reads d jxl_start) (codestream d) 16 (length d) (at_most d 16 jxl_start start_few)
+    (λ o _. by_start o boxes) in
+    let all = then_within (jxl_codestream d) (λ front. record { answer = jxl_size front; marks = [] })
+    (16 + length d) 0 found
     (λ front _. omega arith) in
     omega arith where
-      by_start : (o : Option (List ℕ)) → total (chain_at jxl_chain d).marks ≤ length d - 12 → total (codestream d o).marks ≤ length d
+      by_start : (o : Option (List ℕ)) → total (chain_at jxl_chain d).marks ≤ length d - 12
+          → total (codestream d o).marks ≤ length d
       by_start None boxes = omega arith
       by_start (Some front) boxes = omega arith
 
 -- a box reads at most 32 bytes, and those that its piece may still have
-content_few : (held : List ℕ) (place : ℕ) (head : BoxHead) → AtMost (16 + (16 - length held)) (box_content held place head)
+content_few : (held : List ℕ) (place : ℕ) (head : BoxHead)
+    → AtMost (16 + (16 - length held)) (box_content held place head)
 content_few held place head =
     let k : ℕ = 16 + (16 - length held) in
     by_content (AtMost k) held place head
@@ -131,30 +143,36 @@ box_few held place =
             (box_content held place) (λ e. tt)
             (λ _ _. content (long - 8 - 8) (record { tag = drop 4 front; size = size; length = 16 }) (omega arith)),
       )
-          (by_checked (AtMost (long - 8)) place (record { tag = drop 4 front; size = number Big (take 4 front); length = 8 })
+          (by_checked (AtMost (long - 8)) place
+          (record { tag = drop 4 front; size = number Big (take 4 front); length = 8 })
           (box_content held place) (λ e. tt)
-          (λ _ _. content (long - 8) (record { tag = drop 4 front; size = number Big (take 4 front); length = 8 }) (omega arith))),
+          (λ _ _. content (long - 8) (record { tag = drop 4 front; size = number Big (take 4 front); length = 8 })
+          (omega arith))),
     )
 
 -- what is seen of an input
 local_behind : (found : Option (List ℕ)) → IsLocal false (λ d. codestream d found)
 local_behind None = local_chain jxl_chain jxl_advances
-    (λ pieces place. without_texts false (32 + (16 - length (concat pieces))) (jxl_box (concat pieces) place) (box_few (concat pieces) place))
+    (λ pieces place. without_texts false (32 + (16 - length (concat pieces))) (jxl_box (concat pieces) place)
+    (box_few (concat pieces) place))
 local_behind (Some front) = λ d e long. inl refl
 
 pub jxl_local : IsLocal false jxl
 jxl_local = local_then jxl_codestream (λ front d. record { answer = jxl_size front; marks = [] })
-    (local_then (λ d. layout_reads d jxl_start) (λ found d. codestream d found) (local_layout jxl_start (without_texts false 16 jxl_start start_few))
+    (local_then (λ d. layout_reads d jxl_start) (λ found d. codestream d found)
+    (local_layout jxl_start (without_texts false 16 jxl_start start_few))
     local_behind)
     (λ front d e long. inl refl)
 
 -- Behind u bytes: where it leads to a next box, it has read at most 20 bytes and its piece, for which there is room.
 Lean : ℕ → List ℕ → Reads (Said (List ℕ) (List ℕ)) → Type 0
-Lean u held r = (piece : List ℕ) (place : ℕ) → r.answer ≡ Ok (Next piece place) → (u + total r.marks ≤ 20 + length piece)
+Lean u held r = (piece : List ℕ) (place : ℕ) → r.answer ≡ Ok (Next piece place)
+    → (u + total r.marks ≤ 20 + length piece)
     × (length piece ≤ 16 - length held)
 
 lean_onward : {Y : Type 0} (u n : ℕ) (held : List ℕ) (spans : List Span) (r : Result Y Halt)
-    (f : Y → Reads (Said (List ℕ) (List ℕ))) → total spans ≤ n → ((y : Y) → Lean (u + n) held (f y)) → Lean u held (go_on spans r f)
+    (f : Y → Reads (Said (List ℕ) (List ℕ))) → total spans ≤ n → ((y : Y) → Lean (u + n) held (f y))
+    → Lean u held (go_on spans r f)
 unfolding Lean
 lean_onward u n held spans (Ok y) f few each piece place is = let rest = each y piece place is in
     (omega (arith, rest.0, total-append spans (f y).marks), rest.1)
@@ -171,36 +189,45 @@ lean_said u held spans s piece same few seen fits found place is =
     let all = total-append spans [] in
     (omega arith, omega arith)
 
-end_piece : (held : List ℕ) (at : ℕ) (head : BoxHead) (piece found : List ℕ) (place : ℕ) → said_behind held at head piece
+end_piece : (held : List ℕ) (at : ℕ) (head : BoxHead) (piece found : List ℕ) (place : ℕ)
+    → said_behind held at head piece
     ≡ Next found place → found ≡ piece
-end_piece held at head piece found place = by_end (λ s. s ≡ Next found place → found ≡ piece) held at head piece (λ is. absurd cc)
+end_piece held at head piece found place =
+    by_end (λ s. s ≡ Next found place → found ≡ piece) held at head piece (λ is. absurd cc)
     (λ _ is. cc)
 
 partial_piece : (held : List ℕ) (at : ℕ) (head : BoxHead) (index piece found : List ℕ) (place : ℕ)
     → partial_said held at head index piece ≡ Next found place → found ≡ piece
-partial_piece held at head index piece found place = by_partial (λ s. s ≡ Next found place → found ≡ piece) held at head index piece
+partial_piece held at head index piece found place =
+    by_partial (λ s. s ≡ Next found place → found ≡ piece) held at head index piece
     (λ is. absurd cc) (λ _ is. cc)
 
 module _ (d : List ℕ) where
-  content_lean : (u : ℕ) (held : List ℕ) (place : ℕ) (head : BoxHead) → u ≤ 16 → Lean u held (layout_reads d (box_content held place head))
+  content_lean : (u : ℕ) (held : List ℕ) (place : ℕ) (head : BoxHead) → u ≤ 16
+      → Lean u held (layout_reads d (box_content held place head))
   unfolding Lean
   content_lean u held place head few =
       let P : BoxSays → Type 0 = λ t. Lean u held (layout_reads d t) in
       by_content P held place head
-      (by_piece P (place + head.length) (min 16 (box_room head)) (λ front. done (Decided front)) (λ _ piece next is. absurd cc)
+      (by_piece P (place + head.length) (min 16 (box_room head)) (λ front. done (Decided front))
+      (λ _ piece next is. absurd cc)
       (λ _ piece next is. absurd cc))
       (λ piece next is. absurd cc)
       (λ _. lean_onward u 4 held (span_of d (place + head.length) 4) (bytes_at d (place + head.length) 4) _
       (total-span_of d (place + head.length) 4)
-      (λ index. by_piece (λ t. Lean (u + 4) held (layout_reads d t)) (place + (head.length + 4)) (min (box_room head - 4) (16 - length held))
+      (λ index. by_piece (λ t. Lean (u + 4) held (layout_reads d t)) (place + (head.length + 4))
+      (min (box_room head - 4) (16 - length held))
       (λ piece. done (partial_said held place head index piece))
-      (λ _. lean_said (u + 4) held [] (partial_said held place head index []) [] (λ found next is. partial_piece held place head index []
+      (λ _. lean_said (u + 4) held [] (partial_said held place head index []) []
+      (λ found next is. partial_piece held place head index []
       found next is) (omega arith) (omega arith) (omega arith))
       (λ _. let q : ℕ = place + (head.length + 4) in let k : ℕ = min (box_room head - 4) (16 - length held) in
       let few_of = total-span_of d q k in let seen = total_behind d q k in let long = part_length d q k in
       lean_said (u + 4) held (span_of d q k) (partial_said held place head index (part d q k)) (part d q k)
-      (λ found next is. partial_piece held place head index (part d q k) found next is) (omega arith) (omega arith) (omega arith))))
-      (lean_said u held [] (said_behind held place head []) [] (λ found next is. end_piece held place head [] found next is)
+      (λ found next is. partial_piece held place head index (part d q k) found next is) (omega arith) (omega arith)
+      (omega arith))))
+      (lean_said u held [] (said_behind held place head []) []
+      (λ found next is. end_piece held place head [] found next is)
       (omega arith) (omega arith) (omega arith))
 
   box_lean : (held : List ℕ) (place : ℕ) → Lean 0 held (layout_reads d (jxl_box held place))
@@ -209,18 +236,22 @@ module _ (d : List ℕ) where
       lean_onward 0 8 held (span_of d place 8) (bytes_at d place 8) _ (total-span_of d place 8)
       (λ front. by_head (λ t. Lean 8 held (layout_reads d t)) place front (box_content held place)
       (lean_onward 8 8 held (span_of d (place + 8) 8) (number_at d Big (place + 8) 8) _ (total-span_of d (place + 8) 8)
-      (λ size. by_checked (λ t. Lean 16 held (layout_reads d t)) place (record { tag = drop 4 front; size = size; length = 16 })
+      (λ size. by_checked (λ t. Lean 16 held (layout_reads d t)) place
+      (record { tag = drop 4 front; size = size; length = 16 })
       (box_content held place) (λ e piece next is. absurd cc)
       (λ _ _. content_lean 16 held place (record { tag = drop 4 front; size = size; length = 16 }) (omega arith))))
-      (by_checked (λ t. Lean 8 held (layout_reads d t)) place (record { tag = drop 4 front; size = number Big (take 4 front); length = 8 })
+      (by_checked (λ t. Lean 8 held (layout_reads d t)) place
+      (record { tag = drop 4 front; size = number Big (take 4 front); length = 8 })
       (box_content held place) (λ e piece next is. absurd cc)
-      (λ _ _. content_lean 8 held place (record { tag = drop 4 front; size = number Big (take 4 front); length = 8 }) (omega arith))))
+      (λ _ _. content_lean 8 held place (record { tag = drop 4 front; size = number Big (take 4 front); length = 8 })
+      (omega arith))))
 
   -- the pieces together have at most 16 bytes, and the last box reads at most 12 more
   boxes_lean : (t : Along (List ℕ)) → total (chain_from jxl_chain d t).marks ≤ 20 * records_from jxl_chain d t + 12
       + (16 - length (concat t.held))
   unfolding Lean
-  boxes_lean = chain_induction jxl_chain d (λ t. total (chain_from jxl_chain d t).marks ≤ 20 * records_from jxl_chain d t + 12
+  boxes_lean = chain_induction jxl_chain d
+      (λ t. total (chain_from jxl_chain d t).marks ≤ 20 * records_from jxl_chain d t + 12
       + (16 - length (concat t.held))) (jxl_advances d)
       (λ t v place is later.
       let u : Along (List ℕ) = record { held = t.held ++ v ∷ []; place = place } in
@@ -231,17 +262,21 @@ module _ (d : List ℕ) where
       let here = box_lean (concat t.held) t.place v place is in
       let few = here.0 in let fits = here.1 in
       let long : length (concat u.held) ≡ length (concat t.held) + length v =
-      ap length (concat-append t.held (v ∷ []) ∙ ap (λ rest. concat t.held ++ rest) (append-nil v)) ∙ length-append (concat t.held) v
+      ap length (concat-append t.held (v ∷ []) ∙ ap (λ rest. concat t.held ++ rest) (append-nil v))
+      ∙ length-append (concat t.held) v
       in
       omega arith)
       (λ t r is.
-      let all : total (chain_from jxl_chain d t).marks ≡ total (next_record jxl_chain d t).marks = ap (λ w. total w.marks)
+      let all : total (chain_from jxl_chain d t).marks ≡ total (next_record jxl_chain d t).marks =
+      ap (λ w. total w.marks)
       (chain_stop jxl_chain d t r is) in
       let one = records_stop jxl_chain d t r is in
-      let few = at_most d (32 + (16 - length (concat t.held))) (jxl_box (concat t.held) t.place) (box_few (concat t.held) t.place) in
+      let few = at_most d (32 + (16 - length (concat t.held))) (jxl_box (concat t.held) t.place)
+      (box_few (concat t.held) t.place) in
       omega arith)
 
-  begun_within : (found : Result (Option (List ℕ)) Halt) (spans : List Span) → total spans ≤ bound_of start_bound 16 found
+  begun_within : (found : Result (Option (List ℕ)) Halt) (spans : List Span)
+      → total spans ≤ bound_of start_bound 16 found
       → total (go_on spans found (codestream d)).marks ≤ 30 + 20 * count_behind found (boxes_behind d)
   begun_within (Ok None) spans few = let boxes = boxes_lean (start jxl_chain) in let all = total-append spans
       (chain_at jxl_chain d).marks in omega arith
@@ -251,8 +286,10 @@ module _ (d : List ℕ) where
 -- a box is read from at most 20 bytes and its piece
 pub jxl_cost : (d : List ℕ) → 12 + total (jxl d).marks ≤ 45 + 20 * jxl_boxes d
 jxl_cost d =
-    let found = begun_within d (layout_reads d jxl_start).answer (layout_reads d jxl_start).marks (omega (arith, costs start_bound 16 0 d jxl_start start_costs)) in
-    let all = then_within (jxl_codestream d) (λ front. record { answer = jxl_size front; marks = [] }) (30 + 20 * jxl_boxes d) 0 found
+    let found = begun_within d (layout_reads d jxl_start).answer (layout_reads d jxl_start).marks
+    (omega (arith, costs start_bound 16 0 d jxl_start start_costs)) in
+    let all = then_within (jxl_codestream d) (λ front. record { answer = jxl_size front; marks = [] })
+    (30 + 20 * jxl_boxes d) 0 found
     (λ front _. omega arith) in
     omega arith
 

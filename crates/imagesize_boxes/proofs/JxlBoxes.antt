@@ -1,10 +1,9 @@
 -- JPEG XL: the ways that a box can go, how a walk along the boxes goes, and the size by what it found.
-use Rattle.std.proofs.Common.{◌≡◌, ℕ, ◌+◌, ◌-◌, ◌*◌, ◌^◌, ◌<◌, ◌≤◌, true, false, cond, eqb, leb, ltb, not, ◌&&◌, ◌||◌, codes, take, drop, min, slice_index, List, [], ◌∷◌, ◌++◌, length, get_or, Option, None, Some, Result, Ok, Err, refl, sym, ap, ◌∙◌, subst, arith}
+use Rattle.std.proofs.Common.{◌≡◌, ℕ, ◌+◌, ◌-◌, ◌*◌, ◌^◌, ◌<◌, ◌≤◌, true, false, cond, eqb, leb, ltb, not, ◌&&◌, ◌||◌, codes, take, drop, min, slice_index, List, [], ◌∷◌, ◌++◌, length, get_or, Result, Ok, Err, refl, sym, ap, ◌∙◌, arith}
 use Rattle.std.proofs.lemmas.Bool.Decides.{nat_tests}
 use Rattle.std.proofs.lemmas.List.{append-nil, length-take, length-take-le, get_or-take}
 use Rattle.std.proofs.lemmas.List.Folds.{concat-append}
 use Rattle.std.specs.List.{concat}
-use Rattle.std.specs.Option.{ok_or}
 use Rattle.imagesize_boxes.specs.declared.formats.jxl.boxes.BoxHead.{BoxHead}
 use Rattle.imagesize_boxes.specs.Fields.{Fields, found, bits, binary, bits_of, field_at, with_found, found_by}
 use Rattle.imagesize_boxes.specs.Walks.{field_in, found_in}
@@ -14,17 +13,16 @@ use Rattle.imagesize_types.specs.Head.{begins}
 use Rattle.imagesize_types.specs.declared.size.ImageSize.{ImageSize}
 use Rattle.imagesize_source.specs.declared.halt.Halt.{Halt}
 use Rattle.imagesize_source.specs.declared.halt.Halt.TheVariants.{Corrupted, Ended, InvalidJxlBoxSize, InvalidJxlSignature}
-use Rattle.imagesize_source.specs.Chain.{Said, Decided, Next, Advances, chain_at}
+use Rattle.imagesize_source.specs.Chain.{Said, Decided, Next, Advances}
 use Rattle.imagesize_source.specs.Layout.{Layout, layout_reads, bind, bytes, bytes_there, accept}
 use Rattle.imagesize_source.specs.Layout.Layout.{field, refuse, done}
-use Rattle.imagesize_source.specs.Reading.{is_failure}
+use Rattle.imagesize_source.specs.Reading.{is_failure, refuses}
 use Rattle.imagesize_source.specs.State.{State, Runs, EndedBy, IsSound}
 use Rattle.imagesize_source.proofs.Advances.{Tells, advances}
 use Rattle.imagesize_source.proofs.Reached.{reads_nothing}
+use Rattle.imagesize_source.proofs.PastTheEnd.{bytes_beyond}
 use Rattle.imagesize_source.proofs.Runs.{runs_then}
 use Rattle.imagesize_source.proofs.Tests.{on_test}
-use Rattle.imagesize_source.proofs.Walks.{Walks, walks_start, walks_on, walks_stop, walks_out}
-use Rattle.imagesize_source.specs.declared.halt.Halt.TheVariants as halt
 use Rattle.imagesize_source.specs.declared.endian.Endian.TheVariants.{Little, Big}
 use Rattle.imagesize_source.specs.Numbers.{number, little}
 
@@ -37,7 +35,8 @@ size_short all len short = let long = length-take len all in let test : ltb (len
 taken_signature : (all : List ℕ) (len : ℕ) → 2 ≤ len → has_signature (take len all) ≡ has_signature all
 taken_signature all len enough = rw (get_or-take len all 0 0 (omega arith), get_or-take len all 1 0 (omega arith)) refl
 
-pub size_unsigned : (all : List ℕ) (len : ℕ) → 2 ≤ len → len ≤ length all → has_signature all ≡ false → jxl_size (take len all)
+pub size_unsigned : (all : List ℕ) (len : ℕ) → 2 ≤ len → len ≤ length all → has_signature all ≡ false
+    → jxl_size (take len all)
     ≡ Err InvalidJxlSignature
 unfolding jxl_size
 size_unsigned all len enough within other =
@@ -47,15 +46,18 @@ size_unsigned all len enough within other =
     rw (test, sign) refl
 
 pub size_signed : (all : List ℕ) (len n count : ℕ) → 2 ≤ len → len ≤ length all → has_signature all ≡ true
-    → ((i : ℕ) → get_or all i 0 < 256) → n ≡ number Little all → count ≡ 8 * len → jxl_size (take len all) ≡ found_in n count jxl_header
+    → ((i : ℕ) → get_or all i 0 < 256) → n ≡ number Little all → count ≡ 8 * len
+    → jxl_size (take len all) ≡ found_in n count jxl_header
 unfolding jxl_size number
 size_signed all len n count enough within is small sums counts =
     let long = length-take-le len all within in
     let test : ltb (length (take len all)) 2 ≡ false = grind (arith, nat_tests) in
     let sign : has_signature (take len all) ≡ true = taken_signature all len enough ∙ is in
-    let here : jxl_size (take len all) ≡ found_by (field_at (bits_of (take len all))) jxl_header = rw (test, sign) refl in
+    let here : jxl_size (take len all) ≡ found_by (field_at (bits_of (take len all))) jxl_header =
+    rw (test, sign) refl in
     here
-    ∙ found_alike (field_at (bits_of (take len all))) (field_in (little all) (8 * len)) jxl_header (field_front all len small within)
+    ∙ found_alike (field_at (bits_of (take len all))) (field_in (little all) (8 * len)) jxl_header
+    (field_front all len small within)
     ∙ ap (λ m. found_in m (8 * len) jxl_header) (sym sums)
     ∙ ap (λ k. found_in n k jxl_header) (sym counts)
 
@@ -64,63 +66,82 @@ size_signed all len n count enough within is small sums counts =
 abbrev pub BoxSays : Type 0
 BoxSays = Layout (Said (List ℕ) (List ℕ))
 
-pub by_checked : (P : BoxSays → Type 0) (place : ℕ) (head : BoxHead) (f : BoxHead → BoxSays) → ((e : Halt) → P (refuse e))
-    → (place + head.size < 2 ^ 64 → (0 < head.size → head.length ≤ head.size) → P (f head)) → P (bind (accept (box_checked place head) done) f)
+pub by_checked : (P : BoxSays → Type 0) (place : ℕ) (head : BoxHead) (f : BoxHead → BoxSays)
+    → ((e : Halt) → P (refuse e))
+    → (place + head.size < 2 ^ 64 → (0 < head.size → head.length ≤ head.size) → P (f head))
+    → P (bind (accept (box_checked place head) done) f)
 by_checked P place head f out on =
-    on_test (λ r. P (bind (accept r done) f)) (ltb (2 ^ 64 - 1) (place + head.size)) (Err Corrupted) _ (λ _. out Corrupted)
+    on_test (λ r. P (bind (accept r done) f)) (ltb (2 ^ 64 - 1) (place + head.size)) (Err Corrupted) _
+    (λ _. out Corrupted)
     (λ within. on_test (λ r. P (bind (accept r done) f)) (not (eqb head.size 0) && ltb head.size head.length)
-    (Err (InvalidJxlBoxSize head.size (number Big head.tag))) (Ok head) (λ _. out (InvalidJxlBoxSize head.size (number Big head.tag)))
+    (Err (InvalidJxlBoxSize head.size (number Big head.tag))) (Ok head)
+    (λ _. out (InvalidJxlBoxSize head.size (number Big head.tag)))
     (λ whole. on (grind (arith, nat_tests)) (λ some. grind (arith, nat_tests))))
 
 pub by_head : (P : BoxSays → Type 0) (place : ℕ) (front : List ℕ) (f : BoxHead → BoxSays)
-    → P (field Big (place + 8) 8 (λ size. bind (accept (box_checked place (record { tag = drop 4 front; size = size; length = 16 })) done) f))
-    → P (bind (accept (box_checked place (record { tag = drop 4 front; size = number Big (take 4 front); length = 8 })) done) f)
+    → P (field Big (place + 8) 8
+    (λ size. bind (accept (box_checked place (record { tag = drop 4 front; size = size; length = 16 })) done) f))
+    → P (bind (accept (box_checked place
+    (record { tag = drop 4 front; size = number Big (take 4 front); length = 8 })) done) f)
     → P (bind (cond (eqb (number Big (take 4 front)) 1)
-    (field Big (place + 8) 8 (λ size. accept (box_checked place (record { tag = drop 4 front; size = size; length = 16 })) done))
+    (field Big (place + 8) 8
+    (λ size. accept (box_checked place (record { tag = drop 4 front; size = size; length = 16 })) done))
     (accept (box_checked place (record { tag = drop 4 front; size = number Big (take 4 front); length = 8 })) done)) f)
 by_head P place front f long short =
     on_test (λ t. P (bind t f)) (eqb (number Big (take 4 front)) 1)
-    (field Big (place + 8) 8 (λ size. accept (box_checked place (record { tag = drop 4 front; size = size; length = 16 })) done))
+    (field Big (place + 8) 8
+    (λ size. accept (box_checked place (record { tag = drop 4 front; size = size; length = 16 })) done))
     (accept (box_checked place (record { tag = drop 4 front; size = number Big (take 4 front); length = 8 })) done)
     (λ _. long) (λ _. short)
 
-pub by_piece : (P : BoxSays → Type 0) (place k : ℕ) (f : List ℕ → BoxSays) → (k ≡ 0 → P (f [])) → (0 < k → P (bytes_there place k f))
+pub by_piece : (P : BoxSays → Type 0) (place k : ℕ) (f : List ℕ → BoxSays) → (k ≡ 0 → P (f []))
+    → (0 < k → P (bytes_there place k f))
     → P (bind (piece_at place k) f)
 unfolding piece_at
 by_piece P place k f none some =
-    on_test (λ t. P (bind t f)) (eqb k 0) (done []) (bytes_there place k (λ piece. done piece)) (λ is. none (grind (arith, nat_tests)))
+    on_test (λ t. P (bind t f)) (eqb k 0) (done []) (bytes_there place k (λ piece. done piece))
+    (λ is. none (grind (arith, nat_tests)))
     (λ is. some (grind (arith, nat_tests)))
 
 pub by_end : (P : Said (List ℕ) (List ℕ) → Type 0) (held : List ℕ) (place : ℕ) (head : BoxHead) (piece : List ℕ)
-    → P (Decided (held ++ piece)) → (0 < head.size → P (Next piece (place + head.size))) → P (said_behind held place head piece)
-by_end P held place head piece last next = on_test P (eqb head.size 0) (Decided (held ++ piece)) (Next piece (place + head.size))
+    → P (Decided (held ++ piece)) → (0 < head.size → P (Next piece (place + head.size)))
+    → P (said_behind held place head piece)
+by_end P held place head piece last next =
+    on_test P (eqb head.size 0) (Decided (held ++ piece)) (Next piece (place + head.size))
     (λ _. last) (λ is. next (grind (arith, nat_tests)))
 
-pub by_partial : (P : Said (List ℕ) (List ℕ) → Type 0) (held : List ℕ) (place : ℕ) (head : BoxHead) (index piece : List ℕ)
-    → P (Decided (held ++ piece)) → (0 < head.size → P (Next piece (place + head.size))) → P (partial_said held place head index piece)
+pub by_partial : (P : Said (List ℕ) (List ℕ) → Type 0) (held : List ℕ) (place : ℕ) (head : BoxHead)
+    (index piece : List ℕ)
+    → P (Decided (held ++ piece)) → (0 < head.size → P (Next piece (place + head.size)))
+    → P (partial_said held place head index piece)
 by_partial P held place head index piece last next =
     on_test P (eqb (length held + length piece) 16 || leb 0x80 (slice_index index 0)) (Decided (held ++ piece))
     (said_behind held place head piece) (λ _. last)
     (λ _. by_end P held place head piece last next)
 
-pub by_content : (P : BoxSays → Type 0) (held : List ℕ) (place : ℕ) (head : BoxHead) → P (codestream_box place head) → P (refuse Ended)
+pub by_content : (P : BoxSays → Type 0) (held : List ℕ) (place : ℕ) (head : BoxHead) → P (codestream_box place head)
+    → P (refuse Ended)
     → (4 ≤ box_room head → P (bytes (place + head.length) 4
     (λ index. bind (piece_at (place + (head.length + 4)) (min (box_room head - 4) (16 - length held)))
     (λ piece. done (partial_said held place head index piece)))))
     → P (done (said_behind held place head [])) → P (box_content held place head)
 by_content P held place head whole none partial other =
     on_test P (begins (codes "jxlc") head.tag) (codestream_box place head) _ (λ _. whole)
-    (λ _. on_test P (begins (codes "jxlp") head.tag) (partial_box held place head) (done (said_behind held place head []))
-    (λ _. on_test P (ltb (box_room head) 4) (refuse Ended) _ (λ _. none) (λ is. partial (grind (arith, nat_tests)))) (λ _. other))
+    (λ _. on_test P (begins (codes "jxlp") head.tag) (partial_box held place head)
+    (done (said_behind held place head []))
+    (λ _. on_test P (ltb (box_room head) 4) (refuse Ended) _ (λ _. none) (λ is. partial (grind (arith, nat_tests))))
+    (λ _. other))
 
 content_tells : (held : List ℕ) (place : ℕ) (head : BoxHead) → Tells (λ p. place < p) (box_content held place head)
 content_tells held place head =
     let End : Said (List ℕ) (List ℕ) → Type 0 = λ s. Tells (λ p. place < p) (done s) in
     by_content (Tells (λ p. place < p)) held place head
-    (by_piece (Tells (λ p. place < p)) (place + head.length) (min 16 (box_room head)) (λ front. done (Decided front)) (λ _. tt)
+    (by_piece (Tells (λ p. place < p)) (place + head.length) (min 16 (box_room head)) (λ front. done (Decided front))
+    (λ _. tt)
     (λ _ front. tt))
     tt
-    (λ _ index. by_piece (Tells (λ p. place < p)) (place + (head.length + 4)) (min (box_room head - 4) (16 - length held))
+    (λ _ index. by_piece (Tells (λ p. place < p)) (place + (head.length + 4))
+    (min (box_room head - 4) (16 - length held))
     (λ piece. done (partial_said held place head index piece))
     (λ _. by_partial End held place head index [] tt (λ some. omega arith))
     (λ _ piece. by_partial End held place head index piece tt (λ some. omega arith)))
@@ -133,38 +154,28 @@ jxl_advances = advances jxl_chain
     (λ size. by_checked (Tells (λ p. place < p)) place (record { tag = drop 4 front; size = size; length = 16 })
     (box_content (concat pieces) place) (λ e. tt) (λ _ _. content_tells (concat pieces) place
     (record { tag = drop 4 front; size = size; length = 16 })))
-    (by_checked (Tells (λ p. place < p)) place (record { tag = drop 4 front; size = number Big (take 4 front); length = 8 })
+    (by_checked (Tells (λ p. place < p)) place
+    (record { tag = drop 4 front; size = number Big (take 4 front); length = 8 })
     (box_content (concat pieces) place) (λ e. tt) (λ _ _. content_tells (concat pieces) place
     (record { tag = drop 4 front; size = number Big (take 4 front); length = 8 }))))
     (λ pieces place. (omega arith, omega arith))
 
--- how far a walk has come: behind boxes with these bytes
-abbrev pub JxlWalks : State → State → ℕ → List ℕ → Type 0
-JxlWalks a b place front = Walks jxl_chain (λ pieces. concat pieces ≡ front) a b place
+-- from the end of the input on no box begins
+pub boxes_end : (front : List ℕ) (d : List ℕ) (place : ℕ) → length d ≤ place
+    → layout_reads d (jxl_box front place) ≡ refuses Ended
+unfolding box_head
+boxes_end front d place far = bytes_beyond d place 8
+    (λ head. bind (cond (eqb (number Big (take 4 head)) 1)
+    (field Big (place + 8) 8
+    (λ size. accept (box_checked place (record { tag = drop 4 head; size = size; length = 16 })) done))
+    (accept (box_checked place (record { tag = drop 4 head; size = number Big (take 4 head); length = 8 })) done))
+    (λ head. box_content front place head)) far (omega arith)
 
-pub walk_start : (a : State) → JxlWalks a a 12 []
-walk_start a = walks_start jxl_chain (λ pieces. concat pieces ≡ []) a refl
-
-box_as : {b end : State} {r : Result (Said (List ℕ) (List ℕ)) Halt} (place : ℕ) (front : List ℕ)
-    → Runs b end r (layout_reads b.held.input (jxl_box front place)) → (pieces : List (List ℕ)) → concat pieces ≡ front
-    → Runs b end r (layout_reads b.held.input (jxl_box (concat pieces) place))
-box_as {b} {end} {r} place front run pieces is = subst (λ held. Runs b end r (layout_reads b.held.input (jxl_box held place))) (sym is) run
-
-pub walk_on : {a b end : State} (place next : ℕ) (front piece : List ℕ) → JxlWalks a b place front → Runs b end (Ok (Next piece next))
-    (layout_reads b.held.input (jxl_box front place)) → JxlWalks a end next (front ++ piece)
-walk_on place next front piece w run =
-    walks_on jxl_chain jxl_advances (λ pieces. concat pieces ≡ front) w (λ pieces. concat pieces ≡ front ++ piece) piece next
-    (box_as place front run)
-    (λ pieces is. concat-append pieces (piece ∷ []) ∙ ap (λ rest. concat pieces ++ rest) (append-nil piece) ∙ ap (λ held. held ++ piece)
-    is)
-
-pub walk_stop : {a b end : State} (place : ℕ) (front whole : List ℕ) → JxlWalks a b place front → Runs b end (Ok (Decided whole))
-    (layout_reads b.held.input (jxl_box front place)) → Runs a end (Ok whole) (chain_at jxl_chain a.held.input)
-walk_stop place front whole w run = walks_stop jxl_chain jxl_advances (λ pieces. concat pieces ≡ front) w whole (box_as place front run)
-
-pub walk_out : {a b end : State} (place : ℕ) (front : List ℕ) (e : Halt) → JxlWalks a b place front
-    → Runs b end (Err e) (layout_reads b.held.input (jxl_box front place)) → Runs {X = List ℕ} a end (Err e) (chain_at jxl_chain a.held.input)
-walk_out place front e w run = walks_out jxl_chain jxl_advances (λ pieces. concat pieces ≡ front) w e (box_as place front run)
+-- the bytes of the boxes so far, and of one more
+pub joined : (pieces : List (List ℕ)) (front piece : List ℕ) → concat pieces ≡ front
+    → concat (pieces ++ piece ∷ []) ≡ front ++ piece
+joined pieces front piece is = concat-append pieces (piece ∷ []) ∙ ap (λ rest. concat pieces ++ rest) (append-nil piece)
+    ∙ ap (λ held. held ++ piece) is
 
 -- The size by a codestream.
 
@@ -174,7 +185,7 @@ Plainly (Ok x) = Unit {0}
 Plainly (Err e) = (is_failure e ≡ false) × ((b : State) → EndedBy b e)
 
 plain_corrupted : Plainly {X = ℕ} (Err Corrupted)
-plain_corrupted = (refl, λ b. record { budget = λ e. absurd cc; memory = λ e. absurd cc; fault = λ e. absurd cc })
+plain_corrupted = (refl, λ b. record { budget = λ e. absurd cc; fault = λ e. absurd cc })
 
 plain_found : {X : Type 0} (list : List ℕ) (t : Fields X) → Plainly (found_by (field_at list) t)
 unfolding field_at
@@ -188,16 +199,19 @@ plain_size : (front : List ℕ) → Plainly (jxl_size front)
 unfolding jxl_size
 plain_size front =
     on_test Plainly (ltb (length front) 2) (Err Corrupted) _ (λ _. plain_corrupted)
-    (λ _. on_test Plainly (has_signature front) (found_by (field_at (bits_of front)) jxl_header) (Err InvalidJxlSignature)
+    (λ _. on_test Plainly (has_signature front) (found_by (field_at (bits_of front)) jxl_header)
+    (Err InvalidJxlSignature)
     (λ _. plain_found (bits_of front) jxl_header)
-    (λ _. (refl, λ b. record { budget = λ e. absurd cc; memory = λ e. absurd cc; fault = λ e. absurd cc })))
+    (λ _. (refl, λ b. record { budget = λ e. absurd cc; fault = λ e. absurd cc })))
 
-sized_by : {b : State} (r : Result ImageSize Halt) → IsSound b → Plainly r → Runs b b r (record { answer = r; marks = [] })
+sized_by : {b : State} (r : Result ImageSize Halt) → IsSound b → Plainly r
+    → Runs b b r (record { answer = r; marks = [] })
 sized_by {b} (Ok size) sound plain = reads_nothing b (Ok size) sound refl tt
 sized_by {b} (Err e) sound plain = reads_nothing b (Err e) sound plain.0 (plain.1 b)
 
 -- the size by a codestream that was found
-pub sized : {a b : State} (front : List ℕ) → Runs a b (Ok front) (jxl_codestream a.held.input) → Runs a b (jxl_size front)
+pub sized : {a b : State} (front : List ℕ) → Runs a b (Ok front) (jxl_codestream a.held.input)
+    → Runs a b (jxl_size front)
     (jxl a.held.input)
 sized {a} {b} front run =
     runs_then (jxl_codestream a.held.input) (λ found held. record { answer = jxl_size found; marks = [] }) run

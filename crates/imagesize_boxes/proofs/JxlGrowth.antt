@@ -43,18 +43,22 @@ grows_onward R spans more (Ok y) r' f g same each s is =
 grows_onward R spans more (Err e) r' f g same each s is = absurd cc
 
 grows_bytes : {X : Type 0} (R : X → X → Type 0) (d x : List ℕ) (place k : ℕ) (f : List ℕ → Layout X)
-    → ((bs : List ℕ) → Grows R (layout_reads d (f bs)) (layout_reads (d ++ x) (f bs))) → Grows R (layout_reads d (bytes place k f))
+    → ((bs : List ℕ) → Grows R (layout_reads d (f bs)) (layout_reads (d ++ x) (f bs)))
+    → Grows R (layout_reads d (bytes place k f))
     (layout_reads (d ++ x) (bytes place k f))
 grows_bytes R d x place k f each =
-    grows_onward R (span_of d place k) (span_of (d ++ x) place k) (bytes_at d place k) (bytes_at (d ++ x) place k) (λ bs. layout_reads d (f bs))
+    grows_onward R (span_of d place k) (span_of (d ++ x) place k) (bytes_at d place k) (bytes_at (d ++ x) place k)
+    (λ bs. layout_reads d (f bs))
     (λ bs. layout_reads (d ++ x) (f bs))
     (λ bs got. bytes_more d x place k (bytes_ok d bs place k got) ∙ got) each
 
 grows_field : {X : Type 0} (R : X → X → Type 0) (d x : List ℕ) (order : Endian) (place k : ℕ) (f : ℕ → Layout X)
-    → ((v : ℕ) → Grows R (layout_reads d (f v)) (layout_reads (d ++ x) (f v))) → Grows R (layout_reads d (field order place k f))
+    → ((v : ℕ) → Grows R (layout_reads d (f v)) (layout_reads (d ++ x) (f v)))
+    → Grows R (layout_reads d (field order place k f))
     (layout_reads (d ++ x) (field order place k f))
 grows_field R d x order place k f each =
-    grows_onward R (span_of d place k) (span_of (d ++ x) place k) (number_at d order place k) (number_at (d ++ x) order place k)
+    grows_onward R (span_of d place k) (span_of (d ++ x) place k) (number_at d order place k)
+    (number_at (d ++ x) order place k)
     (λ v. layout_reads d (f v)) (λ v. layout_reads (d ++ x) (f v))
     (λ v got. number_more d x order place k (number_ok d order place k v got) ∙ got) each
 
@@ -71,23 +75,29 @@ same_said n (Next piece place) = λ _. refl
 by_tests : (n place : ℕ) (held piece more : List ℕ) (ends ends_more opened : Bool) → (ends ≡ true → ends_more ≡ true)
     → (more ≡ [] → ends_more ≡ ends) → (opened ≡ false → place ≤ n → more ≡ [])
     → GoesOn n (cond ends (Decided (held ++ piece)) (cond opened (Decided (held ++ piece)) (Next piece place)))
-    (cond ends_more (Decided (held ++ (piece ++ more))) (cond opened (Decided (held ++ (piece ++ more))) (Next (piece ++ more) place)))
-by_tests n place held piece more true true opened stays same whole = (more, ap Decided (sym (append_assoc held piece more)))
+    (cond ends_more (Decided (held ++ (piece ++ more)))
+    (cond opened (Decided (held ++ (piece ++ more))) (Next (piece ++ more) place)))
+by_tests n place held piece more true true opened stays same whole =
+    (more, ap Decided (sym (append_assoc held piece more)))
 by_tests n place held piece more true false opened stays same whole = absurd (let no : false ≡ true = stays refl in cc)
-by_tests n place held piece more false true true stays same whole = (more, ap Decided (sym (append_assoc held piece more)))
-by_tests n place held piece more false false true stays same whole = (more, ap Decided (sym (append_assoc held piece more)))
+by_tests n place held piece more false true true stays same whole =
+    (more, ap Decided (sym (append_assoc held piece more)))
+by_tests n place held piece more false false true stays same whole =
+    (more, ap Decided (sym (append_assoc held piece more)))
 by_tests n place held piece more false true false stays same whole = λ within. absurd (let no : true ≡ false =
     same (whole refl within) in cc)
 by_tests n place held piece more false false false stays same whole = λ within. ap (λ p. Next p place)
     (ap (λ m. piece ++ m) (whole refl within) ∙ append-nil piece)
 
-partial_grows : (n place : ℕ) (held : List ℕ) (head : BoxHead) (index piece more : List ℕ) → length held + length (piece ++ more) ≤ 16
+partial_grows : (n place : ℕ) (held : List ℕ) (head : BoxHead) (index piece more : List ℕ)
+    → length held + length (piece ++ more) ≤ 16
     → (0 < head.size → place + head.size ≤ n → more ≡ []) → GoesOn n (partial_said held place head index piece)
     (partial_said held place head index (piece ++ more))
 partial_grows n place held head index piece more fits whole =
     let long = length-append piece more in
     by_tests n (place + head.size) held piece more
-    (eqb (length held + length piece) 16 || leb 0x80 (slice_index index 0)) (eqb (length held + length (piece ++ more)) 16 || leb 0x80
+    (eqb (length held + length piece) 16 || leb 0x80 (slice_index index 0))
+    (eqb (length held + length (piece ++ more)) 16 || leb 0x80
     (slice_index index 0)) (eqb head.size 0)
     (λ is. grind (arith, nat_tests))
     (λ none. ap (λ m. eqb (length held + length (piece ++ m)) 16 || leb 0x80 (slice_index index 0)) none
@@ -95,7 +105,8 @@ partial_grows n place held head index piece more fits whole =
     (λ is within. whole (grind (arith, nat_tests)) within)
 
 -- bytes that are all there do not go on
-none_more : (d x : List ℕ) (place k : ℕ) (more : List ℕ) → part (d ++ x) place k ≡ part d place k ++ more → k ≤ length d - place
+none_more : (d x : List ℕ) (place k : ℕ) (more : List ℕ) → part (d ++ x) place k ≡ part d place k ++ more
+    → k ≤ length d - place
     → more ≡ []
 none_more d x place k [] is all = refl
 none_more d x place k (b ∷ more) is all =
@@ -127,7 +138,8 @@ module _ (d x : List ℕ) where
       (λ piece. done (partial_said held place head index piece)))
       (λ index. by_piece Both (place + (head.length + 4)) (min (box_room head - 4) (16 - length held))
       (λ piece. done (partial_said held place head index piece))
-      (λ _. grows_given (GoesOn (length d)) (partial_said held place head index []) (partial_said held place head index [])
+      (λ _. grows_given (GoesOn (length d)) (partial_said held place head index [])
+      (partial_said held place head index [])
       (same_said (length d) (partial_said held place head index [])))
       (λ some. let q : ℕ = place + (head.length + 4) in let k : ℕ = min (box_room head - 4) (16 - length held) in
       let grown = part_grows d x q k in
@@ -136,10 +148,12 @@ module _ (d x : List ℕ) where
       let ends : 0 < head.size → box_room head ≡ head.size - head.length = λ closed. box_sized head closed in
       grows_given (GoesOn (length d)) (partial_said held place head index (part d q k))
       (partial_said held place head index (part (d ++ x) q k))
-      (subst (λ p. GoesOn (length d) (partial_said held place head index (part d q k)) (partial_said held place head index p))
+      (subst (λ p. GoesOn (length d) (partial_said held place head index (part d q k))
+      (partial_said held place head index p))
       (sym grown.1)
       (partial_grows (length d) place held head index (part d q k) grown.0 (omega arith)
-      (λ closed within. none_more d x q k grown.0 grown.1 (let is = ends closed in let fits = sized closed in omega arith)))))))
+      (λ closed within. none_more d x q k grown.0 grown.1
+      (let is = ends closed in let fits = sized closed in omega arith)))))))
       (grows_given (GoesOn (length d)) (said_behind held place head []) (said_behind held place head [])
       (same_said (length d) (said_behind held place head [])))
 
@@ -149,16 +163,20 @@ module _ (d x : List ℕ) where
   box_grows held place =
       grows_bytes (GoesOn (length d)) d x place 8
       (λ front. bind (cond (eqb (number Big (take 4 front)) 1)
-      (field Big (place + 8) 8 (λ size. accept (box_checked place (record { tag = drop 4 front; size = size; length = 16 })) done))
+      (field Big (place + 8) 8
+      (λ size. accept (box_checked place (record { tag = drop 4 front; size = size; length = 16 })) done))
       (accept (box_checked place (record { tag = drop 4 front; size = number Big (take 4 front); length = 8 })) done))
       (box_content held place))
       (λ front. by_head Both place front (box_content held place)
       (grows_field (GoesOn (length d)) d x Big (place + 8) 8
-      (λ size. bind (accept (box_checked place (record { tag = drop 4 front; size = size; length = 16 })) done) (box_content held place))
+      (λ size. bind (accept (box_checked place (record { tag = drop 4 front; size = size; length = 16 })) done)
+      (box_content held place))
       (λ size.
-      by_checked Both place (record { tag = drop 4 front; size = size; length = 16 }) (box_content held place) (λ e s is. absurd cc)
+      by_checked Both place (record { tag = drop 4 front; size = size; length = 16 }) (box_content held place)
+      (λ e s is. absurd cc)
       (λ _ sized. content_grows held place (record { tag = drop 4 front; size = size; length = 16 }) sized)))
-      (by_checked Both place (record { tag = drop 4 front; size = number Big (take 4 front); length = 8 }) (box_content held place)
+      (by_checked Both place (record { tag = drop 4 front; size = number Big (take 4 front); length = 8 })
+      (box_content held place)
       (λ e s is. absurd cc) (λ _ sized. content_grows held place (record {
         tag = drop 4 front;
         size = number Big (take 4 front);
@@ -174,7 +192,8 @@ unfolding box_head
 box_gone d t gone =
     let out = bytes_beyond d t.place 8
     (λ front. bind (cond (eqb (number Big (take 4 front)) 1)
-    (field Big (t.place + 8) 8 (λ size. accept (box_checked t.place (record { tag = drop 4 front; size = size; length = 16 })) done))
+    (field Big (t.place + 8) 8
+    (λ size. accept (box_checked t.place (record { tag = drop 4 front; size = size; length = 16 })) done))
     (accept (box_checked t.place (record { tag = drop 4 front; size = number Big (take 4 front); length = 8 })) done))
     (box_content (concat t.held) t.place)) gone (omega arith) in
     chain_stop jxl_chain d t (Err Ended) (ap (λ r. verdict r.answer) out) ∙ ap (λ r. record {
@@ -183,14 +202,16 @@ box_gone d t gone =
           r.marks;
     }) out
 
-box_there : (d : List ℕ) (t : Along (List ℕ)) (front : List ℕ) → (chain_from jxl_chain d t).answer ≡ Ok front → (within : Bool)
+box_there : (d : List ℕ) (t : Along (List ℕ)) (front : List ℕ) → (chain_from jxl_chain d t).answer ≡ Ok front
+    → (within : Bool)
     → leb t.place (length d) ≡ within → t.place ≤ length d
 box_there d t front is true test = grind (arith, nat_tests)
 box_there d t front is false test =
     let gone = box_gone d t (grind (arith, nat_tests)) in
     absurd (let no : ◌≡◌ {A = Result (List ℕ) Halt} (Err Ended) (Ok front) = sym (ap (λ w. w.answer) gone) ∙ is in cc)
 
-decided : (r : Result (Said (List ℕ) (List ℕ)) Halt) (front : List ℕ) → verdict r ≡ Some (Ok front) → r ≡ Ok (Decided front)
+decided : (r : Result (Said (List ℕ) (List ℕ)) Halt) (front : List ℕ) → verdict r ≡ Some (Ok front)
+    → r ≡ Ok (Decided front)
 decided (Ok (Decided x)) front is = cc
 decided (Ok (Next v place)) front is = absurd cc
 decided (Err e) front is = absurd cc
@@ -215,7 +236,8 @@ boxes_grow d x = chain_induction jxl_chain d (λ t. (front : List ℕ) → (chai
     let here = box_grows d x (concat t.held) t.place (Decided front) (decided (next_record jxl_chain d t).answer front
     (is ∙ ap Some ends)) in
     let more = here.2 in
-    let same : verdict (next_record jxl_chain (d ++ x) t).answer ≡ Some (Ok (front ++ more.0)) = ap verdict (here.1 ∙ ap Ok more.1) in
+    let same : verdict (next_record jxl_chain (d ++ x) t).answer ≡ Some (Ok (front ++ more.0)) =
+    ap verdict (here.1 ∙ ap Ok more.1) in
     (more.0, ap (λ w. w.answer) (chain_stop jxl_chain (d ++ x) t (Ok (front ++ more.0)) same)))
 
 -- and so does one that stands alone
@@ -225,7 +247,8 @@ StartsAs (Some front) t = (more : List ℕ) × (t ≡ Some (front ++ more))
 
 start_grows : (d x : List ℕ) → Grows StartsAs (layout_reads d jxl_start) (layout_reads (d ++ x) jxl_start)
 start_grows d x =
-    grows_bytes StartsAs d x 0 2 (λ start. cond (has_signature start) (bytes_there 2 14 (λ more. done (Some (start ++ more)))) (done None))
+    grows_bytes StartsAs d x 0 2
+    (λ start. cond (has_signature start) (bytes_there 2 14 (λ more. done (Some (start ++ more)))) (done None))
     (λ start. on_test (λ t. Grows StartsAs (layout_reads d t) (layout_reads (d ++ x) t)) (has_signature start)
     (bytes_there 2 14 (λ more. done (Some (start ++ more)))) (done None)
     (λ _. let grown = part_grows d x 2 14 in
@@ -233,7 +256,8 @@ start_grows d x =
     (grown.0, ap Some (ap (λ more. start ++ more) grown.1 ∙ sym (append_assoc start (part d 2 14) grown.0))))
     (λ _. grows_given StartsAs None None refl))
 
-either_grows : (d x : List ℕ) (s t : Option (List ℕ)) → StartsAs s t → (front : List ℕ) → (codestream d s).answer ≡ Ok front
+either_grows : (d x : List ℕ) (s t : Option (List ℕ)) → StartsAs s t → (front : List ℕ)
+    → (codestream d s).answer ≡ Ok front
     → (more : List ℕ) × ((codestream (d ++ x) t).answer ≡ Ok (front ++ more))
 either_grows d x None t h front is =
     let rest = boxes_grow d x (start jxl_chain) front is in
@@ -243,12 +267,14 @@ either_grows d x (Some found) t h front is =
     (h.0, ap (λ o. (codestream (d ++ x) o).answer) h.1 ∙ ap (λ f. Ok (f ++ h.0)) same)
 
 -- an answer behind an answer
-then_ok : {X Y : Type 0} (r : Result X Halt) (spans : List Span) (f : X → Reads Y) (y : Y) → (go_on spans r f).answer ≡ Ok y
+then_ok : {X Y : Type 0} (r : Result X Halt) (spans : List Span) (f : X → Reads Y) (y : Y)
+    → (go_on spans r f).answer ≡ Ok y
     → (x : X) × (r ≡ Ok x) × ((f x).answer ≡ Ok y)
 then_ok (Ok x) spans f y is = (x, refl, is)
 then_ok (Err e) spans f y is = absurd cc
 
-then_at : {X Y : Type 0} (r : Result X Halt) (spans : List Span) (f : X → Reads Y) (x : X) → r ≡ Ok x → (go_on spans r f).answer
+then_at : {X Y : Type 0} (r : Result X Halt) (spans : List Span) (f : X → Reads Y) (x : X) → r ≡ Ok x
+    → (go_on spans r f).answer
     ≡ (f x).answer
 then_at r spans f x is = ap (λ q. (go_on spans q f).answer) is
 
@@ -257,8 +283,11 @@ codestream_grows : (d x front : List ℕ) → (jxl_codestream d).answer ≡ Ok f
 codestream_grows d x front is =
     let found = then_ok (layout_reads d jxl_start).answer (layout_reads d jxl_start).marks (codestream d) front is in
     let grown = start_grows d x found.0 found.1 in
-    let rest = either_grows d x found.0 grown.0 grown.2 front found.2 in
-    (rest.0, then_at (layout_reads (d ++ x) jxl_start).answer (layout_reads (d ++ x) jxl_start).marks (codestream (d ++ x)) grown.0 grown.1 ∙ rest.1)
+    let rest = either_grows d x found.0 grown.0 grown.2 front found.2 in (
+      rest.0,
+      then_at (layout_reads (d ++ x) jxl_start).answer (layout_reads (d ++ x) jxl_start).marks
+          (codestream (d ++ x)) grown.0 grown.1 ∙ rest.1,
+    )
 
 -- more bytes leave a size that was found
 size_grows : (front more : List ℕ) (v : ImageSize) → jxl_size front ≡ Ok v → jxl_size (front ++ more) ≡ Ok v
@@ -268,7 +297,8 @@ size_grows (a ∷ []) more v is = absurd (let none : ◌≡◌ {A = Result Image
 size_grows (a ∷ b ∷ front) more v is =
     let few : ltb (length (a ∷ b ∷ front)) 2 ≡ false = grind (arith, nat_tests) in
     let longer : ltb (length (a ∷ b ∷ (front ++ more))) 2 ≡ false = grind (arith, nat_tests) in
-    let joined : bits_of (a ∷ b ∷ (front ++ more)) ≡ bits_of (a ∷ b ∷ front) ++ bits_of more = flat_map-append (λ byte. low_bits 8 byte)
+    let joined : bits_of (a ∷ b ∷ (front ++ more)) ≡ bits_of (a ∷ b ∷ front) ++ bits_of more =
+    flat_map-append (λ byte. low_bits 8 byte)
     (a ∷ b ∷ front) more in
     let was = ap (λ t. cond t (Err Corrupted)
     (cond (has_signature (a ∷ b ∷ front)) (found_by (field_at (bits_of (a ∷ b ∷ front))) jxl_header)
@@ -276,17 +306,21 @@ size_grows (a ∷ b ∷ front) more v is =
     rw longer (by_signature (has_signature (a ∷ b ∷ front)) was joined) where
       by_signature : (signed : Bool) → cond signed (found_by (field_at (bits_of (a ∷ b ∷ front))) jxl_header)
           (Err InvalidJxlSignature) ≡ Ok v → bits_of (a ∷ b ∷ (front ++ more)) ≡ bits_of (a ∷ b ∷ front) ++ bits_of more
-          → cond signed (found_by (field_at (bits_of (a ∷ b ∷ (front ++ more)))) jxl_header) (Err InvalidJxlSignature) ≡ Ok v
-      by_signature true was joined = ap (λ bits. found_by (field_at bits) jxl_header) joined ∙ found_more (bits_of (a ∷ b ∷ front))
+          → cond signed (found_by (field_at (bits_of (a ∷ b ∷ (front ++ more)))) jxl_header) (Err InvalidJxlSignature)
+          ≡ Ok v
+      by_signature true was joined = ap (λ bits. found_by (field_at bits) jxl_header) joined
+          ∙ found_more (bits_of (a ∷ b ∷ front))
           (bits_of more) jxl_header v was
       by_signature false was joined = absurd cc
 
 -- Bytes behind an input change no size that was found.
 pub jxl_lasts : (d x : List ℕ) (v : ImageSize) → (jxl d).answer ≡ Ok v → (jxl (d ++ x)).answer ≡ Ok v
 jxl_lasts d x v is =
-    let found = then_ok (jxl_codestream d).answer (jxl_codestream d).marks (λ front. record { answer = jxl_size front; marks = [] }) v is
+    let found = then_ok (jxl_codestream d).answer (jxl_codestream d).marks
+    (λ front. record { answer = jxl_size front; marks = [] }) v is
     in
     let grown = codestream_grows d x found.0 found.1 in
-    then_at (jxl_codestream (d ++ x)).answer (jxl_codestream (d ++ x)).marks (λ front. record { answer = jxl_size front; marks = [] })
+    then_at (jxl_codestream (d ++ x)).answer (jxl_codestream (d ++ x)).marks
+    (λ front. record { answer = jxl_size front; marks = [] })
     (found.0 ++ grown.0) grown.1
     ∙ size_grows found.0 grown.0 v found.2

@@ -22,7 +22,9 @@ pub piece_some : {a b : State} {r : Result (List ℕ) Halt} (place k n : ℕ) �
 unfolding piece_at
 piece_some {a} {b} {r} place k n some long h =
     let test : eqb k 0 ≡ false = grind (arith, nat_tests) in
-    let reads : layout_reads a.held.input (cond (eqb k 0) (done []) (bytes_there place k (λ piece. done piece))) ≡ part_read a.held.input place k =
-    rw test (ap (λ marks. record { answer = Ok (part a.held.input place k); marks = marks }) (append-nil (span_of a.held.input place k)))
+    let reads : layout_reads a.held.input (cond (eqb k 0) (done []) (bytes_there place k (λ piece. done piece)))
+    ≡ part_read a.held.input place k =
+    rw test (ap (λ marks. record { answer = Ok (part a.held.input place k); marks = marks })
+    (append-nil (span_of a.held.input place k)))
     in
     subst (λ w. Runs a b r w) (sym reads) (subst (λ m. Runs a b r (part_read a.held.input place m)) long h)

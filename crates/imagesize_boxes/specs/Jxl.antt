@@ -1,4 +1,4 @@
--- JPEG XL, by ISO/IEC 18181-1 (the codestream) and 18181-2 (the boxes around it).
+-- JPEG XL. ISO/IEC 18181-1 (the codestream) and 18181-2 (the boxes around it).
 use Rattle.std.specs.Prelude.{min, take, drop, slice_index, Option, None, Some, ℕ, ◌+◌, ◌-◌, ◌*◌, ◌/◌, ◌^◌, ◌==◌, Bool, false, List, codes, [], ◌∷◌, ◌++◌, ◌||◌, ◌&&◌, not, length, nat_le, nat_lt, if◌then◌else◌, Result, Ok, Err}
 use Rattle.std.specs.List.{concat}
 use Rattle.imagesize_boxes.specs.Fields.{Fields, found, bits, bind_fields, found_by, field_at, bits_of}
@@ -16,25 +16,25 @@ use Rattle.imagesize_types.specs.Head.{begins}
 use Rattle.imagesize_types.specs.Sides.{exchange_if}
 use Rattle.imagesize_types.specs.declared.size.ImageSize.{ImageSize}
 
--- the signature of a codestream
+-- whether the bytes begin with the signature of a codestream
 abbrev pub has_signature : List ℕ → Bool
 has_signature front = begins (0xFF ∷ 0x0A ∷ []) front
 
--- the signature of a codestream, or the signature box of a container
+-- whether the input begins with the signature of a codestream, or with the signature box of a container
 unfoldable pub is_jxl : List ℕ → Bool
 is_jxl head = begins (0xFF ∷ 0x0A ∷ []) head || begins (0 ∷ 0 ∷ 0 ∷ 0x0C ∷ (codes "JXL " ++ 0x0D ∷ 0x0A ∷ 0x87 ∷ 0x0A ∷ [])) head
 
 -- The size in the header (18181-1, annex D, SizeHeader).
 
--- a side of a small image, in units of eight pixels
+-- a side of a small image: 5 bits, in units of eight pixels
 abbrev pub small_side : ℕ → Fields Side
 small_side from = bits from 5 (λ units. found (record { length = (units + 1) * 8; end = from + 5 }))
 
--- how many bits the field of a side has, by its selector
+-- how many bits a side has, by its selector
 abbrev pub side_bits : ℕ → ℕ
 side_bits selector = if selector == 0 then 9 else if selector == 1 then 13 else if selector == 2 then 18 else 30
 
--- a side of any other: a selector, then the side less one
+-- a side of any other image: a selector, then the side less one
 abbrev pub large_side : ℕ → Fields Side
 large_side from = bits from 2 (λ selector. bits (from + 2) (side_bits selector)
     (λ less_one. found (record { length = less_one + 1; end = from + 2 + side_bits selector })))
@@ -42,7 +42,7 @@ large_side from = bits from 2 (λ selector. bits (from + 2) (side_bits selector)
 abbrev pub side_fields : Bool → ℕ → Fields Side
 side_fields small from = if small then small_side from else large_side from
 
--- the width by its ratio to the height
+-- the width that a ratio gives for this height
 abbrev pub width_by : ℕ → ℕ → ℕ
 width_by ratio height =
     if ratio == 1 then height
@@ -53,26 +53,26 @@ width_by ratio height =
     else if ratio == 6 then height * 5 / 4
     else height * 2
 
--- behind the height: a ratio, or 0 and a side of its own
+-- after the height: a ratio, or 0 and then the width itself
 abbrev pub width_side : Bool → Side → Fields Side
 width_side small height = bits height.end 3 (λ ratio.
     if ratio == 0 then side_fields small (height.end + 3) else found (record { length = width_by ratio height.length; end = height.end + 3 }))
 
--- behind the size (ImageMetadata): all is default, or there are extra fields and the first is the orientation.
--- Those from the fifth on exchange width and height.
+-- After the size (ImageMetadata): everything is default, or extra fields begin with the orientation. An orientation
+-- of 5 to 8, stored less one, exchanges the width and the height.
 abbrev pub exchanges_sides : ℕ → Fields Bool
 exchanges_sides from = bits from 1 (λ all_default.
     if all_default == 1 then found false
     else bits (from + 1) 1 (λ extra. if extra == 0 then found false else bits (from + 2) 3 (λ orientation. found (nat_le 4 orientation))))
 
--- whether the image is small, its height, its width and its orientation, behind the signature
+-- after the signature: whether the image is small, its height, its width and its orientation
 abbrev pub jxl_header : Fields ImageSize
 jxl_header = bits 16 1 (λ small.
     bind_fields (side_fields (small == 1) 17) (λ height.
     bind_fields (width_side (small == 1) height) (λ width.
     bind_fields (exchanges_sides width.end) (λ exchanged. found (exchange_if exchanged (record { width = width.length; height = height.length }))))))
 
--- the size by the first bytes of a codestream
+-- the size from the first bytes of a codestream
 unfoldable pub jxl_size : List ℕ → Result ImageSize Halt
 jxl_size front =
     if nat_lt (length front) 2 then Err Corrupted
@@ -81,29 +81,29 @@ jxl_size front =
 
 -- The bytes of a codestream.
 
--- what is there of so many bytes; of none there is no reading
+-- at most `count` bytes, as many as the input has; no read if `count` is 0
 unfoldable pub piece_at : ℕ → ℕ → Layout (List ℕ)
 piece_at place count = if count == 0 then done [] else bytes_there place count (λ piece. done piece)
 
--- a box ends at 2^64-1 at the latest, and not before its head does; an open one has the size 0
+-- A box ends at 2^64 - 1 or before, and not within its own head. The size 0 means that the box is open.
 abbrev pub box_checked : ℕ → BoxHead → Result BoxHead Halt
 box_checked place head =
     if nat_lt (2 ^ 64 - 1) (place + head.size) then Err Corrupted
     else if not (head.size == 0) && nat_lt head.size head.length then Err (InvalidJxlBoxSize head.size (number Big head.tag))
     else Ok head
 
--- the size and the tag; the size 1 stands for one of eight bytes behind them (ISO/IEC 14496-12, section 4.2)
+-- the size and the tag; after a size of 1, eight more bytes hold the size (ISO/IEC 14496-12, section 4.2)
 unfoldable pub box_head : ℕ → Layout BoxHead
 box_head place = bytes place 8 (λ head.
     if number Big (take 4 head) == 1 then field Big (place + 8) 8
     (λ size. accept (box_checked place (record { tag = drop 4 head; size = size; length = 16 })) done)
     else accept (box_checked place (record { tag = drop 4 head; size = number Big (take 4 head); length = 8 })) done)
 
--- how many bytes of content a box has; of an open one sixteen are enough
+-- how many bytes of content a box has; 16 are enough for an open box
 abbrev pub box_room : BoxHead → ℕ
 box_room head = if head.size == 0 then 16 else head.size - head.length
 
--- what a box with this piece says, behind these bytes: an open box is the last
+-- what a box with this piece says, after these bytes; an open box is the last
 abbrev pub said_behind : List ℕ → ℕ → BoxHead → List ℕ → Said (List ℕ) (List ℕ)
 said_behind held place head piece = if head.size == 0 then Decided (held ++ piece) else Next piece (place + head.size)
 
@@ -111,12 +111,12 @@ said_behind held place head piece = if head.size == 0 then Decided (held ++ piec
 abbrev pub codestream_box : ℕ → BoxHead → Layout (Said (List ℕ) (List ℕ))
 codestream_box place head = bind (piece_at (place + head.length) (min 16 (box_room head))) (λ front. done (Decided front))
 
--- what a piece says: the walk ends where sixteen bytes are there with it, or where the high bit of its index is set
+-- What a piece says. The walk ends if this piece completes sixteen bytes, or if the high bit of its index is set.
 abbrev pub partial_said : List ℕ → ℕ → BoxHead → List ℕ → List ℕ → Said (List ℕ) (List ℕ)
 partial_said held place head index piece = if length held + length piece == 16 || nat_le 0x80 (slice_index index 0) then Decided
     (held ++ piece) else said_behind held place head piece
 
--- a part of the codestream behind its index (box `jxlp`)
+-- a part of the codestream, after its index (box `jxlp`)
 abbrev pub partial_box : List ℕ → ℕ → BoxHead → Layout (Said (List ℕ) (List ℕ))
 partial_box held place head =
     if nat_lt (box_room head) 4 then refuse Ended
@@ -130,19 +130,19 @@ box_content held place head =
     else if begins (codes "jxlp") head.tag then partial_box held place head
     else done (said_behind held place head [])
 
--- a box, behind those that hold these bytes
+-- a box, after boxes that hold these bytes
 abbrev pub jxl_box : List ℕ → ℕ → Layout (Said (List ℕ) (List ℕ))
 jxl_box held place = bind (box_head place) (λ head. box_content held place head)
 
--- the boxes behind the signature box, each of which holds a piece of the codestream
+-- the boxes after the signature box, each with a piece of the codestream
 abbrev pub jxl_chain : Chain (List ℕ) (List ℕ)
 jxl_chain = record { first = 12; said = λ pieces place. jxl_box (concat pieces) place }
 
--- the first bytes of a codestream that stands alone; none where boxes stand
+-- the first bytes of a codestream without boxes, or `None` if there are boxes
 abbrev pub jxl_start : Layout (Option (List ℕ))
 jxl_start = bytes 0 2 (λ start. if has_signature start then bytes_there 2 14 (λ more. done (Some (start ++ more))) else done None)
 
--- the first bytes of the codestream: those, or the pieces in the boxes joined
+-- the first bytes of the codestream: those, or the pieces in the boxes, joined
 abbrev pub codestream : List ℕ → Option (List ℕ) → Reads (List ℕ)
 codestream d (Some front) = gives front
 codestream d None = chain_at jxl_chain d
@@ -150,7 +150,7 @@ codestream d None = chain_at jxl_chain d
 abbrev pub jxl_codestream : List ℕ → Reads (List ℕ)
 jxl_codestream d = and_then (layout_reads d jxl_start) (codestream d)
 
--- by them the size
+-- the size from these bytes
 abbrev pub jxl : List ℕ → Reads ImageSize
 jxl d = and_then (jxl_codestream d) (λ front. record { answer = jxl_size front; marks = [] })
 

@@ -1,3 +1,4 @@
-//! The formats of boxes.
+//! Formats of one compression, in boxes.
 
+pub mod heif;
 pub mod jxl;

@@ -1,5 +1,4 @@
-//! Formats whose sizes stand in boxes.
+//! Formats that store their size in boxes: HEIF (with HEIC and AVIF) and JPEG XL.
 #![tactic(auto)]
 
-pub mod container;
 pub mod formats;

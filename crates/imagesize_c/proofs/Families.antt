@@ -6,7 +6,8 @@ use Rattle.imagesize.specs.declared.types.CompressionFamily.TheVariants as famil
 use Rattle.imagesize_c.specs.Told.{is_block}
 
 -- a test for the block compressions
-pub block_bit : (b : Bool) (f : Option CompressionFamily) → IsTrue b ↔ (f ≡ Some family.BlockCompression) → b ≡ is_block f
+pub block_bit : (b : Bool) (f : Option CompressionFamily) → IsTrue b ↔ (f ≡ Some family.BlockCompression)
+    → b ≡ is_block f
 block_bit true f h = sym (ap is_block (h.0 refl))
 block_bit false None h = refl
 block_bit false (Some family.BlockCompression) h = absurd (let no : false ≡ true = h.1 refl in cc)

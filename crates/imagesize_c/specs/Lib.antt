@@ -1,4 +1,4 @@
--- What the calls answer in numbers, and what they write where the caller lends room.
+-- The numbers that the calls return, and what they write to the caller's buffers.
 pub mod Lends
 pub mod Numbers
 pub mod Status

@@ -32,22 +32,22 @@ reason_status InvalidHdrDimensionsLine = 24
 reason_status HdrDimensionsNotFound = 25
 reason_status PnmDimensionsNotFound = 26
 
--- the status of a refusal
+-- the status of an error
 abbrev pub refusal_status : ImageError → ℕ
 refusal_status NotSupported = 1
 refusal_status CorruptedImage = 2
 refusal_status (IoError reason) = reason_status reason
 
--- the status of an answer: 0 where there is one
+-- the status of a result: 0 if it is not an error
 abbrev pub status_of : {X : Type 0} → Result X ImageError → ℕ
 status_of (Ok _) = 0
 status_of (Err e) = refusal_status e
 
--- the statuses of what stops a reader: its fault, its spent budget, and want of memory
+-- whether a status says that a call of the reader failed, the budget is spent or an allocation failed
 abbrev pub is_stop_status : ℕ → Bool
 is_stop_status status = (status == 3) || (status == 6) || (status == 7)
 
--- the status of a call that is answered, and of one that wants another part of the input
+-- whether a status says that the call found a result, or that it needs another part of the input
 abbrev pub is_answered : ℕ → Bool
 is_answered status = status == 0
 

@@ -1,4 +1,4 @@
--- What the calls of texts and of queries tell.
+-- What the calls for texts and for queries return.
 use Rattle.std.specs.Prelude.{◌≡◌, ℕ, Bool, true, false, List, [], ◌∷◌, Option, None, Some, Result, Ok, Err, codes, option_map}
 use Rattle.imagesize.specs.Names.{compression_name_of}
 use Rattle.imagesize.specs.Queries.{container_of}
@@ -13,18 +13,18 @@ use Rattle.imagesize_source.specs.declared.error.Reason.TheVariants.{EndOfInput,
 use Rattle.imagesize_types.specs.Table.{look_up}
 use Rattle.imagesize_types.specs.declared.size.ImageSize.{ImageSize}
 
--- The numbers of a type and of its compression, which were a and c: where no type was found nothing has changed.
+-- The numbers of a type and of its compression. If no type was found, they keep their values a and c.
 abbrev pub TellsType : Option ImageType → ℕ → ℕ → ℕ → ℕ → Type 0
 TellsType (Some image) a number c compression = (number ≡ type_number image) × (compression ≡ compression_number image)
 TellsType None a number c compression = (number ≡ a) × (compression ≡ c)
 
--- The width and the height of a size, which were w and h: beside a refusal nothing has changed.
+-- The width and the height of a size. After an error, they keep their values w and h.
 abbrev pub TellsSize : Result ImageSize ImageError → ℕ → ℕ → ℕ → ℕ → Type 0
 TellsSize (Ok size) w width h height = (width ≡ size.width) × (height ≡ size.height)
 TellsSize (Err _) w width h height = (width ≡ w) × (height ≡ h)
 
--- The text of a status: that of the refusal, where the refusal alone tells it. The refusals 8, 10 and 11 print numbers of the
--- input besides, 6 that of its reader, and 3 what its reader says: their texts have none.
+-- The text of a status: that of its error, if it has no further parts. Errors 8, 10 and 11 also print numbers from
+-- the input, 6 the budget, and 3 the reader's own text. The texts here leave these out.
 abbrev pub status_text : ℕ → Option (List ℕ)
 status_text status = look_up (
     (0, Some (codes "No refusal"))
@@ -60,28 +60,28 @@ status_text status = look_up (
     ∷ (30, Some (codes "More bytes are wanted"))
     ∷ []) None status
 
--- nothing of what there is
+-- the text, or an empty one if there is none
 abbrev pub or_empty : Option (List ℕ) → List ℕ
 or_empty None = []
 or_empty (Some text) = text
 
--- a text of a type that has these numbers
+-- a text for the type that has these numbers
 abbrev pub text_of : (ImageType → List ℕ) → ℕ → ℕ → Option (List ℕ)
 text_of text number compression = option_map text (type_numbered number compression)
 
--- the name of a type's compression, and of its container; empty where it has none
+-- the name of a type's compression, and of its container; empty if it has none
 abbrev pub compression_text : ImageType → List ℕ
 compression_text image = or_empty (compression_name_of image)
 
 abbrev pub container_text : ImageType → List ℕ
 container_text image = or_empty (container_of image)
 
--- a number of a type: it is told where a type has these numbers, and else nothing has changed
+-- a number for the type that has the given numbers; if there is no such type, nothing has changed
 abbrev pub TellsOf : (ImageType → ℕ) → Option ImageType → ℕ → ℕ → ℕ → Type 0
 TellsOf number None before told status = (status ≡ 28) × (told ≡ before)
 TellsOf number (Some image) before told status = (status ≡ 0) × (told ≡ number image)
 
--- the family is that of the block compressions
+-- whether the family is that of the block compressions
 abbrev pub is_block : Option CompressionFamily → Bool
 is_block (Some BlockCompression) = true
 is_block _ = false

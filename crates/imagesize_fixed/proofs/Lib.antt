@@ -1,15 +1,7 @@
-pub mod Aseprite
-pub mod Astc
 pub mod Atc
-pub mod Bmp
 pub mod Dds
-pub mod Farbfeld
-pub mod Gif
-pub mod Ktx2
 pub mod Pkm
-pub mod Psd
 pub mod Pvrtc
-pub mod Qoi
+pub mod Sides
 pub mod Tga
-pub mod Vtf
 pub mod Webp

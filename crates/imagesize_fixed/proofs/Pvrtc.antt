@@ -16,7 +16,8 @@ by_tag (Some tag) =
 
 pub pvrtc_compression_laws : CompressionLaws 12 pvrtc_compression
 unfolding pvrtc_compression
-pvrtc_compression_laws = record { few = (omega arith, λ bs. (by_tag (whole 4 bs)).few); answers = λ bs. (by_tag (whole 4 bs)).answers }
+pvrtc_compression_laws =
+    record { few = (omega arith, λ bs. (by_tag (whole 4 bs)).few); answers = λ bs. (by_tag (whole 4 bs)).answers }
 
 pub pvrtc_laws : FixedLaws 24 36 pvrtc
 pvrtc_laws = record {

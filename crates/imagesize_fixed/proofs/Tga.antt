@@ -1,9 +1,8 @@
 -- TGA: what is read of it.
-use Rattle.std.proofs.Common.{ℕ, List, ◌&&◌, leb, slice_index, arith, rules}
-use Rattle.imagesize_fixed.specs.Tga.{tga, is_tga, tga_by_header, may_be_tga, is_tga_footer, lacks_its_map, is_map_sound}
+use Rattle.std.proofs.Common.{ℕ, List, ◌&&◌, leb, slice_index, arith}
+use Rattle.imagesize_fixed.specs.Tga.{is_tga, tga_by_header, may_be_tga, is_tga_footer, lacks_its_map, is_map_sound}
 use Rattle.imagesize_source.specs.Counts.{AtMost}
 use Rattle.imagesize_source.proofs.Tests.{on_test}
-use Rattle.imagesize_source.proofs.Way.{FixedLaws}
 
 header_few : (head : List ℕ) → AtMost 7 (tga_by_header head)
 header_few head = (
@@ -26,6 +25,3 @@ is_tga_few n head =
           (λ _. on_test (AtMost 7) (lacks_its_map head) _ _ (λ _. tt) (λ _. header_few head)),
     ))
     (λ _. tt)
-
-pub tga_laws : FixedLaws 37 41 tga
-tga_laws = record { few = search rules; plain = search rules }

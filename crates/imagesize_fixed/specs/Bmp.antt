@@ -2,14 +2,14 @@
 use Rattle.std.specs.Prelude.{ℕ, Bool, List, codes}
 use Rattle.imagesize_types.specs.Head.{begins}
 use Rattle.imagesize_types.specs.declared.size.ImageSize.{ImageSize}
+use Rattle.imagesize_fixed.specs.Sides.{sides}
 use Rattle.imagesize_source.specs.declared.endian.Endian.TheVariants.{Little}
 use Rattle.imagesize_source.specs.Layout.{Layout}
-use Rattle.imagesize_source.specs.Layout.Layout.{field, «done»}
 
--- the type of the file
+-- whether the input begins with the file type
 unfoldable pub is_bmp : List ℕ → Bool
 is_bmp head = begins (codes "BM") head
 
 -- the width, then the height
 abbrev pub bmp : Layout ImageSize
-bmp = field Little 18 4 (λ width. field Little 22 4 (λ height. done (record { width = width; height = height })))
+bmp = sides Little 4 18 22

@@ -2,14 +2,14 @@
 use Rattle.std.specs.Prelude.{ℕ, Bool, List, codes}
 use Rattle.imagesize_types.specs.Head.{begins}
 use Rattle.imagesize_types.specs.declared.size.ImageSize.{ImageSize}
+use Rattle.imagesize_fixed.specs.Sides.{sides}
 use Rattle.imagesize_source.specs.declared.endian.Endian.TheVariants.{Big}
 use Rattle.imagesize_source.specs.Layout.{Layout}
-use Rattle.imagesize_source.specs.Layout.Layout.{field, «done»}
 
--- the magic value
+-- whether the input begins with the magic value
 unfoldable pub is_farbfeld : List ℕ → Bool
 is_farbfeld head = begins (codes "farbfeld") head
 
 -- the width, then the height
 abbrev pub farbfeld : Layout ImageSize
-farbfeld = field Big 8 4 (λ width. field Big 12 4 (λ height. done (record { width = width; height = height })))
+farbfeld = sides Big 4 8 12

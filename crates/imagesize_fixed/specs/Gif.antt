@@ -2,14 +2,14 @@
 use Rattle.std.specs.Prelude.{ℕ, Bool, List, codes}
 use Rattle.imagesize_types.specs.Head.{begins}
 use Rattle.imagesize_types.specs.declared.size.ImageSize.{ImageSize}
+use Rattle.imagesize_fixed.specs.Sides.{sides}
 use Rattle.imagesize_source.specs.declared.endian.Endian.TheVariants.{Little}
 use Rattle.imagesize_source.specs.Layout.{Layout}
-use Rattle.imagesize_source.specs.Layout.Layout.{field, «done»}
 
--- the signature, and what both versions begin with
+-- whether the input begins with the signature and the first byte of the version
 unfoldable pub is_gif : List ℕ → Bool
 is_gif head = begins (codes "GIF8") head
 
--- the logical screen
+-- the width, then the height, of the logical screen
 abbrev pub gif : Layout ImageSize
-gif = field Little 6 2 (λ width. field Little 8 2 (λ height. done (record { width = width; height = height })))
+gif = sides Little 2 6 8

@@ -10,6 +10,7 @@ pub mod Pkm
 pub mod Psd
 pub mod Pvrtc
 pub mod Qoi
+pub mod Sides
 pub mod Tga
 pub mod Vtf
 pub mod Webp

@@ -3,31 +3,32 @@ use Rattle.std.specs.Prelude.{ℕ, ◌-◌, ◌%◌, ◌/◌, Bool, true, false,
 use Rattle.std.specs.List.{list_any}
 use Rattle.std.specs.Str.{bytes_eq}
 use Rattle.imagesize_types.specs.declared.size.ImageSize.{ImageSize}
+use Rattle.imagesize_fixed.specs.Sides.{sides}
 use Rattle.imagesize_source.specs.declared.endian.Endian.TheVariants.{Little}
 use Rattle.imagesize_source.specs.Layout.{Layout, bytes}
 use Rattle.imagesize_source.specs.Layout.Layout.{field, «done»}
 
--- an image type that has pixels, and a colour map or none
+-- whether the image type has pixels, and the colour map type is 0 or 1
 unfoldable pub may_be_tga : List ℕ → Bool
 may_be_tga head =
     list_any (λ image_type. slice_index head 2 == image_type) (1 ∷ 2 ∷ 3 ∷ 9 ∷ 10 ∷ 11 ∷ [])
     && nat_le (slice_index head 1) 1
 
--- the signature at the end of the footer
+-- whether the last 18 bytes of the file are the signature of a footer
 unfoldable pub is_tga_footer : List ℕ → Bool
 is_tga_footer footer = bytes_eq footer (codes "TRUEVISION-XFILE." ++ 0 ∷ [])
 
--- an image type with a colour map, in a file that has none
+-- whether the image type needs a colour map and the file has none
 unfoldable pub lacks_its_map : List ℕ → Bool
 lacks_its_map head = (slice_index head 2 == 1 || slice_index head 2 == 9) && slice_index head 1 == 0
 
--- the place and length of the colour map, and the bits of its entries, which are all zero without a map
+-- The offset and the length of the colour map, and the bits of its entries. All are zero without a colour map.
 unfoldable pub is_map_sound : ℕ → List ℕ → ℕ → Bool
 is_map_sound map_type map bits =
     if map_type == 0 then bytes_eq map (0 ∷ 0 ∷ 0 ∷ 0 ∷ []) && bits == 0
     else list_any (λ known. bits == known) (0 ∷ 8 ∷ 16 ∷ 24 ∷ 32 ∷ [])
 
--- the bits of a pixel, and how many of them are alpha; the pixels do not go from right to left
+-- The bits of a pixel, and how many of them are alpha. The pixels must not go from right to left.
 unfoldable pub is_pixel_sound : ℕ → ℕ → Bool
 is_pixel_sound bits descriptor =
     descriptor / 16 % 2 == 0
@@ -36,7 +37,7 @@ is_pixel_sound bits descriptor =
     || (bits == 24 && descriptor % 16 == 0)
     || (bits == 32 && (descriptor % 16 == 0 || descriptor % 16 == 8)))
 
--- without the footer, by the whole header
+-- whether the whole header is one of a TGA, if there is no footer
 abbrev pub tga_by_header : List ℕ → Layout Bool
 tga_by_header head =
     bytes 3 4 (λ map. field Little 7 1 (λ map_bits.
@@ -56,4 +57,4 @@ is_tga n head =
 
 -- the width, then the height
 abbrev pub tga : Layout ImageSize
-tga = field Little 12 2 (λ width. field Little 14 2 (λ height. done (record { width = width; height = height })))
+tga = sides Little 2 12 14

@@ -7,23 +7,23 @@ use Rattle.imagesize_source.specs.declared.endian.Endian.TheVariants.{Little}
 use Rattle.imagesize_source.specs.Layout.{Layout, bytes}
 use Rattle.imagesize_source.specs.Layout.Layout.{field, refuse, «done»}
 
--- a RIFF form of the type WEBP
+-- whether the input is a RIFF form of type WEBP
 unfoldable pub is_webp : List ℕ → Bool
 is_webp head = begins (codes "RIFF") head && stands_at 8 (codes "WEBP") head
 
--- a lossy image: of each dimension the low 14 bits, above which stands how to scale it
+-- a lossy image: the width, then the height, in the low 14 bits of each number; the bits above hold the scaling
 abbrev pub lossy_webp : Layout ImageSize
 lossy_webp = field Little 26 2 (λ x. field Little 28 2 (λ y. done (record { width = x % 2 ^ 14; height = y % 2 ^ 14 })))
 
--- a lossless image: 14 bits each of the width less one and the height less one
+-- a lossless image: the width less one, then the height less one, of 14 bits each
 abbrev pub lossless_webp : Layout ImageSize
 lossless_webp = field Little 21 4 (λ x. done (record { width = x % 2 ^ 14 + 1; height = x / 2 ^ 14 % 2 ^ 14 + 1 }))
 
--- the extended form: the width less one, then the height less one, of its canvas
+-- an extended image: the width less one, then the height less one, of its canvas
 abbrev pub extended_webp : Layout ImageSize
 extended_webp = field Little 24 3 (λ x. field Little 27 3 (λ y. done (record { width = x + 1; height = y + 1 })))
 
--- the form that the tag of the first chunk names by its last byte: a space, L or X
+-- the form by the last byte of the first chunk's tag: a space, L or X
 abbrev pub webp_form : ℕ → Layout ImageSize
 webp_form letter =
     if letter == 0x20 then lossy_webp

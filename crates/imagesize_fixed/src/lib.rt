@@ -1,5 +1,5 @@
 //! Formats with the size at fixed offsets.
 #![tactic(auto)]
 
-pub mod container;
 pub mod formats;
+pub mod readings;

@@ -14,20 +14,24 @@ abbrev pub cursor_at : List ℕ → ℕ → Telling
 cursor_at d p = record { bytes = d; place = p; can_fail = false; interruptions = 0 }
 
 -- a read that copied what is there of a room's bytes
-pub read_cursor : (d bytes after room old : List ℕ) (p place q n : ℕ) → bytes ≡ d → place ≡ p → after ≡ d → q ≡ place + n
-    → n ≡ min (length old) (length bytes - place) → room ≡ part bytes place (length old) ++ drop n old → length room ≡ length old
+pub read_cursor : (d bytes after room old : List ℕ) (p place q n : ℕ) → bytes ≡ d → place ≡ p → after ≡ d
+    → q ≡ place + n
+    → n ≡ min (length old) (length bytes - place) → room ≡ part bytes place (length old) ++ drop n old
+    → length room ≡ length old
     → ReadGives (cursor_at d p) (Some (cursor_at after q)) room (Ok n)
 read_cursor d bytes after room old p place q n is at same e count copied kept =
     let long : length bytes ≡ length d = ap length is in (
       cc,
-      front_is bytes room old place n count copied kept ∙ ap (part bytes place) kept ∙ part_whole bytes place (length old) n count
+      front_is bytes room old place n count copied kept ∙ ap (part bytes place) kept
+          ∙ part_whole bytes place (length old) n count
           ∙ ap (λ b. part b place n) is ∙ ap (λ k. part d k n) at,
       omega arith,
       λ has_room before. omega arith,
     )
 
 -- a text that was copied out of what is there
-pub held_cursor : (d bytes after room : List ℕ) (t : Text) (p place start q n : ℕ) → bytes ≡ d → place ≡ p → after ≡ d → q ≡ place + n
+pub held_cursor : (d bytes after room : List ℕ) (t : Text) (p place start q n : ℕ) → bytes ≡ d → place ≡ p → after ≡ d
+    → q ≡ place + n
     → start ≡ min (length bytes) place → n ≤ length (take (length bytes - start) (drop start bytes))
     → take n room ≡ take n (take (length bytes - start) (drop start bytes)) → n ≤ length room → IsWhole t (take n room)
     → ReadGives (cursor_at d p) (Some (cursor_at after q)) room (Ok n)

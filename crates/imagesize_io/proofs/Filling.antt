@@ -15,10 +15,12 @@ use Rattle.imagesize_io.specs.Telling.{Account}
 abbrev pub Filled : Option Standing → Option Standing → ℕ → List ℕ → Type 0
 Filled None now filled room = Unit {0}
 Filled (Some s) now filled room =
-    (now ≡ Some (advance_standing s filled)) × (take filled room ≡ part s.bytes s.place filled) × (filled ≤ length s.bytes - s.place)
+    (now ≡ Some (advance_standing s filled)) × (take filled room ≡ part s.bytes s.place filled) ×
+    (filled ≤ length s.bytes - s.place)
 
 -- the reads so far
-pub record Filling (first now : Option Standing) (a b : Account) (old new : Progress) (filled : ℕ) (room : List ℕ) : Type 0 where
+pub record Filling (first now : Option Standing) (a b : Account) (old new : Progress) (filled : ℕ)
+    (room : List ℕ) : Type 0 where
   pub fits : filled ≤ length room
   pub reached : Filled first now filled room
   pub taken : new.taken ≡ old.taken + filled
@@ -75,23 +77,29 @@ length-put room more filled fits long =
 -- a part, and what follows it, is a longer part
 pub part-add : (d : List ℕ) (place k n : ℕ) → part d place k ++ part d (place + k) n ≡ part d place (k + n)
 unfolding part
-part-add d place k n = ap (λ l. take k (drop place d) ++ take n l) (sym (drop-drop k place d)) ∙ sym (take-add k n (drop place d))
+part-add d place k n = ap (λ l. take k (drop place d) ++ take n l) (sym (drop-drop k place d))
+    ∙ sym (take-add k n (drop place d))
 
-reached_more : (first now next : Option Standing) (room more : List ℕ) (filled n : ℕ) → filled ≤ length room → n ≤ length more
+reached_more : (first now next : Option Standing) (room more : List ℕ) (filled n : ℕ) → filled ≤ length room
+    → n ≤ length more
     → Filled first now filled room → GivesSome now next more (Ok n) → Filled first next (filled + n)
     (put_mid filled (length room - filled) room more)
 reached_more None now next room more filled n fits enough reached gave = tt
 reached_more (Some s) now next room more filled n fits enough reached gave =
-    let gives : GivesSome (Some (advance_standing s filled)) next more (Ok n) = subst (λ w. GivesSome w next more (Ok n)) reached.0 gave in (
+    let gives : GivesSome (Some (advance_standing s filled)) next more (Ok n) =
+    subst (λ w. GivesSome w next more (Ok n)) reached.0 gave in (
       gives.0 ∙ ap (λ p. Some (record s { place = p })) (omega arith),
-      take_more room more filled n fits enough ∙ ap (λ l. l ++ take n more) reached.1 ∙ ap (λ l. part s.bytes s.place filled ++ l)
+      take_more room more filled n fits enough ∙ ap (λ l. l ++ take n more) reached.1
+          ∙ ap (λ l. part s.bytes s.place filled ++ l)
           gives.1 ∙ part-add s.bytes s.place filled n,
       omega (arith, gives.2, reached.2),
     )
 
 -- one more read
-pub filling_more : {first : Option Standing} {a b c : Account} {old new newer : Progress} {filled : ℕ} {room more : List ℕ} {n : ℕ}
-    → Filling first (stand b.telling new) a b old new filled room → ReadsOnce new newer b c more (Ok n) → length more ≡ length room - filled
+pub filling_more : {first : Option Standing} {a b c : Account} {old new newer : Progress} {filled : ℕ}
+    {room more : List ℕ} {n : ℕ}
+    → Filling first (stand b.telling new) a b old new filled room → ReadsOnce new newer b c more (Ok n)
+    → length more ≡ length room - filled
     → Filling first (stand c.telling newer) a c old newer (filled + n) (put_mid filled (length room - filled) room more)
 filling_more {first} {filled = filled} {room = room} {more = more} {n = n} h read long = record {
   fits = rw (length-put room more filled h.fits long) (omega (arith, h.fits, long, read.bound));
@@ -104,16 +112,19 @@ filling_more {first} {filled = filled} {room = room} {more = more} {n = n} h rea
   keeps = keeps_both h.keeps read.keeps;
 }
 
-ends : (first now next : Option Standing) (room more : List ℕ) (filled : ℕ) → filled ≤ length room → Filled first now filled room
+ends : (first now next : Option Standing) (room more : List ℕ) (filled : ℕ) → filled ≤ length room
+    → Filled first now filled room
     → filled < length room → length more ≡ length room - filled → GivesSome now next more (Ok 0)
     → GivesAll first next (put_mid filled (length room - filled) room more) (Ok filled)
 ends None now next room more filled fits reached left long gave = tt
 ends (Some s) now next room more filled fits reached left long gave =
     let all = reached_more (Some s) now next room more filled 0 fits (omega arith) reached gave in
-    let at_end : GivesSome (Some (advance_standing s filled)) next more (Ok 0) = subst (λ w. GivesSome w next more (Ok 0)) reached.0 gave in
+    let at_end : GivesSome (Some (advance_standing s filled)) next more (Ok 0) =
+    subst (λ w. GivesSome w next more (Ok 0)) reached.0 gave in
     let same : filled + 0 ≡ filled = omega arith in (
       all.0 ∙ ap (λ k. Some (advance_standing s k)) same,
-      ap (λ k. take k (put_mid filled (length room - filled) room more)) (sym same) ∙ all.1 ∙ ap (part s.bytes s.place) same,
+      ap (λ k. take k (put_mid filled (length room - filled) room more)) (sym same) ∙ all.1
+          ∙ ap (part s.bytes s.place) same,
       rw (length-put room more filled fits long) (grind (arith, at_end.3, reached.2)),
     )
 
@@ -128,7 +139,8 @@ filling_ends {first} {now} next {filled = filled} {room = room} more n h left lo
 
 within_none : (first now : Option Standing) (room more : List ℕ) (filled before taken : ℕ) → filled ≤ length room
     → length more ≡ length room - filled → Filled first now filled room → taken ≡ before + filled
-    → IfSome first (λ s. taken ≤ before + min (length (put_mid filled (length room - filled) room more)) (length s.bytes - s.place))
+    → IfSome first (λ s. taken ≤ before + min (length (put_mid filled (length room - filled) room more))
+    (length s.bytes - s.place))
 within_none None now room more filled before taken fits long reached took = tt
 within_none (Some s) now room more filled before taken fits long reached took =
     rw (length-put room more filled fits long) (omega (arith, took, fits, reached.2))
@@ -137,13 +149,16 @@ within_none (Some s) now room more filled before taken fits long reached took =
 ends_within : {first now : Option Standing} {a b : Account} {old new : Progress} {filled : ℕ} {room : List ℕ}
     (more : List ℕ) (n taken : ℕ) → Filling first now a b old new filled room → length more ≡ length room - filled
     → taken ≡ new.taken + n → n ≡ 0
-    → IfSome first (λ s. taken ≤ old.taken + min (length (put_mid filled (length room - filled) room more)) (length s.bytes - s.place))
+    → IfSome first (λ s. taken ≤ old.taken + min (length (put_mid filled (length room - filled) room more))
+    (length s.bytes - s.place))
 ends_within {first} {now} {old = old} {filled = filled} {room = room} more n taken h long took none =
     within_none first now room more filled old.taken taken h.fits long h.reached (omega (arith, took, none, h.taken))
 
 -- a read that gave nothing where there was room ends the filling
-pub filling_done : {first : Option Standing} {a b c : Account} {old new newer : Progress} {filled : ℕ} {room more : List ℕ} {n : ℕ}
-    → Filling first (stand b.telling new) a b old new filled room → ReadsOnce new newer b c more (Ok n) → n ≡ 0 → filled < length room
+pub filling_done : {first : Option Standing} {a b c : Account} {old new newer : Progress} {filled : ℕ}
+    {room more : List ℕ} {n : ℕ}
+    → Filling first (stand b.telling new) a b old new filled room → ReadsOnce new newer b c more (Ok n) → n ≡ 0
+    → filled < length room
     → length more ≡ length room - filled
     → Fills old newer first (stand c.telling newer) a c (put_mid filled (length room - filled) room more) (Ok filled)
 filling_done {filled = filled} {room = room} {more = more} {n = n} h read none left long = record {
@@ -163,44 +178,54 @@ filling_done {filled = filled} {room = room} {more = more} {n = n} h read none l
 stopped_stand : (first now next last : Option Standing) (room more all : List ℕ) (filled : ℕ) (e : Halt)
     → Filled first now filled room → GivesSome now next more (Err e) → GivesAll first last all (Err e)
 stopped_stand None now next last room more all filled e reached gave = tt
-stopped_stand (Some s) now next last room more all filled e reached gave = subst (λ w. GivesSome w next more (Err e)) reached.0 gave
+stopped_stand (Some s) now next last room more all filled e reached gave =
+    subst (λ w. GivesSome w next more (Err e)) reached.0 gave
 
 -- a read that was stopped ends the filling too
-pub filling_stopped : {first : Option Standing} {a b c : Account} {old new newer : Progress} {filled : ℕ} {room more : List ℕ} {e : Halt}
-    → Filling first (stand b.telling new) a b old new filled room → ReadsOnce new newer b c more (Err e) → length more ≡ length room - filled
+pub filling_stopped : {first : Option Standing} {a b c : Account} {old new newer : Progress} {filled : ℕ}
+    {room more : List ℕ} {e : Halt}
+    → Filling first (stand b.telling new) a b old new filled room → ReadsOnce new newer b c more (Err e)
+    → length more ≡ length room - filled
     → Fills old newer first (stand c.telling newer) a c (put_mid filled (length room - filled) room more) (Err e)
-filling_stopped {first} {old = old} {newer = newer} {filled = filled} {room = room} {more = more} {e = e} h read long = record {
-  bound = tt;
-  stand = stopped_stand first _ _ _ room more _ filled e h.reached read.stand;
-  taken = tt;
-  place = tt;
-  within = within_none first _ room more filled old.taken newer.taken h.fits long h.reached (omega (arith, read.taken, h.taken));
-  since = read.since ∙ h.counts;
-  behind = read.behind ∙ h.behind;
-  calm = tt;
-  keeps = keeps_both h.keeps read.keeps;
-  stops = read.stops;
-}
+filling_stopped {first} {old = old} {newer = newer} {filled = filled} {room = room} {more = more} {e = e} h read long =
+    record {
+      bound = tt;
+      stand = stopped_stand first _ _ _ room more _ filled e h.reached read.stand;
+      taken = tt;
+      place = tt;
+      within = within_none first _ room more filled old.taken newer.taken h.fits long h.reached
+          (omega (arith, read.taken, h.taken));
+      since = read.since ∙ h.counts;
+      behind = read.behind ∙ h.behind;
+      calm = tt;
+      keeps = keeps_both h.keeps read.keeps;
+      stops = read.stops;
+    }
 
 -- a read, and all that follows it
-pub gave_rest : (first now last : Option Standing) (room more : List ℕ) (n k : ℕ) → GivesSome first now room (Ok n) → n ≤ length room
+pub gave_rest : (first now last : Option Standing) (room more : List ℕ) (n k : ℕ) → GivesSome first now room (Ok n)
+    → n ≤ length room
     → GivesAll now last more (Ok k) → k ≤ length more → length more ≡ length room - n
     → GivesAll first last (put_mid n (length room - n) room more) (Ok (n + k))
 gave_rest None now last room more n k gave fits rest enough long = tt
 gave_rest (Some s) now last room more n k gave fits rest enough long =
-    let gives : GivesAll (Some (advance_standing s n)) last more (Ok k) = subst (λ w. GivesAll w last more (Ok k)) gave.0 rest in (
+    let gives : GivesAll (Some (advance_standing s n)) last more (Ok k) =
+    subst (λ w. GivesAll w last more (Ok k)) gave.0 rest in (
       gives.0 ∙ ap (λ p. Some (record s { place = p })) (omega arith),
-      take_more room more n k fits enough ∙ ap (λ l. l ++ take k more) gave.1 ∙ ap (λ l. part s.bytes s.place n ++ l) gives.1 ∙ part-add
+      take_more room more n k fits enough ∙ ap (λ l. l ++ take k more) gave.1
+          ∙ ap (λ l. part s.bytes s.place n ++ l) gives.1 ∙ part-add
           s.bytes s.place n k,
       rw (length-put room more n fits long) (omega (arith, gives.2, gave.2, long)),
     )
 
-pub stopped_rest : (first now last : Option Standing) (room more all : List ℕ) (n : ℕ) (e : Halt) → GivesSome first now room (Ok n)
+pub stopped_rest : (first now last : Option Standing) (room more all : List ℕ) (n : ℕ) (e : Halt)
+    → GivesSome first now room (Ok n)
     → GivesAll now last more (Err e) → GivesAll first last all (Err e)
 stopped_rest None now last room more all n e gave rest = tt
 stopped_rest (Some s) now last room more all n e gave rest = subst (λ w. GivesAll w last more (Err e)) gave.0 rest
 
-pub within_rest : (first now : Option Standing) (room : List ℕ) (n m long taken mid taken' : ℕ) → GivesSome first now room (Ok n)
+pub within_rest : (first now : Option Standing) (room : List ℕ) (n m long taken mid taken' : ℕ)
+    → GivesSome first now room (Ok n)
     → mid ≡ taken + n → n ≤ long → m ≡ long - n → IfSome now (λ s. taken' ≤ mid + min m (length s.bytes - s.place))
     → IfSome first (λ s. taken' ≤ taken + min long (length s.bytes - s.place))
 within_rest None now room n m long taken mid taken' gave took fits left within = tt

@@ -35,7 +35,8 @@ pub record Copied (t : Text) (begun : Bool) (index : ℕ) (bytes room : List ℕ
 pub copied_none : (t : Text) (bytes room : List ℕ) → Copied t false 0 bytes room
 copied_none t bytes room = record { same = refl; front = λ more. rest_start t more }
 
-module _ {t : Text} {begun : Bool} {index : ℕ} {bytes room : List ℕ} (h : Copied t begun index bytes room) (here : index < length bytes)
+module _ {t : Text} {begun : Bool} {index : ℕ} {bytes room : List ℕ} (h : Copied t begun index bytes room)
+    (here : index < length bytes)
     (fits : index < length room) where
   -- one byte more
   pub copied_same : take (index + 1) (slice_set room index (slice_index bytes index)) ≡ take (index + 1) bytes
@@ -79,22 +80,29 @@ whole_some t bs whole = by_length bs refl where
   by_length (c ∷ cs) is = omega (arith, ap length is)
 
 -- what a reader gave as a read, with its interruptions hidden
-steady_if : (b : Bool) (s : Standing) (room : List ℕ) (n : ℕ) → take n room ≡ part s.bytes s.place n → n ≤ length s.bytes - s.place
-    → (0 < length room → s.place < length s.bytes → 0 < n) → GivesSome (cond b (Some s) None) (cond b (Some (advance_standing s n)) None) room (Ok n)
+steady_if : (b : Bool) (s : Standing) (room : List ℕ) (n : ℕ) → take n room ≡ part s.bytes s.place n
+    → n ≤ length s.bytes - s.place
+    → (0 < length room → s.place < length s.bytes → 0 < n)
+    → GivesSome (cond b (Some s) None) (cond b (Some (advance_standing s n)) None) room (Ok n)
 steady_if true s room n gave few some = (refl, gave, few, some)
 steady_if false s room n gave few some = tt
 
-steady_gives : (telling telling' : Option Telling) (retries : ℕ) (room : List ℕ) (n : ℕ) → ReadTells telling telling' room (Ok n)
+steady_gives : (telling telling' : Option Telling) (retries : ℕ) (room : List ℕ) (n : ℕ)
+    → ReadTells telling telling' room (Ok n)
     → GivesSome (steady telling retries) (steady telling' retries) room (Ok n)
 steady_gives None telling' retries room n gave = tt
 steady_gives (Some t) telling' retries room n gave =
     subst (λ u. GivesSome (steady (Some t) retries) (steady u retries) room (Ok n)) (sym gave.0)
-    (steady_if (t.can_fail || leb (t.interruptions + retries) 64) (record { bytes = t.bytes; place = t.place; can_fail = t.can_fail })
+    (steady_if (t.can_fail || leb (t.interruptions + retries) 64)
+    (record { bytes = t.bytes; place = t.place; can_fail = t.can_fail })
     room n gave.1 gave.2 gave.3)
 
-stands_if : (told place place' n : ℕ) (fault : Option Error) (s : Standing) (room : List ℕ) (b : Bool) → in_step told place fault s ≡ b → 0 < n
-    → take n room ≡ part s.bytes s.place n → n ≤ length s.bytes - s.place → n ≤ length room → place' ≡ min (place + n) (2 ^ 64 - 1)
-    → GivesFrom (cond b (Some s) None) (stand_of told place' fault (Some (advance_standing s n))) place place' (take n room) (Ok n)
+stands_if : (told place place' n : ℕ) (fault : Option Error) (s : Standing) (room : List ℕ) (b : Bool)
+    → in_step told place fault s ≡ b → 0 < n
+    → take n room ≡ part s.bytes s.place n → n ≤ length s.bytes - s.place → n ≤ length room
+    → place' ≡ min (place + n) (2 ^ 64 - 1)
+    → GivesFrom (cond b (Some s) None) (stand_of told place' fault (Some (advance_standing s n))) place place'
+    (take n room) (Ok n)
 stands_if told place place' n fault s room false step some gave few fits now = tt
 stands_if told place place' n fault s room true step some gave few fits now =
     let at : place ≡ s.place = grind (arith, nat_tests) in
@@ -102,26 +110,31 @@ stands_if told place place' n fault s room true step some gave few fits now =
     let short : length s.bytes < 2 ^ 63 = grind (arith, nat_tests) in
     let there : place' ≡ s.place + n = omega (arith, now, at, few, short, some) in
     let calm : is_none fault ≡ true = grind (arith, nat_tests) in
-    let step' : in_step told place' fault (advance_standing s n) ≡ true = grind (arith, nat_tests, there, long, short, calm) in (
+    let step' : in_step told place' fault (advance_standing s n) ≡ true =
+    grind (arith, nat_tests, there, long, short, calm) in (
       ap (λ b. cond b (Some (advance_standing s n)) None) step' ∙ ap (λ p. Some (record s { place = p })) (sym there),
       take-take n n room (omega arith) ∙ gave ∙ ap (λ p. part s.bytes p n) (sym at),
       omega (arith, length-take n room, fits, few, at),
     )
 
-stands_gives : (told place place' n : ℕ) (fault : Option Error) (st st' : Option Standing) (room : List ℕ) → GivesSome st st' room (Ok n) → 0 < n → n ≤ length room
+stands_gives : (told place place' n : ℕ) (fault : Option Error) (st st' : Option Standing) (room : List ℕ)
+    → GivesSome st st' room (Ok n) → 0 < n → n ≤ length room
     → place' ≡ min (place + n) (2 ^ 64 - 1)
     → GivesFrom (stand_of told place fault st) (stand_of told place' fault st') place place' (take n room) (Ok n)
 stands_gives told place place' n fault None st' room gave some fits now = tt
 stands_gives told place place' n fault (Some s) st' room gave some fits now =
-    subst (λ u. GivesFrom (stand_of told place fault (Some s)) (stand_of told place' fault u) place place' (take n room) (Ok n)) (sym gave.0)
+    subst (λ u. GivesFrom (stand_of told place fault (Some s)) (stand_of told place' fault u) place place' (take n room)
+    (Ok n)) (sym gave.0)
     (stands_if told place place' n fault s room (in_step told place fault s) refl some gave.1 gave.2 fits now)
 
-within_given : (st st' : Option Standing) (place now n taken taken' : ℕ) (room : List ℕ) → GivesFrom st st' place now room (Ok n)
+within_given : (st st' : Option Standing) (place now n taken taken' : ℕ) (room : List ℕ)
+    → GivesFrom st st' place now room (Ok n)
     → taken' ≡ taken + n → IfSome st (λ s. taken' ≤ taken + min (length room) (length s.bytes - place))
 within_given None st' place now n taken taken' room gave took = tt
 within_given (Some s) st' place now n taken taken' room gave took = omega (arith, gave.2, took)
 
-since_given : (count count' : Option ℕ) (taken taken' n : ℕ) → count' ≡ count_after {E = Stop} count (Ok n) → taken' ≡ taken + n
+since_given : (count count' : Option ℕ) (taken taken' n : ℕ) → count' ≡ count_after {E = Stop} count (Ok n)
+    → taken' ≡ taken + n
     → drift count' taken' ≡ drift count taken
 since_given None count' taken taken' n is took = rw is refl
 since_given (Some c) count' taken taken' n is took =
@@ -136,13 +149,17 @@ not_kept w bytes place far =
 
 -- A text that the reader held is a reading of as many bytes from where it stands.
 pub held_reads : {old new : Ledger} {a b : Account} {place n : ℕ} (room : List ℕ) (t : Text)
-    → ReadTells a.telling b.telling room (Ok n) → b.count ≡ count_after {E = Stop} a.count (Ok n) → n ≤ length room → IsWhole t (take n room)
-    → old.progress.place ≡ place → place ≤ old.progress.told → length old.window.items < place → length old.window.items ≤ 32
+    → ReadTells a.telling b.telling room (Ok n) → b.count ≡ count_after {E = Stop} a.count (Ok n) → n ≤ length room
+    → IsWhole t (take n room)
+    → old.progress.place ≡ place → place ≤ old.progress.told → length old.window.items < place
+    → length old.window.items ≤ 32
     → new.window ≡ old.window → new.progress.told ≡ old.progress.told → new.progress.budget ≡ old.progress.budget
-    → new.progress.retries ≡ old.progress.retries → new.progress.fault ≡ old.progress.fault → new.progress.taken ≡ old.progress.taken + n
+    → new.progress.retries ≡ old.progress.retries → new.progress.fault ≡ old.progress.fault
+    → new.progress.taken ≡ old.progress.taken + n
     → new.progress.place ≡ min (place + n) (2 ^ 64 - 1) → new.progress.taken ≤ old.progress.budget
     → ReadsAt old new a b place (take n room) (Ok n)
-held_reads {old} {new} {a} {b} {place} {n} room t gave counts fits whole at near far small same told budget retries calm taken now limit =
+held_reads {old} {new} {a} {b} {place} {n} room t gave counts fits whole at near far small same told budget retries calm
+    taken now limit =
     let p : Progress = old.progress in
     let q : Progress = new.progress in
     let long : length (take n room) ≡ n = omega (arith, length-take n room, fits) in
@@ -156,17 +173,21 @@ held_reads {old} {new} {a} {b} {place} {n} room t gave counts fits whole at near
       retries = omega (arith, retries);
       limit = λ few. omega (arith, few, retries);
     } in
-    let first = stands_gives p.told p.place q.place n p.fault (steady a.telling p.retries) (steady b.telling p.retries) room
-    (steady_gives a.telling b.telling p.retries room n gave) many fits (now ∙ ap (λ k. min (k + n) (2 ^ 64 - 1)) (sym at)) in
+    let first = stands_gives p.told p.place q.place n p.fault (steady a.telling p.retries)
+    (steady b.telling p.retries) room
+    (steady_gives a.telling b.telling p.retries room n gave) many fits
+    (now ∙ ap (λ k. min (k + n) (2 ^ 64 - 1)) (sym at)) in
     let gives : GivesFrom (stand a.telling p) (stand b.telling q) place q.place (take n room) (Ok n) =
-    rw (retries, told, calm) (subst (λ k. GivesFrom (stand a.telling p) (stand_of p.told q.place p.fault (steady b.telling p.retries)) k
+    rw (retries, told, calm)
+    (subst (λ k. GivesFrom (stand a.telling p) (stand_of p.told q.place p.fault (steady b.telling p.retries)) k
     q.place (take n room) (Ok n)) at first) in
     let read : ReadsFrom p q (stand a.telling p) (stand b.telling q) a b place (take n room) (Ok n) = record {
       bound = omega (arith, long);
       stand = gives;
       stands = λ told. now;
       taken = taken;
-      within = within_given (stand a.telling p) (stand b.telling q) place q.place n p.taken q.taken (take n room) gives taken;
+      within = within_given (stand a.telling p) (stand b.telling q) place q.place n p.taken q.taken
+          (take n room) gives taken;
       pays = λ beyond some. absurd (omega (arith, near, beyond));
       since = since;
       behind = rw (retries, told, calm) (behind_given p.told p.retries p.fault a.telling b.telling room n gave);
@@ -196,13 +217,17 @@ held_text {a} {c} t place n room whole fits runs =
       within = λ honest. omega (arith, run.within honest, total-span_of a.held.input place n);
       state = λ honest. run.state honest refl ∙ ap (state_after a) (whole_span a.held.input place n (there run honest));
     }) run.sound (is_text run) where
-      read : Runs a c (Ok (take n room)) (part_read a.held.input place n) → a.held.honest ≡ true → part a.held.input place n ≡ take n room
+      read : Runs a c (Ok (take n room)) (part_read a.held.input place n) → a.held.honest ≡ true
+          → part a.held.input place n ≡ take n room
       read run honest = part_is (run.answer honest refl)
 
-      there : Runs a c (Ok (take n room)) (part_read a.held.input place n) → a.held.honest ≡ true → n ≤ length a.held.input - place
-      there run honest = omega (arith, part_length a.held.input place n, ap length (read run honest), length-take n room, fits)
+      there : Runs a c (Ok (take n room)) (part_read a.held.input place n) → a.held.honest ≡ true
+          → n ≤ length a.held.input - place
+      there run honest = omega
+          (arith, part_length a.held.input place n, ap length (read run honest), length-take n room, fits)
 
-      is_text : Runs a c (Ok (take n room)) (part_read a.held.input place n) → a.held.honest ≡ true → text_part a.held.input t place (length room) ≡ take n room
+      is_text : Runs a c (Ok (take n room)) (part_read a.held.input place n) → a.held.honest ≡ true
+          → text_part a.held.input t place (length room) ≡ take n room
       is_text run honest =
           let split : n + (length room - n) ≡ length room = omega (arith, fits) in
           ap (λ k. text_front t (part a.held.input place k)) (sym split)

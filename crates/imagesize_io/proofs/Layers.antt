@@ -21,7 +21,8 @@ pub record Copies (window room old more : List ℕ) (place copied : ℕ) : Type 
   pub long : length more ≡ length room - copied
 
 -- a reading of which not all was copied
-pub some_copied : {window room old more : List ℕ} {place copied : ℕ} → length window ≤ 32 → copied ≡ min (length old) (length window - place)
+pub some_copied : {window room old more : List ℕ} {place copied : ℕ} → length window ≤ 32
+    → copied ≡ min (length old) (length window - place)
     → room ≡ part window place (length old) ++ drop copied old → length room ≡ length old → copied ≢ length room
     → length more ≡ length room - copied → Copies window room old more place copied
 some_copied small count front kept other long = record {
@@ -47,12 +48,22 @@ none_copied {window} {more} {place} small behind some = record {
 
 module _ {old new : Ledger} {a b : Account} where
   -- What follows the window came from the reader.
-  pub reads_behind : {place copied n : ℕ} {room before more : List ℕ} → Copies old.window.items room before more place copied
-      → ReadsFrom old.progress new.progress (stand a.telling old.progress) (stand b.telling new.progress) a b (place + copied) more
-      (Ok n) → new.window.items ≡ kept_window old.window.items (place + copied) (take n more) → new.progress.taken ≤ old.progress.budget
+  pub reads_behind : {place copied n : ℕ} {room before more : List ℕ}
+      → Copies old.window.items room before more place copied
+      → ReadsFrom old.progress new.progress (stand a.telling old.progress) (stand b.telling new.progress) a b
+      (place + copied) more
+      (Ok n) → new.window.items ≡ kept_window old.window.items (place + copied) (take n more)
+      → new.progress.taken ≤ old.progress.budget
       → ReadsAt old new a b place (put_mid copied (length room - copied) room more) (Ok (copied + n))
   reads_behind {place} {copied} {n} {room} {before} {more} copy read window limit = record {
-    bound = omega (arith, length-put room more copied (omega (arith, copy.short)) copy.long, read.bound, copy.long, copy.short);
+    bound = omega (
+      arith,
+      length-put room more copied
+          (omega (arith, copy.short)) copy.long,
+      read.bound,
+      copy.long,
+      copy.short,
+    );
     pays = λ some far. (
       read.pays (omega (arith, far)) (omega (arith, some, far, copy.count, copy.small)),
       limit,
@@ -81,7 +92,8 @@ module _ {old new : Ledger} {a b : Account} where
   -- The reader was stopped.
   pub stops_behind : {place copied : ℕ} {room before more : List ℕ} {halt : Halt} {r : Result ℕ Halt}
       → Copies old.window.items room before more place copied
-      → ReadsFrom old.progress new.progress (stand a.telling old.progress) (stand b.telling new.progress) a b (place + copied) more
+      → ReadsFrom old.progress new.progress (stand a.telling old.progress) (stand b.telling new.progress) a b
+      (place + copied) more
       (Err halt) → new.window.items ≡ old.window.items → r ≡ Err halt
       → ReadsAt old new a b place (put_mid copied (length room - copied) room more)
       r
@@ -91,25 +103,28 @@ module _ {old new : Ledger} {a b : Account} where
         bound = tt;
         pays = tt;
         keeps = read.keeps;
-        runs = λ home. behind_stopped (λ n. take n (put_mid copied (length room - copied) room more)) (Err halt) (record {
-          told = told_by a home old.progress;
-          told_after = told_by b home new.progress;
-          frame = same_frame a b home old.progress new.progress read.keeps read.since read.behind;
-          window = same;
-          count = copy.count;
-          kept = copy.kept;
-          long = copy.long;
-          gives = read.stand;
-          paid = read.keeps.taken;
-          within = read.within;
-          stops = read.stops.stops;
-          ended = ended_by b home new.progress _ _ _ read.stops;
-        }) refl;
+        runs = λ home. behind_stopped (λ n. take n (put_mid copied (length room - copied) room more)) (Err halt)
+            (record {
+              told = told_by a home old.progress;
+              told_after = told_by b home new.progress;
+              frame = same_frame a b home old.progress new.progress read.keeps read.since read.behind;
+              window = same;
+              count = copy.count;
+              kept = copy.kept;
+              long = copy.long;
+              gives = read.stand;
+              paid = read.keeps.taken;
+              within = read.within;
+              stops = read.stops.stops;
+              ended = ended_by b home new.progress _ _ _ read.stops;
+            }) refl;
       })
 
   -- a reading behind the window
-  pub reads_past : {place n : ℕ} {more : List ℕ} → length old.window.items ≤ 32 → length old.window.items ≤ place → 0 < length more
-      → ReadsFrom old.progress new.progress (stand a.telling old.progress) (stand b.telling new.progress) a b place more (Ok n)
+  pub reads_past : {place n : ℕ} {more : List ℕ} → length old.window.items ≤ 32 → length old.window.items ≤ place
+      → 0 < length more
+      → ReadsFrom old.progress new.progress (stand a.telling old.progress) (stand b.telling new.progress) a b place more
+      (Ok n)
       → new.window.items ≡ kept_window old.window.items place (take n more) → new.progress.taken ≤ old.progress.budget
       → ReadsAt old new a b place more (Ok n)
   reads_past {place} {n} {more} small behind some read window limit =

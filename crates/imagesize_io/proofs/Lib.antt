@@ -1,5 +1,6 @@
 mod Cursors
 pub mod Filling
+pub mod Fronts
 pub mod HeldReads
 pub mod Layers
 pub mod Openings

@@ -3,7 +3,7 @@ use Rattle.std.proofs.Common.{◌≡◌, ℕ, ◌+◌, ◌-◌, ◌^◌, ◌<◌
 use Rattle.std.proofs.lemmas.Bool.Decides.{nat_tests}
 use Rattle.imagesize_source.specs.declared.error.ImageError.{ImageError}
 use Rattle.imagesize_source.specs.declared.halt.Halt.{Halt}
-use Rattle.imagesize_source.specs.declared.halt.Halt.TheVariants.{Failed, Memory, Spent}
+use Rattle.imagesize_source.specs.declared.halt.Halt.TheVariants.{Failed, Spent}
 use Rattle.imagesize_source.specs.Errors.{is_fault, is_stopped as is_stopped_error}
 use Rattle.imagesize_source.specs.Halts.{error_by, with_error}
 use Rattle.imagesize_source.specs.Outcome.{outcome_of, stated}
@@ -13,7 +13,7 @@ use Rattle.std.specs.declared.io.Error.{Error}
 use Rattle.imagesize_io.specs.Answers.{AnswersAs, TakesAs, Answers, IsLast, Leaves, Takes}
 use Rattle.imagesize_io.specs.Standing.{behind_of, in_all}
 use Rattle.imagesize_io.specs.StopOf.{fault_of, last_failed}
-use Rattle.imagesize_source.specs.Reading.{Reads, is_failure, is_stop, is_stopped, is_memory, is_spent}
+use Rattle.imagesize_source.specs.Reading.{Reads, is_failure, is_stop, is_stopped, is_spent}
 use Rattle.imagesize_io.specs.ReaderState.{start_state, Opens}
 use Rattle.imagesize_source.specs.State.{Behind, EndedBy, State, Held, Runs, state_after, total}
 use Rattle.imagesize_io.specs.Telling.{Telling, IsHonest, at_place}
@@ -31,10 +31,12 @@ zero_leb n = grind (arith, nat_tests)
 is_same : (a : ℕ) → eqb a a ≡ true
 is_same a = grind (arith, nat_tests)
 
-patient : (t : Telling) (b : Bool) → t.can_fail ≡ b → (b ≡ false → t.interruptions ≤ 64) → (t.can_fail || leb (t.interruptions + 0) 64)
+patient : (t : Telling) (b : Bool) → t.can_fail ≡ b → (b ≡ false → t.interruptions ≤ 64)
+    → (t.can_fail || leb (t.interruptions + 0) 64)
     ≡ true
 patient t true fails few = rw fails refl
-patient t false fails few = let k : leb (t.interruptions + 0) 64 ≡ true = few_leb t.interruptions (few refl) in rw (fails, k) refl
+patient t false fails few = let k : leb (t.interruptions + 0) 64 ≡ true = few_leb t.interruptions (few refl) in
+    rw (fails, k) refl
 
 least_of : (n : ℕ) → n < 2 ^ 63 → min (n + 64) (2 ^ 64 - 1) ≡ n + 64
 least_of n short = omega arith
@@ -53,11 +55,10 @@ start_holds t count home honest =
     let none : leb 0 n ≡ true = zero_leb n in
     rw (waits, short, same, none) refl
 
--- a stop is a failure, a spent budget or refused memory
-pub stop_cases : (h : Halt) → is_stop h ≡ true → (is_failure h ≡ true) ⊎ ((is_spent h ≡ true) ⊎ (is_memory h ≡ true))
+-- a stop is a failure or a spent budget
+pub stop_cases : (h : Halt) → is_stop h ≡ true → (is_failure h ≡ true) ⊎ (is_spent h ≡ true)
 stop_cases Failed stops = inl refl
-stop_cases Spent stops = inr (inl refl)
-stop_cases Memory stops = inr (inr refl)
+stop_cases Spent stops = inr refl
 stop_cases _ stops = absurd cc
 
 -- what is known of a state that a call began with, over an honest reader
@@ -65,25 +66,19 @@ record Starts (t : Telling) (a : State) : Type 0 where
   held : a.held ≡ claim t
   budget : a.frame.budget ≡ length t.bytes + 64
   counts : a.frame.counts ≡ true
-  records : a.frame.records ≡ false
   front : a.front ≡ 0
   taken : a.taken ≡ 0
 
-fault_only : {X : Type 0} (t : Telling) (a b : State) (h : Halt) (reads : Reads X) → Starts t a → Runs {X = X} a b (Err h) reads
+fault_only : {X : Type 0} (t : Telling) (a b : State) (h : Halt) (reads : Reads X) → Starts t a
+    → Runs {X = X} a b (Err h) reads
     → total reads.marks < length t.bytes + 64 → is_stop h ≡ true → (is_failure h ≡ true) × (t.can_fail ≡ true)
 fault_only {X} t a b h reads starts run small stops =
     let honest : a.held.honest ≡ true = ap (λ k. k.honest) starts.held in
     elim (stop_cases h stops) [
       | inl faults ↦ (faults, sym (ap (λ k. k.can_fail) starts.held) ∙ run.fault honest faults)
-      | inr other ↦ elim other [
-        | inl spent ↦
-            let all = run.ended.budget spent in
-            absurd (omega (arith, all.1, ap (λ f. f.budget) run.frame, starts.budget, starts.taken, run.within honest, small))
-        | inr refused ↦
-            let on : b.frame.records ≡ true = (run.ended.memory refused).0 in
-            let off : b.frame.records ≡ false = ap (λ f. f.records) run.frame ∙ starts.records in
-            absurd cc
-      ]
+      | inr spent ↦
+          let all = run.ended.budget spent in
+          absurd (omega (arith, all.1, ap (λ f. f.budget) run.frame, starts.budget, starts.taken, run.within honest, small))
     ]
 
 failure_told : (failed : Option (Option ImageError)) (failure : ImageError) → is_some failed ≡ true
@@ -94,7 +89,8 @@ failure_told (Some last) failure some is = is.1
 fault_stops : (e : ImageError) → is_fault e ≡ true → is_stopped_error {X = Unit {0}} (Err e) ≡ true
 fault_stops e is = rw is refl
 
-answers_of : {X : Type 0} (t : Telling) (a b : State) (r : Result X Halt) (reads : Reads X) → Starts t a → Runs a b r reads
+answers_of : {X : Type 0} (t : Telling) (a b : State) (r : Result X Halt) (reads : Reads X) → Starts t a
+    → Runs a b r reads
     → is_some b.failed ≡ true → total reads.marks < length t.bytes + 64
     → AnswersAs t (outcome_of reads) (with_error b.failure b.frame.budget r)
 answers_of {X} t a b (Ok x) reads starts h told small = record {
@@ -104,12 +100,14 @@ answers_of {X} t a b (Ok x) reads starts h told small = record {
 answers_of {X} t a b (Err halt) reads starts h told small = by_stop (is_stop halt) refl where
   by_failure : (k : Halt) → k ≡ Failed → is_fault b.failure ≡ true → t.can_fail ≡ true
       → AnswersAs t (outcome_of reads) (Err (error_by b.failure b.frame.budget k))
-  by_failure k is fault can = subst (λ k. AnswersAs t (outcome_of reads) (Err (error_by b.failure b.frame.budget k))) (sym is) (record {
-    answer = λ goes_on. absurd (let stops = fault_stops b.failure fault in let no = sym goes_on ∙ stops in cc);
-    fault = λ stops. (fault, can);
-  })
+  by_failure k is fault can =
+      subst (λ k. AnswersAs t (outcome_of reads) (Err (error_by b.failure b.frame.budget k))) (sym is) (record {
+        answer = λ goes_on. absurd (let stops = fault_stops b.failure fault in let no = sym goes_on ∙ stops in cc);
+        fault = λ stops. (fault, can);
+      })
 
-  by_stop : (s : Bool) → is_stop halt ≡ s → AnswersAs t (outcome_of reads) (with_error {X = X} b.failure b.frame.budget (Err halt))
+  by_stop : (s : Bool) → is_stop halt ≡ s
+      → AnswersAs t (outcome_of reads) (with_error {X = X} b.failure b.frame.budget (Err halt))
   by_stop true stops =
       let only = fault_only t a b halt reads starts h small stops in
       by_failure halt (failed_is halt only.0) (failure_told b.failed b.failure told (h.ended.fault only.0)) only.1
@@ -132,16 +130,17 @@ error_goes_on {X} b (Err halt) told ended goes_on = by_stop (is_stop halt) refl 
       → is_stopped_error {X = X} (Err (error_by b.failure b.frame.budget k)) ≡ true
   stopped Failed stops fault = fault_stops b.failure (fault refl)
   stopped Spent stops fault = refl
-  stopped Memory stops fault = refl
   stopped _ stops fault = absurd cc
 
   by_stop : (s : Bool) → is_stop halt ≡ s → is_stop halt ≡ false
   by_stop true stops = absurd (
-      let is = stopped halt stops (λ fails. failure_told b.failed b.failure told (ended.fault fails)) in let no = sym is ∙ goes_on in cc
+      let is = stopped halt stops (λ fails. failure_told b.failed b.failure told (ended.fault fails)) in let no = sym is
+      ∙ goes_on in cc
       )
   by_stop false stops = stops
 
-takes_of : {X : Type 0} (t : Telling) (a b : State) (r : Result X Halt) (reads : Reads X) → Starts t a → Runs a b r reads
+takes_of : {X : Type 0} (t : Telling) (a b : State) (r : Result X Halt) (reads : Reads X) → Starts t a
+    → Runs a b r reads
     → is_some b.failed ≡ true → TakesAs t (outcome_of reads) (with_error b.failure b.frame.budget r) b.taken
 takes_of {X} t a b r reads starts h told =
     let honest : a.held.honest ≡ true = ap (λ k. k.honest) starts.held in
@@ -159,7 +158,6 @@ starts_at t count home honest = record {
   held = start_holds t count home honest;
   budget = least_of (length t.bytes) honest.short;
   counts = refl;
-  records = refl;
   front = refl;
   taken = refl;
 }
@@ -191,41 +189,41 @@ runs_of t mid count home told place b r reads_of honest began h =
     let a = start_state (Some (at_place t (length t.bytes))) count home (length t.bytes) in
     let begun : Runs a b r (over_state a reads_of place) = subst (λ s. Runs s b r (over_state s reads_of place))
     (start_of t mid count home told place began) h in
-    let there : Runs a b r (reads_of t.bytes place) = subst (λ k. Runs a b r (reads_of k.input place)) (start_holds t count home honest)
+    let there : Runs a b r (reads_of t.bytes place) =
+    subst (λ k. Runs a b r (reads_of k.input place)) (start_holds t count home honest)
     begun in
     subst (λ p. Runs a b r (reads_of t.bytes p)) began.at there
 
 -- what a call that ran behind an opening answers
-pub opened_answers : {X : Type 0} (telling mid : Option Telling) (count : Option ℕ) (home : ℕ) (opened : Opened) (b : State)
-    (r : Result X Halt) (reads_of : List ℕ → ℕ → Reads X) → IsBounded reads_of → is_some b.failed ≡ true → Opens telling mid (Ok opened)
-    → Runs (start_state mid count home opened.told) b r (over_state (start_state mid count home opened.told) reads_of opened.place)
+pub opened_answers : {X : Type 0} (telling mid : Option Telling) (count : Option ℕ) (home : ℕ) (opened : Opened)
+    (b : State)
+    (r : Result X Halt) (reads_of : List ℕ → ℕ → Reads X) → IsBounded reads_of → is_some b.failed ≡ true
+    → Opens telling mid (Ok opened)
+    → Runs (start_state mid count home opened.told) b r
+    (over_state (start_state mid count home opened.told) reads_of opened.place)
     → Answers telling (λ d place. outcome_of (reads_of d place)) (with_error b.failure b.frame.budget r)
 opened_answers None mid count home opened b r reads_of bounded told opens h = tt
 opened_answers (Some t) mid count home opened b r reads_of bounded told opens h = λ honest.
-    let began : Began t mid opened.told opened.place = record { at_end = opens.0; length_told = opens.2; at = opens.1 } in
-    answers_of t _ b r (reads_of t.bytes t.place) (starts_at t count home honest) (runs_of t mid count home opened.told opened.place b r
+    let began : Began t mid opened.told opened.place =
+    record { at_end = opens.0; length_told = opens.2; at = opens.1 } in
+    answers_of t _ b r (reads_of t.bytes t.place) (starts_at t count home honest)
+    (runs_of t mid count home opened.told opened.place b r
     reads_of honest began h) told (bounded t.bytes t.place)
 
 -- and what it took
-pub opened_takes : {X : Type 0} (telling mid : Option Telling) (count : Option ℕ) (home : ℕ) (opened : Opened) (b : State)
+pub opened_takes : {X : Type 0} (telling mid : Option Telling) (count : Option ℕ) (home : ℕ) (opened : Opened)
+    (b : State)
     (r : Result X Halt) (reads_of : List ℕ → ℕ → Reads X) → is_some b.failed ≡ true → Opens telling mid (Ok opened)
-    → Runs (start_state mid count home opened.told) b r (over_state (start_state mid count home opened.told) reads_of opened.place)
+    → Runs (start_state mid count home opened.told) b r
+    (over_state (start_state mid count home opened.told) reads_of opened.place)
     → Takes telling (λ d place. outcome_of (reads_of d place)) (with_error b.failure b.frame.budget r) b.taken
 opened_takes None mid count home opened b r reads_of told opens h = tt
 opened_takes (Some t) mid count home opened b r reads_of told opens h = λ honest.
-    let began : Began t mid opened.told opened.place = record { at_end = opens.0; length_told = opens.2; at = opens.1 } in
-    takes_of t _ b r (reads_of t.bytes t.place) (starts_at t count home honest) (runs_of t mid count home opened.told opened.place b r
+    let began : Began t mid opened.told opened.place =
+    record { at_end = opens.0; length_told = opens.2; at = opens.1 } in
+    takes_of t _ b r (reads_of t.bytes t.place) (starts_at t count home honest)
+    (runs_of t mid count home opened.told opened.place b r
     reads_of honest began h) told
-
--- A reader that cannot open stays as it was, but for its place.
-pub fails_leaves : (telling new : Option Telling) (e : ImageError) → Opens telling new (Err e) → Leaves telling new
-fails_leaves None new e is = is
-fails_leaves (Some t) None e fails = absurd fails.1
-fails_leaves (Some t) (Some u) e fails = record {
-  bytes = fails.1.0;
-  can_fail = fails.1.1 ∙ sym fails.0;
-  interruptions = λ honest never. absurd (let no : true ≡ false = sym fails.0 ∙ never in cc);
-}
 
 -- no more interruptions are left than come in all
 fewer_left : (b : Bool) (n k : ℕ) → cond b (Some n) None ≡ Some k → n ≤ k
@@ -244,12 +242,14 @@ some_is same = cc
 
 -- what never changes of a reader says how a call leaves it
 pub opened_leaves : (telling mid new : Option Telling) (opened : Opened) (told retries : ℕ) (fault : Option Error)
-    → Opens telling mid (Ok opened) → behind_of told retries fault new ≡ behind_of opened.told 0 None mid → Leaves telling new
+    → Opens telling mid (Ok opened) → behind_of told retries fault new ≡ behind_of opened.told 0 None mid
+    → Leaves telling new
 opened_leaves None mid None opened told retries fault opens same = refl
 opened_leaves None mid (Some u) opened told retries fault opens same = absurd (let e : mid ≡ None = opens in cc)
 opened_leaves (Some t) mid None opened told retries fault opens same = absurd (let e = opens.0 in cc)
 opened_leaves (Some t) mid (Some u) opened told retries fault opens same =
-    let start : behind_of opened.told 0 None mid ≡ behind_of (length t.bytes) 0 None (Some (at_place t (length t.bytes))) =
+    let start : behind_of opened.told 0 None mid
+    ≡ behind_of (length t.bytes) 0 None (Some (at_place t (length t.bytes))) =
     ap (λ m. behind_of opened.told 0 None m) opens.0
     ∙ ap (λ n. behind_of n 0 None (Some (at_place t (length t.bytes)))) opens.2 in
     let stays = some_is (same ∙ start) in record {
@@ -262,7 +262,8 @@ opened_leaves (Some t) mid (Some u) opened told retries fault opens same =
     }
 
 -- the failure that a source tells is the reader's last one
-pub told_last : (failure : Option (Option Error)) (fault : Option Error) (e : ImageError) → last_failed fault failure ≡ Some e
+pub told_last : (failure : Option (Option Error)) (fault : Option Error) (e : ImageError)
+    → last_failed fault failure ≡ Some e
     → IsLast failure e
 told_last None fault e is = tt
 told_last (Some last) None e is = absurd cc

@@ -44,21 +44,26 @@ rest_none (Line delimiter) begun = refl
 rest_none Word true = refl
 rest_none Word false = no_front
 
-pub rest_ends : (t : Text) (begun : Bool) (b : ℕ) (bs : List ℕ) → ends t begun b ≡ true → text_rest t begun (b ∷ bs) ≡ b ∷ []
-rest_ends (Line delimiter) begun b bs is = through-cons (delimits (Line delimiter)) b bs ∙ ap (λ test. cond test (b ∷ [])
+pub rest_ends : (t : Text) (begun : Bool) (b : ℕ) (bs : List ℕ) → ends t begun b ≡ true
+    → text_rest t begun (b ∷ bs) ≡ b ∷ []
+rest_ends (Line delimiter) begun b bs is = through-cons (delimits (Line delimiter)) b bs
+    ∙ ap (λ test. cond test (b ∷ [])
     (b ∷ front_through (delimits (Line delimiter)) bs)) is
 rest_ends Word true b bs is = through-cons is_ascii_whitespace b bs ∙ ap (λ test. cond test (b ∷ [])
     (b ∷ front_through is_ascii_whitespace bs)) is
 rest_ends Word false b bs is = absurd cc
 
-pub rest_goes_on : (t : Text) (begun : Bool) (b : ℕ) (bs : List ℕ) → ends t begun b ≡ false → text_rest t begun (b ∷ bs) ≡ b ∷ text_rest t
+pub rest_goes_on : (t : Text) (begun : Bool) (b : ℕ) (bs : List ℕ) → ends t begun b ≡ false
+    → text_rest t begun (b ∷ bs) ≡ b ∷ text_rest t
     (begun || not (is_ascii_whitespace b)) bs
-rest_goes_on (Line delimiter) begun b bs is = through-cons (delimits (Line delimiter)) b bs ∙ ap (λ test. cond test (b ∷ [])
+rest_goes_on (Line delimiter) begun b bs is = through-cons (delimits (Line delimiter)) b bs
+    ∙ ap (λ test. cond test (b ∷ [])
     (b ∷ front_through (delimits (Line delimiter)) bs)) is
 rest_goes_on Word true b bs is = through-cons is_ascii_whitespace b bs ∙ ap (λ test. cond test (b ∷ [])
     (b ∷ front_through is_ascii_whitespace bs)) is
 rest_goes_on Word false b bs is =
-    let Goal : Bool → Type 0 = λ white. cond white (b ∷ text_front Word bs) (b ∷ front_through is_ascii_whitespace bs) ≡ b ∷ text_rest Word
+    let Goal : Bool → Type 0 = λ white. cond white (b ∷ text_front Word bs) (b ∷ front_through is_ascii_whitespace bs)
+    ≡ b ∷ text_rest Word
     (not white) bs in
     let cases : Goal (is_ascii_whitespace b) = elim (is_ascii_whitespace b) as Goal [ true ↦ refl | false ↦ refl ] in
     word_front b bs ∙ cases
@@ -74,10 +79,12 @@ rest_some t begun b bs = by_end (ends t begun b) refl where
 abbrev pub CountsOnly : State → Type 0
 CountsOnly a = (a.frame.counts ≡ true) × (a.recorded ≡ None)
 
-front_joins : (front place n : ℕ) → front_after (front_after front place n) (place + n) 1 ≡ front_after front place (n + 1)
+front_joins : (front place n : ℕ)
+    → front_after (front_after front place n) (place + n) 1 ≡ front_after front place (n + 1)
 front_joins front place n = grind (arith, nat_tests)
 
-fresh_joins : (front place n : ℕ) → new_bytes front place n + new_bytes (front_after front place n) (place + n) 1 ≡ new_bytes front place (n + 1)
+fresh_joins : (front place n : ℕ)
+    → new_bytes front place n + new_bytes (front_after front place n) (place + n) 1 ≡ new_bytes front place (n + 1)
 fresh_joins front place n = grind (arith, nat_tests)
 
 -- a state by what was taken
@@ -94,14 +101,16 @@ step_joins a place n only =
     let first = step_counts a (record { start = place; len = n }) only in
     let front : ℕ = front_after a.front place n in
     let taken : ℕ = a.taken + new_bytes a.front place n in
-    let more : taken + new_bytes front (place + n) 1 ≡ a.taken + new_bytes a.front place (n + 1) = omega (arith, fresh_joins a.front place n) in
+    let more : taken + new_bytes front (place + n) 1 ≡ a.taken + new_bytes a.front place (n + 1) =
+    omega (arith, fresh_joins a.front place n) in
     ap (λ s. step s (record { start = place + n; len = 1 })) first
     ∙ step_counts (having a front taken) (record { start = place + n; len = 1 }) (only.0, refl)
     ∙ ap (λ w. having a w (taken + new_bytes front (place + n) 1)) (front_joins a.front place n)
     ∙ ap (λ m. having a (front_after a.front place (n + 1)) m) more
     ∙ sym (step_counts a (record { start = place; len = n + 1 }) only)
 
-span_joins : (a : State) (place n : ℕ) → CountsOnly a → state_after (state_after a (span_at place n)) (span_at (place + n) 1) ≡ state_after a
+span_joins : (a : State) (place n : ℕ) → CountsOnly a
+    → state_after (state_after a (span_at place n)) (span_at (place + n) 1) ≡ state_after a
     (span_at place (n + 1))
 unfolding state_after span_at
 span_joins a place zero only = rw add-zero refl
@@ -117,13 +126,15 @@ drop_byte (x ∷ d) zero b is = let same : x ≡ b = cc in ap (λ y. y ∷ d) sa
 drop_byte [] (suc place) b is = absurd cc
 drop_byte (x ∷ d) (suc place) b is = drop_byte d place b is
 
-part_byte : (d : List ℕ) (place b k : ℕ) → part d place 1 ≡ b ∷ [] → 0 < k → part d place k ≡ b ∷ part d (place + 1) (k - 1)
+part_byte : (d : List ℕ) (place b k : ℕ) → part d place 1 ≡ b ∷ [] → 0 < k
+    → part d place k ≡ b ∷ part d (place + 1) (k - 1)
 unfolding part
 part_byte d place b zero is some = absurd (omega arith)
 part_byte d place b (suc k) is some =
     let next : suc place ≡ place + 1 = omega arith in
     let fewer : k ≡ suc k - 1 = omega arith in
-    ap (take (suc k)) (drop_byte d place b is) ∙ ap (λ p. b ∷ take k (drop p d)) next ∙ ap (λ n. b ∷ take n (drop (place + 1) d)) fewer
+    ap (take (suc k)) (drop_byte d place b is) ∙ ap (λ p. b ∷ take k (drop p d)) next
+    ∙ ap (λ n. b ∷ take n (drop (place + 1) d)) fewer
 
 -- Readings gave so many bytes. Where the source is honest, it has taken no more than those, and the state is the one past them.
 pub record Took (a b : State) (place count : ℕ) (got : List ℕ) : Type 0 where
@@ -136,7 +147,8 @@ pub record Took (a b : State) (place count : ℕ) (got : List ℕ) : Type 0 wher
 
 -- what they gave is the text
 pub took_text : {a b : State} {place count : ℕ} {got : List ℕ} (t : Text) (k : ℕ) → Took a b place count got → IsSound a
-    → (a.held.honest ≡ true → text_part a.held.input t place k ≡ got) → Runs a b (Ok got) (text_read a.held.input t place k)
+    → (a.held.honest ≡ true → text_part a.held.input t place k ≡ got)
+    → Runs a b (Ok got) (text_read a.held.input t place k)
 took_text {a} {b} {place} {count} {got} t k took sound is = record {
   sound = sound;
   sound_after = took.sound;
@@ -187,7 +199,8 @@ taking_none a t place k sound = record {
       ∙ ap (λ j. text_rest t false (part a.held.input (place + 0) j)) all;
 }
 
-module _ {a b : State} {t : Text} {place count k : ℕ} {begun : Bool} {got : List ℕ} (h : Taking a b t place count begun k got) where
+module _ {a b : State} {t : Text} {place count k : ℕ} {begun : Bool} {got : List ℕ}
+    (h : Taking a b t place count begun k got) where
   same_held : a.held.honest ≡ true → b.held ≡ a.held
   same_held honest = ap (λ s. s.held) (h.took.state honest) ∙ past-held a (span_at place count)
 
@@ -209,8 +222,10 @@ module _ {a b : State} {t : Text} {place count k : ℕ} {begun : Bool} {got : Li
   )
 
   -- what is left of it is nothing
-  all_read : a.held.honest ≡ true → part a.held.input (place + count) (k - count) ≡ [] → text_part a.held.input t place k ≡ got
-  all_read honest none = h.left honest ∙ ap (λ bs. got ++ text_rest t begun bs) none ∙ ap (λ bs. got ++ bs) (rest_none t begun)
+  all_read : a.held.honest ≡ true → part a.held.input (place + count) (k - count) ≡ []
+      → text_part a.held.input t place k ≡ got
+  all_read honest none = h.left honest ∙ ap (λ bs. got ++ text_rest t begun bs) none
+      ∙ ap (λ bs. got ++ bs) (rest_none t begun)
       ∙ append-nil got
 
   module _ {c : State} (next : ℕ) (next_is : next ≡ min (place + count) (2 ^ 64 - 1)) where
@@ -222,24 +237,29 @@ module _ {a b : State} {t : Text} {place count k : ℕ} {begun : Bool} {got : Li
         omega (arith, part_length a.held.input next 1, ap length none)
 
     -- a text ends where the input does
-    pub taking_ends : Runs b c (Ok []) (part_read b.held.input next 1) → IsSound a → Runs a c (Ok got) (text_read a.held.input t place k)
+    pub taking_ends : Runs b c (Ok []) (part_read b.held.input next 1) → IsSound a
+        → Runs a c (Ok got) (text_read a.held.input t place k)
     unfolding state_after
     taking_ends run sound = took_text t k (record {
       long = h.took.long;
       sound = run.sound_after;
       frame = run.frame ∙ h.took.frame;
       taken = omega (arith, h.took.taken, run.taken);
-      within = λ honest. omega (arith, h.took.within honest, run.within (same_honest honest), ap total (no_mark honest));
+      within = λ honest. omega
+          (arith, h.took.within honest, run.within (same_honest honest), ap total (no_mark honest));
       state = λ honest. run.state (same_honest honest) refl ∙ ap (state_after b) (no_mark honest) ∙ h.took.state honest;
     }) sound ends_now where
       ends_now : a.held.honest ≡ true → text_part a.held.input t place k ≡ got
-      ends_now honest = all_read honest (no_part a.held.input (place + count) (k - count) (omega (arith, end_there run honest, next_is)))
+      ends_now honest = all_read honest
+          (no_part a.held.input (place + count) (k - count) (omega (arith, end_there run honest, next_is)))
 
       no_mark : a.held.honest ≡ true → span_of b.held.input next 1 ≡ []
-      no_mark honest = ap (λ d. span_of d next 1) (same_input honest) ∙ no_span a.held.input next 1 (end_there run honest)
+      no_mark honest = ap (λ d. span_of d next 1) (same_input honest)
+          ∙ no_span a.held.input next 1 (end_there run honest)
 
     -- a failure on the way
-    pub taking_stopped : {e : Halt} → count < k → Runs b c (Err e) (part_read b.held.input next 1) → IsSound a → c.missed ≡ None
+    pub taking_stopped : {e : Halt} → count < k → Runs b c (Err e) (part_read b.held.input next 1) → IsSound a
+        → c.missed ≡ None
         → Runs a c (Err e) (text_read a.held.input t place k)
     taking_stopped {e} more run sound untold = record {
       sound = sound;
@@ -264,7 +284,8 @@ module _ {a b : State} {t : Text} {place count k : ℕ} {begun : Bool} {got : Li
       one_more [] some = absurd (omega (arith, some))
       one_more (x ∷ bs) some = rest_some t begun x bs
 
-      few : a.held.honest ≡ true → count + total (span_of b.held.input next 1) ≤ length (text_part a.held.input t place k)
+      few : a.held.honest ≡ true
+          → count + total (span_of b.held.input next 1) ≤ length (text_part a.held.input t place k)
       few honest = elim (cases_lt next (length a.held.input)) [
         | inl there ↦ (
             let short : length a.held.input < 2 ^ 63 = subst (λ d. length d < 2 ^ 63) (same_input honest)
@@ -272,23 +293,28 @@ module _ {a b : State} {t : Text} {place count k : ℕ} {begun : Bool} {got : Li
             let some = one_more (part a.held.input (place + count) (k - count))
             (omega (arith, part_length a.held.input (place + count) (k - count), there, next_is, short, more)) in
             omega (arith, some, text_long honest, total-span_of b.held.input next 1))
-        | inr beyond ↦ omega (arith, text_long honest, total_there b.held.input next 1, ap length (same_input honest), beyond)
+        | inr beyond ↦ omega
+            (arith, text_long honest, total_there b.held.input next 1, ap length (same_input honest), beyond)
       ]
 
     module _ (byte : ℕ) (more : count < k) (run : Runs b c (Ok (byte ∷ [])) (part_read b.held.input next 1)) where
       byte_read : a.held.honest ≡ true → part a.held.input next 1 ≡ byte ∷ []
-      byte_read honest = ap (λ d. part d next 1) (sym (same_input honest)) ∙ part_is (run.answer (same_honest honest) refl)
+      byte_read honest = ap (λ d. part d next 1) (sym (same_input honest))
+          ∙ part_is (run.answer (same_honest honest) refl)
 
       -- a byte that is there stands at its own place
       next_place : a.held.honest ≡ true → next ≡ place + count
       next_place honest =
-          let short : length a.held.input < 2 ^ 63 = subst (λ d. length d < 2 ^ 63) (same_input honest) (h.took.sound (same_honest honest)).1 in
+          let short : length a.held.input < 2 ^ 63 =
+          subst (λ d. length d < 2 ^ 63) (same_input honest) (h.took.sound (same_honest honest)).1 in
           omega (arith, part_length a.held.input next 1, ap length (byte_read honest), next_is, short)
 
-      rest_read : a.held.honest ≡ true → part a.held.input (place + count) (k - count) ≡ byte ∷ part a.held.input (place + (count + 1))
+      rest_read : a.held.honest ≡ true
+          → part a.held.input (place + count) (k - count) ≡ byte ∷ part a.held.input (place + (count + 1))
           (k - (count + 1))
       rest_read honest =
-          let one : part a.held.input (place + count) 1 ≡ byte ∷ [] = ap (λ p. part a.held.input p 1) (sym (next_place honest))
+          let one : part a.held.input (place + count) 1 ≡ byte ∷ [] =
+          ap (λ p. part a.held.input p 1) (sym (next_place honest))
           ∙ byte_read honest in
           let there : place + count + 1 ≡ place + (count + 1) = omega arith in
           let fewer : k - count - 1 ≡ k - (count + 1) = omega arith in
@@ -316,12 +342,14 @@ module _ {a b : State} {t : Text} {place count k : ℕ} {begun : Bool} {got : Li
         sound = run.sound_after;
         frame = run.frame ∙ h.took.frame;
         taken = omega (arith, h.took.taken, run.taken);
-        within = λ honest. omega (arith, h.took.within honest, run.within (same_honest honest), total-span_of b.held.input next 1);
+        within = λ honest. omega
+            (arith, h.took.within honest, run.within (same_honest honest), total-span_of b.held.input next 1);
         state = joined only;
       }
 
       -- a byte that does not end it
-      pub taking_more : CountsOnly a → place ≤ next → Paid b c next → ends t begun byte ≡ false → Taking a c t place (count + 1)
+      pub taking_more : CountsOnly a → place ≤ next → Paid b c next → ends t begun byte ≡ false
+          → Taking a c t place (count + 1)
           (begun || not (is_ascii_whitespace byte)) k (got ++ byte ∷ [])
       taking_more only behind paid goes_on = record {
         fits = omega (arith, more);
@@ -344,7 +372,8 @@ module _ {a b : State} {t : Text} {place count k : ℕ} {begun : Bool} {got : Li
       taking_done only is_end sound = took_text t k (took_byte only) sound (λ honest.
           h.left honest
           ∙ ap (λ bs. got ++ text_rest t begun bs) (rest_read honest)
-          ∙ ap (λ bs. got ++ bs) (rest_ends t begun byte (part a.held.input (place + (count + 1)) (k - (count + 1))) is_end))
+          ∙ ap (λ bs. got ++ bs)
+          (rest_ends t begun byte (part a.held.input (place + (count + 1)) (k - (count + 1))) is_end))
 
   -- there is no more room
   pub taking_full : k ≤ count → IsSound a → Runs a b (Ok got) (text_read a.held.input t place k)
@@ -361,42 +390,56 @@ one_byte zero room (b ∷ x ∷ more) behind fits one = absurd (omega (arith, on
 one_byte (suc count) [] more behind fits one = absurd (omega (arith, fits))
 one_byte (suc count) (x ∷ room) more behind fits one = one_byte count room more behind (omega (arith, fits)) one
 
-room_long : (count m : ℕ) (room more : List ℕ) → count < length room → m ≡ 1 → length more ≡ 1 → length (put_mid count m room more)
+room_long : (count m : ℕ) (room more : List ℕ) → count < length room → m ≡ 1 → length more ≡ 1
+    → length (put_mid count m room more)
     ≡ length room
-room_long count m room more fits is_one one = simp (length-append, length-take, length-drop) (omega (arith, fits, is_one, one))
+room_long count m room more fits is_one one =
+    simp (length-append, length-take, length-drop) (omega (arith, fits, is_one, one))
 
 -- a reading into a room of one byte
-one_read : {b c : State} (d more got : List ℕ) (next n : ℕ) → length more ≡ 1 → take n more ≡ got → Runs b c (Ok (take n more))
+one_read : {b c : State} (d more got : List ℕ) (next n : ℕ) → length more ≡ 1 → take n more ≡ got
+    → Runs b c (Ok (take n more))
     (part_read d next (length more)) → Runs b c (Ok got) (part_read d next 1)
 one_read {b} {c} d more got next n one is run = subst (λ k. Runs b c (Ok got) (part_read d next k)) one
     (subst (λ bs. Runs b c (Ok bs) (part_read d next (length more))) is run)
 
 -- a reader tells the true length where it is honest
 pub reader_sound : (a : Account) (home : ℕ) (p : Progress) (window : List ℕ) → IsSound (reader_state a home p window)
-reader_sound a home p window = sound_at (reader_frame a home p) (stand a.telling p) (failures_of p.fault a.failure) window p.taken
+reader_sound a home p window =
+    sound_at (reader_frame a home p) (stand a.telling p) (failures_of p.fault a.failure) window p.taken
     (told_by a home p)
 
 -- a room of one byte
-pub one_long : (count : ℕ) (room more : List ℕ) → count < length room → length more ≡ length (take (count + 1 - count) (drop count room))
+pub one_long : (count : ℕ) (room more : List ℕ) → count < length room
+    → length more ≡ length (take (count + 1 - count) (drop count room))
     → length more ≡ 1
-one_long count room more fits long = omega (arith, long, length-take (count + 1 - count) (drop count room), length-drop count room, fits)
+one_long count room more fits long =
+    omega (arith, long, length-take (count + 1 - count) (drop count room), length-drop count room, fits)
 
-module _ {a b : State} {t : Text} {place count : ℕ} {begun : Bool} (room : List ℕ) (h : Taking a b t place count begun (length room)
+module _ {a b : State} {t : Text} {place count : ℕ} {begun : Bool} (room : List ℕ)
+    (h : Taking a b t place count begun (length room)
     (take count room)) where
-  module _ {c : State} (next n m : ℕ) (more : List ℕ) (next_is : next ≡ min (place + count) (2 ^ 64 - 1)) (fits : count < length room)
-      (is_one : m ≡ 1) (one : length more ≡ 1) (run : Runs b c (Ok (take n more)) (part_read b.held.input next (length more))) where
+  module _ {c : State} (next n m : ℕ) (more : List ℕ) (next_is : next ≡ min (place + count) (2 ^ 64 - 1))
+      (fits : count < length room)
+      (is_one : m ≡ 1) (one : length more ≡ 1)
+      (run : Runs b c (Ok (take n more)) (part_read b.held.input next (length more))) where
     module _ (some : 0 < n) (few : n ≤ length more) where
       read_one : Runs b c (Ok (slice_index (put_mid count m room more) count ∷ [])) (part_read b.held.input next 1)
       read_one = one_read b.held.input more (slice_index (put_mid count m room more) count ∷ []) next n one
-          (take_all n more (omega (arith, some, one)) ∙ one_byte count room more (drop m (drop count room)) (omega (arith, fits)) one) run
+          (take_all n more (omega (arith, some, one))
+          ∙ one_byte count room more (drop m (drop count room)) (omega (arith, fits)) one) run
 
-      room_more : take (count + 1) (put_mid count m room more) ≡ take count room ++ slice_index (put_mid count m room more) count ∷ []
+      room_more : take (count + 1) (put_mid count m room more)
+          ≡ take count room ++ slice_index (put_mid count m room more) count ∷ []
       room_more = take-put_mid count m room more (count + 1) (omega (arith, one)) (omega (arith, fits))
-          ∙ ap (λ bs. take count room ++ bs) (one_byte count room more (drop m (drop count room)) (omega (arith, fits)) one)
+          ∙ ap (λ bs. take count room ++ bs)
+          (one_byte count room more (drop m (drop count room)) (omega (arith, fits)) one)
 
       -- one byte more, and the text goes on
-      pub text_goes_on : (white is_end : Bool) → CountsOnly a → place < 2 ^ 64 → Paid b c next → white ≡ is_ascii_whitespace
-          (slice_index (put_mid count m room more) count) → is_end ≡ ends t begun (slice_index (put_mid count m room more) count)
+      pub text_goes_on : (white is_end : Bool) → CountsOnly a → place < 2 ^ 64 → Paid b c next
+          → white ≡ is_ascii_whitespace
+          (slice_index (put_mid count m room more) count)
+          → is_end ≡ ends t begun (slice_index (put_mid count m room more) count)
           → is_end ≡ false → Taking a c t place (count + 1) (begun || not white) (length (put_mid count m room more))
           (take (count + 1) (put_mid count m room more))
       text_goes_on white is_end only short paid white_is end_is goes_on =
@@ -408,17 +451,20 @@ module _ {a b : State} {t : Text} {place count : ℕ} {begun : Bool} (room : Lis
           (begun || not (is_ascii_whitespace (slice_index (put_mid count m room more) count))) k
           (take (count + 1) (put_mid count m room more))) (sym (room_long count m room more fits is_one one))
           (subst (λ bs. Taking a c t place (count + 1)
-          (begun || not (is_ascii_whitespace (slice_index (put_mid count m room more) count))) (length room) bs) (sym room_more) on))
+          (begun || not (is_ascii_whitespace (slice_index (put_mid count m room more) count))) (length room) bs)
+          (sym room_more) on))
 
       -- one byte more, which ends the text
-      pub text_ends : (is_end : Bool) → CountsOnly a → IsSound a → is_end ≡ ends t begun (slice_index (put_mid count m room more) count)
+      pub text_ends : (is_end : Bool) → CountsOnly a → IsSound a
+          → is_end ≡ ends t begun (slice_index (put_mid count m room more) count)
           → is_end ≡ true → Runs a c (Ok (take (count + 1) (put_mid count m room more)))
           (text_read a.held.input t place (length (put_mid count m room more)))
       text_ends is_end only sound end_is ends_here =
           subst (λ k. Runs a c (Ok (take (count + 1) (put_mid count m room more))) (text_read a.held.input t place k))
           (sym (room_long count m room more fits is_one one))
           (subst (λ bs. Runs a c (Ok bs) (text_read a.held.input t place (length room))) (sym room_more)
-          (taking_done h next next_is (slice_index (put_mid count m room more) count) fits read_one only (sym end_is ∙ ends_here) sound))
+          (taking_done h next next_is (slice_index (put_mid count m room more) count) fits read_one only
+          (sym end_is ∙ ends_here) sound))
 
     -- no byte more
     pub input_ends : IsSound a → n ≡ 0 → Runs a c (Ok (take count (put_mid count m room more)))
@@ -432,8 +478,11 @@ module _ {a b : State} {t : Text} {place count : ℕ} {begun : Bool} (room : Lis
 
   -- a failure
   pub text_stopped : {c : State} {e : Halt} (next m : ℕ) (more : List ℕ) → next ≡ min (place + count) (2 ^ 64 - 1)
-      → count < length room → m ≡ 1 → length more ≡ 1 → Runs b c (Err e) (part_read b.held.input next (length more)) → IsSound a → c.missed ≡ None
+      → count < length room → m ≡ 1 → length more ≡ 1 → Runs b c (Err e) (part_read b.held.input next (length more))
+      → IsSound a → c.missed ≡ None
       → Runs a c (Err e) (text_read a.held.input t place (length (put_mid count m room more)))
   text_stopped {c} {e} next m more next_is fits is_one one run sound untold =
-      subst (λ k. Runs a c (Err e) (text_read a.held.input t place k)) (sym (room_long count m room more fits is_one one))
-      (taking_stopped h next next_is fits (subst (λ k. Runs b c (Err e) (part_read b.held.input next k)) one run) sound untold)
+      subst (λ k. Runs a c (Err e) (text_read a.held.input t place k))
+      (sym (room_long count m room more fits is_one one))
+      (taking_stopped h next next_is fits
+      (subst (λ k. Runs b c (Err e) (part_read b.held.input next k)) one run) sound untold)

@@ -19,7 +19,7 @@ use Rattle.imagesize_io.specs.Standing.{Standing, GivesFrom, behind, stand, drif
 use borrow.Rule.Slice.PartMut.{put_mid}
 use Rattle.imagesize_io.proofs.Filling.{part-add, take_more, length-put}
 use Rattle.imagesize_source.proofs.Slices.{front_is}
-use Rattle.imagesize_source.specs.State.{Behind as Unchanged, State, Frame, Held, Runs, EndedBy, IsSound, state_after, step, total, new_bytes, front_after}
+use Rattle.imagesize_source.specs.State.{Behind as Unchanged, State, Frame, Held, Runs, EndedBy, IsSound, state_after, step, total, new_bytes, front_after, Reader}
 use Rattle.imagesize_source.proofs.Counts.{total_there}
 use Rattle.imagesize_source.proofs.Parts.{part_whole}
 
@@ -66,7 +66,8 @@ span-suc : (place n : ℕ) → span_at place (suc n) ≡ record { start = place;
 unfolding span_at
 span-suc place n = let some : eqb (suc n) 0 ≡ false = grind (arith, nat_tests) in rw some refl
 
-pub past-span : (a : State) (place n : ℕ) → a.frame.counts ≡ true → a.recorded ≡ None → state_after a (span_at place n) ≡ read_on a place n
+pub past-span : (a : State) (place n : ℕ) → a.frame.counts ≡ true → a.recorded ≡ None
+    → state_after a (span_at place n) ≡ read_on a place n
 unfolding state_after span_at
 past-span a place zero counts bare =
     let taken : a.taken + new_bytes a.front place 0 ≡ a.taken = omega arith in
@@ -91,7 +92,8 @@ part-behind w d place k far =
     ∙ ap (λ p. take k (drop p d)) split
 
 -- a part that begins in the window and goes on behind it
-part-across : (w d : List ℕ) (place k copied : ℕ) → copied ≡ min k (length w - place) → copied < k → part (with_window w d) place k
+part-across : (w d : List ℕ) (place k copied : ℕ) → copied ≡ min k (length w - place) → copied < k
+    → part (with_window w d) place k
     ≡ part w place k ++ part d (place + copied) (k - copied)
 part-across w d place k copied is short =
     let whole : copied + (k - copied) ≡ k = omega arith in
@@ -106,11 +108,13 @@ rejoined : (j n : ℕ) (l : List ℕ) → take j (take n l) ++ drop (length (tak
 rejoined j n l =
     let i = min j (length (take n l)) in
     let long : length (take j (take n l)) ≡ i = length-take j (take n l) in
-    let front : take j (take n l) ≡ take i l = sym (take_min j (take n l)) ∙ take-take i n l (omega (arith, length-take n l)) in
+    let front : take j (take n l) ≡ take i l = sym (take_min j (take n l))
+    ∙ take-take i n l (omega (arith, length-take n l)) in
     ap (λ k. take j (take n l) ++ drop k l) long ∙ ap (λ u. u ++ drop i l) front ∙ take-append-drop i l
 
 -- a window that takes in the bytes that follow it
-with_window-kept : (w d : List ℕ) (j n : ℕ) → n ≤ length d - length w → with_window (w ++ take j (part d (length w) n)) d ≡ with_window w d
+with_window-kept : (w d : List ℕ) (j n : ℕ) → n ≤ length d - length w
+    → with_window (w ++ take j (part d (length w) n)) d ≡ with_window w d
 unfolding part
 with_window-kept w d j n fits =
     let u = take j (take n (drop (length w) d)) in
@@ -119,11 +123,13 @@ with_window-kept w d j n fits =
     ∙ ap (λ l. w ++ (u ++ l)) (sym (drop-drop (length u) (length w) d))
     ∙ ap (λ l. w ++ l) (rejoined j n (drop (length w) d))
 
-length-kept : (w d : List ℕ) (j n : ℕ) → n ≤ length d - length w → length (w ++ take j (part d (length w) n)) ≡ length w + min j n
+length-kept : (w d : List ℕ) (j n : ℕ) → n ≤ length d - length w
+    → length (w ++ take j (part d (length w) n)) ≡ length w + min j n
 unfolding part
 length-kept w d j n fits = simp (length-append, length-take, length-drop) (omega arith)
 
-input_is : (s : Standing) (w : List ℕ) → (held_at (Some s) w).honest ≡ true → (held_at (Some s) w).input ≡ with_window w s.bytes
+input_is : (s : Standing) (w : List ℕ) → (held_at (Some s) w).honest ≡ true
+    → (held_at (Some s) w).input ≡ with_window w s.bytes
 input_is s w honest = ap (λ h. h.input) (holds s w honest).1
 
 -- a reading that lies in the window changes nothing
@@ -131,7 +137,8 @@ kept_front : (front place k : ℕ) → k ≤ front - place → front_after front
 kept_front front place k fits = grind (arith, nat_tests)
 
 in_window_answer : (st : Option Standing) (w room old : List ℕ) (place n : ℕ) → n ≡ min (length old) (length w - place)
-    → room ≡ part w place (length old) ++ drop n old → n ≡ length room → length room ≡ length old → (held_at st w).honest ≡ true
+    → room ≡ part w place (length old) ++ drop n old → n ≡ length room → length room ≡ length old
+    → (held_at st w).honest ≡ true
     → part (held_at st w).input place (length room) ≡ take n room
 in_window_answer None w room old place n count copied all kept honest = absurd cc
 in_window_answer (Some s) w room old place n count copied all kept honest =
@@ -150,17 +157,21 @@ unfolding span_of
 in_window_state f None z w taken place k counts fits honest = absurd cc
 in_window_state f (Some s) z w taken place k counts fits honest =
     let a = state_at f (Some s) z w taken in
-    let long : length (held_at (Some s) w).input ≡ length s.bytes = ap length (input_is s w honest) ∙ length-with_window w s.bytes
+    let long : length (held_at (Some s) w).input ≡ length s.bytes = ap length (input_is s w honest)
+    ∙ length-with_window w s.bytes
     (holds s w honest).0 in
     let within : length w ≤ length s.bytes = (holds s w honest).0 in
     let all : min k (length (held_at (Some s) w).input - place) ≡ k = omega (arith, long, within) in
     let same : taken + new_bytes (length w) place k ≡ taken = omega arith in
     sym (ap (λ m. state_after a (span_at place m)) all ∙ past-span a place k counts refl
-    ∙ ap (λ n. record a { front = n; taken = taken + new_bytes (length w) place k }) (kept_front (length w) place k fits)
+    ∙ ap (λ n. record a { front = n; taken = taken + new_bytes (length w) place k })
+    (kept_front (length w) place k fits)
     ∙ ap (λ t. record a { taken = t }) same)
 
-pub in_window : (f : Frame) (st : Option Standing) (z : Failures) (w room old : List ℕ) (taken place n : ℕ) → ToldBy f st
-    → f.counts ≡ true → n ≡ min (length old) (length w - place) → room ≡ part w place (length old) ++ drop n old → n ≡ length room
+pub in_window : (f : Frame) (st : Option Standing) (z : Failures) (w room old : List ℕ) (taken place n : ℕ)
+    → ToldBy f st
+    → f.counts ≡ true → n ≡ min (length old) (length w - place) → room ≡ part w place (length old) ++ drop n old
+    → n ≡ length room
     → length room ≡ length old → Runs (state_at f st z w taken) (state_at f st z w taken) (Ok (take (length room) room))
     (part_read (held_at st w).input place (length room))
 in_window f st z w room old taken place n told counts count copied all kept = record {
@@ -169,7 +180,8 @@ in_window f st z w room old taken place n told counts count copied all kept = re
   frame = refl;
   taken = omega arith;
   within = λ honest. omega arith;
-  answer = λ honest goes_on. ap Ok (in_window_answer st w room old place n count copied all kept honest ∙ ap (λ m. take m room) all);
+  answer = λ honest goes_on. ap Ok
+      (in_window_answer st w room old place n count copied all kept honest ∙ ap (λ m. take m room) all);
   state = λ honest goes_on. in_window_state f st z w taken place (length room) counts (omega arith) honest;
   fault = λ honest faults. absurd cc;
   misses = λ honest faults. absurd cc;
@@ -177,19 +189,24 @@ in_window f st z w room old taken place n told counts count copied all kept = re
 }
 
 -- a reading that goes on behind the window: its bytes
-behind_answer : (s : Standing) (st' : Option Standing) (w room old more : List ℕ) (place now copied n : ℕ) → copied ≡ min (length old)
-    (length w - place) → room ≡ part w place (length old) ++ drop copied old → length room ≡ length old → copied < length room
+behind_answer : (s : Standing) (st' : Option Standing) (w room old more : List ℕ) (place now copied n : ℕ)
+    → copied ≡ min (length old)
+    (length w - place) → room ≡ part w place (length old) ++ drop copied old → length room ≡ length old
+    → copied < length room
     → GivesFrom (Some s) st' (place + copied) now more (Ok n) → n ≤ length more → length more ≡ length room - copied
-    → part (with_window w s.bytes) place (length room) ≡ take (copied + n) (put_mid copied (length room - copied) room more)
+    → part (with_window w s.bytes) place (length room)
+    ≡ take (copied + n) (put_mid copied (length room - copied) room more)
 behind_answer s st' w room old more place now copied n count front kept short gives enough long =
     part-across w s.bytes place (length room) copied (count ∙ ap (λ k. min k (length w - place)) (sym kept)) short
-    ∙ ap (λ l. l ++ part s.bytes (place + copied) (length room - copied)) (sym (front_is w room old place copied count front kept))
+    ∙ ap (λ l. l ++ part s.bytes (place + copied) (length room - copied))
+    (sym (front_is w room old place copied count front kept))
     ∙ ap (λ l. take copied room ++ l) (part_whole s.bytes (place + copied) (length room - copied) n
     (gives.2 ∙ ap (λ k. min k (length s.bytes - (place + copied))) long) ∙ sym gives.1)
     ∙ sym (take_more room more copied n (omega arith) enough)
 
 -- its window
-behind_held : (s : Standing) (w w' : List ℕ) (now : ℕ) → length w ≤ length s.bytes → length w' ≤ length s.bytes → with_window w' s.bytes
+behind_held : (s : Standing) (w w' : List ℕ) (now : ℕ) → length w ≤ length s.bytes → length w' ≤ length s.bytes
+    → with_window w' s.bytes
     ≡ with_window w s.bytes → held_at (Some (record s { place = now })) w' ≡ held_at (Some s) w
 behind_held s w w' now fits fits' same =
     let yes : leb (length w) (length s.bytes) ≡ true = grind (arith, nat_tests) in
@@ -208,13 +225,15 @@ record Grown (w w' : List ℕ) (d : List ℕ) (place m : ℕ) : Type 0 where
   same : with_window w' d ≡ with_window w d
   front : length w' ≡ front_after (length w) place m
 
-grows_to : (front place copied n : ℕ) → place + copied ≡ front → front ≤ 32 → front + min (32 - front) n ≡ front_after front place
+grows_to : (front place copied n : ℕ) → place + copied ≡ front → front ≤ 32
+    → front + min (32 - front) n ≡ front_after front place
     (copied + n)
 grows_to front place copied n here small =
     let before : leb place front ≡ true = grind (arith, nat_tests) in
     rw before (omega arith)
 
-stays_at : (front place k copied n : ℕ) → eqb (place + copied) front ≡ false → copied ≡ min k (front - place) → copied < k
+stays_at : (front place k copied n : ℕ) → eqb (place + copied) front ≡ false → copied ≡ min k (front - place)
+    → copied < k
     → front ≡ front_after front place (copied + n)
 stays_at front place k copied n at count short =
     let elsewhere : place + copied ≢ front = λ e. absurd (differs (place + copied) front at e) in
@@ -223,13 +242,15 @@ stays_at front place k copied n at count short =
 
 grown_if : (w d more : List ℕ) (place k copied n : ℕ) (b : Bool) → eqb (place + copied) (length w) ≡ b → length w ≤ 32
     → length w ≤ length d → copied ≡ min k (length w - place) → copied < k → take n more ≡ part d (place + copied) n
-    → n ≤ length d - (place + copied) → Grown w (cond b (w ++ take (32 - length w) (take n more)) w) d place (copied + n)
+    → n ≤ length d - (place + copied)
+    → Grown w (cond b (w ++ take (32 - length w) (take n more)) w) d place (copied + n)
 grown_if w d more place k copied n true at small fits count short gave n_fits =
     let here : place + copied ≡ length w = grind (arith, nat_tests) in
     let bytes : w ++ take (32 - length w) (take n more) ≡ w ++ take (32 - length w) (part d (length w) n) =
     ap (λ l. w ++ take (32 - length w) l) (gave ∙ ap (λ p. part d p n) here) in
     let room : n ≤ length d - length w = omega (arith, here, n_fits) in
-    let long : length (w ++ take (32 - length w) (take n more)) ≡ length w + min (32 - length w) n = ap length bytes ∙ length-kept w d
+    let long : length (w ++ take (32 - length w) (take n more)) ≡ length w + min (32 - length w) n = ap length bytes
+    ∙ length-kept w d
     (32 - length w) n room in
     record {
       fits = omega (arith, long, room, fits);
@@ -244,26 +265,52 @@ grown_if w d more place k copied n false at small fits count short gave n_fits =
 
 -- states that agree in each part
 together : (f f' : Frame) (h h' : Held) (m m' t t' : ℕ) (z z' : Failures) → f ≡ f' → h ≡ h' → m ≡ m' → t ≡ t' → z ≡ z'
-    → ◌≡◌ {A = State} (record { frame = f; held = h; front = m; taken = t; recorded = None; missed = None; failure = z.kept; failed = Some z.last })
-    (record { frame = f'; held = h'; front = m'; taken = t'; recorded = None; missed = None; failure = z'.kept; failed = Some z'.last })
+    → ◌≡◌ {A = State} (record {
+      frame = f;
+      held = h;
+      front = m;
+      taken = t;
+      recorded = None;
+      missed = None;
+      failure =
+          z.kept;
+      failed = Some z.last;
+    })
+    (record {
+      frame = f';
+      held = h';
+      front = m';
+      taken = t';
+      recorded = None;
+      missed = None;
+      failure = z'.kept;
+      failed =
+          Some z'.last;
+    })
 together f f' h h' m m' t t' z z' p q r s e = cc
 
 -- the source after a reading that went on behind the window
 behind_state : (f f' : Frame) (s : Standing) (z z' : Failures) (w w' : List ℕ) (taken taken' place now k copied n : ℕ)
-    → f.counts ≡ true → f' ≡ f → z' ≡ z → length w ≤ length s.bytes → Grown w w' s.bytes place (copied + n) → (held_at (Some s) w).honest ≡ true
-    → copied ≡ min k (length w - place) → n ≡ min (k - copied) (length s.bytes - (place + copied)) → copied < k → taken' ≡ taken + n
+    → f.counts ≡ true → f' ≡ f → z' ≡ z → length w ≤ length s.bytes → Grown w w' s.bytes place (copied + n)
+    → (held_at (Some s) w).honest ≡ true
+    → copied ≡ min k (length w - place) → n ≡ min (k - copied) (length s.bytes - (place + copied)) → copied < k
+    → taken' ≡ taken + n
     → state_at f' (Some (record s { place = now })) z' w' taken' ≡ state_after (state_at f (Some s) z w taken)
     (span_of (held_at (Some s) w).input place k)
 unfolding span_of
-behind_state f f' s z z' w w' taken taken' place now k copied n counts frame failed fits grown honest count rest short took =
+behind_state f f' s z z' w w' taken taken' place now k copied n counts frame failed fits grown honest count rest short
+    took =
     let a = state_at f (Some s) z w taken in
-    let long : length (held_at (Some s) w).input ≡ length s.bytes = ap length (input_is s w honest) ∙ length-with_window w s.bytes fits in
+    let long : length (held_at (Some s) w).input ≡ length s.bytes = ap length (input_is s w honest)
+    ∙ length-with_window w s.bytes fits in
     let all : min k (length (held_at (Some s) w).input - place) ≡ copied + n = omega (arith, long, count, rest) in
-    let held : held_at (Some (record s { place = now })) w' ≡ held_at (Some s) w = behind_held s w w' now fits grown.fits grown.same in
+    let held : held_at (Some (record s { place = now })) w' ≡ held_at (Some s) w =
+    behind_held s w w' now fits grown.fits grown.same in
     let paid : taken' ≡ taken + new_bytes (length w) place (copied + n) = omega (arith, took, count) in
     let front = grown.front in
     together f' f (held_at (Some (record s { place = now })) w') (held_at (Some s) w) (length w')
-    (front_after (length w) place (copied + n)) taken' (taken + new_bytes (length w) place (copied + n)) z' z frame held front paid failed
+    (front_after (length w) place (copied + n)) taken'
+    (taken + new_bytes (length w) place (copied + n)) z' z frame held front paid failed
     ∙ sym (ap (λ m. state_after a (span_at place m)) all ∙ past-span a place (copied + n) counts refl)
 
 -- A reading that the window does not hold: it copied what the window has, and got n bytes more.
@@ -287,7 +334,8 @@ pub record Behind (f f' : Frame) (st st' : Option Standing) (z z' : Failures) (w
   pub within : IfSome st (λ s. taken' ≤ taken + min (length more) (length s.bytes - (place + copied)))
 
 behind_grown : (s : Standing) (st' : Option Standing) (w w' more : List ℕ) (place now k copied n : ℕ) → length w ≤ 32
-    → length w ≤ length s.bytes → copied ≡ min k (length w - place) → copied < k → GivesFrom (Some s) st' (place + copied) now more
+    → length w ≤ length s.bytes → copied ≡ min k (length w - place) → copied < k
+    → GivesFrom (Some s) st' (place + copied) now more
     (Ok n) → w' ≡ kept_window w (place + copied) (take n more) → Grown w w' s.bytes place (copied + n)
 behind_grown s st' w w' more place now k copied n small fits count short gives window =
     subst (λ v. Grown w v s.bytes place (copied + n)) (sym window)
@@ -295,33 +343,41 @@ behind_grown s st' w w' more place now k copied n small fits count short gives w
     (omega (arith, gives.2)))
 
 behind_runs_answer : (f f' : Frame) (st st' : Option Standing) (z z' : Failures) (w w' room old more : List ℕ)
-    (taken taken' place now copied n : ℕ) → Behind f f' st st' z z' w w' room old more taken taken' place now copied n → (held_at st w).honest ≡ true
-    → part (held_at st w).input place (length room) ≡ take (copied + n) (put_mid copied (length room - copied) room more)
+    (taken taken' place now copied n : ℕ) → Behind f f' st st' z z' w w' room old more taken taken' place now copied n
+    → (held_at st w).honest ≡ true
+    → part (held_at st w).input place (length room)
+    ≡ take (copied + n) (put_mid copied (length room - copied) room more)
 behind_runs_answer f f' None st' z z' w w' room old more taken taken' place now copied n h honest = absurd cc
 behind_runs_answer f f' (Some s) st' z z' w w' room old more taken taken' place now copied n h honest =
     ap (λ d. part d place (length room)) (input_is s w honest)
     ∙ behind_answer s st' w room old more place now copied n h.count h.front h.kept h.short h.gives h.enough h.long
 
 behind_runs_state : (f f' : Frame) (st st' : Option Standing) (z z' : Failures) (w w' room old more : List ℕ)
-    (taken taken' place now copied n : ℕ) → Behind f f' st st' z z' w w' room old more taken taken' place now copied n → (held_at st w).honest ≡ true → state_at f' st' z' w' taken'
+    (taken taken' place now copied n : ℕ) → Behind f f' st st' z z' w w' room old more taken taken' place now copied n
+    → (held_at st w).honest ≡ true → state_at f' st' z' w' taken'
     ≡ state_after (state_at f st z w taken) (span_of (held_at st w).input place (length room))
 behind_runs_state f f' None st' z z' w w' room old more taken taken' place now copied n h honest = absurd cc
 behind_runs_state f f' (Some s) st' z z' w w' room old more taken taken' place now copied n h honest =
     let fits = (holds s w honest).0 in
-    let count : copied ≡ min (length room) (length w - place) = h.count ∙ ap (λ k. min k (length w - place)) (sym h.kept) in
+    let count : copied ≡ min (length room) (length w - place) = h.count
+    ∙ ap (λ k. min k (length w - place)) (sym h.kept) in
     ap (λ v. state_at f' v z' w' taken') h.gives.0
     ∙ behind_state f f' s z z' w w' taken taken' place now (length room) copied n h.counts h.frame h.failed fits
     (behind_grown s st' w w' more place now (length room) copied n h.small fits count h.short h.gives h.window)
     honest count (h.gives.2 ∙ ap (λ k. min k (length s.bytes - (place + copied))) h.long) h.short h.took
 
-within_claim : (st : Option Standing) (w : List ℕ) (taken taken' place copied k rest : ℕ) → copied ≡ min k (length w - place)
-    → rest ≡ k - copied → IfSome st (λ s. taken' ≤ taken + min rest (length s.bytes - (place + copied))) → (held_at st w).honest ≡ true
+within_claim : (st : Option Standing) (w : List ℕ) (taken taken' place copied k rest : ℕ)
+    → copied ≡ min k (length w - place)
+    → rest ≡ k - copied → IfSome st (λ s. taken' ≤ taken + min rest (length s.bytes - (place + copied)))
+    → (held_at st w).honest ≡ true
     → taken' ≤ taken + total (span_of (held_at st w).input place k)
 within_claim None w taken taken' place copied k rest count left within honest = absurd cc
 within_claim (Some s) w taken taken' place copied k rest count left within honest =
     let fits = (holds s w honest).0 in
-    let long : length (held_at (Some s) w).input ≡ length s.bytes = ap length (input_is s w honest) ∙ length-with_window w s.bytes fits in
-    let all : total (span_of (held_at (Some s) w).input place k) ≡ min k (length s.bytes - place) = total_there (held_at (Some s) w).input
+    let long : length (held_at (Some s) w).input ≡ length s.bytes = ap length (input_is s w honest)
+    ∙ length-with_window w s.bytes fits in
+    let all : total (span_of (held_at (Some s) w).input place k) ≡ min k (length s.bytes - place) =
+    total_there (held_at (Some s) w).input
     place k ∙ ap (λ n. min k (n - place)) long in
     omega (arith, all, within, count, left)
 
@@ -333,26 +389,33 @@ pub behind_window : {f f' : Frame} {st st' : Option Standing} {z z' : Failures} 
 behind_window {f} {f'} {st} {st'} {z} {z'} {w} {w'} {room} {old} {more} {taken} {taken'} {place} {now} {copied} {n} h =
     let whole : length (put_mid copied (length room - copied) room more) ≡ length room = length-put room more copied
     (omega (arith, h.short)) h.long in
-    let count : copied ≡ min (length room) (length w - place) = h.count ∙ ap (λ k. min k (length w - place)) (sym h.kept) in
+    let count : copied ≡ min (length room) (length w - place) = h.count
+    ∙ ap (λ k. min k (length w - place)) (sym h.kept) in
     subst (λ k. Runs (state_at f st z w taken) (state_at f' st' z' w' taken')
-    (Ok (take (copied + n) (put_mid copied (length room - copied) room more))) (part_read (held_at st w).input place k)) (sym whole)
+    (Ok (take (copied + n) (put_mid copied (length room - copied) room more))) (part_read (held_at st w).input place k))
+    (sym whole)
     (record {
       sound = sound_at f st z w taken h.told;
       sound_after = sound_at f' st' z' w' taken' h.told_after;
       frame = h.frame;
       taken = omega (arith, h.took);
-      within = λ honest. within_claim st w taken taken' place copied (length room) (length more) count h.long h.within honest;
-      answer = λ honest goes_on. ap Ok (behind_runs_answer f f' st st' z z' w w' room old more taken taken' place now copied n h honest);
-      state = λ honest goes_on. behind_runs_state f f' st st' z z' w w' room old more taken taken' place now copied n h honest;
+      within = λ honest. within_claim st w taken taken' place copied (length room)
+          (length more) count h.long h.within honest;
+      answer = λ honest goes_on. ap Ok
+          (behind_runs_answer f f' st st' z z' w w' room old more taken taken' place now copied n h honest);
+      state = λ honest goes_on. behind_runs_state f f' st st' z z' w w' room old more taken taken' place now copied n h
+          honest;
       fault = λ honest faults. absurd cc;
       misses = λ honest faults. absurd cc;
       ended = tt;
     })
 
-fails_claim : (st st' : Option Standing) (w more : List ℕ) (place now : ℕ) (e : Halt) → GivesFrom st st' place now more (Err e)
+fails_claim : (st st' : Option Standing) (w more : List ℕ) (place now : ℕ) (e : Halt)
+    → GivesFrom st st' place now more (Err e)
     → (held_at st w).honest ≡ true → is_failure e ≡ true → (held_at st w).can_fail ≡ true
 fails_claim None st' w more place now e gives honest faults = absurd cc
-fails_claim (Some s) st' w more place now e gives honest faults = ap (λ h. h.can_fail) (holds s w honest).1 ∙ gives faults
+fails_claim (Some s) st' w more place now e gives honest faults = ap (λ h. h.can_fail) (holds s w honest).1
+    ∙ gives faults
 
 -- A reading behind the window that was stopped.
 pub record Halted (f f' : Frame) (st st' : Option Standing) (z z' : Failures) (w w' room old more : List ℕ)
@@ -374,29 +437,32 @@ halted : {f f' : Frame} {st st' : Option Standing} {z z' : Failures} {w w' room 
     {taken taken' place now copied : ℕ} {e : Halt} (value : ℕ → List ℕ)
     → Halted f f' st st' z z' w w' room old more taken taken' place now copied e → Runs (state_at f st z w taken)
     (state_at f' st' z' w' taken') (map_answer value (Err e)) (part_read (held_at st w).input place (length room))
-halted {f} {f'} {st} {st'} {z} {z'} {w} {w'} {room} {old} {more} {taken} {taken'} {place} {now} {copied} {e} value h = record {
-  sound = sound_at f st z w taken h.told;
-  sound_after = sound_at f' st' z' w' taken' h.told_after;
-  frame = h.frame;
-  taken = h.paid;
-  within = λ honest. within_claim st w taken taken' place copied (length room) (length more)
-      (h.count ∙ ap (λ k. min k (length w - place)) (sym h.kept)) h.long h.within honest;
-  answer = λ honest goes_on. absurd cc;
-  state = λ honest goes_on. absurd cc;
-  fault = λ honest faults. fails_claim st st' w more (place + copied) now e h.gives honest faults;
-  misses = λ honest faults. record { told = tt };
-  ended = h.ended;
-}
+halted {f} {f'} {st} {st'} {z} {z'} {w} {w'} {room} {old} {more} {taken} {taken'} {place} {now} {copied} {e} value h =
+    record {
+      sound = sound_at f st z w taken h.told;
+      sound_after = sound_at f' st' z' w' taken' h.told_after;
+      frame = h.frame;
+      taken = h.paid;
+      within = λ honest. within_claim st w taken taken' place copied (length room) (length more)
+          (h.count ∙ ap (λ k. min k (length w - place)) (sym h.kept)) h.long h.within honest;
+      answer = λ honest goes_on. absurd cc;
+      state = λ honest goes_on. absurd cc;
+      fault = λ honest faults. fails_claim st st' w more (place + copied) now e h.gives honest faults;
+      misses = λ honest faults. record { told = tt };
+      ended = h.ended;
+    }
 
 pub behind_stopped : {f f' : Frame} {st st' : Option Standing} {z z' : Failures} {w w' room old more : List ℕ}
     {taken taken' place now copied : ℕ} {e : Halt} (value : ℕ → List ℕ) (r : Result ℕ Halt)
     → Halted f f' st st' z z' w w' room old more taken taken' place now copied e → r ≡ Err e
     → Runs (state_at f st z w taken) (state_at f' st' z' w' taken') (map_answer value r)
     (part_read (held_at st w).input place (length (put_mid copied (length room - copied) room more)))
-behind_stopped {f} {f'} {st} {st'} {z} {z'} {w} {w'} {room} {old} {more} {taken} {taken'} {place} {now} {copied} {e} value r h is =
+behind_stopped {f} {f'} {st} {st'} {z} {z'} {w} {w'} {room} {old} {more} {taken} {taken'} {place} {now} {copied} {e}
+    value r h is =
     let whole : length (put_mid copied (length room - copied) room more) ≡ length room = length-put room more copied
     (omega (arith, h.count, h.kept)) h.long in
-    subst (λ k. Runs (state_at f st z w taken) (state_at f' st' z' w' taken') (map_answer value r) (part_read (held_at st w).input place k))
+    subst (λ k. Runs (state_at f st z w taken) (state_at f' st' z' w' taken') (map_answer value r)
+    (part_read (held_at st w).input place k))
     (sym whole)
     (subst (λ q. Runs (state_at f st z w taken) (state_at f' st' z' w' taken') (map_answer value q)
     (part_read (held_at st w).input place (length room))) (sym is) (halted value h))
@@ -409,7 +475,8 @@ none_in w more place k far = ap (λ l. l ++ more) (sym (ap (take k) (drop_all pl
 pub put_whole : (more : List ℕ) → put_mid 0 (length more - 0) more more ≡ more
 put_whole more = ap (λ l. more ++ l) (drop_all (length more - 0) more (omega arith)) ∙ append-nil more
 
-told_if : (f : Frame) (telling : Option Telling) (p : Progress) (st : Option Standing) → f.told ≡ p.told → stand telling p ≡ st
+told_if : (f : Frame) (telling : Option Telling) (p : Progress) (st : Option Standing) → f.told ≡ p.told
+    → stand telling p ≡ st
     → ToldBy f st
 told_if f telling p None told is = tt
 told_if f telling p (Some s) told is = let t = told_at telling p s is in (told ∙ t.0, t.1)
@@ -423,59 +490,63 @@ frame_of told budget home since behind = record {
   told = told;
   budget = budget;
   counts = true;
-  records = false;
-  home = home;
-  since = since;
-  behind = behind;
-  parts = None;
+  backing = Reader home since behind;
 }
 
-same_frames : (told told' budget budget' home : ℕ) (s s' : Option (ℕ × ℕ)) (b b' : Option Unchanged) → told ≡ told' → budget ≡ budget'
+same_frames : (told told' budget budget' home : ℕ) (s s' : Option (ℕ × ℕ)) (b b' : Option Unchanged) → told ≡ told'
+    → budget ≡ budget'
     → s ≡ s' → b ≡ b' → frame_of told budget home s b ≡ frame_of told' budget' home s' b'
 same_frames told told' budget budget' home s s' b b' p q r e = cc
 
 -- what never changes
-pub same_frame : (a b : Account) (home : ℕ) (p p' : Progress) → KeepsCounts p p' → drift b.count p'.taken ≡ drift a.count p.taken
+pub same_frame : (a b : Account) (home : ℕ) (p p' : Progress) → KeepsCounts p p'
+    → drift b.count p'.taken ≡ drift a.count p.taken
     → behind b.telling p' ≡ behind a.telling p → reader_frame b home p' ≡ reader_frame a home p
 same_frame a b home p p' keeps since same =
     same_frames p'.told p.told p'.budget p.budget home _ _ _ _ keeps.told keeps.budget since same
 
 -- the error that is kept of a failure is a fault
-kept_fault : (fault : Option Error) (failure : Option (Option Error)) → last_failed fault failure ≡ Some (kept_error fault)
+kept_fault : (fault : Option Error) (failure : Option (Option Error))
+    → last_failed fault failure ≡ Some (kept_error fault)
     → is_fault (kept_error fault) ≡ true
 kept_fault None failure is = absurd cc
 kept_fault (Some e) failure is = refl
 
 -- a stop of the reader is one of the source
-pub ended_by : (a : Account) (home : ℕ) (p : Progress) (st : Option Standing) (w : List ℕ) (e : Halt) → StopsBy p a.failure e
+pub ended_by : (a : Account) (home : ℕ) (p : Progress) (st : Option Standing) (w : List ℕ) (e : Halt)
+    → StopsBy p a.failure e
     → EndedBy (state_at (reader_frame a home p) st (failures_of p.fault a.failure) w p.taken) e
 ended_by a home p st w e stops = record {
   budget = λ spent. (refl, stops.budget spent);
-  memory = λ refused. absurd (let no = sym refused ∙ stops.memory in cc);
   fault = λ failed. (stops.fault failed, kept_fault p.fault a.failure (stops.fault failed));
 }
 
-end_answer : (f : Frame) (st : Option Standing) (w : List ℕ) (place k : ℕ) → ToldBy f st → f.told < place → (held_at st w).honest ≡ true
+end_answer : (f : Frame) (st : Option Standing) (w : List ℕ) (place k : ℕ) → ToldBy f st → f.told < place
+    → (held_at st w).honest ≡ true
     → part (held_at st w).input place k ≡ []
 end_answer f None w place k told far honest = absurd cc
 end_answer f (Some s) w place k told far honest =
-    let long : length (held_at (Some s) w).input ≡ length s.bytes = ap length (input_is s w honest) ∙ length-with_window w s.bytes
+    let long : length (held_at (Some s) w).input ≡ length s.bytes = ap length (input_is s w honest)
+    ∙ length-with_window w s.bytes
     (holds s w honest).0 in
     no_part (held_at (Some s) w).input place k (omega (arith, long, told.0, far))
 
-end_state : (f : Frame) (st : Option Standing) (z : Failures) (w : List ℕ) (taken place k : ℕ) → ToldBy f st → f.told < place
+end_state : (f : Frame) (st : Option Standing) (z : Failures) (w : List ℕ) (taken place k : ℕ) → ToldBy f st
+    → f.told < place
     → (held_at st w).honest ≡ true
     → state_at f st z w taken ≡ state_after (state_at f st z w taken) (span_of (held_at st w).input place k)
 unfolding span_of span_at state_after
 end_state f None z w taken place k told far honest = absurd cc
 end_state f (Some s) z w taken place k told far honest =
-    let long : length (held_at (Some s) w).input ≡ length s.bytes = ap length (input_is s w honest) ∙ length-with_window w s.bytes
+    let long : length (held_at (Some s) w).input ≡ length s.bytes = ap length (input_is s w honest)
+    ∙ length-with_window w s.bytes
     (holds s w honest).0 in
     let none : min k (length (held_at (Some s) w).input - place) ≡ 0 = omega (arith, long, told.0, far) in
     sym (ap (λ n. state_after (state_at f (Some s) z w taken) (span_at place n)) none)
 
 -- a reading above the told length sees nothing, and changes nothing
-pub behind_end : {f : Frame} (st : Option Standing) (z : Failures) (w : List ℕ) (taken place k : ℕ) → ToldBy f st → f.told < place
+pub behind_end : {f : Frame} (st : Option Standing) (z : Failures) (w : List ℕ) (taken place k : ℕ) → ToldBy f st
+    → f.told < place
     → Runs (state_at f st z w taken) (state_at f st z w taken) (Ok []) (part_read (held_at st w).input place k)
 behind_end {f} st z w taken place k told far = record {
   sound = sound_at f st z w taken told;

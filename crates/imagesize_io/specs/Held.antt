@@ -1,8 +1,8 @@
--- A text that a reader gives out of the bytes that it holds.
+-- Texts that a reader returns from the bytes that it holds.
 use Rattle.std.specs.Prelude.{◌≡◌, ℕ, List, ◌++◌}
 use Rattle.imagesize_source.specs.declared.text.Text.{Text}
 use Rattle.imagesize_source.specs.Text.{text_front}
 
--- The bytes are one text, with the byte that ends it: whatever follows them, it is the text at the front.
+-- The bytes are one text, with the byte that ends it. Whatever follows them, this text is at the front.
 abbrev pub IsWhole : Text → List ℕ → Type 0
 IsWhole text bs = (more : List ℕ) → text_front text (bs ++ more) ≡ bs

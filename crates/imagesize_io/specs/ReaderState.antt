@@ -1,4 +1,4 @@
--- A reader as a source: what it tells, the numbers beside it, and a window of its first bytes.
+-- A reader as a source: its model, the numbers kept for it, and a window with its first bytes.
 use Rattle.std.specs.Prelude.{◌≡◌, ◌≢◌, ℕ, ◌+◌, ◌^◌, ◌-◌, min, ◌==◌, true, false, List, [], ◌++◌, length, take, drop, nat_le, if◌then◌else◌, Option, None, Some, Result, Ok, Err, IfOk, max, ◌<◌, ◌≤◌}
 use Rattle.imagesize_source.specs.declared.error.ImageError.{ImageError}
 use Rattle.imagesize_source.specs.declared.halt.Halt.{Halt}
@@ -11,34 +11,30 @@ use Rattle.imagesize_source.specs.Reading.{part_read, text_read, map_answer}
 use Rattle.imagesize_io.specs.StopOf.{Failures, failures_of}
 use Rattle.imagesize_io.specs.Telling.{Account, Fails, Telling, at_place}
 use Rattle.imagesize_io.specs.Standing.{Standing, KeepsCounts, behind, behind_of, steady, stand_of, stand, drift}
-use Rattle.imagesize_source.specs.State.{State, Frame, Held, Runs}
+use Rattle.imagesize_source.specs.State.{State, Frame, Held, Runs, Reader}
 
--- no claim
+-- no claim about the reader
 abbrev pub no_claim : Held
 no_claim = record { honest = false; input = []; can_fail = false }
 
--- the window's bytes in front of those behind the reader
+-- the reader's bytes, with the first ones replaced by the window's
 abbrev pub with_window : List ℕ → List ℕ → List ℕ
 with_window window d = window ++ drop (length window) d
 
--- What is claimed: the bytes behind the reader, the first of them as the window has them.
+-- What the source claims: the reader's bytes, with the first ones as the window has them.
 abbrev pub held_at : Option Standing → List ℕ → Held
 held_at None window = no_claim
 held_at (Some s) window =
     if nat_le (length window) (length s.bytes)
     then record { honest = true; input = with_window window s.bytes; can_fail = s.can_fail } else no_claim
 
--- what never changes of a reader as a source, with the name of its borrow
+-- what never changes about a reader as a source; `home` names the borrow of the reader
 abbrev pub reader_frame : Account → ℕ → Progress → Frame
 reader_frame a home p = record {
   told = p.told;
   budget = p.budget;
   counts = true;
-  records = false;
-  home = home;
-  since = drift a.count p.taken;
-  behind = behind a.telling p;
-  parts = None;
+  backing = Reader home (drift a.count p.taken) (behind a.telling p);
 }
 
 -- a reader as a source
@@ -58,34 +54,31 @@ abbrev pub reader_state : Account → ℕ → Progress → List ℕ → State
 reader_state a home p window =
     state_at (reader_frame a home p) (stand a.telling p) (failures_of p.fault a.failure) window p.taken
 
--- the window after bytes came from a place on: it takes in those that follow it, up to its length
+-- the window after a read: the next bytes after the window are added to it, up to its length
 abbrev pub kept_window : List ℕ → ℕ → List ℕ → List ℕ
 kept_window window place bytes = if place == length window then window ++ take (most_held - length window) bytes else window
 
--- what a reader told as a call began: its place and its length, and it stands at the end
+-- what opening a reader returns: its offset and its length; the reader is then at its end
 abbrev pub Opens : Option Telling → Option Telling → Result Opened ImageError → Type 0
 Opens None new r = new ≡ None
 Opens (Some t) new (Ok opened) =
     (new ≡ Some (at_place t (length t.bytes))) × (opened.place ≡ t.place) × (opened.told ≡ length t.bytes)
 Opens (Some t) new (Err e) = Fails t new
 
--- A reader as a source, before the first reading, where its length is told: it stands at the end, and the
--- budget is the told length and the allowance.
+-- A reader as a source before the first read, with its reported length. It is at its end, and the budget is the
+-- reported length and the allowance.
 abbrev pub start_state : Option Telling → Option ℕ → ℕ → ℕ → State
 start_state telling count home told = state_at
     (record {
       told = told;
       budget = min (told + allowance) (2 ^ 64 - 1);
       counts = true;
-      records = false;
-      home = home;
-      since = drift count 0;
-      behind = behind_of told 0 None telling;
-      parts = None;
+      backing = Reader home (drift count 0) (behind_of told 0 None telling);
     })
     (stand_of told told None (steady telling 0)) (failures_of None None) [] 0
 
--- What a reading from a place on did, over every reader: it saw what the window has of it, and what follows from the reader.
+-- What a read from an offset on did, over every reader. It saw the bytes that the window has, and those that follow
+-- from the reader.
 pub record ReadsAt (old new : Ledger) (a b : Account) (place : ℕ) (room : List ℕ) (r : Result ℕ Halt) : Type 0 where
   pub bound : IfOk r (λ n. n ≤ length room)
   pub pays : IfOk r (λ n. 0 < n → max old.progress.told most_held < place → (old.progress.taken < new.progress.taken)
@@ -95,8 +88,8 @@ pub record ReadsAt (old new : Ledger) (a b : Account) (place : ℕ) (room : List
       (reader_state b home new.progress new.window.items) (map_answer (λ n. take n room) r)
       (part_read (held_at (stand a.telling old.progress) old.window.items).input place (length room))
 
--- What a reading of a source did. Above the told length it goes on only from the end of the last reading: elsewhere it sees
--- the end of the input, and makes no call of the reader.
+-- What a read of a source did. Past the reported length, it goes on only from the end of the last read. At any other
+-- offset there it is at the end of the input, and does not call the reader.
 pub record ReadsOn {R : Type 0} (reader reader' : R) (old new : Ledger) (a b : Account) (place : ℕ) (room : List ℕ)
     (r : Result ℕ Halt) : Type 0 where
   pub reads : ReadsAt old new a b place room r
@@ -104,7 +97,7 @@ pub record ReadsOn {R : Type 0} (reader reader' : R) (old new : Ledger) (a b : A
   pub goes_on : place ≡ old.present → IfOk r (λ n. new.present ≡ min (place + n) (2 ^ 64 - 1))
   pub ends : old.progress.told < place → place ≢ old.present → (r ≡ Ok 0) × (reader' ≡ reader) × (new.present ≡ old.present)
 
--- what a reading of a text from a place on did, over every reader
+-- what a read of a text from an offset on did, over every reader
 pub record ReadsText (old new : Ledger) (a b : Account) (text : Text) (place : ℕ) (room : List ℕ) (r : Result ℕ Halt)
     : Type 0 where
   pub bound : IfOk r (λ n. n ≤ length room)

@@ -1,4 +1,4 @@
--- What a reader claims, as far as the numbers kept beside it agree with what it tells.
+-- What a reader's model claims, as far as the numbers kept for the reader agree with it.
 use Rattle.std.specs.Prelude.{◌≡◌, ℕ, ◌+◌, ◌-◌, ◌^◌, ◌<◌, ◌≤◌, min, Bool, true, false, ◌||◌, ◌&&◌, not, List, length, take, nat_le, nat_lt, ◌==◌, if◌then◌else◌, Option, None, Some, is_none, Result, Ok, Err, IfSome, IfOk, IfErr, OnOk, IsSomeAnd, option_map, ⊤}
 use Rattle.imagesize_source.specs.declared.halt.Halt.{Halt}
 use Rattle.imagesize_source.specs.Limits.{most_retries}
@@ -6,11 +6,11 @@ use Rattle.imagesize_io.specs.declared.progress.Progress.{Progress}
 use Rattle.std.specs.declared.io.Error.{Error}
 use Rattle.imagesize_io.specs.StopOf.{kept_error, last_failed}
 use Rattle.imagesize_source.specs.Input.{part}
-use Rattle.imagesize_source.specs.Reading.{is_failure, is_memory, is_stop, is_spent}
+use Rattle.imagesize_source.specs.Reading.{is_failure, is_stop, is_spent}
 use Rattle.imagesize_source.specs.State.{Behind}
 use Rattle.imagesize_io.specs.Telling.{Account, Telling, bytes_given}
 
--- the bytes behind a reader, where it stands, and whether a call may fail
+-- the bytes of a reader, its offset, and whether a call may fail
 pub record Standing : Type 0 where
   pub bytes : List ℕ
   pub place : ℕ
@@ -20,18 +20,19 @@ pub record Standing : Type 0 where
 abbrev pub advance_standing : Standing → ℕ → Standing
 advance_standing s n = record s { place = s.place + n }
 
--- Interruptions hidden, of which so many were tried again: a reader that cannot fail has at most as many as are tried again.
+-- The model without its interruptions, after this many retries. It exists if the reader can fail, or if no more
+-- interruptions come than are retried.
 abbrev pub steady : Option Telling → ℕ → Option Standing
 steady None retries = None
 steady (Some t) retries =
     if t.can_fail || nat_le (t.interruptions + retries) most_retries
     then Some (record { bytes = t.bytes; place = t.place; can_fail = t.can_fail }) else None
 
--- the told length and the place kept beside a reader agree with where it stands, and no error is kept
+-- whether the reported length and the kept offset agree with the model, and no error is kept
 abbrev pub in_step : ℕ → ℕ → Option Error → Standing → Bool
 in_step told place fault s = nat_lt (length s.bytes) (2 ^ 63) && (told == length s.bytes) && (place == s.place) && is_none fault
 
--- where a reader stands, if these numbers agree and no call failed
+-- the state of a reader, if these numbers agree with its model and no call failed
 abbrev pub stand_of : ℕ → ℕ → Option Error → Option Standing → Option Standing
 stand_of told place fault None = None
 stand_of told place fault (Some s) = if in_step told place fault s then Some s else None
@@ -39,14 +40,14 @@ stand_of told place fault (Some s) = if in_step told place fault s then Some s e
 abbrev pub stand : Option Telling → Progress → Option Standing
 stand telling p = stand_of p.told p.place p.fault (steady telling p.retries)
 
--- How many interruptions come in all, of which so many were tried again. It is known of a reader that cannot fail and has
--- the told length, where all of them are tried again and no error is kept.
+-- How many interruptions come in all, with those already retried. The number is known for a reader that cannot fail
+-- and has the reported length. All interruptions must be retried, and no error kept.
 abbrev pub in_all : ℕ → ℕ → Option Error → Telling → Option ℕ
 in_all told retries fault t =
     if is_none fault && not t.can_fail && nat_le (t.interruptions + retries) most_retries && (told == length t.bytes)
     then Some (t.interruptions + retries) else None
 
--- what never changes of a reader, over all calls
+-- what never changes about a reader, over all calls
 abbrev pub behind_of : ℕ → ℕ → Option Error → Option Telling → Option Behind
 behind_of told retries fault telling = option_map
     (λ t. record { bytes = t.bytes; can_fail = t.can_fail; interruptions = in_all told retries fault t }) telling
@@ -54,8 +55,8 @@ behind_of told retries fault telling = option_map
 abbrev pub behind : Option Telling → Progress → Option Behind
 behind telling p = behind_of p.told p.retries p.fault telling
 
--- what a read did that went on from where a reader stands: as much as it gave was the next of the bytes, at
--- least one where there is one and there is room; a failure comes only from a reader that can fail
+-- What a read at the reader's offset did. It returned the next bytes, at least one if there is one and the buffer is
+-- not empty. Only a reader that can fail has a failure.
 abbrev pub GivesSome : Option Standing → Option Standing → List ℕ → Result ℕ Halt → Type 0
 GivesSome None new room r = ⊤
 GivesSome (Some s) new room (Ok n) =
@@ -63,44 +64,43 @@ GivesSome (Some s) new room (Ok n) =
     × (0 < length room → s.place < length s.bytes → 0 < n)
 GivesSome (Some s) new room (Err halt) = is_failure halt ≡ true → s.can_fail ≡ true
 
--- the same of a read that goes on until the room is full or the bytes end
+-- what a read at the reader's offset did that goes on until the buffer is full or the bytes end
 abbrev pub GivesAll : Option Standing → Option Standing → List ℕ → Result ℕ Halt → Type 0
 GivesAll None new room r = ⊤
 GivesAll (Some s) new room (Ok n) =
     (new ≡ Some (advance_standing s n)) × (take n room ≡ part s.bytes s.place n) × (n ≡ min (length room) (length s.bytes - s.place))
 GivesAll (Some s) new room (Err halt) = is_failure halt ≡ true → s.can_fail ≡ true
 
--- what a seek did from where a reader stands: it stands at the place now, or the place is behind its bytes
+-- what a seek did: the reader is at the offset now, or the offset is past its bytes
 abbrev pub GoesTo : Option Standing → Option Standing → ℕ → ℕ → Result Bool Halt → Type 0
 GoesTo None new place now r = ⊤
 GoesTo (Some s) new place now (Ok true) = (new ≡ Some (record s { place = place })) × (now ≡ place)
 GoesTo (Some s) new place now (Ok false) = (new ≡ Some s) × (length s.bytes < place) × (now ≡ s.place)
 GoesTo (Some s) new place now (Err halt) = is_failure halt ≡ true → s.can_fail ≡ true
 
--- what a read from a place on did, until the room is full or the bytes end
+-- what a read from an offset on did, until the buffer is full or the bytes end
 abbrev pub GivesFrom : Option Standing → Option Standing → ℕ → ℕ → List ℕ → Result ℕ Halt → Type 0
 GivesFrom None new place now room r = ⊤
 GivesFrom (Some s) new place now room (Ok n) =
     (new ≡ Some (record s { place = now })) × (take n room ≡ part s.bytes place n) × (n ≡ min (length room) (length s.bytes - place))
 GivesFrom (Some s) new place now room (Err halt) = is_failure halt ≡ true → s.can_fail ≡ true
 
--- a reader that tells itself still does, and each interruption of it that came was counted as a try
+-- a reader with a model still has one, and each of its interruptions was counted as a try
 abbrev pub Tries : Option Telling → ℕ → Option Telling → ℕ → Type 0
 Tries None tries new tries' = ⊤
 Tries (Some t) tries new tries' = IsSomeAnd new (λ u. t.interruptions + tries ≤ u.interruptions + tries')
 
--- by how much a count is above a number, and below it
+-- by how much a count is above a number, and by how much it is below
 abbrev pub drift : Option ℕ → ℕ → Option (ℕ × ℕ)
 drift count taken = option_map (λ c. (c - taken, taken - c)) count
 
--- Only a failure or a spent budget stops a read: the budget is what was taken, and the failure is the last one.
+-- Only a failure or a spent budget stops a read. The budget equals the bytes read, and the failure is the last one.
 pub record StopsBy (p : Progress) (failure : Option (Option Error)) (halt : Halt) : Type 0 where
   pub stops : is_stop halt ≡ true
-  pub memory : is_memory halt ≡ false
   pub budget : is_spent halt ≡ true → p.budget ≡ p.taken
   pub fault : is_failure halt ≡ true → last_failed p.fault failure ≡ Some (kept_error p.fault)
 
--- What a call leaves of the numbers beside the reader. Tries are never forgotten, and never more than `most_retries`.
+-- What a call keeps of the numbers. Retries are never forgotten, and never exceed `most_retries`.
 pub record KeepsCounts (old new : Progress) : Type 0 where
   pub told : new.told ≡ old.told
   pub budget : new.budget ≡ old.budget
@@ -108,7 +108,7 @@ pub record KeepsCounts (old new : Progress) : Type 0 where
   pub retries : old.retries ≤ new.retries
   pub limit : old.retries ≤ most_retries → new.retries ≤ most_retries
 
--- what one read from where a reader stands did
+-- what one read at the reader's offset did
 pub record ReadsOnce (old new : Progress) (a b : Account) (room : List ℕ) (r : Result ℕ Halt) : Type 0 where
   pub bound : IfOk r (λ n. n ≤ length room)
   pub stand : GivesSome (stand a.telling old) (stand b.telling new) room r
@@ -121,7 +121,7 @@ pub record ReadsOnce (old new : Progress) (a b : Account) (room : List ℕ) (r :
   pub keeps : KeepsCounts old new
   pub stops : IfErr r (StopsBy new b.failure)
 
--- what reads from where a reader stands did, one after another until the room is full or the bytes end
+-- what reads at the reader's offset did, one after another until the buffer is full or the bytes end
 pub record Fills (old new : Progress) (before after : Option Standing) (a b : Account) (room : List ℕ) (r : Result ℕ Halt)
     : Type 0 where
   pub bound : IfOk r (λ n. n ≤ length room)
@@ -135,7 +135,7 @@ pub record Fills (old new : Progress) (before after : Option Standing) (a b : Ac
   pub keeps : KeepsCounts old new
   pub stops : IfErr r (StopsBy new b.failure)
 
--- what a reading from a place on did, over every reader
+-- what a read from an offset on did, over every reader
 pub record ReadsFrom (old new : Progress) (before after : Option Standing) (a b : Account) (place : ℕ) (room : List ℕ)
     (r : Result ℕ Halt) : Type 0 where
   pub bound : IfOk r (λ n. n ≤ length room)

@@ -1,4 +1,4 @@
--- What a reader may tell of itself, and what its calls then owe.
+-- The model of a reader, and what its calls must do by it.
 use Rattle.std.specs.Prelude.{◌≡◌, ℕ, pos, negsuc, zero, suc, ◌+◌, ◌-◌, ◌^◌, ◌<◌, ◌≤◌, Bool, true, false, List, length, take, nat_le, if◌then◌else◌, Option, None, Some, Result, Ok, Err, IsSomeAnd, option_map}
 use Rattle.std.specs.declared.io.Error.{Error}
 use Rattle.std.specs.declared.io.traits.SeekFrom.{SeekFrom}
@@ -8,15 +8,15 @@ use Rattle.imagesize_io.specs.declared.told.Stop.TheVariants.{Interrupted, Fault
 use Rattle.imagesize_source.specs.Input.{part}
 use Rattle.imagesize_source.specs.Limits.{most_retries}
 
--- The bytes behind a reader, where it stands, whether a call may fail, and how many reads may still be
--- interrupted. Where calls may fail, any number of reads may be interrupted.
+-- The bytes of a reader, its offset, whether a call may fail, and how many reads may still be interrupted. If calls
+-- may fail, any number of reads may be interrupted.
 pub record Telling : Type 0 where
   pub bytes : List ℕ
   pub place : ℕ
   pub can_fail : Bool
   pub interruptions : ℕ
 
--- what is told of a reader each of whose calls may also fail
+-- the model of a reader whose calls may also fail
 abbrev pub may_fail : Option Telling → Option Telling
 may_fail told = option_map {T = Telling} (λ t. record t { can_fail = true }) told
 
@@ -24,7 +24,7 @@ may_fail told = option_map {T = Telling} (λ t. record t { can_fail = true }) to
 abbrev pub advance_telling : Telling → ℕ → Telling
 advance_telling t n = record t { place = t.place + n }
 
--- at a place
+-- at another offset
 abbrev pub at_place : Telling → ℕ → Telling
 at_place t place = record t { place = place }
 
@@ -32,12 +32,12 @@ at_place t place = record t { place = place }
 abbrev pub interrupt_telling : Telling → Telling
 interrupt_telling t = record t { interruptions = t.interruptions - 1 }
 
--- after a failed call, which only a reader that can fail makes, nothing is known of the place
+-- after a failed call, which only a reader that can fail makes, its offset is not known
 abbrev pub Fails : Telling → Option Telling → Type 0
 Fails t new = (t.can_fail ≡ true) × IsSomeAnd new (λ u. (u.bytes ≡ t.bytes) × (u.can_fail ≡ true))
 
--- What a read into a room did, which holds `room` afterwards: it gave n bytes from the place on, at
--- least one where there is one and there is room; or it gave nothing, and an interruption leaves the place.
+-- What a read into a buffer did; `room` is the buffer afterwards. It returned n bytes from the offset on, at least
+-- one if there is one and the buffer is not empty. Or it returned none; an interruption keeps the offset.
 abbrev pub ReadGives : Telling → Option Telling → List ℕ → Result ℕ Stop → Type 0
 ReadGives t new room (Ok n) =
     (new ≡ Some (advance_telling t n)) × (take n room ≡ part t.bytes t.place n) × (n ≤ length t.bytes - t.place)
@@ -45,12 +45,12 @@ ReadGives t new room (Ok n) =
 ReadGives t new room (Err (Interrupted e)) = (new ≡ Some (interrupt_telling t)) × (t.can_fail ≡ false → 0 < t.interruptions)
 ReadGives t new room (Err (Fault e)) = Fails t new
 
--- the same of a reader that may tell nothing
+-- what a read did, if the reader has a model
 abbrev pub ReadTells : Option Telling → Option Telling → List ℕ → Result ℕ Stop → Type 0
 ReadTells None new room r = new ≡ None
 ReadTells (Some t) new room r = ReadGives t new room r
 
--- where a seek is known to go: to a place within the bytes or at their end, to the end, or nowhere else
+-- the offset that a seek is known to go to: one within the bytes or at their end, the end itself, or the present one
 abbrev pub seek_target : Telling → SeekFrom → Option ℕ
 seek_target t (Start place) = if nat_le place (length t.bytes) then Some place else None
 seek_target t (End (pos zero)) = Some (length t.bytes)
@@ -60,51 +60,51 @@ seek_target t (Current (pos zero)) = Some t.place
 seek_target t (Current (pos (suc _))) = None
 seek_target t (Current (negsuc _)) = None
 
--- it has the same bytes, and may fail where it might before
+-- it has the same bytes, and may fail if it might before
 abbrev pub Stays : Telling → Telling → Type 0
 Stays t u = (u.bytes ≡ t.bytes) × (u.can_fail ≡ t.can_fail)
 
--- what a seek did that is known to go to a place; of any other only that the reader stays as it was, but for its place
+-- What a seek did that is known to go to an offset. Any other seek changes only the offset of the reader.
 abbrev pub SeekGives : {E : Type 0} → Telling → Option Telling → Option ℕ → Result ℕ E → Type 0
 SeekGives t new None r = IsSomeAnd new (Stays t)
 SeekGives t new (Some place) (Ok answer) = (answer ≡ place) × (new ≡ Some (at_place t place))
 SeekGives t new (Some place) (Err e) = Fails t new
 
--- the same of a reader that may tell nothing
+-- what a seek did, if the reader has a model
 abbrev pub SeekTells : {E : Type 0} → Option Telling → Option Telling → SeekFrom → Result ℕ E → Type 0
 SeekTells None new to r = new ≡ None
 SeekTells (Some t) new to r = SeekGives t new (seek_target t to) r
 
--- how many bytes a read gave
+-- how many bytes a read returned
 abbrev pub bytes_given : {E : Type 0} → Result ℕ E → ℕ
 bytes_given (Ok n) = n
 bytes_given (Err _) = 0
 
--- a named count rises by the bytes that a read gave
+-- the reader's count increases by the bytes that a read returned
 abbrev pub count_after : {E : Type 0} → Option ℕ → Result ℕ E → Option ℕ
 count_after count r = option_map (λ c. c + bytes_given r) count
 
--- The last failure after a call, as a seek is: the error of this one where it failed, and else what it was. A reader that
--- tells nothing of its failures tells nothing.
+-- The last failure after a call such as a seek: its error if it failed, else the one before. A model that states no
+-- failures still states none.
 abbrev pub failure_after : {X : Type 0} → Option (Option Error) → Result X Error → Option (Option Error)
 failure_after None r = None
 failure_after (Some last) (Ok x) = Some last
 failure_after (Some last) (Err e) = Some (Some e)
 
--- and after a read; an interruption is a failure too
+-- the last failure after a read; an interruption is a failure too
 abbrev pub failure_after_read : Option (Option Error) → Result ℕ Stop → Option (Option Error)
 failure_after_read None r = None
 failure_after_read (Some last) (Ok n) = Some last
 failure_after_read (Some last) (Err (Interrupted e)) = Some (Some e)
 failure_after_read (Some last) (Err (Fault e)) = Some (Some e)
 
--- An honest reader: its bytes are fewer than 2^63, and where none of its calls fails, at most as many of its
--- reads are interrupted as a call tries again.
+-- An honest reader. It has fewer than 2^63 bytes. If none of its calls fails, at most as many reads are interrupted
+-- as a call retries.
 pub record IsHonest (t : Telling) : Type 0 where
   pub short : length t.bytes < 2 ^ 63
   pub patient : t.can_fail ≡ false → t.interruptions ≤ most_retries
 
--- what a reader tells of itself
+-- the model of a reader, its count, and its last failure
 pub record Account : Type 0 where
   pub telling : Option Telling
   pub count : Option ℕ

@@ -36,6 +36,31 @@ impl<R: Read + Seek + Drop> KeptReader<R> {
             place: None,
         }
     }
+
+    /// Wraps a buffered reader at offset 0, such as a file that was just opened. Does not ask for its offset.
+    pub fn at_start(reader: BufReader<R>) -> Self
+        ensures reader { result.reader ≡ reader }
+        ensures place { result.place ≡ Some 0 }
+    {
+        KeptReader {
+            reader,
+            place: Some(0),
+        }
+    }
+
+    // The bytes in the buffer.
+    pub(crate) fn buffer(&self) -> &[u8]
+        ensures { result.now ≡ reader_buffer self.now.reader }
+    {
+        self.reader.buffer()
+    }
+
+    // The offset, if it is known.
+    pub(crate) fn place(&self) -> Option<u64>
+        ensures { result ≡ self.now.place }
+    {
+        self.place
+    }
 }
 
 impl<R: Read + Seek + Drop> Told for KeptReader<R> {

@@ -5,8 +5,10 @@ mod held;
 pub mod kept;
 pub mod progress;
 pub mod reader;
+pub mod sized;
 pub mod told;
 mod window;
 
 pub use kept::KeptReader;
+pub use sized::SizedReader;
 pub use told::{Stop, Told};

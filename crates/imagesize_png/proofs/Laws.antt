@@ -22,7 +22,7 @@ use Rattle.imagesize_source.specs.Numbers.{number}
 use Rattle.imagesize_source.specs.Halts.{error_of, with_error}
 use Rattle.imagesize_source.specs.Outcome.{stated}
 use Rattle.imagesize_source.specs.Reading.{bytes_at, go_on, map_answer, number_at}
-use Rattle.imagesize_source.specs.State.{State, Runs, total}
+use Rattle.imagesize_source.specs.State.{State, Runs, total, since_of}
 use Rattle.imagesize_source.specs.declared.endian.Endian.TheVariants.{Big}
 use Rattle.imagesize_source.specs.declared.error.ImageError.{ImageError}
 use Rattle.imagesize_source.specs.declared.halt.Halt.{Halt}
@@ -40,7 +40,11 @@ sides_plain false = tt
 
 -- the signature is 8 bytes, and the sides are 8 more
 pub png_laws : (place : ℕ) → FixedLaws 8 24 (png place)
-png_laws place = record { few = (omega arith, λ head. sides_few (is_png head)); plain = λ head. sides_plain (is_png head) }
+png_laws place = record {
+  few = (omega arith, λ head. sides_few (is_png head));
+  plain =
+      λ head. sides_plain (is_png head);
+}
 
 -- the size is read from at most these bytes, and sees the input by them alone
 pub png_within : (d : List ℕ) (place : ℕ) → total (png_of d place).marks ≤ 16
@@ -53,14 +57,16 @@ png_local place = local_layout (png place) (without_texts false 16 (png place) (
 pub png_lasts : (d : List ℕ) (place : ℕ) (r : Result ImageSize ImageError) → r ≡ (png_of d place).answer
     → IfOk r (λ size. (x : List ℕ) → (png_of (d ++ x) place).answer ≡ Ok size)
 png_lasts d place (Ok size) is = λ x.
-    ap stated (more_answer d x (png place) size (png_laws place).plain (stated_ok (png_reads d place).answer size (sym is)))
+    ap stated (more_answer d x (png place) size (png_laws place).plain
+    (stated_ok (png_reads d place).answer size (sym is)))
 png_lasts d place (Err e) is = tt
 
 -- a reading is refused for the end of the input alone
 bytes_end : (d : List ℕ) (place k : ℕ) (e : Halt) → bytes_at d place k ≡ Err e → e ≡ halt.Ended
 unfolding bytes_at
 bytes_end d place k e is = by_test (leb k (length d - place)) is where
-  by_test : (test : Bool) → ◌≡◌ {A = Result (List ℕ) Halt} (cond test (Ok (part d place k)) (Err halt.Ended)) (Err e) → e ≡ halt.Ended
+  by_test : (test : Bool) → ◌≡◌ {A = Result (List ℕ) Halt} (cond test (Ok (part d place k)) (Err halt.Ended)) (Err e)
+      → e ≡ halt.Ended
   by_test true is = absurd cc
   by_test false is = cc
 
@@ -75,13 +81,17 @@ number_end d place k e is = by_bytes (bytes_at d place k) refl is where
 sides_end : (d : List ℕ) (e : Halt) → (layout_reads d png_sides).answer ≡ Err e → e ≡ halt.Ended
 sides_end d e is = by_width (number_at d Big 16 4) refl is where
   by_height : (width : ℕ) (h : Result ℕ Halt) → number_at d Big 20 4 ≡ h
-      → ◌≡◌ {A = Result ImageSize Halt} (go_on {Y = ImageSize} (span_of d 20 4) h (λ height. layout_reads d (done (record { width = width; height = height })))).answer (Err e)
+      → ◌≡◌ {A = Result ImageSize Halt}
+      (go_on {Y = ImageSize} (span_of d 20 4) h
+      (λ height. layout_reads d (done (record { width = width; height = height })))).answer (Err e)
       → e ≡ halt.Ended
   by_height width (Ok height) same is = absurd cc
   by_height width (Err f) same is = let one : f ≡ e = cc in sym one ∙ number_end d 20 4 f same
 
   by_width : (w : Result ℕ Halt) → number_at d Big 16 4 ≡ w
-      → (go_on {Y = ImageSize} (span_of d 16 4) w (λ width. layout_reads d (field Big 20 4 (λ height. done (record { width = width; height = height }))))).answer ≡ Err e
+      → (go_on {Y = ImageSize} (span_of d 16 4) w
+      (λ width. layout_reads d (field Big 20 4 (λ height. done (record { width = width; height = height }))))).answer
+      ≡ Err e
       → e ≡ halt.Ended
   by_width (Ok width) same is = by_height width (number_at d Big 20 4) refl is
   by_width (Err f) same is = let one : f ≡ e = cc in sym one ∙ number_end d 16 4 f same
@@ -103,7 +113,8 @@ refused_lasts d x place is = by_head (bytes_at d place 8) refl is where
       (bytes_more d x place 8 (bytes_ok d head place 8 same) ∙ same)
       ∙ no_png d x (is_png head) is
   by_head (Err e) same is =
-      let one : e ≡ halt.NotSupported = cc in let no : halt.NotSupported ≡ halt.Ended = sym one ∙ bytes_end d place 8 e same in absurd cc
+      let one : e ≡ halt.NotSupported = cc in let no : halt.NotSupported ≡ halt.Ended = sym one
+      ∙ bytes_end d place 8 e same in absurd cc
 
 -- one halt alone is this error
 not_supported : (h : Halt) → error_of h ≡ NotSupported → h ≡ halt.NotSupported
@@ -126,7 +137,8 @@ bounded_png d place = omega (arith, png_within d place)
 
 -- the size that a reader was found to have
 pub png_answers : (telling mid : Option Telling) (count : Option ℕ) (home : ℕ) (opened : Opened) (a b : State)
-    (r : Result ImageSize Halt) → a ≡ start_state mid count home opened.told → is_some b.failed ≡ true → Opens telling mid (Ok opened)
+    (r : Result ImageSize Halt) → a ≡ start_state mid count home opened.told → is_some b.failed ≡ true
+    → Opens telling mid (Ok opened)
     → Runs a b r (png_reads a.held.input opened.place) → Answers telling png_of (with_error b.failure b.frame.budget r)
 png_answers telling mid count home opened a b r start told opens h =
     opened_answers telling mid count home opened b r png_reads bounded_png told opens
@@ -136,7 +148,8 @@ both_are : (p q : ℕ × ℕ) → p ≡ q → (p.0 ≡ q.0) × (p.1 ≡ q.1)
 both_are p q same = (ap (λ (x : ℕ × ℕ). x.0) same, ap (λ (x : ℕ × ℕ). x.1) same)
 
 -- a named count that drifted by what was taken rose by it
-rises : (before after : Option ℕ) (taken k : ℕ) → drift after taken ≡ drift before 0 → taken ≤ k → RisesWithin before after k
+rises : (before after : Option ℕ) (taken k : ℕ) → drift after taken ≡ drift before 0 → taken ≤ k
+    → RisesWithin before after k
 rises None None taken k same few = refl
 rises None (Some d) taken k same few = absurd cc
 rises (Some c) None taken k same few = absurd cc
@@ -147,9 +160,9 @@ rises (Some c) (Some d) taken k same few =
 -- and how far a count rose
 pub png_counts : (telling mid : Option Telling) (count after : Option ℕ) (home : ℕ) (opened : Opened) (a b : State)
     (r : Result ImageSize Halt) → a ≡ start_state mid count home opened.told → is_some b.failed ≡ true → Opens telling mid (Ok opened)
-    → Runs a b r (png_reads a.held.input opened.place) → b.frame.since ≡ drift after b.taken → CountsWithin telling count after png_of
+    → Runs a b r (png_reads a.held.input opened.place) → since_of b.frame.backing ≡ drift after b.taken → CountsWithin telling count after png_of
 png_counts None mid count after home opened a b r start told opens h counted = tt
 png_counts (Some t) mid count after home opened a b r start told opens h counted = λ honest.
     let takes = opened_takes (Some t) mid count home opened b r png_reads told opens
     (subst (λ s. Runs s b r (png_reads s.held.input opened.place)) start h) honest in
-    rises count after b.taken _ (sym counted ∙ ap (λ f. f.since) h.frame ∙ ap (λ s. s.frame.since) start) takes.most
+    rises count after b.taken _ (sym counted ∙ ap (λ f. since_of f.backing) h.frame ∙ ap (λ s. since_of s.frame.backing) start) takes.most

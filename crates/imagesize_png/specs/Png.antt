@@ -1,4 +1,4 @@
--- PNG, by sections 5.2 (PNG signature) and 11.2.2 (IHDR Image header) of the Portable Network Graphics Specification.
+-- PNG. Portable Network Graphics Specification, sections 5.2 (PNG signature) and 11.2.2 (IHDR Image header).
 use Rattle.std.specs.Prelude.{ℕ, Bool, if◌then◌else◌, List, [], ◌∷◌}
 use Rattle.imagesize_types.specs.Head.{begins}
 use Rattle.imagesize_types.specs.declared.size.ImageSize.{ImageSize}
@@ -13,18 +13,19 @@ use Rattle.imagesize_source.specs.Reading.{Reads}
 abbrev pub signature : List ℕ
 signature = 137 ∷ 80 ∷ 78 ∷ 71 ∷ 13 ∷ 10 ∷ 26 ∷ 10 ∷ []
 
--- whether bytes begin with the signature
+-- whether the bytes begin with the signature
 unfoldable pub is_png : List ℕ → Bool
 is_png head = begins signature head
 
--- the width, then the height, of the image header: the first chunk's data begin at 16
+-- the width, then the height, of the image header; the data of the first chunk begin at offset 16
 abbrev pub png_sides : Layout ImageSize
 png_sides = field Big 16 4 (λ width. field Big 20 4 (λ height. done (record { width = width; height = height })))
 
 abbrev pub png_by : Bool → Layout ImageSize
 png_by is = if is then png_sides else refuse NotSupported
 
--- the size of an input whose signature stands at a place: the offsets of the sides count from the first byte
+-- The size of an input with its signature at an offset. The offsets of the width and the height count from the first
+-- byte of the input.
 abbrev pub png : ℕ → Layout ImageSize
 png place = bytes place 8 (λ head. png_by (is_png head))
 

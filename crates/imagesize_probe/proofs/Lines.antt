@@ -60,7 +60,8 @@ some_line name None old new has _ = (cc)
 some_line name (Some text) old new _ wrote = (text, wrote)
 
 -- what goes on from a refusal is no success
-began : {X Y : Type 0} (marks : List Span) (r : Result X Halt) (f : X → Reads Y) → IsOk (stated (go_on marks r f).answer) → IsOk (stated r)
+began : {X Y : Type 0} (marks : List Span) (r : Result X Halt) (f : X → Reads Y)
+    → IsOk (stated (go_on marks r f).answer) → IsOk (stated r)
 began marks (Ok x) f _ = refl
 began marks (Err e) f ok = ok
 
@@ -77,7 +78,8 @@ refused_text name None old new has _ = (cc)
 refused_text name (Some text) old new _ wrote = wrote
 
 -- the line of an answer that is no failure, beside a type where it is a size
-answer_text : (name : List ℕ) (r : Result ImageSize ImageError) (found : Result ImageType ImageError) (old new : Option (List ℕ)) →
+answer_text : (name : List ℕ) (r : Result ImageSize ImageError) (found : Result ImageType ImageError)
+    (old new : Option (List ℕ)) →
     (IsOk r → IsOk found) → is_stopped r ≡ false →
     IfSome (answer_line name (result_ok found) r) (Appends old new) →
     IsSomeAnd (answer_line name (result_ok found) r) (Appends old new)
@@ -91,9 +93,11 @@ found_line : (t : Telling) (name : List ℕ) (probed : Probed) (old new : Option
     is_stopped probed.answer ≡ false → IsSomeAnd (line_of name t) (Appends old new)
 found_line t name probed old new probes wrote going =
     let same : (over_reader t meaning).answer ≡ probed.answer = probes.answer.answer going in
-    let typed : IsOk (over_reader t meaning).answer → IsOk (over_reader t kind_of).answer = sized_kind t.bytes t.place in
+    let typed : IsOk (over_reader t meaning).answer
+    → IsOk (over_reader t kind_of).answer = sized_kind t.bytes t.place in
     let kind : probed.kind ≡ result_ok (over_reader t kind_of).answer = probes.whole going in
-    rw same (answer_text name probed.answer (over_reader t kind_of).answer old new (rw same at typed) going (rw kind at wrote))
+    rw same (answer_text name probed.answer (over_reader t kind_of).answer old new (rw same at typed) going
+    (rw kind at wrote))
 
 -- a failure comes only from a reader that can fail
 no_failure : (stops can_fail : Bool) → (stops ≡ true → can_fail ≡ true) → can_fail ≡ false → stops ≡ false
@@ -132,10 +136,12 @@ reported t name probed old new sized probes wrote is =
     }
 
 -- the same of a reader that may tell nothing
-pub reports : (telling : Option Telling) (name : List ℕ) (probed : Probed) (old new : Option (List ℕ)) (r : Result Bool Error) →
+pub reports : (telling : Option Telling) (name : List ℕ) (probed : Probed) (old new : Option (List ℕ))
+    (r : Result Bool Error) →
     Probes telling probed → OnOk r (IfSome (answer_line name probed.kind probed.answer) (Appends old new)) →
     IfOk r (λ sized. sized ≡ is_ok probed.answer) →
     IfOk r (Reports telling name old new)
 reports telling name probed old new (Err e) _ _ _ = tt
 reports None name probed old new (Ok sized) _ _ _ = tt
-reports (Some t) name probed old new (Ok sized) probes wrote is = λ honest. reported t name probed old new sized (probes honest) wrote is
+reports (Some t) name probed old new (Ok sized) probes wrote is =
+    λ honest. reported t name probed old new sized (probes honest) wrote is

@@ -17,7 +17,8 @@ use Rattle.imagesize_source.specs.declared.error.ImageError.{ImageError}
 use Rattle.imagesize_source.specs.declared.span.Span.{Span}
 
 -- what was written at first, and then
-pub appended : (a b c : Option (List ℕ)) (first second whole : List ℕ) → Appends a b first → Appends b c second → whole ≡ first ++ second
+pub appended : (a b c : Option (List ℕ)) (first second whole : List ℕ) → Appends a b first → Appends b c second
+    → whole ≡ first ++ second
     → Appends a c whole
 appended None b c first second whole _ _ _ = tt
 appended (Some a) None c first second whole wrote _ _ = absurd wrote
@@ -25,13 +26,15 @@ appended (Some a) (Some b) None first second whole _ wrote _ = absurd wrote
 appended (Some a) (Some b) (Some c) first second whole wrote more is = search (rules, wrote, more, is, append_assoc)
 
 -- a line, where one is stated, and more behind it
-pub both_written : (text : Option (List ℕ)) (more : List ℕ) (a b c : Option (List ℕ)) → IfSome text (Appends a b) → Appends b c more →
+pub both_written : (text : Option (List ℕ)) (more : List ℕ) (a b c : Option (List ℕ)) → IfSome text (Appends a b)
+    → Appends b c more →
     IfSome text (λ first. Appends a c (first ++ more))
 both_written None more a b c _ _ = tt
 both_written (Some text) more a b c wrote then_more = appended a b c text more (text ++ more) wrote then_more refl
 
 -- the lines of spans and of one more
-span_lines_push : (spans : List Span) (span : Span) → span_lines (spans ++ span ∷ []) ≡ span_lines spans ++ span_line span
+span_lines_push : (spans : List Span) (span : Span)
+    → span_lines (spans ++ span ∷ []) ≡ span_lines spans ++ span_line span
 span_lines_push [] span = search rules
 span_lines_push (first ∷ spans) span = search (rules, span_lines_push spans span, append_assoc)
 
@@ -58,18 +61,21 @@ line_there name found (Err e) _ going = text_there name (error_text e) (has_text
 
 -- a line that is stated, and more behind it
 more_behind : (text : Option (List ℕ)) (more : List ℕ) (old new : Option (List ℕ)) → IsSome text →
-    IfSome text (λ first. Appends old new (first ++ more)) → IsSomeAnd (option_map (λ first. first ++ more) text) (Appends old new)
+    IfSome text (λ first. Appends old new (first ++ more))
+    → IsSomeAnd (option_map (λ first. first ++ more) text) (Appends old new)
 more_behind (Some text) more old new _ wrote = wrote
 more_behind None more old new has _ = (cc)
 
 -- a size stands beside a type
-kind_there : {X : Type 0} (r : Result ImageSize ImageError) (found : Result X ImageError) → (IsOk r → IsOk found) → IsOk r
+kind_there : {X : Type 0} (r : Result ImageSize ImageError) (found : Result X ImageError) → (IsOk r → IsOk found)
+    → IsOk r
     → IsSome (result_ok found)
 kind_there r (Ok image) _ _ = refl
 kind_there r (Err e) typed ok = (cc (typed ok))
 
 pub trace_typed : {A : Type 0} (d : List ℕ) (t : Trace A) → Traces d t → OnOk t.answer (IsSome t.kind)
-trace_typed d t traces = rw traces.answer (rw traces.kind (on_ok (meaning d 0).answer (IsSome (result_ok (kind_of d 0).answer))
+trace_typed d t traces =
+    rw traces.answer (rw traces.kind (on_ok (meaning d 0).answer (IsSome (result_ok (kind_of d 0).answer))
     (kind_there (meaning d 0).answer (kind_of d 0).answer (sized_kind d 0))))
   where
     on_ok : (r : Result ImageSize ImageError) (P : Type 0) → (IsOk r → P) → OnOk r P
@@ -83,14 +89,16 @@ pub traced : {A : Type 0} (d name : List ℕ) (t : Trace A) (old new : Option (L
 traced d name t old new sized traces wrote is =
     let kind = traces.kind in let answer = traces.answer in let spans = traces.spans in
     record {
-      text = more_behind (answer_line name (result_ok (kind_of d 0).answer) (meaning d 0).answer) (span_lines (meaning d 0).marks) old new
+      text = more_behind (answer_line name (result_ok (kind_of d 0).answer) (meaning d 0).answer)
+          (span_lines (meaning d 0).marks) old new
           (line_there name (result_ok (kind_of d 0).answer) (meaning d 0).answer
           (kind_there (meaning d 0).answer (kind_of d 0).answer (sized_kind d 0)) (rw (← answer) traces.goes))
           (rw (← kind) (rw (← answer) (rw (← spans) wrote)));
       size = rw (← answer) is;
     }
 
-pub traces_to : {A : Type 0} (d name : List ℕ) (t : Trace A) (old new : Option (List ℕ)) (r : Result Bool Error) → Traces d t →
+pub traces_to : {A : Type 0} (d name : List ℕ) (t : Trace A) (old new : Option (List ℕ)) (r : Result Bool Error)
+    → Traces d t →
     OnOk r (IfSome (answer_line name t.kind t.answer) (λ text. Appends old new (text ++ span_lines t.spans.items))) →
     IfOk r (λ sized. sized ≡ is_ok t.answer) → IfOk r (ReportsSpans d name old new)
 traces_to d name t old new (Err e) _ _ _ = tt

@@ -20,7 +20,8 @@ use Rattle.imagesize_probe.specs.Run.{Files, WritesEach, RunsWith, WritesLine, W
 use Rattle.imagesize_probe.specs.Status.{exit_status}
 
 -- a line was written and sent on, and then others
-wrote_both : (first second a b c d : Option (List ℕ)) → IfSome first (Appends a b) → Keeps b c → IfSome second (Appends c d) →
+wrote_both : (first second a b c d : Option (List ℕ)) → IfSome first (Appends a b) → Keeps b c
+    → IfSome second (Appends c d) →
     IfSome (join_lines first second) (Appends a d)
 wrote_both None second a b c d _ _ _ = tt
 wrote_both (Some first) None a b c d _ _ _ = tt
@@ -28,7 +29,8 @@ wrote_both (Some first) (Some second) None b c d _ _ _ = tt
 wrote_both (Some first) (Some second) (Some a) None c d wrote _ _ = absurd wrote
 wrote_both (Some first) (Some second) (Some a) (Some b) None d _ kept _ = absurd kept
 wrote_both (Some first) (Some second) (Some a) (Some b) (Some c) None _ _ more = absurd more
-wrote_both (Some first) (Some second) (Some a) (Some b) (Some c) (Some d) wrote kept more = search (rules, wrote, kept, more, append_assoc)
+wrote_both (Some first) (Some second) (Some a) (Some b) (Some c) (Some d) wrote kept more =
+    search (rules, wrote, kept, more, append_assoc)
 
 -- no line was written
 wrote_none : (a : Option (List ℕ)) → Appends a a []
@@ -54,18 +56,21 @@ one_name text_of names i name text there at is =
     search (rules, more, ← at, is, map-append)
 
 -- of none before it, one is refused where this one is
-refused_alone : (refused sized after : Bool) → refused ≡ false → after ≡ (refused || not sized) → after ≡ (not sized || false)
+refused_alone : (refused sized after : Bool) → refused ≡ false → after ≡ (refused || not sized)
+    → after ≡ (not sized || false)
 refused_alone refused true after none so = search (rules, none, so)
 refused_alone refused false after none so = search (rules, none, so)
 
 -- one is refused where the first was, or one behind it
-refused_behind : (first refused others sized after : Bool) → refused ≡ (not first || others) → after ≡ (refused || not sized) →
+refused_behind : (first refused others sized after : Bool) → refused ≡ (not first || others)
+    → after ≡ (refused || not sized) →
     after ≡ (not first || (others || not sized))
 refused_behind true refused others sized after some so = search (rules, some, so)
 refused_behind false refused others sized after some so = search (rules, some, so)
 
 -- what is written of one name more was written, and sent on
-one_written : (writes : List ℕ → Option (List ℕ) → Option (List ℕ) → Bool → Type 0) (names : List (List ℕ)) (name : List ℕ)
+one_written : (writes : List ℕ → Option (List ℕ) → Option (List ℕ) → Bool → Type 0) (names : List (List ℕ))
+    (name : List ℕ)
     (a b c d : Option (List ℕ)) (refused sized after : Bool) →
     WritesEach writes names a b refused → writes name b c sized → Keeps c d → after ≡ (refused || not sized) →
     WritesEach writes (names ++ name ∷ []) a d after
@@ -79,35 +84,44 @@ one_written writes [] name a b c d refused sized after before wrote kept so = (
   (refl, refl),
   refused_alone refused sized after before.1 so,
 )
-one_written writes (first ∷ names) name a b c d refused sized after (mid, sent, was, others, line, on, rest, some) wrote kept so = (
-  mid,
-  sent,
-  was,
-  (others || not sized),
-  line,
-  on,
-  one_written writes names name sent b c d others sized (others || not sized) rest wrote kept refl,
-  refused_behind was refused others sized after some so,
-)
+one_written writes (first ∷ names) name a b c d refused sized after
+    (mid, sent, was, others, line, on, rest, some) wrote kept so = (
+      mid,
+      sent,
+      was,
+      (others || not sized),
+      line,
+      on,
+      one_written writes names name sent b c d others sized (others || not sized) rest wrote kept refl,
+      refused_behind was refused others sized after some so,
+    )
 
 -- the same of the names that were taken
 pub one_more : {X : Type 0} (text_of : X → List ℕ) (names : List X) (i : ℕ) (name : X) (text : List ℕ) →
     i < length names → name ≡ get_or names i name → text ≡ text_of name →
-    (writes : List ℕ → Option (List ℕ) → Option (List ℕ) → Bool → Type 0) (a b c d : Option (List ℕ)) (refused sized after : Bool) →
+    (writes : List ℕ → Option (List ℕ) → Option (List ℕ) → Bool → Type 0) (a b c d : Option (List ℕ))
+    (refused sized after : Bool) →
     WritesEach writes (map text_of (take i names)) a b refused → writes text b c sized → Keeps c d →
     after ≡ (refused || not sized) →
     WritesEach writes (map text_of (take (i + 1) names)) a d after
 one_more text_of names i name text there at is writes a b c d refused sized after before wrote kept so =
-    let more : map text_of (take (i + 1) names) ≡ map text_of (take i names) ++ text ∷ [] = one_name text_of names i name text
+    let more : map text_of (take (i + 1) names) ≡ map text_of (take i names) ++ text ∷ [] =
+    one_name text_of names i name text
     there at is in
     rw more (one_written writes (map text_of (take i names)) text a b c d refused sized after before wrote kept so)
 
 -- what is read of bytes shows whether they are too many, and is all of them where they are not
-shows_length : (d : List ℕ) → (16777216 < length d → 16777216 < length (take 16777217 d)) × (length d ≤ 16777216 → take 16777217 d ≡ d)
-shows_length d = (λ long. omega (arith, length-take 16777217 d, long), λ short. take_all 16777217 d (omega (arith, short)))
+shows_length : (d : List ℕ)
+    → (16777216 < length d → 16777216 < length (take 16777217 d)) × (length d ≤ 16777216 → take 16777217 d ≡ d)
+shows_length d = (
+  λ long. omega (arith, length-take 16777217 d, long),
+  λ short. take_all 16777217 d
+      (omega (arith, short)),
+)
 
 -- the lines of the bytes that were read are those of all
-whole_read : (d bytes name : List ℕ) (a b : Option (List ℕ)) (sized : Bool) → bytes ≡ take 16777217 d → ReportsWhole bytes name a b sized
+whole_read : (d bytes name : List ℕ) (a b : Option (List ℕ)) (sized : Bool) → bytes ≡ take 16777217 d
+    → ReportsWhole bytes name a b sized
     → ReportsWhole d name a b sized
 whole_read d bytes name a b sized is wrote = record {
   long = λ long. wrote.long (rw is ((shows_length d).0 long));
@@ -122,15 +136,18 @@ behind_read (Ok d) bytes name a b sized is wrote = inl (whole_read d bytes name 
 behind_read (Err e) bytes name a b sized is wrote = absurd is
 
 -- one line has no spans below it
-one_line : (name : List ℕ) (a b : Option (List ℕ)) (sized : Bool) → AppendsLine name a b sized → AppendsLines name a b sized
+one_line : (name : List ℕ) (a b : Option (List ℕ)) (sized : Bool) → AppendsLine name a b sized
+    → AppendsLines name a b sized
 one_line name a b sized wrote = (b, [], wrote, wrote_none b)
 
 -- such lines are a line of the name and lines of spans
-long_lines : (name : List ℕ) (a b : Option (List ℕ)) (sized : Bool) → IsTooLong name a b sized → AppendsLines name a b sized
+long_lines : (name : List ℕ) (a b : Option (List ℕ)) (sized : Bool) → IsTooLong name a b sized
+    → AppendsLines name a b sized
 long_lines name a b true wrote = absurd (cc)
 long_lines name a b false wrote = (b, [], (codes "file is longer than 16777216 bytes", wrote.text), wrote_none b)
 
-lacking_lines : (name : List ℕ) (a b : Option (List ℕ)) (sized : Bool) → LacksMemory name a b sized → AppendsLines name a b sized
+lacking_lines : (name : List ℕ) (a b : Option (List ℕ)) (sized : Bool) → LacksMemory name a b sized
+    → AppendsLines name a b sized
 lacking_lines name a b true wrote = absurd (cc)
 lacking_lines name a b false wrote = (b, [], (codes "Out of memory", wrote.text), wrote_none b)
 
@@ -144,7 +161,8 @@ appended_apart (Some a) (Some c) first second wrote = (Some (a ++ first), refl, 
 -- the line of an answer is one of its name
 answered_lines : (name : List ℕ) (found : Option ImageType) (r : Result ImageSize ImageError) (spans : List Span)
     (a b : Option (List ℕ)) (sized : Bool) →
-    IsSomeAnd (option_map (λ text. text ++ span_lines spans) (answer_line name found r)) (Appends a b) → sized ≡ is_ok r →
+    IsSomeAnd (option_map (λ text. text ++ span_lines spans) (answer_line name found r)) (Appends a b) → sized ≡ is_ok r
+    →
     AppendsLines name a b sized
 answered_lines name (Some image) (Ok size) spans a b true wrote _ =
     let (mid, first, second) = appended_apart a b (sized_line name image size) (span_lines spans) wrote in
@@ -162,21 +180,26 @@ answered_lines name found (Err e) spans a b false wrote is = refused (error_text
         let (mid, first, second) = appended_apart a b (refused_line name text) (span_lines spans) wrote in
         (mid, spans, (text, first), second)
 
-traced_lines : (d name : List ℕ) (a b : Option (List ℕ)) (sized : Bool) → ReportsSpans d name a b sized → AppendsLines name a b sized
+traced_lines : (d name : List ℕ) (a b : Option (List ℕ)) (sized : Bool) → ReportsSpans d name a b sized
+    → AppendsLines name a b sized
 traced_lines d name a b sized (inl traced) =
-    answered_lines name (result_ok (kind_of d 0).answer) (meaning d 0).answer (meaning d 0).marks a b sized traced.text traced.size
+    answered_lines name (result_ok (kind_of d 0).answer) (meaning d 0).answer
+    (meaning d 0).marks a b sized traced.text traced.size
 traced_lines d name a b sized (inr (_, lacks)) = lacking_lines name a b sized lacks
 
-whole_lines : (d name : List ℕ) (a b : Option (List ℕ)) (sized : Bool) → ReportsWhole d name a b sized → AppendsLines name a b sized
+whole_lines : (d name : List ℕ) (a b : Option (List ℕ)) (sized : Bool) → ReportsWhole d name a b sized
+    → AppendsLines name a b sized
 whole_lines d name a b sized wrote =
-    ⊎_elim (λ long. long_lines name a b sized (wrote.long long)) (λ short. traced_lines d name a b sized (wrote.whole short))
+    ⊎_elim (λ long. long_lines name a b sized (wrote.long long))
+    (λ short. traced_lines d name a b sized (wrote.whole short))
     (cases_lt whole_length (length d))
 
 -- the lines of what was read of a name
 pub spans_written : (known : Option Files) (bytes name : List ℕ) (a b : Option (List ℕ)) (r : Result Bool Error) →
     Loads known name bytes → IfOk r (ReportsWhole bytes name a b) → IfOk r (WritesSpans known name a b)
 spans_written known bytes name a b (Err e) _ _ = tt
-spans_written None bytes name a b (Ok sized) _ wrote = record { lines = whole_lines bytes name a b sized wrote; told = tt }
+spans_written None bytes name a b (Ok sized) _ wrote =
+    record { lines = whole_lines bytes name a b sized wrote; told = tt }
 spans_written (Some files) bytes name a b (Ok sized) loads wrote = record {
   lines = whole_lines bytes name a b sized wrote;
   told = behind_read (files name) bytes name a b sized loads wrote;
@@ -188,21 +211,24 @@ lacks_behind : (found : Result (List ℕ) ImageError) (name : List ℕ) (a b : O
 lacks_behind (Ok d) name a b sized lacks = inr lacks
 lacks_behind (Err e) name a b sized lacks = inr lacks
 
-refused_spans : (found : Result (List ℕ) ImageError) (name : List ℕ) (e : ImageError) (a b : Option (List ℕ)) (sized : Bool) →
+refused_spans : (found : Result (List ℕ) ImageError) (name : List ℕ) (e : ImageError) (a b : Option (List ℕ))
+    (sized : Bool) →
     (found ≡ Err e) ⊎ (e ≡ IoError Memory) → IfSome (error_text e) (λ text. Appends a b (refused_line name text)) →
     AppendsLine name a b sized → sized ≡ false → SpansBehind name found a b sized
-refused_spans found name e a b sized (inl is) wrote line none = subst (λ x. SpansBehind name x a b sized) (sym is) (inl (record {
-  text = wrote;
-  line = subst (λ x. AppendsLine name a b x) none line;
-  refused = none;
-}))
+refused_spans found name e a b sized (inl is) wrote line none =
+    subst (λ x. SpansBehind name x a b sized) (sym is) (inl (record {
+      text = wrote;
+      line = subst (λ x. AppendsLine name a b x) none line;
+      refused = none;
+    }))
 refused_spans found name e a b sized (inr is) wrote line none = lacks_behind found name a b sized (record {
   text = subst (λ x. IfSome (error_text x) (λ text. Appends a b (refused_line name text))) is wrote;
   refused = none;
 })
 
 -- the line of why nothing was read of a name
-pub spans_refused : (known : Option Files) (name : List ℕ) (e : ImageError) (a b : Option (List ℕ)) (r : Result Bool Error) →
+pub spans_refused : (known : Option Files) (name : List ℕ) (e : ImageError) (a b : Option (List ℕ))
+    (r : Result Bool Error) →
     LoadsNone known name e → OnOk r (IfSome (error_text e) (λ text. Appends a b (refused_line name text))) →
     IfOk r (AppendsLine name a b) → IfOk r (λ sized. sized ≡ false) → IfOk r (WritesSpans known name a b)
 spans_refused known name e a b (Err _) _ _ _ _ = tt
@@ -213,7 +239,8 @@ spans_refused (Some files) name e a b (Ok sized) none wrote line is = record {
 }
 
 -- without the option the lines are exactly those of the names, where it is told what is behind them
-plain_lines : (files : Files) (spans : Bool) (names : List (List ℕ)) (old new : Option (List ℕ)) (refused : Bool) → spans ≡ false →
+plain_lines : (files : Files) (spans : Bool) (names : List (List ℕ)) (old new : Option (List ℕ)) (refused : Bool)
+    → spans ≡ false →
     WritesEach (WritesOne spans (Some files)) names old new refused → WritesLines files names old new refused
 plain_lines files false names old new refused _ wrote = lines_written files names old new refused wrote
 plain_lines files true names old new refused plain _ = absurd (cc)

@@ -13,7 +13,8 @@ mod report;
 mod run;
 
 use imagesize::{ImageError, ImageResult, Reason};
-use imagesize_io::KeptReader;
+use imagesize_io::SizedReader;
+use imagesize_io::sized::length_of;
 use run::{Open, WHOLE, exit_code, run};
 use std::io::{self, BufReader, BufWriter, ErrorKind, Printer, Read};
 use std::process::ExitCode;
@@ -70,18 +71,19 @@ struct Disk<'a, R> {
 }
 
 impl<R: Files + AllocGlobal> Open for Disk<'_, R> {
-    type Reader = KeptReader<R::File>;
+    type Reader = SizedReader<R::File>;
 
     ghost known = { λ _. None };
 
-    fn open(&mut self, name: &str) -> ImageResult<KeptReader<R::File>>
+    fn open(&mut self, name: &str) -> ImageResult<SizedReader<R::File>>
         ensures opens { Unit {0} }
         ensures keeps { ◌≡◌ {A = Option Files} None None }
         ensures refuses { IfErr result (λ e. IsTrue (is_fault e || is_memory e)) }
     {
         let file = fs::open(self.rt, name)?;
+        let length = length_of(&file);
         let reader = buffered_reader(BufReader::new(self.rt.alloc(), file))?;
-        Ok(KeptReader::new(reader))
+        Ok(SizedReader::new(reader, length))
     }
 
     fn load(&mut self, name: &str) -> ImageResult<Vec<u8>>

@@ -29,23 +29,36 @@ module _ {M : Type 1} {𝓤 : Ura M} (𝓛 : Logic 𝓤) (at_mem : Memory → SP
   Refuses = triple_of 𝓛 R.signature (R.spec 𝓛 at_mem run)
 
   abbrev pub at_refuses : Lft → Share → ℕ × ℕ → Refuses.Ghost
-  at_refuses κ q c = (((κ, tt), (q, tt), tt, (record { ref_ptr = c; now = record { value = tt } }, tt), (vptr c.0 c.1 ∷ [], tt)), tt)
+  at_refuses κ q c = (
+    (
+      (κ, tt),
+      (q, tt),
+      tt,
+      (record { ref_ptr = c; now = record { value = tt } }, tt),
+      (vptr c.0 c.1 ∷ [], tt),
+    ),
+    tt,
+  )
 
   abbrev pub TakesBack : Contract 𝓤
   TakesBack = triple_of 𝓛 K.signature (K.spec 𝓛 at_mem run)
 
   abbrev pub at_take_back : Lft → Share → ℕ × ℕ → TakesBack.Ghost
-  at_take_back κ q c = (((κ, tt), (q, tt), tt, (record { ref_ptr = c; now = record { value = tt } }, tt), (vptr c.0 c.1 ∷ [], tt)), tt)
+  at_take_back κ q c =
+      (((κ, tt), (q, tt), tt, (record { ref_ptr = c; now = record { value = tt } }, tt), (vptr c.0 c.1 ∷ [], tt)), tt)
 
-module _ {M : Type 1} {𝓤 : Ura M} (𝓛 : Logic 𝓤) (at_mem : Memory → SProp 𝓤) (run : Routine → Fun 𝓤) (κ : Lft) (q : Share) (c : ℕ × ℕ) where
+module _ {M : Type 1} {𝓤 : Ura M} (𝓛 : Logic 𝓤) (at_mem : Memory → SProp 𝓤) (run : Routine → Fun 𝓤) (κ : Lft)
+    (q : Share) (c : ℕ × ℕ) where
   open 𝓛 use {H, A}
 
   pub refuses_goes : ent 𝓤 (sep 𝓤 (sem 𝓛 (hidden_shr Noted κ (record { value = tt }) c.0 c.1)) (A.lft κ q))
       ((Refuses 𝓛 at_mem run).pre (at_refuses 𝓛 at_mem run κ q c))
   refuses_goes =
-      qed 𝓛 (‵ (hidden_shr Noted κ (record { value = tt }) c.0 c.1) ∷ ‵ (flft κ q) ∷ []) ∵ feq_i ! (List Val) (vptr c.0 c.1 ∷ [])
+      qed 𝓛 (‵ (hidden_shr Noted κ (record { value = tt }) c.0 c.1) ∷ ‵ (flft κ q) ∷ []) ∵ feq_i ! (List Val)
+      (vptr c.0 c.1 ∷ [])
       (vptr c.0 c.1 ∷ []) refl $ fjoin ! $
-      nothing ! $ move ! (1 ∷ []) $ fjoin ! $ nothing ! $ move ! (2 ∷ []) $ join ! $ join ! $ nothing ! $ move ! (1 ∷ []) $ done !
+      nothing ! $ move ! (1 ∷ []) $ fjoin ! $ nothing ! $ move ! (2 ∷ []) $ join ! $ join ! $ nothing ! $ move !
+      (1 ∷ []) $ done !
 
   pub refuses_gives : (v : Val) → ent 𝓤 ((Refuses 𝓛 at_mem run).post (at_refuses 𝓛 at_mem run κ q c) v)
       (H.⇛ (ex 𝓤 (λ (t : Bool). guard 𝓤 (v ≡ vbool t) (A.lft κ q))))
@@ -54,15 +67,18 @@ module _ {M : Type 1} {𝓤 : Ura M} (𝓛 : Logic 𝓤) (at_mem : Memory → SP
       use1 𝓛 (later (some (λ (t : Bool). ((‵ (flft κ q) ⊛ ‵ ftrue) ⊛ ‵ (bool.own_val t (v ∷ []))) ⊛ some
       (λ (ws : Unit {0} × Unit {0}). ‵ (fsep ftrue ftrue) ⊛ ‵ ftrue)))) (id⊢ 𝓤 _) $ await ! tt $ pick ! (λ t.
       split ! $ split ! $ move ! (1 ∷ []) $ feq_l !
-      (λ e. split ! $ at_once ! $ show ! (λ (t' : Bool). guard 𝓤 (v ≡ vbool t') (A.lft κ q)) t $ check ! (ap only e) $ keep !
+      (λ e. split ! $ at_once ! $ show ! (λ (t' : Bool). guard 𝓤 (v ≡ vbool t') (A.lft κ q)) t $ check !
+      (ap only e) $ keep !
       (0 ∷ []) $ done !))
 
   pub take_back_goes : ent 𝓤 (sep 𝓤 (sem 𝓛 (hidden_shr Noted κ (record { value = tt }) c.0 c.1)) (A.lft κ q))
       ((TakesBack 𝓛 at_mem run).pre (at_take_back 𝓛 at_mem run κ q c))
   take_back_goes =
-      qed 𝓛 (‵ (hidden_shr Noted κ (record { value = tt }) c.0 c.1) ∷ ‵ (flft κ q) ∷ []) ∵ feq_i ! (List Val) (vptr c.0 c.1 ∷ [])
+      qed 𝓛 (‵ (hidden_shr Noted κ (record { value = tt }) c.0 c.1) ∷ ‵ (flft κ q) ∷ []) ∵ feq_i ! (List Val)
+      (vptr c.0 c.1 ∷ [])
       (vptr c.0 c.1 ∷ []) refl $ fjoin ! $
-      nothing ! $ move ! (1 ∷ []) $ fjoin ! $ nothing ! $ move ! (2 ∷ []) $ join ! $ join ! $ nothing ! $ move ! (1 ∷ []) $ done !
+      nothing ! $ move ! (1 ∷ []) $ fjoin ! $ nothing ! $ move ! (2 ∷ []) $ join ! $ join ! $ nothing ! $ move !
+      (1 ∷ []) $ done !
 
   pub take_back_gives : (v : Val) → ent 𝓤 ((TakesBack 𝓛 at_mem run).post (at_take_back 𝓛 at_mem run κ q c) v)
       (H.⇛ (guard 𝓤 (v ≡ vunit) (A.lft κ q)))
@@ -70,4 +86,5 @@ module _ {M : Type 1} {𝓤 : Ura M} (𝓛 : Logic 𝓤) (at_mem : Memory → SP
       qed 𝓛 (raw ((TakesBack 𝓛 at_mem run).post (at_take_back 𝓛 at_mem run κ q c) v) ∷ []) ∵ updating ! $
       use1 𝓛 (later (some (λ (r : Unit {0}). ((‵ (flft κ q) ⊛ ‵ ftrue) ⊛ ‵ (unit.own_val r (v ∷ []))) ⊛ some
       (λ (ws : Unit {0} × Unit {0}). ‵ (fsep ftrue ftrue) ⊛ ‵ ftrue)))) (id⊢ 𝓤 _) $ await ! tt $ pick ! (λ r.
-      split ! $ split ! $ move ! (1 ∷ []) $ feq_l ! (λ e. split ! $ at_once ! $ check ! (ap only e) $ keep ! (0 ∷ []) $ done !))
+      split ! $ split ! $ move ! (1 ∷ []) $ feq_l !
+      (λ e. split ! $ at_once ! $ check ! (ap only e) $ keep ! (0 ∷ []) $ done !))

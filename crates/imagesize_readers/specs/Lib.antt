@@ -1,2 +1,2 @@
--- What the readers of the tests tell and do.
+-- What the readers of the tests do, by their models.
 pub mod Readers

@@ -1,7 +1,7 @@
 //! Buffered readers keep their block if it has the offset of a seek. One that keeps track of its offset calls the inner
 //! reader no more than needed.
 
-use imagesize_io::{KeptReader, Stop, Told};
+use imagesize_io::{KeptReader, SizedReader, Stop, Told};
 use std::io::{self, BufReader, Cursor, ErrorKind, Read, Seek, SeekFrom};
 use std::process::Abort;
 use std::test::Fail;
@@ -84,6 +84,76 @@ fn made_on_walk<H: AllocGlobal + Abort>(rt: &H, length: usize, step: u64) -> Res
 fn a_walk_in_a_block_makes_four_calls(rt: HostRuntime) -> Result<(), Fail> {
     let made = made_on_walk(&rt, 4096, 40)?;
     assert_eq!(rt; made, Made { reads: 1, seeks: 3 });
+    Ok(())
+}
+
+// The calls of the inner reader on this walk in a block, if the reader is told this length.
+fn made_if_told<H: AllocGlobal + Abort>(rt: &H, length: Option<u64>) -> Result<Made, Fail> {
+    let bytes = [7u8; 4096];
+    let mut made = NONE;
+    let counted = Counted {
+        inner: Cursor::new(bytes.as_slice()),
+        made: &mut made,
+    };
+    let mut reader = SizedReader::new(BufReader::new(rt.alloc(), counted)?, length);
+    walk(rt, &mut reader, 4096, 40)?;
+    drop(reader);
+    Ok(made)
+}
+
+#[test]
+fn a_reader_of_known_length_makes_no_seek(rt: HostRuntime) -> Result<(), Fail> {
+    assert_eq!(rt; made_if_told(&rt, Some(4096))?, Made { reads: 1, seeks: 0 });
+    assert_eq!(rt; made_if_told(&rt, None)?, Made { reads: 1, seeks: 2 });
+    Ok(())
+}
+
+#[test]
+fn the_first_bytes_are_given_again_from_far_behind(rt: HostRuntime) -> Result<(), Fail> {
+    let mut bytes = Vec::from_elem(rt.alloc(), 7u8, 20_000)?;
+    bytes[13] = 1;
+    bytes[31] = 2;
+    bytes[32] = 3;
+    let mut made = NONE;
+    let counted = Counted {
+        inner: Cursor::new(bytes.as_slice()),
+        made: &mut made,
+    };
+    let mut reader = SizedReader::new(BufReader::new(rt.alloc(), counted)?, Some(20_000));
+    assert!(rt; matches!(reader.read_told(&mut [0u8; 12]), Ok(12)));
+    assert_eq!(rt; reader.seek_told(SeekFrom::Start(19_982))?, 19_982);
+    assert!(rt; matches!(reader.read_told(&mut [0u8; 18]), Ok(18)));
+    let mut room = [0u8; 2];
+    assert_eq!(rt; reader.seek_told(SeekFrom::Start(12))?, 12);
+    assert!(rt; matches!(reader.read_told(&mut room), Ok(2)));
+    assert_eq!(rt; room, [7, 1]);
+    assert_eq!(rt; reader.seek_told(SeekFrom::Current(0))?, 14);
+    assert_eq!(rt; reader.seek_told(SeekFrom::Start(31))?, 31);
+    assert!(rt; matches!(reader.read_told(&mut room), Ok(1)));
+    assert_eq!(rt; room, [2, 1]);
+    assert!(rt; matches!(reader.read_told(&mut room), Ok(2)));
+    assert_eq!(rt; room, [3, 7]);
+    drop(reader);
+    // The second seek is to offset 32, after the bytes that were kept.
+    assert_eq!(rt; made, Made { reads: 3, seeks: 2 });
+    Ok(())
+}
+
+#[test]
+fn a_reader_of_known_length_reads_nothing_at_its_end(rt: HostRuntime) -> Result<(), Fail> {
+    let bytes = [1u8, 2, 3];
+    let mut reader = SizedReader::new(
+        BufReader::new(rt.alloc(), Cursor::new(bytes.as_slice()))?,
+        Some(3),
+    );
+    let mut room = [0u8; 2];
+    assert_eq!(rt; reader.seek_told(SeekFrom::End(0))?, 3);
+    assert_eq!(rt; reader.seek_told(SeekFrom::Current(0))?, 3);
+    assert!(rt; matches!(reader.read_told(&mut room), Ok(0)));
+    assert_eq!(rt; reader.seek_told(SeekFrom::End(0))?, 3);
+    assert_eq!(rt; reader.seek_told(SeekFrom::Current(-1))?, 2);
+    assert!(rt; matches!(reader.read_told(&mut room), Ok(1)));
+    assert_eq!(rt; room, [3, 0]);
     Ok(())
 }
 

@@ -33,7 +33,8 @@ Begins q (refuse e) = Unit {0}
 Begins q (field order place k f) = (q ≤ place) × (0 < k)
 Begins q (reading r place f) = (q ≤ place) × OrSome r (Tells (λ _. ⊥) (f []))
 
-onward_tells : {C X Y : Type 0} (P : Type 0) (spans : List Span) (r : Result Y Halt) (f : Y → Reads (Said C X)) (s : Said C X)
+onward_tells : {C X Y : Type 0} (P : Type 0) (spans : List Span) (r : Result Y Halt) (f : Y → Reads (Said C X))
+    (s : Said C X)
     → (go_on spans r f).answer ≡ Ok s → ((y : Y) → r ≡ Ok y → (f y).answer ≡ Ok s → P) → P
 onward_tells P spans (Ok y) f s is each = each y refl is
 onward_tells P spans (Err e) f s is each = absurd cc
@@ -43,9 +44,11 @@ pub tells : {C X : Type 0} (P : ℕ → Type 0) (d : List ℕ) (t : Layout (Said
 tells P d (done (Decided x)) v q h is = absurd cc
 tells P d (done (Next w place)) v q h is = let same : place ≡ q = cc in subst P same h
 tells P d (refuse e) v q h is = absurd cc
-tells P d (field order place k f) v q h is = onward_tells (P q) (span_of d place k) (number_at d order place k) (λ n. layout_reads d (f n))
+tells P d (field order place k f) v q h is =
+    onward_tells (P q) (span_of d place k) (number_at d order place k) (λ n. layout_reads d (f n))
     (Next v q) is (λ n _ got. tells P d (f n) v q (h n) got)
-tells P d (reading r place f) v q h is = onward_tells (P q) (read_of d r place).marks (read_of d r place).answer (λ bs. layout_reads d (f bs))
+tells P d (reading r place f) v q h is =
+    onward_tells (P q) (read_of d r place).marks (read_of d r place).answer (λ bs. layout_reads d (f bs))
     (Next v q) is (λ bs _ got. tells P d (f bs) v q (h bs) got)
 
 -- where a reading gives a byte, there was one
@@ -55,24 +58,30 @@ some_byte d (AllOf k) place bs h none is = let all = bytes_ok d bs place k is in
 some_byte d (PartOf k) place [] h none is = absurd (none refl h)
 some_byte d (PartOf k) place (b ∷ bs) h none is = omega (arith, part_length d place k, ap length (part_is is))
 some_byte d (TextOf t k) place [] h none is = absurd (none refl h)
-some_byte d (TextOf t k) place (b ∷ bs) h none is = omega (arith, text_length d t place k, part_length d place k, ap length (part_is is))
+some_byte d (TextOf t k) place (b ∷ bs) h none is =
+    omega (arith, text_length d t place k, part_length d place k, ap length (part_is is))
 
 -- where a layout tells a next place, there was a byte
-begins : {C X : Type 0} (d : List ℕ) (t : Layout (Said C X)) (v : C) (q p : ℕ) → Begins q t → (layout_reads d t).answer ≡ Ok (Next v p)
+begins : {C X : Type 0} (d : List ℕ) (t : Layout (Said C X)) (v : C) (q p : ℕ) → Begins q t
+    → (layout_reads d t).answer ≡ Ok (Next v p)
     → q < length d
 begins d (done (Decided x)) v q p h is = absurd cc
 begins d (done (Next w place)) v q p h is = absurd h
 begins d (refuse e) v q p h is = absurd cc
-begins d (field order place k f) v q p h is = onward_tells (q < length d) (span_of d place k) (number_at d order place k)
-    (λ n. layout_reads d (f n)) (Next v p) is (λ n got _. let here = h.0 in let some = h.1 in let all = number_ok d order place k n got in
+begins d (field order place k f) v q p h is =
+    onward_tells (q < length d) (span_of d place k) (number_at d order place k)
+    (λ n. layout_reads d (f n)) (Next v p) is
+    (λ n got _. let here = h.0 in let some = h.1 in let all = number_ok d order place k n got in
     omega arith)
-begins d (reading r place f) v q p h is = onward_tells (q < length d) (read_of d r place).marks (read_of d r place).answer
+begins d (reading r place f) v q p h is =
+    onward_tells (q < length d) (read_of d r place).marks (read_of d r place).answer
     (λ bs. layout_reads d (f bs)) (Next v p) is
     (λ bs got told. let below = some_byte d r place bs h.1 (λ none nothing. tells (λ _. ⊥) d (f []) v p nothing
     (sym (ap (λ bs. (layout_reads d (f bs)).answer) none) ∙ told)) got in omega (arith, h.0))
 
 -- A chain advances, whose records each begin at their place or behind it and tell only greater places.
-pub advances : {C X : Type 0} (c : Chain C X) → ((held : List C) (place : ℕ) → Tells (λ p. place < p) (c.said held place))
+pub advances : {C X : Type 0} (c : Chain C X)
+    → ((held : List C) (place : ℕ) → Tells (λ p. place < p) (c.said held place))
     → ((held : List C) (place : ℕ) → Begins place (c.said held place)) → (d : List ℕ) → Advances c d
 advances c up first d t v place is = (
   tells (λ p. t.place < p) d (c.said t.held t.place) v place (up t.held t.place) is,

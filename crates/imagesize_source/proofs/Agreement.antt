@@ -23,7 +23,8 @@ pub covered-left : (s t : List Span) (place : ℕ) → is_covered s place ≡ tr
 covered-left [] t place h = absurd cc
 covered-left (x ∷ s) t place h =
     let Goal : Bool → Type 0 = λ b. b || is_covered s place ≡ true → b || is_covered (s ++ t) place ≡ true in
-    let cases : Goal (has_place x place) = elim (has_place x place) as Goal [ true ↦ λ _. refl | false ↦ covered-left s t place ] in
+    let cases : Goal (has_place x place) =
+    elim (has_place x place) as Goal [ true ↦ λ _. refl | false ↦ covered-left s t place ] in
     cases h
 
 pub covered-right : (s t : List Span) (place : ℕ) → is_covered t place ≡ true → is_covered (s ++ t) place ≡ true
@@ -37,7 +38,8 @@ pub agrees-left : {d e : List ℕ} (s t : List Span) → Agrees d e (s ++ t) →
 agrees-left s t a = record { as_long = a.as_long; same_byte = λ place h. a.same_byte place (covered-left s t place h) }
 
 pub agrees-right : {d e : List ℕ} (s t : List Span) → Agrees d e (s ++ t) → Agrees d e t
-agrees-right s t a = record { as_long = a.as_long; same_byte = λ place h. a.same_byte place (covered-right s t place h) }
+agrees-right s t a =
+    record { as_long = a.as_long; same_byte = λ place h. a.same_byte place (covered-right s t place h) }
 
 -- a span has no other length in an input that is as long
 pub same_span : (d e : List ℕ) (place k : ℕ) → length e ≡ length d → span_of e place k ≡ span_of d place k
@@ -73,7 +75,8 @@ same_part d e place k a =
     ∙ sym (get_or-take k (drop place d) i 0 small ∙ get_or-drop place d i 0))
 
 -- and the first of them
-same_first : (d e : List ℕ) (place n k : ℕ) → n ≤ length (part d place k) → Agrees d e (span_at place n) → take n (part e place k)
+same_first : (d e : List ℕ) (place n k : ℕ) → n ≤ length (part d place k) → Agrees d e (span_at place n)
+    → take n (part e place k)
     ≡ take n (part d place k)
 same_first d e place n k few a =
     let long = part_length d place k in
@@ -86,13 +89,15 @@ pub same_bytes : (d e : List ℕ) (place k : ℕ) → Agrees d e (span_of d plac
 unfolding bytes_at
 same_bytes d e place k a = rw (a.as_long, same_part d e place k a) refl
 
-pub same_number : (d e : List ℕ) (order : Endian) (place k : ℕ) → Agrees d e (span_of d place k) → number_at e order place k
+pub same_number : (d e : List ℕ) (order : Endian) (place k : ℕ) → Agrees d e (span_of d place k)
+    → number_at e order place k
     ≡ number_at d order place k
 unfolding number_at
 same_number d e order place k a = ap (map_answer (number order)) (same_bytes d e place k a)
 
 -- the same of a text, which sees no more than its own bytes
-same_text : (d e : List ℕ) (t : Text) (place k : ℕ) → Agrees d e (span_at place (length (text_part d t place k))) → text_part e t place k
+same_text : (d e : List ℕ) (t : Text) (place k : ℕ) → Agrees d e (span_at place (length (text_part d t place k)))
+    → text_part e t place k
     ≡ text_part d t place k
 unfolding text_part
 same_text d e t place k a =
@@ -105,10 +110,12 @@ same_text d e t place k a =
     (same_first d e place n k (front_length t (part d place k)) a ∙ first)
 
 -- the same of any reading
-same_reading : (d e : List ℕ) (r : Reading) (place : ℕ) → Agrees d e (read_of d r place).marks → read_of e r place ≡ read_of d r place
+same_reading : (d e : List ℕ) (r : Reading) (place : ℕ) → Agrees d e (read_of d r place).marks
+    → read_of e r place ≡ read_of d r place
 same_reading d e (AllOf k) place a = rw (same_span d e place k a.as_long, same_bytes d e place k a) refl
 same_reading d e (PartOf k) place a = rw (same_span d e place k a.as_long, same_part d e place k a) refl
-same_reading d e (TextOf t k) place a = ap (λ bs. record { answer = Ok bs; marks = span_at place (length bs) }) (same_text d e t place k a)
+same_reading d e (TextOf t k) place a =
+    ap (λ bs. record { answer = Ok bs; marks = span_at place (length bs) }) (same_text d e t place k a)
 
 -- what goes on from an answer rests on its spans
 pub agrees_first : {d e : List ℕ} {X Y : Type 0} (spans : List Span) (r : Result X Halt) (f : X → Reads Y)
@@ -118,23 +125,28 @@ agrees_first spans (Err e) f a = a
 
 -- what goes on is the same, where it is so behind each answer
 pub onward_local : {d e : List ℕ} {X Y : Type 0} (spans : List Span) (r : Result X Halt) (f g : X → Reads Y)
-    → Agrees d e (go_on spans r f).marks → ((x : X) → Agrees d e (f x).marks → g x ≡ f x) → go_on spans r g ≡ go_on spans r f
+    → Agrees d e (go_on spans r f).marks → ((x : X) → Agrees d e (f x).marks → g x ≡ f x)
+    → go_on spans r g ≡ go_on spans r f
 onward_local spans (Ok x) f g a same = ap (put_behind spans) (same x (agrees-right spans (f x).marks a))
 onward_local spans (Err e) f g a same = refl
 
 -- Locality: an input that agrees on the marks of a layout has the same answer and the same marks.
-pub local : {X : Type 0} (d e : List ℕ) (t : Layout X) → Agrees d e (layout_reads d t).marks → layout_reads e t ≡ layout_reads d t
+pub local : {X : Type 0} (d e : List ℕ) (t : Layout X) → Agrees d e (layout_reads d t).marks
+    → layout_reads e t ≡ layout_reads d t
 local d e (done x) a = refl
 local d e (refuse x) a = refl
 local d e (field order place k f) a =
-    let here : Agrees d e (span_of d place k) = agrees_first (span_of d place k) (number_at d order place k) (λ v. layout_reads d (f v)) a in
+    let here : Agrees d e (span_of d place k) =
+    agrees_first (span_of d place k) (number_at d order place k) (λ v. layout_reads d (f v)) a in
     rw (same_span d e place k here.as_long, same_number d e order place k here)
-    (onward_local (span_of d place k) (number_at d order place k) (λ v. layout_reads d (f v)) (λ v. layout_reads e (f v)) a (λ v. local d e (f v)))
+    (onward_local (span_of d place k) (number_at d order place k) (λ v. layout_reads d (f v))
+    (λ v. layout_reads e (f v)) a (λ v. local d e (f v)))
 local d e (reading r place f) a =
     let here : Agrees d e (read_of d r place).marks = agrees_first (read_of d r place).marks (read_of d r place).answer
     (λ bs. layout_reads d (f bs)) a in
     rw (same_reading d e r place here)
-    (onward_local (read_of d r place).marks (read_of d r place).answer (λ bs. layout_reads d (f bs)) (λ bs. layout_reads e (f bs)) a
+    (onward_local (read_of d r place).marks (read_of d r place).answer (λ bs. layout_reads d (f bs))
+    (λ bs. layout_reads e (f bs)) a
     (λ bs. local d e (f bs)))
 
 -- ---- where two inputs part
@@ -148,14 +160,17 @@ covered_one_of (x ∷ before) mark rest place is =
     elim (has_place x place) as Goal [ true ↦ refl | false ↦ covered_one_of before mark rest place is ]
 
 -- inputs that agree do not part
-pub same_by_alike : {texts : Bool} {X : Type 0} (d e : List ℕ) (p q : Reads X) → Alike texts d e p q → Agrees d e p.marks → q ≡ p
+pub same_by_alike : {texts : Bool} {X : Type 0} (d e : List ℕ) (p q : Reads X) → Alike texts d e p q
+    → Agrees d e p.marks → q ≡ p
 same_by_alike d e p q alike a = elim alike [
   | inl same ↦ same
-  | inr parts ↦ absurd (parts.differs (a.same_byte parts.place (subst (λ s. is_covered s parts.place ≡ true) (sym parts.here)
+  | inr parts ↦ absurd
+      (parts.differs (a.same_byte parts.place (subst (λ s. is_covered s parts.place ≡ true) (sym parts.here)
       (covered_one_of parts.seen parts.mark parts.rest parts.place parts.within))))
 ]
 
-pub same_by_local : {texts : Bool} {X : Type 0} (r : List ℕ → Reads X) → IsLocal texts r → (d e : List ℕ) → Agrees d e (r d).marks
+pub same_by_local : {texts : Bool} {X : Type 0} (r : List ℕ → Reads X) → IsLocal texts r → (d e : List ℕ)
+    → Agrees d e (r d).marks
     → r e ≡ r d
 same_by_local r is_local d e a = same_by_alike d e (r d) (r e) (is_local d e a.as_long) a
 
@@ -235,15 +250,18 @@ alike_part d e place k long = elim (differ (part d place k) (part e place k) (pa
 ]
 
 -- and so is what is made of them
-alike_made : {texts : Bool} {X : Type 0} (f : List ℕ → ℕ → Result X Halt) (d e : List ℕ) (place k : ℕ) → length e ≡ length d
+alike_made : {texts : Bool} {X : Type 0} (f : List ℕ → ℕ → Result X Halt) (d e : List ℕ) (place k : ℕ)
+    → length e ≡ length d
     → (part e place k ≡ part d place k → f e place ≡ f d place)
-    → Alike texts d e (record { answer = f d place; marks = span_of d place k }) (record { answer = f e place; marks = span_of e place k })
+    → Alike texts d e (record { answer = f d place; marks = span_of d place k })
+    (record { answer = f e place; marks = span_of e place k })
 alike_made f d e place k long same = elim (alike_part d e place k long) [
   | inl is ↦ (let span = same_span d e place k long in inl (rw (span, same is) refl))
   | inr parts ↦ inr parts
 ]
 
-bytes_made : (d e : List ℕ) (place k : ℕ) → length e ≡ length d → part e place k ≡ part d place k → bytes_at e place k ≡ bytes_at d place k
+bytes_made : (d e : List ℕ) (place k : ℕ) → length e ≡ length d → part e place k ≡ part d place k
+    → bytes_at e place k ≡ bytes_at d place k
 unfolding bytes_at
 bytes_made d e place k long same = rw (long, same) refl
 
@@ -255,7 +273,8 @@ number_made d e order place k long same = ap (map_answer (number order)) (bytes_
 -- a text is the same, or the inputs part within both
 alike_text : {texts : Bool} (d e : List ℕ) (t : Text) (place k : ℕ) → texts ≡ true → length e ≡ length d
     → (text_part e t place k ≡ text_part d t place k)
-    ⊎ Parting texts d e (span_at place (length (text_part d t place k))) (span_at place (length (text_part e t place k)))
+    ⊎ Parting texts d e (span_at place (length (text_part d t place k)))
+    (span_at place (length (text_part e t place k)))
 unfolding text_part
 alike_text {texts} d e t place k read long = elim (differ xs ys (parts_long d e place k long)) [
   | inl same ↦ inl (ap (text_front t) same)
@@ -333,7 +352,8 @@ costed_texts texts f e u (reading (TextOf t n) place g) few = absurd few
 
 alike_reading : {texts : Bool} (d e : List ℕ) (r : Reading) (place : ℕ) → IsRead texts r → length e ≡ length d
     → Alike texts d e (read_of d r place) (read_of e r place)
-alike_reading d e (AllOf k) place is long = alike_made (λ x p. bytes_at x p k) d e place k long (bytes_made d e place k long)
+alike_reading d e (AllOf k) place is long =
+    alike_made (λ x p. bytes_at x p k) d e place k long (bytes_made d e place k long)
 alike_reading d e (PartOf k) place is long = alike_made (λ x p. Ok (part x p k)) d e place k long (λ same. ap Ok same)
 alike_reading d e (TextOf t k) place is long = elim (alike_text d e t place k is long) [
   | inl same ↦ inl (ap (λ bs. record { answer = Ok bs; marks = span_at place (length bs) }) same)
@@ -341,7 +361,8 @@ alike_reading d e (TextOf t k) place is long = elim (alike_text d e t place k is
 ]
 
 -- readings behind others and before others part where they part alone
-parting_among : {texts : Bool} {d e : List ℕ} {s t all whole : List Span} (before more others : List Span) → all ≡ before ++ (s ++ more)
+parting_among : {texts : Bool} {d e : List ℕ} {s t all whole : List Span} (before more others : List Span)
+    → all ≡ before ++ (s ++ more)
     → whole ≡ before ++ (t ++ others) → Parting texts d e s t → Parting texts d e all whole
 parting_among before more others is also x = record {
   seen = before ++ x.seen;
@@ -361,7 +382,8 @@ parting_among before more others is also x = record {
   set_apart : (before seen rest more : List Span) (mark : Span)
       → before ++ ((seen ++ mark ∷ rest) ++ more) ≡ (before ++ seen) ++ mark ∷ (rest ++ more)
   set_apart before seen rest more mark =
-      ap (λ s. before ++ s) (append_assoc seen (mark ∷ rest) more) ∙ sym (append_assoc before seen (mark ∷ (rest ++ more)))
+      ap (λ s. before ++ s) (append_assoc seen (mark ∷ rest) more)
+      ∙ sym (append_assoc before seen (mark ∷ (rest ++ more)))
 
 -- where no texts are read, none are among readings with them
 pub alike_more : {X : Type 0} (texts : Bool) (d e : List ℕ) (p q : Reads X) → Alike false d e p q → Alike texts d e p q
@@ -387,7 +409,8 @@ before_none before s = ap (λ t. before ++ t) (sym (append-nil s))
 
 -- what goes on from answers that are alike, where it is alike behind each
 pub alike_then : {texts : Bool} {X Y : Type 0} (d e : List ℕ) (p q : Reads X) (f g : X → Reads Y) → Alike texts d e p q
-    → ((x : X) → p.answer ≡ Ok x → q.answer ≡ Ok x → Alike texts d e (f x) (g x)) → Alike texts d e (and_then p f) (and_then q g)
+    → ((x : X) → p.answer ≡ Ok x → q.answer ≡ Ok x → Alike texts d e (f x) (g x))
+    → Alike texts d e (and_then p f) (and_then q g)
 alike_then d e p q f g (inr parts) rest =
     let here = marks_onward p.marks p.answer f in
     let there = marks_onward q.marks q.answer g in
@@ -407,12 +430,15 @@ pub alike_layout : {texts : Bool} {X : Type 0} (d e : List ℕ) (t : Layout X) �
     → Alike texts d e (layout_reads d t) (layout_reads e t)
 alike_layout d e (done x) read long = inl refl
 alike_layout d e (refuse x) read long = inl refl
-alike_layout d e (field order place k f) read long = alike_then d e (number_read d order place k) (number_read e order place k)
+alike_layout d e (field order place k f) read long =
+    alike_then d e (number_read d order place k) (number_read e order place k)
     (λ v. layout_reads d (f v)) (λ v. layout_reads e (f v))
     (alike_made (λ x p. number_at x order p k) d e place k long (number_made d e order place k long))
     (λ v is also. alike_layout d e (f v) (read v) long)
-alike_layout d e (reading r place f) read long = alike_then d e (read_of d r place) (read_of e r place) (λ bs. layout_reads d (f bs))
-    (λ bs. layout_reads e (f bs)) (alike_reading d e r place read.0 long) (λ bs is also. alike_layout d e (f bs) (read.1 bs) long)
+alike_layout d e (reading r place f) read long =
+    alike_then d e (read_of d r place) (read_of e r place) (λ bs. layout_reads d (f bs))
+    (λ bs. layout_reads e (f bs)) (alike_reading d e r place read.0 long)
+    (λ bs is also. alike_layout d e (f bs) (read.1 bs) long)
 
 pub local_layout : {texts : Bool} {X : Type 0} (t : Layout X) → AllRead texts t → IsLocal texts (λ d. layout_reads d t)
 local_layout t read d e long = alike_layout d e t read long
@@ -426,11 +452,13 @@ local_then r f first rest d e long = alike_then d e (r d) (r e) (λ x. f x d) (�
 -- readings that take the length of the input
 pub local_length : {texts : Bool} {X : Type 0} (f : ℕ → List ℕ → Reads X) → ((n : ℕ) → IsLocal texts (f n))
     → IsLocal texts (λ d. f (length d) d)
-local_length {texts} f each d e long = subst (λ n. Alike texts d e (f (length d) d) (f n e)) (sym long) (each (length d) d e long)
+local_length {texts} f each d e long =
+    subst (λ n. Alike texts d e (f (length d) d) (f n e)) (sym long) (each (length d) d e long)
 
 -- one number is local, and bytes are
 pub local_number : {texts : Bool} (order : Endian) (place k : ℕ) → IsLocal texts (λ d. number_read d order place k)
-local_number order place k d e long = alike_made (λ x p. number_at x order p k) d e place k long (number_made d e order place k long)
+local_number order place k d e long =
+    alike_made (λ x p. number_at x order p k) d e place k long (number_made d e order place k long)
 
 pub local_bytes : {texts : Bool} (place k : ℕ) → IsLocal texts (λ d. bytes_read d place k)
 local_bytes place k d e long = alike_made (λ x p. bytes_at x p k) d e place k long (bytes_made d e place k long)

@@ -14,7 +14,8 @@ Always P (reading (AllOf n) place f) = ⊥
 Always P (reading (PartOf n) place f) = (bs : List ℕ) → Always P (f bs)
 Always P (reading (TextOf t n) place f) = (bs : List ℕ) → Always P (f bs)
 
-pub always : {X : Type 0} (P : X → Type 0) (d : List ℕ) (t : Layout X) → Always P t → (x : X) × ((layout_reads d t).answer ≡ Ok x) × P x
+pub always : {X : Type 0} (P : X → Type 0) (d : List ℕ) (t : Layout X) → Always P t
+    → (x : X) × ((layout_reads d t).answer ≡ Ok x) × P x
 always P d (done x) h = (x, refl, h)
 always P d (refuse e) h = absurd h
 always P d (field order place n f) h = absurd h

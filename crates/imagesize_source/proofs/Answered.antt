@@ -22,7 +22,8 @@ bytes_is d bs place k is =
     let got = rw test at is in cc
 
 -- and their number
-pub number_is : (d : List ℕ) (order : Endian) (place k v : ℕ) → number_at d order place k ≡ Ok v → number order (part d place k) ≡ v
+pub number_is : (d : List ℕ) (order : Endian) (place k v : ℕ) → number_at d order place k ≡ Ok v
+    → number order (part d place k) ≡ v
 unfolding number_at bytes_at
 number_is d order place k v is =
     let all = number_ok d order place k v is in
@@ -45,7 +46,8 @@ pair (a ∷ b ∷ []) is = omega arith
 pair (a ∷ b ∷ x ∷ rest) is = absurd (omega (arith, is))
 
 -- the number of two bytes, the highest first
-pub big_pair : (d : List ℕ) (place v : ℕ) → number_at d Big place 2 ≡ Ok v → v ≡ 256 * slice_index d place + slice_index d (place + 1)
+pub big_pair : (d : List ℕ) (place v : ℕ) → number_at d Big place 2 ≡ Ok v
+    → v ≡ 256 * slice_index d place + slice_index d (place + 1)
 big_pair d place v is =
     let all = number_ok d Big place 2 v is in
     let long = part_length d place 2 in
@@ -57,7 +59,8 @@ big_pair d place v is =
 
 -- what holds behind an answer and behind a refusal holds of what goes on
 pub on_answer : {X Y : Type 0} (P : Reads Y → Type 0) (spans : List Span) (r : Result X Halt) (f : X → Reads Y)
-    → ((x : X) → r ≡ Ok x → P (put_behind spans (f x))) → ((e : Halt) → r ≡ Err e → P (record { answer = Err e; marks = spans }))
+    → ((x : X) → r ≡ Ok x → P (put_behind spans (f x)))
+    → ((e : Halt) → r ≡ Err e → P (record { answer = Err e; marks = spans }))
     → P (go_on spans r f)
 on_answer P spans (Ok x) f answered refused = answered x refl
 on_answer P spans (Err e) f answered refused = refused e refl

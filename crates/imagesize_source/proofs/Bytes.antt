@@ -6,7 +6,8 @@ use Rattle.imagesize_source.specs.Numbers.{number}
 use Rattle.imagesize_source.proofs.Numbers.{Eight, are_eight, eight, big_2, big_4}
 
 -- the number of the first four bytes
-pub first_four : (bs : List ℕ) → 4 ≤ length bs → from_be_bytes w32 (slice_index_or bs 0 0 ∷ slice_index_or bs 1 0 ∷ slice_index_or bs 2 0
+pub first_four : (bs : List ℕ) → 4 ≤ length bs
+    → from_be_bytes w32 (slice_index_or bs 0 0 ∷ slice_index_or bs 1 0 ∷ slice_index_or bs 2 0
     ∷ slice_index_or bs 3 0 ∷ []) ≡ number Big (take 4 bs)
 first_four [] h = absurd (omega arith)
 first_four (a ∷ []) h = absurd (omega arith)
@@ -15,24 +16,30 @@ first_four (a ∷ b ∷ c ∷ []) h = absurd (omega arith)
 first_four (a ∷ b ∷ c ∷ d ∷ rest) h = big_4 (a ∷ b ∷ c ∷ d ∷ []) refl
 
 -- the number of the last two of eight bytes
-pub last_two : (bs : List ℕ) → length bs ≡ 8 → from_be_bytes w16 (slice_index_or bs 6 0 ∷ slice_index_or bs 7 0 ∷ []) ≡ number Big
+pub last_two : (bs : List ℕ) → length bs ≡ 8
+    → from_be_bytes w16 (slice_index_or bs 6 0 ∷ slice_index_or bs 7 0 ∷ []) ≡ number Big
     (drop 6 bs)
 last_two bs is = on_eight bs (are_eight bs is) where
-  on_eight : (bs : List ℕ) → Eight bs → from_be_bytes w16 (slice_index_or bs 6 0 ∷ slice_index_or bs 7 0 ∷ []) ≡ number Big (drop 6 bs)
+  on_eight : (bs : List ℕ) → Eight bs
+      → from_be_bytes w16 (slice_index_or bs 6 0 ∷ slice_index_or bs 7 0 ∷ []) ≡ number Big (drop 6 bs)
   on_eight bs (eight a b c d e f g h) = big_2 (g ∷ h ∷ []) refl
 
 -- the number of the last four of eight bytes
-pub last_four : (bs : List ℕ) → length bs ≡ 8 → from_be_bytes w32 (slice_index_or bs 4 0 ∷ slice_index_or bs 5 0 ∷ slice_index_or bs 6 0
+pub last_four : (bs : List ℕ) → length bs ≡ 8
+    → from_be_bytes w32 (slice_index_or bs 4 0 ∷ slice_index_or bs 5 0 ∷ slice_index_or bs 6 0
     ∷ slice_index_or bs 7 0 ∷ []) ≡ number Big (drop 4 bs)
 last_four bs is = on_eight bs (are_eight bs is) where
-  on_eight : (bs : List ℕ) → Eight bs → from_be_bytes w32 (slice_index_or bs 4 0 ∷ slice_index_or bs 5 0 ∷ slice_index_or bs 6 0
+  on_eight : (bs : List ℕ) → Eight bs
+      → from_be_bytes w32 (slice_index_or bs 4 0 ∷ slice_index_or bs 5 0 ∷ slice_index_or bs 6 0
       ∷ slice_index_or bs 7 0 ∷ []) ≡ number Big (drop 4 bs)
   on_eight bs (eight a b c d e f g h) = big_4 (e ∷ f ∷ g ∷ h ∷ []) refl
 
 -- the last four of eight bytes
-pub the_last_four : (bs : List ℕ) → length bs ≡ 8 → slice_index_or bs 4 0 ∷ slice_index_or bs 5 0 ∷ slice_index_or bs 6 0
+pub the_last_four : (bs : List ℕ) → length bs ≡ 8
+    → slice_index_or bs 4 0 ∷ slice_index_or bs 5 0 ∷ slice_index_or bs 6 0
     ∷ slice_index_or bs 7 0 ∷ [] ≡ drop 4 bs
 the_last_four bs is = on_eight bs (are_eight bs is) where
-  on_eight : (bs : List ℕ) → Eight bs → slice_index_or bs 4 0 ∷ slice_index_or bs 5 0 ∷ slice_index_or bs 6 0 ∷ slice_index_or bs 7 0
+  on_eight : (bs : List ℕ) → Eight bs
+      → slice_index_or bs 4 0 ∷ slice_index_or bs 5 0 ∷ slice_index_or bs 6 0 ∷ slice_index_or bs 7 0
       ∷ [] ≡ drop 4 bs
   on_eight bs (eight a b c d e f g h) = refl

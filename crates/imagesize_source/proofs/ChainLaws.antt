@@ -9,7 +9,7 @@ use Rattle.imagesize_source.specs.Extension.{Plain, Lasts}
 use Rattle.imagesize_source.specs.Reading.{and_then, put_behind}
 use Rattle.imagesize_source.specs.State.{total}
 use Rattle.imagesize_source.proofs.Chains.{chain_unfolds, follows, chain_next, chain_stop, records_next, records_stop}
-use Rattle.imagesize_source.proofs.Agreement.{AllRead, alike_layout, alike_then, local}
+use Rattle.imagesize_source.proofs.Agreement.{AllRead, alike_layout, alike_then}
 use Rattle.imagesize_source.proofs.Counts.{at_most}
 use Rattle.imagesize_source.proofs.Extension.{more}
 use Rattle.imagesize_source.proofs.Runs.{total-append}
@@ -26,7 +26,8 @@ module _ {C X : Type 0} (c : Chain C X) (d : List ℕ) where
     by_record : (t : Along C) (r : Result (Said C X) Halt) → (next_record c d t).answer ≡ r
         → ((u : Along C) → t.place < u.place → t.place < length d → P u) → P t
     by_record t (Ok (Decided x)) is later = last t (Ok x) (ap verdict is)
-    by_record t (Ok (Next v place)) is later = on t v place is (later (record { held = t.held ++ v ∷ []; place = place })
+    by_record t (Ok (Next v place)) is later =
+        on t v place is (later (record { held = t.held ++ v ∷ []; place = place })
         (adv t v place is).0 (adv t v place is).1)
     by_record t (Err e) is later = last t (Err e) (ap verdict is)
 
@@ -45,9 +46,12 @@ local_chain {texts} {C} {X} c adv read d e long = chain_induction c d P (adv d) 
   P t = Alike texts d e (chain_from c d t) (chain_from c e t)
 
   -- a record, and what follows it
-  by_record : (t : Along C) → ((x : Said C X) → (next_record c d t).answer ≡ Ok x → Alike texts d e (follows c d t.held x) (follows c e t.held x)) → P t
+  by_record : (t : Along C)
+      → ((x : Said C X) → (next_record c d t).answer ≡ Ok x
+      → Alike texts d e (follows c d t.held x) (follows c e t.held x)) → P t
   by_record t rest = subst (λ w. Alike texts d e w (chain_from c e t)) (sym (chain_unfolds c d t (adv d)))
-      (subst (λ w. Alike texts d e (and_then (next_record c d t) (follows c d t.held)) w) (sym (chain_unfolds c e t (adv e)))
+      (subst (λ w. Alike texts d e (and_then (next_record c d t) (follows c d t.held)) w)
+      (sym (chain_unfolds c e t (adv e)))
       (alike_then d e (next_record c d t) (next_record c e t) (follows c d t.held) (follows c e t.held)
       (alike_layout d e (c.said t.held t.place) (read t.held t.place) long) (λ x is also. rest x is)))
 
@@ -59,37 +63,44 @@ local_chain {texts} {C} {X} c adv read d e long = chain_induction c d P (adv d) 
 
   last : (t : Along C) (r : Result X Halt) → verdict (next_record c d t).answer ≡ Some r → P t
   last t r is = by_record t (λ x also. decided x r (ap verdict (sym also) ∙ is)) where
-    decided : (x : Said C X) (r : Result X Halt) → verdict (Ok x) ≡ Some r → Alike texts d e (follows c d t.held x) (follows c e t.held x)
+    decided : (x : Said C X) (r : Result X Halt) → verdict (Ok x) ≡ Some r
+        → Alike texts d e (follows c d t.held x) (follows c e t.held x)
     decided (Decided x) r is = inl refl
     decided (Next v place) r is = absurd cc
 
 -- Counts: where each record reads at most k bytes, a chain reads at most k for each of its records.
 module _ {C X : Type 0} (c : Chain C X) (d : List ℕ) (adv : Advances c d) where
   -- from some records on
-  pub chain_cost_from : (k : ℕ) → ((t : Along C) → total (next_record c d t).marks ≤ k) → (t : Along C) → total (chain_from c d t).marks
+  pub chain_cost_from : (k : ℕ) → ((t : Along C) → total (next_record c d t).marks ≤ k) → (t : Along C)
+      → total (chain_from c d t).marks
       ≤ k * records_from c d t
   chain_cost_from k each = chain_induction c d (λ t. total (chain_from c d t).marks ≤ k * records_from c d t) adv
       (λ t v place is later.
       let u : Along C = record { held = t.held ++ v ∷ []; place = place } in
       let all : total (chain_from c d t).marks ≡ total (next_record c d t).marks + total (chain_from c d u).marks =
-      ap (λ w. total w.marks) (chain_next c d t v place adv is) ∙ total-append (next_record c d t).marks (chain_from c d u).marks in
+      ap (λ w. total w.marks) (chain_next c d t v place adv is)
+      ∙ total-append (next_record c d t).marks (chain_from c d u).marks in
       let here = each t in
-      let count : k * records_from c d t ≡ k * records_from c d u + k * 1 = ap (λ n. k * n) (records_next c d t v place adv is) ∙ mul-add
+      let count : k * records_from c d t ≡ k * records_from c d u + k * 1 =
+      ap (λ n. k * n) (records_next c d t v place adv is) ∙ mul-add
       k (records_from c d u) 1 in
       omega arith)
       (λ t r is.
-      let all : total (chain_from c d t).marks ≡ total (next_record c d t).marks = ap (λ w. total w.marks) (chain_stop c d t r is) in
+      let all : total (chain_from c d t).marks ≡ total (next_record c d t).marks =
+      ap (λ w. total w.marks) (chain_stop c d t r is) in
       let here = each t in
       let count : k * records_from c d t ≡ k * 1 = ap (λ n. k * n) (records_stop c d t r is) in
       omega arith)
 
   -- the whole chain, by the layouts of its records
-  pub chain_cost : (k : ℕ) → ((held : List C) (place : ℕ) → AtMost k (c.said held place)) → total (chain_at c d).marks ≤ k * records c d
+  pub chain_cost : (k : ℕ) → ((held : List C) (place : ℕ) → AtMost k (c.said held place))
+      → total (chain_at c d).marks ≤ k * records c d
   chain_cost k each = chain_cost_from k (λ t. at_most d k (c.said t.held t.place) (each t.held t.place)) (start c)
 
   -- Where the records use up an allowance, a chain reads at most the allowance.
   pub chain_within : (allowed : Along C → ℕ)
-      → ((t : Along C) (v : C) (place : ℕ) → (next_record c d t).answer ≡ Ok (Next v place) → total (next_record c d t).marks + allowed
+      → ((t : Along C) (v : C) (place : ℕ) → (next_record c d t).answer ≡ Ok (Next v place)
+      → total (next_record c d t).marks + allowed
       (record { held = t.held ++ v ∷ []; place = place }) ≤ allowed t)
       → ((t : Along C) → total (next_record c d t).marks ≤ allowed t)
       → (t : Along C) → total (chain_from c d t).marks ≤ allowed t
@@ -97,11 +108,13 @@ module _ {C X : Type 0} (c : Chain C X) (d : List ℕ) (adv : Advances c d) wher
       (λ t v place is later.
       let u : Along C = record { held = t.held ++ v ∷ []; place = place } in
       let all : total (chain_from c d t).marks ≡ total (next_record c d t).marks + total (chain_from c d u).marks =
-      ap (λ w. total w.marks) (chain_next c d t v place adv is) ∙ total-append (next_record c d t).marks (chain_from c d u).marks in
+      ap (λ w. total w.marks) (chain_next c d t v place adv is)
+      ∙ total-append (next_record c d t).marks (chain_from c d u).marks in
       let here = used t v place is in
       omega arith)
       (λ t r is.
-      let all : total (chain_from c d t).marks ≡ total (next_record c d t).marks = ap (λ w. total w.marks) (chain_stop c d t r is) in
+      let all : total (chain_from c d t).marks ≡ total (next_record c d t).marks =
+      ap (λ w. total w.marks) (chain_stop c d t r is) in
       let here = each t in omega arith)
 
 verdict_ok : {C X : Type 0} (r : Result (Said C X) Halt) (y : X) → verdict r ≡ Some (Ok y) → r ≡ Ok (Decided y)
@@ -111,11 +124,14 @@ verdict_ok (Err e) y is = absurd cc
 
 -- Extension: bytes behind an input change no answer of a chain whose records' answers they do not change.
 module _ {C X : Type 0} (c : Chain C X) (d x : List ℕ) (adv : Advances c d) (adv_more : Advances c (d ++ x))
-    (each : (t : Along C) (y : Said C X) → (next_record c d t).answer ≡ Ok y → next_record c (d ++ x) t ≡ next_record c d t) where
+    (each : (t : Along C) (y : Said C X) → (next_record c d t).answer ≡ Ok y
+    → next_record c (d ++ x) t ≡ next_record c d t) where
   -- from some records on
-  pub chain_more_from : (t : Along C) (v : X) → (chain_from c d t).answer ≡ Ok v → (chain_from c (d ++ x) t ≡ chain_from c d t)
+  pub chain_more_from : (t : Along C) (v : X) → (chain_from c d t).answer ≡ Ok v
+      → (chain_from c (d ++ x) t ≡ chain_from c d t)
       × (records_from c (d ++ x) t ≡ records_from c d t)
-  chain_more_from = chain_induction c d (λ t. (v : X) → (chain_from c d t).answer ≡ Ok v → (chain_from c (d ++ x) t ≡ chain_from c d t)
+  chain_more_from = chain_induction c d
+      (λ t. (v : X) → (chain_from c d t).answer ≡ Ok v → (chain_from c (d ++ x) t ≡ chain_from c d t)
       × (records_from c (d ++ x) t ≡ records_from c d t)) adv
       (λ t v place is later y ok.
       let u : Along C = record { held = t.held ++ v ∷ []; place = place } in
@@ -124,14 +140,17 @@ module _ {C X : Type 0} (c : Chain C X) (d x : List ℕ) (adv : Advances c d) (a
       let rest = later y (sym (ap (λ w. w.answer) (chain_next c d t v place adv is)) ∙ ok) in (
         chain_next c (d ++ x) t v place adv_more is_more ∙ ap (λ w. put_behind w.marks (chain_from c (d ++ x) u)) here
             ∙ ap (put_behind (next_record c d t).marks) rest.0 ∙ sym (chain_next c d t v place adv is),
-        records_next c (d ++ x) t v place adv_more is_more ∙ ap (λ n. n + 1) rest.1 ∙ sym (records_next c d t v place adv is),
+        records_next c (d ++ x) t v place adv_more is_more ∙ ap (λ n. n + 1) rest.1
+            ∙ sym (records_next c d t v place adv is),
       ))
       (λ t r is y ok.
       let decided : r ≡ Ok y = sym (ap (λ w. w.answer) (chain_stop c d t r is)) ∙ ok in
-      let here : next_record c (d ++ x) t ≡ next_record c d t = each t (Decided y) (verdict_ok (next_record c d t).answer y
+      let here : next_record c (d ++ x) t ≡ next_record c d t =
+      each t (Decided y) (verdict_ok (next_record c d t).answer y
       (is ∙ ap Some decided)) in
       let is_more : verdict (next_record c (d ++ x) t).answer ≡ Some r = ap (λ w. verdict w.answer) here ∙ is in (
-        chain_stop c (d ++ x) t r is_more ∙ ap (λ w. record { answer = r; marks = w.marks }) here ∙ sym (chain_stop c d t r is),
+        chain_stop c (d ++ x) t r is_more ∙ ap (λ w. record { answer = r; marks = w.marks }) here
+            ∙ sym (chain_stop c d t r is),
         records_stop c (d ++ x) t r is_more ∙ sym (records_stop c d t r is),
       ))
 
@@ -139,5 +158,6 @@ module _ {C X : Type 0} (c : Chain C X) (d x : List ℕ) (adv : Advances c d) (a
 pub lasts_chain : {C X : Type 0} (c : Chain C X) → ((d : List ℕ) → Advances c d)
     → ((held : List C) (place : ℕ) → Plain (c.said held place)) → Lasts (λ d. chain_at c d)
 lasts_chain c adv plain d x v is =
-    (chain_more_from c d x (adv d) (adv (d ++ x)) (λ t y got. more d x (c.said t.held t.place) y (plain t.held t.place) got) (start c) v
+    (chain_more_from c d x (adv d) (adv (d ++ x))
+    (λ t y got. more d x (c.said t.held t.place) y (plain t.held t.place) got) (start c) v
     is).0

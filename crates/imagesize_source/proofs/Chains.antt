@@ -11,7 +11,8 @@ use Rattle.imagesize_source.specs.Chain.{Said, Decided, Next, Chain, Along, next
 use Rattle.imagesize_source.specs.Reading.{Reads, put_behind, go_on, and_then, gives}
 
 -- a list of numbers one higher
-flat_map_shift : {A : Type 0} (f g : ℕ → List A) (a k : ℕ) → ((i : ℕ) → f (i + 1) ≡ g i) → flat_map f (range_with_len (a + 1) k)
+flat_map_shift : {A : Type 0} (f g : ℕ → List A) (a k : ℕ) → ((i : ℕ) → f (i + 1) ≡ g i)
+    → flat_map f (range_with_len (a + 1) k)
     ≡ flat_map g (range_with_len a k)
 flat_map_shift f g a zero same = refl
 flat_map_shift f g a (suc k) same = rw (same a) (ap (λ xs. g a ++ xs) (flat_map_shift f g (a + 1) k same))
@@ -22,7 +23,8 @@ position_shift p q a zero same = refl
 position_shift p q a (suc k) same = rw (same a, position_shift p q (a + 1) k same) refl
 
 -- one more number behind the first that passes
-position_longer : (p : ℕ → Bool) (a k : ℕ) → position_or_len p (range_with_len a k) < k → position_or_len p (range_with_len a (suc k))
+position_longer : (p : ℕ → Bool) (a k : ℕ) → position_or_len p (range_with_len a k) < k
+    → position_or_len p (range_with_len a (suc k))
     ≡ position_or_len p (range_with_len a k)
 position_longer p a zero found = absurd (omega arith)
 position_longer p a (suc k) found =
@@ -39,7 +41,8 @@ position_longer p a (suc k) found =
 position_here : (p : ℕ → Bool) (a k : ℕ) → p a ≡ true → position_or_len p (range_with_len a (suc k)) ≡ 0
 position_here p a k h = rw h refl
 
-position_there : (p : ℕ → Bool) (a k : ℕ) → p a ≡ false → position_or_len p (range_with_len a (suc k)) ≡ 1 + position_or_len p
+position_there : (p : ℕ → Bool) (a k : ℕ) → p a ≡ false
+    → position_or_len p (range_with_len a (suc k)) ≡ 1 + position_or_len p
     (range_with_len (a + 1) k)
 position_there p a k h = rw h refl
 
@@ -49,14 +52,18 @@ same_reads r s p q = ap (λ a. record r { answer = a }) p ∙ ap (λ m. record s
 
 module _ {C X : Type 0} (c : Chain C X) (d : List ℕ) where
   -- the trail from the next record on
-  trail_next : (t u : Along C) (i : ℕ) → leads t.held (next_record c d t).answer ≡ Some u → trail c d t (suc i) ≡ trail c d u i
+  trail_next : (t u : Along C) (i : ℕ) → leads t.held (next_record c d t).answer ≡ Some u
+      → trail c d t (suc i) ≡ trail c d u i
   trail_next t u zero h = h
   trail_next t u (suc i) h = ap (option_and_then (λ w. leads w.held (next_record c d w).answer)) (trail_next t u i h)
 
-  verdict_next : (t u : Along C) (i : ℕ) → leads t.held (next_record c d t).answer ≡ Some u → verdict_of c d t (i + 1) ≡ verdict_of c d u i
-  verdict_next t u i h = rw add-one (ap (option_and_then (λ w. verdict (next_record c d w).answer)) (trail_next t u i h))
+  verdict_next : (t u : Along C) (i : ℕ) → leads t.held (next_record c d t).answer ≡ Some u
+      → verdict_of c d t (i + 1) ≡ verdict_of c d u i
+  verdict_next t u i h =
+      rw add-one (ap (option_and_then (λ w. verdict (next_record c d w).answer)) (trail_next t u i h))
 
-  marks_next : (t u : Along C) (i : ℕ) → leads t.held (next_record c d t).answer ≡ Some u → marks_of c d t (i + 1) ≡ marks_of c d u i
+  marks_next : (t u : Along C) (i : ℕ) → leads t.held (next_record c d t).answer ≡ Some u
+      → marks_of c d t (i + 1) ≡ marks_of c d u i
   marks_next t u i h = rw add-one (ap (λ o. option_map_or (λ w. (next_record c d w).marks) o []) (trail_next t u i h))
 
   -- a chain that advances has a deciding record before the end and one
@@ -75,19 +82,23 @@ module _ {C X : Type 0} (c : Chain C X) (d : List ℕ) where
       let rest = later u (adv t v place e).0 (adv t v place e).1 in
       omega arith
 
-  found : (k : ℕ) (t : Along C) → Advances c d → length d ≤ t.place + k → position_or_len (λ i. is_some (verdict_of c d t i))
+  found : (k : ℕ) (t : Along C) → Advances c d → length d ≤ t.place + k
+      → position_or_len (λ i. is_some (verdict_of c d t i))
       (range_with_len 0 (suc k)) < suc k
   found zero t adv h = found_by t zero (next_record c d t).answer adv refl (λ u up below. absurd (omega arith))
-  found (suc k) t adv h = found_by t (suc k) (next_record c d t).answer adv refl (λ u up below. found k u adv (omega arith))
+  found (suc k) t adv h =
+      found_by t (suc k) (next_record c d t).answer adv refl (λ u up below. found k u adv (omega arith))
 
   found_within : (n : ℕ) (u : Along C) → Advances c d → length d ≤ n → 0 < u.place → 0 < n
       → position_or_len (λ i. is_some (verdict_of c d u i)) (range_with_len 0 n) < n
   found_within zero u adv h up some = absurd (omega arith)
   found_within (suc n) u adv h up some = found n u adv (omega arith)
 
-  deciding-is : (t : Along C) → deciding_record c d t ≡ position_or_len (λ i. is_some (verdict_of c d t i)) (range_with_len 0 (suc (length d)))
+  deciding-is : (t : Along C)
+      → deciding_record c d t ≡ position_or_len (λ i. is_some (verdict_of c d t i)) (range_with_len 0 (suc (length d)))
   unfolding deciding_record
-  deciding-is t = ap (λ n. position_or_len (λ i. is_some (verdict_of c d t i)) (range_with_len 0 n)) (add-one (length d))
+  deciding-is t = ap (λ n. position_or_len (λ i. is_some (verdict_of c d t i)) (range_with_len 0 n))
+      (add-one (length d))
 
   -- the number of records is at most one more than the bytes
   pub records_few : (t : Along C) → Advances c d → records_from c d t ≤ length d + 1
@@ -97,28 +108,33 @@ module _ {C X : Type 0} (c : Chain C X) (d : List ℕ) where
   deciding_stop t h = deciding-is t ∙ position_here (λ i. is_some (verdict_of c d t i)) 0 (length d) h
 
   deciding_next : (t u : Along C) → Advances c d → leads t.held (next_record c d t).answer ≡ Some u
-      → is_some (verdict (next_record c d t).answer) ≡ false → t.place < u.place → t.place < length d → deciding_record c d t ≡ deciding_record c d u + 1
+      → is_some (verdict (next_record c d t).answer) ≡ false → t.place < u.place → t.place < length d
+      → deciding_record c d t ≡ deciding_record c d u + 1
   deciding_next t u adv led h up below =
       let here = position_there (λ i. is_some (verdict_of c d t i)) 0 (length d) h in
       let on = position_shift (λ i. is_some (verdict_of c d t i)) (λ i. is_some (verdict_of c d u i)) 0 (length d)
       (λ i. ap is_some (verdict_next t u i led)) in
-      let longer = position_longer (λ i. is_some (verdict_of c d u i)) 0 (length d) (found_within (length d) u adv (omega arith)
+      let longer = position_longer (λ i. is_some (verdict_of c d u i)) 0 (length d)
+      (found_within (length d) u adv (omega arith)
       (omega arith) (omega arith)) in
       let is = deciding-is t in let is_next = deciding-is u in
       omega arith
 
-  marks_first : (t : Along C) (k : ℕ) → flat_map (marks_of c d t) (range_with_len 0 (k + 1)) ≡ (next_record c d t).marks ++ flat_map
+  marks_first : (t : Along C) (k : ℕ)
+      → flat_map (marks_of c d t) (range_with_len 0 (k + 1)) ≡ (next_record c d t).marks ++ flat_map
       (marks_of c d t) (range_with_len 1 k)
   marks_first t k = ap (λ n. flat_map (marks_of c d t) (range_with_len 0 n)) (add-one k)
 
   -- a record that tells the place of the next: its marks, and the chain from there on
   pub chain_next : (t : Along C) (v : C) (place : ℕ) → Advances c d → (next_record c d t).answer ≡ Ok (Next v place)
-      → chain_from c d t ≡ put_behind (next_record c d t).marks (chain_from c d (record { held = t.held ++ v ∷ []; place = place }))
+      → chain_from c d t ≡ put_behind (next_record c d t).marks
+      (chain_from c d (record { held = t.held ++ v ∷ []; place = place }))
   unfolding chain_from
   chain_next t v place adv is =
       let u : Along C = record { held = t.held ++ v ∷ []; place = place } in
       let led : leads t.held (next_record c d t).answer ≡ Some u = ap (leads t.held) is in
-      let one = deciding_next t u adv led (ap (λ r. is_some (verdict r)) is) (adv t v place is).0 (adv t v place is).1 in
+      let one = deciding_next t u adv led (ap (λ r. is_some (verdict r)) is) (adv t v place is).0
+      (adv t v place is).1 in
       same_reads (chain_from c d t) (put_behind (next_record c d t).marks (chain_from c d u))
       (ap (λ o. unwrap_or o (Err Ended)) (ap (verdict_of c d t) one ∙ verdict_next t u (deciding_record c d u) led))
       (marks_first t (deciding_record c d t) ∙ ap (λ m. (next_record c d t).marks ++ m)
@@ -130,7 +146,8 @@ module _ {C X : Type 0} (c : Chain C X) (d : List ℕ) where
       → records_from c d t ≡ records_from c d (record { held = t.held ++ v ∷ []; place = place }) + 1
   records_next t v place adv is =
       let u : Along C = record { held = t.held ++ v ∷ []; place = place } in
-      ap (λ n. n + 1) (deciding_next t u adv (ap (leads t.held) is) (ap (λ r. is_some (verdict r)) is) (adv t v place is).0
+      ap (λ n. n + 1) (deciding_next t u adv (ap (leads t.held) is) (ap (λ r. is_some (verdict r)) is)
+      (adv t v place is).0
       (adv t v place is).1)
 
   -- a record with a verdict: that verdict, and its marks
@@ -144,7 +161,8 @@ module _ {C X : Type 0} (c : Chain C X) (d : List ℕ) where
       (ap (λ n. flat_map (marks_of c d t) (range_with_len 0 (n + 1))) one ∙ append-nil (next_record c d t).marks)
 
   -- it is the last
-  pub records_stop : (t : Along C) (r : Result X Halt) → verdict (next_record c d t).answer ≡ Some r → records_from c d t ≡ 1
+  pub records_stop : (t : Along C) (r : Result X Halt) → verdict (next_record c d t).answer ≡ Some r
+      → records_from c d t ≡ 1
   records_stop t r is = ap (λ n. n + 1) (deciding_stop t (ap is_some is))
 
   -- what follows a record
@@ -154,7 +172,8 @@ module _ {C X : Type 0} (c : Chain C X) (d : List ℕ) where
 
   unfolds_by : (t : Along C) (r : Result (Said C X) Halt) → Advances c d → (next_record c d t).answer ≡ r
       → chain_from c d t ≡ go_on (next_record c d t).marks r (follows t.held)
-  unfolds_by t (Ok (Decided x)) adv is = chain_stop t (Ok x) (ap verdict is) ∙ ap (λ m. record { answer = Ok x; marks = m })
+  unfolds_by t (Ok (Decided x)) adv is = chain_stop t (Ok x) (ap verdict is)
+      ∙ ap (λ m. record { answer = Ok x; marks = m })
       (sym (append-nil (next_record c d t).marks))
   unfolds_by t (Ok (Next v place)) adv is = chain_next t v place adv is
   unfolds_by t (Err e) adv is = chain_stop t (Err e) (ap verdict is)

@@ -17,7 +17,8 @@ bound_of f e (Ok x) = f x
 bound_of f e (Err _) = e
 
 -- what is owed of a reading, one by one
-refused : (P Q : Type 0) {e : Halt} (d : List ℕ) (r : Reading) (place : ℕ) → IfRefused r P Q → (read_of d r place).answer ≡ Err e → P
+refused : (P Q : Type 0) {e : Halt} (d : List ℕ) (r : Reading) (place : ℕ) → IfRefused r P Q
+    → (read_of d r place).answer ≡ Err e → P
 refused P Q d (AllOf k) place h is = h.0
 refused P Q d (PartOf k) place h is = absurd cc
 refused P Q d (TextOf t k) place h is = absurd cc
@@ -38,20 +39,24 @@ both Few (AllOf k) few p q = (p, q)
 both Few (PartOf k) few p q = q
 both Few (TextOf t k) few p q = absurd few
 
-onward_costs : {X Y : Type 0} (f : Y → ℕ) (e u n : ℕ) (spans : List Span) (r : Result X Halt) (g : X → Reads Y) → total spans ≤ n
+onward_costs : {X Y : Type 0} (f : Y → ℕ) (e u n : ℕ) (spans : List Span) (r : Result X Halt) (g : X → Reads Y)
+    → total spans ≤ n
     → ((x : Halt) → r ≡ Err x → u + n ≤ e) → ((x : X) → u + n + total (g x).marks ≤ bound_of f e (g x).answer)
     → u + total (go_on spans r g).marks ≤ bound_of f e (go_on spans r g).answer
 onward_costs f e u n spans (Ok x) g few enough next = omega (arith, next x, total-append spans (g x).marks)
 onward_costs f e u n spans (Err r) g few enough next = omega (arith, enough r refl)
 
-pub costs : {X : Type 0} (f : X → ℕ) (e u : ℕ) (d : List ℕ) (t : Layout X) → CostsBy f e u t → u + total (layout_reads d t).marks ≤ bound_of f e
+pub costs : {X : Type 0} (f : X → ℕ) (e u : ℕ) (d : List ℕ) (t : Layout X) → CostsBy f e u t
+    → u + total (layout_reads d t).marks ≤ bound_of f e
     (layout_reads d t).answer
 costs f e u d (done x) h = omega arith
 costs f e u d (refuse r) h = omega arith
-costs f e u d (field order place n g) h = onward_costs f e u n (span_of d place n) (number_at d order place n) (λ v. layout_reads d (g v))
+costs f e u d (field order place n g) h =
+    onward_costs f e u n (span_of d place n) (number_at d order place n) (λ v. layout_reads d (g v))
     (total-span_of d place n) (λ _ _. h.0) (λ v. costs f e (u + n) d (g v) (h.1 v))
 costs f e u d (reading r place g) h = onward_costs f e u (most r) (read_of d r place).marks (read_of d r place).answer
-    (λ bs. layout_reads d (g bs)) (total_reading d r place) (λ x is. refused (u + most r ≤ e) ((bs : List ℕ) → CostsBy f e (u + most r) (g bs))
+    (λ bs. layout_reads d (g bs)) (total_reading d r place)
+    (λ x is. refused (u + most r ≤ e) ((bs : List ℕ) → CostsBy f e (u + most r) (g bs))
     {e = x} d r place h is) (λ bs. costs f e (u + most r) d (g bs)
     (otherwise (u + most r ≤ e) ((bs : List ℕ) → CostsBy f e (u + most r) (g bs)) r h bs))
 
@@ -64,7 +69,8 @@ costs_less f e u v (field order place n g) le h = let here = h.0 in (
   λ w. costs_less f e (u + n) (v + n) (g w) (omega arith)
       (h.1 w),
 )
-costs_less f e u v (reading r place g) le h = if_refused r (λ here. omega arith) (λ rest bs. costs_less f e (u + most r) (v + most r)
+costs_less f e u v (reading r place g) le h =
+    if_refused r (λ here. omega arith) (λ rest bs. costs_less f e (u + most r) (v + most r)
     (g bs) (omega arith) (rest bs)) h
 
 -- one layout behind another
@@ -80,5 +86,6 @@ costs_bind f e u j (field order place n h) g few enough next = let here = few.0 
 costs_bind f e u j (reading r place h) g few enough next =
     let all = of_bytes r few in
     let here = all.0 in
-    both ((most r ≤ j) × ((bs : List ℕ) → AtMost (j - most r) (h bs))) r few (omega arith) (λ bs. costs_bind f e (u + most r) (j - most r) (h bs) g (all.1 bs) (omega arith)
+    both ((most r ≤ j) × ((bs : List ℕ) → AtMost (j - most r) (h bs))) r few (omega arith)
+    (λ bs. costs_bind f e (u + most r) (j - most r) (h bs) g (all.1 bs) (omega arith)
     (λ x. costs_less f e (u + most r + (j - most r)) (u + j) (g x) (omega arith) (next x)))

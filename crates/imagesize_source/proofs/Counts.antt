@@ -20,7 +20,8 @@ use Rattle.imagesize_source.specs.State.{State, state_after, step, total, new_by
 use Rattle.imagesize_source.proofs.Parts.{part_length}
 use Rattle.std.proofs.lemmas.Bool.{or_right}
 
-total_unless : (b : Bool) (place n : ℕ) → (b ≡ true → n ≡ 0) → total (cond b [] (record { start = place; len = n } ∷ [])) ≡ n
+total_unless : (b : Bool) (place n : ℕ) → (b ≡ true → n ≡ 0)
+    → total (cond b [] (record { start = place; len = n } ∷ [])) ≡ n
 total_unless true place n h = sym (h refl)
 total_unless false place n h = add-zero n
 
@@ -69,23 +70,28 @@ if_bytes (AllOf k) f h = f h
 if_bytes (PartOf k) f h = f h
 if_bytes (TextOf t k) f h = h
 
-onward_at_most : {X Y : Type 0} (spans : List Span) (r : Result X Halt) (f : X → Reads Y) (n k : ℕ) → total spans ≤ n → n ≤ k
+onward_at_most : {X Y : Type 0} (spans : List Span) (r : Result X Halt) (f : X → Reads Y) (n k : ℕ) → total spans ≤ n
+    → n ≤ k
     → ((x : X) → total (f x).marks ≤ k - n) → total (go_on spans r f).marks ≤ k
-onward_at_most spans (Ok x) f n k here fits rest = let all = total-append spans (f x).marks in let more = rest x in omega arith
+onward_at_most spans (Ok x) f n k here fits rest = let all = total-append spans (f x).marks in let more = rest x in
+    omega arith
 onward_at_most spans (Err e) f n k here fits rest = omega arith
 
 -- a layout that asks for at most k bytes reads no more of any input
 pub at_most : {X : Type 0} (d : List ℕ) (k : ℕ) (t : Layout X) → AtMost k t → total (layout_reads d t).marks ≤ k
 at_most d k (done x) h = omega arith
 at_most d k (refuse e) h = omega arith
-at_most d k (field order place n f) h = onward_at_most (span_of d place n) (number_at d order place n) (λ v. layout_reads d (f v)) n k
+at_most d k (field order place n f) h =
+    onward_at_most (span_of d place n) (number_at d order place n) (λ v. layout_reads d (f v)) n k
     (total-span_of d place n) h.0 (λ v. at_most d (k - n) (f v) (h.1 v))
-at_most d k (reading r place f) h = onward_at_most (read_of d r place).marks (read_of d r place).answer (λ bs. layout_reads d (f bs)) (most r) k
+at_most d k (reading r place f) h =
+    onward_at_most (read_of d r place).marks (read_of d r place).answer (λ bs. layout_reads d (f bs)) (most r) k
     (total_reading d r place) (of_bytes r h).0 (λ bs. at_most d (k - most r) (f bs) ((of_bytes r h).1 bs))
 
 onward_within : {X Y : Type 0} (spans : List Span) (r : Result X Halt) (f : X → Reads Y) (j k : ℕ) → total spans ≤ j
     → ((x : X) → r ≡ Ok x → total (f x).marks ≤ k) → total (go_on spans r f).marks ≤ j + k
-onward_within spans (Ok x) f j k one two = let all = total-append spans (f x).marks in let more = two x refl in omega arith
+onward_within spans (Ok x) f j k one two = let all = total-append spans (f x).marks in let more = two x refl in
+    omega arith
 onward_within spans (Err e) f j k one two = omega arith
 
 -- readings behind readings are at most as many as both
@@ -94,9 +100,12 @@ pub then_within : {X Y : Type 0} (r : Reads X) (f : X → Reads Y) (j k : ℕ) �
 then_within r f j k one two = onward_within r.marks r.answer f j k one two
 
 -- what an answer leads to is read from `each` a record, and nothing behind a refusal
-pub begun_cost : {X Y : Type 0} (each : ℕ) (spans : List Span) (r : Result X Halt) (f : X → Reads Y) (n : X → ℕ) (j k : ℕ)
-    → total spans ≤ j → ((x : X) → total (f x).marks ≤ k + each * n x) → total (go_on spans r f).marks ≤ j + (k + each * count_behind r n)
-begun_cost each spans (Ok x) f n j k here rest = let all = total-append spans (f x).marks in let more = rest x in omega arith
+pub begun_cost : {X Y : Type 0} (each : ℕ) (spans : List Span) (r : Result X Halt) (f : X → Reads Y) (n : X → ℕ)
+    (j k : ℕ)
+    → total spans ≤ j → ((x : X) → total (f x).marks ≤ k + each * n x)
+    → total (go_on spans r f).marks ≤ j + (k + each * count_behind r n)
+begun_cost each spans (Ok x) f n j k here rest = let all = total-append spans (f x).marks in let more = rest x in
+    omega arith
 begun_cost each spans (Err e) f n j k here rest = omega arith
 
 -- at most j bytes are at most k, where k is no less
@@ -119,8 +128,11 @@ pub at_most_bind : {X Y : Type 0} (j k : ℕ) (t : Layout X) (g : X → Layout Y
     → AtMost (j + k) (bind t g)
 at_most_bind j k (done x) g h rest = at_most_more k (j + k) (g x) (omega arith) (rest x)
 at_most_bind j k (refuse e) g h rest = tt
-at_most_bind j k (field order place n f) g h rest = let here = h.0 in
-    (omega arith, λ v. at_most_more (j - n + k) (j + k - n) (bind (f v) g) (omega arith) (at_most_bind (j - n) k (f v) g (h.1 v) rest))
+at_most_bind j k (field order place n f) g h rest = let here = h.0 in (
+  omega arith,
+  λ v. at_most_more (j - n + k) (j + k - n) (bind (f v) g) (omega arith)
+      (at_most_bind (j - n) k (f v) g (h.1 v) rest),
+)
 at_most_bind j k (reading r place f) g h rest = if_bytes r (λ few. let here = few.0 in (
   omega arith,
   λ bs. at_most_more (j - most r + k) (j + k - most r)
@@ -157,12 +169,14 @@ count_span s a zero = omega arith
 count_span s a (suc n) =
     let one = count-cons (has_place s) a (range_with_len (a + 1) n) in
     let rest = count_span s (a + 1) n in
-    let here : cond (has_place s a) 1 0 + ((s.start + s.len) - max (a + 1) s.start) ≤ (s.start + s.len) - max a s.start =
+    let here : cond (has_place s a) 1 0 + ((s.start + s.len) - max (a + 1) s.start) ≤
+    (s.start + s.len) - max a s.start =
     grind (arith, nat_tests) in
     omega arith
 
 -- spans that have no place which others have not have no more places
-pub places_fewer : (n : ℕ) (s t : List Span) → ((place : ℕ) → is_covered s place ≡ true → is_covered t place ≡ true) → places n s ≤ places n t
+pub places_fewer : (n : ℕ) (s t : List Span) → ((place : ℕ) → is_covered s place ≡ true → is_covered t place ≡ true)
+    → places n s ≤ places n t
 places_fewer n s t h = count_fewer (is_covered s) (is_covered t) (range_with_len 0 n) h
 
 -- one more span has no more places than it is long
@@ -190,7 +204,8 @@ step_covers : (front place n at : ℕ) → has_place (record { start = 0; len = 
     }) at || has_place (record { start = 0; len = front_after front place n }) at ≡ true
 step_covers front place n at h = grind (arith, nat_tests)
 
-joined : (b c rest b' c' : Bool) → (b || c ≡ true → b' || c' ≡ true) → b || (c || rest) ≡ true → b' || (c' || rest) ≡ true
+joined : (b c rest b' c' : Bool) → (b || c ≡ true → b' || c' ≡ true) → b || (c || rest) ≡ true
+    → b' || (c' || rest) ≡ true
 joined b c rest true c' h is = refl
 joined b c rest false true h is = refl
 joined true c rest false false h is = absurd (let no : false ≡ true = h refl in cc)
@@ -198,7 +213,8 @@ joined false true rest false false h is = absurd (let no : false ≡ true = h re
 joined false false rest false false h is = is
 
 -- what one reading adds to the places and to the bytes taken
-step_covers_all : (n : ℕ) (a : State) (s : Span) (spans : List Span) → a.frame.counts ≡ true → places n (front_span a ∷ s ∷ spans)
+step_covers_all : (n : ℕ) (a : State) (s : Span) (spans : List Span) → a.frame.counts ≡ true
+    → places n (front_span a ∷ s ∷ spans)
     + a.taken + (step a s).front ≤ places n (front_span (step a s) ∷ spans) + (step a s).taken + a.front
 step_covers_all n a s spans counts =
     let w : ℕ = front_after a.front s.start s.len in
@@ -207,7 +223,8 @@ step_covers_all n a s spans counts =
     let after : Span = record { start = 0; len = w } in
     let fewer : places n (front_span a ∷ s ∷ spans) ≤ places n (more ∷ after ∷ spans) =
     places_fewer n (front_span a ∷ s ∷ spans) (more ∷ after ∷ spans)
-    (λ at h. joined (has_place (front_span a) at) (has_place s at) (is_covered spans at) (has_place more at) (has_place after at)
+    (λ at h. joined (has_place (front_span a) at) (has_place s at) (is_covered spans at) (has_place more at)
+    (has_place after at)
     (step_covers a.front s.start s.len at) h) in
     let one = places_more n more (after ∷ spans) in
     let grows : w - a.front ≤ m = grind (arith, nat_tests) in
@@ -215,7 +232,8 @@ step_covers_all n a s spans counts =
     rw counts (omega arith)
 
 -- what the front or the spans cover was taken
-pub covers_past : (n : ℕ) (a : State) (spans : List Span) → a.frame.counts ≡ true → places n (front_span a ∷ spans) + a.taken
+pub covers_past : (n : ℕ) (a : State) (spans : List Span) → a.frame.counts ≡ true
+    → places n (front_span a ∷ spans) + a.taken
     ≤ (state_after a spans).taken + a.front
 unfolding state_after
 covers_past n a [] counts = let front = places_total n (front_span a ∷ []) in omega arith
@@ -223,9 +241,11 @@ covers_past n a (s ∷ spans) counts =
     let here = step_covers_all n a s spans counts in let rest = covers_past n (step a s) spans counts in omega arith
 
 -- each place of the spans was taken, by a source that held nothing before
-pub places_past : (n : ℕ) (a : State) (spans : List Span) → a.frame.counts ≡ true → a.front ≡ 0 → places n spans + a.taken
+pub places_past : (n : ℕ) (a : State) (spans : List Span) → a.frame.counts ≡ true → a.front ≡ 0
+    → places n spans + a.taken
     ≤ (state_after a spans).taken
 places_past n a spans counts none =
     let all = covers_past n a spans counts in
-    let fewer = places_fewer n spans (front_span a ∷ spans) (λ at h. or_right (has_place (front_span a) at) (is_covered spans at) h) in
+    let fewer = places_fewer n spans (front_span a ∷ spans)
+    (λ at h. or_right (has_place (front_span a) at) (is_covered spans at) h) in
     omega arith

@@ -30,7 +30,8 @@ part_more d x place (suc k) h =
 
 span_more : (d x : List ℕ) (place k : ℕ) → k ≤ length d - place → span_of (d ++ x) place k ≡ span_of d place k
 unfolding span_of
-span_more d x place k h = let long = length-append d x in let same : min k (length (d ++ x) - place) ≡ min k (length d - place) =
+span_more d x place k h = let long = length-append d x in
+    let same : min k (length (d ++ x) - place) ≡ min k (length d - place) =
     omega arith in ap (span_at place) same
 
 enough : (b : Bool) (a got : List ℕ) → ◌≡◌ {A = Result (List ℕ) Halt} (cond b (Ok got) (Err Ended)) (Ok a) → b ≡ true
@@ -42,7 +43,8 @@ pub bytes_ok : (d a : List ℕ) (place k : ℕ) → bytes_at d place k ≡ Ok a 
 unfolding bytes_at
 bytes_ok d a place k is = let test = enough (leb k (length d - place)) a (part d place k) is in grind (arith, nat_tests)
 
-seen_ok : (r : Result (List ℕ) Halt) (order : Endian) (v : ℕ) → map_answer (number order) r ≡ Ok v → (bs : List ℕ) × (r ≡ Ok bs)
+seen_ok : (r : Result (List ℕ) Halt) (order : Endian) (v : ℕ) → map_answer (number order) r ≡ Ok v
+    → (bs : List ℕ) × (r ≡ Ok bs)
 seen_ok (Ok bs) order v is = (bs, refl)
 seen_ok (Err e) order v is = absurd cc
 
@@ -58,13 +60,15 @@ bytes_more d x place k h =
     let after : leb k (length (d ++ x) - place) ≡ true = grind (arith, nat_tests) in
     rw (here, after, part_more d x place k h) refl
 
-pub number_more : (d x : List ℕ) (order : Endian) (place k : ℕ) → k ≤ length d - place → number_at (d ++ x) order place k ≡ number_at d order
+pub number_more : (d x : List ℕ) (order : Endian) (place k : ℕ) → k ≤ length d - place
+    → number_at (d ++ x) order place k ≡ number_at d order
     place k
 unfolding number_at
 number_more d x order place k h = ap (map_answer (number order)) (bytes_more d x place k h)
 
 -- a layout that is always refused has no answer
-onward_never : {X Y : Type 0} (spans : List Span) (r : Result X Halt) (f : X → Reads Y) (y : Y) → (go_on spans r f).answer ≡ Ok y
+onward_never : {X Y : Type 0} (spans : List Span) (r : Result X Halt) (f : X → Reads Y) (y : Y)
+    → (go_on spans r f).answer ≡ Ok y
     → ((x : X) → (f x).answer ≡ Ok y → ⊥) → ⊥
 onward_never spans (Ok x) f y is never = never x is
 onward_never spans (Err e) f y is never = absurd cc
@@ -72,9 +76,11 @@ onward_never spans (Err e) f y is never = absurd cc
 never_ok : {X : Type 0} (d : List ℕ) (t : Layout X) (v : X) → Never t → (layout_reads d t).answer ≡ Ok v → ⊥
 never_ok d (done x) v never is = never
 never_ok d (refuse e) v never is = absurd cc
-never_ok d (field order place k f) v never is = onward_never (span_of d place k) (number_at d order place k) (λ n. layout_reads d (f n)) v is
+never_ok d (field order place k f) v never is =
+    onward_never (span_of d place k) (number_at d order place k) (λ n. layout_reads d (f n)) v is
     (λ n ok. never_ok d (f n) v (never n) ok)
-never_ok d (reading r place f) v never is = onward_never (read_of d r place).marks (read_of d r place).answer (λ bs. layout_reads d (f bs)) v is
+never_ok d (reading r place f) v never is =
+    onward_never (read_of d r place).marks (read_of d r place).answer (λ bs. layout_reads d (f bs)) v is
     (λ bs ok. never_ok d (f bs) v (never bs) ok)
 
 -- bytes behind the input follow those that are there
@@ -96,12 +102,15 @@ part_grows d x place k =
     (more.0, ap (take k) behind_place.1 ∙ more.1)
 
 -- a text that has ended is not changed by them, nor is one of as many bytes as it may have
-text_more : (d x : List ℕ) (t : Text) (place k : ℕ) → (is_ended t (text_part d t place k) ≡ false → length (text_part d t place k) < k
+text_more : (d x : List ℕ) (t : Text) (place k : ℕ)
+    → (is_ended t (text_part d t place k) ≡ false → length (text_part d t place k) < k
     → ⊥) → text_part (d ++ x) t place k ≡ text_part d t place k
 unfolding text_part
 text_more d x t place k uncut = by_end (is_ended t (part d place k)) refl where
-  by_end : (is : Bool) → is_ended t (part d place k) ≡ is → text_front t (part (d ++ x) place k) ≡ text_front t (part d place k)
-  by_end true some = let grows = part_grows d x place k in ap (text_front t) grows.1 ∙ front_more t (part d place k) grows.0 some
+  by_end : (is : Bool) → is_ended t (part d place k) ≡ is
+      → text_front t (part (d ++ x) place k) ≡ text_front t (part d place k)
+  by_end true some = let grows = part_grows d x place k in ap (text_front t) grows.1
+      ∙ front_more t (part d place k) grows.0 some
   by_end false none = elim (cases_lt (length d - place) k) [
     | inr all ↦ ap (text_front t) (part_more d x place k all)
     | inl some_missing ↦ absurd (uncut (front_any t (part d place k) ∙ none)
@@ -122,12 +131,14 @@ reading_more P Q d x (AllOf k) place bs not_cut h is =
     rw (span_more d x place k all, bytes_more d x place k all) refl
 reading_more P Q d x (PartOf k) place bs not_cut h is = elim (cases_lt (length d - place) k) [
   | inr all ↦ rw (span_more d x place k all, part_more d x place k all) refl
-  | inl some_missing ↦ absurd (not_cut (h.0 (omega (arith, some_missing, part_length d place k, ap length (part_is is)))))
+  | inl some_missing ↦ absurd
+      (not_cut (h.0 (omega (arith, some_missing, part_length d place k, ap length (part_is is)))))
 ]
 reading_more P Q d x (TextOf t k) place bs not_cut h is =
     let got : text_part d t place k ≡ bs = part_is is in
     ap (λ bs. record { answer = Ok bs; marks = span_at place (length bs) })
-    (text_more d x t place k (λ open_end few. not_cut (h.0 (ap (is_ended t) (sym got) ∙ open_end) (omega (arith, few, ap length got)))))
+    (text_more d x t place k
+    (λ open_end few. not_cut (h.0 (ap (is_ended t) (sym got) ∙ open_end) (omega (arith, few, ap length got)))))
 
 -- what goes on is the same, where the readings are so whose answer it goes on from
 onward_more : {X Y : Type 0} (r r' : Reads X) (f g : X → Reads Y) (y : Y) → (and_then r f).answer ≡ Ok y
@@ -139,22 +150,28 @@ onward_more {X} {Y} r r' f g y is same rest = by_answer r.answer refl where
       let ends : (f x).answer ≡ Ok y = sym (ap (λ a. (go_on r.marks a f).answer) ok) ∙ is in
       ap (λ w. and_then w g) (same x ok ends) ∙ ap (λ a. go_on r.marks a g) ok ∙ ap (put_behind r.marks) (rest x ends)
       ∙ sym (ap (λ a. go_on r.marks a f) ok)
-  by_answer (Err e) bad = absurd (let no : ◌≡◌ {A = Result Y Halt} (Err e) (Ok y) = sym (ap (λ a. (go_on r.marks a f).answer) bad)
+  by_answer (Err e) bad =
+      absurd (let no : ◌≡◌ {A = Result Y Halt} (Err e) (Ok y) = sym (ap (λ a. (go_on r.marks a f).answer) bad)
       ∙ is in cc)
 
 -- Extension: where a plain layout has an answer, it has it over the input and any bytes behind it, with the same marks.
-pub more : {X : Type 0} (d x : List ℕ) (t : Layout X) (v : X) → Plain t → (layout_reads d t).answer ≡ Ok v → layout_reads (d ++ x) t ≡ layout_reads d t
+pub more : {X : Type 0} (d x : List ℕ) (t : Layout X) (v : X) → Plain t → (layout_reads d t).answer ≡ Ok v
+    → layout_reads (d ++ x) t ≡ layout_reads d t
 more d x (done u) v p is = refl
 more d x (refuse e) v p is = refl
 more d x (field order place k f) v p is = onward_more (number_read d order place k) (number_read (d ++ x) order place k)
     (λ n. layout_reads d (f n)) (λ n. layout_reads (d ++ x) (f n)) v is
-    (λ n got ok. let all = number_ok d order place k n got in rw (span_more d x place k all, number_more d x order place k all) refl)
+    (λ n got ok. let all = number_ok d order place k n got in
+    rw (span_more d x place k all, number_more d x order place k all) refl)
     (λ n ok. more d x (f n) v (p n) ok)
-more d x (reading r place f) v p is = onward_more (read_of d r place) (read_of (d ++ x) r place) (λ bs. layout_reads d (f bs))
+more d x (reading r place f) v p is =
+    onward_more (read_of d r place) (read_of (d ++ x) r place) (λ bs. layout_reads d (f bs))
     (λ bs. layout_reads (d ++ x) (f bs)) v is
-    (λ bs got ok. reading_more (Never (f bs)) (Plain (f bs)) d x r place bs (λ never. never_ok d (f bs) v never ok) (p bs) got)
+    (λ bs got ok. reading_more (Never (f bs)) (Plain (f bs)) d x r place bs (λ never. never_ok d (f bs) v never ok)
+    (p bs) got)
     (λ bs ok. more d x (f bs) v (otherwise (Never (f bs)) (Plain (f bs)) r bs (p bs)) ok)
 
 -- the answer alone
-pub more_answer : {X : Type 0} (d x : List ℕ) (t : Layout X) (v : X) → Plain t → (layout_reads d t).answer ≡ Ok v → (layout_reads (d ++ x) t).answer ≡ Ok v
+pub more_answer : {X : Type 0} (d x : List ℕ) (t : Layout X) (v : X) → Plain t → (layout_reads d t).answer ≡ Ok v
+    → (layout_reads (d ++ x) t).answer ≡ Ok v
 more_answer d x t v p is = ap (λ r. r.answer) (more d x t v p is) ∙ is

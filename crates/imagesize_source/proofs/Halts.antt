@@ -3,21 +3,20 @@ use Rattle.std.proofs.Common.{◌≡◌, ℕ, true, false, Result, Ok, Err, None
 use Rattle.imagesize_source.specs.declared.error.ImageError.{ImageError}
 use Rattle.imagesize_source.specs.declared.halt.Halt.{Halt}
 use Rattle.imagesize_source.specs.declared.halt.Halt.TheVariants as halt
-use Rattle.imagesize_source.specs.Errors.{is_stop as is_stop_error, is_stopped as is_stopped_error, is_memory as is_memory_error, budget_spent, is_fault}
+use Rattle.imagesize_source.specs.Errors.{is_stop as is_stop_error, is_stopped as is_stopped_error, is_memory, budget_spent, is_fault}
 use Rattle.imagesize_source.specs.Halts.{error_by, error_of, with_error}
 use Rattle.imagesize_source.specs.Outcome.{stated}
-use Rattle.imagesize_source.specs.Reading.{is_failure, is_spent, is_memory, is_stop, is_stopped}
+use Rattle.imagesize_source.specs.Reading.{is_failure, is_spent, is_stop, is_stopped}
 
-pub refused_same : (failure : ImageError) (budget : ℕ) (h : Halt) → is_stop h ≡ false → error_by failure budget h ≡ error_of h
+pub refused_same : (failure : ImageError) (budget : ℕ) (h : Halt) → is_stop h ≡ false
+    → error_by failure budget h ≡ error_of h
 refused_same failure budget halt.Failed is = absurd cc
 refused_same failure budget halt.Spent is = absurd cc
-refused_same failure budget halt.Memory is = absurd cc
 refused_same failure budget _ is = refl
 
 pub refused_goes_on : (h : Halt) → is_stop h ≡ false → is_stop_error (error_of h) ≡ false
 refused_goes_on halt.Failed is = absurd cc
 refused_goes_on halt.Spent is = absurd cc
-refused_goes_on halt.Memory is = absurd cc
 refused_goes_on _ is = refl
 
 pub failed_is : (h : Halt) → is_failure h ≡ true → h ≡ halt.Failed
@@ -39,12 +38,10 @@ pub stated_ok : {X : Type 0} (r : Result X Halt) (x : X) → stated r ≡ Ok x �
 stated_ok (Ok y) x is = let same : y ≡ x = cc in ap Ok same
 stated_ok (Err h) x is = absurd cc
 
--- an error is a fault only of a failed call, refused memory only of that, and a spent budget only of a halt that says so
-pub error_memory : (failure : ImageError) (budget : ℕ) (h : Halt) → is_memory_error failure ≡ false → is_memory h ≡ false
-    → is_memory_error (error_by failure budget h) ≡ false
-error_memory failure budget halt.Failed plain is = plain
-error_memory failure budget halt.Memory plain is = absurd cc
-error_memory failure budget _ plain is = refl
+-- an error is a fault or refused memory only of a failed call, and a spent budget only of a halt that says so
+pub error_memory : (failure : ImageError) (budget : ℕ) (h : Halt) → is_memory failure ≡ false → is_memory (error_by failure budget h) ≡ false
+error_memory failure budget halt.Failed plain = plain
+error_memory failure budget _ plain = refl
 
 pub error_spent : (P : ℕ → Type 0) (failure : ImageError) (budget : ℕ) (h : Halt) → budget_spent failure ≡ None
     → (is_spent h ≡ true → P budget) → IfSome (budget_spent (error_by failure budget h)) P

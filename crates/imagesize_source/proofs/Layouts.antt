@@ -12,24 +12,30 @@ use Rattle.imagesize_source.specs.Reading.{Reads, and_then, gives, go_on, map_an
 use Rattle.imagesize_source.specs.State.{State, Runs, Missed, total, state_after}
 use Rattle.imagesize_source.proofs.Runs.{answered, part_is, runs_refused}
 
-behind-onward : {Y Z : Type 0} (marks more : List Span) (r : Result Y Halt) (g : Y → Reads Z) → put_behind marks (go_on more r g)
+behind-onward : {Y Z : Type 0} (marks more : List Span) (r : Result Y Halt) (g : Y → Reads Z)
+    → put_behind marks (go_on more r g)
     ≡ go_on (marks ++ more) r g
-behind-onward marks more (Ok y) g = ap (λ m. record { answer = (g y).answer; marks = m }) (sym (append_assoc marks more (g y).marks))
+behind-onward marks more (Ok y) g =
+    ap (λ m. record { answer = (g y).answer; marks = m }) (sym (append_assoc marks more (g y).marks))
 behind-onward marks more (Err e) g = refl
 
 -- what goes on from an answer that itself goes on
-onward-and_then : {X Y Z : Type 0} (marks : List Span) (r : Result X Halt) (f : X → Reads Y) (g : Y → Reads Z) (both : X → Reads Z)
+pub onward-and_then : {X Y Z : Type 0} (marks : List Span) (r : Result X Halt) (f : X → Reads Y) (g : Y → Reads Z)
+    (both : X → Reads Z)
     → ((x : X) → both x ≡ and_then (f x) g) → go_on marks r both ≡ and_then (go_on marks r f) g
 onward-and_then marks (Ok x) f g both is = ap (put_behind marks) (is x) ∙ behind-onward marks (f x).marks (f x).answer g
 onward-and_then marks (Err e) f g both is = refl
 
 -- one layout behind the other: first the readings of the one, then those of the other
-pub over-bind : {X Y : Type 0} (d : List ℕ) (t : Layout X) (f : X → Layout Y) → layout_reads d (bind t f) ≡ and_then (layout_reads d t) (λ x. layout_reads d (f x))
+pub over-bind : {X Y : Type 0} (d : List ℕ) (t : Layout X) (f : X → Layout Y)
+    → layout_reads d (bind t f) ≡ and_then (layout_reads d t) (λ x. layout_reads d (f x))
 over-bind d (done x) f = refl
 over-bind d (refuse e) f = refl
-over-bind d (field order place k g) f = onward-and_then (span_of d place k) (number_at d order place k) (λ v. layout_reads d (g v))
+over-bind d (field order place k g) f =
+    onward-and_then (span_of d place k) (number_at d order place k) (λ v. layout_reads d (g v))
     (λ x. layout_reads d (f x)) (λ v. layout_reads d (bind (g v) f)) (λ v. over-bind d (g v) f)
-over-bind d (reading r place g) f = onward-and_then (read_of d r place).marks (read_of d r place).answer (λ bs. layout_reads d (g bs))
+over-bind d (reading r place g) f =
+    onward-and_then (read_of d r place).marks (read_of d r place).answer (λ bs. layout_reads d (g bs))
     (λ x. layout_reads d (f x)) (λ bs. layout_reads d (bind (g bs) f)) (λ bs. over-bind d (g bs) f)
 
 whole-all : (k : ℕ) (bs : List ℕ) → k ≤ length bs → whole k bs ≡ Some bs
@@ -48,7 +54,8 @@ whole_read {a} {b} d room place n fits h = by_test (eqb n (length room)) refl wh
   by_test true is =
       let same : take n room ≡ room = take_all n room (grind (arith, nat_tests)) in
       answered (Ok (Some room)) (layout_reads d (if_there place (length room) done)) h (append-nil _)
-      (λ read. ap (λ bs. Ok (whole (length room) bs)) (part_is read ∙ same) ∙ ap Ok (whole-all (length room) room (omega arith)))
+      (λ read. ap (λ bs. Ok (whole (length room) bs)) (part_is read ∙ same)
+      ∙ ap Ok (whole-all (length room) room (omega arith)))
       refl refl tt
   by_test false is =
       let short : n < length room = grind (arith, nat_tests) in
@@ -58,7 +65,8 @@ whole_read {a} {b} d room place n fits h = by_test (eqb n (length room)) refl wh
       refl refl tt
 
 -- a reading that was stopped found none
-pub whole_stopped : {X : Type 0} {a b : State} (d : List ℕ) (place k : ℕ) (found : X → Option (List ℕ)) (r : Result X Halt) (why : Halt)
+pub whole_stopped : {X : Type 0} {a b : State} (d : List ℕ) (place k : ℕ) (found : X → Option (List ℕ))
+    (r : Result X Halt) (why : Halt)
     → r ≡ Err why → Runs {X = List ℕ} a b (Err why) (part_read d place k)
     → Runs a b (map_answer found r) (layout_reads d (if_there place k done))
 whole_stopped {a = a} {b = b} d place k found r why is h =

@@ -9,8 +9,10 @@ pub mod Chains
 pub mod Costs
 pub mod Counts
 pub mod Extension
+pub mod Gathering
 pub mod Halts
 pub mod Known
+pub mod KnownReadings
 pub mod Layouts
 pub mod Lists
 pub mod Marks
@@ -20,9 +22,11 @@ pub mod PastTheEnd
 pub mod Reached
 pub mod Recordings
 pub mod Runs
+pub mod Sharing
 pub mod Slices
 pub mod Spends
+pub mod Strides
 pub mod Tests
+pub mod TextEnds
 pub mod Texts
-pub mod Walks
 pub mod Way

@@ -97,18 +97,22 @@ are_three (a ∷ b ∷ c ∷ []) is = three a b c
 are_three (a ∷ b ∷ c ∷ x ∷ rest) is = absurd (omega (arith, is))
 
 -- three bytes are four of which the highest is 0
-pub little_3 : (bs : List ℕ) → length bs ≡ 3 → from_le_bytes w32 (slice_index_or bs 0 0 ∷ slice_index_or bs 1 0 ∷ slice_index_or bs 2 0
+pub little_3 : (bs : List ℕ) → length bs ≡ 3
+    → from_le_bytes w32 (slice_index_or bs 0 0 ∷ slice_index_or bs 1 0 ∷ slice_index_or bs 2 0
     ∷ 0 ∷ []) ≡ number Little bs
 unfolding number
 little_3 bs is = on_three bs (are_three bs is) where
-  on_three : (bs : List ℕ) → Three bs → from_le_bytes w32 (slice_index_or bs 0 0 ∷ slice_index_or bs 1 0 ∷ slice_index_or bs 2 0 ∷ 0 ∷ [])
+  on_three : (bs : List ℕ) → Three bs
+      → from_le_bytes w32 (slice_index_or bs 0 0 ∷ slice_index_or bs 1 0 ∷ slice_index_or bs 2 0 ∷ 0 ∷ [])
       ≡ number Little bs
   on_three bs (three a b c) = omega arith
 
-pub big_3 : (bs : List ℕ) → length bs ≡ 3 → from_be_bytes w32 (0 ∷ slice_index_or bs 0 0 ∷ slice_index_or bs 1 0 ∷ slice_index_or bs 2 0
+pub big_3 : (bs : List ℕ) → length bs ≡ 3
+    → from_be_bytes w32 (0 ∷ slice_index_or bs 0 0 ∷ slice_index_or bs 1 0 ∷ slice_index_or bs 2 0
     ∷ []) ≡ number Big bs
 unfolding number
 big_3 bs is = on_three bs (are_three bs is) where
-  on_three : (bs : List ℕ) → Three bs → from_be_bytes w32 (0 ∷ slice_index_or bs 0 0 ∷ slice_index_or bs 1 0 ∷ slice_index_or bs 2 0 ∷ [])
+  on_three : (bs : List ℕ) → Three bs
+      → from_be_bytes w32 (0 ∷ slice_index_or bs 0 0 ∷ slice_index_or bs 1 0 ∷ slice_index_or bs 2 0 ∷ [])
       ≡ number Big bs
   on_three bs (three a b c) = omega arith

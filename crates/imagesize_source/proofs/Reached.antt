@@ -40,11 +40,13 @@ total_onward : {X Y : Type 0} (spans : List Span) (r : Result Y Halt) (f : Y →
 total_onward spans (Ok y) f = let all = total-append spans (f y).marks in omega arith
 total_onward spans (Err e) f = omega arith
 
-onward_at : {X Y : Type 0} (spans : List Span) (r s : Result Y Halt) (f : Y → Reads X) → r ≡ s → go_on spans r f ≡ go_on spans s f
+onward_at : {X Y : Type 0} (spans : List Span) (r s : Result Y Halt) (f : Y → Reads X) → r ≡ s
+    → go_on spans r f ≡ go_on spans s f
 onward_at spans r s f is = ap (λ q. go_on spans q f) is
 
 -- nothing is read
-pub reads_nothing : {X : Type 0} (b : State) (r : Result X Halt) → IsSound b → is_faulted r ≡ false → IfErr r (EndedBy b)
+pub reads_nothing : {X : Type 0} (b : State) (r : Result X Halt) → IsSound b → is_faulted r ≡ false
+    → IfErr r (EndedBy b)
     → Runs b b r (record { answer = r; marks = [] })
 unfolding state_after
 reads_nothing b r sound no_fault ended = record {
@@ -97,21 +99,28 @@ module _ {X : Type 0} {a b : State} {whole rest : Reads X} (h : Reached a b whol
     taken = let one = h.taken in let two = run.taken in omega arith;
     within = λ honest.
         let one = h.within honest in let two = run.within (still_honest honest) in let fits = within honest in
-        let all : total whole.marks ≡ total h.made + total rest.marks = ap (λ w. total w.marks) (h.left honest) ∙ total-append h.made
+        let all : total whole.marks ≡ total h.made + total rest.marks = ap (λ w. total w.marks) (h.left honest)
+        ∙ total-append h.made
         rest.marks in
         omega arith;
-    answer = λ honest goes_on. ap (λ w. w.answer) (h.left honest) ∙ (same honest (run.answer (still_honest honest) (stops ∙ goes_on))).0;
+    answer = λ honest goes_on. ap (λ w. w.answer) (h.left honest)
+        ∙ (same honest (run.answer (still_honest honest) (stops ∙ goes_on))).0;
     state = λ honest goes_on.
-        run.state (still_honest honest) (stops ∙ goes_on) ∙ ap (λ s. state_after s given.marks) (h.state honest) ∙ past-past a h.made given.marks
-        ∙ ap (λ m. state_after a (h.made ++ m)) (sym (same honest (run.answer (still_honest honest) (stops ∙ goes_on))).1)
+        run.state (still_honest honest) (stops ∙ goes_on) ∙ ap (λ s. state_after s given.marks) (h.state honest)
+        ∙ past-past a h.made given.marks
+        ∙ ap (λ m. state_after a (h.made ++ m))
+        (sym (same honest (run.answer (still_honest honest) (stops ∙ goes_on))).1)
         ∙ sym (ap (λ w. state_after a w.marks) (h.left honest));
-    fault = λ honest faulty. ap (λ x. x.can_fail) (sym (still honest)) ∙ run.fault (still_honest honest) (faults ∙ faulty);
+    fault = λ honest faulty. ap (λ x. x.can_fail) (sym (still honest))
+        ∙ run.fault (still_honest honest) (faults ∙ faulty);
     misses = λ honest faulty.
         let more = first honest in
         let here : Missed a end (h.made ++ given.marks) = missed_behind a b end h.made given.marks
-        (ap (λ s. s.recorded) (h.state honest) ∙ past-recorded a h.made) (run.misses (still_honest honest) (faults ∙ faulty)) in
+        (ap (λ s. s.recorded) (h.state honest) ∙ past-recorded a h.made)
+        (run.misses (still_honest honest) (faults ∙ faulty)) in
         let all : whole.marks ≡ (h.made ++ given.marks) ++ more.0 =
-        ap (λ w. w.marks) (h.left honest) ∙ ap (λ ms. h.made ++ ms) more.1 ∙ sym (append_assoc h.made given.marks more.0) in
+        ap (λ w. w.marks) (h.left honest) ∙ ap (λ ms. h.made ++ ms) more.1
+        ∙ sym (append_assoc h.made given.marks more.0) in
         subst (Missed a end) (sym all) (missed_before a end (h.made ++ given.marks) more.0 here);
     ended = ended;
   }
@@ -126,14 +135,18 @@ module _ {X : Type 0} {a b : State} {whole rest : Reads X} (h : Reached a b whol
 
   -- nothing more is read, and the answer is known
   pub reached_now : (r : Result X Halt) → IsSound b → is_faulted r ≡ false → IfErr r (EndedBy b)
-      → (a.held.honest ≡ true → length a.held.input < 2 ^ 63 → rest ≡ record { answer = r; marks = [] }) → Runs a b r whole
-  reached_now r sound no_fault ended same = reached_end r (record { answer = r; marks = [] }) (reads_nothing b r sound no_fault ended)
+      → (a.held.honest ≡ true → length a.held.input < 2 ^ 63 → rest ≡ record { answer = r; marks = [] })
+      → Runs a b r whole
+  reached_now r sound no_fault ended same =
+      reached_end r (record { answer = r; marks = [] }) (reads_nothing b r sound no_fault ended)
       (λ honest. sym (same honest (let short = (h.sound sound honest).1 in omega arith)))
 
-module _ {X Y : Type 0} {a b : State} {whole : Reads X} (reads : Reads Y) (f : Y → Reads X) (h : Reached a b whole (and_then reads f))
+module _ {X Y : Type 0} {a b : State} {whole : Reads X} (reads : Reads Y) (f : Y → Reads X)
+    (h : Reached a b whole (and_then reads f))
   where
     -- the next readings, and what is left behind their answer
-    pub reached_step : {end : State} (y : Y) (given : Reads Y) → Runs b end (Ok y) given → (a.held.honest ≡ true → given ≡ reads)
+    pub reached_step : {end : State} (y : Y) (given : Reads Y) → Runs b end (Ok y) given
+        → (a.held.honest ≡ true → given ≡ reads)
         → Reached a end whole (f y)
     reached_step {end} y given run same = record {
       sound = λ _. h.sound run.sound;
@@ -141,23 +154,29 @@ module _ {X Y : Type 0} {a b : State} {whole : Reads X} (reads : Reads Y) (f : Y
       taken = let one = h.taken in let two = run.taken in omega arith;
       made = h.made ++ given.marks;
       within = λ honest.
-          let one = h.within honest in let two = run.within (still_honest h honest) in let all = total-append h.made given.marks in
+          let one = h.within honest in let two = run.within (still_honest h honest) in
+          let all = total-append h.made given.marks in
           omega arith;
-      state = λ honest. run.state (still_honest h honest) refl ∙ ap (λ s. state_after s given.marks) (h.state honest) ∙ past-past a h.made
+      state = λ honest. run.state (still_honest h honest) refl ∙ ap (λ s. state_after s given.marks) (h.state honest)
+          ∙ past-past a h.made
           given.marks;
       left = λ honest.
           h.left honest ∙ ap (λ w. put_behind h.made (and_then w f)) (sym (same honest))
-          ∙ ap (put_behind h.made) (onward_at given.marks given.answer (Ok y) f (run.answer (still_honest h honest) refl))
+          ∙ ap (put_behind h.made)
+          (onward_at given.marks given.answer (Ok y) f (run.answer (still_honest h honest) refl))
           ∙ behind-behind h.made given.marks (f y);
     }
 
     -- the next readings were refused
-    pub reached_out : {end : State} (e : Halt) (given : Reads Y) → Runs b end (Err e) given → (a.held.honest ≡ true → given ≡ reads)
+    pub reached_out : {end : State} (e : Halt) (given : Reads Y) → Runs b end (Err e) given
+        → (a.held.honest ≡ true → given ≡ reads)
         → Runs a end (Err e) whole
     reached_out e given run same = ended_by h (Err e) (Err e) given run refl refl run.ended
-        (λ honest. subst (λ (w : Reads Y). (more : List Span) × ((and_then reads f).marks ≡ w.marks ++ more)) (sym (same honest))
+        (λ honest. subst (λ (w : Reads Y). (more : List Span) × ((and_then reads f).marks ≡ w.marks ++ more))
+        (sym (same honest))
         (marks_onward reads.marks reads.answer f))
-        (λ honest. let is = ap (λ w. total w.marks) (same honest) in let more = total_onward reads.marks reads.answer f in omega arith)
+        (λ honest. let is = ap (λ w. total w.marks) (same honest) in
+        let more = total_onward reads.marks reads.answer f in omega arith)
         (λ honest is.
         let out : go_on reads.marks reads.answer f ≡ record { answer = Err e; marks = given.marks } =
         ap (λ w. and_then w f) (sym (same honest)) ∙ onward_at given.marks given.answer (Err e) f is in
@@ -167,16 +186,20 @@ module _ {X Y : Type 0} {a b : State} {whole : Reads X} (reads : Reads Y) (f : Y
     pub reached_stop : {end : State} (x : X) (y : Y) (given : Reads Y) → f y ≡ gives x → Runs b end (Ok y) given
         → (a.held.honest ≡ true → given ≡ reads) → Runs a end (Ok x) whole
     reached_stop x y given last run same = ended_by h (Ok x) (Ok y) given run refl refl tt
-        (λ honest. subst (λ (w : Reads Y). (more : List Span) × ((and_then reads f).marks ≡ w.marks ++ more)) (sym (same honest))
+        (λ honest. subst (λ (w : Reads Y). (more : List Span) × ((and_then reads f).marks ≡ w.marks ++ more))
+        (sym (same honest))
         (marks_onward reads.marks reads.answer f))
-        (λ honest. let is = ap (λ w. total w.marks) (same honest) in let more = total_onward reads.marks reads.answer f in omega arith)
+        (λ honest. let is = ap (λ w. total w.marks) (same honest) in
+        let more = total_onward reads.marks reads.answer f in omega arith)
         (λ honest is.
         let out : go_on reads.marks reads.answer f ≡ put_behind given.marks (gives x) =
-        ap (λ w. and_then w f) (sym (same honest)) ∙ onward_at given.marks given.answer (Ok y) f is ∙ ap (put_behind given.marks) last in
+        ap (λ w. and_then w f) (sym (same honest)) ∙ onward_at given.marks given.answer (Ok y) f is
+        ∙ ap (put_behind given.marks) last in
         (ap (λ w. w.answer) out, ap (λ w. w.marks) out ∙ append-nil given.marks))
 
 -- a walk along a chain, from which what is left is the chain from here on
-module _ {C X : Type 0} (c : Chain C X) (adv : (d : List ℕ) → Advances c d) {a b : State} {whole : Reads X} (t : Along C)
+module _ {C X : Type 0} (c : Chain C X) (adv : (d : List ℕ) → Advances c d) {a b : State} {whole : Reads X}
+    (t : Along C)
     (h : Reached a b whole (chain_from c a.held.input t)) where
   unfolded : Reached a b whole (and_then (next_record c a.held.input t) (follows c a.held.input t.held))
   unfolded = reached_as h (and_then (next_record c a.held.input t) (follows c a.held.input t.held))
@@ -188,27 +211,32 @@ module _ {C X : Type 0} (c : Chain C X) (adv : (d : List ℕ) → Advances c d) 
   -- goes on by a record that tells the place of the next
   pub walk_on : {end : State} (v : C) (place : ℕ) → Runs b end (Ok (Next v place)) (next_record c b.held.input t)
       → Reached a end whole (chain_from c a.held.input (record { held = t.held ++ v ∷ []; place = place }))
-  walk_on v place run = reached_step (next_record c a.held.input t) (follows c a.held.input t.held) unfolded (Next v place)
+  walk_on v place run =
+      reached_step (next_record c a.held.input t) (follows c a.held.input t.held) unfolded (Next v place)
       (next_record c b.held.input t) run read
 
   -- ends by one that decides
-  pub walk_stop : {end : State} (x : X) → Runs b end (Ok (Decided x)) (next_record c b.held.input t) → Runs a end (Ok x) whole
+  pub walk_stop : {end : State} (x : X) → Runs b end (Ok (Decided x)) (next_record c b.held.input t)
+      → Runs a end (Ok x) whole
   walk_stop x run = reached_stop (next_record c a.held.input t) (follows c a.held.input t.held) unfolded x (Decided x)
       (next_record c b.held.input t) refl run read
 
   -- or by one that is refused
   pub walk_out : {end : State} (e : Halt) → Runs b end (Err e) (next_record c b.held.input t) → Runs a end (Err e) whole
-  walk_out e run = reached_out (next_record c a.held.input t) (follows c a.held.input t.held) unfolded e (next_record c b.held.input t)
+  walk_out e run = reached_out (next_record c a.held.input t) (follows c a.held.input t.held) unfolded e
+      (next_record c b.held.input t)
       run read
 
 -- a layout that was read, and what goes on from its answer and reads nothing
 pub runs_bind : {X Y : Type 0} {a b : State} {x : X} (r : Result Y Halt) (t : Layout X) (f : X → Layout Y)
-    → Runs a b (Ok x) (layout_reads a.held.input t) → ((d : List ℕ) → layout_reads d (f x) ≡ record { answer = r; marks = [] }) → is_faulted r ≡ false
+    → Runs a b (Ok x) (layout_reads a.held.input t)
+    → ((d : List ℕ) → layout_reads d (f x) ≡ record { answer = r; marks = [] }) → is_faulted r ≡ false
     → IfErr r (EndedBy b) → Runs a b r (layout_reads a.held.input (bind t f))
 runs_bind {X} {Y} {a} {b} {x} r t f first says no_fault ended =
     let second : Runs b b r (layout_reads b.held.input (f x)) = subst (λ w. Runs b b r w) (sym (says b.held.input))
     (reads_nothing b r first.sound_after no_fault ended) in
-    subst (λ w. Runs a b r w) (sym (over-bind a.held.input t f)) (runs_then (layout_reads a.held.input t) (λ v held. layout_reads held.input (f v)) first
+    subst (λ w. Runs a b r w) (sym (over-bind a.held.input t f))
+    (runs_then (layout_reads a.held.input t) (λ v held. layout_reads held.input (f v)) first
     second)
 
 -- a layout that was refused

@@ -1,5 +1,5 @@
 -- What a reading of a slice records.
-use Rattle.std.proofs.Common.{◌≡◌, ℕ, ◌+◌, ◌-◌, ◌^◌, ◌<◌, ◌≤◌, min, Bool, List, [], ◌∷◌, ◌++◌, length, take, drop, Ok, refl, sym, ap, subst, ◌∙◌, append_assoc, add-zero, arith}
+use Rattle.std.proofs.Common.{◌≡◌, ℕ, ◌+◌, ◌-◌, ◌^◌, ◌<◌, ◌≤◌, min, List, [], ◌∷◌, ◌++◌, length, take, drop, Ok, refl, sym, ap, subst, ◌∙◌, append_assoc, add-zero, arith}
 use Rattle.std.proofs.lemmas.List.{append-nil, length-append}
 use Rattle.imagesize_source.specs.declared.span.Span.{Span}
 use Rattle.imagesize_source.specs.Buffer.{Holds}
@@ -11,70 +11,73 @@ use Rattle.imagesize_source.proofs.Runs.{total-append}
 use Rattle.imagesize_source.proofs.Slices.{copied_is, front_is, given_runs}
 
 -- the spans of readings are recorded behind those before
-pub past-recording : (d : List ℕ) (spans more : List Span) (allocates : Bool) (home : ℕ) → state_after
-    (recording_state d spans allocates home) more ≡ recording_state d (spans ++ more) allocates home
+pub past-recording : (d : List ℕ) (spans more : List Span) (home : ℕ) → state_after
+    (recording_state d spans home) more ≡ recording_state d (spans ++ more) home
 unfolding state_after
-past-recording d spans [] allocates home = ap (λ s. recording_state d s allocates home) (sym (append-nil spans))
-past-recording d spans (s ∷ more) allocates home = past-recording d (spans ++ s ∷ []) more allocates home
-    ∙ ap (λ t. recording_state d t allocates home) (append_assoc spans (s ∷ []) more)
+past-recording d spans [] home = ap (λ s. recording_state d s home) (sym (append-nil spans))
+past-recording d spans (s ∷ more) home = past-recording d (spans ++ s ∷ []) more home
+    ∙ ap (λ t. recording_state d t home) (append_assoc spans (s ∷ []) more)
 
 -- the span of a reading, by how many bytes it saw
 span_is : (d : List ℕ) (place k m n : ℕ) → n ≡ min k (length d - place) → m ≡ k → span_at place n ≡ span_of d place m
 unfolding span_of
 span_is d place k m n count same = ap (span_at place) (count ∙ ap (λ j. min j (length d - place)) (sym same))
 
-same_state : (d e : List ℕ) (spans after : List Span) (allocates : Bool) (home there : ℕ) → e ≡ d → after ≡ spans → there ≡ home
-    → recording_state e after allocates there ≡ recording_state d spans allocates home
-same_state d e spans after allocates home there bytes same name =
-    ap (λ x. recording_state x after allocates there) bytes ∙ ap (λ x. recording_state d x allocates there) same
-    ∙ ap (recording_state d spans allocates) name
+same_state : (d e : List ℕ) (spans after : List Span) (home there : ℕ) → e ≡ d → after ≡ spans → there ≡ home
+    → recording_state e after there ≡ recording_state d spans home
+same_state d e spans after home there bytes same name =
+    ap (λ x. recording_state x after there) bytes ∙ ap (λ x. recording_state d x there) same
+    ∙ ap (recording_state d spans) name
 
 -- readings of a slice whose spans were recorded
-recording_runs : {X : Type 0} {reads : Reads X} (d e : List ℕ) (spans after : List Span) (allocates : Bool) (home there : ℕ) (x : X)
+recording_runs : {X : Type 0} {reads : Reads X} (d e : List ℕ) (spans after : List Span) (home there : ℕ) (x : X)
     → length d < 2 ^ 63 → e ≡ d → there ≡ home → reads.answer ≡ Ok x → after ≡ spans ++ reads.marks → Runs
-    (recording_state d spans allocates home) (recording_state e after allocates there) (Ok x) reads
-recording_runs {X} {reads} d e spans after allocates home there x short bytes name is recorded =
+    (recording_state d spans home) (recording_state e after there) (Ok x) reads
+recording_runs {X} {reads} d e spans after home there x short bytes name is recorded =
     given_runs x (λ honest. (refl, short)) (λ honest. (refl, omega (arith, ap length bytes, short)))
-    (ap (λ (a : State). a.frame) (same_state d e spans spans allocates home there bytes refl name)) refl is
-    (same_state d e (spans ++ reads.marks) after allocates home there bytes recorded name
-    ∙ sym (past-recording d spans reads.marks allocates home))
+    (ap (λ (a : State). a.frame) (same_state d e spans spans home there bytes refl name)) refl is
+    (same_state d e (spans ++ reads.marks) after home there bytes recorded name
+    ∙ sym (past-recording d spans reads.marks home))
 
 -- a reading of bytes
-pub recording_reads : (d e room old : List ℕ) (spans after : List Span) (allocates : Bool) (home there : ℕ) (place n : ℕ)
+pub recording_reads : (d e room old : List ℕ) (spans after : List Span) (home there : ℕ) (place n : ℕ)
     → length d < 2 ^ 63 → e ≡ d → there ≡ home → n ≡ min (length old) (length d - place)
     → room ≡ part d place (length old) ++ drop n old → length room ≡ length old → after ≡ spans ++ span_at place n → Runs
-    (recording_state d spans allocates home) (recording_state e after allocates there) (Ok (take n room))
+    (recording_state d spans home) (recording_state e after there) (Ok (take n room))
     (part_read d place (length room))
-recording_reads d e room old spans after allocates home there place n short bytes name count copied kept recorded =
-    recording_runs d e spans after allocates home there (take n room) short bytes name
+recording_reads d e room old spans after home there place n short bytes name count copied kept recorded =
+    recording_runs d e spans after home there (take n room) short bytes name
     (ap Ok (sym (front_is d room old place n count copied kept)))
     (recorded ∙ ap (λ s. spans ++ s) (span_is d place (length old) (length room) n count kept))
 
 -- a reading of a text
-pub recording_reads_text : (d e old copied found : List ℕ) (t : Text) (spans after : List Span) (allocates : Bool) (home there : ℕ)
+pub recording_reads_text : (d e old copied found : List ℕ) (t : Text) (spans after : List Span) (home there : ℕ)
     (place : ℕ) → length d < 2 ^ 63 → e ≡ d → there ≡ home → found ≡ text_part d t place (length old) → length found ≤ length old
-    → copied ≡ found → after ≡ spans ++ span_at place (length found) → Runs (recording_state d spans allocates home)
-    (recording_state e after allocates there) (Ok (take (length found) (copied ++ drop (length found) old)))
+    → copied ≡ found → after ≡ spans ++ span_at place (length found) → Runs (recording_state d spans home)
+    (recording_state e after there) (Ok (take (length found) (copied ++ drop (length found) old)))
     (text_read d t place (length (copied ++ drop (length found) old)))
-recording_reads_text d e old copied found t spans after allocates home there place short bytes name is fits same recorded =
+recording_reads_text d e old copied found t spans after home there place short bytes name is fits same recorded =
     let front = copied_is d old copied found t place is fits same in
-    recording_runs d e spans after allocates home there (take (length found) (copied ++ drop (length found) old)) short bytes name
+    recording_runs d e spans after home there (take (length found) (copied ++ drop (length found) old)) short bytes name
     (ap Ok (sym (front.0 ∙ front.1)))
     (recorded ∙ ap (λ bs. spans ++ span_at place (length bs)) front.1)
 
 -- one span more is held
-pub written_on : (shown : ℕ → List Span) (places : ℕ → ℕ) (spans log : List Span) (s : Span) → log ≡ spans ++ s ∷ []
-    → Holds shown places (spans ++ s ∷ []) → Holds shown places log
-written_on shown places spans log s pushed held = subst (Holds shown places) (sym pushed) held
+pub written_on : (buffer spans log : List Span) (s : Span) → log ≡ spans ++ s ∷ [] → Holds buffer (spans ++ s ∷ []) → Holds buffer log
+written_on buffer spans log s pushed held = subst (Holds buffer) (sym pushed) held
 
 -- it is counted
-pub counted_on : (spans log : List Span) (s : Span) (count after : ℕ) → log ≡ spans ++ s ∷ [] → count ≡ min (length spans) (2 ^ 64 - 1)
+pub counted_on : (spans log : List Span) (s : Span) (count after : ℕ) → log ≡ spans ++ s ∷ []
+    → count ≡ min (length spans) (2 ^ 64 - 1)
     → after ≡ min (count + 1) (2 ^ 64 - 1) → after ≡ min (length log) (2 ^ 64 - 1)
-counted_on spans log s count after pushed is more = omega (arith, is, more, ap length pushed, length-append spans (s ∷ []))
+counted_on spans log s count after pushed is more =
+    omega (arith, is, more, ap length pushed, length-append spans (s ∷ []))
 
 -- it has a byte
-pub seen_on : (spans log : List Span) (s : Span) → log ≡ spans ++ s ∷ [] → 0 < s.len → length spans ≤ total spans → length log ≤ total log
+pub seen_on : (spans log : List Span) (s : Span) → log ≡ spans ++ s ∷ [] → 0 < s.len → length spans ≤ total spans
+    → length log ≤ total log
 seen_on spans log s pushed some seen =
-    let all : total log ≡ total spans + s.len = ap total pushed ∙ total-append spans (s ∷ []) ∙ ap (λ n. total spans + n)
+    let all : total log ≡ total spans + s.len = ap total pushed ∙ total-append spans (s ∷ [])
+    ∙ ap (λ n. total spans + n)
     (add-zero s.len) in
     omega (arith, ap length pushed, length-append spans (s ∷ []), all, some, seen)

@@ -8,7 +8,7 @@ use Rattle.imagesize_source.specs.Input.{part, span_at, span_of}
 use Rattle.imagesize_source.specs.Numbers.{number}
 use Rattle.imagesize_source.specs.declared.halt.Halt.{Halt}
 use Rattle.imagesize_source.specs.declared.halt.Halt.TheVariants.{Ended}
-use Rattle.imagesize_source.specs.Reading.{Reads, go_on, put_behind, and_then, bytes_at, number_at, part_read, bytes_read, number_read, map_answer, is_stopped, is_faulted}
+use Rattle.imagesize_source.specs.Reading.{Reads, go_on, put_behind, and_then, bytes_at, number_at, part_read, bytes_read, number_read, map_answer, is_stopped, is_faulted, is_failure, is_spent}
 use Rattle.std.specs.Prelude.{Option, None, Some, IfSome, IsSomeAnd, option_map}
 use Rattle.imagesize_source.specs.State.{State, Held, Runs, EndedBy, Misses, Missed, total, state_after, step}
 use Rattle.imagesize_source.proofs.Parts.{part_length}
@@ -17,9 +17,24 @@ or_false : (x y : Bool) → x || y ≡ false → (x ≡ false) × (y ≡ false)
 or_false true y is = absurd cc
 or_false false y is = (refl, is)
 
+-- a result that nothing stopped is none of the ends of a call
+pub plain_end : {X : Type 0} (b : State) (r : Result X Halt) → is_stopped r ≡ false → IfErr r (EndedBy b)
+plain_end b (Ok x) goes_on = tt
+plain_end b (Err halt) goes_on =
+    let none = or_false (is_failure halt) (is_spent halt) goes_on in record {
+      budget = λ spent. absurd (let out = sym spent ∙ none.1 in cc);
+      fault = λ failed. absurd (let out = sym failed ∙ none.0 in cc);
+    }
+
+pub without_fault : {X : Type 0} (r : Result X Halt) → is_stopped r ≡ false → is_faulted r ≡ false
+without_fault (Ok x) goes_on = refl
+without_fault (Err halt) goes_on = (or_false (is_failure halt) (is_spent halt) goes_on).0
+
 -- the same readings, answered otherwise where nothing stopped them
-pub answered : {X Y : Type 0} {a b : State} {x : X} {reads : Reads X} (r : Result Y Halt) (other : Reads Y) → Runs a b (Ok x) reads
-    → other.marks ≡ reads.marks → (reads.answer ≡ Ok x → other.answer ≡ r) → is_stopped r ≡ false → is_faulted r ≡ false → IfErr r (EndedBy b)
+pub answered : {X Y : Type 0} {a b : State} {x : X} {reads : Reads X} (r : Result Y Halt) (other : Reads Y)
+    → Runs a b (Ok x) reads
+    → other.marks ≡ reads.marks → (reads.answer ≡ Ok x → other.answer ≡ r) → is_stopped r ≡ false → is_faulted r ≡ false
+    → IfErr r (EndedBy b)
     → Runs a b r other
 answered {a} {b} {x} {reads} r other h marks answer goes_on no_fault ended = record {
   sound = h.sound;
@@ -45,7 +60,8 @@ not_there : (d : List ℕ) (place k : ℕ) → length (part d place k) < k → l
 not_there d place k short = let n = part_length d place k in grind (arith, nat_tests)
 
 -- a reading that gave all of its bytes
-pub bytes_there : {a b : State} (d room : List ℕ) (place k n : ℕ) → Runs a b (Ok (take n room)) (part_read d place (length room))
+pub bytes_there : {a b : State} (d room : List ℕ) (place k n : ℕ)
+    → Runs a b (Ok (take n room)) (part_read d place (length room))
     → length room ≡ k → k ≤ n → Runs a b (Ok room) (bytes_read d place k)
 unfolding bytes_at
 bytes_there {a} {b} d room place k n h long all =
@@ -58,7 +74,8 @@ bytes_there {a} {b} d room place k n h long all =
     refl refl tt
 
 -- a reading that gave too few
-pub bytes_missing : {a b : State} (d room : List ℕ) (place k n : ℕ) → Runs a b (Ok (take n room)) (part_read d place (length room))
+pub bytes_missing : {a b : State} (d room : List ℕ) (place k n : ℕ)
+    → Runs a b (Ok (take n room)) (part_read d place (length room))
     → length room ≡ k → n < k → Runs a b (Err Ended) (bytes_read d place k)
 unfolding bytes_at
 bytes_missing {a} {b} d room place k n h long short =
@@ -67,11 +84,13 @@ bytes_missing {a} {b} d room place k n h long short =
     let got : length (part d place (length room)) ≡ min n (length room) = ap length (part_is is) ∙ length-take n room in
     let too_few : leb k (length d - place) ≡ false = not_there d place k (rw (← long) (omega arith)) in
     rw too_few refl)
-    refl refl (record { budget = λ e. absurd cc; memory = λ e. absurd cc; fault = λ e. absurd cc })
+    refl refl (record { budget = λ e. absurd cc; fault = λ e. absurd cc })
 
 -- a reading that was stopped gave none
-pub bytes_stopped : {X : Type 0} {a b : State} (d : List ℕ) (place k : ℕ) (bytes : X → List ℕ) (r : Result X Halt) (why : Halt)
-    → r ≡ Err why → Runs {X = List ℕ} a b (Err why) (part_read d place k) → Runs a b (map_answer bytes r) (bytes_read d place k)
+pub bytes_stopped : {X : Type 0} {a b : State} (d : List ℕ) (place k : ℕ) (bytes : X → List ℕ) (r : Result X Halt)
+    (why : Halt)
+    → r ≡ Err why → Runs {X = List ℕ} a b (Err why) (part_read d place k)
+    → Runs a b (map_answer bytes r) (bytes_read d place k)
 bytes_stopped {a = a} {b = b} d place k bytes r why is h =
     subst (λ s. Runs a b (map_answer bytes s) (bytes_read d place k)) (sym is) (record {
       sound = h.sound;
@@ -87,14 +106,17 @@ bytes_stopped {a = a} {b = b} d place k bytes r why is h =
     })
 
 -- the number of bytes that were read
-pub number_there : {a b : State} (d bs : List ℕ) (order : Endian) (place k v : ℕ) → Runs a b (Ok bs) (bytes_read d place k)
+pub number_there : {a b : State} (d bs : List ℕ) (order : Endian) (place k v : ℕ)
+    → Runs a b (Ok bs) (bytes_read d place k)
     → v ≡ number order bs → Runs a b (Ok v) (number_read d order place k)
 unfolding number_at
 number_there {a} {b} d bs order place k v h is =
-    answered (Ok v) (number_read d order place k) h refl (λ read. ap (map_answer (number order)) read ∙ ap Ok (sym is)) refl refl tt
+    answered (Ok v) (number_read d order place k) h refl
+    (λ read. ap (map_answer (number order)) read ∙ ap Ok (sym is)) refl refl tt
 
 -- a refused reading has no number
-pub number_missing : {a b : State} (d : List ℕ) (order : Endian) (place k : ℕ) (e : Halt) → Runs a b (Err e) (bytes_read d place k)
+pub number_missing : {a b : State} (d : List ℕ) (order : Endian) (place k : ℕ) (e : Halt)
+    → Runs a b (Err e) (bytes_read d place k)
     → Runs a b (Err e) (number_read d order place k)
 unfolding number_at
 number_missing {a} {b} d order place k e h = record {
@@ -119,12 +141,14 @@ pub past-none : (a : State) → state_after a [] ≡ a
 unfolding state_after
 past-none a = refl
 
-both : (o : Option (List Span)) (s t : List Span) → option_map (λ spans. spans ++ t) (option_map (λ spans. spans ++ s) o)
+both : (o : Option (List Span)) (s t : List Span)
+    → option_map (λ spans. spans ++ t) (option_map (λ spans. spans ++ s) o)
     ≡ option_map (λ spans. spans ++ (s ++ t)) o
 both None s t = refl
 both (Some spans) s t = ap Some (append_assoc spans s t)
 
-one_more : (o : Option (List Span)) (x : Span) (s : List Span) → option_map (λ spans. spans ++ s) (option_map (λ spans. spans ++ x ∷ []) o)
+one_more : (o : Option (List Span)) (x : Span) (s : List Span)
+    → option_map (λ spans. spans ++ s) (option_map (λ spans. spans ++ x ∷ []) o)
     ≡ option_map (λ spans. spans ++ x ∷ s) o
 one_more o x s = both o (x ∷ []) s
 
@@ -132,7 +156,8 @@ pub total-append : (s t : List Span) → total (s ++ t) ≡ total s + total t
 total-append [] t = sym (zero-add (total t))
 total-append (x ∷ s) t = ap (λ n. x.len + n) (total-append s t) ∙ sym (add_assoc x.len (total s) (total t))
 
-pub past-recorded : (a : State) (s : List Span) → (state_after a s).recorded ≡ option_map (λ spans. spans ++ s) a.recorded
+pub past-recorded : (a : State) (s : List Span)
+    → (state_after a s).recorded ≡ option_map (λ spans. spans ++ s) a.recorded
 unfolding state_after
 past-recorded a [] = none_more a.recorded where
   none_more : (o : Option (List Span)) → o ≡ option_map (λ spans. spans ++ []) o
@@ -141,27 +166,32 @@ past-recorded a [] = none_more a.recorded where
 past-recorded a (x ∷ s) = past-recorded (step a x) s ∙ one_more a.recorded x s
 
 -- what was missed in some spans' readings was missed in those of others
-pub missed_as : (a m b : State) (marks others : List Span) → ((s : Span) → Misses m b marks s → Misses a b others s) → Missed m b marks
+pub missed_as : (a m b : State) (marks others : List Span) → ((s : Span) → Misses m b marks s → Misses a b others s)
+    → Missed m b marks
     → Missed a b others
 missed_as a m b marks others same h = record { told = by_told b.missed h.told } where
   by_span : (o : Option Span) → IsSomeAnd o (Misses m b marks) → IsSomeAnd o (Misses a b others)
   by_span None none = none
   by_span (Some s) is = same s is
 
-  by_told : (o : Option (Option Span)) → IfSome o (λ x. IsSomeAnd x (Misses m b marks)) → IfSome o (λ x. IsSomeAnd x (Misses a b others))
+  by_told : (o : Option (Option Span)) → IfSome o (λ x. IsSomeAnd x (Misses m b marks))
+      → IfSome o (λ x. IsSomeAnd x (Misses a b others))
   by_told None none = tt
   by_told (Some o) is = by_span o is
 
 -- behind other readings, and before others
-pub missed_behind : (a m b : State) (before marks : List Span) → m.recorded ≡ option_map (λ spans. spans ++ before) a.recorded
+pub missed_behind : (a m b : State) (before marks : List Span)
+    → m.recorded ≡ option_map (λ spans. spans ++ before) a.recorded
     → Missed m b marks → Missed a b (before ++ marks)
 missed_behind a m b before marks past_before h = missed_as a m b marks (before ++ marks) (λ s is.
     let part : List Span = span_at is.mark.start (s.start - is.mark.start) in record {
       made = before ++ is.made;
       mark = is.mark;
       rest = is.rest;
-      recorded = is.recorded ∙ ap (option_map (λ spans. spans ++ (is.made ++ part))) past_before ∙ both a.recorded before (is.made ++ part)
-          ∙ ap (λ (more : List Span). option_map (λ spans. spans ++ more) a.recorded) (sym (append_assoc before is.made part));
+      recorded = is.recorded ∙ ap (option_map (λ spans. spans ++ (is.made ++ part))) past_before
+          ∙ both a.recorded before (is.made ++ part)
+          ∙ ap (λ (more : List Span). option_map (λ spans. spans ++ more) a.recorded)
+          (sym (append_assoc before is.made part));
       all = ap (λ ms. before ++ ms) is.all ∙ sym (append_assoc before is.made (is.mark ∷ is.rest));
       behind = is.behind;
       within = is.within;
@@ -183,18 +213,23 @@ unfolding state_after
 past-held a [] = refl
 past-held a (x ∷ s) = past-held (step a x) s
 
-past_honest : {X : Type 0} {a m : State} {x : X} {r : Reads X} → Runs a m (Ok x) r → a.held.honest ≡ true → m.held ≡ a.held
+past_honest : {X : Type 0} {a m : State} {x : X} {r : Reads X} → Runs a m (Ok x) r → a.held.honest ≡ true
+    → m.held ≡ a.held
 past_honest {X} {a} {m} {x} {r} h honest = ap (λ s. s.held) (h.state honest refl) ∙ past-held a r.marks
 
 -- the spans of the readings before are among those of the whole
-total_first : {X Y : Type 0} (spans : List Span) (r : Result X Halt) (f : X → Reads Y) → total spans ≤ total (go_on spans r f).marks
+total_first : {X Y : Type 0} (spans : List Span) (r : Result X Halt) (f : X → Reads Y)
+    → total spans ≤ total (go_on spans r f).marks
 total_first spans (Ok x) f = omega (arith, total-append spans (f x).marks)
 total_first spans (Err e) f = omega arith
 
-pub missed_past : (a m b : State) (before marks : List Span) → m ≡ state_after a before → Missed m b marks → Missed a b (before ++ marks)
-missed_past a m b before marks is h = missed_behind a m b before marks (ap (λ s. s.recorded) is ∙ past-recorded a before) h
+pub missed_past : (a m b : State) (before marks : List Span) → m ≡ state_after a before → Missed m b marks
+    → Missed a b (before ++ marks)
+missed_past a m b before marks is h =
+    missed_behind a m b before marks (ap (λ s. s.recorded) is ∙ past-recorded a before) h
 
-pub missed_first : {X Y : Type 0} (a b : State) (spans : List Span) (r : Result X Halt) (f : X → Reads Y) → Missed a b spans
+pub missed_first : {X Y : Type 0} (a b : State) (spans : List Span) (r : Result X Halt) (f : X → Reads Y)
+    → Missed a b spans
     → Missed a b (go_on spans r f).marks
 missed_first a b spans (Ok x) f h = missed_before a b spans (f x).marks h
 missed_first a b spans (Err e) f h = h
@@ -235,7 +270,8 @@ runs_then {X} {Y} {a} {m} {b} {x} {y} r f first second =
           ∙ ap (state_after a) (sym (ap (λ q. q.marks) (next honest)));
       fault = λ honest faults. ap (λ h. h.can_fail) (sym (same honest)) ∙ second.fault (honest_then honest) faults;
       misses = λ honest faults. subst (λ (w : Reads Y). Missed a b w.marks) (sym (next honest))
-          (missed_behind a m b r.marks (f x m.held).marks (ap (λ s. s.recorded) (first.state honest refl) ∙ past-recorded a r.marks)
+          (missed_behind a m b r.marks (f x m.held).marks
+          (ap (λ s. s.recorded) (first.state honest refl) ∙ past-recorded a r.marks)
           (second.misses (honest_then honest) faults));
       ended = second.ended;
     }
@@ -250,7 +286,8 @@ runs_refused {X} {Y} {a} {b} {e} r f h = record {
   taken = h.taken;
   within = λ honest. omega (arith, h.within honest, total_first r.marks r.answer f);
   answer = λ honest goes_on. ap (λ v. (go_on r.marks v f).answer) (h.answer honest goes_on);
-  state = λ honest goes_on. h.state honest goes_on ∙ ap (state_after a) (sym (ap (λ v. (go_on r.marks v f).marks) (h.answer honest goes_on)));
+  state = λ honest goes_on. h.state honest goes_on
+      ∙ ap (state_after a) (sym (ap (λ v. (go_on r.marks v f).marks) (h.answer honest goes_on)));
   fault = h.fault;
   misses = λ honest faults. missed_first a b r.marks r.answer f (h.misses honest faults);
   ended = h.ended;

@@ -18,7 +18,8 @@ unfolding state_after
 past-slice d [] = refl
 past-slice d (s ∷ spans) = past-slice d spans
 
-pub front_is : (d room old : List ℕ) (place n : ℕ) → n ≡ min (length old) (length d - place) → room ≡ part d place (length old)
+pub front_is : (d room old : List ℕ) (place n : ℕ) → n ≡ min (length old) (length d - place)
+    → room ≡ part d place (length old)
     ++ drop n old → length room ≡ length old → take n room ≡ part d place (length room)
 front_is d room old place n count copied kept =
     let same : length (part d place (length old)) ≡ n = part_length d place (length old) ∙ sym count in
@@ -26,7 +27,8 @@ front_is d room old place n count copied kept =
     (part d place (length old)) (drop n old) ∙ ap (part d place) (sym kept)
 
 -- a reading that was answered, and for which nothing was taken
-pub given_runs : {X : Type 0} {a b : State} {reads : Reads X} (x : X) → IsSound a → IsSound b → b.frame ≡ a.frame → b.taken ≡ a.taken
+pub given_runs : {X : Type 0} {a b : State} {reads : Reads X} (x : X) → IsSound a → IsSound b → b.frame ≡ a.frame
+    → b.taken ≡ a.taken
     → reads.answer ≡ Ok x → b ≡ state_after a reads.marks → Runs a b (Ok x) reads
 given_runs x sound sound_after same none is passed = record {
   sound = sound;
@@ -42,21 +44,24 @@ given_runs x sound sound_after same none is passed = record {
 }
 
 -- what was copied is what a reading gives
-slice_runs : {reads : Reads (List ℕ)} (d got : List ℕ) → length d < 2 ^ 63 → reads.answer ≡ Ok got → Runs (slice_state d) (slice_state d)
+slice_runs : {reads : Reads (List ℕ)} (d got : List ℕ) → length d < 2 ^ 63 → reads.answer ≡ Ok got
+    → Runs (slice_state d) (slice_state d)
     (Ok got) reads
 slice_runs {reads} d got short is = given_runs got (λ honest. (refl, short)) (λ honest. (refl, short)) refl refl is
     (sym (past-slice d reads.marks))
 
 -- a reading of a slice, from a place that is the one asked for
 pub slice_reads : (d room old : List ℕ) (place from n : ℕ) → length d < 2 ^ 63 → n ≡ min (length old) (length d - from)
-    → room ≡ part d from (length old) ++ drop n old → length room ≡ length old → from ≡ place → Runs (slice_state d) (slice_state d)
+    → room ≡ part d from (length old) ++ drop n old → length room ≡ length old → from ≡ place
+    → Runs (slice_state d) (slice_state d)
     (Ok (take n room)) (part_read d place (length room))
 slice_reads d room old place from n short count copied kept there = slice_runs d (take n room) short
     (ap Ok (ap (λ p. part d p (length room)) (sym there) ∙ sym (front_is d room old from n count copied kept)))
 
 -- what is there of the bytes from a place on, by the slices that the code takes
 pub slice_part : (d : List ℕ) (place first k n : ℕ) → first ≡ min place (length d)
-    → n ≡ min (length (take (length d - first) (drop first d))) k → take n (take (length d - first) (drop first d)) ≡ part d place k
+    → n ≡ min (length (take (length d - first) (drop first d))) k
+    → take n (take (length d - first) (drop first d)) ≡ part d place k
 unfolding part
 slice_part d place first k n first_is n_is =
     let rest : take (length d - first) (drop first d) ≡ drop first d = take_all (length d - first) (drop first d)
@@ -72,22 +77,38 @@ slice_part d place first k n first_is n_is =
     ]
 
 -- the text in it
-pub slice_text : (d found : List ℕ) (t : Text) (place from k m : ℕ) → found ≡ part d from k → m ≡ length (text_front t found)
+pub slice_text : (d found : List ℕ) (t : Text) (place from k m : ℕ) → found ≡ part d from k
+    → m ≡ length (text_front t found)
     → from ≡ place → take m found ≡ text_part d t place k
 unfolding text_part
 slice_text d found t place from k m found_is m_is there = ap (λ j. take j found) m_is ∙ front_take t found
     ∙ ap (text_front t) (found_is ∙ ap (λ p. part d p k) there)
 
 -- how long it is
-pub slice_text_fits : (d found : List ℕ) (t : Text) (place from k m : ℕ) → found ≡ part d from k → m ≡ length (text_front t found)
+pub slice_text_fits : (d found : List ℕ) (t : Text) (place from k m : ℕ) → found ≡ part d from k
+    → m ≡ length (text_front t found)
     → from ≡ place → length (take m found) ≤ k
 slice_text_fits d found t place from k m found_is m_is there =
-    omega (arith, ap length (slice_text d found t place from k m found_is m_is there), text_length d t place k, part_length d place k)
+    omega (
+      arith,
+      ap length
+          (slice_text d found t place from k m found_is m_is there),
+      text_length d t place k,
+      part_length d place k,
+    )
 
-pub slice_text_there : (d found : List ℕ) (t : Text) (place from k m : ℕ) → found ≡ part d from k → m ≡ length (text_front t found)
+pub slice_text_there : (d found : List ℕ) (t : Text) (place from k m : ℕ) → found ≡ part d from k
+    → m ≡ length (text_front t found)
     → from ≡ place → 0 < length (take m found) → place < length d
 slice_text_there d found t place from k m found_is m_is there some =
-    omega (arith, some, ap length (slice_text d found t place from k m found_is m_is there), text_length d t place k, part_length d place k)
+    omega (
+      arith,
+      some,
+      ap length
+          (slice_text d found t place from k m found_is m_is there),
+      text_length d t place k,
+      part_length d place k,
+    )
 
 -- what was copied of a text is the text
 pub copied_is : (d old copied found : List ℕ) (t : Text) (place : ℕ) → found ≡ text_part d t place (length old)
@@ -101,14 +122,17 @@ copied_is d old copied found t place is fits same =
       length-drop (length found) old,
       fits,
     ) in (
-      ap (λ bs. take (length found) (bs ++ drop (length found) old)) same ∙ take-append_seam found (drop (length found) old),
+      ap (λ bs. take (length found) (bs ++ drop (length found) old)) same
+          ∙ take-append_seam found (drop (length found) old),
       is ∙ ap (text_part d t place) (sym kept),
     )
 
 -- the reading of a text of a slice
-pub slice_reads_text : (d old copied found : List ℕ) (t : Text) (place : ℕ) → length d < 2 ^ 63 → found ≡ text_part d t place
+pub slice_reads_text : (d old copied found : List ℕ) (t : Text) (place : ℕ) → length d < 2 ^ 63
+    → found ≡ text_part d t place
     (length old) → length found ≤ length old → copied ≡ found → Runs (slice_state d) (slice_state d)
-    (Ok (take (length found) (copied ++ drop (length found) old))) (text_read d t place (length (copied ++ drop (length found) old)))
+    (Ok (take (length found) (copied ++ drop (length found) old)))
+    (text_read d t place (length (copied ++ drop (length found) old)))
 slice_reads_text d old copied found t place short is fits same =
     let front = copied_is d old copied found t place is fits same in
     slice_runs d (take (length found) (copied ++ drop (length found) old)) short (ap Ok (sym (front.0 ∙ front.1)))

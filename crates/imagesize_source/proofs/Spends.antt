@@ -76,25 +76,30 @@ reading_spends d (TextOf t k) place bs is = omega (
 onward_spends : {X Y : Type 0} (n q : ℕ) (to : Y → Option ℕ) (spans : List Span) (r : Result X Halt) (f : X → Reads Y)
     (next : X → ℕ) → total spans ≤ n - q → ((x : X) → r ≡ Ok x → total spans + (n - next x) ≤ n - q)
     → ((x : X) → r ≡ Ok x → Spends n (next x) to (f x)) → Spends n q to (go_on spans r f)
-onward_spends n q to spans (Ok x) f next few here rest = omega (arith, here x refl, rest x refl, total-append spans (f x).marks)
+onward_spends n q to spans (Ok x) f next few here rest =
+    omega (arith, here x refl, rest x refl, total-append spans (f x).marks)
 onward_spends n q to spans (Err e) f next few here rest = omega arith
 
 -- a layout that goes forward spends the bytes of the input
-pub spends : {X : Type 0} (d : List ℕ) (to : X → Option ℕ) (q : ℕ) (t : Layout X) → Onto to q t → Spends (length d) q to (layout_reads d t)
+pub spends : {X : Type 0} (d : List ℕ) (to : X → Option ℕ) (q : ℕ) (t : Layout X) → Onto to q t
+    → Spends (length d) q to (layout_reads d t)
 spends d to q (done x) h = omega (arith, not_before_left (length d) q (to x) h)
 spends d to q (refuse e) h = omega arith
 spends d to q (field order place k f) h =
-    onward_spends (length d) q to (span_of d place k) (number_at d order place k) (λ v. layout_reads d (f v)) (λ _. place + k)
+    onward_spends (length d) q to (span_of d place k) (number_at d order place k) (λ v. layout_reads d (f v))
+    (λ _. place + k)
     (omega (arith, h.0, total_there d place k)) (λ v _. omega (arith, h.0, total_there d place k))
     (λ v _. spends d to (place + k) (f v) (h.1 v))
 spends d to q (reading r place f) h =
-    onward_spends (length d) q to (read_of d r place).marks (read_of d r place).answer (λ bs. layout_reads d (f bs)) (λ bs. place + passed r bs)
+    onward_spends (length d) q to (read_of d r place).marks (read_of d r place).answer (λ bs. layout_reads d (f bs))
+    (λ bs. place + passed r bs)
     (omega (arith, h.0, reading_left d r place)) (λ bs is. omega (arith, h.0, reading_spends d r place bs is))
     (λ bs _. spends d to (place + passed r bs) (f bs) (h.1 bs))
 
 -- readings, and others that go on from the place where they lead
 pub spends_then : {X Y : Type 0} (n q : ℕ) (next : X → ℕ) (to : Y → Option ℕ) (r : Reads X) (f : X → Reads Y)
-    → Spends n q (λ x. Some (next x)) r → ((x : X) → r.answer ≡ Ok x → Spends n (next x) to (f x)) → Spends n q to (and_then r f)
+    → Spends n q (λ x. Some (next x)) r → ((x : X) → r.answer ≡ Ok x → Spends n (next x) to (f x))
+    → Spends n q to (and_then r f)
 spends_then {X} {Y} n q next to r f first rest = onward_spends n q to r.marks r.answer f next (omega arith)
     (λ x is. let here = ap (left n (λ x. Some (next x))) is in omega arith) rest
 
@@ -111,7 +116,8 @@ verdict_left n to (Err e) r is = let same : r ≡ Err e = cc in ap (left n to) s
 
 -- a chain of records that do spends the bytes from its first place on
 pub chain_spends : {C X : Type 0} (c : Chain C X) (d : List ℕ) (to : X → Option ℕ) → Advances c d
-    → ((t : Along C) → Spends (length d) t.place (said_to to) (next_record c d t)) → Spends (length d) c.first to (chain_at c d)
+    → ((t : Along C) → Spends (length d) t.place (said_to to) (next_record c d t))
+    → Spends (length d) c.first to (chain_at c d)
 chain_spends {C} {X} c d to adv each = chain_induction c d (λ t. Spends (length d) t.place to (chain_from c d t)) adv
     (λ t v place is later.
     let u : Along C = record { held = t.held ++ v ∷ []; place = place } in
@@ -120,17 +126,21 @@ chain_spends {C} {X} c d to adv each = chain_induction c d (λ t. Spends (length
     ap (λ w. total w.marks) next ∙ total-append (next_record c d t).marks (chain_from c d u).marks in
     let same : left (length d) to (chain_from c d t).answer ≡ left (length d) to (chain_from c d u).answer =
     ap (λ w. left (length d) to w.answer) next in
-    let here : left (length d) (said_to to) (next_record c d t).answer ≡ length d - place = ap (left (length d) (said_to to)) is in
+    let here : left (length d) (said_to to) (next_record c d t).answer ≡ length d - place =
+    ap (left (length d) (said_to to)) is in
     omega (arith, each t))
     (λ t r is.
     let last = chain_stop c d t r is in
     let all : total (chain_from c d t).marks ≡ total (next_record c d t).marks = ap (λ w. total w.marks) last in
-    let same : left (length d) to (chain_from c d t).answer ≡ left (length d) to r = ap (λ w. left (length d) to w.answer) last in
+    let same : left (length d) to (chain_from c d t).answer ≡ left (length d) to r =
+    ap (λ w. left (length d) to w.answer) last in
     let here = verdict_left (length d) to (next_record c d t).answer r is in
     omega (arith, each t))
     (start c)
 
 -- by the layouts of its records, which each go forward
 pub chain_onto : {C X : Type 0} (c : Chain C X) (d : List ℕ) (to : X → Option ℕ) → Advances c d
-    → ((held : List C) (place : ℕ) → Onto (said_to to) place (c.said held place)) → Spends (length d) c.first to (chain_at c d)
-chain_onto c d to adv each = chain_spends c d to adv (λ t. spends d (said_to to) t.place (c.said t.held t.place) (each t.held t.place))
+    → ((held : List C) (place : ℕ) → Onto (said_to to) place (c.said held place))
+    → Spends (length d) c.first to (chain_at c d)
+chain_onto c d to adv each =
+    chain_spends c d to adv (λ t. spends d (said_to to) t.place (c.said t.held t.place) (each t.held t.place))

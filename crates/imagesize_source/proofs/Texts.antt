@@ -14,19 +14,24 @@ take-more : {b : ℕ} (n : ℕ) (bs : List ℕ) → take (1 + n + 1) (b ∷ bs) 
 take-more {b} n bs = let same : 1 + n + 1 ≡ suc (n + 1) = omega arith in ap (λ k. take k (b ∷ bs)) same
 
 -- a byte that passes is the last, and one that does not goes before the rest
-pub through-cons : (p : ℕ → Bool) (b : ℕ) (bs : List ℕ) → front_through p (b ∷ bs) ≡ cond (p b) (b ∷ []) (b ∷ front_through p bs)
+pub through-cons : (p : ℕ → Bool) (b : ℕ) (bs : List ℕ)
+    → front_through p (b ∷ bs) ≡ cond (p b) (b ∷ []) (b ∷ front_through p bs)
 through-cons p b bs =
-    let Goal : Bool → Type 0 = λ is. take (cond (not is) (1 + position_or_len p bs) 0 + 1) (b ∷ bs) ≡ cond is (b ∷ []) (b ∷ front_through p bs)
+    let Goal : Bool → Type 0 = λ is. take (cond (not is) (1 + position_or_len p bs) 0 + 1) (b ∷ bs)
+    ≡ cond is (b ∷ []) (b ∷ front_through p bs)
     in
     elim (p b) as Goal [ true ↦ refl | false ↦ take-more (position_or_len p bs) bs ]
 
 -- what follows a byte that passes is not looked at
-through_more : (p : ℕ → Bool) (bs more : List ℕ) → list_any p bs ≡ true → front_through p (bs ++ more) ≡ front_through p bs
+through_more : (p : ℕ → Bool) (bs more : List ℕ) → list_any p bs ≡ true
+    → front_through p (bs ++ more) ≡ front_through p bs
 through_more p [] more some = absurd cc
 through_more p (b ∷ bs) more some =
-    let Goal : Bool → Type 0 = λ is. is || list_any p bs ≡ true → cond is (b ∷ []) (b ∷ front_through p (bs ++ more)) ≡ cond is (b ∷ [])
+    let Goal : Bool → Type 0 = λ is. is || list_any p bs ≡ true
+    → cond is (b ∷ []) (b ∷ front_through p (bs ++ more)) ≡ cond is (b ∷ [])
     (b ∷ front_through p bs) in
-    let cases : Goal (p b) = elim (p b) as Goal [ true ↦ λ _. refl | false ↦ λ h. ap (λ xs. b ∷ xs) (through_more p bs more h) ] in
+    let cases : Goal (p b) =
+    elim (p b) as Goal [ true ↦ λ _. refl | false ↦ λ h. ap (λ xs. b ∷ xs) (through_more p bs more h) ] in
     through-cons p b (bs ++ more) ∙ cases some ∙ sym (through-cons p b bs)
 
 -- where none passes, all are before the end
@@ -34,19 +39,22 @@ through_all : (p : ℕ → Bool) (bs : List ℕ) → list_any p bs ≡ false →
 through_all p [] none = refl
 through_all p (b ∷ bs) none =
     let Goal : Bool → Type 0 = λ is. is || list_any p bs ≡ false → cond is (b ∷ []) (b ∷ front_through p bs) ≡ b ∷ bs in
-    let cases : Goal (p b) = elim (p b) as Goal [ true ↦ λ h. absurd cc | false ↦ λ h. ap (λ xs. b ∷ xs) (through_all p bs h) ] in
+    let cases : Goal (p b) =
+    elim (p b) as Goal [ true ↦ λ h. absurd cc | false ↦ λ h. ap (λ xs. b ∷ xs) (through_all p bs h) ] in
     through-cons p b bs ∙ cases none
 
 -- the byte that passes is among them
 through_any : (p : ℕ → Bool) (bs : List ℕ) → list_any p (front_through p bs) ≡ list_any p bs
 through_any p [] = refl
 through_any p (b ∷ bs) =
-    let Goal : Bool → Type 0 = λ is. p b ≡ is → list_any p (cond is (b ∷ []) (b ∷ front_through p bs)) ≡ is || list_any p bs in
+    let Goal : Bool → Type 0 = λ is. p b ≡ is
+    → list_any p (cond is (b ∷ []) (b ∷ front_through p bs)) ≡ is || list_any p bs in
     let cases : Goal (p b) = elim (p b) as Goal [ true ↦ λ is. rw is refl | false ↦ λ is. rw is (through_any p bs) ] in
     ap (list_any p) (through-cons p b bs) ∙ cases refl
 
 -- a line is no white space and its bytes
-pub line_front : (delimiter : ℕ) (bs : List ℕ) → text_front (Line delimiter) bs ≡ front_through (delimits (Line delimiter)) bs
+pub line_front : (delimiter : ℕ) (bs : List ℕ)
+    → text_front (Line delimiter) bs ≡ front_through (delimits (Line delimiter)) bs
 unfolding text_front
 line_front delimiter bs = refl
 
@@ -54,13 +62,15 @@ line_front delimiter bs = refl
 cut_at : (p : ℕ → Bool) (n : ℕ) (bs : List ℕ) → List ℕ
 cut_at p n bs = take n bs ++ front_through p (drop n bs)
 
-skip-cons : (p : ℕ → Bool) (b : ℕ) (bs : List ℕ) → cut_at p (position_or_len (λ x. not (p x)) (b ∷ bs)) (b ∷ bs) ≡ cond (p b)
+skip-cons : (p : ℕ → Bool) (b : ℕ) (bs : List ℕ)
+    → cut_at p (position_or_len (λ x. not (p x)) (b ∷ bs)) (b ∷ bs) ≡ cond (p b)
     (b ∷ cut_at p (position_or_len (λ x. not (p x)) bs) bs) (b ∷ front_through p bs)
 unfolding cut_at
 skip-cons p b bs =
     let n : ℕ = position_or_len (λ x. not (p x)) bs in
     let one : 1 + n ≡ suc n = omega arith in
-    let Goal : Bool → Type 0 = λ is. p b ≡ is → cut_at p (cond (not (not is)) (1 + n) 0) (b ∷ bs) ≡ cond is (b ∷ cut_at p n bs)
+    let Goal : Bool → Type 0 = λ is. p b ≡ is
+    → cut_at p (cond (not (not is)) (1 + n) 0) (b ∷ bs) ≡ cond is (b ∷ cut_at p n bs)
     (b ∷ front_through p bs) in
     let cases : Goal (p b) = elim (p b) as Goal [
       | true ↦ λ is. ap (λ k. cut_at p k (b ∷ bs)) one
@@ -69,7 +79,8 @@ skip-cons p b bs =
     ] in
     cases refl
 
-any-cons : (p : ℕ → Bool) (b : ℕ) (bs : List ℕ) → list_any p (drop (position_or_len (λ x. not (p x)) (b ∷ bs)) (b ∷ bs)) ≡ cond (p b)
+any-cons : (p : ℕ → Bool) (b : ℕ) (bs : List ℕ)
+    → list_any p (drop (position_or_len (λ x. not (p x)) (b ∷ bs)) (b ∷ bs)) ≡ cond (p b)
     (list_any p (drop (position_or_len (λ x. not (p x)) bs) bs)) (list_any p bs)
 any-cons p b bs =
     let n : ℕ = position_or_len (λ x. not (p x)) bs in
@@ -84,7 +95,8 @@ any-cons p b bs =
     cases refl
 
 -- a byte of white space goes before a word, and any other begins it
-pub word_front : (b : ℕ) (bs : List ℕ) → text_front Word (b ∷ bs) ≡ cond (is_ascii_whitespace b) (b ∷ text_front Word bs)
+pub word_front : (b : ℕ) (bs : List ℕ)
+    → text_front Word (b ∷ bs) ≡ cond (is_ascii_whitespace b) (b ∷ text_front Word bs)
     (b ∷ front_through is_ascii_whitespace bs)
 unfolding text_front cut_at
 word_front b bs = skip-cons is_ascii_whitespace b bs
@@ -107,7 +119,8 @@ word_more : (bs more : List ℕ) → is_ended Word bs ≡ true → text_front Wo
 word_more [] more some = absurd (let no = no_end in cc)
 word_more (b ∷ bs) more some =
     let Goal : Bool → Type 0 = λ is. cond is (is_ended Word bs) (list_any is_ascii_whitespace bs) ≡ true
-    → cond is (b ∷ text_front Word (bs ++ more)) (b ∷ front_through is_ascii_whitespace (bs ++ more)) ≡ cond is (b ∷ text_front Word bs)
+    → cond is (b ∷ text_front Word (bs ++ more)) (b ∷ front_through is_ascii_whitespace (bs ++ more))
+    ≡ cond is (b ∷ text_front Word bs)
     (b ∷ front_through is_ascii_whitespace bs) in
     let cases : Goal (is_ascii_whitespace b) = elim (is_ascii_whitespace b) as Goal [
       | true ↦ λ h. ap (λ xs. b ∷ xs) (word_more bs more h)
@@ -142,7 +155,8 @@ word_any : (bs : List ℕ) → is_ended Word (text_front Word bs) ≡ is_ended W
 word_any [] = ap (is_ended Word) no_front
 word_any (b ∷ bs) =
     let Goal : Bool → Type 0 = λ is. is_ascii_whitespace b ≡ is
-    → is_ended Word (cond is (b ∷ text_front Word bs) (b ∷ front_through is_ascii_whitespace bs)) ≡ cond is (is_ended Word bs)
+    → is_ended Word (cond is (b ∷ text_front Word bs) (b ∷ front_through is_ascii_whitespace bs))
+    ≡ cond is (is_ended Word bs)
     (list_any is_ascii_whitespace bs) in
     let cases : Goal (is_ascii_whitespace b) = elim (is_ascii_whitespace b) as Goal [
       | true ↦ λ is. word_ended b (text_front Word bs) ∙ ap (λ test. cond test (is_ended Word (text_front Word bs))
@@ -176,7 +190,8 @@ front_front t bs some =
     sym (front_more t (text_front t bs) split.0 (front_any t bs ∙ some)) ∙ ap (text_front t) split.1
 
 -- bytes that begin with a text, where it is ended or they are as many, have it too
-pub front_same : (t : Text) (bs cs : List ℕ) → length cs ≡ length bs → take (length (text_front t bs)) cs ≡ text_front t bs
+pub front_same : (t : Text) (bs cs : List ℕ) → length cs ≡ length bs
+    → take (length (text_front t bs)) cs ≡ text_front t bs
     → text_front t cs ≡ text_front t bs
 front_same t bs cs long same = by_end (is_ended t bs) refl where
   by_end : (is : Bool) → is_ended t bs ≡ is → text_front t cs ≡ text_front t bs
@@ -191,25 +206,29 @@ front_same t bs cs long same = by_end (is_ended t bs) refl where
 
 -- it is no longer than they are
 pub front_length : (t : Text) (bs : List ℕ) → length (text_front t bs) ≤ length bs
-front_length t bs = let split = front_first t bs in omega (arith, ap length split.1, length-append (text_front t bs) split.0)
+front_length t bs = let split = front_first t bs in
+    omega (arith, ap length split.1, length-append (text_front t bs) split.0)
 
 -- where a position is found, or none is
 pub found : (p : ℕ → Bool) (bs : List ℕ) (i : ℕ) → position p bs ≡ Some i → (position_or_len p bs ≡ i) × (i < length bs)
 found p bs i is = by_test (leb (suc (position_or_len p bs)) (length bs)) refl is where
-  by_test : (test : Bool) → leb (suc (position_or_len p bs)) (length bs) ≡ test → cond test (Some (position_or_len p bs)) None ≡ Some i
+  by_test : (test : Bool) → leb (suc (position_or_len p bs)) (length bs) ≡ test
+      → cond test (Some (position_or_len p bs)) None ≡ Some i
       → (position_or_len p bs ≡ i) × (i < length bs)
   by_test true below same = let at : position_or_len p bs ≡ i = cc in (at, grind (arith, nat_tests))
   by_test false beyond same = absurd cc
 
 pub not_found : (p : ℕ → Bool) (bs : List ℕ) → position p bs ≡ None → length bs ≤ position_or_len p bs
 not_found p bs is = by_test (leb (suc (position_or_len p bs)) (length bs)) refl is where
-  by_test : (test : Bool) → leb (suc (position_or_len p bs)) (length bs) ≡ test → cond test (Some (position_or_len p bs)) None ≡ None
+  by_test : (test : Bool) → leb (suc (position_or_len p bs)) (length bs) ≡ test
+      → cond test (Some (position_or_len p bs)) None ≡ None
       → length bs ≤ position_or_len p bs
   by_test true below same = absurd cc
   by_test false beyond same = grind (arith, nat_tests)
 
 -- how long a word is, whose first byte stands there
-word_length : (bs : List ℕ) (start : ℕ) → position (λ b. not (is_ascii_whitespace b)) bs ≡ Some start → length (text_front Word bs)
+word_length : (bs : List ℕ) (start : ℕ) → position (λ b. not (is_ascii_whitespace b)) bs ≡ Some start
+    → length (text_front Word bs)
     ≡ start + min (position_or_len is_ascii_whitespace (drop start bs) + 1) (length bs - start)
 unfolding text_front
 word_length bs start begins =
@@ -220,34 +239,56 @@ word_length bs start begins =
     ∙ omega (arith, length-take start bs, length-take n (drop start bs), length-drop start bs, at.1)
 
 -- the length of a word that never begins, of one that never ends, and of one that ends
-pub word_blank : (bs : List ℕ) → position (λ b. not (is_ascii_whitespace b)) bs ≡ None → length bs ≡ length (text_front Word bs)
+pub word_blank : (bs : List ℕ) → position (λ b. not (is_ascii_whitespace b)) bs ≡ None
+    → length bs ≡ length (text_front Word bs)
 unfolding text_front
 word_blank bs blank =
     let n : ℕ = position_or_len (λ b. not (is_ascii_whitespace b)) bs in
     let beyond : length bs ≤ n = not_found (λ b. not (is_ascii_whitespace b)) bs blank in
     let m : ℕ = position_or_len is_ascii_whitespace (drop n bs) + 1 in
-    omega (arith, length-append (take n bs) (take m (drop n bs)), length-take n bs, length-take m (drop n bs), length-drop n bs)
+    omega (
+      arith,
+      length-append (take n bs) (take m (drop n bs)),
+      length-take n bs,
+      length-take m
+          (drop n bs),
+      length-drop n bs,
+    )
 
-pub word_open : (bs : List ℕ) (start : ℕ) → position (λ b. not (is_ascii_whitespace b)) bs ≡ Some start → position is_ascii_whitespace
+pub word_open : (bs : List ℕ) (start : ℕ) → position (λ b. not (is_ascii_whitespace b)) bs ≡ Some start
+    → position is_ascii_whitespace
     (take (length bs - start) (drop start bs)) ≡ None → length bs ≡ length (text_front Word bs)
 word_open bs start begins goes_on =
     let all : take (length bs - start) (drop start bs) ≡ drop start bs = take_all (length bs - start) (drop start bs)
     (omega (arith, length-drop start bs)) in
     let on = not_found is_ascii_whitespace (drop start bs) (sym (ap (position is_ascii_whitespace) all) ∙ goes_on) in
-    omega (arith, word_length bs start begins, length-drop start bs, (found (λ b. not (is_ascii_whitespace b)) bs start begins).1)
+    omega (
+      arith,
+      word_length bs start begins,
+      length-drop start bs,
+      (found (λ b. not (is_ascii_whitespace b)) bs start begins).1,
+    )
 
 pub word_closed : (bs : List ℕ) (start i : ℕ) → position (λ b. not (is_ascii_whitespace b)) bs ≡ Some start
-    → position is_ascii_whitespace (take (length bs - start) (drop start bs)) ≡ Some i → start + i + 1 ≡ length (text_front Word bs)
+    → position is_ascii_whitespace (take (length bs - start) (drop start bs)) ≡ Some i
+    → start + i + 1 ≡ length (text_front Word bs)
 word_closed bs start i begins closes =
     let all : take (length bs - start) (drop start bs) ≡ drop start bs = take_all (length bs - start) (drop start bs)
     (omega (arith, length-drop start bs)) in
     let at = found is_ascii_whitespace (drop start bs) i (sym (ap (position is_ascii_whitespace) all) ∙ closes) in
     let n = at.0 in
-    omega (arith, word_length bs start begins, length-drop start bs, at.1, (found (λ b. not (is_ascii_whitespace b)) bs start begins).1)
+    omega (
+      arith,
+      word_length bs start begins,
+      length-drop start bs,
+      at.1,
+      (found (λ b. not (is_ascii_whitespace b)) bs start begins).1,
+    )
 
 -- the text is as many of the first bytes
 pub front_take : (t : Text) (bs : List ℕ) → take (length (text_front t bs)) bs ≡ text_front t bs
-front_take t bs = let split = front_first t bs in ap (take (length (text_front t bs))) (sym split.1) ∙ take-append_seam (text_front t bs)
+front_take t bs = let split = front_first t bs in ap (take (length (text_front t bs))) (sym split.1)
+    ∙ take-append_seam (text_front t bs)
     split.0
 
 pub ruleset fronts = (line_front, front_length)

@@ -25,7 +25,8 @@ pub record FixedLaws {X : Type 0} (first outside : ℕ) (layout : Layout X) : Ty
 
 -- Of a format of records, `outside` of which so much is read with the type, and at most `each` of a record; `keeps`
 -- says whether bytes that follow leave its answer, and `texts` whether texts are read.
-pub record RecordedLaws {X : Type 0} (first outside each : ℕ) (keeps texts : Bool) (reads : List ℕ → Reads X) (begun : List ℕ → ℕ) : Type 0 where
+pub record RecordedLaws {X : Type 0} (first outside each : ℕ) (keeps texts : Bool) (reads : List ℕ → Reads X)
+    (begun : List ℕ → ℕ) : Type 0 where
   pub local : IsLocal texts reads
   pub cost : (d : List ℕ) → first + total (reads d).marks ≤ outside + each * begun d
   pub within : (d : List ℕ) → first + total (reads d).marks ≤ length d + 28
@@ -43,16 +44,20 @@ Laws first outside each keeps texts (Recorded _ reads begun) = RecordedLaws firs
 Laws first outside each keeps texts (Texts reads) = TextsLaws first keeps texts reads
 
 -- an input that agrees on the marks has the same answer and the same marks
-pub local_way : {X : Type 0} (first outside each : ℕ) (keeps texts : Bool) (way : Way X) → Laws first outside each keeps texts way
+pub local_way : {X : Type 0} (first outside each : ℕ) (keeps texts : Bool) (way : Way X)
+    → Laws first outside each keeps texts way
     → IsLocal texts (by_way way)
-local_way first outside each keeps texts (Fixed layout) laws = local_layout layout (without_texts texts (outside - first) layout laws.few)
+local_way first outside each keeps texts (Fixed layout) laws =
+    local_layout layout (without_texts texts (outside - first) layout laws.few)
 local_way first outside each keeps texts (Recorded _ reads begun) laws = laws.local
 local_way first outside each keeps texts (Texts reads) laws = laws.local
 
 -- with its type, an answer is read from at most these bytes
 pub cost_way : {X : Type 0} (first outside each : ℕ) (keeps texts : Bool) (way : Way X) → first ≤ outside
-    → Laws first outside each keeps texts way → (d : List ℕ) → first + total (by_way way d).marks ≤ most_by outside each way d
-cost_way first outside each keeps texts (Fixed layout) few laws d = omega (arith, at_most d (outside - first) layout laws.few)
+    → Laws first outside each keeps texts way → (d : List ℕ)
+    → first + total (by_way way d).marks ≤ most_by outside each way d
+cost_way first outside each keeps texts (Fixed layout) few laws d =
+    omega (arith, at_most d (outside - first) layout laws.few)
 cost_way first outside each keeps texts (Recorded _ reads begun) few laws d = omega (arith, laws.cost d, laws.within d)
 cost_way first outside each keeps texts (Texts reads) few laws d = laws.within d
 

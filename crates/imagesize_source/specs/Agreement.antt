@@ -1,29 +1,29 @@
--- When one input cannot be told from another by the bytes at some places.
+-- When two inputs differ nowhere in the bytes of some spans.
 use Rattle.std.specs.Prelude.{◌≡◌, ℕ, ◌+◌, Bool, true, false, ◌&&◌, ◌||◌, ◌⊎◌, List, [], ◌∷◌, ◌++◌, length, slice_index, nat_le, nat_lt}
 use Rattle.std.specs.List.{list_any}
 use Rattle.imagesize_source.specs.declared.span.Span.{Span}
 use Rattle.imagesize_source.specs.Reading.{Reads}
 
--- a span has the places from its start on, as many as it is long
+-- whether the span contains the offset
 abbrev pub has_place : Span → ℕ → Bool
 has_place s place = nat_le s.start place && nat_lt place (s.start + s.len)
 
--- some span has the place
+-- whether one of the spans contains the offset
 abbrev pub is_covered : List Span → ℕ → Bool
 is_covered [] place = false
 is_covered (s ∷ spans) place = has_place s place || is_covered spans place
 
--- e is as long as d, and has the byte of d at every place of every span
+-- e has the length of d, and the same byte at each offset of each span
 pub record Agrees (d e : List ℕ) (spans : List Span) : Type 0 where
   pub as_long : length e ≡ length d
   pub same_byte : (place : ℕ) → is_covered spans place ≡ true → slice_index e place ≡ slice_index d place
 
--- some span has the whole of this one
+-- whether one of the spans contains the whole of this one
 abbrev pub has_whole : List Span → Span → Bool
 has_whole spans w = list_any (λ s. nat_le s.start w.start && nat_le (w.start + w.len) (s.start + s.len)) spans
 
--- Where two inputs part: some readings of each have the same spans up to one of each, from one place on, and the inputs
--- differ at a place of both. Where no texts are read, the two are one span.
+-- Where two inputs part. Reads over both have the same spans (`seen`), then a span each from the same offset on. The
+-- inputs differ at an offset of both. If no text is read, these two spans are equal.
 pub record Parting (texts : Bool) (d e : List ℕ) (s t : List Span) : Type 0 where
   pub seen : List Span
   pub mark : Span
@@ -39,11 +39,11 @@ pub record Parting (texts : Bool) (d e : List ℕ) (s t : List Span) : Type 0 wh
   pub also : has_place other place ≡ true
   pub differs : slice_index e place ≡ slice_index d place → ⊥
 
--- the same answer with the same marks, or the inputs part
+-- the same result with the same spans, or the two inputs part
 abbrev pub Alike : {X : Type 0} → Bool → List ℕ → List ℕ → Reads X → Reads X → Type 0
 Alike texts d e p q = (q ≡ p) ⊎ Parting texts d e p.marks q.marks
 
--- Readings, with texts or without, see an input by their marks alone, one behind another: of two inputs as long they have
--- the same answer and marks, or these part.
+-- Reads depend on the bytes in their spans alone. Over two inputs of one length, they have the same result and spans,
+-- or the inputs part. `texts` says whether they read texts.
 abbrev pub IsLocal : {X : Type 0} → Bool → (List ℕ → Reads X) → Type 0
 IsLocal texts r = (d e : List ℕ) → length e ≡ length d → Alike texts d e (r d) (r e)

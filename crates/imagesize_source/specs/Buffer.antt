@@ -1,7 +1,7 @@
--- What a buffer has of the spans that were put into it.
-use Rattle.std.specs.Prelude.{◌≡◌, ℕ, List, length, take}
+-- What a buffer has of the spans that were written to it.
+use Rattle.std.specs.Prelude.{◌≡◌, List, length, take}
 use Rattle.imagesize_source.specs.declared.span.Span.{Span}
 
--- what it shows of so many spans are the first of these, as many as it has places for of so many
-abbrev pub Holds : (ℕ → List Span) → (ℕ → ℕ) → List Span → Type 0
-Holds shown places spans = shown (length spans) ≡ take (places (length spans)) spans
+-- the buffer begins with the first spans in order, as many as fit
+abbrev pub Holds : List Span → List Span → Type 0
+Holds buffer spans = take (length spans) buffer ≡ take (length buffer) spans

@@ -1,4 +1,4 @@
--- Chains: records, each of which holds something and tells the place of the next.
+-- Sequences of records: each record holds a value and gives the offset of the next.
 use Rattle.std.specs.Prelude.{◌≡◌, ℕ, zero, suc, ◌+◌, ◌<◌, List, [], ◌∷◌, ◌++◌, length, Option, None, Some, Result, Ok, Err, is_some, unwrap_or, option_and_then, flat_map}
 use Rattle.std.specs.List.{position_or_len, range_with_len}
 use Rattle.std.specs.Option.{option_map_or}
@@ -8,17 +8,18 @@ use Rattle.imagesize_source.specs.declared.span.Span.{Span}
 use Rattle.imagesize_source.specs.Layout.{Layout, layout_reads}
 use Rattle.imagesize_source.specs.Reading.{Reads}
 
--- what a record says: the chain's answer, or what the record holds and the place of the next
+-- what a record says: the result of the sequence, or what the record holds and the offset of the next
 pub data Said (C X : Type 0) : Type 0 where
   Decided : X → Said C X
   Next : C → ℕ → Said C X
 
--- the place of the first record, and the layout of a record behind those that hold these, at its place
+-- The offset of the first record, and the layout of each record. That layout depends on what the records before it
+-- hold, and on its offset.
 pub record Chain (C X : Type 0) : Type 0 where
   pub first : ℕ
   pub said : List C → ℕ → Layout (Said C X)
 
--- how far along a chain: what the records so far hold, and the place of the next
+-- a position in the sequence: what the records before it hold, and the offset of the next record
 pub record Along (C : Type 0) : Type 0 where
   pub held : List C
   pub place : ℕ
@@ -26,23 +27,23 @@ pub record Along (C : Type 0) : Type 0 where
 abbrev pub start : {C X : Type 0} → Chain C X → Along C
 start c = record { held = []; place = c.first }
 
--- the record that is next
+-- what the next record says, with the spans of its reads
 abbrev pub next_record : {C X : Type 0} → Chain C X → List ℕ → Along C → Reads (Said C X)
 next_record c d t = layout_reads d (c.said t.held t.place)
 
--- how far along a record leads; nowhere where it decides or is refused
+-- the position after a record, or `None` if the record decides or is rejected
 abbrev pub leads : {C X : Type 0} → List C → Result (Said C X) Halt → Option (Along C)
 leads held (Ok (Decided x)) = None
 leads held (Ok (Next v place)) = Some (record { held = held ++ v ∷ []; place = place })
 leads held (Err e) = None
 
--- the verdict of a record: what it decides, or its refusal
+-- the verdict of a record: its result, or the `Halt` that rejects it
 abbrev pub verdict : {C X : Type 0} → Result (Said C X) Halt → Option (Result X Halt)
 verdict (Ok (Decided x)) = Some (Ok x)
 verdict (Ok (Next v place)) = None
 verdict (Err e) = Some (Err e)
 
--- how far along record i is, counted from some records on; it is nowhere behind a verdict
+-- the position of record i, counted from position t; `None` after a verdict
 abbrev pub trail : {C X : Type 0} → Chain C X → List ℕ → Along C → ℕ → Option (Along C)
 trail c d t zero = Some t
 trail c d t (suc i) = option_and_then (λ u. leads u.held (next_record c d u).answer) (trail c d t i)
@@ -51,11 +52,11 @@ trail c d t (suc i) = option_and_then (λ u. leads u.held (next_record c d u).an
 abbrev pub verdict_of : {C X : Type 0} → Chain C X → List ℕ → Along C → ℕ → Option (Result X Halt)
 verdict_of c d t i = option_and_then (λ u. verdict (next_record c d u).answer) (trail c d t i)
 
--- the marks of record i
+-- the spans that record i reads
 abbrev pub marks_of : {C X : Type 0} → Chain C X → List ℕ → Along C → ℕ → List Span
 marks_of c d t i = option_map_or (λ u. (next_record c d u).marks) (trail c d t i) []
 
--- the deciding record: the least that has a verdict
+-- the deciding record: the first that has a verdict
 unfoldable pub deciding_record : {C X : Type 0} → Chain C X → List ℕ → Along C → ℕ
 deciding_record c d t = position_or_len (λ i. is_some (verdict_of c d t i)) (range_with_len 0 (length d + 1))
 
@@ -63,7 +64,7 @@ deciding_record c d t = position_or_len (λ i. is_some (verdict_of c d t i)) (ra
 abbrev pub records_from : {C X : Type 0} → Chain C X → List ℕ → Along C → ℕ
 records_from c d t = deciding_record c d t + 1
 
--- the verdict of the deciding record, with the marks of the records up to it
+-- the verdict of the deciding record, with the spans of all records up to it
 unfoldable pub chain_from : {C X : Type 0} → Chain C X → List ℕ → Along C → Reads X
 chain_from c d t = record {
   answer = unwrap_or (verdict_of c d t (deciding_record c d t)) (Err Ended);
@@ -73,7 +74,7 @@ chain_from c d t = record {
 abbrev pub records : {C X : Type 0} → Chain C X → List ℕ → ℕ
 records c d = records_from c d (start c)
 
--- how many of them an answer leads to: behind a refusal none is begun
+-- the number that a result leads to, or 0 for an error: no record is begun after one
 abbrev pub count_behind : {X : Type 0} → Result X Halt → (X → ℕ) → ℕ
 count_behind (Ok x) count = count x
 count_behind (Err e) count = 0
@@ -81,7 +82,7 @@ count_behind (Err e) count = 0
 abbrev pub chain_at : {C X : Type 0} → Chain C X → List ℕ → Reads X
 chain_at c d = chain_from c d (start c)
 
--- each next place is greater than the record's own, and a record beyond the end of the input has a verdict
+-- each record's next offset is greater than its own, and each record past the end of the input has a verdict
 abbrev pub Advances : {C X : Type 0} → Chain C X → List ℕ → Type 0
 Advances {C} c d = (t : Along C) (v : C) (place : ℕ) → (next_record c d t).answer ≡ Ok (Next v place)
     → (t.place < place) × (t.place < length d)

@@ -1,4 +1,4 @@
--- How many bytes are read, and how many places are seen.
+-- How many bytes are read, and how many offsets the reads cover.
 use Rattle.std.specs.Prelude.{ℕ, ◌+◌, ◌-◌, ◌≤◌, List, count_by}
 use Rattle.std.specs.List.{range_with_len}
 use Rattle.imagesize_source.specs.declared.span.Span.{Span}
@@ -6,31 +6,31 @@ use Rattle.imagesize_source.specs.Agreement.{is_covered}
 use Rattle.imagesize_source.specs.Layout.{Layout, done, refuse, field, reading}
 use Rattle.imagesize_source.specs.Reading.{Reading, AllOf, PartOf, TextOf, most}
 
--- how many of the first n places the spans have, each counted once
+-- how many of the first n offsets the spans cover, each counted once
 abbrev pub places : ℕ → List Span → ℕ
 places n spans = count_by (is_covered spans) (range_with_len 0 n)
 
--- what is owed of a reading that is not of a text
+-- P for a reading of bytes; false for a reading of a text
 abbrev pub IfBytes : Reading → Type 0 → Type 0
 IfBytes (AllOf k) P = P
 IfBytes (PartOf k) P = P
 IfBytes (TextOf t k) P = ⊥
 
--- the layout asks for at most k bytes in all and for no text, whatever its readings answer
+-- the layout requests at most k bytes in all and no text, whatever its readings return
 abbrev pub AtMost : {X : Type 0} → ℕ → Layout X → Type 0
 AtMost k (done x) = Unit {0}
 AtMost k (refuse e) = Unit {0}
 AtMost k (field order place n f) = (n ≤ k) × ((v : ℕ) → AtMost (k - n) (f v))
 AtMost k (reading r place f) = IfBytes r ((most r ≤ k) × ((bs : List ℕ) → AtMost (k - most r) (f bs)))
 
--- what is owed of a reading that may be refused, where it is and where it is answered
+-- P must hold if the reading fails, and Q if it succeeds; false for a text
 abbrev pub IfRefused : Reading → Type 0 → Type 0 → Type 0
 IfRefused (AllOf k) P Q = P × Q
 IfRefused (PartOf k) P Q = Q
 IfRefused (TextOf t k) P Q = ⊥
 
--- By its answer: behind u bytes, the layout asks for at most f x bytes in all where it answers x, and at most e
--- where it is refused; and it asks for no text.
+-- After u bytes, the layout requests at most f x bytes in all if it returns x, and at most e for an error. It
+-- requests no text.
 abbrev pub CostsBy : {X : Type 0} → (X → ℕ) → ℕ → ℕ → Layout X → Type 0
 CostsBy f e u (done x) = u ≤ f x
 CostsBy f e u (refuse r) = u ≤ e

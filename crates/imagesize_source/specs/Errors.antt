@@ -1,14 +1,14 @@
--- The errors of a call, and which of them end it whatever a layout says.
+-- The errors of a call, and those that end a call whatever the layout says.
 use Rattle.std.specs.Prelude.{ℕ, Bool, true, false, ◌||◌, Result, Ok, Err, Option, None, Some}
 use Rattle.imagesize_source.specs.declared.error.ImageError.{ImageError}
 use Rattle.imagesize_source.specs.declared.error.ImageError.TheVariants.{NotSupported, CorruptedImage, IoError}
 use Rattle.imagesize_source.specs.declared.error.Reason.TheVariants.{EndOfInput, Fault, BudgetSpent, Memory}
 
--- the end of the input
+-- the error if the input ends before bytes that the format needs
 abbrev pub end_of_input : ImageError
 end_of_input = IoError EndOfInput
 
--- a call of the reader that failed, a spent budget, refused memory
+-- the errors that end a call: a failed call of the reader, a spent budget, a failed allocation
 abbrev pub is_fault : ImageError → Bool
 is_fault NotSupported = false
 is_fault CorruptedImage = false
@@ -27,7 +27,7 @@ is_memory CorruptedImage = false
 is_memory (IoError Memory) = true
 is_memory (IoError _) = false
 
--- the budget that was spent
+-- the budget in bytes, if it was spent
 abbrev pub budget_spent : ImageError → Option ℕ
 budget_spent NotSupported = None
 budget_spent CorruptedImage = None
@@ -37,7 +37,7 @@ budget_spent (IoError _) = None
 abbrev pub is_stop : ImageError → Bool
 is_stop e = is_fault e || is_spent e || is_memory e
 
--- a result that ends a call at once, and one by a call of the reader that failed
+-- whether a result ends the call at once, and whether a failed call of the reader caused it
 abbrev pub is_stopped : {X : Type 0} → Result X ImageError → Bool
 is_stopped (Ok _) = false
 is_stopped (Err e) = is_stop e

@@ -1,4 +1,4 @@
--- What halts a reading, and the error that this ends a call with.
+-- Why a read returns early, and the error that the call then returns.
 use Rattle.std.specs.Prelude.{ℕ, Result, Ok, Err}
 use Rattle.std.specs.Int.{w32, to_be_bytes}
 use Rattle.imagesize_source.specs.declared.error.ImageError.{ImageError}
@@ -8,11 +8,11 @@ use Rattle.imagesize_source.specs.declared.halt.Halt.{Halt}
 use Rattle.imagesize_source.specs.declared.halt.Halt.TheVariants as halt
 use Rattle.imagesize_source.specs.Errors.{end_of_input}
 
--- the error that a halt ends a call with, where this is the error of a call that failed and this the budget
+-- The error that a call returns for a `Halt`. `failure` is the error of a failed call of the reader, and `budget` is
+-- in bytes.
 abbrev pub error_by : ImageError → ℕ → Halt → ImageError
 error_by failure budget halt.Failed = failure
 error_by failure budget halt.Spent = IoError (reason.BudgetSpent budget)
-error_by failure budget halt.Memory = IoError reason.Memory
 error_by failure budget halt.Ended = end_of_input
 error_by failure budget halt.Corrupted = CorruptedImage
 error_by failure budget halt.NotSupported = NotSupported
@@ -37,11 +37,11 @@ error_by failure budget halt.InvalidHdrDimensionsLine = IoError reason.InvalidHd
 error_by failure budget halt.HdrDimensionsNotFound = IoError reason.HdrDimensionsNotFound
 error_by failure budget halt.PnmDimensionsNotFound = IoError reason.PnmDimensionsNotFound
 
--- the error of a refusal that a layout states, which is none of the stops
+-- the error of a `Halt` that a layout states; it is never a failed call or a spent budget
 abbrev pub error_of : Halt → ImageError
 error_of = error_by end_of_input 0
 
--- a result, with the error of its halt
+-- a result, with the error of its `Halt`
 abbrev pub with_error : {X : Type 0} → ImageError → ℕ → Result X Halt → Result X ImageError
 with_error failure budget (Ok x) = Ok x
 with_error failure budget (Err why) = Err (error_by failure budget why)

@@ -1,4 +1,4 @@
--- The parts of an input that are known.
+-- The known parts of an input.
 use Rattle.std.specs.Prelude.{◌≡◌, ℕ, ◌+◌, ◌-◌, ◌^◌, ◌<◌, ◌≤◌, min, Bool, true, false, ◌&&◌, List, [], ◌∷◌, length, drop, map, slice_index, nat_le, nat_lt, if◌then◌else◌, Option, None, Some, is_some, option_map}
 use Rattle.std.specs.Prelude.{unwrap_or, flat_map}
 use Rattle.std.specs.List.{range_with_len}
@@ -7,54 +7,56 @@ use Rattle.imagesize_source.specs.declared.span.Span.{Span}
 use Rattle.imagesize_source.specs.Agreement.{is_covered}
 use Rattle.imagesize_source.specs.Errors.{end_of_input}
 use Rattle.imagesize_source.specs.Input.{part}
-use Rattle.imagesize_source.specs.State.{State}
+use Rattle.imagesize_source.specs.State.{State, Parts}
 
--- how many bytes of a span an input of n bytes has
+-- how many bytes of a span lie within an input of n bytes
 abbrev pub length_within : ℕ → Span → ℕ
 length_within n s = min s.len (n - s.start)
 
--- the span has the place, in an input of n bytes
+-- whether the span contains the offset, in an input of n bytes
 abbrev pub reaches : ℕ → Span → ℕ → Bool
 reaches n s place = nat_le s.start place && nat_lt (place - s.start) (length_within n s)
 
 abbrev pub byte_of : List ℕ → ℕ → Option ℕ
 byte_of bytes i = if nat_lt i (length bytes) then Some (slice_index bytes i) else None
 
--- the byte at a place that parts have, whose bytes stand one behind another: that of the first that has the place
+-- The byte at an offset, from the first part that contains it. `bytes` are those of the parts, one part after
+-- another.
 abbrev pub byte_in_parts : ℕ → List Span → List ℕ → ℕ → Option ℕ
 byte_in_parts n [] bytes place = None
 byte_in_parts n (s ∷ spans) bytes place =
     if reaches n s place then byte_of bytes (place - s.start) else byte_in_parts n spans (drop (length_within n s) bytes) place
 
--- an input that has these parts, and 0 at every other place
+-- an input that has the known bytes, and 0 at every other offset
 unfoldable pub filled_input : ℕ → List Span → List ℕ → List ℕ
 filled_input n spans bytes = map (λ place. unwrap_or (byte_in_parts n spans bytes place) 0) (range_with_len 0 n)
 
--- the bytes of an input in these spans, span behind span
+-- the bytes of an input in these spans, one span after another
 abbrev pub bytes_of : List ℕ → List Span → List ℕ
 bytes_of d spans = flat_map (λ s. part d s.start s.len) spans
 
--- The input has n bytes, and these in the spans, one behind another. What of a span lies behind its end has none.
+-- The input has n bytes, and `content` is its bytes in the spans. A part of a span past the end of the input has no
+-- bytes.
 pub record HasParts (d : List ℕ) (n : ℕ) (spans : List Span) (content : List ℕ) : Type 0 where
   pub as_long : length d ≡ n
   pub bytes : bytes_of d spans ≡ content
 
--- the parts have each place of these spans
+-- each offset of the seen spans is known
 abbrev pub AllKnown : ℕ → List Span → List ℕ → List Span → Type 0
 AllKnown n spans bytes seen = (place : ℕ) → is_covered seen place ≡ true → is_some (byte_in_parts n spans bytes place) ≡ true
 
--- what is missed lies within the input, and its first byte is not known
+-- the missing bytes lie within the input, and the first of them is not known
 abbrev pub Lacks : ℕ → List Span → List ℕ → Missing → Type 0
 Lacks n spans bytes m = (0 < m.sure) × (m.sure ≤ m.most) × (m.start + m.most ≤ n) × (is_some (byte_in_parts n spans bytes m.start) ≡ false)
 
--- what is surely read of it
+-- the missing bytes that are certain to be read
 abbrev pub sure_of : Missing → Span
 sure_of m = record { start = m.start; len = m.sure }
 
--- the known parts as a source: it counts nothing, and what it misses is a failure
+-- The known parts as a source. It counts no bytes, and a read of a missing byte fails.
 abbrev pub parts_state : ℕ → List Span → List ℕ → List Span → Option Missing → State
 parts_state n spans bytes seen missed = record {
-  frame = record { told = n; budget = 0; counts = false; records = false; home = 0; since = None; behind = None; parts = Some (spans, bytes) };
+  frame = record { told = n; budget = 0; counts = false; backing = Parts spans bytes };
   held = record { honest = nat_lt n (2 ^ 63); input = filled_input n spans bytes; can_fail = true };
   front = 0;
   taken = 0;

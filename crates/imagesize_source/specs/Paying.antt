@@ -4,16 +4,16 @@ use Rattle.imagesize_source.specs.Chain.{Said, Decided, Next}
 use Rattle.imagesize_source.specs.Limits.{most_held}
 use Rattle.imagesize_source.specs.State.{State}
 
--- What was read at a place above the told length and above the bytes held was paid for, within the budget.
+-- A read past the reported length and past the held bytes counts against the budget, and stays within it.
 abbrev pub Paid : State → State → ℕ → Type 0
 Paid a b place = max a.frame.told most_held < place → (a.taken < b.taken) × (b.taken ≤ a.frame.budget)
 
--- what a walk has before it at a place: the places up to the told length and the bytes held, and the bytes
--- that the budget still pays for
+-- How far a walk can still go: the offsets up to the reported length or the end of the held bytes, and the rest of
+-- the budget.
 abbrev pub ahead_of : State → ℕ → ℕ
 ahead_of a place = (max a.frame.told most_held + 1 - place) + (a.frame.budget - a.taken)
 
--- a record that tells the place of the next leads on, and nearer to the end of the walk
+-- a record that gives the offset of the next one leads on, and brings the walk nearer to its end
 abbrev pub Nears : {C X : Type 0} → State → State → ℕ → Said C X → Type 0
 Nears a b place (Decided x) = Unit {0}
 Nears a b place (Next v next) = (place < next) × (ahead_of b next < ahead_of a place)

@@ -1,23 +1,23 @@
--- What a refusal prints.
+-- The texts of errors.
 use Rattle.std.specs.Prelude.{ℕ, List, ◌++◌, Bool, ◌&&◌, nat_le, if◌then◌else◌, map, Option, None, Some, codes, decimal}
 use Rattle.imagesize_source.specs.declared.error.ImageError.{ImageError}
 use Rattle.imagesize_source.specs.declared.error.ImageError.TheVariants.{NotSupported, CorruptedImage, IoError}
 use Rattle.imagesize_source.specs.declared.error.Reason.{Reason}
 use Rattle.imagesize_source.specs.declared.error.Reason.TheVariants.{Fault, EndOfInput, NotEnoughData, BudgetSpent, Memory, NoDelimiter, NotUtf8, InvalidHeifBoxSize, InvalidJxlBoxSize, InvalidJxlSignature, InvalidTiffHeader, BigTiffOffsetSize, InvalidBigTiffHeader, InvalidIfdOffset, IfdTypeForStandardTiff, InvalidIfdType, InvalidIfdValueLength, NoDimensionsInIfd, InvalidVp8Tag, DataWindowNotFound, InvalidHdrIdentifier, InvalidHdrDimensionsLine, HdrDimensionsNotFound, PnmDimensionsNotFound}
 
--- the byte is an ASCII character that can be seen, or a space
+-- whether the byte is a visible ASCII character or a space
 abbrev pub is_printable : ℕ → Bool
 is_printable byte = nat_le 0x20 byte && nat_le byte 0x7E
 
--- what is shown for a byte of a tag: itself, or `?`
+-- the character shown for a byte of a tag: the byte itself, or `?`
 abbrev pub shown_byte : ℕ → ℕ
 shown_byte byte = if is_printable byte then byte else 63
 
--- what is shown for a tag
+-- the text shown for a tag
 abbrev pub tag_text : List ℕ → List ℕ
 tag_text tag = map shown_byte tag
 
--- the text of a reason; that of a fault is its error's, of which nothing is stated
+-- the text of a reason; the text of a fault is its own error's, which no contract states
 abbrev pub reason_text : Reason → Option (List ℕ)
 reason_text (Fault error) = None
 reason_text EndOfInput = Some (codes "failed to fill whole buffer")
@@ -44,7 +44,7 @@ reason_text InvalidHdrDimensionsLine = Some (codes "Invalid HDR dimensions line"
 reason_text HdrDimensionsNotFound = Some (codes "HDR dimensions not found")
 reason_text PnmDimensionsNotFound = Some (codes "PNM dimensions not found")
 
--- the text of a refusal
+-- the text of an error
 abbrev pub error_text : ImageError → Option (List ℕ)
 error_text NotSupported = Some (codes "Could not decode image")
 error_text CorruptedImage = Some (codes "Hit end of file before finding size")

@@ -1,4 +1,4 @@
--- What stands behind a source of bytes, and what readings do to it.
+-- The state of a source of bytes, and how reads change it.
 use Rattle.std.specs.Prelude.{◌≡◌, ℕ, ◌+◌, ◌-◌, ◌^◌, ◌<◌, ◌≤◌, min, max, Bool, true, false, List, [], ◌∷◌, ◌++◌, length, nat_le, if◌then◌else◌, Option, None, Some, Result, IfErr, IfSome, IsSomeAnd, option_map}
 use Rattle.imagesize_source.specs.Input.{span_at}
 use Rattle.imagesize_source.specs.Limits.{most_held}
@@ -7,37 +7,62 @@ use Rattle.imagesize_source.specs.declared.halt.Halt.{Halt}
 use Rattle.imagesize_source.specs.declared.span.Span.{Span}
 use Rattle.imagesize_source.specs.Errors.{end_of_input, is_fault}
 use Rattle.imagesize_source.specs.Layout.{Layout, layout_reads}
-use Rattle.imagesize_source.specs.Reading.{Reads, is_stopped, is_failure, is_faulted, is_memory, is_spent}
+use Rattle.imagesize_source.specs.Reading.{Reads, is_stopped, is_failure, is_faulted, is_spent}
 
--- What never changes of a reader behind a source: its bytes, whether a call of it can fail, and how many interruptions
--- of it come in all, where that is known.
+-- What never changes about a reader: its bytes, whether a call may fail, and how many interruptions it has in all, if
+-- that is known.
 pub record Behind : Type 0 where
   pub bytes : List ℕ
   pub can_fail : Bool
   pub interruptions : Option ℕ
 
--- What never changes: the told length and the budget, whether bytes taken are counted and memory is taken for spans,
--- the name of the borrow behind the source, by how much what the reader itself counts is above what was taken,
--- and below it, what else never changes of a reader that tells it, and the parts that are known, of a source of parts.
+-- What a source reads from; it never changes. `Slice` is a slice, and `Recorded` a slice with the name of the borrow
+-- of its span buffer. `Parts` are the known parts of an input and their bytes. `Reader` has the name of a reader's
+-- borrow, how its own count differs from `taken`, and its model. The difference is two numbers: how much the count is
+-- above `taken`, and how much below.
+pub data Backing : Type 0 where
+  Slice : Backing
+  Recorded : ℕ → Backing
+  Parts : List Span → List ℕ → Backing
+  Reader : ℕ → Option (ℕ × ℕ) → Option Behind → Backing
+
+-- the known parts, if the source has parts
+abbrev pub parts_of : Backing → Option (List Span × List ℕ)
+parts_of (Parts spans bytes) = Some (spans, bytes)
+parts_of _ = None
+
+-- the name of the borrow of its span buffer
+abbrev pub home_of : Backing → ℕ
+home_of (Recorded home) = home
+home_of _ = 0
+
+-- how the count of its reader differs from `taken`
+abbrev pub since_of : Backing → Option (ℕ × ℕ)
+since_of (Reader home since behind) = since
+since_of _ = None
+
+-- the model of its reader
+abbrev pub model_of : Backing → Option Behind
+model_of (Reader home since behind) = behind
+model_of _ = None
+
+-- What never changes about a source: the reported length, the budget, whether the bytes read are counted, and what it
+-- reads from.
 pub record Frame : Type 0 where
   pub told : ℕ
   pub budget : ℕ
   pub counts : Bool
-  pub records : Bool
-  pub home : ℕ
-  pub since : Option (ℕ × ℕ)
-  pub behind : Option Behind
-  pub parts : Option (List Span × List ℕ)
+  pub backing : Backing
 
--- The bytes that the source claims to read, while it is honest, and whether a call on it can fail.
+-- The bytes that the source claims to read, as long as it is honest, and whether a call on it may fail.
 pub record Held : Type 0 where
   pub honest : Bool
   pub input : List ℕ
   pub can_fail : Bool
 
--- A source as a whole: how many of its first bytes it holds, how many bytes it has taken, the spans that it
--- has recorded, the error that a call of it that fails ends with, and, of a source that tells it, what its last failed
--- reading missed and the error of its last failure.
+-- The state of a source. `front` is how many of its first bytes it holds, `taken` how many bytes it has read, and
+-- `recorded` the spans that it has recorded. `failure` is the error that a failed call returns. A source that reports
+-- it also has what its last failed read missed, and the error of its last failure.
 pub record State : Type 0 where
   pub frame : Frame
   pub held : Held
@@ -48,15 +73,15 @@ pub record State : Type 0 where
   pub failure : ImageError
   pub failed : Option (Option ImageError)
 
--- how many of n bytes from a place on lie behind the first `front`
+-- how many of n bytes from an offset on lie after the first `front` bytes
 abbrev pub new_bytes : ℕ → ℕ → ℕ → ℕ
 new_bytes front place n = (place + n) - max place front
 
--- how many of its first bytes a source holds after such a reading: those that join on, as many as the window has
+-- how many of its first bytes a source holds after such a read: a read that joins on adds to them, up to `most_held`
 abbrev pub front_after : ℕ → ℕ → ℕ → ℕ
 front_after front place n = if nat_le place front then max front (min most_held (place + n)) else front
 
--- the state after the reading of a span
+-- the state after the read of a span
 abbrev pub step : State → Span → State
 step a s = record a {
   front = if a.frame.counts then front_after a.front s.start s.len else a.front;
@@ -64,29 +89,28 @@ step a s = record a {
   recorded = option_map (λ spans. spans ++ s ∷ []) a.recorded;
 }
 
--- the state after the readings of these spans
+-- the state after the reads of these spans
 unfoldable pub state_after : State → List Span → State
 state_after a [] = a
 state_after a (s ∷ spans) = state_after (step a s) spans
 
--- how many bytes the spans have together, repeats counted
+-- the sum of the spans' lengths, with repeats
 abbrev pub total : List Span → ℕ
 total [] = 0
 total (s ∷ spans) = s.len + total spans
 
--- an honest source tells the true length, which is below 2^63
+-- an honest source reports its true length, which is below 2^63
 abbrev pub IsSound : State → Type 0
 IsSound a = a.held.honest ≡ true → (a.frame.told ≡ length a.held.input) × (length a.held.input < 2 ^ 63)
 
--- A spent budget comes only of a source that counts, and is the bytes taken; refused memory only of one that takes it for
--- spans, and over an input that has a byte. Of a source that tells its failures, a failure is the last one, and a fault.
+-- Only a source that counts has a spent budget, and it has read as many bytes as the budget. If the source reports its
+-- failures, a failure is the last one, and a fault.
 pub record EndedBy (b : State) (halt : Halt) : Type 0 where
   pub budget : is_spent halt ≡ true → (b.frame.counts ≡ true) × (b.frame.budget ≡ b.taken)
-  pub memory : is_memory halt ≡ true → (b.frame.records ≡ true) × (0 < length b.held.input)
   pub fault : is_failure halt ≡ true → IfSome b.failed (λ failed. (failed ≡ Some b.failure) × (is_fault b.failure ≡ true))
 
--- A failed call made the first of these spans' readings, saw the next one's bytes up to what it missed, which lies whole
--- in that span.
+-- A failed call made the first of these reads. It saw the bytes of the next one up to those that it missed, which lie
+-- within that read's span.
 pub record Misses (a b : State) (marks : List Span) (missed : Span) : Type 0 where
   pub made : List Span
   pub mark : Span
@@ -96,13 +120,13 @@ pub record Misses (a b : State) (marks : List Span) (missed : Span) : Type 0 whe
   pub behind : mark.start ≤ missed.start
   pub within : missed.start + missed.len ≤ mark.start + mark.len
 
--- where the source tells what it missed
+-- what the last failed read missed, if the source reports it
 pub record Missed (a b : State) (marks : List Span) : Type 0 where
   pub told : IfSome b.missed (λ m. IsSomeAnd m (Misses a b marks))
 
--- A call led from one state to another and gave this answer, as these readings say. Where the source is
--- honest, it has taken no more than the readings' spans; where nothing stopped it, the answer is theirs, and
--- the state the one past their spans; a failure comes only from a source that can fail.
+-- A call changed the state from a to b and returned this result, as these reads say. An honest source has read no
+-- more than the spans of the reads. If nothing stopped it, the result is that of the reads, and the state is the one
+-- after their spans. Only a source that can fail has a failure.
 pub record Runs {X : Type 0} (a b : State) (r : Result X Halt) (reads : Reads X) : Type 0 where
   pub sound : IsSound a
   pub sound_after : IsSound b
@@ -115,14 +139,14 @@ pub record Runs {X : Type 0} (a b : State) (r : Result X Halt) (reads : Reads X)
   pub misses : a.held.honest ≡ true → is_faulted r ≡ true → Missed a b reads.marks
   pub ended : IfErr r (EndedBy b)
 
--- the same, of the readings that a layout asks for of the input that the source claims
+-- the call runs as the layout says about the input that the source claims
 abbrev pub Follows : {X : Type 0} → State → State → Result X Halt → Layout X → Type 0
 Follows a b r layout = Runs a b r (layout_reads a.held.input layout)
 
 -- a slice as a source: it counts nothing, records nothing and cannot fail
 abbrev pub slice_state : List ℕ → State
 slice_state d = record {
-  frame = record { told = length d; budget = 0; counts = false; records = false; home = 0; since = None; behind = None; parts = None };
+  frame = record { told = length d; budget = 0; counts = false; backing = Slice };
   held = record { honest = true; input = d; can_fail = false };
   front = 0;
   taken = 0;
@@ -132,11 +156,10 @@ slice_state d = record {
   failed = None;
 }
 
--- a slice whose readings' spans are recorded behind these, with the name of the borrow of their buffer: memory can be
--- refused where that buffer takes any
-abbrev pub recording_state : List ℕ → List Span → Bool → ℕ → State
-recording_state d spans allocates home = record {
-  frame = record { told = length d; budget = 0; counts = false; records = allocates; home = home; since = None; behind = None; parts = None };
+-- A slice whose spans are recorded after these. `home` names the borrow of the buffer.
+abbrev pub recording_state : List ℕ → List Span → ℕ → State
+recording_state d spans home = record {
+  frame = record { told = length d; budget = 0; counts = false; backing = Recorded home };
   held = record { honest = true; input = d; can_fail = false };
   front = 0;
   taken = 0;

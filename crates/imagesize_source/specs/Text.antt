@@ -1,33 +1,33 @@
--- Texts: bytes up to one that ends them.
+-- Texts: bytes up to a byte that ends them.
 use Rattle.std.specs.Prelude.{ℕ, ◌+◌, Bool, not, ◌&&◌, List, ◌++◌, take, drop, ◌==◌}
 use Rattle.std.specs.Char.{is_ascii_whitespace}
 use Rattle.std.specs.List.{list_any, position_or_len}
 use Rattle.imagesize_source.specs.declared.text.Text.{Text}
 use Rattle.imagesize_source.specs.declared.text.Text.TheVariants.{Line, Word}
 
--- how many bytes of white space stand before a text: those before the first other byte of a word, none of a line
+-- how many bytes of white space come before the text: those before the first other byte of a word, 0 for a line
 abbrev pub space_before : Text → List ℕ → ℕ
 space_before (Line delimiter) bs = 0
 space_before Word bs = position_or_len (λ b. not (is_ascii_whitespace b)) bs
 
--- which bytes end it
+-- whether the byte ends the text
 abbrev pub delimits : Text → ℕ → Bool
 delimits (Line delimiter) b = b == delimiter
 delimits Word b = is_ascii_whitespace b
 
--- the bytes up to the first that passes, with it, or all where none does
+-- the bytes up to and with the first that passes, or all bytes if none does
 abbrev pub front_through : (ℕ → Bool) → List ℕ → List ℕ
 front_through p bs = take (position_or_len p bs + 1) bs
 
--- the text at the front of some bytes: the white space before it, its own bytes, and the one that ends it
+-- the text at the front of the bytes: the white space before it, its own bytes, and the byte that ends it
 unfoldable pub text_front : Text → List ℕ → List ℕ
 text_front t bs = take (space_before t bs) bs ++ front_through (delimits t) (drop (space_before t bs) bs)
 
--- one of the bytes ends it
+-- whether one of the bytes ends the text
 unfoldable pub is_ended : Text → List ℕ → Bool
 is_ended t bs = list_any (delimits t) (drop (space_before t bs) bs)
 
--- whether a byte ends it, where another byte than white space came before or none did
+-- whether a byte ends the text; `begun` says whether a byte other than white space came before
 abbrev pub ends : Text → Bool → ℕ → Bool
 ends (Line delimiter) begun b = b == delimiter
 ends Word begun b = begun && is_ascii_whitespace b

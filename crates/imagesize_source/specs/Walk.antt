@@ -1,27 +1,31 @@
--- What a walk along a chain finds of a record, and the chains that it can follow.
-use Rattle.std.specs.Prelude.{◌≡◌, ℕ, ◌+◌, ◌≤◌, List, [], ◌∷◌, ◌++◌, length}
-use Rattle.imagesize_source.specs.declared.halt.Halt.TheVariants.{Ended}
+-- What a walk finds at a record, and the sequences of records that it can follow.
+use Rattle.std.specs.Prelude.{◌≡◌, ℕ, ◌+◌, ◌≤◌, List, [], ◌∷◌, ◌++◌, length, Result}
+use Rattle.imagesize_source.specs.declared.halt.Halt.{Halt}
 use Rattle.imagesize_source.specs.Chain.{Said, Decided, Next, Chain, Advances}
 use Rattle.imagesize_source.specs.Layout.{Layout, layout_reads}
-use Rattle.imagesize_source.specs.Reading.{refuses}
+use Rattle.imagesize_source.specs.Reading.{map_answer}
 use Rattle.imagesize_source.specs.declared.walk.Found.{Found}
 use Rattle.imagesize_source.specs.declared.walk.Found.TheVariants as found
 
--- what a record says that was found at a place
+-- what a record says that was found at this offset
 abbrev pub said_at : {C X : Type 0} → ℕ → Found C X → Said C X
 said_at place (found.Answer x) = Decided x
 said_at place (found.Other held length) = Next held (place + length)
 
--- what is kept of the records before a place is kept of this one too
+-- what holds for the records before an offset holds for this record too
 abbrev pub KeepsOn : {C X : Type 0} → (List C → ℕ → Type 0) → List C → Said C X → Type 0
 KeepsOn keeps held (Decided x) = Unit {0}
 KeepsOn keeps held (Next v next) = keeps (held ++ v ∷ []) next
 
--- the chain of records from a place on
+-- the sequence of records from an offset on
 abbrev pub chain_of : {C X : Type 0} → ℕ → (List C → ℕ → Layout (Said C X)) → Chain C X
 chain_of first said = record { first = first; said = said }
 
--- each record stands behind the one before, and none behind the end of the input is read
-pub record CanFollow {C X : Type 0} (c : Chain C X) : Type 0 where
-  pub advances : (d : List ℕ) → Advances c d
-  pub beyond : (held : List C) (place : ℕ) (d : List ℕ) → length d ≤ place → layout_reads d (c.said held place) ≡ refuses Ended
+-- each record comes after the one before, in every input
+abbrev pub CanFollow : {C X : Type 0} → Chain C X → Type 0
+CanFollow c = (d : List ℕ) → Advances c d
+
+-- From the end of the input on, a record at any offset has this verdict, and reads nothing.
+abbrev pub EndsBy : {C X : Type 0} → (List C → ℕ → Layout (Said C X)) → List C → Result X Halt → Type 0
+EndsBy said held r = (d : List ℕ) (place : ℕ) → length d ≤ place
+    → layout_reads d (said held place) ≡ record { answer = map_answer Decided r; marks = [] }

@@ -14,8 +14,6 @@ pub enum Halt {
     Failed,
     /// The budget is spent.
     Spent,
-    /// An allocation failed.
-    Memory,
     /// The input ends before the last of the requested bytes.
     Ended,
     /// The segments, chunks, boxes or entries of the image end, or are broken, before one gives the size.
@@ -59,7 +57,6 @@ impl Halt {
             Halt::Corrupted => return ImageError::CorruptedImage,
             Halt::Failed => failure,
             Halt::Spent => Reason::BudgetSpent { budget },
-            Halt::Memory => Reason::Memory,
             Halt::Ended => Reason::EndOfInput,
             Halt::NotEnoughData => Reason::NotEnoughData,
             Halt::NoDelimiter { max_size } => Reason::NoDelimiter {

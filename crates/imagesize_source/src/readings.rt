@@ -151,22 +151,8 @@ pub fn read_u64<S: Source>(source: &mut S, place: u64, endian: Endian) -> Result
     Ok(endian.u64(bytes))
 }
 
-/// The offset `place + distance`. Returns `Ended` above 2^64 - 1, which is past the end of every input.
-#[inline(always)]
-pub fn place_behind(place: u64, distance: u64) -> Result<u64, Halt>
-    ensures next { IfOk result (λ next. (next ≡ place + distance) × (next < 2 ^ 64)) }
-    ensures beyond { IfErr result (λ halt. (halt ≡ Halt.Ended) × (2 ^ 64 ≤ place + distance)) }
-{
-    let next = place.wrapping_add(distance);
-    if next < place {
-        return Err(Halt::Ended);
-    }
-    Ok(next)
-}
-
 /// The number that the two bytes at `place + distance` encode. An offset above 2^64 - 1 is past the end of every input.
 #[inline(always)]
-#[tactic(auto, using(crate::proofs::PastTheEnd::number_refused))]
 pub fn read_u16_behind<S: Source>(
     source: &mut S,
     place: u64,
@@ -176,12 +162,5 @@ pub fn read_u16_behind<S: Source>(
     ensures { Runs (S.state source.old) (S.state source.new) result
         (number_read (S.state source.old).held.input endian (place + distance) 2) }
 {
-    match place_behind(place, distance) {
-        Ok(next) => read_u16(source, next, endian),
-        Err(halt) => {
-            // The proof needs that the input is shorter than that.
-            let _told = source.told();
-            Err(halt)
-        }
-    }
+    read_u16(source, place.saturating_add(distance), endian)
 }

@@ -7,7 +7,7 @@ ghost use Rattle.imagesize_source.specs.State.{State, Runs, IsSound};
 
 use crate::{Halt, ImageError, Text};
 
-mod log;
+pub mod log;
 pub mod parts;
 pub mod recording;
 pub mod slice;

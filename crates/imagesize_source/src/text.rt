@@ -15,7 +15,7 @@ pub enum Text {
 
 /// How many bytes the text at the front of the bytes has.
 #[tactic(auto, using(crate::proofs::Texts::fronts))]
-pub(crate) fn text_length(text: Text, bytes: &[u8]) -> usize
+pub fn text_length(text: Text, bytes: &[u8]) -> usize
     ensures length { result ≡ length (text_front text bytes.now) }
     ensures within { result ≤ length bytes.now }
 {
@@ -77,7 +77,7 @@ pub(crate) fn is_closed(text: Text, bytes: &[u8]) -> bool
 }
 
 // Whether the delimiter is among the bytes.
-#[tactic(auto, using(crate::proofs::Known::line_ended))]
+#[tactic(auto, using(crate::proofs::TextEnds::line_ended))]
 fn line_is_closed(delimiter: u8, bytes: &[u8]) -> bool
     ensures { result ≡ is_ended (Text.Line delimiter) bytes.now }
 {

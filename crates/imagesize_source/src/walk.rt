@@ -1,40 +1,40 @@
-//! A walk along a chain: its records, read one behind another.
-ghost use Rattle.std.specs.Prelude.{◌≡◌, ℕ, List, [], IfOk};
-ghost use Rattle.imagesize_source.specs.Chain.{Said, chain_at};
+//! A walk along a sequence of records, such as segments, chunks, boxes or entries.
+ghost use Rattle.std.specs.Prelude.{◌≡◌, ℕ, true, false, List, [], IfOk, IfErr};
+ghost use Rattle.imagesize_source.specs.Chain.{Said, chain_at, chain_from};
 ghost use Rattle.imagesize_source.specs.Layout.{Layout, layout_reads};
 ghost use Rattle.imagesize_source.specs.Paying.{Nears};
-ghost use Rattle.imagesize_source.specs.Reading.{map_answer};
+ghost use Rattle.imagesize_source.specs.Reading.{is_faulted, is_stopped, map_answer};
+ghost use Rattle.imagesize_source.specs.Sharing.{Stood};
 ghost use Rattle.imagesize_source.specs.State.{Runs};
-ghost use Rattle.imagesize_source.specs.Walk.{CanFollow, KeepsOn, chain_of, said_at};
+ghost use Rattle.imagesize_source.specs.Walk.{CanFollow, EndsBy, KeepsOn, chain_of, said_at};
 
 use crate::Halt;
-use crate::readings::place_behind;
 use crate::source::Source;
 
-/// What a record says.
+/// What a walk finds at a record.
 #[derive(Drop)]
 pub enum Found<C, X> {
-    /// The answer of the chain.
+    /// The result of the walk.
     Answer(X),
-    /// Nothing of it. What the record holds, and how many bytes behind its place the next one stands.
+    /// No result yet: what the record holds, and how many bytes after its own offset the next record begins.
     Other { held: C, length: u64 },
 }
 
-/// The records of a chain.
+/// A sequence of records.
 pub trait Records {
     /// What a record holds.
     type Held: Drop;
 
-    /// What the chain answers.
-    type Answer;
+    /// The result of the walk.
+    type Answer: Drop;
 
-    /// The layout of a record behind those that hold these, at its place.
+    /// The layout of the record at an offset, after records that hold these values.
     ghost said: { Self → List Self.Held → ℕ → Layout (Said Self.Held Self.Answer) };
 
-    /// What the value keeps of the records before a place, which hold these.
+    /// What the value keeps about the records before an offset, which hold these values.
     ghost keeps: { Self → List Self.Held → ℕ → Type 0 };
 
-    /// The record at a place.
+    /// Reads the record at an offset.
     fn read_record<S: Source>(
         &mut self,
         source: &mut S,
@@ -44,12 +44,21 @@ pub trait Records {
         ensures same { said self.new ≡ said self.old }
         ensures nears { IfOk result (λ found. Nears (S.state source.old) (S.state source.new) place (said_at place found)) }
         ensures keeps { (held : List Self.Held) → keeps self.old held place → IfOk result (λ found. KeepsOn (keeps self.new) held (said_at place found)) }
+
+        // If the read fails, the same value can read the record again.
+        ensures stays { (held : List Self.Held) → keeps self.old held place → IfErr result (λ _. keeps self.new held place) }
         ensures runs { (held : List Self.Held) → keeps self.old held place → Runs (S.state source.old) (S.state source.new)
             (map_answer (said_at place) result)
             (layout_reads (S.state source.old).held.input (said self.old held place)) };
+
+    /// The result at the end of the input, where no record is left.
+    fn at_end(&self) -> Result<Self::Answer, Halt>
+        ensures goes_on { is_stopped result ≡ false }
+        ensures ends { (held : List Self.Held) (place : ℕ) → keeps self.now held place → EndsBy (said self.now) held result };
 }
 
-/// The answer of the chain of these records, the first of which stands at this place.
+/// Walks along the records from the first one, which is at this offset, and returns the result.
+#[inline(always)]
 pub fn walk<S: Source, R: Records + Drop>(
     mut records: R,
     source: &mut S,
@@ -61,10 +70,42 @@ pub fn walk<S: Source, R: Records + Drop>(
         (chain_at (chain_of first (R.said records)) (S.state source.old).held.input) }
 {
     let mut place = first;
+    walk_on(&mut records, &mut place, source)
+}
+
+/// Walks on from the record at this offset, and returns the result.
+///
+/// If a read fails, `records` and `place` are those of the record that it belongs to. The walk can go on from there.
+#[inline(always)]
+pub fn walk_on<S: Source, R: Records>(
+    records: &mut R,
+    place: &mut u64,
+    source: &mut S,
+) -> Result<R::Answer, Halt>
+    requires follows { CanFollow (chain_of 0 (R.said records.old)) }
+    requires keeps { (held : List R.Held) × R.keeps records.old held place.old }
+    ensures same { R.said records.new ≡ R.said records.old }
+
+    // For each list of values that the records before may hold:
+    ensures runs { (first : ℕ) (held : List R.Held) → R.keeps records.old held place.old
+        → Runs (S.state source.old) (S.state source.new) result
+        (chain_from (chain_of first (R.said records.old)) (S.state source.old).held.input (record { held = held; place = place.old })) }
+    ensures stands { (first : ℕ) (held : List R.Held) → R.keeps records.old held place.old → is_faulted result ≡ true
+        → Stood (chain_of first (R.said records.old)) (λ behind. R.keeps records.new behind place.new) (S.state source.old) (S.state source.new)
+        (record { held = held; place = place.old }) place.new }
+{
+    let mut at = *place;
     loop {
-        match records.read_record(source, place)? {
-            Found::Answer(answer) => return Ok(answer),
-            Found::Other { length, .. } => place = place_behind(place, length)?,
+        match records.read_record(source, at) {
+            Ok(Found::Answer(answer)) => return Ok(answer),
+            Ok(Found::Other { length, .. }) => match at.checked_add(length) {
+                Some(next) => at = next,
+                None => return records.at_end(),
+            },
+            Err(halt) => {
+                *place = at;
+                return Err(halt);
+            }
         }
     }
 }

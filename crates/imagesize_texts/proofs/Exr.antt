@@ -7,7 +7,7 @@ use Rattle.std.specs.Prelude.{◌&&◌}
 use Rattle.std.specs.Int.{w32, cast_signed, from_le_bytes}
 use Rattle.imagesize_types.specs.Head.{four_at}
 use Rattle.imagesize_types.specs.declared.size.ImageSize.{ImageSize}
-use Rattle.imagesize_source.specs.declared.halt.Halt.TheVariants.{DataWindowNotFound}
+use Rattle.imagesize_source.specs.declared.halt.Halt.TheVariants.{DataWindowNotFound, Ended}
 use Rattle.imagesize_source.specs.declared.endian.Endian.TheVariants.{Little}
 use Rattle.imagesize_source.specs.Agreement.{IsLocal}
 use Rattle.imagesize_source.specs.Chain.{Said, Decided, Next, Advances, chain_at, start, records}
@@ -16,9 +16,8 @@ use Rattle.imagesize_source.specs.Extension.{Plain, Lasts}
 use Rattle.imagesize_source.specs.Input.{span_of}
 use Rattle.imagesize_source.specs.Layout.{Layout, layout_reads, bytes, done, refuse}
 use Rattle.imagesize_source.specs.Numbers.{number}
-use Rattle.imagesize_source.specs.Reading.{number_at, number_read}
+use Rattle.imagesize_source.specs.Reading.{number_at, number_read, refuses}
 use Rattle.imagesize_source.specs.State.{total}
-use Rattle.imagesize_source.specs.Walk.{CanFollow}
 use Rattle.imagesize_source.proofs.Advances.{Tells, advances}
 use Rattle.imagesize_source.proofs.Ahead.{Ahead, chain_ahead}
 use Rattle.imagesize_source.proofs.ChainLaws.{local_chain, lasts_chain, chain_cost_from}
@@ -33,7 +32,8 @@ use Rattle.imagesize_texts.specs.Texts.{line_at}
 use Rattle.imagesize_texts.proofs.Texts.{line_total, line_onto, line_plain, line_tells, line_begins, line_beyond, lasts_then, number_lasts}
 
 -- the four bytes of a number
-four_bytes : (bs : List ℕ) (place : ℕ) → place + 4 ≤ length bs → slice_index_or bs place 0 ∷ slice_index_or bs (place + 1) 0
+four_bytes : (bs : List ℕ) (place : ℕ) → place + 4 ≤ length bs
+    → slice_index_or bs place 0 ∷ slice_index_or bs (place + 1) 0
     ∷ slice_index_or bs (place + 2) 0 ∷ slice_index_or bs (place + 3) 0 ∷ [] ≡ four_at place bs
 four_bytes bs place all =
     let at : ℕ → ℕ = λ i. slice_index_or bs i 0 in
@@ -51,10 +51,12 @@ four_bytes bs place all =
     ∙ ap (λ i. at place ∷ at (place + 1) ∷ at (place + 2) ∷ at i ∷ []) three)
 
 pub signed_four : (bs : List ℕ) (place : ℕ) → length bs ≡ 16 → place ≤ 12
-    → cast_signed w32 (from_le_bytes w32 (slice_index_or bs place 0 ∷ slice_index_or bs (place + 1) 0 ∷ slice_index_or bs (place + 2) 0
+    → cast_signed w32 (from_le_bytes w32
+    (slice_index_or bs place 0 ∷ slice_index_or bs (place + 1) 0 ∷ slice_index_or bs (place + 2) 0
     ∷ slice_index_or bs (place + 3) 0 ∷ [])) ≡ signed_at place bs
 signed_four bs place long inside =
-    ap (cast_signed w32) (little_4 (slice_index_or bs place 0 ∷ slice_index_or bs (place + 1) 0 ∷ slice_index_or bs (place + 2) 0
+    ap (cast_signed w32)
+    (little_4 (slice_index_or bs place 0 ∷ slice_index_or bs (place + 1) 0 ∷ slice_index_or bs (place + 2) 0
     ∷ slice_index_or bs (place + 3) 0 ∷ []) refl ∙ ap (number Little) (four_bytes bs place (omega arith)))
 
 room_few : (version : ℕ) → name_room version ≤ 256
@@ -63,20 +65,23 @@ room_few version = on_test (λ n. n ≤ 256) _ 32 256 (λ _. omega arith) (λ _.
 
 -- what holds of each window
 by_window : (P : Layout (Said (Unit {0}) ImageSize) → Type 0) (place taken : ℕ) (size : Option ImageSize)
-    → ((size : ImageSize) → P (done (Decided size))) → P (done (Next tt (place + (taken + 16)))) → P (exr_window place taken size)
+    → ((size : ImageSize) → P (done (Decided size))) → P (done (Next tt (place + (taken + 16))))
+    → P (exr_window place taken size)
 by_window P place taken (Some size) decided reversed = decided size
 by_window P place taken None decided reversed = reversed
 
 -- and of each value
 by_value : (P : Layout (Said (Unit {0}) ImageSize) → Type 0) (place taken : ℕ) (is_window : Bool) (size : ℕ)
-    → P (bytes (place + taken) 16 (λ bs. exr_window place taken (window_size bs))) → P (done (Next tt (place + (taken + size))))
+    → P (bytes (place + taken) 16 (λ bs. exr_window place taken (window_size bs)))
+    → P (done (Next tt (place + (taken + size))))
     → P (exr_value place taken is_window size)
 by_value P place taken is_window size window other =
     on_test P is_window (bytes (place + taken) 16 (λ bs. exr_window place taken (window_size bs)))
     (done (Next tt (place + (taken + size)))) (λ _. window) (λ _. other)
 
 -- and of each name
-by_name : (P : Layout (Said (Unit {0}) ImageSize) → Type 0) (room place : ℕ) (name : List ℕ) → P (refuse DataWindowNotFound)
+by_name : (P : Layout (Said (Unit {0}) ImageSize) → Type 0) (room place : ℕ) (name : List ℕ)
+    → P (refuse DataWindowNotFound)
     → P (line_at 0 (place + (length name + 1)) room (exr_typed place name)) → P (exr_named room place name)
 by_name P room place name none typed =
     on_test P (eqb (length name) 0) (refuse DataWindowNotFound) (line_at 0 (place + (length name + 1)) room
@@ -86,19 +91,22 @@ by_name P room place name none typed =
 abbrev value_behind : List ℕ → List ℕ → ℕ
 value_behind name type_name = length name + 1 + (length type_name + 1) + 4
 
-attribute_advances : (room : ℕ) (d : List ℕ) → Advances (exr_attributes room) d
+pub attribute_advances : (room : ℕ) (d : List ℕ) → Advances (exr_attributes room) d
 attribute_advances room = advances (exr_attributes room)
     (λ passed place. line_tells 0 place room (exr_named room place) (λ p. place < p)
     (λ name. by_name (Tells (λ p. place < p)) room place name tt
     (line_tells 0 (place + (length name + 1)) room (exr_typed place name) (λ p. place < p)
-    (λ type_name size. by_value (Tells (λ p. place < p)) place (value_behind name type_name) (is_data_window name && is_box type_name) size
-    (λ bs. by_window (Tells (λ p. place < p)) place (value_behind name type_name) (window_size bs) (λ size. tt) (omega arith))
+    (λ type_name size. by_value (Tells (λ p. place < p)) place (value_behind name type_name)
+    (is_data_window name && is_box type_name) size
+    (λ bs. by_window (Tells (λ p. place < p)) place (value_behind name type_name) (window_size bs) (λ size. tt)
+    (omega arith))
     (omega arith)))))
     (λ passed place. line_begins 0 place room (exr_named room place) place (omega arith))
 
 pub exr_local : IsLocal true exr
 exr_local = local_then (λ d. number_read d Little 4 4) (λ version d. chain_at (exr_attributes (name_room version)) d)
-    (local_number Little 4 4) (λ version. local_chain (exr_attributes (name_room version)) (attribute_advances (name_room version))
+    (local_number Little 4 4)
+    (λ version. local_chain (exr_attributes (name_room version)) (attribute_advances (name_room version))
     (λ passed place. with_texts ((exr_attributes (name_room version)).said passed place)))
 
 -- bytes behind an EXR change no answer that was given, nor its marks
@@ -120,10 +128,12 @@ attributes_within room d =
     let most = chain_ahead (exr_attributes room) d (attribute_advances room d)
     (λ passed place. line_onto 0 place room (exr_named room place) (said_to (λ _. None)) place (omega arith)
     (λ name. by_name (Ahead (place + (length name + 1))) room place name tt
-    (line_onto 0 (place + (length name + 1)) room (exr_typed place name) (said_to (λ _. None)) (place + (length name + 1)) (omega arith)
+    (line_onto 0 (place + (length name + 1)) room (exr_typed place name) (said_to (λ _. None))
+    (place + (length name + 1)) (omega arith)
     (λ type_name. (
       omega arith,
-      λ size. by_value (Ahead (place + (length name + 1 + (length type_name + 1)) + 4)) place (value_behind name type_name)
+      λ size. by_value (Ahead (place + (length name + 1 + (length type_name + 1)) + 4)) place
+          (value_behind name type_name)
           (is_data_window name && is_box type_name) size (
             omega arith,
             λ bs. by_window (Ahead (place + value_behind name type_name + 16)) place (value_behind name type_name)
@@ -142,8 +152,10 @@ exr_within d = omega (
 )
 
 -- a value is read from 16 bytes or none
-value_at_most : (place taken : ℕ) (is_window : Bool) (size : ℕ) → AtMost (cond is_window 16 0) (exr_value place taken is_window size)
-value_at_most place taken true size = (omega arith, λ bs. by_window (AtMost 0) place taken (window_size bs) (λ size. tt) tt)
+value_at_most : (place taken : ℕ) (is_window : Bool) (size : ℕ)
+    → AtMost (cond is_window 16 0) (exr_value place taken is_window size)
+value_at_most place taken true size =
+    (omega arith, λ bs. by_window (AtMost 0) place taken (window_size bs) (λ size. tt) tt)
 value_at_most place taken false size = tt
 
 -- the name of a data window is short
@@ -158,17 +170,20 @@ name_and_window name is_type few = on_test (λ n. n + (length name + 1) ≤ 256)
     (λ is. let ten = window_name name (and_parts (is_data_window name) is_type is).0 in omega arith) (λ _. omega arith)
 
 -- an attribute is read from at most 530 bytes
-attribute_cost : (d : List ℕ) (room place : ℕ) → room ≤ 256 → total (layout_reads d (exr_attribute room place)).marks ≤ 530
+attribute_cost : (d : List ℕ) (room place : ℕ) → room ≤ 256
+    → total (layout_reads d (exr_attribute room place)).marks ≤ 530
 attribute_cost d room place few = line_total 0 place room (exr_named room place) d 530 (omega arith)
     (λ name long. by_name (λ t. length name + 1 + total (layout_reads d t).marks ≤ 530) room place name (omega arith)
-    (let rest = line_total 0 (place + (length name + 1)) room (exr_typed place name) d (530 - (length name + 1)) (omega arith)
+    (let rest = line_total 0 (place + (length name + 1)) room (exr_typed place name) d (530 - (length name + 1))
+    (omega arith)
     (λ type_name short.
     let is_window : Bool = is_data_window name && is_box type_name in
     let window : ℕ = cond is_window 16 0 in
     let fits = name_and_window name (is_box type_name) (omega arith) in
     let value = at_most d (4 + window) (exr_typed place name type_name) (
       omega arith,
-      λ size. at_most_more window (4 + window - 4) (exr_value place (value_behind name type_name) is_window size) (omega arith)
+      λ size. at_most_more window (4 + window - 4) (exr_value place (value_behind name type_name) is_window size)
+          (omega arith)
           (value_at_most place (value_behind name type_name) is_window size),
     ) in
     omega arith) in
@@ -182,16 +197,15 @@ exr_cost d = omega (
       (λ version. omega (
         arith,
         chain_cost_from (exr_attributes (name_room version)) d (attribute_advances (name_room version) d) 530
-            (λ t. attribute_cost d (name_room version) t.place (room_few version)) (start (exr_attributes (name_room version))),
+            (λ t. attribute_cost d (name_room version) t.place (room_few version))
+            (start (exr_attributes (name_room version))),
       )),
 )
 
 pub exr_laws : RecordedLaws 12 16 530 true true exr attributes_begun
 exr_laws = record { local = exr_local; cost = exr_cost; within = exr_within; lasts = λ _. exr_lasts }
 
--- a walk can follow the attributes
-pub exr_follows : (room : ℕ) → 0 < room → CanFollow (exr_attributes room)
-exr_follows room some = record {
-  advances = attribute_advances room;
-  beyond = λ passed place d h. line_beyond d 0 place room (exr_named room place) h some;
-}
+-- from the end of the input on there is no attribute
+pub exr_ends : (d : List ℕ) (room place : ℕ) → 0 < room → length d ≤ place
+    → layout_reads d (exr_attribute room place) ≡ refuses Ended
+exr_ends d room place some h = line_beyond d 0 place room (exr_named room place) h some

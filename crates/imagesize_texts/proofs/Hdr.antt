@@ -3,13 +3,13 @@ use Rattle.std.proofs.Common.{◌≡◌, ◌≢◌, ℕ, ◌+◌, ◌<◌, ◌�
 use Rattle.std.proofs.lemmas.Bool.Decides.{nat_tests}
 use Rattle.imagesize_types.specs.declared.size.ImageSize.{ImageSize}
 use Rattle.imagesize_source.specs.declared.halt.Halt.{Halt}
-use Rattle.imagesize_source.specs.declared.halt.Halt.TheVariants.{InvalidHdrIdentifier}
+use Rattle.imagesize_source.specs.declared.halt.Halt.TheVariants.{Ended, InvalidHdrIdentifier}
+use Rattle.imagesize_source.specs.Reading.{refuses}
 use Rattle.imagesize_source.specs.Agreement.{IsLocal}
 use Rattle.imagesize_source.specs.Chain.{Said, Decided, Next, Advances, chain_at}
 use Rattle.imagesize_source.specs.Extension.{Plain, Lasts}
 use Rattle.imagesize_source.specs.Layout.{Layout, layout_reads, done, refuse, accept}
 use Rattle.imagesize_source.specs.State.{total}
-use Rattle.imagesize_source.specs.Walk.{CanFollow}
 use Rattle.imagesize_source.proofs.Advances.{Tells, advances}
 use Rattle.imagesize_source.proofs.Ahead.{Ahead}
 use Rattle.imagesize_source.proofs.ChainLaws.{local_chain, lasts_chain}
@@ -18,38 +18,47 @@ use Rattle.imagesize_source.proofs.Extension.{more}
 use Rattle.imagesize_source.proofs.Spends.{Onto, said_to, spends, spends_then, chain_onto}
 use Rattle.imagesize_source.proofs.Tests.{on_test}
 use Rattle.imagesize_source.proofs.Way.{TextsLaws}
+use Rattle.imagesize_texts.specs.Texts.{line_at}
 use Rattle.imagesize_texts.specs.Hdr.{hdr, hdr_identifier, check_identifier, hdr_lines, hdr_line, is_identifier, is_resolution, resolution, second_and_fourth}
 use Rattle.imagesize_texts.proofs.Texts.{found_by, line_onto, line_plain, line_tells, line_begins, line_beyond, lasts_then}
 
 -- what holds of each line
-by_line : (P : Layout (Said (Unit {0}) ImageSize) → Type 0) (place : ℕ) (text : List ℕ) → ((size : ImageSize) → P (done (Decided size)))
+by_line : (P : Layout (Said (Unit {0}) ImageSize) → Type 0) (place : ℕ) (text : List ℕ)
+    → ((size : ImageSize) → P (done (Decided size)))
     → ((e : Halt) → P (refuse e)) → P (done (Next tt (place + (length text + 1)))) → P (hdr_line place text)
 by_line P place text decided refused passed =
-    on_test P (is_resolution text) (accept (resolution text) (λ size. done (Decided size))) (done (Next tt (place + (length text + 1))))
+    on_test P (is_resolution text) (accept (resolution text) (λ size. done (Decided size)))
+    (done (Next tt (place + (length text + 1))))
     (λ _. found_by P (resolution text) (λ size. done (Decided size)) (λ size _. decided size) refused)
     (λ _. passed)
 
 -- and of the first
 by_identifier : (P : Layout ℕ → Type 0) (text : List ℕ) → P (done (length text + 1)) → P (refuse InvalidHdrIdentifier)
     → P (check_identifier text)
-by_identifier P text is none = on_test P (is_identifier text) (done (length text + 1)) (refuse InvalidHdrIdentifier) (λ _. is)
+by_identifier P text is none =
+    on_test P (is_identifier text) (done (length text + 1)) (refuse InvalidHdrIdentifier) (λ _. is)
     (λ _. none)
 
-hdr_advances : (first : ℕ) (d : List ℕ) → Advances (hdr_lines first) d
+pub hdr_advances : (first : ℕ) (d : List ℕ) → Advances (hdr_lines first) d
 hdr_advances first = advances (hdr_lines first)
-    (λ passed place. line_tells 0x0A place 256 (hdr_line place) (λ p. place < p) (λ text. by_line (Tells (λ p. place < p)) place text
+    (λ passed place. line_tells 0x0A place 256 (hdr_line place) (λ p. place < p)
+    (λ text. by_line (Tells (λ p. place < p)) place text
     (λ size. tt) (λ e. tt) (omega arith)))
     (λ passed place. line_begins 0x0A place 256 (hdr_line place) place (omega arith))
 
 pub hdr_local : IsLocal true hdr
-hdr_local = local_then (λ d. layout_reads d hdr_identifier) (λ first d. chain_at (hdr_lines first) d) (local_layout hdr_identifier (with_texts hdr_identifier))
-    (λ first. local_chain (hdr_lines first) (hdr_advances first) (λ passed place. with_texts ((hdr_lines first).said passed place)))
+hdr_local = local_then (λ d. layout_reads d hdr_identifier) (λ first d. chain_at (hdr_lines first) d)
+    (local_layout hdr_identifier (with_texts hdr_identifier))
+    (λ first. local_chain (hdr_lines first) (hdr_advances first)
+    (λ passed place. with_texts ((hdr_lines first).said passed place)))
 
 -- bytes behind an HDR change no answer that was given, nor its marks
 pub hdr_keeps : Lasts hdr
 hdr_keeps = lasts_then (λ d. layout_reads d hdr_identifier) (λ first d. chain_at (hdr_lines first) d)
-    (λ d x first is. more d x hdr_identifier first (line_plain 0x0A 0 11 check_identifier (λ text. by_identifier Plain text tt tt)) is)
-    (λ first. lasts_chain (hdr_lines first) (hdr_advances first) (λ passed place. line_plain 0x0A place 256 (hdr_line place)
+    (λ d x first is. more d x hdr_identifier first
+    (line_plain 0x0A 0 11 check_identifier (λ text. by_identifier Plain text tt tt)) is)
+    (λ first. lasts_chain (hdr_lines first) (hdr_advances first)
+    (λ passed place. line_plain 0x0A place 256 (hdr_line place)
     (λ text. by_line Plain place text (λ size. tt) (λ e. tt) tt)))
 
 pub hdr_lasts : (d x : List ℕ) (size : ImageSize) → (hdr d).answer ≡ Ok size → (hdr (d ++ x)).answer ≡ Ok size
@@ -58,7 +67,8 @@ hdr_lasts d x size is = ap (λ r. r.answer) (hdr_keeps d x size is) ∙ is
 -- the lines are read from at most the bytes of the input
 pub hdr_within : (d : List ℕ) → total (hdr d).marks ≤ length d
 hdr_within d =
-    let all = spends_then (length d) 0 (λ first. first) (λ _. None) (layout_reads d hdr_identifier) (λ first. chain_at (hdr_lines first) d)
+    let all = spends_then (length d) 0 (λ first. first) (λ _. None) (layout_reads d hdr_identifier)
+    (λ first. chain_at (hdr_lines first) d)
     (spends d (λ first. Some first) 0 hdr_identifier
     (line_onto 0x0A 0 11 check_identifier (λ first. Some first) 0 (omega arith)
     (λ text. by_identifier (Onto (λ first. Some first) (0 + (length text + 1))) text (omega arith) tt)))
@@ -70,12 +80,10 @@ hdr_within d =
 pub hdr_laws : TextsLaws 12 true true hdr
 hdr_laws = record { local = hdr_local; within = λ d. omega (arith, hdr_within d); lasts = λ _. hdr_lasts }
 
--- a walk can follow the lines
-pub hdr_follows : (first : ℕ) → CanFollow (hdr_lines first)
-hdr_follows first = record {
-  advances = hdr_advances first;
-  beyond = λ passed place d h. line_beyond d 0x0A place 256 (hdr_line place) h (omega arith);
-}
+-- from the end of the input on there is no line
+pub hdr_ends : (d : List ℕ) (place : ℕ) → length d ≤ place
+    → layout_reads d (line_at 0x0A place 256 (hdr_line place)) ≡ refuses Ended
+hdr_ends d place h = line_beyond d 0x0A place 256 (hdr_line place) h (omega arith)
 
 -- of another number of words than four none are the second and the fourth
 pub other_words : (ws : List (List ℕ)) → length ws ≢ 4 → second_and_fourth ws ≡ None

@@ -6,9 +6,10 @@ use Rattle.imagesize_source.specs.declared.halt.Halt.{Halt}
 use Rattle.imagesize_source.specs.Agreement.{IsLocal}
 use Rattle.imagesize_source.specs.Chain.{Said, Decided, Advances}
 use Rattle.imagesize_source.specs.Extension.{Plain, Lasts}
-use Rattle.imagesize_source.specs.Layout.{Layout, done, accept}
+use Rattle.imagesize_source.specs.declared.halt.Halt.TheVariants.{Ended}
+use Rattle.imagesize_source.specs.Layout.{Layout, done, accept, layout_reads}
+use Rattle.imagesize_source.specs.Reading.{refuses}
 use Rattle.imagesize_source.specs.State.{total}
-use Rattle.imagesize_source.specs.Walk.{CanFollow}
 use Rattle.imagesize_source.proofs.Advances.{Tells, advances}
 use Rattle.imagesize_source.proofs.Ahead.{Ahead, chain_ahead}
 use Rattle.imagesize_source.proofs.Agreement.{with_texts}
@@ -18,7 +19,7 @@ use Rattle.imagesize_source.proofs.Tests.{on_test}
 use Rattle.imagesize_source.proofs.Way.{TextsLaws}
 use Rattle.imagesize_texts.specs.Contents.{WordRead, number_text}
 use Rattle.imagesize_texts.specs.Pnm.{pnm, pnm_words, pnm_word, pnm_comment, pnm_passed, pnm_height, pnm_size, is_comment, is_blank}
-use Rattle.imagesize_texts.specs.Texts.{passed_line}
+use Rattle.imagesize_texts.specs.Texts.{passed_line, word}
 use Rattle.imagesize_texts.proofs.Texts.{found_by, passed_onto, passed_plain, passed_tells, word_onto, word_plain, word_tells, word_begins, word_beyond}
 
 -- what holds of each way that a word can go
@@ -32,19 +33,23 @@ by_word P place w passed comment height =
     (λ _. on_test P (is_blank w.text) (pnm_passed place w.taken) (pnm_height place w) (λ _. passed) (λ _. height))
 
 -- and of the size that the width and the height give
-by_size : (P : Layout (Said (Unit {0}) ImageSize) → Type 0) (width height : Option ℕ) → ((size : ImageSize) → P (done (Decided size)))
+by_size : (P : Layout (Said (Unit {0}) ImageSize) → Type 0) (width height : Option ℕ)
+    → ((size : ImageSize) → P (done (Decided size)))
     → ((e : Halt) → P (accept (Err e) (λ (size : ImageSize). done (Decided size))))
     → P (accept (pnm_size width height) (λ size. done (Decided size)))
-by_size P width height decided refused = found_by P (pnm_size width height) (λ size. done (Decided size)) (λ size _. decided size) refused
+by_size P width height decided refused =
+    found_by P (pnm_size width height) (λ size. done (Decided size)) (λ size _. decided size) refused
 
-pnm_advances : (d : List ℕ) → Advances pnm_words d
+pub pnm_advances : (d : List ℕ) → Advances pnm_words d
 pnm_advances = advances pnm_words
     (λ passed place. word_tells place (pnm_word place) (λ p. place < p)
     (λ w some. by_word (Tells (λ p. place < p)) place w (omega arith)
-    (passed_tells 0x0A (place + w.taken) 1024 (λ rest. pnm_passed place (w.taken + rest)) (λ p. place < p) (λ n. omega arith))
+    (passed_tells 0x0A (place + w.taken) 1024 (λ rest. pnm_passed place (w.taken + rest)) (λ p. place < p)
+    (λ n. omega arith))
     (word_tells (place + w.taken) (λ next. accept (pnm_size (number_text w.text) (number_text (trim next.text)))
     (λ size. done (Decided size))) (λ p. place < p)
-    (λ next _. by_size (Tells (λ p. place < p)) (number_text w.text) (number_text (trim next.text)) (λ size. tt) (λ e. tt)))))
+    (λ next _. by_size (Tells (λ p. place < p)) (number_text w.text) (number_text (trim next.text)) (λ size. tt)
+    (λ e. tt)))))
     (λ passed place. word_begins place (pnm_word place) place (omega arith))
 
 pub pnm_local : IsLocal true pnm
@@ -69,20 +74,20 @@ pnm_within d =
     let most = chain_ahead pnm_words d (pnm_advances d)
     (λ passed place. word_onto place (pnm_word place) (said_to (λ _. None)) place (omega arith)
     (λ w. by_word (Ahead (place + w.taken)) place w (omega arith)
-    (passed_onto 0x0A (place + w.taken) 1024 (λ rest. pnm_passed place (w.taken + rest)) (said_to (λ _. None)) (place + w.taken)
+    (passed_onto 0x0A (place + w.taken) 1024 (λ rest. pnm_passed place (w.taken + rest)) (said_to (λ _. None))
+    (place + w.taken)
     (omega arith) (λ n. omega arith))
     (word_onto (place + w.taken) (λ next. accept (pnm_size (number_text w.text) (number_text (trim next.text)))
     (λ size. done (Decided size))) (said_to (λ _. None)) (place + w.taken) (omega arith)
-    (λ next. by_size (Ahead (place + w.taken + next.taken)) (number_text w.text) (number_text (trim next.text)) (λ size. tt)
+    (λ next. by_size (Ahead (place + w.taken + next.taken)) (number_text w.text) (number_text (trim next.text))
+    (λ size. tt)
     (λ e. tt))))) in
     omega arith
 
 pub pnm_laws : TextsLaws 12 true true pnm
 pnm_laws = record { local = pnm_local; within = λ d. omega (arith, pnm_within d); lasts = λ _. pnm_lasts }
 
--- a walk can follow the words
-pub pnm_follows : CanFollow pnm_words
-pnm_follows = record {
-  advances = pnm_advances;
-  beyond = λ passed place d h. word_beyond d place (pnm_word place) h;
-}
+-- from the end of the input on there is no word
+pub pnm_ends : (d : List ℕ) (place : ℕ) → length d ≤ place
+    → layout_reads d (word place (pnm_word place)) ≡ refuses Ended
+pnm_ends d place h = word_beyond d place (pnm_word place) h

@@ -18,7 +18,7 @@ use Rattle.imagesize_source.specs.Extension.{Plain, Never, Lasts}
 use Rattle.imagesize_source.specs.Input.{span_at, span_of}
 use Rattle.imagesize_source.specs.Layout.{Layout, layout_reads, accept}
 use Rattle.imagesize_source.specs.Layout.Layout.{refuse, «done», field}
-use Rattle.imagesize_source.specs.Reading.{Reads, gives, and_then, go_on, number_at, number_read, refuses, put_behind, text_part, text_read, is_stop, map_answer, is_failure, is_memory, is_spent, is_stopped, is_faulted}
+use Rattle.imagesize_source.specs.Reading.{Reads, gives, and_then, go_on, number_at, number_read, refuses, put_behind, text_part, text_read, is_stop, map_answer, is_failure, is_spent, is_stopped, is_faulted}
 use Rattle.imagesize_source.specs.State.{State, Runs, EndedBy, total}
 use Rattle.imagesize_source.specs.Text.{is_ended, space_before}
 use Rattle.imagesize_source.proofs.Advances.{Tells, Begins}
@@ -37,7 +37,6 @@ pub record Harmless (e : Halt) : Type 0 where
   pub goes_on : is_stop e ≡ false
   pub no_fault : is_failure e ≡ false
   pub none_spent : is_spent e ≡ false
-  pub memory : is_memory e ≡ false
 
 -- an answer, or such a refusal
 abbrev pub Judged : {X : Type 0} → Result X Halt → Type 0
@@ -56,20 +55,23 @@ judged_ended : {X : Type 0} (b : State) (r : Result X Halt) → Judged r → IfE
 judged_ended b (Ok x) h = tt
 judged_ended b (Err e) h = record {
   budget = λ is. absurd (let no = h.none_spent in cc);
-  memory = λ is. absurd (let no = h.memory in cc);
   fault = λ is. absurd (let no = h.no_fault in cc);
 }
 
 -- what is made of a text that was read
-pub text_judged : {X : Type 0} {a b : State} (d : List ℕ) (t : Text) (place k : ℕ) (bs : List ℕ) (f : List ℕ → Result X Halt)
-    (r : Result X Halt) → Runs a b (Ok bs) (text_read d t place k) → r ≡ f bs → Judged (f bs) → Runs a b r (text_as d t place k f)
+pub text_judged : {X : Type 0} {a b : State} (d : List ℕ) (t : Text) (place k : ℕ) (bs : List ℕ)
+    (f : List ℕ → Result X Halt)
+    (r : Result X Halt) → Runs a b (Ok bs) (text_read d t place k) → r ≡ f bs → Judged (f bs)
+    → Runs a b r (text_as d t place k f)
 text_judged {X} {a} {b} d t place k bs f r h is fine =
     let fine_r : Judged r = subst Judged (sym is) fine in
-    answered r (text_as d t place k f) h refl (λ read. ap f (part_is read) ∙ sym is) (judged_goes_on r fine_r) (judged_no_fault r fine_r)
+    answered r (text_as d t place k f) h refl (λ read. ap f (part_is read) ∙ sym is) (judged_goes_on r fine_r)
+    (judged_no_fault r fine_r)
     (judged_ended b r fine_r)
 
 -- nothing is made of one whose reading was stopped
-pub text_stopped : {X : Type 0} {a b : State} (d : List ℕ) (t : Text) (place k : ℕ) (e : Halt) (f : List ℕ → Result X Halt)
+pub text_stopped : {X : Type 0} {a b : State} (d : List ℕ) (t : Text) (place k : ℕ) (e : Halt)
+    (f : List ℕ → Result X Halt)
     → Runs {X = List ℕ} a b (Err e) (text_read d t place k) → Runs {X = X} a b (Err e) (text_as d t place k f)
 text_stopped d t place k e f h = record {
   sound = h.sound;
@@ -86,13 +88,13 @@ text_stopped d t place k e f h = record {
 
 no_end_harmless : (most count : ℕ) → Harmless (no_end most count)
 no_end_harmless most count = on_test Harmless (eqb count most) (NoDelimiter most) Ended
-    (λ _. record { goes_on = refl; no_fault = refl; none_spent = refl; memory = refl })
-    (λ _. record { goes_on = refl; no_fault = refl; none_spent = refl; memory = refl })
+    (λ _. record { goes_on = refl; no_fault = refl; none_spent = refl })
+    (λ _. record { goes_on = refl; no_fault = refl; none_spent = refl })
 
 utf8_judged : (bs : List ℕ) → Judged (utf8 bs)
 unfolding utf8
 utf8_judged bs = on_test Judged (is_utf8 bs) (Ok bs) (Err NotUtf8) (λ _. tt)
-    (λ _. record { goes_on = refl; no_fault = refl; none_spent = refl; memory = refl })
+    (λ _. record { goes_on = refl; no_fault = refl; none_spent = refl })
 
 line_judged : (delimiter most : ℕ) (bs : List ℕ) → Judged (line_text delimiter most bs)
 unfolding line_text
@@ -101,7 +103,8 @@ line_judged delimiter most bs = on_test Judged (last_passes (λ b. eqb b delimit
 
 length_judged : (delimiter most : ℕ) (bs : List ℕ) → Judged (line_length delimiter most bs)
 unfolding line_length
-length_judged delimiter most bs = on_test Judged (last_passes (λ b. eqb b delimiter) bs) (Ok (length bs)) (Err (no_end most (length bs)))
+length_judged delimiter most bs =
+    on_test Judged (last_passes (λ b. eqb b delimiter) bs) (Ok (length bs)) (Err (no_end most (length bs)))
     (λ _. tt) (λ _. no_end_harmless most (length bs))
 
 seen_judged : {X Y : Type 0} (f : X → Y) (r : Result X Halt) → Judged r → Judged (map_answer f r)
@@ -110,22 +113,26 @@ seen_judged f (Err e) h = h
 
 word_judged : (bs : List ℕ) → Judged (word_text bs)
 unfolding word_text ended_word
-word_judged bs = on_test Judged (last_passes (λ b. is_word_end b (length bs)) (behind_space bs)) (word_of (length bs) (behind_space bs))
+word_judged bs = on_test Judged (last_passes (λ b. is_word_end b (length bs)) (behind_space bs))
+    (word_of (length bs) (behind_space bs))
     (Err (no_end word_room (length bs)))
-    (λ _. seen_judged (word_at (length bs) (behind_space bs)) (utf8 (before_last (behind_space bs))) (utf8_judged (before_last (behind_space bs))))
+    (λ _. seen_judged (word_at (length bs) (behind_space bs)) (utf8 (before_last (behind_space bs)))
+    (utf8_judged (before_last (behind_space bs))))
     (λ _. no_end_harmless word_room (length bs))
 
 -- the three readings of texts, of which each is judged
 module _ {a b : State} (d room : List ℕ) (place most n : ℕ) (long : length room ≡ most) where
   judged_room : {X : Type 0} (t : Text) (f : List ℕ → Result X Halt) (r : Result X Halt) → Runs a b (Ok (take n room))
-      (text_read d t place (length room)) → r ≡ f (take n room) → Judged (f (take n room)) → Runs a b r (text_as d t place most f)
+      (text_read d t place (length room)) → r ≡ f (take n room) → Judged (f (take n room))
+      → Runs a b r (text_as d t place most f)
   judged_room t f r h is fine = text_judged d t place most (take n room) f r
       (subst (λ k. Runs a b (Ok (take n room)) (text_read d t place k)) long h) is fine
 
   pub line_runs : (delimiter : ℕ) (r : Result (List ℕ) Halt) → Runs a b (Ok (take n room))
       (text_read d (Line delimiter) place (length room)) → r ≡ line_text delimiter most (take n room)
       → Runs a b r (line_read d delimiter place most)
-  line_runs delimiter r h is = judged_room (Line delimiter) (line_text delimiter most) r h is (line_judged delimiter most (take n room))
+  line_runs delimiter r h is =
+      judged_room (Line delimiter) (line_text delimiter most) r h is (line_judged delimiter most (take n room))
 
   pub length_runs : (delimiter : ℕ) (r : Result ℕ Halt) → Runs a b (Ok (take n room))
       (text_read d (Line delimiter) place (length room)) → r ≡ line_length delimiter most (take n room)
@@ -134,8 +141,10 @@ module _ {a b : State} (d room : List ℕ) (place most n : ℕ) (long : length r
       (length_judged delimiter most (take n room))
 
 pub word_runs : {a b : State} (d room : List ℕ) (place n : ℕ) (r : Result WordRead Halt) → length room ≡ word_room
-    → Runs a b (Ok (take n room)) (text_read d Word place (length room)) → r ≡ word_text (take n room) → Runs a b r (word_read d place)
-word_runs d room place n r long h is = judged_room d room place word_room n long Word word_text r h is (word_judged (take n room))
+    → Runs a b (Ok (take n room)) (text_read d Word place (length room)) → r ≡ word_text (take n room)
+    → Runs a b r (word_read d place)
+word_runs d room place n r long h is =
+    judged_room d room place word_room n long Word word_text r h is (word_judged (take n room))
 
 -- a text has bytes where something was made of it
 passes_some : (p : ℕ → Bool) (bs : List ℕ) → last_passes p bs ≡ true → 0 < length bs
@@ -152,13 +161,16 @@ passes_last p bs is = by_test (ltb 0 (length bs)) refl where
 
 utf8_same : (bs text : List ℕ) → utf8 bs ≡ Ok text → bs ≡ text
 unfolding utf8
-utf8_same bs text = on_test (λ r. r ≡ Ok text → bs ≡ text) (is_utf8 bs) (Ok bs) (Err NotUtf8) (λ _ is. cc) (λ _ is. absurd cc)
+utf8_same bs text = on_test (λ r. r ≡ Ok text → bs ≡ text) (is_utf8 bs) (Ok bs) (Err NotUtf8) (λ _ is. cc)
+    (λ _ is. absurd cc)
 
 -- a line takes one byte more than its text has, and the byte that ends it is among them
-pub line_ok : (delimiter most : ℕ) (bs text : List ℕ) → line_text delimiter most bs ≡ Ok text → (length bs ≡ length text + 1)
+pub line_ok : (delimiter most : ℕ) (bs text : List ℕ) → line_text delimiter most bs ≡ Ok text
+    → (length bs ≡ length text + 1)
     × (last_passes (λ b. eqb b delimiter) bs ≡ true)
 unfolding line_text
-line_ok delimiter most bs text = on_test (λ r. r ≡ Ok text → (length bs ≡ length text + 1) × (last_passes (λ b. eqb b delimiter) bs
+line_ok delimiter most bs text =
+    on_test (λ r. r ≡ Ok text → (length bs ≡ length text + 1) × (last_passes (λ b. eqb b delimiter) bs
     ≡ true)) (last_passes (λ b. eqb b delimiter) bs) (utf8 (before_last bs)) (Err (no_end most (length bs)))
     (λ ends is.
     let some = passes_some (λ b. eqb b delimiter) bs ends in
@@ -170,7 +182,8 @@ line_ok delimiter most bs text = on_test (λ r. r ≡ Ok text → (length bs ≡
 pub length_ok : (delimiter most : ℕ) (bs : List ℕ) (n : ℕ) → line_length delimiter most bs ≡ Ok n
     → (length bs ≡ n) × (last_passes (λ b. eqb b delimiter) bs ≡ true)
 unfolding line_length
-length_ok delimiter most bs n = on_test (λ r. r ≡ Ok n → (length bs ≡ n) × (last_passes (λ b. eqb b delimiter) bs ≡ true))
+length_ok delimiter most bs n =
+    on_test (λ r. r ≡ Ok n → (length bs ≡ n) × (last_passes (λ b. eqb b delimiter) bs ≡ true))
     (last_passes (λ b. eqb b delimiter) bs) (Ok (length bs)) (Err (no_end most (length bs)))
     (λ ends is. (cc, ends))
     (λ _ is. absurd cc)
@@ -181,15 +194,18 @@ seen_ok f (Err e) y is = absurd cc
 
 behind_space_le : (bs : List ℕ) → length (behind_space bs) ≤ length bs
 behind_space_le [] = omega arith
-behind_space_le (b ∷ bs) = on_test (λ rest. length rest ≤ length (b ∷ bs)) (is_ascii_whitespace b) (behind_space bs) (b ∷ bs)
+behind_space_le (b ∷ bs) =
+    on_test (λ rest. length rest ≤ length (b ∷ bs)) (is_ascii_whitespace b) (behind_space bs) (b ∷ bs)
     (λ _. omega (arith, behind_space_le bs)) (λ _. omega arith)
 
 -- a word takes the bytes that were read, of which there are some, and white space ends it
 pub word_ok : (bs : List ℕ) (w : WordRead) → word_text bs ≡ Ok w → (length bs ≡ w.taken) × (0 < length bs)
     × (last_passes (λ b. is_word_end b (length bs)) (behind_space bs) ≡ true)
 unfolding word_text ended_word
-word_ok bs w = on_test (λ r. r ≡ Ok w → (length bs ≡ w.taken) × (0 < length bs) × (last_passes (λ b. is_word_end b (length bs))
-    (behind_space bs) ≡ true)) (last_passes (λ b. is_word_end b (length bs)) (behind_space bs)) (word_of (length bs) (behind_space bs))
+word_ok bs w = on_test
+    (λ r. r ≡ Ok w → (length bs ≡ w.taken) × (0 < length bs) × (last_passes (λ b. is_word_end b (length bs))
+    (behind_space bs) ≡ true)) (last_passes (λ b. is_word_end b (length bs)) (behind_space bs))
+    (word_of (length bs) (behind_space bs))
     (Err (no_end word_room (length bs)))
     (λ ends is.
     let text = seen_ok (word_at (length bs) (behind_space bs)) (utf8 (before_last (behind_space bs))) w is in
@@ -198,7 +214,8 @@ word_ok bs w = on_test (λ r. r ≡ Ok w → (length bs ≡ w.taken) × (0 < len
     (λ _ is. absurd cc)
 
 below_room : (last count : ℕ) → is_word_end last count ≡ true → count < word_room
-below_room last count is = let few : ltb count word_room ≡ true = (and_parts (is_ascii_whitespace last) (ltb count word_room) is).1 in
+below_room last count is = let few : ltb count word_room ≡ true =
+    (and_parts (is_ascii_whitespace last) (ltb count word_room) is).1 in
     grind (arith, nat_tests)
 
 -- so what was read of it was paid for
@@ -259,7 +276,8 @@ any_last : (p : ℕ → Bool) (bs : List ℕ) → last_passes p bs ≡ true → 
 any_last p bs is = any_at p bs (length bs - 1) (omega (arith, passes_some p bs is)) (passes_last p bs is)
 
 -- the text ended where a byte that ends it is the last
-line_ended : (delimiter most : ℕ) (bs : List ℕ) → last_passes (λ b. eqb b delimiter) bs ≡ true → is_ended (Line delimiter) bs ≡ true
+line_ended : (delimiter most : ℕ) (bs : List ℕ) → last_passes (λ b. eqb b delimiter) bs ≡ true
+    → is_ended (Line delimiter) bs ≡ true
 unfolding is_ended
 line_ended delimiter most bs is = any_last (λ b. eqb b delimiter) bs is
 
@@ -267,19 +285,25 @@ drop_space : (bs : List ℕ) → drop (space_before Word bs) bs ≡ behind_space
 drop_space [] = refl
 drop_space (b ∷ bs) =
     let one : 1 + space_before Word bs ≡ suc (space_before Word bs) = omega arith in
-    let Goal : Bool → Type 0 = λ is. drop (cond (not (not is)) (1 + space_before Word bs) 0) (b ∷ bs) ≡ cond is (behind_space bs) (b ∷ bs) in
+    let Goal : Bool → Type 0 = λ is. drop (cond (not (not is)) (1 + space_before Word bs) 0) (b ∷ bs)
+    ≡ cond is (behind_space bs) (b ∷ bs) in
     elim (is_ascii_whitespace b) as Goal [ true ↦ ap (λ n. drop n (b ∷ bs)) one ∙ drop_space bs | false ↦ refl ]
 
-any_white : (count : ℕ) (bs : List ℕ) → last_passes (λ b. is_word_end b count) bs ≡ true → list_any is_ascii_whitespace bs ≡ true
-any_white count bs is = any_at is_ascii_whitespace bs (length bs - 1) (omega (arith, passes_some (λ b. is_word_end b count) bs is))
-    (and_parts (is_ascii_whitespace (last_byte bs)) (ltb count word_room) (passes_last (λ b. is_word_end b count) bs is)).0
+any_white : (count : ℕ) (bs : List ℕ) → last_passes (λ b. is_word_end b count) bs ≡ true
+    → list_any is_ascii_whitespace bs ≡ true
+any_white count bs is =
+    any_at is_ascii_whitespace bs (length bs - 1) (omega (arith, passes_some (λ b. is_word_end b count) bs is))
+    (and_parts (is_ascii_whitespace (last_byte bs)) (ltb count word_room)
+    (passes_last (λ b. is_word_end b count) bs is)).0
 
-word_ended : (bs : List ℕ) → last_passes (λ b. is_word_end b (length bs)) (behind_space bs) ≡ true → is_ended Word bs ≡ true
+word_ended : (bs : List ℕ) → last_passes (λ b. is_word_end b (length bs)) (behind_space bs) ≡ true
+    → is_ended Word bs ≡ true
 unfolding is_ended
 word_ended bs is = ap (list_any is_ascii_whitespace) (drop_space bs) ∙ any_white (length bs) (behind_space bs) is
 
 -- what holds of what goes on and of a refusal
-pub found_by : {X Y : Type 0} (P : Layout Y → Type 0) (r : Result X Halt) (f : X → Layout Y) → ((x : X) → r ≡ Ok x → P (f x))
+pub found_by : {X Y : Type 0} (P : Layout Y → Type 0) (r : Result X Halt) (f : X → Layout Y)
+    → ((x : X) → r ≡ Ok x → P (f x))
     → ((e : Halt) → P (refuse e)) → P (accept r f)
 found_by P (Ok x) f goes_on out = goes_on x refl
 found_by P (Err e) f goes_on out = out e
@@ -295,25 +319,31 @@ module _ {X : Type 0} (delimiter place most : ℕ) (f : List ℕ → Layout X) w
       let here = total-span_at place (length bs) in
       let short = text_length d (Line delimiter) place most in
       let part = part_length d place most in
-      let all = total-append (span_at place (length bs)) (layout_reads d (accept (line_text delimiter most bs) f)).marks in
-      let next = found_by (λ t. length bs ≤ most → length bs + total (layout_reads d t).marks ≤ k) (line_text delimiter most bs) f
-      (λ text is long. let same = (line_ok delimiter most bs text is).0 in let more = rest text (omega arith) in omega arith)
+      let all = total-append (span_at place (length bs))
+      (layout_reads d (accept (line_text delimiter most bs) f)).marks in
+      let next = found_by (λ t. length bs ≤ most → length bs + total (layout_reads d t).marks ≤ k)
+      (line_text delimiter most bs) f
+      (λ text is long. let same = (line_ok delimiter most bs text is).0 in let more = rest text (omega arith) in
+      omega arith)
       (λ e long. omega arith) in
       let sum = next (omega arith) in
       omega arith
 
-  pub line_onto : (to : X → Option ℕ) (q : ℕ) → q ≤ place → ((text : List ℕ) → Onto to (place + (length text + 1)) (f text))
+  pub line_onto : (to : X → Option ℕ) (q : ℕ) → q ≤ place
+      → ((text : List ℕ) → Onto to (place + (length text + 1)) (f text))
       → Onto to q (line_at delimiter place most f)
   line_onto to q here rest = (
     here,
     λ bs. found_by (Onto to (place + length bs)) (line_text delimiter most bs) f
-        (λ text is. subst (λ n. Onto to (place + n) (f text)) (sym (line_ok delimiter most bs text is).0) (rest text)) (λ e. tt),
+        (λ text is. subst (λ n. Onto to (place + n) (f text)) (sym (line_ok delimiter most bs text is).0) (rest text))
+        (λ e. tt),
   )
 
   pub line_plain : ((text : List ℕ) → Plain (f text)) → Plain (line_at delimiter place most f)
   line_plain rest = λ bs. (
     (λ open_end _. found_by Never (line_text delimiter most bs) f
-        (λ text is. absurd (let ended = line_ended delimiter most bs (line_ok delimiter most bs text is).1 in cc)) (λ e. tt)),
+        (λ text is. absurd (let ended = line_ended delimiter most bs (line_ok delimiter most bs text is).1 in cc))
+        (λ e. tt)),
     found_by Plain (line_text delimiter most bs) f (λ text _. rest text) (λ e. tt),
   )
 
@@ -341,17 +371,21 @@ module _ {X : Type 0} (delimiter place most : ℕ) (f : ℕ → Layout X) where
   pub passed_plain : ((n : ℕ) → Plain (f n)) → Plain (passed_line delimiter place most f)
   passed_plain rest = λ bs. (
     (λ open_end _. found_by Never (line_length delimiter most bs) f
-        (λ n is. absurd (let ended = line_ended delimiter most bs (length_ok delimiter most bs n is).1 in cc)) (λ e. tt)),
+        (λ n is. absurd (let ended = line_ended delimiter most bs (length_ok delimiter most bs n is).1 in cc))
+        (λ e. tt)),
     found_by Plain (line_length delimiter most bs) f (λ n _. rest n) (λ e. tt),
   )
 
-pub passed_tells : {C X : Type 0} (delimiter place most : ℕ) (f : ℕ → Layout (Said C X)) (P : ℕ → Type 0) → ((n : ℕ) → Tells P (f n))
+pub passed_tells : {C X : Type 0} (delimiter place most : ℕ) (f : ℕ → Layout (Said C X)) (P : ℕ → Type 0)
+    → ((n : ℕ) → Tells P (f n))
     → Tells P (passed_line delimiter place most f)
-passed_tells delimiter place most f P rest = λ bs. found_by (Tells P) (line_length delimiter most bs) f (λ n _. rest n) (λ e. tt)
+passed_tells delimiter place most f P rest =
+    λ bs. found_by (Tells P) (line_length delimiter most bs) f (λ n _. rest n) (λ e. tt)
 
 -- words
 module _ {X : Type 0} (place : ℕ) (f : WordRead → Layout X) where
-  pub word_onto : (to : X → Option ℕ) (q : ℕ) → q ≤ place → ((w : WordRead) → Onto to (place + w.taken) (f w)) → Onto to q (word place f)
+  pub word_onto : (to : X → Option ℕ) (q : ℕ) → q ≤ place → ((w : WordRead) → Onto to (place + w.taken) (f w))
+      → Onto to q (word place f)
   word_onto to q here rest = (
     here,
     λ bs. found_by (Onto to (place + length bs)) (word_text bs) f
@@ -360,17 +394,20 @@ module _ {X : Type 0} (place : ℕ) (f : WordRead → Layout X) where
 
   pub word_plain : ((w : WordRead) → Plain (f w)) → Plain (word place f)
   word_plain rest = λ bs. (
-    (λ open_end _. found_by Never (word_text bs) f (λ w is. absurd (let ended = word_ended bs (word_ok bs w is).2 in cc)) (λ e. tt)),
+    (λ open_end _. found_by Never (word_text bs) f
+        (λ w is. absurd (let ended = word_ended bs (word_ok bs w is).2 in cc)) (λ e. tt)),
     found_by Plain (word_text bs) f (λ w _. rest w) (λ e. tt),
   )
 
 module _ {C X : Type 0} (place : ℕ) (f : WordRead → Layout (Said C X)) where
   pub word_tells : (P : ℕ → Type 0) → ((w : WordRead) → 0 < w.taken → Tells P (f w)) → Tells P (word place f)
-  word_tells P rest = λ bs. found_by (Tells P) (word_text bs) f (λ w is. let ok = word_ok bs w is in rest w (omega (arith, ok.0, ok.1)))
+  word_tells P rest = λ bs. found_by (Tells P) (word_text bs) f
+      (λ w is. let ok = word_ok bs w is in rest w (omega (arith, ok.0, ok.1)))
       (λ e. tt)
 
   pub word_begins : (q : ℕ) → q ≤ place → Begins q (word place f)
-  word_begins q here = (here, found_by (Tells (λ _. ⊥)) (word_text []) f (λ w is. absurd (omega (arith, (word_ok [] w is).1))) (λ e. tt))
+  word_begins q here =
+      (here, found_by (Tells (λ _. ⊥)) (word_text []) f (λ w is. absurd (omega (arith, (word_ok [] w is).1))) (λ e. tt))
 
 -- beyond the end of the input a text has no byte
 none_left : (bs : List ℕ) → length bs ≡ 0 → bs ≡ []
@@ -378,7 +415,8 @@ none_left [] is = refl
 none_left (b ∷ bs) is = absurd (omega arith)
 
 text_none : (d : List ℕ) (t : Text) (place k : ℕ) → length d ≤ place → text_part d t place k ≡ []
-text_none d t place k h = none_left (text_part d t place k) (omega (arith, text_length d t place k, part_length d place k))
+text_none d t place k h =
+    none_left (text_part d t place k) (omega (arith, text_length d t place k, part_length d place k))
 
 line_none : (delimiter most : ℕ) → 0 < most → line_text delimiter most [] ≡ Err Ended
 unfolding line_text
@@ -394,14 +432,16 @@ over_text : {X : Type 0} → List ℕ → ℕ → List ℕ → Layout X → Read
 over_text d place bs t = put_behind (span_at place (length bs)) (layout_reads d t)
 
 -- and a layout that reads one there is refused, with no mark of it
-pub line_beyond : {X : Type 0} (d : List ℕ) (delimiter place most : ℕ) (f : List ℕ → Layout X) → length d ≤ place → 0 < most
+pub line_beyond : {X : Type 0} (d : List ℕ) (delimiter place most : ℕ) (f : List ℕ → Layout X) → length d ≤ place
+    → 0 < most
     → layout_reads d (line_at delimiter place most f) ≡ refuses Ended
 unfolding span_at over_text
 line_beyond d delimiter place most f h some =
     ap (λ bs. over_text d place bs (accept (line_text delimiter most bs) f)) (text_none d (Line delimiter) place most h)
     ∙ ap (λ r. layout_reads d (accept r f)) (line_none delimiter most some)
 
-pub word_beyond : {X : Type 0} (d : List ℕ) (place : ℕ) (f : WordRead → Layout X) → length d ≤ place → layout_reads d (word place f)
+pub word_beyond : {X : Type 0} (d : List ℕ) (place : ℕ) (f : WordRead → Layout X) → length d ≤ place
+    → layout_reads d (word place f)
     ≡ refuses Ended
 unfolding span_at over_text
 word_beyond d place f h =
@@ -411,19 +451,23 @@ word_beyond d place f h =
 as_beyond : {X : Type 0} (d : List ℕ) (t : Text) (place k : ℕ) (f : List ℕ → Result X Halt) → length d ≤ place
     → text_as d t place k f ≡ record { answer = f []; marks = [] }
 unfolding span_at
-as_beyond d t place k f h = ap (λ bs. record { answer = f bs; marks = span_at place (length bs) }) (text_none d t place k h)
+as_beyond d t place k f h =
+    ap (λ bs. record { answer = f bs; marks = span_at place (length bs) }) (text_none d t place k h)
 
 -- no input is so long that a text stands beyond 64 bits
-pub text_saturated : {X : Type 0} {a b : State} {r : Result X Halt} (t : Text) (place k : ℕ) (f : List ℕ → Result X Halt)
-    → Runs a b r (text_as a.held.input t (min place (2 ^ 64 - 1)) k f) → Runs a b r (text_as a.held.input t place k f)
-text_saturated t place k f h = saturated_by (λ p d. text_as d t p k f) (record { answer = f []; marks = [] }) place
-    (λ d p far. as_beyond d t p k f far) h
+pub text_saturated : {X : Type 0} {a b : State} {r : Result X Halt} (t : Text) (place at k : ℕ)
+    (f : List ℕ → Result X Halt)
+    → Runs a b r (text_as a.held.input t at k f) → at ≡ min place (2 ^ 64 - 1)
+    → Runs a b r (text_as a.held.input t place k f)
+text_saturated t place at k f = saturated_by (λ p d. text_as d t p k f) (record { answer = f []; marks = [] }) place at
+    (λ d p far. as_beyond d t p k f far)
 
 -- readings behind readings last where both do
 pub lasts_then : {X Y : Type 0} (r : List ℕ → Reads X) (f : X → List ℕ → Reads Y) → Lasts r → ((y : X) → Lasts (f y))
     → Lasts (λ d. and_then (r d) (λ y. f y d))
 lasts_then {X} {Y} r f first rest d x v is = by_answer (r d).answer refl where
-  by_answer : (a : Result X Halt) → (r d).answer ≡ a → and_then (r (d ++ x)) (λ y. f y (d ++ x)) ≡ and_then (r d) (λ y. f y d)
+  by_answer : (a : Result X Halt) → (r d).answer ≡ a
+      → and_then (r (d ++ x)) (λ y. f y (d ++ x)) ≡ and_then (r d) (λ y. f y d)
   by_answer (Ok y) got =
       let ends : (f y d).answer ≡ Ok v = sym (ap (λ a. (go_on (r d).marks a (λ y. f y d)).answer) got) ∙ is in
       ap (λ w. and_then w (λ y. f y (d ++ x))) (first d x y got) ∙ ap (λ a. go_on (r d).marks a (λ y. f y (d ++ x))) got
@@ -431,7 +475,8 @@ lasts_then {X} {Y} r f first rest d x v is = by_answer (r d).answer refl where
   by_answer (Err e) got = absurd (let no : ◌≡◌ {A = Result Y Halt} (Err e) (Ok v) =
       sym (ap (λ a. (go_on (r d).marks a (λ y. f y d)).answer) got) ∙ is in cc)
 
-answered_done : {X : Type 0} (marks : List Span) (a : Result X Halt) → go_on marks a gives ≡ record { answer = a; marks = marks }
+answered_done : {X : Type 0} (marks : List Span) (a : Result X Halt)
+    → go_on marks a gives ≡ record { answer = a; marks = marks }
 answered_done marks (Ok x) = ap (λ m. record { answer = Ok x; marks = m }) (append-nil marks)
 answered_done marks (Err e) = refl
 

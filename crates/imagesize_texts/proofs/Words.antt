@@ -58,8 +58,13 @@ behind_space-prefix : (bs : List ℕ) → drop (prefix_len is_ascii_whitespace b
 behind_space-prefix [] = refl
 behind_space-prefix (b ∷ bs) =
     let one : 1 + prefix_len is_ascii_whitespace bs ≡ suc (prefix_len is_ascii_whitespace bs) = omega arith in
-    let Goal : Bool → Type 0 = λ is. drop (cond is (1 + prefix_len is_ascii_whitespace bs) 0) (b ∷ bs) ≡ cond is (behind_space bs) (b ∷ bs) in
-    elim (is_ascii_whitespace b) as Goal [ true ↦ ap (λ n. drop n (b ∷ bs)) one ∙ behind_space-prefix bs | false ↦ refl ]
+    let Goal : Bool → Type 0 = λ is. drop (cond is (1 + prefix_len is_ascii_whitespace bs) 0) (b ∷ bs)
+    ≡ cond is (behind_space bs) (b ∷ bs) in
+    elim (is_ascii_whitespace b) as Goal [
+      | true ↦ ap (λ n. drop n (b ∷ bs)) one
+          ∙ behind_space-prefix bs
+      | false ↦ refl
+    ]
 
 pub behind_space_is : (bs rest : List ℕ) → IsTrimAsciiStart bs rest → rest ≡ behind_space bs
 behind_space_is bs rest is = trim_ascii_start_is bs rest is ∙ behind_space-prefix bs
@@ -68,12 +73,14 @@ digits_are : IsNumeralModel (λ ds. all_ascii_digits ds ≡ true) (digits_value 
 digits_are = numerals_by_value (λ ds. all_ascii_digits ds ≡ true) tells_all_ascii_digits
 
 -- a text is a number where it is digits of a number of 64 bits
-number_is : (text : List ℕ) → IsNumeral 10 (without_leading_plus text) → digits_value 10 (without_leading_plus text) < 2 ^ 64
+number_is : (text : List ℕ) → IsNumeral 10 (without_leading_plus text)
+    → digits_value 10 (without_leading_plus text) < 2 ^ 64
     → is_number text ≡ true
 unfolding is_number
 number_is text is small =
     let some = is.0 in
-    let digits : all_ascii_digits (without_leading_plus text) ≡ true = digits_are.from (without_leading_plus text) is.1 in
+    let digits : all_ascii_digits (without_leading_plus text) ≡ true =
+    digits_are.from (without_leading_plus text) is.1 in
     rw digits (grind (arith, nat_tests))
 
 below : (a b : ℕ) → ltb a b ≡ true → a < b
@@ -86,15 +93,18 @@ is_numeral text is =
     let ds : List ℕ = without_leading_plus text in
     let parts : (ltb 0 (length ds) && all_ascii_digits ds ≡ true) × (ltb (digits_value 10 ds) (2 ^ 64) ≡ true) =
     and_parts (ltb 0 (length ds) && all_ascii_digits ds) (ltb (digits_value 10 ds) (2 ^ 64)) is in
-    let digits : (ltb 0 (length ds) ≡ true) × (all_ascii_digits ds ≡ true) = and_parts (ltb 0 (length ds)) (all_ascii_digits ds) parts.0 in
+    let digits : (ltb 0 (length ds) ≡ true) × (all_ascii_digits ds ≡ true) =
+    and_parts (ltb 0 (length ds)) (all_ascii_digits ds) parts.0 in
     ((below 0 (length ds) digits.0, digits_are.to ds digits.1), below (digits_value 10 ds) (2 ^ 64) parts.1)
 
 -- what std parses as a number
-pub parsed : {E : Type 0} (text : List ℕ) (r : Result ℕ E) → ParsesUnsigned 64 10 text r → result_ok r ≡ number_text text
+pub parsed : {E : Type 0} (text : List ℕ) (r : Result ℕ E) → ParsesUnsigned 64 10 text r
+    → result_ok r ≡ number_text text
 unfolding number_text
 parsed {E} text (Ok v) is = let test = number_is text is.0.0 is.0.1 in
     ap Some is.1 ∙ sym (ap (λ b. cond b (Some (digits_value 10 (without_leading_plus text))) None) test)
-parsed {E} text (Err e) is = sym (on_test (λ r. r ≡ None) (is_number text) (Some (digits_value 10 (without_leading_plus text))) None
+parsed {E} text (Err e) is =
+    sym (on_test (λ r. r ≡ None) (is_number text) (Some (digits_value 10 (without_leading_plus text))) None
     (λ test. absurd (is (is_numeral text test))) (λ _. refl))
 
 -- white space before the words of some characters
@@ -102,9 +112,11 @@ char_words_gap : (gap cs : List ℕ) → NonePass is_not_whitespace gap → char
 char_words_gap [] cs none = refl
 char_words_gap (c ∷ gap) cs none =
     let white : is_whitespace c ≡ true = grind (arith, nat_tests) in
-    ap (filter (λ word. ltb 0 (length word))) (slice_split-cons_yes is_whitespace c (gap ++ cs) white) ∙ char_words_gap gap cs none.1
+    ap (filter (λ word. ltb 0 (length word))) (slice_split-cons_yes is_whitespace c (gap ++ cs) white)
+    ∙ char_words_gap gap cs none.1
 
-split_word : (word cs : List ℕ) (parts : List (List ℕ)) → NonePass is_whitespace word → slice_split is_whitespace cs ≡ [] ∷ parts
+split_word : (word cs : List ℕ) (parts : List (List ℕ)) → NonePass is_whitespace word
+    → slice_split is_whitespace cs ≡ [] ∷ parts
     → slice_split is_whitespace (word ++ cs) ≡ word ∷ parts
 split_word [] cs parts none is = is
 split_word (c ∷ word) cs parts none is = slice_split-cons_no is_whitespace c (word ++ cs) none.0 ∙ ap (onto_first c)
@@ -124,11 +136,13 @@ char_words_word (c ∷ word) cs parts some none is =
 -- the text behind some characters of a text is text
 rest_utf8 : (cs : List ℕ) (text rest : List ℕ) → IsUtf8 text → text ≡ encode_utf8_all cs ++ rest → IsUtf8 rest
 rest_utf8 [] text rest utf is = subst IsUtf8 is utf
-rest_utf8 (c ∷ cs) text rest utf is = rest_utf8 cs (encode_utf8_all cs ++ rest) rest (IsUtf8-past_char text (encode_utf8_all cs ++ rest)
+rest_utf8 (c ∷ cs) text rest utf is =
+    rest_utf8 cs (encode_utf8_all cs ++ rest) rest (IsUtf8-past_char text (encode_utf8_all cs ++ rest)
     c utf (is ∙ append_assoc (encode_utf8 c) (encode_utf8_all cs) rest)) refl
 
 -- a text that begins with white space, or is empty, has no first part
-split_starts : (rest more : List ℕ) → IsUtf8 rest → EmptyOrStartsWithPassing is_whitespace rest more → (parts : List (List ℕ))
+split_starts : (rest more : List ℕ) → IsUtf8 rest → EmptyOrStartsWithPassing is_whitespace rest more
+    → (parts : List (List ℕ))
     × (slice_split is_whitespace (chars rest) ≡ [] ∷ parts)
 split_starts [] more utf starts = ([], ap (slice_split is_whitespace) chars-nil)
 split_starts (b ∷ rest) more utf starts =
@@ -144,7 +158,8 @@ some_chars (c ∷ cs) bs is some = omega arith
 
 -- the words of a text are the first and those of what follows it
 pub word_first : (text gap word rest more : List ℕ) → IsUtf8 text → text ≡ gap ++ (word ++ rest) → 0 < length word
-    → NoCharPasses is_not_whitespace gap → NoCharPasses is_whitespace word → EmptyOrStartsWithPassing is_whitespace rest more
+    → NoCharPasses is_not_whitespace gap → NoCharPasses is_whitespace word
+    → EmptyOrStartsWithPassing is_whitespace rest more
     → (words text ≡ word ∷ words rest) × IsUtf8 rest
 unfolding words
 word_first text gap word rest more utf is some gaps letters starts =
@@ -152,14 +167,16 @@ word_first text gap word rest more utf is some gaps letters starts =
     let ws : List ℕ = letters.0 in
     let whole : text ≡ encode_utf8_all (gs ++ ws) ++ rest =
     is ∙ ap (λ g. g ++ (word ++ rest)) (sym gaps.1) ∙ ap (λ w. encode_utf8_all gs ++ (w ++ rest)) (sym letters.1)
-    ∙ sym (append_assoc (encode_utf8_all gs) (encode_utf8_all ws) rest) ∙ ap (λ bs. bs ++ rest) (sym (encodes-append gs ws)) in
+    ∙ sym (append_assoc (encode_utf8_all gs) (encode_utf8_all ws) rest)
+    ∙ ap (λ bs. bs ++ rest) (sym (encodes-append gs ws)) in
     let utf_rest : IsUtf8 rest = rest_utf8 (gs ++ ws) text rest utf whole in
     let all : encode_utf8_all ((gs ++ ws) ++ chars rest) ≡ text = encodes-append (gs ++ ws) (chars rest)
     ∙ ap (λ bs. encode_utf8_all (gs ++ ws) ++ bs) (encodes-chars rest utf_rest) ∙ sym whole in
     let cs : (gs ++ ws) ++ chars rest ≡ chars text = chars_from_encodes ((gs ++ ws) ++ chars rest) text utf all in
     let parts = split_starts rest more utf_rest starts in (
       ap (λ cs. map encode_utf8_all (char_words cs)) (sym cs ∙ append_assoc gs ws (chars rest))
-          ∙ ap (map encode_utf8_all) (char_words_gap gs (ws ++ chars rest) gaps.2 ∙ char_words_word ws (chars rest) parts.0
+          ∙ ap (map encode_utf8_all)
+          (char_words_gap gs (ws ++ chars rest) gaps.2 ∙ char_words_word ws (chars rest) parts.0
           (some_chars ws word letters.1 some) letters.2 parts.1)
           ∙ ap (λ w. w ∷ map encode_utf8_all (char_words (chars rest))) letters.1,
       utf_rest,
@@ -183,11 +200,13 @@ taken_start utf is = record { is = ap words (sym is); utf = subst IsUtf8 (sym is
 
 -- a word comes off the front of some bytes, as a call of `next` says, and leaves others
 abbrev pub TakesWord : (bytes word rest : List ℕ) → Type 0
-TakesWord bytes word rest = (gap : List ℕ) × (bytes ≡ gap ++ (word ++ rest)) × (0 < length word) × NoCharPasses is_not_whitespace gap
+TakesWord bytes word rest =
+    (gap : List ℕ) × (bytes ≡ gap ++ (word ++ rest)) × (0 < length word) × NoCharPasses is_not_whitespace gap
     × NoCharPasses is_whitespace word × ((more : List ℕ) × EmptyOrStartsWithPassing is_whitespace rest more)
 
 -- one more is
-pub taken_next : {text : List ℕ} {ws : List (List ℕ)} {bytes word rest : List ℕ} → Taken text ws bytes → TakesWord bytes word rest
+pub taken_next : {text : List ℕ} {ws : List (List ℕ)} {bytes word rest : List ℕ} → Taken text ws bytes
+    → TakesWord bytes word rest
     → Taken text (ws ++ word ∷ []) rest
 taken_next {text} {ws} {bytes} {word} {rest} taken step =
     let next = word_first bytes step.0 word rest step.5.0 taken.utf step.1 step.2 step.3 step.4 step.5.1 in
@@ -197,6 +216,8 @@ taken_next {text} {ws} {bytes} {word} {rest} taken step =
     }
 
 -- or none is left
-pub taken_end : {text : List ℕ} {ws : List (List ℕ)} {rest : List ℕ} → Taken text ws rest → NoCharPasses is_not_whitespace rest
+pub taken_end : {text : List ℕ} {ws : List (List ℕ)} {rest : List ℕ} → Taken text ws rest
+    → NoCharPasses is_not_whitespace rest
     → words text ≡ ws
-taken_end {text} {ws} {rest} taken none = taken.is ∙ ap (λ more. ws ++ more) (word_none rest taken.utf none) ∙ append-nil ws
+taken_end {text} {ws} {rest} taken none = taken.is ∙ ap (λ more. ws ++ more) (word_none rest taken.utf none)
+    ∙ append-nil ws

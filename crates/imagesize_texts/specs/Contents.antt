@@ -15,62 +15,62 @@ last_byte bs = slice_index bs (length bs - 1)
 abbrev pub before_last : List ℕ → List ℕ
 before_last bs = take (length bs - 1) bs
 
--- there is a last byte, and it passes
+-- whether there is a last byte, and it passes
 abbrev pub last_passes : (ℕ → Bool) → List ℕ → Bool
 last_passes p bs = nat_lt 0 (length bs) && p (last_byte bs)
 
--- why a text has no end: none of the first `most` bytes ends it, or the input ends before them
+-- why a text has no end: none of its `most` bytes ends it, or the input ends first
 abbrev pub no_end : ℕ → ℕ → Halt
 no_end most count = if count == most then (NoDelimiter most) else Ended
 
--- the bytes as text (RFC 3629, section 3)
+-- the bytes as text; an error if they are not UTF-8 (RFC 3629, section 3)
 unfoldable pub utf8 : List ℕ → Result (List ℕ) Halt
 utf8 bs = if is_utf8 bs then Ok bs else Err NotUtf8
 
--- the text of a line of at most so many bytes, without the delimiter that ends it
+-- the text of a line of at most `most` bytes, without the delimiter that ends it
 unfoldable pub line_text : ℕ → ℕ → List ℕ → Result (List ℕ) Halt
 line_text delimiter most bs = if last_passes (λ b. b == delimiter) bs then utf8 (before_last bs) else Err (no_end most (length bs))
 
--- how many bytes such a line takes, whether or not they are text
+-- the length of such a line in bytes; it need not be UTF-8
 unfoldable pub line_length : ℕ → ℕ → List ℕ → Result ℕ Halt
 line_length delimiter most bs = if last_passes (λ b. b == delimiter) bs then Ok (length bs) else Err (no_end most (length bs))
 
--- A word: its text, the white space that ends it, and how many bytes it takes, with the white space before it and
--- the one that ends it.
+-- A word: its text, the byte of white space that ends it, and its length in bytes. `taken` includes the white space
+-- before the word and the byte that ends it.
 pub record WordRead : Type 0 where
   pub text : List ℕ
   pub ended_by : ℕ
   pub taken : ℕ
 
--- a word may take fewer bytes than this
+-- a word is shorter than this number of bytes, with the white space before and after it
 abbrev pub word_room : ℕ
 word_room = 1024
 
--- the bytes behind the white space before a word
+-- the bytes after the white space before a word
 abbrev pub behind_space : List ℕ → List ℕ
 behind_space [] = []
 behind_space (b ∷ bs) = if is_ascii_whitespace b then behind_space bs else b ∷ bs
 
--- the word of these bytes, of so many with the white space before them
+-- the word at the front of these bytes; `count` includes the white space before it
 abbrev pub word_at : ℕ → List ℕ → List ℕ → WordRead
 word_at count bs text = record { text = text; ended_by = last_byte bs; taken = count }
 
 abbrev pub word_of : ℕ → List ℕ → Result WordRead Halt
 word_of count bs = map_answer (word_at count bs) (utf8 (before_last bs))
 
--- white space ends it, as one of fewer bytes than there is room for
+-- whether the byte ends a word: it is white space, and the word is short enough
 abbrev pub is_word_end : ℕ → ℕ → Bool
 is_word_end byte count = is_ascii_whitespace byte && nat_lt count word_room
 
--- the word that begins these bytes, of so many with the white space before them
+-- the word that these bytes are; `count` includes the white space before it
 unfoldable pub ended_word : ℕ → List ℕ → Result WordRead Halt
 ended_word count bs = if last_passes (λ b. is_word_end b count) bs then word_of count bs else Err (no_end word_room count)
 
--- a word behind white space
+-- a word after white space
 unfoldable pub word_text : List ℕ → Result WordRead Halt
 word_text bs = ended_word (length bs) (behind_space bs)
 
--- the text is a number of 64 bits: digits, before which one `+` may stand
+-- whether the text is a number below 2^64: digits, with an optional `+` before them
 unfoldable pub is_number : List ℕ → Bool
 is_number text = (nat_lt 0 (length (without_leading_plus text)) && all_ascii_digits (without_leading_plus text)) && nat_lt
     (digits_value 10 (without_leading_plus text)) (2 ^ 64)
@@ -79,7 +79,7 @@ is_number text = (nat_lt 0 (length (without_leading_plus text)) && all_ascii_dig
 unfoldable pub number_text : List ℕ → Option ℕ
 number_text text = if is_number text then Some (digits_value 10 (without_leading_plus text)) else None
 
--- the words of a text: what stands between white space (White_Space of the Unicode Character Database)
+-- the words of a text, separated by white space (White_Space of the Unicode Character Database)
 abbrev pub char_words : List ℕ → List (List ℕ)
 char_words cs = filter (λ word. nat_lt 0 (length word)) (slice_split is_whitespace cs)
 

@@ -2,6 +2,7 @@
 use Rattle.std.specs.Prelude.{ℕ, ◌+◌, Bool, ◌&&◌, List, [], ◌∷◌, length, codes, ◌==◌, if◌then◌else◌, Option, None, Some, ℤ, ◌-ℤ◌, int_le, unsigned_abs, bit_and}
 use Rattle.std.specs.Int.{w32, cast_signed}
 use Rattle.imagesize_types.specs.Head.{begins, four_at}
+use Rattle.imagesize_types.specs.Sides.{size_if_known}
 use Rattle.imagesize_types.specs.declared.size.ImageSize.{ImageSize}
 use Rattle.imagesize_source.specs.declared.halt.Halt.TheVariants.{DataWindowNotFound}
 use Rattle.imagesize_source.specs.declared.endian.Endian.TheVariants.{Little}
@@ -12,47 +13,43 @@ use Rattle.imagesize_source.specs.Numbers.{number}
 use Rattle.imagesize_source.specs.Reading.{Reads, and_then, number_read, number_at}
 use Rattle.imagesize_texts.specs.Texts.{line_at}
 
--- the magic number ("Magic Number")
+-- whether the input begins with the magic number ("Magic Number")
 unfoldable pub is_exr : List ℕ → Bool
 is_exr head = begins (0x76 ∷ 0x2F ∷ 0x31 ∷ 0x01 ∷ []) head
 
--- how many bytes a name may have with the zero that ends it: bit 10 allows long names ("Version Field")
+-- the greatest length of a name in bytes, with the zero that ends it; bit 10 allows long names ("Version Field")
 unfoldable pub name_room : ℕ → ℕ
 name_room version = if bit_and version 0x400 == 0 then 32 else 256
 
--- the bytes are this text
+-- whether the bytes are this text
 abbrev pub is_text : List ℕ → List ℕ → Bool
 is_text text bs = length bs == length text && begins text bs
 
--- the name of the attribute that holds the size, and its type ("Standard Attributes", "Predefined Attribute Types")
+-- the name and the type of the attribute that holds the size ("Standard Attributes", "Predefined Attribute Types")
 unfoldable pub is_data_window : List ℕ → Bool
 is_data_window name = is_text (codes "dataWindow") name
 
 unfoldable pub is_box : List ℕ → Bool
 is_box type_name = is_text (codes "box2i") type_name
 
--- the signed number of four bytes, the lowest first
+-- the signed number of four bytes, the lowest byte first
 abbrev pub signed_at : ℕ → List ℕ → ℤ
 signed_at place bs = cast_signed w32 (number Little (four_at place bs))
 
--- how many there are from a number to another that is no less, with both
+-- how many numbers there are from `low` to `high`, or `None` if `high` is lower
 unfoldable pub window_side : ℤ → ℤ → Option ℕ
 window_side low high = if int_le low high then Some (unsigned_abs (high -ℤ low) + 1) else None
 
-abbrev pub size_within : Option ℕ → Option ℕ → Option ImageSize
-size_within (Some width) (Some height) = Some (record { width = width; height = height })
-size_within (Some width) None = None
-size_within None height = None
-
--- the size of a box of xMin, yMin, xMax and yMax; one that is reversed has none
+-- the size of a box, which is xMin, yMin, xMax and yMax; a reversed box has no size
 unfoldable pub window_size : List ℕ → Option ImageSize
-window_size bs = size_within (window_side (signed_at 0 bs) (signed_at 8 bs)) (window_side (signed_at 4 bs) (signed_at 12 bs))
+window_size bs = size_if_known (window_side (signed_at 0 bs) (signed_at 8 bs)) (window_side (signed_at 4 bs) (signed_at 12 bs))
 
 abbrev pub exr_window : ℕ → ℕ → Option ImageSize → Layout (Said (Unit {0}) ImageSize)
 exr_window place taken (Some size) = done (Decided size)
 exr_window place taken None = done (Next tt (place + (taken + 16)))
 
--- the value, so far behind the attribute's place: a data window has 16 bytes, whatever size is told for it
+-- The value of an attribute, `taken` bytes after its offset. A data window has 16 bytes, whatever size the attribute
+-- states.
 abbrev pub exr_value : ℕ → ℕ → Bool → ℕ → Layout (Said (Unit {0}) ImageSize)
 exr_value place taken is_window size =
     if is_window then bytes (place + taken) 16 (λ bs. exr_window place taken (window_size bs))
@@ -63,17 +60,17 @@ exr_typed place name type_name =
     field Little (place + (length name + 1 + (length type_name + 1))) 4
     (λ size. exr_value place (length name + 1 + (length type_name + 1) + 4) (is_data_window name && is_box type_name) size)
 
--- no name ends the header ("Header")
+-- an empty name ends the header ("Header")
 abbrev pub exr_named : ℕ → ℕ → List ℕ → Layout (Said (Unit {0}) ImageSize)
 exr_named room place name =
     if length name == 0 then refuse DataWindowNotFound
     else line_at 0 (place + (length name + 1)) room (exr_typed place name)
 
--- an attribute is its name, its type, the size of its value, and the value ("Attribute Layout")
+-- an attribute: its name, its type, the size of its value, and the value ("Attribute Layout")
 abbrev pub exr_attribute : ℕ → ℕ → Layout (Said (Unit {0}) ImageSize)
 exr_attribute room place = line_at 0 place room (exr_named room place)
 
--- the attributes behind the version field
+-- the attributes after the version field
 abbrev pub exr_attributes : ℕ → Chain (Unit {0}) ImageSize
 exr_attributes room = record { first = 8; said = λ passed place. exr_attribute room place }
 

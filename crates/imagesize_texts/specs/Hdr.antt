@@ -1,6 +1,7 @@
 -- Radiance RGBE, by "Picture File Format" of the Radiance reference manual.
-use Rattle.std.specs.Prelude.{ℕ, ◌+◌, Bool, List, codes, [], ◌∷◌, ◌++◌, ◌||◌, ◌==◌, length, slice_index_or, if◌then◌else◌, Option, None, Some, Result, Ok, Err}
+use Rattle.std.specs.Prelude.{ℕ, ◌+◌, Bool, List, codes, [], ◌∷◌, ◌++◌, ◌||◌, ◌==◌, length, slice_index_or, if◌then◌else◌, Option, None, Some, Result, Err, ok_or}
 use Rattle.imagesize_types.specs.Head.{begins}
+use Rattle.imagesize_types.specs.Sides.{size_if_known}
 use Rattle.imagesize_types.specs.declared.size.ImageSize.{ImageSize}
 use Rattle.imagesize_source.specs.declared.halt.Halt.{Halt}
 use Rattle.imagesize_source.specs.declared.halt.Halt.TheVariants.{HdrDimensionsNotFound, InvalidHdrDimensionsLine, InvalidHdrIdentifier}
@@ -11,51 +12,46 @@ use Rattle.imagesize_source.specs.Reading.{Reads, and_then}
 use Rattle.imagesize_texts.specs.Contents.{number_text, words}
 use Rattle.imagesize_texts.specs.Texts.{line_at}
 
--- the first line
+-- whether the input begins with the first line
 unfoldable pub is_hdr : List ℕ → Bool
 is_hdr head = begins (codes "#?RADIANCE" ++ 0x0A ∷ []) head || begins (codes "#?RGBE" ++ 0x0A ∷ []) head
 
--- the identifier of the format, which begins the first line
+-- whether the first line begins with the format's identifier
 unfoldable pub is_identifier : List ℕ → Bool
 is_identifier text = begins (codes "#?RADIANCE") text || begins (codes "#?RGBE") text
 
 abbrev pub check_identifier : List ℕ → Layout ℕ
 check_identifier text = if is_identifier text then done (length text + 1) else refuse InvalidHdrIdentifier
 
--- how many bytes the first line takes, of 11 at most
+-- the length of the first line in bytes, at most 11
 abbrev pub hdr_identifier : Layout ℕ
 hdr_identifier = line_at 0x0A 0 11 check_identifier
 
--- a line gives the resolution where it begins with an axis and its direction
+-- whether a line gives the resolution: it begins with an axis and its direction
 unfoldable pub is_resolution : List ℕ → Bool
 is_resolution text = (begins (codes "-Y") text || begins (codes "+Y") text) || (begins (codes "-X") text || begins (codes "+X") text)
 
--- both numbers, or neither is known
-abbrev pub hdr_size : Option ℕ → Option ℕ → Result ImageSize Halt
-hdr_size (Some height) (Some width) = Ok (record { width = width; height = height })
-hdr_size (Some height) None = Err HdrDimensionsNotFound
-hdr_size None width = Err HdrDimensionsNotFound
-
--- the second and the fourth of four words: two axes, each with its length
+-- the second and the fourth of four words: the lengths of the two axes
 unfoldable pub second_and_fourth : List (List ℕ) → Option (List ℕ × List ℕ)
 second_and_fourth ws = if length ws == 4 then Some (slice_index_or ws 1 [], slice_index_or ws 3 []) else None
 
 abbrev pub hdr_lengths : Option (List ℕ × List ℕ) → Result ImageSize Halt
 hdr_lengths None = Err InvalidHdrDimensionsLine
-hdr_lengths (Some lengths) = hdr_size (number_text lengths.0) (number_text lengths.1)
+hdr_lengths (Some lengths) = ok_or (size_if_known (number_text lengths.1) (number_text lengths.0)) HdrDimensionsNotFound
 
--- the size by such a line, whatever its axes are: the first length is the height
+-- the size from such a line; the first length is the height, whatever the axes are
 abbrev pub resolution : List ℕ → Result ImageSize Halt
 resolution text = hdr_lengths (second_and_fourth (words text))
 
 abbrev pub hdr_line : ℕ → List ℕ → Layout (Said (Unit {0}) ImageSize)
-hdr_line place text = if is_resolution text then accept (resolution text) (λ size. done (Decided size)) else done
-    (Next tt (place + (length text + 1)))
+hdr_line place text =
+    if is_resolution text then accept (resolution text) (λ size. done (Decided size))
+    else done (Next tt (place + (length text + 1)))
 
--- the lines behind the first, each of 256 bytes at most
+-- the lines after the first, of at most 256 bytes each
 abbrev pub hdr_lines : ℕ → Chain (Unit {0}) ImageSize
 hdr_lines first = record { first = first; said = λ passed place. line_at 0x0A place 256 (hdr_line place) }
 
--- the first of them that gives the resolution
+-- the first line that gives the resolution
 abbrev pub hdr : List ℕ → Reads ImageSize
 hdr d = and_then (layout_reads d hdr_identifier) (λ first. chain_at (hdr_lines first) d)

@@ -1,7 +1,8 @@
 -- The portable bitmaps, by pbm(5), pgm(5) and ppm(5) of Netpbm.
-use Rattle.std.specs.Prelude.{ℕ, ◌+◌, Bool, List, length, codes, nat_le, slice_index, ◌&&◌, ◌==◌, if◌then◌else◌, Option, None, Some, Result, Ok, Err}
+use Rattle.std.specs.Prelude.{ℕ, ◌+◌, Bool, List, length, codes, nat_le, slice_index, ◌&&◌, ◌==◌, if◌then◌else◌, Option, Result, ok_or}
 use Rattle.std.specs.Str.{trim}
 use Rattle.imagesize_types.specs.Head.{begins}
+use Rattle.imagesize_types.specs.Sides.{size_if_known}
 use Rattle.imagesize_types.specs.declared.size.ImageSize.{ImageSize}
 use Rattle.imagesize_source.specs.declared.halt.Halt.{Halt}
 use Rattle.imagesize_source.specs.declared.halt.Halt.TheVariants.{PnmDimensionsNotFound}
@@ -12,35 +13,34 @@ use Rattle.imagesize_source.specs.Reading.{Reads}
 use Rattle.imagesize_texts.specs.Contents.{WordRead, number_text}
 use Rattle.imagesize_texts.specs.Texts.{passed_line, word}
 
--- the letter P and a digit from 1 to 6
+-- whether the input begins with the letter P and a digit from 1 to 6
 unfoldable pub is_pnm : List ℕ → Bool
 is_pnm head = begins (codes "P") head && (nat_le 0x31 (slice_index head 1) && nat_le (slice_index head 1) 0x36)
 
--- a word begins a comment where a `#` is its first character but for white space (White_Space of the Unicode
--- Character Database)
+-- whether a word begins a comment: its first character after white space is `#` (White_Space of the Unicode Character
+-- Database)
 unfoldable pub is_comment : List ℕ → Bool
 is_comment text = slice_index (trim text) 0 == 0x23
 
--- a word that is no more than such white space
+-- whether a word is only such white space
 unfoldable pub is_blank : List ℕ → Bool
 is_blank text = length (trim text) == 0
 
--- both numbers, or neither is known
+-- the size; an error if one of the numbers is not known
 abbrev pub pnm_size : Option ℕ → Option ℕ → Result ImageSize Halt
-pnm_size (Some width) (Some height) = Ok (record { width = width; height = height })
-pnm_size (Some width) None = Err PnmDimensionsNotFound
-pnm_size None height = Err PnmDimensionsNotFound
+pnm_size width height = ok_or (size_if_known width height) PnmDimensionsNotFound
 
--- so many bytes at a place say nothing of the size
+-- these bytes say nothing about the size
 abbrev pub pnm_passed : ℕ → ℕ → Layout (Said (Unit {0}) ImageSize)
 pnm_passed place taken = done (Next tt (place + taken))
 
 -- a comment goes on to the end of its line, which may be the end of its first word
 abbrev pub pnm_comment : ℕ → WordRead → Layout (Said (Unit {0}) ImageSize)
-pnm_comment place w = if w.ended_by == 0x0A then pnm_passed place w.taken else passed_line 0x0A (place + w.taken) 1024
-    (λ rest. pnm_passed place (w.taken + rest))
+pnm_comment place w =
+    if w.ended_by == 0x0A then pnm_passed place w.taken
+    else passed_line 0x0A (place + w.taken) 1024 (λ rest. pnm_passed place (w.taken + rest))
 
--- the word behind the width is the height
+-- the word after the width is the height
 abbrev pub pnm_height : ℕ → WordRead → Layout (Said (Unit {0}) ImageSize)
 pnm_height place w = word (place + w.taken) (λ next. accept (pnm_size (number_text w.text) (number_text (trim next.text)))
     (λ size. done (Decided size)))
@@ -51,10 +51,10 @@ pnm_word place w =
     else if is_blank w.text then pnm_passed place w.taken
     else pnm_height place w
 
--- the words behind the magic number
+-- the words after the magic number
 abbrev pub pnm_words : Chain (Unit {0}) ImageSize
 pnm_words = record { first = 2; said = λ passed place. word place (pnm_word place) }
 
--- the first word that is neither in a comment nor blank is the width
+-- the first word that is neither blank nor in a comment is the width
 abbrev pub pnm : List ℕ → Reads ImageSize
 pnm d = chain_at pnm_words d

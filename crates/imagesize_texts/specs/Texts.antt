@@ -1,4 +1,4 @@
--- Texts as readings: lines of at most so many bytes, and words.
+-- Reads of texts: lines of a greatest length, and words.
 use Rattle.std.specs.Prelude.{ℕ, List, length, Result}
 use Rattle.imagesize_source.specs.declared.halt.Halt.{Halt}
 use Rattle.imagesize_source.specs.declared.text.Text.{Text}
@@ -9,23 +9,23 @@ use Rattle.imagesize_source.specs.Reading.{Reads, text_part}
 use Rattle.imagesize_texts.specs.declared.util.Word as declared
 use Rattle.imagesize_texts.specs.Contents.{WordRead, word_room, line_text, line_length, word_text}
 
--- the text of a line of at most so many bytes, which a delimiter ends
+-- the text of a line of at most `most` bytes, which a delimiter ends
 abbrev pub line_at : {X : Type 0} → ℕ → ℕ → ℕ → (List ℕ → Layout X) → Layout X
 line_at delimiter place most f = text (Line delimiter) place most (λ bs. accept (line_text delimiter most bs) f)
 
--- how many bytes such a line takes, whether or not it is text
+-- the length of such a line in bytes; it need not be UTF-8
 abbrev pub passed_line : {X : Type 0} → ℕ → ℕ → ℕ → (ℕ → Layout X) → Layout X
 passed_line delimiter place most f = text (Line delimiter) place most (λ bs. accept (line_length delimiter most bs) f)
 
--- a word, behind white space
+-- a word, after white space
 abbrev pub word : {X : Type 0} → ℕ → (WordRead → Layout X) → Layout X
 word place f = text Word place word_room (λ bs. accept (word_text bs) f)
 
--- what is made of a text that was read
+-- the read of a text, with a function applied to its bytes
 abbrev pub text_as : {X : Type 0} → List ℕ → Text → ℕ → ℕ → (List ℕ → Result X Halt) → Reads X
 text_as d t place k f = record { answer = f (text_part d t place k); marks = span_at place (length (text_part d t place k)) }
 
--- the readings of these three
+-- the reads of these three
 abbrev pub line_read : List ℕ → ℕ → ℕ → ℕ → Reads (List ℕ)
 line_read d delimiter place most = text_as d (Line delimiter) place most (line_text delimiter most)
 
@@ -35,6 +35,6 @@ length_read d delimiter place most = text_as d (Line delimiter) place most (line
 abbrev pub word_read : List ℕ → ℕ → Reads WordRead
 word_read d place = text_as d Word place word_room word_text
 
--- a word that was read
+-- a word as the code returns it
 abbrev pub read_word_of : declared.Word → WordRead
 read_word_of word = record { text = word.text.now; ended_by = word.ended_by; taken = word.taken }

@@ -1,4 +1,4 @@
--- The order of the ways to store pixels: that of their lists.
+-- The order of compressions: the position of each in its list.
 use Rattle.std.specs.Prelude.{ℕ}
 use Rattle.imagesize_types.specs.declared.compression.AtcCompression.{AtcCompression}
 use Rattle.imagesize_types.specs.declared.compression.AtcCompression.TheVariants as atc
@@ -11,21 +11,21 @@ use Rattle.imagesize_types.specs.declared.compression.PkmCompression.TheVariants
 use Rattle.imagesize_types.specs.declared.compression.PvrtcCompression.{PvrtcCompression}
 use Rattle.imagesize_types.specs.declared.compression.PvrtcCompression.TheVariants as pvrtc
 
--- of an ATC texture
+-- compressions of an ATC texture
 abbrev pub atc_rank : AtcCompression → ℕ
 atc_rank atc.Rgb = 0
 atc_rank atc.RgbaExplicit = 1
 atc_rank atc.RgbaInterpolated = 2
 atc_rank atc.Unknown = 3
 
--- of a HEIF
+-- compressions of a HEIF
 abbrev pub heif_rank : Compression → ℕ
 heif_rank heif.Av1 = 0
 heif_rank heif.Hevc = 1
 heif_rank heif.Jpeg = 2
 heif_rank heif.Unknown = 3
 
--- of a DDS
+-- compressions of a DDS
 abbrev pub dds_rank : DdsCompression → ℕ
 dds_rank dds.Bc1 = 0
 dds_rank dds.Bc2 = 1
@@ -38,7 +38,7 @@ dds_rank dds.Rgba32 = 7
 dds_rank dds.Rgb24 = 8
 dds_rank dds.Unknown = 9
 
--- of a PKM file
+-- compressions of a PKM file
 abbrev pub pkm_rank : PkmCompression → ℕ
 pkm_rank pkm.Etc1 = 0
 pkm_rank pkm.Etc2 = 1
@@ -50,7 +50,7 @@ pkm_rank pkm.EacRSigned = 6
 pkm_rank pkm.EacRgSigned = 7
 pkm_rank pkm.Unknown = 8
 
--- of a PowerVR texture
+-- compressions of a PowerVR texture
 abbrev pub pvrtc_rank : PvrtcCompression → ℕ
 pvrtc_rank pvrtc.Pvrtc2BppRgb = 0
 pvrtc_rank pvrtc.Pvrtc2BppRgba = 1

@@ -4,6 +4,7 @@ ghost use Rattle.std.proofs.Common.{rules};
 ghost use Rattle.std.specs.Cmp.{partial_order_from_own_ties};
 ghost use Rattle.std.specs.Cmp.Rules.{comparing};
 ghost use Rattle.imagesize_types.specs.Order.{area_of};
+ghost use Rattle.imagesize_types.specs.Sides.{size_if_known};
 
 use std::cmp::Ordering;
 
@@ -16,6 +17,17 @@ pub struct ImageSize {
     pub width: usize,
     /// The height in pixels.
     pub height: usize,
+}
+
+/// The size with these sides, or `None` if one of them is missing.
+#[inline(always)]
+pub fn size_if_known(width: Option<usize>, height: Option<usize>) -> Option<ImageSize>
+    ensures { result ≡ size_if_known width height }
+{
+    match (width, height) {
+        (Some(width), Some(height)) => Some(ImageSize { width, height }),
+        _ => None,
+    }
 }
 
 /// The number of pixels, which may need more than 64 bits.

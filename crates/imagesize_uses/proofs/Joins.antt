@@ -22,5 +22,6 @@ unfolding part
 in_second a b place n behind =
     let at : length a + (place - length a) ≡ place = omega (arith, behind) in
     let all : take (length b - (place - length a)) (drop (place - length a) b) ≡ drop (place - length a) b =
-    take_all (length b - (place - length a)) (drop (place - length a) b) (omega (arith, length-drop (place - length a) b)) in
+    take_all (length b - (place - length a)) (drop (place - length a) b)
+    (omega (arith, length-drop (place - length a) b)) in
     ap (take n) all ∙ ap (take n) (sym (drop-append-add a b (place - length a)) ∙ ap (λ p. drop p (a ++ b)) at)

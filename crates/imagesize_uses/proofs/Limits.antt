@@ -28,8 +28,10 @@ below_square s t b d less low is =
 -- the pair tells both numbers
 pair_same : (a b c d : ℕ) → pair a b ≡ pair c d → (a ≡ c) × (b ≡ d)
 pair_same a b c d is =
-    let low : a + b ≤ c + d = by_order (cases_lt (c + d) (a + b)) (λ less. below_square (c + d) (a + b) d b less (omega arith) (sym is)) in
-    let high : c + d ≤ a + b = by_order (cases_lt (a + b) (c + d)) (λ less. below_square (a + b) (c + d) b d less (omega arith) is) in
+    let low : a + b ≤ c + d =
+    by_order (cases_lt (c + d) (a + b)) (λ less. below_square (c + d) (a + b) d b less (omega arith) (sym is)) in
+    let high : c + d ≤ a + b =
+    by_order (cases_lt (a + b) (c + d)) (λ less. below_square (a + b) (c + d) b d less (omega arith) is) in
     let sum : a + b ≡ c + d = omega (arith, low, high) in
     let squares : (a + b) * (a + b) ≡ (c + d) * (c + d) = ap (λ s. s * s) sum in
     let second : b ≡ d = omega (arith, squares, is) in
@@ -40,7 +42,8 @@ pair_same a b c d is =
 
 -- what stays tells the reader, and how its count moved
 kept_same : (reader other : ℕ) (before after : Option ℕ) (left later taken : ℕ) → later + taken ≡ left
-    → kept_sum other after later ≡ kept_sum reader before left → (other ≡ reader) × (after ≡ option_map (λ c. c + taken) before)
+    → kept_sum other after later ≡ kept_sum reader before left
+    → (other ≡ reader) × (after ≡ option_map (λ c. c + taken) before)
 kept_same reader other None None left later taken rest is = ((pair_same other 0 reader 0 is).0, refl)
 kept_same reader other None (Some n) left later taken rest is =
     let no = (pair_same other (n + later + 1) reader 0 is).1 in absurd (omega (arith, no))
@@ -67,25 +70,30 @@ pub record Taken (reader other : ℕ) (before after : Option ℕ) (left later ta
   pub rises : after ≡ option_map (λ c. c + taken) before
   pub rest : later + taken ≡ left
 
-pub took : (reader other : ℕ) (before after : Option ℕ) (left later taken : ℕ) → left < 2 ^ 64 → later < 2 ^ 64 → taken < 2 ^ 64
+pub took : (reader other : ℕ) (before after : Option ℕ) (left later taken : ℕ) → left < 2 ^ 64 → later < 2 ^ 64
+    → taken < 2 ^ 64
     → limited_count other after later ≡ option_map (λ c. c + taken) (limited_count reader before left)
     → Taken reader other before after left later taken
 took reader other before after left later taken short also few is =
-    let sum : 2 ^ 64 - later + 2 ^ 66 * kept_sum other after later ≡ 2 ^ 64 - left + 2 ^ 66 * kept_sum reader before left + taken =
+    let sum : 2 ^ 64 - later + 2 ^ 66 * kept_sum other after later
+    ≡ 2 ^ 64 - left + 2 ^ 66 * kept_sum reader before left + taken =
     ap (λ o. unwrap_or o 0) is in
-    let both = same_rest (kept_sum reader before left) (kept_sum other after later) left later taken short also few sum in
+    let both = same_rest (kept_sum reader before left)
+    (kept_sum other after later) left later taken short also few sum in
     let kept = kept_same reader other before after left later taken both.1 both.0 in
     record { same = kept.0; rises = kept.1; rest = both.1 }
 
 -- ---- failures
 
-last_below : (failure : Option (Option Error)) (e : ImageError) → IsLast (limited_failure None failure) e → IsLast failure e
+last_below : (failure : Option (Option Error)) (e : ImageError) → IsLast (limited_failure None failure) e
+    → IsLast failure e
 last_below None e is = tt
 last_below (Some last) e is = is
 
 -- where something is left, a fault is that of the reader below
 pub fault_below : (spent : Option Error) (left : ℕ) (failure : Option (Option Error)) (v : Result ImageSize Rejection)
-    → is_none spent || nat_eq left 0 ≡ true → 0 < left → IsFaultOf (limited_failure spent failure) v → IsFaultOf failure v
+    → is_none spent || nat_eq left 0 ≡ true → 0 < left → IsFaultOf (limited_failure spent failure) v
+    → IsFaultOf failure v
 fault_below None left failure (Ok _) ends some fault = tt
 fault_below None left failure (Err (TooLarge _)) ends some fault = tt
 fault_below None left failure (Err (NoSize e)) ends some fault = λ is. last_below failure e (fault is)
@@ -102,7 +110,8 @@ no_fault (Err (NoSize e)) fault = by_test (is_fault e) refl where
 -- ---- the verdict
 
 -- what is said of an image without a fault is the verdict on it
-judged : (most : ℕ) (answer : Result ImageSize ImageError) (v : Result ImageSize Rejection) → IfOk v (λ size. answer ≡ Ok size)
+judged : (most : ℕ) (answer : Result ImageSize ImageError) (v : Result ImageSize Rejection)
+    → IfOk v (λ size. answer ≡ Ok size)
     → IfTooLarge v (λ size. answer ≡ Ok size) → IfNoSize v (λ e. is_fault e ≡ false → answer ≡ Err e)
     → IfOk v (λ size. size.width * size.height ≤ most) → IfTooLarge v (λ size. most < size.width * size.height)
     → IfNoSize v (λ e. is_fault e ≡ false) → v ≡ gate_verdict most answer
@@ -114,11 +123,14 @@ judged most answer (Err (TooLarge size)) _ image _ _ many _ =
     sym (ap (gate_verdict most) image ∙ ap (λ (b : Bool). if b then Ok size else Err (TooLarge size)) test)
 judged most answer (Err (NoSize e)) _ _ refused _ _ none = sym (ap (gate_verdict most) (refused none))
 
-pub decides : (telling : Option Telling) (failure : Option (Option Error)) (limit most : ℕ) (a : Admission) → Admits (may_fail telling) most a
-    → IfOk a.verdict (λ size. size.width * size.height ≤ most) → IfTooLarge a.verdict (λ size. most < size.width * size.height)
+pub decides : (telling : Option Telling) (failure : Option (Option Error)) (limit most : ℕ) (a : Admission)
+    → Admits (may_fail telling) most a
+    → IfOk a.verdict (λ size. size.width * size.height ≤ most)
+    → IfTooLarge a.verdict (λ size. most < size.width * size.height)
     → (a.taken < limit → IsFaultOf failure a.verdict) → Decides telling failure limit most a
 decides None failure limit most a admits few many fault = tt
 decides (Some t) failure limit most a admits few many fault = λ honest none below.
-    let of_image = admits (record { short = honest.short; patient = λ no. absurd (let is : true ≡ false = no in cc) }) in
+    let of_image = admits
+    (record { short = honest.short; patient = λ no. absurd (let is : true ≡ false = no in cc) }) in
     judged most (over_reader t meaning).answer a.verdict of_image.image of_image.too_large of_image.refused few many
     (no_fault a.verdict (subst (λ f. IsFaultOf f a.verdict) none (fault below)))

@@ -22,10 +22,12 @@ copied_front d found new place k n m is count copied =
 
 -- lists whose fronts are of one length are the same only where both parts are
 fronts : (a b x y : List ℕ) → length a ≡ length b → a ++ x ≡ b ++ y → a ≡ b
-fronts a b x y long same = sym (take-append_seam a x) ∙ ap (take (length a)) same ∙ ap (λ n. take n (b ++ y)) long ∙ take-append_seam b y
+fronts a b x y long same = sym (take-append_seam a x) ∙ ap (take (length a)) same ∙ ap (λ n. take n (b ++ y)) long
+    ∙ take-append_seam b y
 
 ends : (a b x y : List ℕ) → length a ≡ length b → a ++ x ≡ b ++ y → x ≡ y
-ends a b x y long same = sym (drop-append_seam a x) ∙ ap (drop (length a)) same ∙ ap (λ n. drop n (b ++ y)) long ∙ drop-append_seam b y
+ends a b x y long same = sym (drop-append_seam a x) ∙ ap (drop (length a)) same ∙ ap (λ n. drop n (b ++ y)) long
+    ∙ drop-append_seam b y
 
 -- a place of a span, as numbers
 starts_by : (s : Span) (place : ℕ) → has_place s place ≡ true → s.start ≤ place
@@ -52,9 +54,11 @@ same_byte : (d e : List ℕ) (spans : List Span) (place : ℕ) → length e ≡ 
 same_byte d e [] place long same here = absurd cc
 same_byte d e (s ∷ spans) place long same here =
     let lengths = parts_long d e s.start s.len long in
-    let front = fronts (part e s.start s.len) (part d s.start s.len) (bytes_of e spans) (bytes_of d spans) lengths same in
+    let front = fronts (part e s.start s.len) (part d s.start s.len) (bytes_of e spans)
+    (bytes_of d spans) lengths same in
     let rest = ends (part e s.start s.len) (part d s.start s.len) (bytes_of e spans) (bytes_of d spans) lengths same in
-    let Goal : Bool → Type 0 = λ b. has_place s place ≡ b → b || is_covered spans place ≡ true → slice_index e place ≡ slice_index d place in
+    let Goal : Bool → Type 0 = λ b. has_place s place ≡ b → b || is_covered spans place ≡ true
+    → slice_index e place ≡ slice_index d place in
     let cases : Goal (has_place s place) = elim (has_place s place) as Goal [
       | true ↦ λ has _. same_at d e s place front has
       | false ↦ λ _ later. same_byte d e spans place long rest later
@@ -62,22 +66,28 @@ same_byte d e (s ∷ spans) place long same here =
     cases refl here
 
 -- an input of the same length with the same bytes in the spans agrees on these
-pub agrees_by_bytes : (d e : List ℕ) (spans : List Span) → length e ≡ length d → bytes_of e spans ≡ bytes_of d spans → Agrees d e spans
-agrees_by_bytes d e spans long same = record { as_long = long; same_byte = λ place here. same_byte d e spans place long same here }
+pub agrees_by_bytes : (d e : List ℕ) (spans : List Span) → length e ≡ length d → bytes_of e spans ≡ bytes_of d spans
+    → Agrees d e spans
+agrees_by_bytes d e spans long same =
+    record { as_long = long; same_byte = λ place here. same_byte d e spans place long same here }
 
 -- and one that agrees has the same bytes
-same_part : (d e : List ℕ) (s : Span) → length e ≡ length d → ((place : ℕ) → has_place s place ≡ true → slice_index e place
+same_part : (d e : List ℕ) (s : Span) → length e ≡ length d
+    → ((place : ℕ) → has_place s place ≡ true → slice_index e place
     ≡ slice_index d place) → part e s.start s.len ≡ part d s.start s.len
 same_part d e s long agrees =
     ext_get_or 0 (part e s.start s.len) (part d s.start s.len) (parts_long d e s.start s.len long)
     (λ i below.
     let small : i < s.len = omega (arith, below, part_length e s.start s.len) in
-    part_at e s.start s.len i small ∙ agrees (s.start + i) (has_offset s i small) ∙ sym (part_at d s.start s.len i small))
+    part_at e s.start s.len i small ∙ agrees (s.start + i) (has_offset s i small)
+    ∙ sym (part_at d s.start s.len i small))
 
-covered_first : (s : Span) (spans : List Span) (place : ℕ) → has_place s place ≡ true → is_covered (s ∷ spans) place ≡ true
+covered_first : (s : Span) (spans : List Span) (place : ℕ) → has_place s place ≡ true
+    → is_covered (s ∷ spans) place ≡ true
 covered_first s spans place has = ap (λ b. b || is_covered spans place) has
 
-covered_later : (s : Span) (spans : List Span) (place : ℕ) → is_covered spans place ≡ true → is_covered (s ∷ spans) place ≡ true
+covered_later : (s : Span) (spans : List Span) (place : ℕ) → is_covered spans place ≡ true
+    → is_covered (s ∷ spans) place ≡ true
 covered_later s spans place here =
     let Goal : Bool → Type 0 = λ b. b || is_covered spans place ≡ true in
     elim (has_place s place) as Goal [ true ↦ refl | false ↦ here ]
@@ -85,7 +95,8 @@ covered_later s spans place here =
 pub bytes_by_agreement : (d e : List ℕ) (spans : List Span) → Agrees d e spans → bytes_of e spans ≡ bytes_of d spans
 bytes_by_agreement d e [] agrees = refl
 bytes_by_agreement d e (s ∷ spans) agrees =
-    let front = same_part d e s agrees.as_long (λ place has. agrees.same_byte place (covered_first s spans place has)) in
+    let front = same_part d e s agrees.as_long
+    (λ place has. agrees.same_byte place (covered_first s spans place has)) in
     let later : Agrees d e spans = record {
       as_long = agrees.as_long;
       same_byte = λ place here. agrees.same_byte place
@@ -106,8 +117,10 @@ split_at d spans i other within =
     ∙ ap (λ ss. bytes_of d (take i spans) ++ bytes_of d ss) (drop-cons spans i other within)
 
 -- the bytes that are left do not begin with those in the next span, so the bytes in all spans are others
-pub turned_away : (d : List ℕ) (spans : List Span) (i : ℕ) (other : Span) (next rest bytes : List ℕ) → i < length spans →
-    next ≡ bytes_at d spans i other → bytes_of d (take i spans) ++ rest ≡ bytes → pointwise nat_eq (take (length next) rest) next ≡ false →
+pub turned_away : (d : List ℕ) (spans : List Span) (i : ℕ) (other : Span) (next rest bytes : List ℕ) → i < length spans
+    →
+    next ≡ bytes_at d spans i other → bytes_of d (take i spans) ++ rest ≡ bytes
+    → pointwise nat_eq (take (length next) rest) next ≡ false →
     bytes_of d spans ≡ bytes → ⊥
 turned_away d spans i other next rest bytes within is so_far differs same =
     let behind : rest ≡ bytes_at d spans i other ++ bytes_of d (drop (suc i) spans) =
@@ -127,8 +140,10 @@ bytes_more d spans i other within =
     ∙ ap (λ bs. bytes_of d (take i spans) ++ bs) (append-nil (bytes_at d spans i other))
 
 -- they begin with those in the next span, and the others are left
-pub one_more : (d : List ℕ) (spans : List Span) (i : ℕ) (other : Span) (next rest behind bytes : List ℕ) → i < length spans →
-    next ≡ bytes_at d spans i other → bytes_of d (take i spans) ++ rest ≡ bytes → pointwise nat_eq (take (length next) rest) next ≡ true →
+pub one_more : (d : List ℕ) (spans : List Span) (i : ℕ) (other : Span) (next rest behind bytes : List ℕ)
+    → i < length spans →
+    next ≡ bytes_at d spans i other → bytes_of d (take i spans) ++ rest ≡ bytes
+    → pointwise nat_eq (take (length next) rest) next ≡ true →
     behind ≡ drop (length next) rest → bytes_of d (take (i + 1) spans) ++ behind ≡ bytes
 one_more d spans i other next rest behind bytes within is so_far begins left =
     let split : next ++ behind ≡ rest =

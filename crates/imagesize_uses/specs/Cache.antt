@@ -6,7 +6,7 @@ use Rattle.imagesize_source.specs.Agreement.{Agrees}
 use Rattle.imagesize_source.specs.Known.{bytes_of}
 use Rattle.imagesize_uses.specs.declared.cache.Kept.{Kept}
 
--- The input's length, its type, size and spans, and the bytes in these are kept. Each other input that agrees on the
+-- The input's length, type, size and spans are kept, and the bytes in the spans. Each other input that agrees on the
 -- spans is the same.
 pub record IsKept {A : Type 0} (d : List ℕ) (kept : Kept A) : Type 0 where
   pub as_long : kept.length ≡ length d

@@ -14,26 +14,26 @@ use Rattle.imagesize_uses.specs.declared.gate.Admission.{Admission}
 use Rattle.imagesize_uses.specs.declared.gate.Rejection.{Rejection}
 use Rattle.imagesize_uses.specs.declared.gate.Rejection.TheVariants.{TooLarge, NoSize}
 
--- an image of at most so many pixels is admitted, and no other
+-- an image of at most `most` pixels is admitted, and no other
 abbrev pub gate_verdict : ℕ → Result ImageSize ImageError → Result ImageSize Rejection
 gate_verdict most (Ok size) = if nat_le (area_of size) most then Ok size else Err (TooLarge size)
 gate_verdict most (Err e) = Err (NoSize e)
 
--- what holds of a size that is too large
+-- what holds for a size that is too large
 abbrev pub IfTooLarge : Result ImageSize Rejection → (ImageSize → Type 0) → Type 0
 IfTooLarge (Ok _) P = Unit {0}
 IfTooLarge (Err (TooLarge size)) P = P size
 IfTooLarge (Err (NoSize _)) P = Unit {0}
 
--- what holds of a refusal
+-- what holds for an error
 abbrev pub IfNoSize : Result ImageSize Rejection → (ImageError → Type 0) → Type 0
 IfNoSize (Ok _) P = Unit {0}
 IfNoSize (Err (TooLarge _)) P = Unit {0}
 IfNoSize (Err (NoSize e)) P = P e
 
--- Over an honest reader, an image that is admitted or is too large has the size that is answered, and what is refused
--- has no size for this reason, or a call failed. Where none fails, the verdict is that on the image. The bytes taken
--- are at most those of the layouts' spans together, and the allowance more than there are.
+-- Over an honest reader, an image that is admitted or too large has the returned size. An image that is rejected with
+-- an error has no size for this reason, or a call failed. If no call can fail, the verdict is that on the image. The
+-- bytes read are at most the total length of the layouts' spans, and at most the input's length plus the allowance.
 pub record AdmitsOf (t : Telling) (most : ℕ) (admission : Admission) : Type 0 where
   pub image : IfOk admission.verdict (λ size. (over_reader t meaning).answer ≡ Ok size)
   pub too_large : IfTooLarge admission.verdict (λ size. (over_reader t meaning).answer ≡ Ok size)
@@ -46,34 +46,36 @@ abbrev pub Admits : Option Telling → ℕ → Admission → Type 0
 Admits None most admission = Unit {0}
 Admits (Some t) most admission = IsHonest t → AdmitsOf t most admission
 
--- a refusal by a fault is that of the reader's last call that failed, where it tells it
+-- a rejection by a fault carries the error of the last call that failed, if the reader's model has it
 abbrev pub IsFaultOf : Option (Option Error) → Result ImageSize Rejection → Type 0
 IsFaultOf failure verdict = IfNoSize verdict (λ e. is_fault e ≡ true → IsLast failure e)
 
--- how many bytes of an upload that is said to have this length may be taken
+-- how many bytes may be read from an upload of this stated length
 abbrev pub limit_of : ℕ → ℕ
 limit_of length = min (length + allowance) (2 ^ 64 - 1)
 
--- two numbers in one
+-- two numbers, encoded as one
 abbrev pub pair : ℕ → ℕ → ℕ
 pair a b = (a + b) * (a + b) + b
 
--- What stays while a limited reader is read: which reader is below, and its count with what is left, where it counts.
+-- What never changes while a limited reader is read: which reader is inside, and its count plus the bytes left, if it
+-- counts.
 abbrev pub kept_sum : ℕ → Option ℕ → ℕ → ℕ
 kept_sum reader None left = pair reader 0
 kept_sum reader (Some count) left = pair reader (count + left + 1)
 
--- The count of a limited reader. What stays stands in it above all that a call can take, so the number tells both.
+-- The count of a limited reader. It encodes two numbers: what never changes is added in multiples above all that a
+-- call can read.
 abbrev pub limited_count : ℕ → Option ℕ → ℕ → Option ℕ
 limited_count reader count left = Some (2 ^ 64 - left + 2 ^ 66 * kept_sum reader count left)
 
--- the last failure of a reader that tells its failures, or that behind the limit, where it came later
+-- the last failure in a reader's model, or the one at the limit, which came later
 abbrev pub limited_failure : Option Error → Option (Option Error) → Option (Option Error)
 limited_failure spent None = None
 limited_failure None (Some last) = Some last
 limited_failure (Some error) (Some last) = Some (Some error)
 
--- over an honest reader no call of which has failed, as it tells, the verdict below the limit is that on the image
+-- If no call of an honest reader has failed, and fewer bytes than the limit were read, the verdict is right.
 abbrev pub Decides : Option Telling → Option (Option Error) → ℕ → ℕ → Admission → Type 0
 Decides None failure limit most admission = Unit {0}
 Decides (Some t) failure limit most admission = IsHonest t → failure ≡ Some None → admission.taken < limit

@@ -1,70 +1,78 @@
 -- ICO: how a walk along its entries goes, how many bytes they are read from, and what it sees of an input.
-use Rattle.std.proofs.Common.{◌≡◌, ◌≢◌, ℕ, ◌+◌, ◌*◌, ◌<◌, ◌≤◌, max, Bool, true, false, cond, eqb, leb, List, [], ◌∷◌, ◌++◌, length, Option, Some, None, Result, Ok, Err, refl, sym, ap, ◌∙◌, subst, arith, min}
+use Rattle.std.proofs.Common.{◌≡◌, ◌≢◌, ℕ, ◌+◌, ◌*◌, ◌<◌, ◌≤◌, max, Bool, true, false, cond, eqb, leb, List, [], ◌∷◌, ◌++◌, length, Option, Some, None, Ok, refl, sym, ap, ◌∙◌, subst, arith, min}
 use Rattle.std.proofs.lemmas.Bool.Decides.{nat_tests}
 use Rattle.std.proofs.lemmas.List.{append-nil, length_push}
 use Rattle.std.proofs.lemmas.List.Elements.{filter-append}
 use Rattle.std.specs.Prelude.{filter, ok_or}
 use Rattle.std.specs.List.{last_or}
+use Rattle.imagesize_walked.specs.Walks.{IsIcon, Seen}
 use Rattle.imagesize_walked.specs.Ico.{ico, icon_entries, icon_entry, icon_answer, icon_size, icons_begun}
 use Rattle.imagesize_types.specs.Largest.{greatest_area, last_largest, area_if_some, later_largest}
 use Rattle.imagesize_types.specs.Order.{area_of}
 use Rattle.imagesize_types.specs.declared.size.ImageSize.{ImageSize}
-use Rattle.imagesize_source.specs.declared.halt.Halt.{Halt}
 use Rattle.imagesize_source.specs.declared.halt.Halt.TheVariants.{Corrupted}
 use Rattle.imagesize_source.specs.declared.endian.Endian.TheVariants.{Little}
 use Rattle.imagesize_source.specs.Agreement.{IsLocal}
-use Rattle.imagesize_source.specs.Chain.{Said, Decided, Next, Along, Advances, start, next_record, records, records_from, verdict, chain_at}
+use Rattle.imagesize_source.specs.Chain.{Said, Decided, Next, Along, Advances, start, next_record, records, records_from, chain_at}
 use Rattle.imagesize_source.specs.Counts.{AtMost}
 use Rattle.imagesize_source.specs.Input.{span_of}
 use Rattle.imagesize_source.specs.Layout.{Layout, layout_reads, if_there, refuse, done, whole}
-use Rattle.imagesize_source.specs.Reading.{number_at, number_read}
-use Rattle.imagesize_source.specs.State.{State, Runs, IsSound, total}
+use Rattle.std.specs.Option.{ForSome}
+use Rattle.imagesize_source.proofs.PastTheEnd.{there_beyond}
+use Rattle.imagesize_source.specs.Reading.{map_answer, number_at, number_read}
+use Rattle.imagesize_source.specs.State.{total}
 use Rattle.imagesize_source.proofs.Advances.{Tells, Begins, advances, tells}
 use Rattle.imagesize_source.proofs.Ahead.{Ahead, chain_ahead}
 use Rattle.imagesize_source.proofs.ChainLaws.{local_chain, chain_cost, chain_induction}
 use Rattle.imagesize_source.proofs.Chains.{records_next, records_stop}
 use Rattle.imagesize_source.proofs.Counts.{begun_cost, then_within, total-span_of}
 use Rattle.imagesize_source.proofs.Agreement.{local_then, local_number, without_texts}
-use Rattle.imagesize_source.proofs.Reached.{runs_bind, refused_bind}
 use Rattle.imagesize_source.proofs.Tests.{on_test}
 use Rattle.imagesize_source.proofs.Way.{RecordedLaws}
-use Rattle.imagesize_source.proofs.Walks.{Walks, walks_start, walks_on, walks_stop, walks_out, walks_now}
 use Rattle.imagesize_source.proofs.Lists.{last_push}
 use Rattle.imagesize_types.proofs.Largest.{greatest_push}
 
--- The largest of the sizes, with its area.
-pub record Largest (best : Option ImageSize) (sizes : List ImageSize) : Type 0 where
-  pub is : last_largest sizes ≡ best
-  pub area : greatest_area sizes ≡ area_if_some best
-
 -- of one size more the later largest
-last_by : (best : Option ImageSize) (sizes : List ImageSize) (size : ImageSize) (greatest : ℕ) (b : Bool) → leb (area_if_some best)
-    (area_of size) ≡ b → greatest_area sizes ≡ area_if_some best → last_largest sizes ≡ best → greatest ≡ max (greatest_area sizes)
+last_by : (best : Option ImageSize) (sizes : List ImageSize) (size : ImageSize) (greatest : ℕ) (b : Bool)
+    → leb (area_if_some best)
+    (area_of size) ≡ b → greatest_area sizes ≡ area_if_some best → last_largest sizes ≡ best
+    → greatest ≡ max (greatest_area sizes)
     (area_of size)
     → last_or None (filter (λ s. eqb (area_of s) greatest) (sizes ++ size ∷ [])) ≡ cond b (Some size) best
 last_by best sizes size greatest true test area is most =
     let here : eqb (area_of size) greatest ≡ true = grind (arith, nat_tests) in
-    ap (last_or None) (filter-append (λ s. eqb (area_of s) greatest) sizes (size ∷ []) ∙ ap (λ b. filter (λ s. eqb (area_of s) greatest)
+    ap (last_or None) (filter-append (λ s. eqb (area_of s) greatest) sizes (size ∷ [])
+    ∙ ap (λ b. filter (λ s. eqb (area_of s) greatest)
     sizes ++ cond b (size ∷ []) []) here) ∙ last_push None (filter (λ s. eqb (area_of s) greatest) sizes) size
 last_by best sizes size greatest false test area is most =
     let not_here : eqb (area_of size) greatest ≡ false = grind (arith, nat_tests) in
     let same : greatest ≡ greatest_area sizes = grind (arith, nat_tests) in
-    ap (last_or None) (filter-append (λ s. eqb (area_of s) greatest) sizes (size ∷ []) ∙ ap (λ b. filter (λ s. eqb (area_of s) greatest)
+    ap (last_or None) (filter-append (λ s. eqb (area_of s) greatest) sizes (size ∷ [])
+    ∙ ap (λ b. filter (λ s. eqb (area_of s) greatest)
     sizes ++ cond b (size ∷ []) []) not_here ∙ append-nil (filter (λ s. eqb (area_of s) greatest) sizes))
     ∙ ap (λ n. last_or None (filter (λ s. eqb (area_of s) n) sizes)) same ∙ is
 
-area_by : (best : Option ImageSize) (size : ImageSize) (b : Bool) → leb (area_if_some best) (area_of size) ≡ b → max (area_if_some best)
+area_by : (best : Option ImageSize) (size : ImageSize) (b : Bool) → leb (area_if_some best) (area_of size) ≡ b
+    → max (area_if_some best)
     (area_of size) ≡ area_if_some (cond b (Some size) best)
 area_by best size true test = grind (arith, nat_tests)
 area_by best size false test = grind (arith, nat_tests)
 
-largest_on : (best : Option ImageSize) (sizes : List ImageSize) (size : ImageSize) → Largest best sizes
-    → Largest (later_largest best size) (sizes ++ size ∷ [])
-largest_on best sizes size h = record {
-  is = last_by best sizes size (greatest_area (sizes ++ size ∷ [])) (leb (area_if_some best) (area_of size)) refl h.area h.is
+pub icon_found : (size : ImageSize) → IsIcon size → ForSome (Some size) IsIcon
+icon_found size is = λ other same. let one : size ≡ other = cc in subst IsIcon one is
+
+-- with one entry more
+pub seen_on : (count : ℕ) (best : Option ImageSize) (sizes : List ImageSize) (size : ImageSize) → Seen count best sizes
+    → ForSome (later_largest best size) IsIcon → Seen (count + 1) (later_largest best size) (sizes ++ size ∷ [])
+seen_on count best sizes size h icon = record {
+  many = length_push sizes size ∙ ap (λ n. n + 1) h.many;
+  is = last_by best sizes size (greatest_area (sizes ++ size ∷ []))
+      (leb (area_if_some best) (area_of size)) refl h.area h.is
       (greatest_push sizes size);
-  area = greatest_push sizes size ∙ ap (λ n. max n (area_of size)) h.area ∙ area_by best size (leb (area_if_some best) (area_of size))
+  area = greatest_push sizes size ∙ ap (λ n. max n (area_of size)) h.area
+      ∙ area_by best size (leb (area_if_some best) (area_of size))
       refl;
+  icon = icon;
 }
 
 -- what holds of each way that the list ends
@@ -74,22 +82,26 @@ by_answer P None none some = none
 by_answer P (Some size) none some = some size
 
 -- and of each entry
-by_entry : (P : Layout (Said ImageSize ImageSize) → Type 0) (sizes : List ImageSize) (place : ℕ) (found : Option (List ℕ))
-    → P (icon_answer (last_largest sizes)) → ((size : ImageSize) → P (done (Next size (place + 16)))) → P (icon_entry sizes place found)
+by_entry : (P : Layout (Said ImageSize ImageSize) → Type 0) (sizes : List ImageSize) (place : ℕ)
+    (found : Option (List ℕ))
+    → P (icon_answer (last_largest sizes)) → ((size : ImageSize) → P (done (Next size (place + 16))))
+    → P (icon_entry sizes place found)
 by_entry P sizes place None end next = end
 by_entry P sizes place (Some bytes) end next = next (icon_size bytes)
 
 -- and of a record
 by_count : (P : Layout (Said ImageSize ImageSize) → Type 0) (count : ℕ) (sizes : List ImageSize) (place : ℕ)
-    → P (icon_answer (last_largest sizes)) → P (if_there place 2 (icon_entry sizes place)) → P ((icon_entries count).said sizes place)
+    → P (icon_answer (last_largest sizes)) → P (if_there place 2 (icon_entry sizes place))
+    → P ((icon_entries count).said sizes place)
 by_count P count sizes place end entry = on_test P (eqb (length sizes) count) (icon_answer (last_largest sizes))
     (if_there place 2 (icon_entry sizes place)) (λ _. end) (λ _. entry)
 
-icon_advances : (count : ℕ) (d : List ℕ) → Advances (icon_entries count) d
+pub icon_advances : (count : ℕ) (d : List ℕ) → Advances (icon_entries count) d
 icon_advances count = advances (icon_entries count)
     (λ sizes place. by_count (Tells (λ p. place < p)) count sizes place
     (by_answer (Tells (λ p. place < p)) (last_largest sizes) tt (λ size. tt))
-    (λ bs. by_entry (Tells (λ p. place < p)) sizes place (whole 2 bs) (by_answer (Tells (λ p. place < p)) (last_largest sizes) tt
+    (λ bs. by_entry (Tells (λ p. place < p)) sizes place (whole 2 bs)
+    (by_answer (Tells (λ p. place < p)) (last_largest sizes) tt
     (λ size. tt)) (λ size. omega arith)))
     (λ sizes place. by_count (Begins place) count sizes place
     (by_answer (Begins place) (last_largest sizes) tt (λ size. tt))
@@ -114,104 +126,42 @@ ico_within d = omega (
       (total-span_of d 4 2) (λ count _. entries_within count d),
 )
 
--- The sizes of so many entries are known, and this is their largest.
-pub record Found (i : ℕ) (best : Option ImageSize) (sizes : List ImageSize) : Type 0 where
-  pub many : length sizes ≡ i
-  pub largest : Largest best sizes
+-- from the end of the input on there is no entry
+pub icon_ends : (count seen : ℕ) (best : Option ImageSize) (sizes : List ImageSize) → Seen seen best sizes
+    → (d : List ℕ) (place : ℕ)
+    → length d ≤ place → layout_reads d ((icon_entries count).said sizes place)
+    ≡ record { answer = map_answer Decided (ok_or best Corrupted); marks = [] }
+icon_ends count seen best sizes h d place far = by_count (eqb (length sizes) count) where
+  ends : layout_reads d (icon_answer (last_largest sizes))
+      ≡ record { answer = map_answer Decided (ok_or best Corrupted); marks = [] }
+  ends = ap (λ o. layout_reads d (icon_answer o)) h.is ∙ by_best best where
+    by_best : (best : Option ImageSize)
+        → layout_reads d (icon_answer best) ≡ record { answer = map_answer Decided (ok_or best Corrupted); marks = [] }
+    by_best None = refl
+    by_best (Some size) = refl
 
--- how far a walk has come
-abbrev pub IconWalks : ℕ → State → State → ℕ → Option ImageSize → Type 0
-IconWalks count a b i best = Walks (icon_entries count) (Found i best) a b (6 + 16 * i)
-
-pub icon_start : (count : ℕ) (a : State) → IconWalks count a a 0 None
-icon_start count a = walks_start (icon_entries count) (Found 0 None) a
-    (record { many = refl; largest = record { is = refl; area = refl } })
-
--- the record of an entry, where there are more
-more_said : {b end : State} {r : Result (Said ImageSize ImageSize) Halt} (count i : ℕ) (sizes : List ImageSize) (place : ℕ)
-    → i < count → length sizes ≡ i → Runs b end r (layout_reads b.held.input (if_there place 2 (icon_entry sizes place)))
-    → Runs b end r (layout_reads b.held.input ((icon_entries count).said sizes place))
-more_said {b} {end} {r} count i sizes place below many run =
-    let more : eqb (length sizes) count ≡ false = grind (arith, nat_tests) in
-    subst (λ t. Runs b end r (layout_reads b.held.input t))
-    (sym (ap (λ test. cond test (icon_answer (last_largest sizes)) (if_there place 2 (icon_entry sizes place))) more)) run
-
-pub icon_on : {a b end : State} (count i : ℕ) (best : Option ImageSize) (bytes : List ℕ) → i < count → IconWalks count a b i best
-    → Runs b end (Ok (Some bytes)) (layout_reads b.held.input (if_there (6 + 16 * i) 2 done)) → IconWalks count a end (i + 1)
-    (later_largest best (icon_size bytes))
-icon_on {a} {b} {end} count i best bytes below w run =
-    let place : ℕ = 6 + 16 * i in
-    let on = walks_on (icon_entries count) (icon_advances count) (Found i best) w (Found (i + 1) (later_largest best (icon_size bytes)))
-    (icon_size bytes) (place + 16)
-    (λ sizes h. more_said count i sizes place below h.many (runs_bind (Ok (Next (icon_size bytes) (place + 16))) (if_there place 2 done)
-    (icon_entry sizes place) run (λ d. refl) refl tt))
-    (λ sizes h. record {
-      many = length_push sizes (icon_size bytes) ∙ ap (λ n. n + 1) h.many;
-      largest = largest_on best sizes
-          (icon_size bytes) h.largest;
-    }) in
-    let at : place + 16 ≡ 6 + 16 * (i + 1) = omega arith in
-    subst (λ p. Walks (icon_entries count) (Found (i + 1) (later_largest best (icon_size bytes))) a end p) at on
-
-pub icon_out : {a b end : State} (count i : ℕ) (best : Option ImageSize) (e : Halt) → i < count → IconWalks count a b i best
-    → Runs {X = Option (List ℕ)} b end (Err e) (layout_reads b.held.input (if_there (6 + 16 * i) 2 done)) → Runs {X = ImageSize} a end (Err e)
-    (chain_at (icon_entries count) a.held.input)
-icon_out count i best e below w run =
-    walks_out (icon_entries count) (icon_advances count) (Found i best) w e
-    (λ sizes h. more_said count i sizes (6 + 16 * i) below h.many (refused_bind (if_there (6 + 16 * i) 2 done)
-    (icon_entry sizes (6 + 16 * i)) run))
-
-answers : (best : Option ImageSize) (sizes : List ImageSize) (d : List ℕ) → Largest best sizes
-    → layout_reads d (icon_answer (last_largest sizes)) ≡ layout_reads d (icon_answer best)
-answers best sizes d h = ap (λ o. layout_reads d (icon_answer o)) h.is
-
--- the input ends before an entry
-pub icon_cut : {a b end : State} (count i : ℕ) (best : Option ImageSize) → i < count → IconWalks count a b i best
-    → Runs b end (Ok None) (layout_reads b.held.input (if_there (6 + 16 * i) 2 done)) → Runs a end (ok_or best Corrupted)
-    (chain_at (icon_entries count) a.held.input)
-icon_cut count i None below w run =
-    walks_out (icon_entries count) (icon_advances count) (Found i None) w Corrupted
-    (λ sizes h. more_said count i sizes (6 + 16 * i) below h.many
-    (runs_bind (Err Corrupted) (if_there (6 + 16 * i) 2 done) (icon_entry sizes (6 + 16 * i)) run
-    (λ d. answers None sizes d h.largest) refl (record { budget = λ e. absurd cc; memory = λ e. absurd cc; fault = λ e. absurd cc })))
-icon_cut count i (Some size) below w run =
-    walks_stop (icon_entries count) (icon_advances count) (Found i (Some size)) w size
-    (λ sizes h. more_said count i sizes (6 + 16 * i) below h.many
-    (runs_bind (Ok (Decided size)) (if_there (6 + 16 * i) 2 done) (icon_entry sizes (6 + 16 * i)) run
-    (λ d. answers (Some size) sizes d h.largest) refl tt))
-
-end_said : (count : ℕ) (sizes : List ImageSize) (place : ℕ) (best : Option ImageSize) (d : List ℕ) → length sizes ≡ count
-    → Largest best sizes → layout_reads d ((icon_entries count).said sizes place) ≡ layout_reads d (icon_answer best)
-end_said count sizes place best d many h =
-    let all : eqb (length sizes) count ≡ true = grind (arith, nat_tests) in
-    ap (λ test. layout_reads d (cond test (icon_answer (last_largest sizes)) (if_there place 2 (icon_entry sizes place)))) all ∙ answers best
-    sizes d h
-
--- all entries were read
-pub icon_done : {a b : State} (count i : ℕ) (best : Option ImageSize) → i ≡ count → IsSound b → IconWalks count a b i best
-    → Runs a b (ok_or best Corrupted) (chain_at (icon_entries count) a.held.input)
-icon_done count i None at sound w =
-    walks_now (icon_entries count) (icon_advances count) (Found i None) w (Err Corrupted) sound refl
-    (record { budget = λ e. absurd cc; memory = λ e. absurd cc; fault = λ e. absurd cc })
-    (λ sizes d h. let says = end_said count sizes (6 + 16 * i) None d (h.many ∙ at) h.largest in
-    (ap (λ r. verdict r.answer) says, ap (λ r. r.marks) says))
-icon_done count i (Some size) at sound w =
-    walks_now (icon_entries count) (icon_advances count) (Found i (Some size)) w (Ok size) sound refl tt
-    (λ sizes d h. let says = end_said count sizes (6 + 16 * i) (Some size) d (h.many ∙ at) h.largest in
-    (ap (λ r. verdict r.answer) says, ap (λ r. r.marks) says))
+  by_count : (all : Bool)
+      → layout_reads d (cond all (icon_answer (last_largest sizes)) (if_there place 2 (icon_entry sizes place)))
+      ≡ record { answer = map_answer Decided (ok_or best Corrupted); marks = [] }
+  by_count true = ends
+  by_count false = there_beyond d place 2 (icon_entry sizes place) far ∙ ends
 
 -- at the count of entries the list ends
-ends_at : (count : ℕ) (d : List ℕ) (t : Along ImageSize) (size : ImageSize) (place : ℕ) → (next_record (icon_entries count) d t).answer
+ends_at : (count : ℕ) (d : List ℕ) (t : Along ImageSize) (size : ImageSize) (place : ℕ)
+    → (next_record (icon_entries count) d t).answer
     ≡ Ok (Next size place) → length t.held ≡ count → ⊥
 ends_at count d t size place is at =
     let all : eqb (length t.held) count ≡ true = grind (arith, nat_tests) in
-    tells (λ _. ⊥) d (icon_answer (last_largest t.held)) size place (by_answer (Tells (λ _. ⊥)) (last_largest t.held) tt (λ size. tt))
-    (sym (ap (λ test. (layout_reads d (cond test (icon_answer (last_largest t.held)) (if_there t.place 2 (icon_entry t.held t.place)))).answer)
+    tells (λ _. ⊥) d (icon_answer (last_largest t.held)) size place
+    (by_answer (Tells (λ _. ⊥)) (last_largest t.held) tt (λ size. tt))
+    (sym (ap (λ test. (layout_reads d
+    (cond test (icon_answer (last_largest t.held)) (if_there t.place 2 (icon_entry t.held t.place)))).answer)
     all) ∙ is)
 
 records_few : (count : ℕ) (d : List ℕ) → records (icon_entries count) d ≤ count + 1
 records_few count d =
-    let few = chain_induction (icon_entries count) d (λ t. length t.held ≤ count → records_from (icon_entries count) d t + length t.held
+    let few = chain_induction (icon_entries count) d
+    (λ t. length t.held ≤ count → records_from (icon_entries count) d t + length t.held
     ≤ count + 1) (icon_advances count d)
     (λ t size place is later fits.
     let apart : length t.held ≢ count = λ at. ends_at count d t size place is at in
@@ -226,14 +176,17 @@ records_few count d =
 
 -- an entry is read from at most 2 bytes
 entry_at_most : (count : ℕ) (sizes : List ImageSize) (place : ℕ) → AtMost 2 ((icon_entries count).said sizes place)
-entry_at_most count sizes place = by_count (AtMost 2) count sizes place (by_answer (AtMost 2) (last_largest sizes) tt (λ size. tt)) (
-  omega arith,
-  λ bs. by_entry (AtMost 0) sizes place (whole 2 bs) (by_answer (AtMost 0) (last_largest sizes) tt (λ size. tt)) (λ size. tt),
-)
+entry_at_most count sizes place =
+    by_count (AtMost 2) count sizes place (by_answer (AtMost 2) (last_largest sizes) tt (λ size. tt)) (
+      omega arith,
+      λ bs. by_entry (AtMost 0) sizes place (whole 2 bs) (by_answer (AtMost 0) (last_largest sizes) tt (λ size. tt))
+          (λ size. tt),
+    )
 
 -- what is seen of an input
 pub ico_local : IsLocal false ico
-ico_local = local_then (λ d. number_read d Little 4 2) (λ count d. chain_at (icon_entries count) d) (local_number Little 4 2)
+ico_local = local_then (λ d. number_read d Little 4 2) (λ count d. chain_at (icon_entries count) d)
+    (local_number Little 4 2)
     (λ count. local_chain (icon_entries count) (icon_advances count)
     (λ sizes place. without_texts false 2 ((icon_entries count).said sizes place) (entry_at_most count sizes place)))
 

@@ -1,15 +1,15 @@
 -- ILBM: how a walk along its chunks goes, how many bytes they are read from, and what it sees of an input.
-use Rattle.std.proofs.Common.{false, ℕ, ◌+◌, ◌*◌, ◌<◌, ◌≤◌, true, List, length, arith}
-use Rattle.imagesize_walked.specs.Ilbm.{ilbm, ilbm_chunks, ilbm_named, bitmap_header, chunk_bytes, chunk_length, is_bitmap_header, is_body}
+use Rattle.std.proofs.Common.{◌≡◌, false, ℕ, ◌+◌, ◌*◌, ◌<◌, ◌≤◌, true, List, length, arith}
+use Rattle.imagesize_walked.specs.Ilbm.{ilbm, ilbm_chunks, ilbm_named, bitmap_header, chunk_bytes, chunk_length, is_bitmap_header, is_body, ilbm_chunk}
 use Rattle.imagesize_types.specs.declared.size.ImageSize.{ImageSize}
-use Rattle.imagesize_source.specs.declared.halt.Halt.TheVariants.{Corrupted}
+use Rattle.imagesize_source.specs.declared.halt.Halt.TheVariants.{Corrupted, Ended}
+use Rattle.imagesize_source.specs.Reading.{refuses}
 use Rattle.imagesize_source.specs.Agreement.{IsLocal}
 use Rattle.imagesize_source.specs.Chain.{Said, Next, Advances, records}
 use Rattle.imagesize_source.specs.Counts.{AtMost}
 use Rattle.imagesize_source.specs.Extension.{Plain, Lasts}
-use Rattle.imagesize_source.specs.Layout.{Layout, refuse, done}
+use Rattle.imagesize_source.specs.Layout.{Layout, refuse, done, layout_reads}
 use Rattle.imagesize_source.specs.State.{total}
-use Rattle.imagesize_source.specs.Walk.{CanFollow}
 use Rattle.imagesize_source.proofs.Advances.{Tells, advances}
 use Rattle.imagesize_source.proofs.Ahead.{Ahead, chain_ahead}
 use Rattle.imagesize_source.proofs.PastTheEnd.{bytes_beyond}
@@ -23,20 +23,23 @@ by_name : (P : Layout (Said (Unit {0}) ImageSize) → Type 0) (place : ℕ) (hea
     → P (bitmap_header place) → P (done (Next tt (place + chunk_bytes (chunk_length head)))) → P (ilbm_named place head)
 by_name P place head body header other =
     on_test P (is_bitmap_header head) (bitmap_header place) _ (λ _. header)
-    (λ _. on_test P (is_body head) (refuse Corrupted) (done (Next tt (place + chunk_bytes (chunk_length head)))) (λ _. body)
+    (λ _. on_test P (is_body head) (refuse Corrupted) (done (Next tt (place + chunk_bytes (chunk_length head))))
+    (λ _. body)
     (λ _. other))
 
-ilbm_advances : (d : List ℕ) → Advances ilbm_chunks d
+pub ilbm_advances : (d : List ℕ) → Advances ilbm_chunks d
 ilbm_advances = advances ilbm_chunks
     (λ passed place head. by_name (Tells (λ p. place < p)) place head tt (λ width height. tt) (omega arith))
     (λ passed place. (omega arith, omega arith))
 
 pub ilbm_lasts : Lasts ilbm
-ilbm_lasts = lasts_chain ilbm_chunks ilbm_advances (λ passed place head. by_name Plain place head tt (λ width height. tt) tt)
+ilbm_lasts = lasts_chain ilbm_chunks ilbm_advances
+    (λ passed place head. by_name Plain place head tt (λ width height. tt) tt)
 
 -- a chunk is read from at most 12 bytes
 chunk_at_most : (passed : List (Unit {0})) (place : ℕ) → AtMost 12 (ilbm_chunks.said passed place)
-chunk_at_most passed place = (omega arith, λ head. by_name (AtMost 4) place head tt (omega arith, λ width. (omega arith, λ height. tt)) tt)
+chunk_at_most passed place =
+    (omega arith, λ head. by_name (AtMost 4) place head tt (omega arith, λ width. (omega arith, λ height. tt)) tt)
 
 pub ilbm_cost : (d : List ℕ) → 12 + total (ilbm d).marks ≤ 18 + 20 * records ilbm_chunks d
 ilbm_cost d = omega (arith, chain_cost ilbm_chunks d (ilbm_advances d) 12 chunk_at_most)
@@ -57,12 +60,15 @@ ilbm_within d =
     )) in
     omega arith
 
--- a walk can follow the chunks
-pub ilbm_follows : CanFollow ilbm_chunks
-ilbm_follows = record {
-  advances = ilbm_advances;
-  beyond = λ passed place d h. bytes_beyond d place 8 (λ head. ilbm_named place head) h (omega arith);
-}
+-- from the end of the input on there is no chunk
+pub ilbm_ends : (d : List ℕ) (place : ℕ) → length d ≤ place → layout_reads d (ilbm_chunk place) ≡ refuses Ended
+ilbm_ends d place h = bytes_beyond d place 8 (λ head. ilbm_named place head) h (omega arith)
 
 pub ilbm_laws : RecordedLaws 12 18 20 true false ilbm (records ilbm_chunks)
-ilbm_laws = record { local = ilbm_local; cost = ilbm_cost; within = ilbm_within; lasts = λ _. answers_last ilbm ilbm_lasts }
+ilbm_laws = record {
+  local = ilbm_local;
+  cost = ilbm_cost;
+  within = ilbm_within;
+  lasts =
+      λ _. answers_last ilbm ilbm_lasts;
+}

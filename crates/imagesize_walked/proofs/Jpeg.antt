@@ -1,5 +1,5 @@
 -- JPEG: how a walk along its segments goes, how many bytes they are read from, and what it sees of an input.
-use Rattle.std.proofs.Common.{false, zero-add, ◌≡◌, ℕ, ◌+◌, ◌-◌, ◌*◌, ◌^◌, ◌<◌, ◌≤◌, Bool, true, cond, eqb, List, [], ◌∷◌, ◌++◌, length, Result, Ok, Err, IfOk, refl, sym, ap, ◌∙◌, subst, arith, slice_index}
+use Rattle.std.proofs.Common.{false, zero-add, ◌≡◌, ℕ, ◌+◌, ◌-◌, ◌*◌, ◌^◌, ◌<◌, ◌≤◌, Bool, true, cond, eqb, List, [], ◌∷◌, ◌++◌, length, Result, Ok, Err, IfOk, refl, sym, ap, ◌∙◌, subst, arith, slice_index, IfErr}
 use Rattle.std.proofs.lemmas.Bool.Decides.{nat_tests}
 use Rattle.std.proofs.lemmas.List.Sums.{sum_by-append}
 use Rattle.std.specs.Prelude.{count_by}
@@ -7,7 +7,7 @@ use Rattle.imagesize_walked.specs.Jpeg.{jpeg, jpeg_segments, jpeg_segment, jpeg_
 use Rattle.imagesize_walked.specs.Walks.{depth_behind, LeadsTo, LeadsOn, Nested, Stands}
 use Rattle.imagesize_types.specs.declared.size.ImageSize.{ImageSize}
 use Rattle.imagesize_source.specs.declared.halt.Halt.{Halt}
-use Rattle.imagesize_source.specs.declared.halt.Halt.TheVariants.{Corrupted}
+use Rattle.imagesize_source.specs.declared.halt.Halt.TheVariants.{Corrupted, Ended}
 use Rattle.imagesize_source.specs.Agreement.{IsLocal}
 use Rattle.imagesize_source.specs.Chain.{Said, Decided, Next, Advances, records, start}
 use Rattle.imagesize_source.specs.Counts.{AtMost}
@@ -15,10 +15,10 @@ use Rattle.imagesize_source.specs.Extension.{Plain, Lasts}
 use Rattle.imagesize_source.specs.Input.{span_of}
 use Rattle.imagesize_source.specs.declared.endian.Endian.TheVariants.{Big}
 use Rattle.imagesize_source.specs.Layout.{Layout, layout_reads, refuse, done}
-use Rattle.imagesize_source.specs.Reading.{Reads, put_behind, bytes_at, number_at}
+use Rattle.imagesize_source.specs.Reading.{Reads, put_behind, bytes_at, number_at, refuses}
 use Rattle.imagesize_source.specs.Paying.{Nears}
 use Rattle.imagesize_source.specs.State.{State, Runs, total}
-use Rattle.imagesize_source.specs.Walk.{CanFollow, KeepsOn, said_at}
+use Rattle.imagesize_source.specs.Walk.{KeepsOn, said_at}
 use Rattle.imagesize_source.specs.declared.walk.Found.{Found}
 use Rattle.imagesize_source.proofs.Advances.{Tells, advances, tells}
 use Rattle.imagesize_source.proofs.PastTheEnd.{bytes_beyond}
@@ -32,17 +32,20 @@ use Rattle.imagesize_source.proofs.Tests.{on_test}
 use Rattle.imagesize_source.proofs.Way.{RecordedLaws, answers_last}
 
 -- what holds of each way that a segment can go
-by_head : (P : Layout (Said ℕ ImageSize) → Type 0) (k place : ℕ) (head : List ℕ) → P (refuse Corrupted) → P (jpeg_frame place)
-    → ((marker : ℕ) → P (jpeg_other place marker)) → P (cond (eqb (slice_index head 0) 0xFF) (jpeg_marked k place (slice_index head 1))
+by_head : (P : Layout (Said ℕ ImageSize) → Type 0) (k place : ℕ) (head : List ℕ) → P (refuse Corrupted)
+    → P (jpeg_frame place)
+    → ((marker : ℕ) → P (jpeg_other place marker))
+    → P (cond (eqb (slice_index head 0) 0xFF) (jpeg_marked k place (slice_index head 1))
     (refuse Corrupted))
 by_head P k place head none frame other =
     on_test P (eqb (slice_index head 0) 0xFF) (jpeg_marked k place (slice_index head 1)) (refuse Corrupted)
     (λ _. on_test P (is_own_frame k (slice_index head 1)) (jpeg_frame place) _ (λ _. frame)
-    (λ _. on_test P (is_own_end k (slice_index head 1)) (refuse Corrupted) (jpeg_other place (slice_index head 1)) (λ _. none)
+    (λ _. on_test P (is_own_end k (slice_index head 1)) (refuse Corrupted) (jpeg_other place (slice_index head 1))
+    (λ _. none)
     (λ _. other (slice_index head 1))))
     (λ _. none)
 
-jpeg_advances : (d : List ℕ) → Advances jpeg_segments d
+pub jpeg_advances : (d : List ℕ) → Advances jpeg_segments d
 jpeg_advances = advances jpeg_segments
     (λ markers place head. by_head (Tells (λ p. place < p)) (depth markers) place head tt (λ height width. tt)
     (λ marker length. omega arith))
@@ -54,7 +57,8 @@ jpeg_lasts = lasts_chain jpeg_segments jpeg_advances
 
 marked_at_most : (k place marker : ℕ) → AtMost 4 (jpeg_marked k place marker)
 marked_at_most k place marker =
-    on_test (AtMost 4) (is_own_frame k marker) (jpeg_frame place) _ (λ _. (omega arith, λ height. (omega arith, λ width. tt)))
+    on_test (AtMost 4) (is_own_frame k marker) (jpeg_frame place) _
+    (λ _. (omega arith, λ height. (omega arith, λ width. tt)))
     (λ _. on_test (AtMost 4) (is_own_end k marker) (refuse Corrupted) (jpeg_other place marker) (λ _. tt)
     (λ _. (omega arith, λ length. tt)))
 
@@ -62,23 +66,32 @@ segment_at_most : (k place : ℕ) → AtMost 6 (jpeg_segment k place)
 segment_at_most k place = (
   omega arith,
   λ head. on_test (AtMost 4) (eqb (slice_index head 0) 0xFF)
-      (jpeg_marked k place (slice_index head 1)) (refuse Corrupted) (λ _. marked_at_most k place (slice_index head 1)) (λ _. tt),
+      (jpeg_marked k place (slice_index head 1)) (refuse Corrupted) (λ _. marked_at_most k place (slice_index head 1))
+      (λ _. tt),
 )
 
 -- what is seen of an input
 pub jpeg_local : IsLocal false jpeg
 jpeg_local = local_chain jpeg_segments jpeg_advances
-    (λ markers place. without_texts false 6 (jpeg_segment (depth markers) place) (segment_at_most (depth markers) place))
+    (λ markers place. without_texts false 6 (jpeg_segment (depth markers) place)
+    (segment_at_most (depth markers) place))
 
 -- a segment is read from at most 6 bytes
 pub jpeg_cost : (d : List ℕ) → 12 + total (jpeg d).marks ≤ 18 + 20 * records jpeg_segments d
-jpeg_cost d = omega (arith, chain_cost jpeg_segments d (jpeg_advances d) 6 (λ markers place. segment_at_most (depth markers) place))
+jpeg_cost d = omega (
+  arith,
+  chain_cost jpeg_segments d (jpeg_advances d) 6
+      (λ markers place. segment_at_most (depth markers) place),
+)
 
-counts_on : (p : ℕ → Bool) (markers : List ℕ) (marker : ℕ) → count_by p (markers ++ marker ∷ []) ≡ count_by p markers + cond (p marker) 1 0
-counts_on p markers marker = sum_by-append (λ m. cond (p m) 1 0) markers (marker ∷ []) ∙ ap (λ n. count_by p markers + n)
+counts_on : (p : ℕ → Bool) (markers : List ℕ) (marker : ℕ)
+    → count_by p (markers ++ marker ∷ []) ≡ count_by p markers + cond (p marker) 1 0
+counts_on p markers marker = sum_by-append (λ m. cond (p m) 1 0) markers (marker ∷ [])
+    ∙ ap (λ n. count_by p markers + n)
     (zero-add (cond (p marker) 1 0))
 
-nested_on : (k marker : ℕ) (markers : List ℕ) → (marker ≡ 0xD9 → 0 < k) → Nested k markers → Nested (depth_behind k marker)
+nested_on : (k marker : ℕ) (markers : List ℕ) → (marker ≡ 0xD9 → 0 < k) → Nested k markers
+    → Nested (depth_behind k marker)
     (markers ++ marker ∷ [])
 nested_on k marker markers inner h =
     let starts = counts_on (λ m. eqb m 0xD8) markers marker in
@@ -106,14 +119,17 @@ stands_next k behind place markers (Decided size) a b h leads nears = tt
 stands_next k behind place markers (Next marker next) a b h leads nears =
     let rises = depth_rises k marker in let less = h.shallow in let on = nears.0 in let is = leads.0 in
     record {
-      nested = subst (λ n. Nested n (markers ++ marker ∷ [])) (sym leads.0) (nested_on k marker markers leads.1 h.nested);
+      nested = subst (λ n. Nested n (markers ++ marker ∷ [])) (sym leads.0)
+          (nested_on k marker markers leads.1 h.nested);
       shallow = omega arith;
     }
 
-pub stands_on : (k behind place : ℕ) (markers : List ℕ) (r : Result (Found ℕ ImageSize) Halt) (a b : State) → Stands k markers place
+pub stands_on : (k behind place : ℕ) (markers : List ℕ) (r : Result (Found ℕ ImageSize) Halt) (a b : State)
+    → Stands k markers place
     → IfOk r (λ found. LeadsOn k behind (said_at place found)) → IfOk r (λ found. Nears a b place (said_at place found))
     → IfOk r (λ found. KeepsOn (Stands behind) markers (said_at place found))
-stands_on k behind place markers (Ok found) a b h leads nears = stands_next k behind place markers (said_at place found) a b h leads nears
+stands_on k behind place markers (Ok found) a b h leads nears =
+    stands_next k behind place markers (said_at place found) a b h leads nears
 stands_on k behind place markers (Err why) a b h leads nears = tt
 
 -- it is the segment behind these markers
@@ -123,13 +139,17 @@ pub segment_as : {a b : State} {r : Result (Said ℕ ImageSize) Halt} (k place :
 segment_as {a} {b} {r} k place run markers h =
     subst (λ n. Runs a b r (layout_reads a.held.input (jpeg_segment n place))) (sym h.nested.is) run
 
--- a walk can follow the segments
-pub jpeg_follows : CanFollow jpeg_segments
-jpeg_follows = record {
-  advances = jpeg_advances;
-  beyond = λ markers place d h. bytes_beyond d place 2 (λ head. cond (eqb (slice_index head 0) 0xFF)
-      (jpeg_marked (depth markers) place (slice_index head 1)) (refuse Corrupted)) h (omega arith);
-}
+-- a segment that was not read leaves the depth
+pub stands_stay : (k behind place : ℕ) (markers : List ℕ) (r : Result (Found ℕ ImageSize) Halt) → Stands k markers place
+    → IfErr r (λ _. behind ≡ k) → IfErr r (λ _. Stands behind markers place)
+stands_stay k behind place markers (Ok found) h same = tt
+stands_stay k behind place markers (Err why) h same = subst (λ n. Stands n markers place) (sym same) h
+
+-- from the end of the input on there is none
+pub jpeg_ends : (d : List ℕ) (depth place : ℕ) → length d ≤ place
+    → layout_reads d (jpeg_segment depth place) ≡ refuses Ended
+jpeg_ends d depth place h = bytes_beyond d place 2 (λ head. cond (eqb (slice_index head 0) 0xFF)
+    (jpeg_marked depth place (slice_index head 1)) (refuse Corrupted)) h (omega arith)
 
 -- What may be read from a place on: the bytes there, and 6 more where a segment can begin. A length below 2
 -- leads to one of its own bytes, which is not FF.
@@ -137,9 +157,11 @@ abbrev allowed : List ℕ → ℕ → ℕ
 allowed d place = (length d - place) + cond (eqb (slice_index d place) 0xFF) 6 2
 
 Used : List ℕ → ℕ → Reads (Said ℕ ImageSize) → Type 0
-Used d place reads = (marker next : ℕ) → reads.answer ≡ Ok (Next marker next) → total reads.marks + allowed d next ≤ allowed d place
+Used d place reads = (marker next : ℕ) → reads.answer ≡ Ok (Next marker next)
+    → total reads.marks + allowed d next ≤ allowed d place
 
-leaves : (n place length first second next : ℕ) → place + 4 ≤ n → length ≡ 256 * first + second → (length ≡ 0 → next ≡ first)
+leaves : (n place length first second next : ℕ) → place + 4 ≤ n → length ≡ 256 * first + second
+    → (length ≡ 0 → next ≡ first)
     → (length ≡ 1 → next ≡ second) → 4 + ((n - (place + (2 + length))) + cond (eqb next 0xFF) 6 2) ≤ (n - place) + 6
 leaves n place length first second next fits is none one = grind (arith, nat_tests)
 
@@ -147,7 +169,8 @@ other_used : (d : List ℕ) (place marker : ℕ) → 2 ≤ length d - place → 
     → Used d place (put_behind (span_of d place 2) (layout_reads d (jpeg_other place marker)))
 unfolding Used
 other_used d place marker begun ff =
-    on_answer (λ w. Used d place (put_behind (span_of d place 2) w)) (span_of d (place + 2) 2) (number_at d Big (place + 2) 2)
+    on_answer (λ w. Used d place (put_behind (span_of d place 2) w)) (span_of d (place + 2) 2)
+    (number_at d Big (place + 2) 2)
     (λ l. layout_reads d (done (Next marker (place + (2 + l)))))
     (λ l got m next is.
     let at : place + (2 + l) ≡ next = cc in
@@ -156,7 +179,8 @@ other_used d place marker begun ff =
     let second = total-span_of d (place + 2) 2 in
     let all = total-append (span_of d place 2) (span_of d (place + 2) 2 ++ []) in
     let both = total-append (span_of d (place + 2) 2) [] in
-    let left = leaves (length d) place l (slice_index d (place + 2)) (slice_index d (place + 2 + 1)) (slice_index d next) (omega arith)
+    let left = leaves (length d) place l (slice_index d (place + 2)) (slice_index d (place + 2 + 1))
+    (slice_index d next) (omega arith)
     (big_pair d (place + 2) l got)
     (λ none. ap (slice_index d) (omega arith)) (λ one. ap (slice_index d) (omega arith)) in
     let here : allowed d place ≡ (length d - place) + 6 = rw ff refl in
@@ -168,9 +192,11 @@ unfolding Used
 segment_used d k place = on_answer (Used d place) (span_of d place 2) (bytes_at d place 2) _
     (λ head got.
     let begun = bytes_ok d head place 2 got in
-    let first : slice_index d place ≡ slice_index head 0 = sym (part_first d place 2 (omega arith)) ∙ ap (λ bs. slice_index bs 0)
+    let first : slice_index d place ≡ slice_index head 0 = sym (part_first d place 2 (omega arith))
+    ∙ ap (λ bs. slice_index bs 0)
     (bytes_is d head place 2 got) in
-    let P : Layout (Said ℕ ImageSize) → Type 0 = λ t. Used d place (put_behind (span_of d place 2) (layout_reads d t)) in
+    let P : Layout (Said ℕ ImageSize)
+    → Type 0 = λ t. Used d place (put_behind (span_of d place 2) (layout_reads d t)) in
     on_test P (eqb (slice_index head 0) 0xFF) (jpeg_marked k place (slice_index head 1)) (refuse Corrupted)
     (λ is. let ff : slice_index head 0 ≡ 0xFF = grind (arith, nat_tests) in
     on_test P (is_own_frame k (slice_index head 1)) (jpeg_frame place) _
@@ -185,10 +211,12 @@ segment_allowed : (d : List ℕ) (k place : ℕ) → total (layout_reads d (jpeg
 segment_allowed d k place = on_answer (λ w. total w.marks ≤ allowed d place) (span_of d place 2) (bytes_at d place 2) _
     (λ head got.
     let begun = bytes_ok d head place 2 got in
-    let first : slice_index d place ≡ slice_index head 0 = sym (part_first d place 2 (omega arith)) ∙ ap (λ bs. slice_index bs 0)
+    let first : slice_index d place ≡ slice_index head 0 = sym (part_first d place 2 (omega arith))
+    ∙ ap (λ bs. slice_index bs 0)
     (bytes_is d head place 2 got) in
     let here = total-span_of d place 2 in
-    let P : Layout (Said ℕ ImageSize) → Type 0 = λ t. total (span_of d place 2 ++ (layout_reads d t).marks) ≤ allowed d place in
+    let P : Layout (Said ℕ ImageSize)
+    → Type 0 = λ t. total (span_of d place 2 ++ (layout_reads d t).marks) ≤ allowed d place in
     on_test P (eqb (slice_index head 0) 0xFF) (jpeg_marked k place (slice_index head 1)) (refuse Corrupted)
     (λ is. let ff : slice_index head 0 ≡ 0xFF = grind (arith, nat_tests) in
     let all = total-append (span_of d place 2) (layout_reads d (jpeg_marked k place (slice_index head 1))).marks in
@@ -197,7 +225,8 @@ segment_allowed d k place = on_answer (λ w. total w.marks ≤ allowed d place) 
     omega arith)
     (λ _. let all = total-append (span_of d place 2) [] in
     let few : 2 ≤ allowed d place = grind (arith, nat_tests) in omega arith))
-    (λ e got. let here = total-span_of d place 2 in let few : 2 ≤ allowed d place = grind (arith, nat_tests) in omega arith)
+    (λ e got. let here = total-span_of d place 2 in let few : 2 ≤ allowed d place = grind (arith, nat_tests) in
+    omega arith)
 
 -- with its type it is read from at most 28 bytes more than the input has: the segments from at most 6 more
 pub jpeg_within : (d : List ℕ) → 12 + total (jpeg d).marks ≤ length d + 28
@@ -211,4 +240,10 @@ jpeg_within d =
     omega arith
 
 pub jpeg_laws : RecordedLaws 12 18 20 true false jpeg (records jpeg_segments)
-jpeg_laws = record { local = jpeg_local; cost = jpeg_cost; within = jpeg_within; lasts = λ _. answers_last jpeg jpeg_lasts }
+jpeg_laws = record {
+  local = jpeg_local;
+  cost = jpeg_cost;
+  within = jpeg_within;
+  lasts =
+      λ _. answers_last jpeg jpeg_lasts;
+}

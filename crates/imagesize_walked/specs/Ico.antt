@@ -10,30 +10,29 @@ use Rattle.imagesize_source.specs.Layout.{Layout, if_there}
 use Rattle.imagesize_source.specs.Layout.Layout.{refuse, «done»}
 use Rattle.imagesize_source.specs.Reading.{Reads, and_then, number_read, number_at}
 
--- no reserved byte is set, and the images are icons
+-- whether the reserved bytes are zero, and the images are icons
 unfoldable pub is_ico : List ℕ → Bool
 is_ico head = begins (0 ∷ 0 ∷ 1 ∷ 0 ∷ []) head
 
--- one byte (bWidth, bHeight), of which 0 stands for 256
+-- a width or a height of one byte (bWidth, bHeight); 0 means 256
 abbrev pub icon_side : ℕ → ℕ
 icon_side byte = if byte == 0 then 256 else byte
 
--- the size that an entry begins with
+-- the size at the front of an entry
 abbrev pub icon_size : List ℕ → ImageSize
 icon_size bytes = record { width = icon_side (slice_index bytes 0); height = icon_side (slice_index bytes 1) }
 
--- what is answered at the end of the list: of the entries that are there those of greatest area, and of these
--- the last
+-- the result at the end of the list: the last size of greatest area among the entries read
 abbrev pub icon_answer : Option ImageSize → Layout (Said ImageSize ImageSize)
 icon_answer None = refuse Corrupted
 icon_answer (Some size) = done (Decided size)
 
--- an entry, behind those of these sizes: 16 bytes; the end of the input ends the list
+-- an entry of 16 bytes, after entries of these sizes; the list ends if the input does
 abbrev pub icon_entry : List ImageSize → ℕ → Option (List ℕ) → Layout (Said ImageSize ImageSize)
 icon_entry sizes place None = icon_answer (last_largest sizes)
 icon_entry sizes place (Some bytes) = done (Next (icon_size bytes) (place + 16))
 
--- as many entries as there are images (idCount), behind the count
+-- as many entries as the count says (idCount), from the end of the count on
 abbrev pub icon_entries : ℕ → Chain ImageSize ImageSize
 icon_entries count = record {
   first = 6;
@@ -43,6 +42,6 @@ icon_entries count = record {
 abbrev pub ico : List ℕ → Reads ImageSize
 ico d = and_then (number_read d Little 4 2) (λ count. chain_at (icon_entries count) d)
 
--- how many entries are begun: the end of the list begins none
+-- how many entries are begun; the end of the list begins none
 abbrev pub icons_begun : List ℕ → ℕ
 icons_begun d = count_behind (number_at d Little 4 2) (λ count. min count (records (icon_entries count) d))

@@ -10,7 +10,7 @@ use Rattle.imagesize_source.specs.Layout.Layout.{field, refuse, «done»}
 use Rattle.imagesize_source.specs.Numbers.{number}
 use Rattle.imagesize_source.specs.Reading.{Reads}
 
--- an IFF form of the type ILBM or PBM
+-- whether the input is an IFF form of type ILBM or PBM
 unfoldable pub is_ilbm : List ℕ → Bool
 is_ilbm head = begins (codes "FORM") head && (stands_at 8 (codes "ILBM") head || stands_at 8 (codes "PBM ") head)
 
@@ -19,8 +19,8 @@ abbrev pub bitmap_header : ℕ → Layout (Said (Unit {0}) ImageSize)
 bitmap_header place = field Big (place + 8) 2
     (λ width. field Big (place + 10) 2 (λ height. done (Decided (record { width = width; height = height }))))
 
--- how many bytes a chunk has: its name and its length, its data, and behind odd data a byte of padding
--- ("EA IFF 85", section 3, Chunks)
+-- The size of a chunk in bytes: its name and its length, its data, and a padding byte after data of odd length ("EA
+-- IFF 85", section 3, Chunks).
 abbrev pub chunk_bytes : ℕ → ℕ
 chunk_bytes length = 8 + (length + length % 2)
 
@@ -31,7 +31,7 @@ is_bitmap_header head = begins (codes "BMHD") head
 abbrev pub is_body : List ℕ → Bool
 is_body head = begins (codes "BODY") head
 
--- the length of a chunk's data
+-- the length of a chunk's data in bytes
 unfoldable pub chunk_length : List ℕ → ℕ
 chunk_length head = number Big (drop 4 head)
 
@@ -44,7 +44,7 @@ ilbm_named place head =
 abbrev pub ilbm_chunk : ℕ → Layout (Said (Unit {0}) ImageSize)
 ilbm_chunk place = bytes place 8 (λ head. ilbm_named place head)
 
--- the chunks behind the form's type
+-- the chunks after the form's type
 abbrev pub ilbm_chunks : Chain (Unit {0}) ImageSize
 ilbm_chunks = record { first = 12; said = λ passed place. ilbm_chunk place }
 

@@ -9,37 +9,37 @@ use Rattle.imagesize_source.specs.Layout.{Layout, bytes}
 use Rattle.imagesize_source.specs.Layout.Layout.{field, refuse, «done»}
 use Rattle.imagesize_source.specs.Reading.{Reads}
 
--- the start of the image, and the start of another marker
+-- whether the input begins with a start-of-image marker, then the start of another marker
 unfoldable pub is_jpeg : List ℕ → Bool
 is_jpeg head = begins (0xFF ∷ 0xD8 ∷ 0xFF ∷ []) head
 
--- The markers that start a frame (table B.1): those from C0 to CF, but for the ones of Huffman tables, of
--- extensions and of arithmetic coding conditions.
+-- The markers that start a frame (table B.1): C0 to CF without those for Huffman tables, extensions and arithmetic
+-- coding conditions.
 abbrev pub is_frame : ℕ → Bool
 is_frame marker = nat_le 0xC0 marker && nat_le marker 0xCF && not (marker == 0xC4 || marker == 0xC8 || marker == 0xCC)
 
--- how many images were started by segments with these markers (B.1.1.3, SOI)
+-- how many images segments with these markers start (B.1.1.3, SOI)
 abbrev pub count_starts : List ℕ → ℕ
 count_starts markers = count_by (λ marker. marker == 0xD8) markers
 
--- and how many were ended (B.1.1.3, EOI)
+-- how many images they end (B.1.1.3, EOI)
 abbrev pub count_ends : List ℕ → ℕ
 count_ends markers = count_by (λ marker. marker == 0xD9) markers
 
--- how deep within the image, as that of a thumbnail, the segment behind such segments stands
+-- how many images the next segment is nested in, such as thumbnails, after these markers
 abbrev pub depth : List ℕ → ℕ
 depth markers = count_starts markers - count_ends markers
 
--- the header of a frame: behind its length and its precision the number of lines and the samples of a line (B.2.2)
+-- A frame header (B.2.2). The number of lines and the samples per line come after its length and its precision.
 abbrev pub jpeg_frame : ℕ → Layout (Said ℕ ImageSize)
 jpeg_frame place = field Big (place + 5) 2
     (λ height. field Big (place + 7) 2 (λ width. done (Decided (record { width = width; height = height }))))
 
--- any other segment: its length counts the bytes behind the marker (B.1.1.4)
+-- any other segment; its length counts the bytes after the marker (B.1.1.4)
 abbrev pub jpeg_other : ℕ → ℕ → Layout (Said ℕ ImageSize)
 jpeg_other place marker = field Big (place + 2) 2 (λ length. done (Next marker (place + (2 + length))))
 
--- a frame of the image itself, and its end
+-- a frame of the image itself, and the end of the image itself
 abbrev pub is_own_frame : ℕ → ℕ → Bool
 is_own_frame depth marker = depth == 0 && is_frame marker
 
@@ -57,10 +57,10 @@ abbrev pub jpeg_segment : ℕ → ℕ → Layout (Said ℕ ImageSize)
 jpeg_segment depth place = bytes place 2 (λ head.
     if slice_index head 0 == 0xFF then jpeg_marked depth place (slice_index head 1) else refuse Corrupted)
 
--- the segments behind the start of the image, which hold their markers
+-- the segments after the start of the image; each holds its marker
 abbrev pub jpeg_segments : Chain ℕ ImageSize
 jpeg_segments = record { first = 2; said = λ markers place. jpeg_segment (depth markers) place }
 
--- the first frame that is of the image itself
+-- the size in the first frame of the image itself
 abbrev pub jpeg : List ℕ → Reads ImageSize
 jpeg d = chain_at jpeg_segments d

@@ -1,7 +1,8 @@
 -- TIFF, by "TIFF Revision 6.0" (section 2), and BigTIFF, by "The BigTIFF File Format".
-use Rattle.std.specs.Prelude.{◌≡◌, ℕ, ◌+◌, ◌==◌, min, Bool, List, codes, [], ◌∷◌, ◌++◌, ◌||◌, length, take, drop, filter, if◌then◌else◌, Option, None, Some, option_and_then, Result, Ok, Err}
+use Rattle.std.specs.Prelude.{ℕ, ◌+◌, ◌==◌, min, Bool, List, codes, [], ◌∷◌, ◌++◌, ◌||◌, length, take, drop, filter, if◌then◌else◌, Option, None, Some, option_and_then, Result, Ok, Err}
 use Rattle.std.specs.List.{last_or}
 use Rattle.imagesize_types.specs.Head.{begins}
+use Rattle.imagesize_types.specs.Sides.{size_if_known}
 use Rattle.imagesize_types.specs.Table.{look_up}
 use Rattle.imagesize_types.specs.declared.size.ImageSize.{ImageSize}
 use Rattle.imagesize_walked.specs.declared.formats.tiff.Entry.{Entry}
@@ -20,28 +21,28 @@ use Rattle.imagesize_source.specs.Layout.Layout.{field, refuse, «done»}
 use Rattle.imagesize_source.specs.Numbers.{number}
 use Rattle.imagesize_source.specs.Reading.{Reads, and_then, number_at, number_read}
 
--- the order of the bytes, and 42 or 43 in that order
+-- whether the input begins with a byte order, and 42 or 43 in that order
 unfoldable pub is_tiff : List ℕ → Bool
 is_tiff head = (begins (codes "II" ++ 42 ∷ 0 ∷ []) head || begins (codes "II" ++ 43 ∷ 0 ∷ []) head) ||
     (begins (codes "MM" ++ 0 ∷ 42 ∷ []) head || begins (codes "MM" ++ 0 ∷ 43 ∷ []) head)
 
--- the order of all numbers, by the first two bytes
+-- the byte order of all numbers, from the first two bytes
 abbrev pub byte_order : List ℕ → Result Endian Halt
 byte_order mark = if begins (codes "II") mark then Ok Little else if begins (codes "MM") mark then Ok Big
     else Err InvalidTiffHeader
 
--- the number behind the order: 42, and 43 of BigTIFF
+-- the version: 42 is TIFF, 43 is BigTIFF
 abbrev pub version_of : ℕ → Result Version Halt
 version_of number = if number == 42 then Ok Tiff else if number == 43 then Ok BigTiff else Err InvalidTiffHeader
 
--- the place of the first directory; in BigTIFF behind the size of a place, which is 8, and two bytes that are zero
+-- The offset of the first directory. In BigTIFF, the size of an offset (8) and two zero bytes come before it.
 unfoldable pub stated_place : Endian → Version → Layout ℕ
 stated_place order Tiff = field order 4 4 done
 stated_place order BigTiff = field order 4 2 (λ size.
     if size == 8 then field order 6 2 (λ zeros. if zeros == 0 then field order 8 8 done else refuse InvalidBigTiffHeader)
     else refuse BigTiffOffsetSize)
 
--- it is never 0
+-- the header; the offset of the directory must not be 0
 abbrev pub directory_at : Endian → Version → ℕ → Result Header Halt
 directory_at order version place = if place == 0 then Err InvalidIfdOffset
     else Ok (record { order = order; version = version; directory = place })
@@ -53,7 +54,7 @@ tiff_header =
     field order 2 2 (λ number. accept (version_of number) (λ version.
     bind (stated_place order version) (λ place. accept (directory_at order version place) done)))))
 
--- how many bytes the count of a directory's entries has ("Image File Directory")
+-- the size of a directory's entry count in bytes ("Image File Directory")
 abbrev pub count_bytes : Version → ℕ
 count_bytes Tiff = 2
 count_bytes BigTiff = 8
@@ -63,7 +64,7 @@ abbrev pub head_bytes : Version → ℕ
 head_bytes Tiff = 8
 head_bytes BigTiff = 12
 
--- and what stands behind it: the values, or where they stand
+-- after the head: the values, or their offset
 abbrev pub value_bytes : Version → ℕ
 value_bytes Tiff = 4
 value_bytes BigTiff = 8
@@ -71,14 +72,14 @@ value_bytes BigTiff = 8
 abbrev pub entry_bytes : Version → ℕ
 entry_bytes version = head_bytes version + value_bytes version
 
--- Field types ("Types"): 1 BYTE, 2 ASCII, 3 SHORT, 4 LONG, 5 RATIONAL, 6 SBYTE, 7 UNDEFINED, 8 SSHORT, 9 SLONG,
--- 10 SRATIONAL, 11 FLOAT, 12 DOUBLE, and 13 IFD of the first technical note. All numbers are read without a sign.
+-- Field types ("Types"): 1 BYTE, 2 ASCII, 3 SHORT, 4 LONG, 5 RATIONAL, 6 SBYTE, 7 UNDEFINED, 8 SSHORT, 9 SLONG, 10
+-- SRATIONAL, 11 FLOAT, 12 DOUBLE; 13 IFD is of the first technical note. All numbers are read without a sign.
 abbrev pub field_types : List (ℕ × Result FieldType Halt)
 field_types =
     (1, Ok Other) ∷ (2, Ok Other) ∷ (3, Ok Short) ∷ (4, Ok Long) ∷ (5, Ok Other) ∷ (6, Ok Other) ∷ (7, Ok Other)
     ∷ (8, Ok Short) ∷ (9, Ok Long) ∷ (10, Ok Other) ∷ (11, Ok Long) ∷ (12, Ok Other) ∷ (13, Ok Long) ∷ []
 
--- those that BigTIFF has besides: 16 LONG8, 17 SLONG8, 18 IFD8
+-- the additional field types of BigTIFF: 16 LONG8, 17 SLONG8, 18 IFD8
 abbrev pub wide_field_types : Version → List (ℕ × Result FieldType Halt)
 wide_field_types Tiff = (16, Err IfdTypeForStandardTiff) ∷ (17, Err IfdTypeForStandardTiff)
     ∷ (18, Err IfdTypeForStandardTiff) ∷ []
@@ -87,24 +88,24 @@ wide_field_types BigTiff = (16, Ok Other) ∷ (17, Ok Other) ∷ (18, Ok Other) 
 abbrev pub field_type_of : Version → ℕ → Result FieldType Halt
 field_type_of version field_type = look_up (field_types ++ wide_field_types version) (Err InvalidIfdType) field_type
 
--- what stands in the head: first the tag, then the field type
+-- the fields of a head: first the tag, then the field type
 abbrev pub tag_in : Endian → List ℕ → ℕ
 tag_in order head = number order (take 2 head)
 
 abbrev pub field_type_in : Endian → List ℕ → ℕ
 field_type_in order head = number order (drop 2 head)
 
--- the number that a value's first four bytes begin with, where its field type has one
+-- the number at the front of a value's first four bytes, if the field type has one
 abbrev pub value_of : Endian → FieldType → List ℕ → Option ℕ
 value_of order Short value = Some (number order (take 2 value))
 value_of order Long value = Some (number order value)
 value_of order Other value = None
 
--- an entry's head is read whole; the first four bytes of it count
+-- the first four bytes of an entry's head; an error if the input ends within the head
 unfoldable pub tiff_head : Version → ℕ → Layout (List ℕ)
 tiff_head version place = bytes place (head_bytes version) (λ head. done (take 4 head))
 
--- and so is its value, which the end of the input may cut
+-- the first four bytes of an entry's value; an error of its own if the input ends within the value
 abbrev pub whole_value : Option (List ℕ) → Result (List ℕ) Halt
 whole_value None = Err InvalidIfdValueLength
 whole_value (Some value) = Ok (take 4 value)
@@ -112,7 +113,7 @@ whole_value (Some value) = Ok (take 4 value)
 unfoldable pub tiff_value : Version → ℕ → Layout (List ℕ)
 tiff_value version place = if_there place (value_bytes version) (λ found. accept (whole_value found) done)
 
--- an entry: its field type is judged before its value is read
+-- an entry; its field type is checked before its value is read
 unfoldable pub tiff_entry : Header → ℕ → Layout Entry
 tiff_entry header place =
     bind (tiff_head header.version place) (λ head.
@@ -120,25 +121,20 @@ tiff_entry header place =
     bind (tiff_value header.version (place + head_bytes header.version)) (λ value.
     done (record { tag = tag_in header.order head; value = value_of header.order field_type value }))))
 
--- the value of the last entry of a tag
+-- the value of the last entry with this tag
 abbrev pub last_value : ℕ → List Entry → Option ℕ
 last_value tag entries = option_and_then (λ entry. entry.value) (last_or None (filter (λ entry. entry.tag == tag) entries))
 
--- a size, where both sides are known
-abbrev pub size_if_known : Option ℕ → Option ℕ → Option ImageSize
-size_if_known (Some width) (Some height) = Some (record { width = width; height = height })
-size_if_known _ _ = None
-
--- the size that entries give (section 3, ImageWidth and ImageLength)
+-- the size that the entries give (section 3, ImageWidth and ImageLength)
 abbrev pub size_in : List Entry → Option ImageSize
 size_in entries = size_if_known (last_value 0x100 entries) (last_value 0x101 entries)
 
--- an entry decides that completes the size
+-- the entry that completes the size decides
 abbrev pub size_or_next : Option ImageSize → Entry → ℕ → Said Entry ImageSize
 size_or_next (Some size) entry next = Decided size
 size_or_next None entry next = Next entry next
 
--- as many entries as the count says, behind it and without gaps
+-- the entries of a directory, as many as the count says, without gaps after it
 abbrev pub tiff_entries : Header → ℕ → Chain Entry ImageSize
 tiff_entries header count = record {
   first = header.directory + count_bytes header.version;
@@ -148,7 +144,7 @@ tiff_entries header count = record {
       (λ entry. done (size_or_next (size_in (entries ++ entry ∷ [])) entry (place + entry_bytes header.version)));
 }
 
--- the directory
+-- what the directory says
 abbrev pub tiff_directory : List ℕ → Header → Reads ImageSize
 tiff_directory d header = and_then (number_read d header.order header.directory (count_bytes header.version))
     (λ count. chain_at (tiff_entries header count) d)
@@ -156,7 +152,7 @@ tiff_directory d header = and_then (number_read d header.order header.directory 
 abbrev pub tiff : List ℕ → Reads ImageSize
 tiff d = and_then (layout_reads d tiff_header) (tiff_directory d)
 
--- how many entries are begun: the end of the directory begins none
+-- how many entries are begun; the end of the directory begins none
 abbrev pub directory_begun : List ℕ → Header → ℕ
 directory_begun d header = count_behind (number_at d header.order header.directory (count_bytes header.version))
     (λ count. min count (records (tiff_entries header count) d))

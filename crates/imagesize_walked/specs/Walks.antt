@@ -1,35 +1,41 @@
--- What the walks of the code hold and say, of one record at a place.
-use Rattle.std.specs.Prelude.{◌≡◌, ℕ, ◌+◌, ◌-◌, ◌<◌, ◌≤◌, ◌==◌, List, if◌then◌else◌}
+-- What the code keeps and returns in its walks, for one record at an offset.
+use Rattle.std.specs.Prelude.{◌≡◌, ℕ, ◌+◌, ◌-◌, ◌<◌, ◌≤◌, ◌==◌, List, length, if◌then◌else◌, Option, None}
+use Rattle.std.specs.Option.{ForSome}
+use Rattle.imagesize_source.specs.Layout.{Layout, if_there}
+use Rattle.imagesize_source.specs.Layout.Layout.{done}
+use Rattle.imagesize_types.specs.Largest.{area_if_some, greatest_area, last_largest}
 use Rattle.imagesize_source.specs.Chain.{Said, Decided, Next}
 use Rattle.imagesize_types.specs.declared.size.ImageSize.{ImageSize}
+use Rattle.imagesize_walked.specs.Tiff.{last_value}
+use Rattle.imagesize_walked.specs.declared.formats.tiff.Entry.{Entry}
 use Rattle.imagesize_walked.specs.Jpeg.{depth, count_starts, count_ends}
 use Rattle.imagesize_walked.specs.declared.formats.jpeg.Role.{Role}
 use Rattle.imagesize_walked.specs.declared.formats.jpeg.Role.TheVariants as role
 
--- the depth behind a segment with this marker
+-- the depth after a segment with this marker
 abbrev pub depth_behind : ℕ → ℕ → ℕ
 depth_behind depth marker = if marker == 0xD8 then depth + 1 else if marker == 0xD9 then depth - 1 else depth
 
--- the depth behind a segment that does not end the image; one that ends an inner image stands within it
+-- `behind` is the depth after a segment; an end-of-image marker comes only at a depth above 0
 unfoldable pub LeadsTo : ℕ → ℕ → ℕ → Type 0
 LeadsTo depth marker behind = (behind ≡ depth_behind depth marker) × (marker ≡ 0xD9 → 0 < depth)
 
--- and behind a segment that is none of the image's own frames
+-- the depth after a segment that is not a frame of the image itself
 abbrev pub LeadsOn : ℕ → ℕ → Said ℕ ImageSize → Type 0
 LeadsOn depth behind (Decided size) = Unit {0}
 LeadsOn depth behind (Next marker next) = LeadsTo depth marker behind
 
--- As many images were started and not ended, and none was ended that was not started.
+-- After these markers, k images are started and not ended. No image was ended that was not started.
 pub record Nested (k : ℕ) (markers : List ℕ) : Type 0 where
   pub is : depth markers ≡ k
   pub balanced : count_ends markers ≤ count_starts markers
 
--- so behind these segments, each of which is no less than a byte
+-- the same, at an offset greater than k
 pub record Stands (k : ℕ) (markers : List ℕ) (place : ℕ) : Type 0 where
   pub nested : Nested k markers
   pub shallow : k < place
 
--- the same of what a marker says of its segment, before the segment is read
+-- the depth after a segment, by what its marker says before the segment is read
 abbrev pub RoleLeadsOn : ℕ → ℕ → Role → Type 0
 RoleLeadsOn depth marker role.Frame = Unit {0}
 RoleLeadsOn depth marker role.End = Unit {0}
@@ -39,3 +45,20 @@ RoleLeadsOn depth marker (role.Other behind) = LeadsTo depth marker behind
 pub record IsIcon (size : ImageSize) : Type 0 where
   pub wide : size.width ≤ 256
   pub high : size.height ≤ 256
+
+-- `count` entries of icons were read; `largest` is the last size of greatest area among them
+pub record Seen (count : ℕ) (largest : Option ImageSize) (sizes : List ImageSize) : Type 0 where
+  pub many : length sizes ≡ count
+  pub is : last_largest sizes ≡ largest
+  pub area : greatest_area sizes ≡ area_if_some largest
+  pub icon : ForSome largest IsIcon
+
+-- the first bytes of the entry at an offset, or `None` after the last entry
+abbrev pub entry_in : ℕ → ℕ → ℕ → Layout (Option (List ℕ))
+entry_in count seen place = if seen == count then done None else if_there place 2 done
+
+-- `count` entries of a TIFF were read, and these are the width and the height from them.
+pub record Known (count : ℕ) (width height : Option ℕ) (entries : List Entry) : Type 0 where
+  pub many : length entries ≡ count
+  pub wide : last_value 0x100 entries ≡ width
+  pub high : last_value 0x101 entries ≡ height

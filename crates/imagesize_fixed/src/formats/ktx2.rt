@@ -3,7 +3,7 @@ ghost use Rattle.std.specs.Prelude.{◌≡◌};
 ghost use Rattle.imagesize_fixed.specs.Ktx2.{is_ktx2, ktx2};
 ghost use Rattle.imagesize_source.specs.State.{Follows};
 
-use imagesize_source::readings::read_u32;
+use crate::readings::sides_u32;
 use imagesize_source::source::Source;
 use imagesize_source::{Endian, Halt};
 use imagesize_types::size::ImageSize;
@@ -28,7 +28,5 @@ pub fn matches(head: &[u8; 12]) -> bool
 pub fn size<S: Source>(source: &mut S) -> Result<ImageSize, Halt>
     ensures { Follows (S.state source.old) (S.state source.new) result ktx2 }
 {
-    let width = read_u32(source, 20, Endian::Little)? as usize;
-    let height = read_u32(source, 24, Endian::Little)? as usize;
-    Ok(ImageSize { width, height })
+    sides_u32(source, Endian::Little, 20, 24)
 }

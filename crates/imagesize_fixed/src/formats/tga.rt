@@ -3,7 +3,8 @@ ghost use Rattle.std.specs.Prelude.{◌≡◌, length};
 ghost use Rattle.imagesize_fixed.specs.Tga.{is_map_sound, is_pixel_sound, is_tga, is_tga_footer, lacks_its_map, may_be_tga, tga, tga_by_header};
 ghost use Rattle.imagesize_source.specs.State.{Follows, IsSound};
 
-use imagesize_source::readings::{read_bytes, read_u8, read_u16};
+use crate::readings::sides_u16;
+use imagesize_source::readings::{read_bytes, read_u8};
 use imagesize_source::source::Source;
 use imagesize_source::{Endian, Halt};
 use imagesize_types::size::ImageSize;
@@ -109,7 +110,5 @@ fn is_pixel_sound(bits: u8, descriptor: u8) -> bool
 pub fn size<S: Source>(source: &mut S) -> Result<ImageSize, Halt>
     ensures { Follows (S.state source.old) (S.state source.new) result tga }
 {
-    let width = read_u16(source, 12, Endian::Little)? as usize;
-    let height = read_u16(source, 14, Endian::Little)? as usize;
-    Ok(ImageSize { width, height })
+    sides_u16(source, Endian::Little, 12, 14)
 }

@@ -17,13 +17,15 @@ impl Model for SpanLog {
 }
 
 impl SpanLog {
-    pub(crate) fn new() -> SpanLog
+    /// No spans.
+    pub fn new() -> SpanLog
         ensures { result.spans ≡ [] }
     {
         SpanLog {}
     }
 
-    pub(crate) fn with(_before: &SpanLog, _span: &Span) -> SpanLog
+    /// These spans, and one more after them.
+    pub fn with(_before: &SpanLog, _span: &Span) -> SpanLog
         ensures { result.spans ≡ _before.now.spans ++ _span.now ∷ [] }
     {
         SpanLog {}

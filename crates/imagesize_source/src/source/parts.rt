@@ -1,4 +1,5 @@
-//! The known parts of an input as a source. A reading is answered from them, or fails and says which byte it misses.
+//! The known parts of an input as a source. A read of known bytes succeeds; any other read fails and records which byte it
+//! misses.
 ghost use Rattle.std.specs.Prelude.{◌≡◌, ℕ, ◌+◌, ◌-◌, ◌<◌, ◌≤◌, ◌++◌, ◌&&◌, [], ◌∷◌, if◌then◌else◌, min, take, drop, length, slice_index, not, nat_le, nat_lt, is_some, true, false, None, Some, IfOk, IfSome};
 ghost use Rattle.std.specs.Option.{ForSome};
 ghost use Rattle.imagesize_source.specs.Agreement.{has_place};
@@ -14,31 +15,31 @@ use crate::part::part_of;
 use crate::text::{is_closed, text_length};
 use crate::{Halt, ImageError, Reason, Span, Text};
 
-/// What a reading misses, from the first byte that is not known on.
+/// What a read misses, from its first unknown byte on.
 #[derive(Clone, Copy)]
 pub struct Missing {
-    /// The place of that byte.
+    /// The offset of that byte.
     pub start: u64,
-    /// How many bytes it reads from there on, whatever they are: of a text this one alone, and else all that it asks for.
+    /// How many bytes from there on are certain to be read: 1 for a text, else all that the read requests.
     pub sure: u64,
-    /// How many bytes it asks for from there on.
+    /// How many bytes the read requests from there on.
     pub most: u64,
 }
 
-/// Parts of an input, as a source: `bytes` are those of the spans, one behind another.
+/// The known parts of an input, as a source.
 #[derive(Drop)]
 pub struct PartsSource<'a> {
-    /// The parts that are known.
+    /// The spans of the known parts.
     pub spans: &'a [Span],
-    /// Their bytes.
+    /// The bytes of the spans, one span after another.
     pub bytes: &'a [u8],
-    /// How many bytes the input has.
+    /// The length of the input in bytes.
     pub told: u64,
-    /// The known bytes from place 0 on, up to the end of the first part that has it.
+    /// The known bytes from offset 0 on, up to the end of the first part that contains it.
     pub front: &'a [u8],
-    /// What the last reading that failed misses.
+    /// What the last failed read misses.
     pub missed: Option<Missing>,
-    /// What the readings saw.
+    /// The spans of the reads.
     pub log: SpanLog,
     ghost front_known: { (i : ℕ) → i < length front.now → byte_in_parts told spans.now bytes.now i ≡ Some (slice_index front.now i) },
     ghost seen: { AllKnown told spans.now bytes.now log.spans },
@@ -46,7 +47,7 @@ pub struct PartsSource<'a> {
 }
 
 impl<'a> PartsSource<'a> {
-    /// The source of these parts.
+    /// A source of these parts.
     pub fn new(spans: &'a [Span], bytes: &'a [u8], told: u64) -> Self
         ensures spans { result.spans.now ≡ spans.now }
         ensures bytes { result.bytes.now ≡ bytes.now }
@@ -64,7 +65,7 @@ impl<'a> PartsSource<'a> {
         }
     }
 
-    /// Forgets what the readings so far saw and missed, so that others begin anew. The parts stay as they are.
+    /// Forgets what the reads so far saw and missed. The parts stay as they are.
     #[inline(always)]
     pub fn forget(&mut self)
         ensures spans { self.new.spans.now ≡ self.old.spans.now }
@@ -77,7 +78,7 @@ impl<'a> PartsSource<'a> {
         self.missed = None;
     }
 
-    // Records the places of a reading.
+    // Records `count` bytes from an offset on. Without bytes it records no span.
     #[inline(always)]
     #[tactic(auto, unfolding(crate::specs::Input::span_at))]
     fn see(&mut self, start: u64, count: usize)
@@ -107,7 +108,7 @@ impl<'a> PartsSource<'a> {
         self.log = SpanLog::with(&self.log, &span);
     }
 
-    // Records a reading that misses bytes behind these.
+    // Records a read whose first `count` bytes are known and whose next byte is missing.
     fn miss(&mut self, start: u64, count: usize, sure: usize, most: usize) -> Halt
         requires known { (i : ℕ) → i < count → is_some (byte_in_parts self.old.told self.old.spans.now self.old.bytes.now (start + i)) ≡ true }
         requires some { 0 < sure }
@@ -130,8 +131,8 @@ impl<'a> PartsSource<'a> {
         Halt::Failed
     }
 
-    // Copies what is known of a reading into its room, as far as no byte is missing. It answers how many bytes that
-    // is, and how many of the room's bytes the input has.
+    // Copies the known bytes of a read into the buffer, up to the first missing byte. Returns how many it copied, and how many
+    // bytes of the buffer lie within the input.
     #[inline(always)]
     fn fill_known(&self, place: u64, room: &mut [u8]) -> (usize, usize)
         ensures wanted { result.1 ≡ min (length room.new) (self.now.told - place) }
@@ -151,7 +152,7 @@ impl<'a> PartsSource<'a> {
         (found, wanted)
     }
 
-    // A reading that the front has not whole.
+    // A read that `front` does not contain as a whole.
     #[cold]
     #[inline(never)]
     fn gather_at(&mut self, place: u64, room: &mut [u8]) -> Result<usize, Halt>
@@ -208,7 +209,7 @@ impl Source for PartsSource<'_> {
     }
 }
 
-// So many bytes from a place on, where all of them are there.
+// The `count` bytes from an offset on, or `None` if the slice ends earlier.
 #[inline(always)]
 #[tactic(auto, unfolding(crate::specs::Input::part))]
 fn whole_part(bytes: &[u8], place: u64, count: usize) -> Option<&[u8]>
@@ -226,8 +227,8 @@ fn whole_part(bytes: &[u8], place: u64, count: usize) -> Option<&[u8]>
     Some(&rest[..count])
 }
 
-// How many of a room's bytes an input of this length has from a place on.
-fn count_there(told: u64, place: u64, room: usize) -> usize
+/// How many bytes from an offset on lie within an input of this length, up to the length of the buffer.
+pub fn count_there(told: u64, place: u64, room: usize) -> usize
     ensures { result ≡ min room (told - place) }
 {
     let left = told.saturating_sub(place);
@@ -238,14 +239,14 @@ fn count_there(told: u64, place: u64, room: usize) -> usize
     }
 }
 
-// Whether the input has more bytes than these that may be of the text.
-fn is_cut(text: Text, bytes: &[u8], wanted: usize) -> bool
+/// Whether the text may go on after these bytes, within the input.
+pub fn is_cut(text: Text, bytes: &[u8], wanted: usize) -> bool
     ensures { result ≡ (nat_lt (length bytes.now) wanted && not (is_ended text bytes.now)) }
 {
     bytes.len() < wanted && !is_closed(text, bytes)
 }
 
-// Copies what is known of a reading into its room, as far as no byte is missing, and answers how many bytes that is.
+// Copies the known bytes of a read into the buffer, up to the first missing byte, and returns how many it copied.
 fn gather(spans: &[Span], bytes: &[u8], told: u64, place: u64, room: &mut [u8]) -> usize
     requires { length room.old ≤ told - place }
     ensures within { result ≤ length room.old }
@@ -264,8 +265,8 @@ fn gather(spans: &[Span], bytes: &[u8], told: u64, place: u64, room: &mut [u8]) 
     count
 }
 
-// Copies the first of these bytes into a room from an index on, as far as it goes, and answers how many that is.
-fn put(run: &[u8], room: &mut [u8], index: usize) -> usize
+/// Copies the first of these bytes into the buffer from an index on, as many as fit, and returns how many it copied.
+pub fn put(run: &[u8], room: &mut [u8], index: usize) -> usize
     requires { index ≤ length room.old }
     ensures count { result ≡ min (length run.now) (length room.old - index) }
     ensures copied { room.new ≡ take index room.old ++ take result run.now ++ drop (index + result) room.old }
@@ -275,7 +276,8 @@ fn put(run: &[u8], room: &mut [u8], index: usize) -> usize
     count
 }
 
-// The known bytes from a place on: of the first part that has it, up to its end or to where a part before it begins.
+// The known bytes from an offset on, from the first part that contains it. They end where the part ends, or where an earlier part
+// of the list begins.
 fn known_from<'a>(spans: &[Span], bytes: &'a [u8], told: u64, place: u64) -> &'a [u8]
     ensures known { (i : ℕ) → i < length result.now → byte_in_parts told spans.now bytes.now (place + i) ≡ Some (slice_index result.now i) }
     ensures none { length result.now ≡ 0 → is_some (byte_in_parts told spans.now bytes.now place) ≡ false }
@@ -294,21 +296,21 @@ fn known_from<'a>(spans: &[Span], bytes: &'a [u8], told: u64, place: u64) -> &'a
     &rest[..0]
 }
 
-// How many bytes of a span an input of this length has.
+// How many bytes of a span lie within an input of this length.
 fn length_within(span: &Span, told: u64) -> u64
     ensures { result ≡ length_within told span.now }
 {
     span.len.min(told.saturating_sub(span.start))
 }
 
-// Whether so many places from a start on have this one.
+// Whether the `len` bytes from `start` on contain the offset.
 fn has_place(start: u64, len: u64, place: u64) -> bool
     ensures { result ≡ (nat_le start place && nat_lt (place - start) len) }
 {
     start <= place && place - start < len
 }
 
-// How many of so many places from one on lie before a start that is behind it.
+// The lesser of `most` and the distance to `start`, if `start` is after the offset. Else `most`.
 fn count_before(start: u64, place: u64, most: u64) -> u64
     ensures { result ≡ (if nat_lt place start then min most (start - place) else most) }
 {
@@ -319,7 +321,7 @@ fn count_before(start: u64, place: u64, most: u64) -> u64
     }
 }
 
-// The bytes behind so many.
+// The bytes after the first `count`.
 #[tactic(auto, using(crate::proofs::Known::slice_behind))]
 fn bytes_behind(bytes: &[u8], count: u64) -> &[u8]
     ensures { result.now ≡ drop count bytes.now }

@@ -4,7 +4,7 @@ ghost use Rattle.imagesize_source.specs.Chain.{chain_at};
 ghost use Rattle.imagesize_source.specs.Paying.{Paid};
 ghost use Rattle.imagesize_source.specs.Reading.{map_answer};
 ghost use Rattle.imagesize_source.specs.State.{Runs};
-ghost use Rattle.imagesize_texts.specs.Exr.{size_within, exr, exr_attribute, exr_attributes, is_box, is_data_window, is_exr, name_room, window_side, signed_at, window_size};
+ghost use Rattle.imagesize_texts.specs.Exr.{exr, exr_attribute, exr_attributes, is_box, is_data_window, is_exr, name_room, window_side, signed_at, window_size};
 ghost use Rattle.imagesize_texts.specs.Texts.{line_read};
 
 use crate::util::{read_line_capped, read_u32_behind};
@@ -12,7 +12,7 @@ use imagesize_source::readings::{read_bytes_behind, read_u32};
 use imagesize_source::source::Source;
 use imagesize_source::walk::{Found, Records, walk};
 use imagesize_source::{Endian, Halt};
-use imagesize_types::size::ImageSize;
+use imagesize_types::size::{ImageSize, size_if_known};
 
 /// Whether the input begins with the magic number.
 #[inline]
@@ -79,7 +79,7 @@ impl Records for Attributes {
 
     ghost said = { λ attributes passed place. exr_attribute attributes.names place };
 
-    ghost keeps = { λ attributes passed place. attributes.names ≤ 256 };
+    ghost keeps = { λ attributes passed place. (0 < attributes.names) × (attributes.names ≤ 256) };
 
     // Reads the attribute at an offset.
     #[tactic(auto, using(imagesize_source::proofs::Runs::steps, imagesize_source::proofs::Runs::missed_before))]
@@ -114,6 +114,13 @@ impl Records for Attributes {
                 length: taken + 16,
             },
         })
+    }
+
+    // The input ends before the size.
+    #[inline(always)]
+    #[tactic(auto, using(crate::proofs::Exr::exr_ends))]
+    fn at_end(&self) -> Result<ImageSize, Halt> {
+        Err(Halt::Ended)
     }
 }
 
@@ -179,7 +186,7 @@ fn window_size(bytes: &[u8; 16]) -> Option<ImageSize>
 {
     let width = side(signed_at(bytes, 0), signed_at(bytes, 8));
     let height = side(signed_at(bytes, 4), signed_at(bytes, 12));
-    box_size(width, height)
+    size_if_known(width, height)
 }
 
 // The signed number that the four bytes from an offset on encode.
@@ -205,15 +212,4 @@ fn side(low: i32, high: i32) -> Option<usize>
         return None;
     }
     Some(high.abs_diff(low) as usize + 1)
-}
-
-// The size with these sides, if both are known.
-#[inline]
-fn box_size(width: Option<usize>, height: Option<usize>) -> Option<ImageSize>
-    ensures { result ≡ size_within width height }
-{
-    match (width, height) {
-        (Some(width), Some(height)) => Some(ImageSize { width, height }),
-        _ => None,
-    }
 }

@@ -2,14 +2,14 @@
 ghost use Rattle.std.specs.Prelude.{◌≡◌, option_map};
 ghost use Rattle.imagesize_source.specs.State.{Runs, Follows};
 ghost use Rattle.imagesize_texts.specs.Contents.{words};
-ghost use Rattle.imagesize_texts.specs.Hdr.{hdr, hdr_identifier, hdr_line, hdr_size, is_hdr, is_identifier, is_resolution, second_and_fourth};
+ghost use Rattle.imagesize_texts.specs.Hdr.{hdr, hdr_identifier, hdr_line, is_hdr, is_identifier, is_resolution, second_and_fourth};
 ghost use Rattle.imagesize_texts.specs.Texts.{line_at};
 
 use crate::util::{number, read_line_capped};
 use imagesize_source::Halt;
 use imagesize_source::source::Source;
 use imagesize_source::walk::{Found, Records, walk};
-use imagesize_types::size::ImageSize;
+use imagesize_types::size::{ImageSize, size_if_known};
 
 // A line after the first has at most this many bytes, including its line feed.
 const LINE_ROOM: usize = 256;
@@ -49,7 +49,7 @@ pub fn matches(head: &[u8; 12]) -> bool
 /// - `NoDelimiter`: a line is too long.
 /// - `NotUtf8`: a line is not UTF-8.
 /// - `Ended`: the input ends before the size.
-#[tactic(auto, using(imagesize_source::proofs::Runs::steps, crate::proofs::Hdr::hdr_follows))]
+#[tactic(auto, using(imagesize_source::proofs::Runs::steps))]
 pub fn size<S: Source>(source: &mut S) -> Result<ImageSize, Halt>
     ensures { Runs (S.state source.old) (S.state source.new) result
         (hdr (S.state source.old).held.input) }
@@ -101,13 +101,21 @@ impl Records for Lines {
             let Some((height, width)) = lengths(line) else {
                 return Err(Halt::InvalidHdrDimensionsLine);
             };
-            let size = hdr_size(number(height), number(width))?;
+            let size = size_if_known(number(width), number(height));
+            let size = size.ok_or(Halt::HdrDimensionsNotFound)?;
             return Ok(Found::Answer(size));
         }
         Ok(Found::Other {
             held: (),
             length: line.len() as u64 + 1,
         })
+    }
+
+    // The input ends before the size.
+    #[inline(always)]
+    #[tactic(auto, using(crate::proofs::Hdr::hdr_ends))]
+    fn at_end(&self) -> Result<ImageSize, Halt> {
+        Err(Halt::Ended)
     }
 }
 
@@ -156,15 +164,5 @@ fn lengths(text: &str) -> Option<(&str, &str)>
     match words.next() {
         Some(_) => None,
         None => Some((height, width)),
-    }
-}
-
-// The size with these sides, or `HdrDimensionsNotFound` if one of them is missing.
-fn hdr_size(height: Option<usize>, width: Option<usize>) -> Result<ImageSize, Halt>
-    ensures { result ≡ hdr_size height width }
-{
-    match (height, width) {
-        (Some(height), Some(width)) => Ok(ImageSize { width, height }),
-        _ => Err(Halt::HdrDimensionsNotFound),
     }
 }

@@ -2,14 +2,14 @@
 ghost use Rattle.std.specs.Prelude.{◌≡◌};
 ghost use Rattle.imagesize_source.specs.State.{Runs};
 ghost use Rattle.imagesize_source.specs.declared.walk.Found.TheVariants as found;
-ghost use Rattle.imagesize_texts.specs.Pnm.{is_blank, is_comment, is_pnm, pnm, pnm_size, pnm_word};
+ghost use Rattle.imagesize_texts.specs.Pnm.{is_blank, is_comment, is_pnm, pnm, pnm_word};
 ghost use Rattle.imagesize_texts.specs.Texts.{word};
 
 use crate::util::{WORD_ROOM, is_hash, number, pass_line_behind, read_word, read_word_behind};
 use imagesize_source::Halt;
 use imagesize_source::source::Source;
 use imagesize_source::walk::{Found, Records, walk};
-use imagesize_types::size::ImageSize;
+use imagesize_types::size::{ImageSize, size_if_known};
 
 /// Whether the input begins with a magic number from `P1` to `P6`.
 #[inline(always)]
@@ -29,7 +29,6 @@ pub fn matches(head: &[u8; 12]) -> bool
 /// - `NoDelimiter`: a word or a comment is too long.
 /// - `NotUtf8`: a word is not UTF-8.
 /// - `Ended`: the input ends before the size.
-#[tactic(auto, using(crate::proofs::Pnm::pnm_follows))]
 pub fn size<S: Source>(source: &mut S) -> Result<ImageSize, Halt>
     ensures { Runs (S.state source.old) (S.state source.new) result
         (pnm (S.state source.old).held.input) }
@@ -77,8 +76,16 @@ impl Records for Words {
         }
         let width = number(word.text);
         let next = read_word_behind(source, place, taken, &mut self.room)?;
-        let size = pnm_size(width, number(next.text.trim()))?;
+        let size = size_if_known(width, number(next.text.trim()));
+        let size = size.ok_or(Halt::PnmDimensionsNotFound)?;
         Ok(Found::Answer(size))
+    }
+
+    // The input ends before the size.
+    #[inline(always)]
+    #[tactic(auto, using(crate::proofs::Pnm::pnm_ends))]
+    fn at_end(&self) -> Result<ImageSize, Halt> {
+        Err(Halt::Ended)
     }
 }
 
@@ -110,14 +117,4 @@ fn is_blank(text: &str) -> bool
     ensures { result ≡ is_blank text.now }
 {
     text.trim().is_empty()
-}
-
-// The size with these sides, or `PnmDimensionsNotFound` if one of them is missing.
-fn pnm_size(width: Option<usize>, height: Option<usize>) -> Result<ImageSize, Halt>
-    ensures { result ≡ pnm_size width height }
-{
-    match (width, height) {
-        (Some(width), Some(height)) => Ok(ImageSize { width, height }),
-        _ => Err(Halt::PnmDimensionsNotFound),
-    }
 }

@@ -1,22 +1,22 @@
 //! Windows icons, by `ICONDIR` and `ICONDIRENTRY` of "Icons" (Win32).
-ghost use Rattle.std.specs.Prelude.{◌≡◌, ◌≤◌, ◌+◌, ◌*◌, Some, ok_or};
+ghost use Rattle.std.specs.Prelude.{◌≡◌, ◌<◌, ◌≤◌, ◌*◌, IfOk, IfSome, Some, ok_or};
 ghost use Rattle.std.specs.Option.{ForSome};
 ghost use Rattle.imagesize_walked.specs.Ico.{ico, icon_entries, icon_side, icon_size, is_ico};
-ghost use Rattle.imagesize_walked.specs.Walks.{IsIcon};
+ghost use Rattle.imagesize_walked.specs.Walks.{IsIcon, Seen, entry_in};
 ghost use Rattle.imagesize_types.specs.Largest.{later_largest};
 ghost use Rattle.imagesize_types.specs.Order.{area_of};
 ghost use Rattle.imagesize_source.specs.declared.halt.Halt.TheVariants as halt;
 ghost use Rattle.imagesize_source.specs.Chain.{chain_at};
-ghost use Rattle.imagesize_source.specs.Layout.{if_there};
-ghost use Rattle.imagesize_source.specs.Layout.Layout.{«done»};
+ghost use Rattle.imagesize_source.specs.Paying.{Paid};
 ghost use Rattle.imagesize_source.specs.State.{Runs, Follows, IsSound};
 
 use imagesize_source::readings::{read_if_there, read_u16};
 use imagesize_source::source::Source;
+use imagesize_source::walk::{Found, Records, walk};
 use imagesize_source::{Endian, Halt};
 use imagesize_types::size::ImageSize;
 
-/// Whether a directory of icons stands first.
+/// Whether the input begins with a directory of icons.
 #[inline(always)]
 #[tactic(auto, unfolding(crate::specs::Ico::is_ico))]
 pub fn matches(head: &[u8; 12]) -> bool
@@ -25,7 +25,7 @@ pub fn matches(head: &[u8; 12]) -> bool
     matches!(head, [0, 0, 1, 0, ..])
 }
 
-/// The width and the height of the image of greatest area, and of several the last.
+/// The width and the height in pixels of the image with the greatest area, or the last of several.
 #[tactic(auto, using(imagesize_source::proofs::Runs::steps))]
 pub fn size<S: Source>(source: &mut S) -> Result<ImageSize, Halt>
     ensures { Runs (S.state source.old) (S.state source.new) result (ico (S.state source.old).held.input) }
@@ -34,38 +34,91 @@ pub fn size<S: Source>(source: &mut S) -> Result<ImageSize, Halt>
     largest(source, count)
 }
 
-// The largest of so many images, of which those count whose entries are there.
+// The size of the largest of `count` icons. Icons whose entries lie past the end of the input do not count.
 fn largest<S: Source>(source: &mut S, count: u16) -> Result<ImageSize, Halt>
     requires { IsSound (S.state source.old) }
     ensures { Runs (S.state source.old) (S.state source.new) result
         (chain_at (icon_entries count) (S.state source.old).held.input) }
 {
-    let mut best: Option<ImageSize> = None;
-    for index in 0..count {
-        let Some(bytes) = read_entry(source, index)? else {
-            return answer(best);
+    let entries = Entries {
+        count,
+        seen: 0,
+        largest: None,
+    };
+    walk(entries, source, 6)
+}
+
+// The entries of the directory: their stated number, how many were read, and the largest size among these.
+#[derive(Drop)]
+struct Entries {
+    count: u16,
+    seen: u16,
+    largest: Option<ImageSize>,
+    ghost few: { seen ≤ count },
+}
+
+impl Records for Entries {
+    type Held = ImageSize;
+
+    type Answer = ImageSize;
+
+    ghost said = { λ entries sizes place. (icon_entries entries.count).said sizes place };
+
+    ghost keeps = { λ entries sizes place. Seen entries.seen entries.largest sizes };
+
+    // Reads the entry at an offset.
+    #[inline]
+    fn read_record<S: Source>(
+        &mut self,
+        source: &mut S,
+        place: u64,
+    ) -> Result<Found<ImageSize, ImageSize>, Halt> {
+        let Some(bytes) = self.read_entry(source, place)? else {
+            return Ok(Found::Answer(answer(self.largest)?));
         };
-        best = Some(larger(best, icon_size(bytes)));
+        let size = icon_size(bytes);
+        self.largest = Some(larger(self.largest, size));
+        self.seen += 1;
+        Ok(Found::Other {
+            held: size,
+            length: 16,
+        })
     }
-    answer(best)
+
+    // The largest size so far.
+    #[inline(always)]
+    fn at_end(&self) -> Result<ImageSize, Halt> {
+        answer(self.largest)
+    }
 }
 
-// The first two bytes of an entry, or none where the input ends before the second.
-#[inline]
-fn read_entry<S: Source>(source: &mut S, index: u16) -> Result<Option<[u8; 2]>, Halt>
-    ensures { Follows (S.state source.old) (S.state source.new) result (if_there (6 + 16 * index) 2 done) }
+impl Entries {
+    // The first two bytes of the next entry. `None` if all are read, or if the input ends before the second byte.
+    #[inline(always)]
+    #[tactic(auto, using(imagesize_source::proofs::Runs::steps))]
+    fn read_entry<S: Source>(&self, source: &mut S, place: u64) -> Result<Option<[u8; 2]>, Halt>
+        ensures pays { IfOk result (λ entry. IfSome entry (λ _. Paid (S.state source.old) (S.state source.new) place)) }
+        ensures more { IfOk result (λ entry. IfSome entry (λ _. self.now.seen < self.now.count)) }
+        ensures runs { Follows (S.state source.old) (S.state source.new) result (entry_in self.now.count self.now.seen place) }
+    {
+        if self.seen == self.count {
+            // The proof needs that the length is below 2^63.
+            let _told = source.told();
+            return Ok(None);
+        }
+        read_if_there::<S, 2>(source, place)
+    }
+}
+
+// The size at the end of the list.
+#[inline(always)]
+fn answer(largest: Option<ImageSize>) -> Result<ImageSize, Halt>
+    ensures { result ≡ ok_or largest halt.Corrupted }
 {
-    read_if_there::<S, 2>(source, 6 + 16 * index as u64)
+    largest.ok_or(Halt::Corrupted)
 }
 
-// What is answered at the end of the list.
-fn answer(best: Option<ImageSize>) -> Result<ImageSize, Halt>
-    ensures { result ≡ ok_or best halt.Corrupted }
-{
-    best.ok_or(Halt::Corrupted)
-}
-
-// The one of greater area, and of two that are alike the second.
+// The size of greater area, or the second of two equal ones.
 fn larger(best: Option<ImageSize>, size: ImageSize) -> ImageSize
     requires best { ForSome best IsIcon }
     requires is { IsIcon size }
@@ -78,7 +131,7 @@ fn larger(best: Option<ImageSize>, size: ImageSize) -> ImageSize
     }
 }
 
-// How many pixels an icon has.
+// The area of an icon in pixels.
 fn area(size: &ImageSize) -> usize
     requires { IsIcon size.now }
     ensures { result ≡ area_of size.now }
@@ -86,7 +139,7 @@ fn area(size: &ImageSize) -> usize
     size.width * size.height
 }
 
-// The size that an entry begins with.
+// The size from the first two bytes of an entry.
 fn icon_size(bytes: [u8; 2]) -> ImageSize
     ensures icon { IsIcon result }
     ensures is { result ≡ icon_size bytes }
@@ -98,7 +151,7 @@ fn icon_size(bytes: [u8; 2]) -> ImageSize
     }
 }
 
-// A width or a height, of which 0 stands for 256.
+// A width or a height in pixels. The byte 0 means 256.
 fn icon_side(byte: u8) -> usize
     ensures most { result ≤ 256 }
     ensures is { result ≡ icon_side byte }

@@ -22,7 +22,7 @@ pub fn matches(head: &[u8; 12]) -> bool
 
 /// The width and the height in pixels, from the first bitmap header before the pixels. Returns `Corrupted` if the pixels come
 /// first, and `Ended` if the input ends before the size.
-#[tactic(auto, using(crate::proofs::Ilbm::ilbm_follows))]
+#[tactic(auto, using(crate::proofs::Ilbm::ilbm_advances))]
 pub fn size<S: Source>(source: &mut S) -> Result<ImageSize, Halt>
     ensures { Runs (S.state source.old) (S.state source.new) result (ilbm (S.state source.old).held.input) }
 {
@@ -62,6 +62,13 @@ impl Records for Chunks {
             held: (),
             length: chunk_bytes(chunk_length(&head)),
         })
+    }
+
+    // The input ends before the size.
+    #[inline(always)]
+    #[tactic(auto, using(crate::proofs::Ilbm::ilbm_ends))]
+    fn at_end(&self) -> Result<ImageSize, Halt> {
+        Err(Halt::Ended)
     }
 }
 

@@ -1,5 +1,5 @@
 //! JPEG: ITU-T T.81, annex B. Walks along the segments up to the first frame of the image itself.
-ghost use Rattle.std.specs.Prelude.{◌≡◌, ◌↔◌, ◌<◌, ◌+◌, ◌^◌, IfOk, IsTrue};
+ghost use Rattle.std.specs.Prelude.{◌≡◌, ◌↔◌, ◌<◌, ◌+◌, ◌^◌, IfOk, IfErr, IsTrue};
 ghost use Rattle.imagesize_walked.specs.Jpeg.{depth, is_frame, is_jpeg, is_own_end, is_own_frame, jpeg, jpeg_segment};
 ghost use Rattle.imagesize_walked.specs.Walks.{depth_behind, LeadsOn, RoleLeadsOn, Stands};
 ghost use Rattle.imagesize_source.specs.Walk.{said_at};
@@ -24,7 +24,7 @@ pub fn matches(head: &[u8; 12]) -> bool
 
 /// The width and the height in pixels, from the first frame that does not belong to an image within the image. Returns
 /// `Corrupted` if a segment does not begin with FF or the image ends before its frame, and `Ended` if the input does.
-#[tactic(auto, using(crate::proofs::Jpeg::jpeg_follows, crate::proofs::Jpeg::stands_first))]
+#[tactic(auto, using(crate::proofs::Jpeg::jpeg_advances, crate::proofs::Jpeg::stands_first))]
 pub fn size<S: Source>(source: &mut S) -> Result<ImageSize, Halt>
     ensures { Runs (S.state source.old) (S.state source.new) result (jpeg (S.state source.old).held.input) }
 {
@@ -48,13 +48,19 @@ impl Records for Segments {
 
     // Reads the segment at an offset.
     #[inline]
-    #[tactic(auto, using(crate::proofs::Jpeg::stands_on, crate::proofs::Jpeg::segment_as, crate::proofs::Jpeg::shallow))]
+    #[tactic(auto, using(crate::proofs::Jpeg::stands_on, crate::proofs::Jpeg::stands_stay, crate::proofs::Jpeg::segment_as, crate::proofs::Jpeg::shallow))]
     fn read_record<S: Source>(
         &mut self,
         source: &mut S,
         place: u64,
     ) -> Result<Found<u8, ImageSize>, Halt> {
         self.read_segment(source, place)
+    }
+
+    // The input ends before the size.
+    #[inline(always)]
+    fn at_end(&self) -> Result<ImageSize, Halt> {
+        Err(Halt::Ended)
     }
 }
 
@@ -104,6 +110,7 @@ impl Segments {
         requires { self.now.depth + 1 < 2 ^ 64 }
         ensures nears { IfOk result (λ found. Nears (S.state source.old) (S.state source.new) place (said_at place found)) }
         ensures depth { IfOk result (λ found. LeadsOn self.old.depth self.new.depth (said_at place found)) }
+        ensures stays { IfErr result (λ _. self.new.depth ≡ self.old.depth) }
         ensures runs { Follows (S.state source.old) (S.state source.new) (map_answer (said_at place) result) (jpeg_segment self.old.depth place) }
     {
         let [first, marker] = read_bytes::<S, 2>(source, place)?;

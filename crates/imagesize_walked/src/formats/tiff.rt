@@ -1,7 +1,10 @@
 //! TIFF, by "TIFF Revision 6.0" (section 2), and BigTIFF, by "The BigTIFF File Format".
-ghost use Rattle.std.specs.Prelude.{◌≡◌, ◌+◌, ◌≤◌, ◌==◌, if◌then◌else◌, false, take, length};
-ghost use Rattle.imagesize_walked.specs.Tiff.{byte_order, count_bytes, directory_at, head_bytes, is_tiff, field_type_in, field_type_of, size_if_known, stated_place, tag_in, tiff, tiff_entries, tiff_entry, tiff_head, tiff_header, tiff_value, value_bytes, value_of, version_of};
+ghost use Rattle.std.specs.Prelude.{◌≡◌, ◌+◌, ◌<◌, ◌≤◌, IfOk, ◌==◌, if◌then◌else◌, false, take, length};
+ghost use Rattle.imagesize_walked.specs.Tiff.{byte_order, count_bytes, directory_at, head_bytes, is_tiff, field_type_in, field_type_of, stated_place, tag_in, tiff, tiff_entries, tiff_entry, tiff_head, tiff_header, tiff_value, value_bytes, value_of, version_of};
+ghost use Rattle.imagesize_types.specs.Sides.{size_if_known};
 ghost use Rattle.imagesize_source.specs.Chain.{chain_at};
+ghost use Rattle.imagesize_source.specs.Paying.{ahead_of};
+ghost use Rattle.imagesize_walked.specs.Walks.{Known};
 ghost use Rattle.imagesize_source.specs.Reading.{is_stopped, number_read};
 ghost use Rattle.imagesize_source.specs.State.{Runs, Follows, IsSound};
 
@@ -9,10 +12,11 @@ use imagesize_source::readings::{
     read_bytes, read_exact_at, read_u16, read_u32, read_u64, read_whole_behind,
 };
 use imagesize_source::source::Source;
+use imagesize_source::walk::{Found, Records, walk};
 use imagesize_source::{Endian, Halt};
-use imagesize_types::size::ImageSize;
+use imagesize_types::size::{ImageSize, size_if_known};
 
-/// Whether the order of the bytes stands first, and the version behind it.
+/// Whether the input begins with a byte order, followed by a version in that order.
 #[inline(always)]
 #[tactic(auto, unfolding(crate::specs::Tiff::is_tiff))]
 pub fn matches(head: &[u8; 12]) -> bool
@@ -24,7 +28,7 @@ pub fn matches(head: &[u8; 12]) -> bool
     )
 }
 
-/// The width and the height, by the first entry of the first directory behind which both are known.
+/// The width and the height in pixels. They are known after the first entry of the first directory that completes them.
 #[tactic(auto, using(imagesize_source::proofs::Runs::steps))]
 pub fn size<S: Source>(source: &mut S) -> Result<ImageSize, Halt>
     ensures { Runs (S.state source.old) (S.state source.new) result (tiff (S.state source.old).held.input) }
@@ -34,14 +38,14 @@ pub fn size<S: Source>(source: &mut S) -> Result<ImageSize, Halt>
     find_size(source, &header, count)
 }
 
-// Which of the two formats it is.
+// Which of the two formats the file has.
 #[derive(Clone, Copy)]
 enum Version {
     Tiff,
     BigTiff,
 }
 
-// The order of all numbers, which format it is, and where the first directory stands.
+// The byte order of all numbers, the version, and the offset of the first directory.
 #[derive(Clone, Copy)]
 struct Header {
     order: Endian,
@@ -49,7 +53,7 @@ struct Header {
     directory: u64,
 }
 
-// The header.
+// Reads the header.
 #[tactic(auto, using(imagesize_source::proofs::Runs::steps, imagesize_source::proofs::Layouts::binding), unfolding(crate::specs::Tiff::tiff_header))]
 fn read_header<S: Source>(source: &mut S) -> Result<Header, Halt>
     ensures { Follows (S.state source.old) (S.state source.new) result tiff_header }
@@ -62,7 +66,7 @@ fn read_header<S: Source>(source: &mut S) -> Result<Header, Halt>
     Ok(header)
 }
 
-// The order of all numbers, by the first two bytes.
+// The byte order of all numbers, from the first two bytes.
 #[inline(always)]
 fn byte_order(mark: [u8; 2]) -> Result<Endian, Halt>
     ensures { result ≡ byte_order mark }
@@ -74,7 +78,7 @@ fn byte_order(mark: [u8; 2]) -> Result<Endian, Halt>
     }
 }
 
-// The format, by the number behind the order.
+// The version, from the number after the byte order.
 #[inline(always)]
 fn version_of(number: u16) -> Result<Version, Halt>
     ensures { result ≡ version_of number }
@@ -86,7 +90,7 @@ fn version_of(number: u16) -> Result<Version, Halt>
     }
 }
 
-// The header whose directory stands at a place, which is never 0.
+// The header for a directory at this offset, which must not be 0.
 #[inline(always)]
 fn directory_at(order: Endian, version: Version, place: u64) -> Result<Header, Halt>
     ensures { result ≡ directory_at order version place }
@@ -101,7 +105,7 @@ fn directory_at(order: Endian, version: Version, place: u64) -> Result<Header, H
     })
 }
 
-// The place of the first directory, as it is stated.
+// Reads the offset of the first directory, as the file states it.
 #[tactic(auto, using(imagesize_source::proofs::Runs::steps), unfolding(crate::specs::Tiff::stated_place))]
 fn read_place<S: Source>(source: &mut S, order: Endian, version: Version) -> Result<u64, Halt>
     ensures { Follows (S.state source.old) (S.state source.new) result (stated_place order version) }
@@ -115,7 +119,7 @@ fn read_place<S: Source>(source: &mut S, order: Endian, version: Version) -> Res
     }
 }
 
-// The same of BigTIFF, behind the size of a place and two bytes that are zero.
+// Reads the offset of the first directory in a BigTIFF. Before it come the size of an offset and two bytes that must be zero.
 #[tactic(auto, using(imagesize_source::proofs::Runs::steps), unfolding(crate::specs::Tiff::stated_place))]
 fn read_big_place<S: Source>(source: &mut S, order: Endian) -> Result<u64, Halt>
     ensures { Follows (S.state source.old) (S.state source.new) result (stated_place order Version.BigTiff) }
@@ -130,7 +134,7 @@ fn read_big_place<S: Source>(source: &mut S, order: Endian) -> Result<u64, Halt>
     Ok(place)
 }
 
-// How many entries the directory says that it has.
+// Reads how many entries the directory states that it has.
 #[tactic(auto, using(imagesize_source::proofs::Runs::steps))]
 fn read_count<S: Source>(source: &mut S, header: &Header) -> Result<u64, Halt>
     ensures { Runs (S.state source.old) (S.state source.new) result
@@ -145,7 +149,7 @@ fn read_count<S: Source>(source: &mut S, header: &Header) -> Result<u64, Halt>
     }
 }
 
-// The size by the first so many entries of the directory.
+// The size from the first `count` entries of the directory.
 fn find_size<S: Source>(source: &mut S, header: &Header, count: u64) -> Result<ImageSize, Halt>
     requires { IsSound (S.state source.old) }
     ensures { Runs (S.state source.old) (S.state source.new) result
@@ -157,8 +161,8 @@ fn find_size<S: Source>(source: &mut S, header: &Header, count: u64) -> Result<I
     }
 }
 
-// The same, by how many bytes the head and the value of an entry have. A place above 2^64 - 1 is behind the end of every
-// input.
+// The size from the first `count` entries. An entry has a head of `HEAD` bytes and a value of `VALUE` bytes. An offset above 2^64
+// - 1 is past the end of every input.
 #[inline(always)]
 fn find_size_of<S: Source, const HEAD: usize, const VALUE: usize>(
     source: &mut S,
@@ -171,21 +175,91 @@ fn find_size_of<S: Source, const HEAD: usize, const VALUE: usize>(
     ensures { Runs (S.state source.old) (S.state source.new) result
         (chain_at (tiff_entries header.now count) (S.state source.old).held.input) }
 {
-    let mut place = header.directory.saturating_add(count_bytes(header.version));
-    let mut width: Option<u32> = None;
-    let mut height: Option<u32> = None;
-    for _ in 0..count {
-        let entry = read_entry::<S, HEAD, VALUE>(source, header, place)?;
-        width = side_behind(0x100, width, &entry);
-        height = side_behind(0x101, height, &entry);
-        if let Some(size) = size_of_sides(width, height) {
-            return Ok(size);
+    let entries = Entries::<HEAD, VALUE> {
+        header: *header,
+        count,
+        seen: 0,
+        width: None,
+        height: None,
+    };
+    let first = header.directory.saturating_add(count_bytes(header.version));
+    walk(entries, source, first)
+}
+
+// The entries of the directory: their stated number, how many were read, and the width and the height from these.
+#[derive(Drop)]
+struct Entries<const HEAD: usize, const VALUE: usize> {
+    header: Header,
+    count: u64,
+    seen: u64,
+    width: Option<u32>,
+    height: Option<u32>,
+    ghost few: { seen ≤ count },
+    ghost head: { HEAD ≡ head_bytes header.version },
+    ghost value: { VALUE ≡ value_bytes header.version },
+}
+
+impl<const HEAD: usize, const VALUE: usize> Records for Entries<HEAD, VALUE> {
+    type Held = Entry;
+
+    type Answer = ImageSize;
+
+    ghost said = { λ entries held place. (tiff_entries entries.header entries.count).said held place };
+
+    ghost keeps = { λ entries held place. Known entries.seen entries.width entries.height held };
+
+    // Reads the entry at an offset.
+    #[inline(always)]
+    fn read_record<S: Source>(
+        &mut self,
+        source: &mut S,
+        place: u64,
+    ) -> Result<Found<Entry, ImageSize>, Halt> {
+        if self.seen == self.count {
+            // The proof needs that the length is below 2^63.
+            let _told = source.told();
+            return Err(Halt::NoDimensionsInIfd);
         }
-        place = place
-            .saturating_add(HEAD as u64)
-            .saturating_add(VALUE as u64);
+        let entry = read_entry::<S, HEAD, VALUE>(source, &self.header, place)?;
+        self.seen += 1;
+        self.width = side_behind(0x100, self.width, &entry);
+        self.height = side_behind(0x101, self.height, &entry);
+        match size_of_sides(self.width, self.height) {
+            Some(size) => Ok(Found::Answer(size)),
+            None => Ok(Found::Other {
+                held: entry,
+                length: (HEAD + VALUE) as u64,
+            }),
+        }
     }
-    Err(Halt::NoDimensionsInIfd)
+
+    // No entry is left, or the input ends before the next one.
+    #[inline(always)]
+    fn at_end(&self) -> Result<ImageSize, Halt> {
+        if self.seen == self.count {
+            return Err(Halt::NoDimensionsInIfd);
+        }
+        Err(Halt::Ended)
+    }
+}
+
+// The size, where both sides are known.
+#[inline(always)]
+fn size_of_sides(width: Option<u32>, height: Option<u32>) -> Option<ImageSize>
+    ensures { result ≡ size_if_known width height }
+{
+    size_if_known(in_pixels(width), in_pixels(height))
+}
+
+// A side in pixels.
+#[inline(always)]
+fn in_pixels(side: Option<u32>) -> Option<usize>
+    ensures { result ≡ side }
+{
+    match side {
+        Some(side) => Some(side as usize),
+        None => None,
+    }
 }
 
 #[inline(always)]
@@ -198,14 +272,14 @@ fn count_bytes(version: Version) -> u64
     }
 }
 
-// What an entry says: its tag, and its value where its field type has one that a side can be.
+// What an entry says: its tag, and its value if its field type can hold a width or a height.
 #[derive(Clone, Copy)]
 struct Entry {
     tag: u16,
     value: Option<u32>,
 }
 
-// A side of the image behind an entry: where it has the side's tag its value, also where it has none.
+// The width or the height after one more entry. An entry with that tag replaces it by its own value, or by `None`.
 #[inline(always)]
 fn side_behind(tag: u16, side: Option<u32>, entry: &Entry) -> Option<u32>
     ensures { result ≡ (if entry.now.tag == tag then entry.now.value else side) }
@@ -213,22 +287,8 @@ fn side_behind(tag: u16, side: Option<u32>, entry: &Entry) -> Option<u32>
     if entry.tag == tag { entry.value } else { side }
 }
 
-// The size, where both sides are known.
-#[inline(always)]
-fn size_of_sides(width: Option<u32>, height: Option<u32>) -> Option<ImageSize>
-    ensures { result ≡ size_if_known width height }
-{
-    match (width, height) {
-        (Some(width), Some(height)) => Some(ImageSize {
-            width: width as usize,
-            height: height as usize,
-        }),
-        _ => None,
-    }
-}
-
-// The entry at a place, by how many bytes its head and its value have. Its field type is judged before its value is
-// read.
+// Reads the entry at an offset, with a head of `HEAD` bytes and a value of `VALUE` bytes. Its field type is checked before its
+// value is read.
 #[inline(always)]
 #[tactic(auto, using(imagesize_source::proofs::Runs::steps, imagesize_source::proofs::Layouts::binding), unfolding(crate::specs::Tiff::tiff_entry))]
 fn read_entry<S: Source, const HEAD: usize, const VALUE: usize>(
@@ -238,7 +298,8 @@ fn read_entry<S: Source, const HEAD: usize, const VALUE: usize>(
 ) -> Result<Entry, Halt>
     requires head { HEAD ≡ head_bytes header.now.version }
     requires value { VALUE ≡ value_bytes header.now.version }
-    ensures { Follows (S.state source.old) (S.state source.new) result (tiff_entry header.now place) }
+    ensures nears { IfOk result (λ entry. ahead_of (S.state source.new) (place + 1) < ahead_of (S.state source.old) place) }
+    ensures runs { Follows (S.state source.old) (S.state source.new) result (tiff_entry header.now place) }
 {
     let head = read_head::<S, HEAD>(source, header.version, place)?;
     let field_type = field_type_of(header.version, field_type_in(header.order, head))?;
@@ -249,7 +310,7 @@ fn read_entry<S: Source, const HEAD: usize, const VALUE: usize>(
     })
 }
 
-// The head of an entry, of whose bytes the first four count.
+// Reads the head of an entry, and returns its first four bytes.
 #[inline(always)]
 #[tactic(auto, using(imagesize_source::proofs::Runs::steps), unfolding(crate::specs::Tiff::tiff_head))]
 fn read_head<S: Source, const HEAD: usize>(
@@ -258,14 +319,15 @@ fn read_head<S: Source, const HEAD: usize>(
     place: u64,
 ) -> Result<[u8; 4], Halt>
     requires { HEAD ≡ head_bytes version }
-    ensures { Follows (S.state source.old) (S.state source.new) result (tiff_head version place) }
+    ensures nears { IfOk result (λ head. ahead_of (S.state source.new) (place + 1) < ahead_of (S.state source.old) place) }
+    ensures runs { Follows (S.state source.old) (S.state source.new) result (tiff_head version place) }
 {
     let mut head = [0u8; HEAD];
     read_exact_at(source, place, &mut head)?;
     Ok(first_four(&head))
 }
 
-// The value of an entry, of whose bytes the first four count: the end of the input must not cut it.
+// Reads the value of an entry, and returns its first four bytes. It is an error if the input ends within the value.
 #[inline(always)]
 #[tactic(auto, using(imagesize_source::proofs::Runs::steps), unfolding(crate::specs::Tiff::tiff_value))]
 fn read_value<S: Source, const VALUE: usize>(
@@ -308,7 +370,7 @@ fn field_type_in(order: Endian, head: [u8; 4]) -> u16
     order.u16([first, second])
 }
 
-// What an entry's value is, by its field type.
+// What the value of an entry is, by its field type.
 #[derive(Clone, Copy)]
 enum FieldType {
     // A number of two bytes.
@@ -319,7 +381,7 @@ enum FieldType {
     Other,
 }
 
-// What the value of a field type is. Three field types are those of BigTIFF alone.
+// What the value of a field type is. Three field types exist in BigTIFF only.
 #[inline(always)]
 fn field_type_of(version: Version, field_type: u16) -> Result<FieldType, Halt>
     ensures value { result ≡ field_type_of version field_type }
@@ -335,7 +397,7 @@ fn field_type_of(version: Version, field_type: u16) -> Result<FieldType, Halt>
     }
 }
 
-// The number that the first four bytes of a value begin with.
+// The number that a value begins with, from its first four bytes.
 #[inline(always)]
 fn value_of(order: Endian, field_type: FieldType, value: [u8; 4]) -> Option<u32>
     ensures { result ≡ value_of order field_type value }

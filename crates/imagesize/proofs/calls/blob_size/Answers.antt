@@ -17,7 +17,9 @@ pub returns-clause-short : goal.returns-clause-short
 returns-clause-short c = λ few. (search rules) ∙ no_meaning c.args.«data».now 0 few
 
 pub returns-clause-local : goal.returns-clause-local
-returns-clause-local c = λ place. λ e agrees. ap outcome_of (same_by_local (λ d. meaning_reads d place) (local_meaning place) c.args.«data».now e agrees)
+returns-clause-local c =
+    λ place. λ e agrees. ap outcome_of
+    (same_by_local (λ d. meaning_reads d place) (local_meaning place) c.args.«data».now e agrees)
 
 pub returns-clause-stated : goal.returns-clause-stated
 returns-clause-stated c = λ place. cost_stated c.args.«data».now place
@@ -32,7 +34,8 @@ pub returns-clause-lasts : goal.returns-clause-lasts
 returns-clause-lasts c = size_lasts c.args.«data».now 0 _ (search rules)
 
 pub returns-clause-value : goal.returns-clause-value
-returns-clause-value c = c.with_error.ensures ∙ stated_same _ _ _ c.probe_slice.ensures.unstopped ∙ ap stated c.probe_slice.ensures.value
+returns-clause-value c = c.with_error.ensures ∙ stated_same _ _ _ c.probe_slice.ensures.unstopped
+    ∙ ap stated c.probe_slice.ensures.value
 
 pub returns-clause-unstopped : goal.returns-clause-unstopped
 returns-clause-unstopped c = ap (λ (r : Result ImageSize ImageError). is_stopped r) c.with_error.ensures

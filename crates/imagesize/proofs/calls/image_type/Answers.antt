@@ -13,7 +13,7 @@ use Rattle.imagesize.proofs.calls.image_type.Goals as goal
 
 pub returns-clause-value : goal.returns-clause-value
 returns-clause-value c = c.with_error.ensures
-    ∙ slice_answer _ _ _ _ refl (never_stopped _ _ refl refl refl refl c.detect.ensures) c.detect.ensures
+    ∙ slice_answer _ _ _ _ refl (never_stopped _ _ refl refl refl c.detect.ensures) c.detect.ensures
 
 pub returns-clause-local : goal.returns-clause-local
 returns-clause-local c = λ place e agrees.
@@ -24,7 +24,7 @@ returns-clause-short c = λ few. returns-clause-value c ∙ no_kind c.args.heade
 
 pub returns-clause-unstopped : goal.returns-clause-unstopped
 returns-clause-unstopped c = ap (λ (r : Result ImageType ImageError). is_stopped r) c.with_error.ensures
-    ∙ slice_unstopped _ _ _ (never_stopped _ _ refl refl refl refl c.detect.ensures)
+    ∙ slice_unstopped _ _ _ (never_stopped _ _ refl refl refl c.detect.ensures)
 
 pub returns-clause-lasts : goal.returns-clause-lasts
 returns-clause-lasts c = kind_lasts c.args.header.now 0 _ (returns-clause-value c)

@@ -5,7 +5,8 @@ use Rattle.imagesize.proofs.calls.probe_opened.Goals as goal
 
 pub returns-clause-probes : goal.returns-clause-probes
 returns-clause-probes g c = λ telling opens.
-    probes_opened telling _ _ _ c.args.opened _ _ _ _ c.with_error.ensures c.new-source.ensures.state refl opens c.probe-kind.ensures.runs
+    probes_opened telling _ _ _ c.args.opened _ _ _ _ c.with_error.ensures c.new-source.ensures.state refl opens
+    c.probe-kind.ensures.runs
     c.probe-kind.ensures.kind (omega arith)
 
 pub returns-clause-spent : goal.returns-clause-spent
@@ -15,15 +16,16 @@ returns-clause-spent g c =
 
 pub returns-clause-memory : goal.returns-clause-memory
 returns-clause-memory g c =
-    rw c.with_error.ensures (no_memory _ _ (ap (λ s. s.frame.records) c.new-source.ensures.state)
-    (kept_plain c.probe-kind.new.source.ledger.progress.fault _ refl) c.probe-kind.ensures.runs)
+    rw c.with_error.ensures (no_memory c.probe-kind.new.source.ledger.progress.fault _ _)
 
 pub returns-clause-fault : goal.returns-clause-fault
 returns-clause-fault g c =
-    rw c.with_error.ensures (fault_last _ c.probe-kind.new.source.ledger.progress.fault _ _ (search rules) c.probe-kind.ensures.runs)
+    rw c.with_error.ensures
+    (fault_last _ c.probe-kind.new.source.ledger.progress.fault _ _ (search rules) c.probe-kind.ensures.runs)
 
 pub returns-clause-leaves : goal.returns-clause-leaves
 returns-clause-leaves g c = λ telling opens.
     leaves_reader telling _ _ _ _ c.args.opened
-    c.probe-kind.new.source.ledger.progress.told c.probe-kind.new.source.ledger.progress.retries c.probe-kind.new.source.ledger.progress.fault _ _
+    c.probe-kind.new.source.ledger.progress.told c.probe-kind.new.source.ledger.progress.retries
+    c.probe-kind.new.source.ledger.progress.fault _ _
     c.new-source.ensures.state (search rules) c.probe-kind.ensures.runs opens

@@ -14,16 +14,17 @@ returns-clause-answers g c = λ telling opens. subst (λ r. Answers telling kind
     (kind_answers telling _ _ _ c.args.opened _ _ _ c.new-source.ensures.state refl opens c.detect-found.ensures)
 
 pub returns-clause-short : goal.returns-clause-short
-returns-clause-short g c = λ telling opens. answers_end telling kind_of _ no_kind (returns-clause-answers g c telling opens)
+returns-clause-short g c =
+    λ telling opens. answers_end telling kind_of _ no_kind (returns-clause-answers g c telling opens)
 
 pub returns-clause-spent : goal.returns-clause-spent
 returns-clause-spent g c =
-    subst (λ (r : Result ImageType ImageError). IfErr r (λ e. IfSome (budget_spent e) (λ budget. 64 ≤ budget))) (sym c.with_error.ensures)
+    subst (λ (r : Result ImageType ImageError). IfErr r (λ e. IfSome (budget_spent e) (λ budget. 64 ≤ budget)))
+    (sym c.with_error.ensures)
     (budget_least c.args.opened.told _ _ (ap (λ s. s.frame.budget) c.new-source.ensures.state)
     (kept_plain c.detect-found.new.source.ledger.progress.fault _ refl) c.detect-found.ensures)
 
 pub returns-clause-memory : goal.returns-clause-memory
 returns-clause-memory g c =
     subst (λ (r : Result ImageType ImageError). IfErr r (λ e. is_memory e ≡ false)) (sym c.with_error.ensures)
-    (no_memory _ _ (ap (λ s. s.frame.records) c.new-source.ensures.state)
-    (kept_plain c.detect-found.new.source.ledger.progress.fault _ refl) c.detect-found.ensures)
+    (no_memory c.detect-found.new.source.ledger.progress.fault _ _)

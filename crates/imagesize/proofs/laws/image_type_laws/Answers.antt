@@ -27,7 +27,8 @@ pub returns-clause-hash : goal.returns-clause-hash
 returns-clause-hash c = lawful_hash _ _ same
 
 pub returns-clause-order : goal.returns-clause-order
-returns-clause-order c = lawful_order _ _ _ same ordered.total-law ordered.matches_eq-law ordered.matches_partial_cmp-law
+returns-clause-order c =
+    lawful_order _ _ _ same ordered.total-law ordered.matches_eq-law ordered.matches_partial_cmp-law
 
 atc : RankedBy atc_rank atc_cmp.it
 atc j k = grind (arith, common_steps)

@@ -13,14 +13,19 @@ returns-in-Found-Ok-clause-says c = λ d has short.
     let new = c.new-source.ensures in let kept = c.in-Found-Ok.ensures in
     let kind = moved (SaysOfEach false (λ d. kind_reads d 0) (Found c.in-Found-Ok.field-0)) _ _ _ _ _ _
     new.told new.spans new.bytes kept.says in
-    let size = moved (SaysOfEach (has_texts c.in-Found-Ok.image) (size_reads c.in-Found-Ok.image) c.size_as.result) _ _ _ _ _ _
+    let size = moved (SaysOfEach (has_texts c.in-Found-Ok.image)
+    (size_reads c.in-Found-Ok.image) c.size_as.result) _ _ _ _ _ _
     (kept.told ∙ new.told) (kept.spans ∙ new.spans) (kept.bytes ∙ new.bytes) c.size_as.ensures.says in
-    subst (λ a. Says (texts_of d) (IsProbed d) (meaning d 0).marks c.args.total c.args.spans.now c.args.bytes.now a) (sym c.with_type.ensures)
-    (type_sized d c.args.total c.args.spans.now c.args.bytes.now c.in-Found-Ok.image c.size_as.result (sym c.in-Found-Ok.field-0-is ∙ kind d has short) (size d has short))
+    subst (λ a. Says (texts_of d) (IsProbed d) (meaning d 0).marks c.args.total c.args.spans.now c.args.bytes.now a)
+    (sym c.with_type.ensures)
+    (type_sized d c.args.total c.args.spans.now c.args.bytes.now c.in-Found-Ok.image c.size_as.result
+    (sym c.in-Found-Ok.field-0-is ∙ kind d has short) (size d has short))
 
 pub returns-in-Found-Ok-clause-complete : goal.returns-in-Found-Ok-clause-complete
 returns-in-Found-Ok-clause-complete c = λ d has short.
-    tells (texts_of d) (IsProbed d) (meaning d 0).marks c.args.total c.args.spans.now c.args.bytes.now c.with_type.result (returns-in-Found-Ok-clause-says c d has short)
+    tells (texts_of d) (IsProbed d)
+    (meaning d 0).marks c.args.total c.args.spans.now c.args.bytes.now c.with_type.result
+    (returns-in-Found-Ok-clause-says c d has short)
 
 pub returns-in-Found-Err-clause-says : goal.returns-in-Found-Err-clause-says
 returns-in-Found-Err-clause-says c = λ d has short.
@@ -38,12 +43,14 @@ returns-in-Wanted-clause-says c = λ d has short.
 
 pub returns-in-Wanted-clause-complete : goal.returns-in-Wanted-clause-complete
 returns-in-Wanted-clause-complete c = λ d has short.
-    tells (texts_of d) (IsProbed d) (meaning d 0).marks c.args.total c.args.spans.now c.args.bytes.now (Wanted c.in-Wanted.span) (returns-in-Wanted-clause-says c d has short)
+    tells (texts_of d) (IsProbed d) (meaning d 0).marks c.args.total c.args.spans.now c.args.bytes.now
+    (Wanted c.in-Wanted.span) (returns-in-Wanted-clause-says c d has short)
 
 pub returns-in-Found-Ok-clause-unstopped : goal.returns-in-Found-Ok-clause-unstopped
 returns-in-Found-Ok-clause-unstopped c = λ short.
     let new = c.new-source.ensures in let kept = c.in-Found-Ok.ensures in
-    let size = subst (λ n. n < 2 ^ 63 → IfFound c.size_as.result (λ answer. is_stopped answer ≡ false)) (kept.told ∙ new.told)
+    let size = subst (λ n. n < 2 ^ 63 → IfFound c.size_as.result (λ answer. is_stopped answer ≡ false))
+    (kept.told ∙ new.told)
     c.size_as.ensures.unstopped in
     subst (λ a. IfFound a (λ found. is_stopped found.1 ≡ false)) (sym c.with_type.ensures)
     (unstopped_type c.in-Found-Ok.image c.size_as.result (size short))
@@ -51,6 +58,7 @@ returns-in-Found-Ok-clause-unstopped c = λ short.
 pub returns-in-Found-Err-clause-unstopped : goal.returns-in-Found-Err-clause-unstopped
 returns-in-Found-Err-clause-unstopped c = λ short.
     let new = c.new-source.ensures in
-    let kind = subst (λ n. n < 2 ^ 63 → IfFound (Found c.in-Found-Err.field-0) (λ answer. is_stopped answer ≡ false)) new.told
+    let kind = subst (λ n. n < 2 ^ 63
+    → IfFound (Found c.in-Found-Err.field-0) (λ answer. is_stopped answer ≡ false)) new.told
     c.in-Found-Err.ensures.unstopped in
     ap (λ (r : Result ImageType ImageError). is_stopped r) (sym c.in-Found-Err.field-0-is) ∙ kind short

@@ -12,7 +12,9 @@ returns-clause-says c =
     new.told new.spans new.bytes c.type_of.ensures.says
 
 pub returns-clause-complete : goal.returns-clause-complete
-returns-clause-complete c = λ d has short. tells false _ (kind_of d 0).marks c.args.total c.args.spans.now c.args.bytes.now _ (returns-clause-says c d has short)
+returns-clause-complete c =
+    λ d has short. tells false _ (kind_of d 0).marks c.args.total c.args.spans.now c.args.bytes.now _
+    (returns-clause-says c d has short)
 
 pub returns-clause-fits : goal.returns-clause-fits
 returns-clause-fits c =
@@ -22,4 +24,5 @@ returns-clause-fits c =
 pub returns-clause-unstopped : goal.returns-clause-unstopped
 returns-clause-unstopped c =
     let new = c.new-source.ensures in
-    subst (λ n. n < 2 ^ 63 → IfFound c.type_of.result (λ answer. is_stopped answer ≡ false)) new.told c.type_of.ensures.unstopped
+    subst (λ n. n < 2 ^ 63
+    → IfFound c.type_of.result (λ answer. is_stopped answer ≡ false)) new.told c.type_of.ensures.unstopped

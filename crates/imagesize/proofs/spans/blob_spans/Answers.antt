@@ -5,12 +5,12 @@ use Rattle.imagesize.proofs.spans.blob_spans.Goals as goal
 
 pub returns-then-count-room-clause-cuts : goal.returns-then-count-room-clause-cuts
 returns-then-count-room-clause-cuts c = λ fits.
-    front_within _ (meaning c.args.«data».now 0).marks _ _ _ _ c.record_spans-count.ensures.count c.record_spans.ensures.count
-    (omega (arith, length-take c.record_spans-count.result c.args.room.now))
-    c.record_spans.ensures.spans (meaning_within c.args.«data».now 0)
+    front_within _ (meaning c.args.«data».now 0).marks _ _ _ _ c.record-count.ensures.count c.record.ensures.count
+    (omega (arith, length-take c.record-count.result.count c.args.room.now))
+    c.record.ensures.spans (meaning_within c.args.«data».now 0)
 
 pub returns-then-count-room-clause-few : goal.returns-then-count-room-clause-few
-returns-then-count-room-clause-few c = omega (arith, c.record_spans-count.ensures.count, marks_few c.args.«data».now 0)
+returns-then-count-room-clause-few c = omega (arith, c.record-count.ensures.count, marks_few c.args.«data».now 0)
 
 pub returns-else-count-room-clause-few : goal.returns-else-count-room-clause-few
-returns-else-count-room-clause-few c = omega (arith, c.record_spans-count.ensures.count, marks_few c.args.«data».now 0)
+returns-else-count-room-clause-few c = omega (arith, c.record-count.ensures.count, marks_few c.args.«data».now 0)

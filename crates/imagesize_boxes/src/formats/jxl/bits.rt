@@ -1,5 +1,5 @@
-//! Bits of bytes, the lowest of a byte first, by ISO/IEC 18181-1, annex B.
-ghost use Rattle.std.specs.Prelude.{◌≡◌, ℕ, ◌+◌, ◌*◌, ◌%◌, ◌^◌, ◌<◌, ◌≤◌, ok_or};
+//! The bits of bytes, from the lowest bit of a byte on, by ISO/IEC 18181-1, annex B.
+ghost use Rattle.std.specs.Prelude.{◌≡◌, ◌+◌, ◌*◌, ◌%◌, ◌^◌, ◌<◌, ◌≤◌, ok_or};
 ghost use Rattle.imagesize_boxes.specs.Walks.{field_in};
 ghost use Rattle.imagesize_source.specs.declared.endian.Endian.TheVariants as endian;
 ghost use Rattle.imagesize_source.specs.Numbers.{number};
@@ -7,7 +7,7 @@ ghost use Rattle.imagesize_source.specs.declared.halt.Halt.TheVariants as halt;
 
 use super::front::MOST;
 
-// At most 128 bits, as the lowest of a number.
+// At most 128 bits, as the lowest bits of a number.
 #[derive(Clone, Copy)]
 pub(super) struct Bits {
     pub(super) number: u128,
@@ -16,7 +16,7 @@ pub(super) struct Bits {
 }
 
 impl Bits {
-    // The bits of the first bytes of a codestream, so many of these. Behind them stand bits that are none of theirs.
+    // The bits of the first `len` bytes. The number has the bits of the other bytes above them.
     #[inline(always)]
     #[tactic(auto, using(crate::proofs::Fields::little_16))]
     pub(super) fn of(bytes: &[u8; MOST], len: usize) -> Bits
@@ -30,7 +30,7 @@ impl Bits {
         }
     }
 
-    // The number of so many bits from one on, where all are there.
+    // The number of `count` bits from a bit on, or `None` if some of them are missing.
     #[inline(always)]
     pub(super) fn field(&self, from: u32, count: u32) -> Option<u32>
         requires some { 0 < count }

@@ -1,76 +1,100 @@
 //! The boxes of JPEG XL, by ISO/IEC 18181-2, and the bytes of a codestream in them.
-ghost use Rattle.std.specs.Prelude.{◌≡◌, ℕ, ◌+◌, ◌<◌, ◌≤◌, ◌++◌, length, drop, take, codes, IfOk};
+ghost use Rattle.std.specs.Prelude.{◌≡◌, ◌+◌, ◌<◌, ◌≤◌, ◌++◌, length, drop, take, codes, IfOk};
+ghost use Rattle.std.specs.List.{concat};
 ghost use Rattle.imagesize_boxes.specs.Jxl.{box_checked, box_content, box_head, box_room, codestream_box, jxl_box, jxl_chain, partial_box, partial_said, piece_at, said_behind};
-ghost use Rattle.imagesize_boxes.specs.Walks.{box_said, IsFurther, FitsBehind, IsHead};
+ghost use Rattle.imagesize_boxes.specs.Walks.{IsFurther, FitsBehind, IsHead};
 ghost use Rattle.imagesize_types.specs.Head.{begins};
 ghost use Rattle.imagesize_source.specs.Chain.{Decided, chain_at};
-ghost use Rattle.imagesize_source.specs.Layout.Layout.{«done»};
 ghost use Rattle.imagesize_source.specs.Numbers.{number};
 ghost use Rattle.imagesize_source.specs.Paying.{Nears, ahead_of};
 ghost use Rattle.imagesize_source.specs.Reading.{number_read, part_read, map_answer};
 ghost use Rattle.imagesize_source.specs.State.{Follows, Runs, IsSound};
+ghost use Rattle.imagesize_source.specs.Walk.{said_at};
 ghost use Rattle.imagesize_source.specs.declared.endian.Endian.TheVariants as endian;
 
-use super::front::MOST;
-use arrayvec::ArrayVec;
+use super::front::{Front, MOST};
 use imagesize_source::readings::{read_bytes, read_bytes_behind, read_u64};
 use imagesize_source::source::Source;
+use imagesize_source::walk::{Found, Records, walk};
 use imagesize_source::{Endian, Halt};
 
-/// The first bytes of a codestream, or a piece of them.
-pub(super) type Codestream = ArrayVec<u8, MOST>;
-
-// The first bytes of the codestream in the boxes behind the signature box.
-pub(super) fn read_codestream<S: Source>(source: &mut S) -> Result<Codestream, Halt>
-    ensures { Runs (S.state source.old) (S.state source.new)
-        (map_answer (λ bytes. bytes.items) result)
+// The first bytes of the codestream, from the boxes after the signature box.
+pub(super) fn read_codestream<S: Source>(source: &mut S) -> Result<Front, Halt>
+    ensures { Runs (S.state source.old) (S.state source.new) result
         (chain_at jxl_chain (S.state source.old).held.input) }
 {
-    let mut codestream = Codestream::new();
-    let mut place: u64 = 12;
-    loop {
-        match read_box(source, place, &codestream)? {
-            Found::Whole(bytes) => return Ok(bytes),
-            Found::Passed { piece, next } => {
-                append(&mut codestream, &piece);
-                place = next;
+    let boxes = Boxes {
+        front: Front::new(),
+    };
+    walk(boxes, source, 12)
+}
+
+// The boxes, and the first bytes of the codestream from the boxes so far.
+#[derive(Drop)]
+struct Boxes {
+    front: Front,
+    ghost few: { length front ≤ 16 },
+}
+
+impl Records for Boxes {
+    type Held = Front;
+
+    type Answer = Front;
+
+    ghost said = { λ boxes held place. jxl_box (concat held) place };
+
+    ghost keeps = { λ boxes held place. concat held ≡ boxes.front };
+
+    // Reads the box at an offset.
+    #[tactic(auto, using(crate::proofs::JxlBoxes::joined))]
+    fn read_record<S: Source>(
+        &mut self,
+        source: &mut S,
+        place: u64,
+    ) -> Result<Found<Front, Front>, Halt> {
+        match read_box(source, place, &self.front)? {
+            Found::Answer(front) => Ok(Found::Answer(front)),
+            Found::Other { held, length } => {
+                self.front.extend(held.as_slice());
+                Ok(Found::Other { held, length })
             }
         }
     }
+
+    // The input ends before such a box.
+    #[tactic(auto, using(crate::proofs::JxlBoxes::boxes_end))]
+    fn at_end(&self) -> Result<Front, Halt> {
+        Err(Halt::Ended)
+    }
 }
 
-// What a box says.
-#[derive(Drop)]
-enum Found {
-    // The first bytes of the codestream, as far as they are wanted.
-    Whole(Codestream),
-    // The next of them, none or more, and the place of the next box.
-    Passed { piece: Codestream, next: u64 },
-}
-
-// The head of a box.
+// The header of a box.
 #[derive(Clone, Copy)]
 struct BoxHead {
     tag: [u8; 4],
-    // How many bytes the box has, with its head. An open box, which goes on to the end, has 0.
+    // The length of the box in bytes, including its header. 0 means that the box extends to the end of the input.
     size: u64,
-    // How many of them are the head.
+    // The length of the header in bytes.
     length: u64,
 }
 
-// The box at a place, behind boxes with these bytes of the codestream.
+// Reads the box at an offset. `front` has the bytes of the codestream from the boxes before it.
 #[tactic(auto, using(imagesize_source::proofs::Runs::steps, imagesize_source::proofs::Layouts::binding))]
-fn read_box<S: Source>(source: &mut S, place: u64, held: &Codestream) -> Result<Found, Halt>
-    requires { length held.now.items ≤ 16 }
-    ensures nears { IfOk result (λ found. Nears (S.state source.old) (S.state source.new) place (box_said found)) }
-    ensures fits { IfOk result (λ found. FitsBehind held.now.items found) }
-    ensures runs { Follows (S.state source.old) (S.state source.new) (map_answer (λ found. box_said found) result) (jxl_box held.now.items place) }
+fn read_box<S: Source>(
+    source: &mut S,
+    place: u64,
+    front: &Front,
+) -> Result<Found<Front, Front>, Halt>
+    requires { length front.now ≤ 16 }
+    ensures nears { IfOk result (λ found. Nears (S.state source.old) (S.state source.new) place (said_at place found)) }
+    ensures fits { IfOk result (λ found. FitsBehind front.now (said_at place found)) }
+    ensures runs { Follows (S.state source.old) (S.state source.new) (map_answer (said_at place) result) (jxl_box front.now place) }
 {
     let head = read_head(source, place)?;
-    read_content(source, place, &head, held)
+    read_content(source, place, &head, front)
 }
 
-// The head of the box at a place.
+// Reads the header of the box at an offset.
 #[tactic(auto, using(imagesize_source::proofs::Runs::steps), unfolding(crate::specs::Jxl::box_head))]
 fn read_head<S: Source>(source: &mut S, place: u64) -> Result<BoxHead, Halt>
     ensures nears { IfOk result (λ head. ahead_of (S.state source.new) (place + 1) < ahead_of (S.state source.old) place) }
@@ -102,7 +126,7 @@ fn read_head<S: Source>(source: &mut S, place: u64) -> Result<BoxHead, Halt>
     }
 }
 
-// The size in the first eight bytes of a box; 1 stands for a longer one behind them.
+// The size in the first eight bytes of a box. 1 means that a size of eight bytes follows.
 #[inline]
 #[tactic(auto, using(imagesize_source::proofs::Bytes::first_four))]
 fn short_size(head: &[u8; 8]) -> u32
@@ -119,7 +143,7 @@ fn tag(head: &[u8; 8]) -> [u8; 4]
     [head[4], head[5], head[6], head[7]]
 }
 
-// The size of eight bytes behind the first eight of a box.
+// Reads the size of eight bytes after the first eight bytes of a box.
 fn read_long_size<S: Source>(source: &mut S, place: u64) -> Result<u64, Halt>
     ensures { Runs (S.state source.old) (S.state source.new) result
         (number_read (S.state source.old).held.input endian.Big (place + 8) 8) }
@@ -127,7 +151,7 @@ fn read_long_size<S: Source>(source: &mut S, place: u64) -> Result<u64, Halt>
     read_u64(source, place.saturating_add(8), Endian::Big)
 }
 
-// The head, where the box ends at 2^64-1 at the latest and not before its head does.
+// The header. It is an error if the box ends above 2^64-1, or within its own header.
 #[tactic(auto, using(std::proofs::lemmas::Nat::be_bytes_4))]
 fn check_head(place: u64, head: BoxHead) -> Result<BoxHead, Halt>
     requires { head.length ≤ 16 }
@@ -147,28 +171,28 @@ fn check_head(place: u64, head: BoxHead) -> Result<BoxHead, Halt>
     Ok(head)
 }
 
-// What the content of the box at a place says.
+// Reads the content of the box at an offset.
 #[tactic(auto, using(imagesize_source::proofs::Runs::steps, imagesize_source::proofs::Layouts::binding))]
 fn read_content<S: Source>(
     source: &mut S,
     place: u64,
     head: &BoxHead,
-    held: &Codestream,
-) -> Result<Found, Halt>
+    front: &Front,
+) -> Result<Found<Front, Front>, Halt>
     requires sound { IsSound (S.state source.old) }
     requires is { IsHead place head.now }
-    requires room { length held.now.items ≤ 16 }
-    ensures further { IfOk result (λ found. IsFurther place found) }
-    ensures fits { IfOk result (λ found. FitsBehind held.now.items found) }
-    ensures runs { Follows (S.state source.old) (S.state source.new) (map_answer (λ found. box_said found) result) (box_content held.now.items place head.now) }
+    requires few { length front.now ≤ 16 }
+    ensures further { IfOk result (λ found. IsFurther place (said_at place found)) }
+    ensures fits { IfOk result (λ found. FitsBehind front.now (said_at place found)) }
+    ensures runs { Follows (S.state source.old) (S.state source.new) (map_answer (said_at place) result) (box_content front.now place head.now) }
 {
     if is_codestream_box(head) {
-        return Ok(Found::Whole(read_whole(source, place, head)?));
+        return Ok(Found::Answer(read_whole(source, place, head)?));
     }
     if is_partial_box(head) {
-        return read_partial(source, place, head, held);
+        return read_partial(source, place, head, front);
     }
-    Ok(found_behind(place, head, held, Codestream::new()))
+    Ok(found_behind(place, head, front, Front::new()))
 }
 
 #[inline]
@@ -185,7 +209,7 @@ fn is_partial_box(head: &BoxHead) -> bool
     matches!(head.tag, [b'j', b'x', b'l', b'p'])
 }
 
-// How many bytes of content a box has. Of an open box as many as are looked at.
+// The length of a box's content in bytes. Of a box that extends to the end of the input, no more than `MOST` are needed.
 #[inline]
 fn room(head: &BoxHead) -> u64
     requires { 0 < head.now.size → head.now.length ≤ head.now.size }
@@ -197,64 +221,65 @@ fn room(head: &BoxHead) -> u64
     head.size - head.length
 }
 
-// The first bytes of the codestream, in the one box that has it whole.
+// Reads the first bytes of the codestream from a box that has all of it.
 #[tactic(auto, using(imagesize_source::proofs::Runs::steps, imagesize_source::proofs::Layouts::binding))]
-fn read_whole<S: Source>(source: &mut S, place: u64, head: &BoxHead) -> Result<Codestream, Halt>
+fn read_whole<S: Source>(source: &mut S, place: u64, head: &BoxHead) -> Result<Front, Halt>
     requires sound { IsSound (S.state source.old) }
     requires is { IsHead place head.now }
-    ensures { Follows (S.state source.old) (S.state source.new) (map_answer (λ codestream. Decided codestream.items) result) (codestream_box place head.now) }
+    ensures { Follows (S.state source.old) (S.state source.new) (map_answer (λ front. Decided front) result) (codestream_box place head.now) }
 {
     let most = room(head).min(MOST as u64) as usize;
     read_piece(source, place, head.length, most)
 }
 
-// A piece of the codestream, behind its index.
+// Reads a part of the codestream, which follows its index in the box.
 #[tactic(auto, using(imagesize_source::proofs::Runs::steps, imagesize_source::proofs::Layouts::binding))]
 fn read_partial<S: Source>(
     source: &mut S,
     place: u64,
     head: &BoxHead,
-    held: &Codestream,
-) -> Result<Found, Halt>
+    front: &Front,
+) -> Result<Found<Front, Front>, Halt>
     requires sound { IsSound (S.state source.old) }
     requires is { IsHead place head.now }
-    requires room { length held.now.items ≤ 16 }
-    ensures further { IfOk result (λ found. IsFurther place found) }
-    ensures fits { IfOk result (λ found. FitsBehind held.now.items found) }
-    ensures runs { Follows (S.state source.old) (S.state source.new) (map_answer (λ found. box_said found) result) (partial_box held.now.items place head.now) }
+    ensures further { IfOk result (λ found. IsFurther place (said_at place found)) }
+    ensures fits { IfOk result (λ found. FitsBehind front.now (said_at place found)) }
+    ensures runs { Follows (S.state source.old) (S.state source.new) (map_answer (said_at place) result) (partial_box front.now place head.now) }
 {
     let room = room(head);
     if room < 4 {
         return Err(Halt::Ended);
     }
     let index = read_bytes_behind::<S, 4>(source, place, head.length)?;
-    let most = (room - 4).min(held.remaining_capacity() as u64) as usize;
+    let most = (room - 4).min(front.room() as u64) as usize;
     let piece = read_piece(source, place, head.length + 4, most)?;
-    Ok(behind_piece(place, head, held, index, piece))
+    Ok(behind_piece(place, head, front, index, piece))
 }
 
-// What is there of so many bytes, so far behind a place. No byte is no reading.
+// Reads at most `most` bytes at a distance from an offset. For 0 bytes nothing is read.
 fn read_piece<S: Source>(
     source: &mut S,
     place: u64,
     distance: u64,
     most: usize,
-) -> Result<Codestream, Halt>
+) -> Result<Front, Halt>
     requires sound { IsSound (S.state source.old) }
     requires few { most ≤ 16 }
-    ensures few { IfOk result (λ bytes. length bytes.items ≤ most) }
-    ensures runs { Follows (S.state source.old) (S.state source.new) (map_answer (λ bytes. bytes.items) result) (piece_at (place + distance) most) }
+    ensures few { IfOk result (λ bytes. length bytes ≤ most) }
+    ensures runs { Follows (S.state source.old) (S.state source.new) result (piece_at (place + distance) most) }
 {
+    let mut piece = Front::new();
     if most == 0 {
-        return Ok(Codestream::new());
+        return Ok(piece);
     }
     let mut all = [0u8; MOST];
     let room = &mut all[..most];
     let there = read_there(source, place, distance, room)?;
-    Ok(piece_of(&room[..there]))
+    piece.extend(&room[..there]);
+    Ok(piece)
 }
 
-// What is there, so far behind a place, into the room; and how many bytes that is.
+// Reads the bytes at a distance from an offset into the buffer, and returns how many there are.
 fn read_there<S: Source>(
     source: &mut S,
     place: u64,
@@ -269,68 +294,50 @@ fn read_there<S: Source>(
     source.read_at(place.saturating_add(distance), room)
 }
 
-// These bytes as a piece.
-fn piece_of(bytes: &[u8]) -> Codestream
-    requires { length bytes.now ≤ 16 }
-    ensures { result.items ≡ bytes.now }
-{
-    let mut piece = Codestream::new();
-    let _ = piece.try_extend_from_slice(bytes);
-    piece
-}
-
-// What a piece says: the walk ends where all bytes are there, or where its index says that it is the last.
+// The result of a part: it is the last one if all bytes are there, or if its index says so.
 fn behind_piece(
     place: u64,
     head: &BoxHead,
-    held: &Codestream,
+    front: &Front,
     index: [u8; 4],
-    piece: Codestream,
-) -> Found
+    piece: Front,
+) -> Found<Front, Front>
     requires is { IsHead place head.now }
-    requires fits { length held.now.items + length piece.items ≤ 16 }
-    ensures further { IsFurther place result }
-    ensures fits { FitsBehind held.now.items result }
-    ensures is { box_said result ≡ partial_said held.now.items place head.now index piece.items }
+    requires fits { length front.now + length piece ≤ 16 }
+    ensures further { IsFurther place (said_at place result) }
+    ensures fits { FitsBehind front.now (said_at place result) }
+    ensures is { said_at place result ≡ partial_said front.now place head.now index piece }
 {
-    if held.len() + piece.len() == MOST || index[0] >= 0x80 {
-        return Found::Whole(join(held, &piece));
+    if front.room() == piece.len() || index[0] >= 0x80 {
+        return Found::Answer(join(front, &piece));
     }
-    found_behind(place, head, held, piece)
+    found_behind(place, head, front, piece)
 }
 
-// What a box with this piece says. An open box is the last.
-fn found_behind(place: u64, head: &BoxHead, held: &Codestream, piece: Codestream) -> Found
+// The result of a box with this part. A box that extends to the end of the input is the last one.
+fn found_behind(place: u64, head: &BoxHead, front: &Front, piece: Front) -> Found<Front, Front>
     requires is { IsHead place head.now }
-    requires fits { length held.now.items + length piece.items ≤ 16 }
-    ensures further { IsFurther place result }
-    ensures fits { FitsBehind held.now.items result }
-    ensures is { box_said result ≡ said_behind held.now.items place head.now piece.items }
+    requires fits { length front.now + length piece ≤ 16 }
+    ensures further { IsFurther place (said_at place result) }
+    ensures fits { FitsBehind front.now (said_at place result) }
+    ensures is { said_at place result ≡ said_behind front.now place head.now piece }
 {
     if head.size == 0 {
-        return Found::Whole(join(held, &piece));
+        return Found::Answer(join(front, &piece));
     }
-    Found::Passed {
-        piece,
-        next: place + head.size,
+    Found::Other {
+        held: piece,
+        length: head.size,
     }
 }
 
-// The bytes and the piece behind them.
-fn join(held: &Codestream, piece: &Codestream) -> Codestream
-    requires { length held.now.items + length piece.now.items ≤ 16 }
-    ensures { result.items ≡ held.now.items ++ piece.now.items }
+// The bytes, followed by the part.
+fn join(front: &Front, piece: &Front) -> Front
+    requires { length front.now + length piece.now ≤ 16 }
+    ensures { result ≡ front.now ++ piece.now }
 {
-    let mut all = Codestream::new();
-    append(&mut all, held);
-    append(&mut all, piece);
+    let mut all = Front::new();
+    all.extend(front.as_slice());
+    all.extend(piece.as_slice());
     all
-}
-
-// Adds a piece for which there is room.
-fn append(codestream: &mut Codestream, piece: &Codestream)
-    requires { length codestream.old.items + length piece.now.items ≤ 16 }
-    ensures { codestream.new.items ≡ codestream.old.items ++ piece.now.items }
-{
-    let _ = codestream.try_extend_from_slice(piece.as_slice());
 }

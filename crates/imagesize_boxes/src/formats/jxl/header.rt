@@ -1,5 +1,5 @@
 //! The header of a JPEG XL codestream, by ISO/IEC 18181-1, annex D: the size and the orientation of the image.
-ghost use Rattle.std.specs.Prelude.{◌≡◌, ℕ, ◌+◌, ◌*◌, ◌^◌, ◌<◌, ◌≤◌, length, take, IfSome, ok_or};
+ghost use Rattle.std.specs.Prelude.{◌≡◌, ◌+◌, ◌*◌, ◌^◌, ◌<◌, ◌≤◌, length, take, IfSome, ok_or};
 ghost use Rattle.imagesize_boxes.specs.Walks.{found_in};
 ghost use Rattle.imagesize_boxes.specs.Jxl.{exchanges_sides, has_signature, jxl_header, jxl_size, side_fields, side_bits, width_by, width_side};
 ghost use Rattle.imagesize_types.specs.Sides.{exchange_if};
@@ -10,14 +10,14 @@ use super::front::MOST;
 use imagesize_source::Halt;
 use imagesize_types::size::ImageSize;
 
-// A width or a height, and the bit behind it.
+// A width or a height, and the position of the next bit.
 #[derive(Clone, Copy)]
 pub(super) struct Side {
     pub(super) length: u64,
     pub(super) end: u32,
 }
 
-// The size by the first bytes of a codestream, so many of these.
+// The size, from the first `len` bytes of a codestream.
 #[inline(always)]
 pub(super) fn codestream_size(bytes: &[u8; MOST], len: usize) -> Result<ImageSize, Halt>
     requires { len ≤ 16 }
@@ -32,7 +32,7 @@ pub(super) fn codestream_size(bytes: &[u8; MOST], len: usize) -> Result<ImageSiz
     header_size(&Bits::of(bytes, len)).ok_or(Halt::Corrupted)
 }
 
-// Whether the signature of a codestream stands first.
+// Whether the bytes begin with the signature of a codestream.
 #[inline]
 pub(super) fn has_signature(bytes: &[u8]) -> bool
     requires { 2 ≤ length bytes.now }
@@ -41,7 +41,7 @@ pub(super) fn has_signature(bytes: &[u8]) -> bool
     matches!(bytes, [0xFF, 0x0A, ..])
 }
 
-// The size as an image is shown, or none where the header is not there whole.
+// The size of the image as it is shown, or `None` if the header is cut.
 #[inline(always)]
 #[tactic(auto, using(crate::proofs::Fields::fields))]
 fn header_size(bits: &Bits) -> Option<ImageSize>
@@ -54,7 +54,7 @@ fn header_size(bits: &Bits) -> Option<ImageSize>
     Some(size_of_sides(exchanged, width.length, height.length))
 }
 
-// A side whose field begins at a bit, where it is there whole.
+// The side whose field begins at a bit, or `None` if the field is cut.
 #[inline(always)]
 fn read_side(bits: &Bits, small: bool, from: u32) -> Option<Side>
     requires { from ≤ 100 }
@@ -77,7 +77,7 @@ fn read_side(bits: &Bits, small: bool, from: u32) -> Option<Side>
     })
 }
 
-// How many bits a side has, by its selector.
+// The number of bits of a side, from its selector.
 #[inline(always)]
 fn side_bits(selector: u32) -> u32
     ensures is { result ≡ side_bits selector }
@@ -92,7 +92,7 @@ fn side_bits(selector: u32) -> u32
     }
 }
 
-// The width, by its ratio to the height or as a side of its own.
+// The width, from its ratio to the height or from a field of its own.
 #[inline(always)]
 fn read_width(bits: &Bits, small: bool, height: &Side) -> Option<Side>
     requires length { height.now.length ≤ 2 ^ 30 }
@@ -111,7 +111,7 @@ fn read_width(bits: &Bits, small: bool, height: &Side) -> Option<Side>
     })
 }
 
-// The width that has a ratio to the height.
+// The width with a ratio to the height.
 #[inline(always)]
 fn width_by(ratio: u32, height: u64) -> u64
     requires { height ≤ 2 ^ 30 }
@@ -141,7 +141,7 @@ fn read_exchanged(bits: &Bits, from: u32) -> Option<bool>
     Some(bits.field(from + 2, 3)? >= 4)
 }
 
-// The size of an image of these sides, which are exchanged or not.
+// The size with these sides, exchanged or not.
 #[inline(always)]
 fn size_of_sides(exchanged: bool, width: u64, height: u64) -> ImageSize
     ensures { result ≡ exchange_if exchanged (record { width = width; height = height }) }

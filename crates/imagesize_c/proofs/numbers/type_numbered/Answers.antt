@@ -10,5 +10,6 @@ pub returns : goal.returns
 unfolding type_numbered
 returns c =
     let test = has_numbers c.args.number c.args.compression in
-    let first = find_from_yields_List test _ _ c.find.result c.find.ensures.ran (YieldsList-from_slice c.all.result.now cc) (λ x b q k. search (rules, tests)) in
+    let first = find_from_yields_List test _ _ c.find.result c.find.ensures.ran
+    (YieldsList-from_slice c.all.result.now cc) (λ x b q k. search (rules, tests)) in
     c.copied.ensures ∙ first ∙ ap (find test) c.all.ensures

@@ -8,7 +8,8 @@ loop-index-init c = copied_none c.args.text c.args.bytes.now c.args.room.now
 pub returns-then-is_end-clause-whole : goal.returns-then-is_end-clause-whole
 returns-then-is_end-clause-whole c =
     copied_whole c.loop-index.invariant (omega (arith, c.loop-index-test.true, c.min-most.ensures))
-    (omega (arith, c.loop-index-test.true, c.min-most.ensures, c.loop-index.auto.room)) c.is_end.result c.is_end.ensures c.if-is_end.true
+    (omega (arith, c.loop-index-test.true, c.min-most.ensures, c.loop-index.auto.room)) c.is_end.result c.is_end.ensures
+    c.if-is_end.true
 
 pub returns-then-is_end-clause-copied : goal.returns-then-is_end-clause-copied
 returns-then-is_end-clause-copied c =
@@ -18,5 +19,6 @@ returns-then-is_end-clause-copied c =
 pub loop-index-preserved : goal.loop-index-preserved
 loop-index-preserved c =
     copied_more c.loop-index.invariant (omega (arith, c.loop-index-test.true, c.min-most.ensures))
-    (omega (arith, c.loop-index-test.true, c.min-most.ensures, c.loop-index.auto.room)) c.is_end.result c.is_ascii_whitespace.result
+    (omega (arith, c.loop-index-test.true, c.min-most.ensures, c.loop-index.auto.room)) c.is_end.result
+    c.is_ascii_whitespace.result
     c.is_end.ensures c.if-is_end.false c.is_ascii_whitespace.ensures.value

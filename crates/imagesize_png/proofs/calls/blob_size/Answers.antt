@@ -11,7 +11,7 @@ use Rattle.imagesize_png.proofs.calls.blob_size.Goals as goal
 
 pub returns-clause-value : goal.returns-clause-value
 returns-clause-value c = c.with_error.ensures
-    ∙ slice_answer _ _ _ _ refl (never_stopped _ _ refl refl refl refl c.size-found.ensures) c.size-found.ensures
+    ∙ slice_answer _ _ _ _ refl (never_stopped _ _ refl refl refl c.size-found.ensures) c.size-found.ensures
 
 pub returns-clause-local : goal.returns-clause-local
 returns-clause-local c = λ place e agrees.
@@ -28,4 +28,4 @@ returns-clause-refused c = png_final c.args.«data».now 0 _ (returns-clause-val
 
 pub returns-clause-unstopped : goal.returns-clause-unstopped
 returns-clause-unstopped c = ap (λ (r : Result ImageSize ImageError). is_stopped r) c.with_error.ensures
-    ∙ slice_unstopped _ _ _ (never_stopped _ _ refl refl refl refl c.size-found.ensures)
+    ∙ slice_unstopped _ _ _ (never_stopped _ _ refl refl refl c.size-found.ensures)

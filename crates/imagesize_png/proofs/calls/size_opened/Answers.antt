@@ -6,6 +6,7 @@ use Rattle.imagesize_png.specs.Png.{png_of}
 use Rattle.imagesize_source.specs.Errors.{is_memory}
 use Rattle.imagesize_source.specs.declared.error.ImageError.{ImageError}
 use Rattle.imagesize_types.specs.declared.size.ImageSize.{ImageSize}
+use Rattle.imagesize_source.specs.State.{since_of}
 use Rattle.imagesize_png.proofs.calls.size_opened.Goals as goal
 
 pub returns-clause-answers : goal.returns-clause-answers
@@ -14,26 +15,28 @@ returns-clause-answers g c = λ telling opens. subst (λ r. Answers telling png_
 
 pub returns-clause-counts : goal.returns-clause-counts
 returns-clause-counts g c = λ telling opens.
-    png_counts telling _ _ _ _ c.args.opened _ _ _ c.new-source.ensures.state refl opens c.size-found.ensures (search rules)
+    png_counts telling _ _ _ _ c.args.opened _ _ _ c.new-source.ensures.state refl opens c.size-found.ensures
+    (search rules)
 
 pub returns-clause-spent : goal.returns-clause-spent
 returns-clause-spent g c =
     rw c.with_error.ensures (budget_counted c.args.opened.told _ _ _ _ (ap (λ s. s.frame.budget) c.new-source.ensures.state)
-    (ap (λ s. s.frame.since) c.new-source.ensures.state) (kept_plain c.size-found.new.source.ledger.progress.fault _ refl)
+    (ap (λ s. since_of s.frame.backing) c.new-source.ensures.state) (kept_plain c.size-found.new.source.ledger.progress.fault _ refl)
     c.size-found.ensures (search rules))
 
 pub returns-clause-memory : goal.returns-clause-memory
 returns-clause-memory g c =
     subst (λ (r : Result ImageSize ImageError). IfErr r (λ e. is_memory e ≡ false)) (sym c.with_error.ensures)
-    (no_memory _ _ (ap (λ s. s.frame.records) c.new-source.ensures.state)
-    (kept_plain c.size-found.new.source.ledger.progress.fault _ refl) c.size-found.ensures)
+    (no_memory c.size-found.new.source.ledger.progress.fault _ _)
 
 pub returns-clause-fault : goal.returns-clause-fault
 returns-clause-fault g c =
-    rw c.with_error.ensures (fault_last _ c.size-found.new.source.ledger.progress.fault _ _ (search rules) c.size-found.ensures)
+    rw c.with_error.ensures
+    (fault_last _ c.size-found.new.source.ledger.progress.fault _ _ (search rules) c.size-found.ensures)
 
 pub returns-clause-leaves : goal.returns-clause-leaves
 returns-clause-leaves g c = λ telling opens.
     leaves_reader telling _ _ _ _ c.args.opened
-    c.size-found.new.source.ledger.progress.told c.size-found.new.source.ledger.progress.retries c.size-found.new.source.ledger.progress.fault _ _
+    c.size-found.new.source.ledger.progress.told c.size-found.new.source.ledger.progress.retries
+    c.size-found.new.source.ledger.progress.fault _ _
     c.new-source.ensures.state (search rules) c.size-found.ensures opens

@@ -12,14 +12,18 @@ returns-clause-says c =
     new.told new.spans new.bytes c.size_of_parts.ensures.says
 
 pub returns-clause-complete : goal.returns-clause-complete
-returns-clause-complete c = λ d has short. tells false _ (png_of d 0).marks c.args.total c.args.spans.now c.args.bytes.now _ (returns-clause-says c d has short)
+returns-clause-complete c =
+    λ d has short. tells false _ (png_of d 0).marks c.args.total c.args.spans.now c.args.bytes.now _
+    (returns-clause-says c d has short)
 
 pub returns-clause-fits : goal.returns-clause-fits
 returns-clause-fits c =
     let new = c.new-source.ensures in
-    moved (λ n spans bytes. Fits n c.size_of_parts.result) _ _ _ _ _ _ new.told new.spans new.bytes c.size_of_parts.ensures.fits
+    moved (λ n spans bytes. Fits n c.size_of_parts.result) _ _ _ _ _ _ new.told new.spans new.bytes
+    c.size_of_parts.ensures.fits
 
 pub returns-clause-unstopped : goal.returns-clause-unstopped
 returns-clause-unstopped c =
     let new = c.new-source.ensures in
-    subst (λ n. n < 2 ^ 63 → IfFound c.size_of_parts.result (λ answer. is_stopped answer ≡ false)) new.told c.size_of_parts.ensures.unstopped
+    subst (λ n. n < 2 ^ 63
+    → IfFound c.size_of_parts.result (λ answer. is_stopped answer ≡ false)) new.told c.size_of_parts.ensures.unstopped

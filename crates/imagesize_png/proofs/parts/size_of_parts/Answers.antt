@@ -11,8 +11,10 @@ pub returns-clause-says : goal.returns-clause-says
 returns-clause-says c = λ d has short.
     let old = c.args.source.now in let s = c.size-found.new.source in let new = c.forget.ensures in
     subst (λ a. SaysOf false (png_of d 0) old.told old.spans.now old.bytes.now a) (sym c.found_or_wanted.ensures)
-    (says_of false (λ x. png_reads x 0) (png_local 0) d old.told old.spans.now old.bytes.now has short s.log.spans s.missed end_of_input 0 _
-    (called (λ x. png_reads x 0) _ _ _ _ _ _ _ _ _ _ _ _ _ _ new.told new.spans new.bytes new.seen new.missed c.size-found.ensures
+    (says_of false (λ x. png_reads x 0)
+    (png_local 0) d old.told old.spans.now old.bytes.now has short s.log.spans s.missed end_of_input 0 _
+    (called (λ x. png_reads x 0) _ _ _ _ _ _ _ _ _ _ _ _ _ _ new.told new.spans new.bytes new.seen new.missed
+    c.size-found.ensures
     s.seen s.lacks))
 
 pub returns-clause-fits : goal.returns-clause-fits
@@ -21,7 +23,8 @@ returns-clause-fits c =
     let call = called (λ x. png_reads x 0) old.told _ _ old.spans.now _ _ old.bytes.now _ _ _ _ _ _ _
     new.told new.spans new.bytes new.seen new.missed c.size-found.ensures s.seen s.lacks in
     subst (λ a. Fits old.told a) (sym c.found_or_wanted.ensures)
-    (fits false old.told old.spans.now old.bytes.now s.missed (with_error end_of_input 0 c.size-found.result) _ call.lacks)
+    (fits false old.told old.spans.now old.bytes.now s.missed
+    (with_error end_of_input 0 c.size-found.result) _ call.lacks)
 
 pub returns-clause-unstopped : goal.returns-clause-unstopped
 returns-clause-unstopped c = λ short.
@@ -29,4 +32,5 @@ returns-clause-unstopped c = λ short.
     let call = called (λ x. png_reads x 0) old.told _ _ old.spans.now _ _ old.bytes.now _ _ _ _ _ _ _
     new.told new.spans new.bytes new.seen new.missed c.size-found.ensures s.seen s.lacks in
     subst (λ a. IfFound a (λ answer. is_stopped answer ≡ false)) (sym c.found_or_wanted.ensures)
-    (unstopped (λ x. png_reads x 0) old.told old.spans.now old.bytes.now false s.log.spans s.missed end_of_input 0 c.size-found.result short call)
+    (unstopped (λ x. png_reads x 0) old.told old.spans.now old.bytes.now false s.log.spans s.missed end_of_input 0
+    c.size-found.result short call)

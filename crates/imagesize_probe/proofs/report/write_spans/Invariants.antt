@@ -5,5 +5,6 @@ use Rattle.imagesize_probe.proofs.report.write_spans.Given as goal
 
 abbrev pub invariant-loop-span : goal.invariant-loop-span
 invariant-loop-span g l = record {
-  written : Appends (g.W.Write.contents l.fn.writer) (g.W.Write.contents l.writer) (span_lines (take l.span-index l.spans));
+  written : Appends (g.W.Write.contents l.fn.writer) (g.W.Write.contents l.writer)
+      (span_lines (take l.span-index l.spans));
 }

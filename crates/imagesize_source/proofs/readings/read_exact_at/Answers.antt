@@ -4,7 +4,8 @@ use Rattle.imagesize_source.specs.declared.halt.Halt.{Halt}
 use Rattle.imagesize_source.proofs.readings.read_exact_at.Goals as goal
 
 pub returns-then-count-room-clause-runs : goal.returns-then-count-room-clause-runs
-returns-then-count-room-clause-runs g c = bytes_missing _ _ _ _ _ c.in_ok-count.ensures.runs (search rules) (omega arith)
+returns-then-count-room-clause-runs g c =
+    bytes_missing _ _ _ _ _ c.in_ok-count.ensures.runs (search rules) (omega arith)
 
 pub returns-clause-runs : goal.returns-clause-runs
 returns-clause-runs g c = bytes_there _ _ _ _ _ c.in_ok-count.ensures.runs (search rules) (omega arith)

@@ -1,5 +1,5 @@
 use Rattle.std.proofs.Common.{ap, ◌∙◌, is_some}
-use Rattle.imagesize_source.proofs.Known.{line_ended}
+use Rattle.imagesize_source.proofs.TextEnds.{line_ended}
 use Rattle.imagesize_source.proofs.text.line_is_closed.Goals as goal
 
 pub returns : goal.returns

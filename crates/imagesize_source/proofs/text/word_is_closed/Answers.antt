@@ -1,5 +1,5 @@
 use Rattle.std.proofs.Common.{sym, ap, ◌∙◌, is_some}
-use Rattle.imagesize_source.proofs.Known.{blank_not_ended, word_is_ended}
+use Rattle.imagesize_source.proofs.TextEnds.{blank_not_ended, word_is_ended}
 use Rattle.imagesize_source.proofs.text.word_is_closed.Goals as goal
 
 pub returns-in-Some : goal.returns-in-Some

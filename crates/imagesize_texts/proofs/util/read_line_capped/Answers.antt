@@ -7,9 +7,11 @@ returns-clause-bound g c = line_bound (λ text. text.now) c.args.delimiter (leng
     c.in_ok-count.count c.line_text.result (search rules) c.line_text.ensures
 
 pub returns-clause-pays : goal.returns-clause-pays
-returns-clause-pays g c = line_pays (λ text. text.now) c.args.delimiter (length c.args.room.now) c.read_text.new.room c.in_ok-count.count
+returns-clause-pays g c =
+    line_pays (λ text. text.now) c.args.delimiter (length c.args.room.now) c.read_text.new.room c.in_ok-count.count
     c.line_text.result c.line_text.ensures c.in_ok-count.ensures.pays
 
 pub returns-clause-runs : goal.returns-clause-runs
-returns-clause-runs g c = line_runs _ c.read_text.new.room c.args.place (length c.args.room.now) c.in_ok-count.count (search rules)
+returns-clause-runs g c = line_runs _ c.read_text.new.room c.args.place (length c.args.room.now) c.in_ok-count.count
+    (search rules)
     c.args.delimiter _ c.in_ok-count.ensures.runs c.line_text.ensures

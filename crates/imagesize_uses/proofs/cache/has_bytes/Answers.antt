@@ -9,5 +9,6 @@ returns-in-None-clause-found c = λ same.
 
 pub loop-span-preserved : goal.loop-span-preserved
 loop-span-preserved c =
-    one_more _ _ c.loop-span.span-index _ _ _ _ _ (search rules) c.bytes_of_span.ensures c.loop-span.invariant c.in-Some.ensures.cases.0
+    one_more _ _ c.loop-span.span-index _ _ _ _ _
+    (search rules) c.bytes_of_span.ensures c.loop-span.invariant c.in-Some.ensures.cases.0
     c.in-Some.ensures.cases.1

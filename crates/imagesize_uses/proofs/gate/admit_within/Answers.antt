@@ -33,9 +33,11 @@ returns-clause-whole g c =
     (g.R.Told.count c.admit.new.reader.reader.now) c.saturating_add.result c.admit.new.reader.left c.admit.result.taken
     (search rules) c.admit.new.reader.short (search rules) c.admit.ensures.counts in
     let rest = is.rest in
-    subst (λ r. Decides (g.R.Told.telling c.args.reader.now) (g.R.Told.failure r) (limit_of c.args.length) c.args.most_pixels c.admit.result)
+    subst (λ r. Decides (g.R.Told.telling c.args.reader.now) (g.R.Told.failure r)
+    (limit_of c.args.length) c.args.most_pixels c.admit.result)
     (sym (c.reader-1.given.1 (sym is.same)))
-    (decides (g.R.Told.telling c.args.reader.now) (g.R.Told.failure c.admit.new.reader.reader.now) (limit_of c.args.length) c.args.most_pixels
+    (decides (g.R.Told.telling c.args.reader.now) (g.R.Told.failure c.admit.new.reader.reader.now)
+    (limit_of c.args.length) c.args.most_pixels
     c.admit.result c.admit.ensures.admits c.admit.ensures.few c.admit.ensures.many (λ below.
     fault_below c.admit.new.reader.spent c.admit.new.reader.left _ c.admit.result.verdict c.admit.new.reader.ends
     (omega (arith, rest, below, c.saturating_add.ensures)) c.admit.ensures.fault))

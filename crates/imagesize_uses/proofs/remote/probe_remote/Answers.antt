@@ -7,7 +7,8 @@ pub rounds-init : goal.rounds-init
 rounds-init g c = (
   refl,
   begun (g.R.Remote.input c.args.remote.now) c.length-whole.result (g.R.Remote.fetches c.args.remote.now)
-      (g.R.Remote.asked c.args.remote.now) c.new-spans.result.items c.new-bytes.result.items c.length-whole.ensures.length
+      (g.R.Remote.asked c.args.remote.now) c.new-spans.result.items c.new-bytes.result.items
+      c.length-whole.ensures.length
       c.length-whole.ensures.short (search rules) (search rules),
   inl refl,
 )
@@ -25,7 +26,8 @@ returns-in_err-fetch_part-in-Wanted-clause-most g c =
 pub rounds-smaller : goal.rounds-smaller
 rounds-smaller g c =
     smaller c.in-Wanted.span c.rounds.invariant.1 c.deref-in-rounds.ensures.value c.deref.ensures.value
-    (c.in-Wanted.ensures.says (g.R.Remote.input c.args.remote.now)) c.in-Wanted.ensures.fits c.in_ok-extend_from_slice-in-Wanted.ensures.items
+    (c.in-Wanted.ensures.says
+    (g.R.Remote.input c.args.remote.now)) c.in-Wanted.ensures.fits c.in_ok-extend_from_slice-in-Wanted.ensures.items
 
 pub rounds-preserved : goal.rounds-preserved
 rounds-preserved g c = (

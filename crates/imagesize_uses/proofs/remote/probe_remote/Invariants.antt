@@ -6,7 +6,8 @@ use Rattle.imagesize_uses.proofs.remote.probe_remote.Given as goal
 -- the parts so far are those of the input, each fetch has brought a place that was lacking, and the last one gave all
 abbrev pub invariant-rounds : goal.invariant-rounds
 invariant-rounds g l = (g.R.Remote.input l.remote ≡ g.R.Remote.input l.fn.remote)
-    × Fetching (g.R.Remote.input l.fn.remote) l.whole l.spans.items l.bytes.items (g.R.Remote.fetches l.fn.remote) (g.R.Remote.fetches l.remote)
+    × Fetching (g.R.Remote.input l.fn.remote) l.whole l.spans.items l.bytes.items (g.R.Remote.fetches l.fn.remote)
+    (g.R.Remote.fetches l.remote)
     (g.R.Remote.asked l.fn.remote) (g.R.Remote.asked l.remote)
     × ((g.R.Remote.last l.remote ≡ g.R.Remote.last l.fn.remote) ⊎ GaveAll (g.R.Remote.last l.remote))
 

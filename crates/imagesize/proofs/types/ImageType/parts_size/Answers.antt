@@ -12,7 +12,10 @@ returns-clause-says c =
     new.told new.spans new.bytes c.size_as.ensures.says
 
 pub returns-clause-complete : goal.returns-clause-complete
-returns-clause-complete c = λ d has short. tells (has_texts c.args.self.now) _ (size_of c.args.self.now d).marks c.args.total c.args.spans.now c.args.bytes.now _ (returns-clause-says c d has short)
+returns-clause-complete c =
+    λ d has short. tells (has_texts c.args.self.now) _
+    (size_of c.args.self.now d).marks c.args.total c.args.spans.now c.args.bytes.now _
+    (returns-clause-says c d has short)
 
 pub returns-clause-fits : goal.returns-clause-fits
 returns-clause-fits c =
@@ -22,4 +25,5 @@ returns-clause-fits c =
 pub returns-clause-unstopped : goal.returns-clause-unstopped
 returns-clause-unstopped c =
     let new = c.new-source.ensures in
-    subst (λ n. n < 2 ^ 63 → IfFound c.size_as.result (λ answer. is_stopped answer ≡ false)) new.told c.size_as.ensures.unstopped
+    subst (λ n. n < 2 ^ 63
+    → IfFound c.size_as.result (λ answer. is_stopped answer ≡ false)) new.told c.size_as.ensures.unstopped

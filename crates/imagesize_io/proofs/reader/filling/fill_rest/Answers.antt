@@ -12,7 +12,8 @@ loop-filled-preserved g c =
 
 pub returns-then-count-eq0 : goal.returns-then-count-eq0
 returns-then-count-eq0 g c =
-    filling_done c.loop-filled.invariant c.in_ok-count.ensures c.if-count-eq0.true (omega (arith, c.loop-filled-test.true)) (search rules)
+    filling_done c.loop-filled.invariant c.in_ok-count.ensures c.if-count-eq0.true
+    (omega (arith, c.loop-filled-test.true)) (search rules)
 
 pub returns-in_err-count : goal.returns-in_err-count
 returns-in_err-count g c =

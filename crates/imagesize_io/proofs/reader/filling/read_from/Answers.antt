@@ -27,11 +27,13 @@ returns g c =
     let filled = c.in_ok-count.ensures in
     record {
       bound = filled.bound;
-      stand = from_there _ _ (g.R.Told.telling c.fill.new.reader) c.fill.new.progress _ _ _ _ _ goes.stand c.if-not-branch.false
+      stand = from_there _ _
+          (g.R.Told.telling c.fill.new.reader) c.fill.new.progress _ _ _ _ _ goes.stand c.if-not-branch.false
           filled.stand;
       stands = λ near. omega (arith, filled.place, goes.asked, c.if-not-branch.false);
       taken = omega (arith, goes.taken, filled.taken);
-      within = within_reached (stand (g.R.Told.telling c.args.reader.now) c.args.progress.now) _ _ _ _ _ _ _ _ goes.stand
+      within = within_reached
+          (stand (g.R.Told.telling c.args.reader.now) c.args.progress.now) _ _ _ _ _ _ _ _ goes.stand
           c.if-not-branch.false goes.taken filled.within;
       pays = λ far some. omega (arith, goes.taken, filled.taken);
       since = filled.since ∙ goes.since;
@@ -43,7 +45,8 @@ returns g c =
 
 pub returns-in_err-count : goal.returns-in_err-count
 returns-in_err-count g c =
-    let is : ◌≡◌ {A = Result ℕ Halt} c.from_residual-in_err-count.result (Err c.in_err-count.field-0.0) = search rules in
+    let is : ◌≡◌ {A = Result ℕ Halt} c.from_residual-in_err-count.result (Err c.in_err-count.field-0.0) =
+    search rules in
     let goes = c.in_ok-go_to.ensures in
     let filled = c.in_err-count.ensures in
     rw is (record {
@@ -51,7 +54,8 @@ returns-in_err-count g c =
       stand = fails_there _ _ _ _ _ _ _ _ _ _ goes.stand c.if-not-branch.false filled.stand;
       stands = tt;
       taken = tt;
-      within = within_reached (stand (g.R.Told.telling c.args.reader.now) c.args.progress.now) _ _ _ _ _ _ _ _ goes.stand
+      within = within_reached
+          (stand (g.R.Told.telling c.args.reader.now) c.args.progress.now) _ _ _ _ _ _ _ _ goes.stand
           c.if-not-branch.false goes.taken filled.within;
       pays = tt;
       since = filled.since ∙ goes.since;

@@ -8,16 +8,19 @@ pub loop-count-init : goal.loop-count-init
 loop-count-init g c = λ home.
     let ledger = c.args.ledger.now in
     taking_none _ c.args.text c.args.place (length c.args.room.now)
-    (reader_sound (account g.R.Told.telling g.R.Told.count g.R.Told.failure c.args.reader.now) home ledger.progress ledger.window.items)
+    (reader_sound (account g.R.Told.telling g.R.Told.count g.R.Told.failure c.args.reader.now) home ledger.progress
+    ledger.window.items)
 
 pub loop-count-preserved : goal.loop-count-preserved
 loop-count-preserved g c = λ home.
     let read = c.in_ok-read_on.ensures.reads in
     text_goes_on c.loop-count.room (c.loop-count.invariant home) c.saturating_add-next.result c.in_ok-read_on.field-0
     (c.loop-count.count + 1 - c.loop-count.count) c.read_on.new.room
-    (omega (arith, c.saturating_add-next.ensures)) c.loop-count-test.true (omega arith) (one_long c.loop-count.count c.loop-count.room c.read_on.new.room
+    (omega (arith, c.saturating_add-next.ensures)) c.loop-count-test.true (omega arith)
+    (one_long c.loop-count.count c.loop-count.room c.read_on.new.room
     c.loop-count-test.true c.read_on.auto.room) (read.runs home) (omega (arith, c.if-branch-eq0.false)) read.bound
-    c.is_ascii_whitespace.result c.is_end.result (refl, refl) c.ranges.place.fits (read.pays (omega (arith, c.if-branch-eq0.false)))
+    c.is_ascii_whitespace.result c.is_end.result (refl, refl) c.ranges.place.fits
+    (read.pays (omega (arith, c.if-branch-eq0.false)))
     c.is_ascii_whitespace.ensures.value c.is_end.ensures c.if-is_end.false
 
 pub returns-in_err-read_on : goal.returns-in_err-read_on
@@ -29,9 +32,11 @@ returns-in_err-read_on g c =
       pays = search rules;
       runs = λ home. rw is (text_stopped c.loop-count.room (c.loop-count.invariant home) c.saturating_add-next.result
           (c.loop-count.count + 1 - c.loop-count.count) c.read_on.new.room
-          (omega (arith, c.saturating_add-next.ensures)) c.loop-count-test.true (omega arith) (one_long c.loop-count.count c.loop-count.room
+          (omega (arith, c.saturating_add-next.ensures)) c.loop-count-test.true (omega arith)
+          (one_long c.loop-count.count c.loop-count.room
           c.read_on.new.room c.loop-count-test.true c.read_on.auto.room) (c.in_err-read_on.ensures.reads.runs home)
-          (reader_sound (account g.R.Told.telling g.R.Told.count g.R.Told.failure c.args.reader.now) home ledger.progress ledger.window.items) refl);
+          (reader_sound (account g.R.Told.telling g.R.Told.count g.R.Told.failure c.args.reader.now) home
+          ledger.progress ledger.window.items) refl);
     }
 
 pub returns-after-loop-count : goal.returns-after-loop-count
@@ -41,7 +46,8 @@ returns-after-loop-count g c =
       bound = (c.loop-count.invariant 0).fits;
       pays = (c.loop-count.invariant 0).pays;
       runs = λ home. taking_full (c.loop-count.invariant home) c.loop-count-test.false
-          (reader_sound (account g.R.Told.telling g.R.Told.count g.R.Told.failure c.args.reader.now) home ledger.progress ledger.window.items);
+          (reader_sound (account g.R.Told.telling g.R.Told.count g.R.Told.failure c.args.reader.now) home
+          ledger.progress ledger.window.items);
     }
 
 pub returns-then-branch-eq0 : goal.returns-then-branch-eq0
@@ -52,11 +58,14 @@ returns-then-branch-eq0 g c =
     record {
       bound = search (rules, so_far.fits);
       pays = λ some far. omega (arith, so_far.pays some far, read.keeps.taken);
-      runs = λ home. input_ends c.loop-count.room (c.loop-count.invariant home) c.saturating_add-next.result c.in_ok-read_on.field-0
+      runs = λ home. input_ends c.loop-count.room
+          (c.loop-count.invariant home) c.saturating_add-next.result c.in_ok-read_on.field-0
           (c.loop-count.count + 1 - c.loop-count.count) c.read_on.new.room
-          (omega (arith, c.saturating_add-next.ensures)) c.loop-count-test.true (omega arith) (one_long c.loop-count.count c.loop-count.room
+          (omega (arith, c.saturating_add-next.ensures)) c.loop-count-test.true (omega arith)
+          (one_long c.loop-count.count c.loop-count.room
           c.read_on.new.room c.loop-count-test.true c.read_on.auto.room) (read.runs home)
-          (reader_sound (account g.R.Told.telling g.R.Told.count g.R.Told.failure c.args.reader.now) home ledger.progress ledger.window.items)
+          (reader_sound (account g.R.Told.telling g.R.Told.count g.R.Told.failure c.args.reader.now) home
+          ledger.progress ledger.window.items)
           c.if-branch-eq0.true;
     }
 
@@ -72,11 +81,15 @@ returns-then-is_end g c =
           let paid = read.pays (omega (arith, c.if-branch-eq0.false))
           (omega (arith, far, told, c.saturating_add-next.ensures, c.ranges.place.fits)) in
           omega (arith, paid.0, so_far.took.taken);
-      runs = λ home. text_ends c.loop-count.room (c.loop-count.invariant home) c.saturating_add-next.result c.in_ok-read_on.field-0
+      runs = λ home. text_ends c.loop-count.room
+          (c.loop-count.invariant home) c.saturating_add-next.result c.in_ok-read_on.field-0
           (c.loop-count.count + 1 - c.loop-count.count) c.read_on.new.room
-          (omega (arith, c.saturating_add-next.ensures)) c.loop-count-test.true (omega arith) (one_long c.loop-count.count c.loop-count.room
-          c.read_on.new.room c.loop-count-test.true c.read_on.auto.room) (read.runs home) (omega (arith, c.if-branch-eq0.false)) read.bound
+          (omega (arith, c.saturating_add-next.ensures)) c.loop-count-test.true (omega arith)
+          (one_long c.loop-count.count c.loop-count.room
+          c.read_on.new.room c.loop-count-test.true c.read_on.auto.room) (read.runs home)
+          (omega (arith, c.if-branch-eq0.false)) read.bound
           c.is_end.result (refl, refl)
-          (reader_sound (account g.R.Told.telling g.R.Told.count g.R.Told.failure c.args.reader.now) home ledger.progress ledger.window.items)
+          (reader_sound (account g.R.Told.telling g.R.Told.count g.R.Told.failure c.args.reader.now) home
+          ledger.progress ledger.window.items)
           c.is_end.ensures c.if-is_end.true;
     }

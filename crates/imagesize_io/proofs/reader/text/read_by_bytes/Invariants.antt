@@ -6,9 +6,11 @@ use Rattle.imagesize_io.proofs.reader.text.read_by_bytes.Given as goal
 
 abbrev pub invariant-loop-count : goal.invariant-loop-count
 invariant-loop-count g l = (home : ℕ) → Taking
-    (reader_state (account g.R.Told.telling g.R.Told.count g.R.Told.failure l.initial.reader) home l.initial.ledger.progress
+    (reader_state (account g.R.Told.telling g.R.Told.count g.R.Told.failure l.initial.reader) home
+    l.initial.ledger.progress
     l.initial.ledger.window.items)
-    (reader_state (account g.R.Told.telling g.R.Told.count g.R.Told.failure l.reader) home l.ledger.progress l.ledger.window.items)
+    (reader_state (account g.R.Told.telling g.R.Told.count g.R.Told.failure l.reader) home l.ledger.progress
+    l.ledger.window.items)
     l.text l.place l.count l.begun (length l.room) (take l.count l.room)
 
 abbrev pub decreases-loop-count : goal.decreases-loop-count

@@ -11,9 +11,17 @@ returns-then-place-ledger g c =
           record {
             bound = omega arith;
             pays = λ some far. omega (arith, some);
-            keeps = record { told = refl; budget = refl; taken = omega arith; retries = omega arith; limit = λ few. few };
+            keeps = record {
+              told = refl;
+              budget = refl;
+              taken = omega arith;
+              retries = omega arith;
+              limit =
+                  λ few. few;
+            };
             runs = λ home.
-                let told = told_by (account g.R.Told.telling g.R.Told.count g.R.Told.failure c.args.reader.now) home old in
+                let told = told_by (account g.R.Told.telling g.R.Told.count g.R.Told.failure c.args.reader.now) home old
+                in
                 behind_end _ _ _ _ _ _ told c.requires;
           };
       present = λ told. absurd (omega (arith, c.requires, told));

@@ -5,9 +5,11 @@ use Rattle.imagesize_io.proofs.reader.windowed.read_windowed.Goals as goal
 
 pub returns-in_err-count-2 : goal.returns-in_err-count-2
 returns-in_err-count-2 g c =
-    let is : ◌≡◌ {A = Result ℕ Halt} c.from_residual-in_err-count-2.result (Err c.in_err-count-2.field-0.0) = search rules in
+    let is : ◌≡◌ {A = Result ℕ Halt} c.from_residual-in_err-count-2.result (Err c.in_err-count-2.field-0.0) =
+    search rules in
     record {
-      reads = stops_past (omega (arith, c.len.ensures.value, c.len.ensures.fits)) (omega (arith, c.len.ensures.value)) (search rules)
+      reads = stops_past (omega (arith, c.len.ensures.value, c.len.ensures.fits)) (omega (arith, c.len.ensures.value))
+          (search rules)
           c.in_err-count-2.ensures refl is;
       present = search rules;
       goes_on = search rules;
@@ -17,7 +19,8 @@ returns-in_err-count-2 g c =
 pub returns : goal.returns
 returns g c =
     record {
-      reads = reads_past (omega (arith, c.len.ensures.value, c.len.ensures.fits)) (omega (arith, c.len.ensures.value)) (search rules)
+      reads = reads_past (omega (arith, c.len.ensures.value, c.len.ensures.fits)) (omega (arith, c.len.ensures.value))
+          (search rules)
           c.in_ok-count-2.ensures c.keep_front.ensures (search rules);
       present = search rules;
       goes_on = search rules;

@@ -1,6 +1,6 @@
 use Rattle.std.proofs.Common.{arith, refl, sym, ◌∙◌, length, ◌+◌, ◌≤◌, ◌≡◌}
 use Rattle.imagesize_source.specs.Known.{filled_input}
-use Rattle.imagesize_source.proofs.Known.{gathered_run, known_run}
+use Rattle.imagesize_source.proofs.Gathering.{gathered_run, known_run}
 use Rattle.imagesize_source.proofs.Parts.{part_none}
 use Rattle.imagesize_source.proofs.source.parts.gather.Goals as goal
 
@@ -20,9 +20,12 @@ loop-count-preserved c =
     let fits : c.args.place + c.loop-count.count + c.put-count.result ≤ c.args.told =
     omega (arith, c.put-count.ensures.count, c.loop-count-test.true, c.requires, so_far.0) in (
       long ∙ so_far.0,
-      gathered_run c.args.told c.args.spans.now c.args.bytes.now c.known_from-run.result.now c.loop-count.room c.put-count.new.room c.args.place
-          c.loop-count.count c.put-count.result so_far.1 so_far.3 few fits c.put-count.ensures.copied c.known_from-run.ensures.known,
-      known_run c.args.told c.args.spans.now c.args.bytes.now c.known_from-run.result.now c.args.place c.loop-count.count c.put-count.result so_far.2
+      gathered_run c.args.told c.args.spans.now c.args.bytes.now c.known_from-run.result.now c.loop-count.room
+          c.put-count.new.room c.args.place
+          c.loop-count.count c.put-count.result so_far.1 so_far.3 few fits c.put-count.ensures.copied
+          c.known_from-run.ensures.known,
+      known_run c.args.told c.args.spans.now c.args.bytes.now c.known_from-run.result.now c.args.place
+          c.loop-count.count c.put-count.result so_far.2
           few c.known_from-run.ensures.known,
       omega (arith, long, c.put-count.ensures.count, so_far.3),
     )

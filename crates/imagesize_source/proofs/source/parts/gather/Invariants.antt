@@ -5,8 +5,11 @@ use Rattle.imagesize_source.proofs.source.parts.gather.Given as goal
 
 -- the bytes so far are known, and stand in the room
 abbrev pub invariant-loop-count : goal.invariant-loop-count
-invariant-loop-count l = (length l.room ≡ length l.initial.room) × (take l.count l.room ≡ part (filled_input l.told l.spans l.bytes) l.place l.count)
-    × ((i : ℕ) → i < l.count → is_some (byte_in_parts l.told l.spans l.bytes (l.place + i)) ≡ true) × (l.count ≤ length l.room)
+invariant-loop-count l =
+    (length l.room ≡ length l.initial.room) ×
+    (take l.count l.room ≡ part (filled_input l.told l.spans l.bytes) l.place l.count)
+    × ((i : ℕ) → i < l.count → is_some (byte_in_parts l.told l.spans l.bytes (l.place + i)) ≡ true) ×
+    (l.count ≤ length l.room)
 
 abbrev pub decreases-loop-count : goal.decreases-loop-count
 decreases-loop-count l = length l.room - l.count

@@ -1,4 +1,4 @@
-use Rattle.imagesize_source.proofs.Known.{NoneBefore}
+use Rattle.imagesize_source.proofs.Gathering.{NoneBefore}
 use Rattle.imagesize_source.proofs.source.parts.known_from.Given as goal
 
 -- the parts so far have none of so many places

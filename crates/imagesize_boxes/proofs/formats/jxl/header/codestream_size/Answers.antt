@@ -8,7 +8,8 @@ returns-then-len-lt2 c = sym (size_short c.args.bytes.now c.args.len c.if-len-lt
 pub returns-then-not-has_signature : goal.returns-then-not-has_signature
 returns-then-not-has_signature c =
     let within : c.args.len ≤ length c.args.bytes.now = search rules in
-    sym (size_unsigned c.args.bytes.now c.args.len c.if-len-lt2.false within (sym c.has_signature.ensures ∙ c.if-not-has_signature.true))
+    sym (size_unsigned c.args.bytes.now c.args.len c.if-len-lt2.false within
+    (sym c.has_signature.ensures ∙ c.if-not-has_signature.true))
 
 pub returns : goal.returns
 returns c =

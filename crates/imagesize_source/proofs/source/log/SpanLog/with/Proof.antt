@@ -34,9 +34,13 @@ use Rattle.imagesize_source.specs.contracts.source.log.SpanLog as trail
 use Rattle.imagesize_source.specs.contracts.span.Span as name
 
 abbrev stayed : Stays (f.ended).signature.params (f.ended).kept
-stayed = (stay_none_ref (0 ∷ []) tt (plain (λ _. trail.the_row)) yes, (stay_none_ref (1 ∷ []) tt (plain (λ _. name.the_row)) yes, tt))
+stayed = (
+  stay_none_ref (0 ∷ []) tt (plain (λ _. trail.the_row)) yes,
+  (stay_none_ref (1 ∷ []) tt (plain (λ _. name.the_row)) yes, tt),
+)
 
-module _ {M : Type 1} {𝓤 : Ura M} (𝓛 : Logic 𝓤) (mem : Memory → SProp 𝓤) (run : Routine → Fun 𝓤) (C : Calls 𝓤 𝓛.H) (Λ : Loops 𝓤 𝓛.H) where
+module _ {M : Type 1} {𝓤 : Ura M} (𝓛 : Logic 𝓤) (mem : Memory → SProp 𝓤) (run : Routine → Fun 𝓤) (C : Calls 𝓤 𝓛.H)
+    (Λ : Loops 𝓤 𝓛.H) where
   open 𝓛 use {H}
 
   module _ (κs : Lfts 2) (qs : Shares 2) (a : Args f.signature κs) where
@@ -53,14 +57,16 @@ module _ {M : Type 1} {𝓤 : Ura M} (𝓛 : Logic 𝓤) (mem : Memory → SProp
     passed = owns (types_at f.signature.params κs) a (before ∷ [], (named_by ∷ [], tt))
 
     walk : ent 𝓤 (on_entry 𝓛 f.signature κs qs a (before ∷ [], (named_by ∷ [], tt)))
-        (WpFn 𝓤 H C Λ code.function (before ∷ named_by ∷ []) ((walk_of 𝓛 f.ended stayed (f.clauses 𝓛 mem run)).post bound))
+        (WpFn 𝓤 H C Λ code.function (before ∷ named_by ∷ [])
+        ((walk_of 𝓛 f.ended stayed (f.clauses 𝓛 mem run)).post bound))
     walk =
         qed 𝓛 (raw (alive 𝓛 f.signature κs qs) ∷ ‵ passed ∷ []) ∵ enter ! C Λ code.function (before ∷ named_by ∷ []) _ $
         alloc_all ! (λ l. pass_all ! refl ((tt, tt), ((tt, tt), tt)) $ sets ! (agg ! (no_more !)) refl (tt, tt) $
         returns ! (look_at ! 0 refl) $ free_all ! refl $
         suffices ! _ (ends_at 𝓛 f.ended stayed (f.clauses 𝓛 mem run) bound (vstruct vnil)
         (record { spans = a.0.now.spans ++ a.1.0.now ∷ [] }) (tt, (tt, tt)) (tt, (tt, tt))) $
-        says ! refl $ pure_i ! (trail.the_row.own_val (record { spans = a.0.now.spans ++ a.1.0.now ∷ [] }) (vstruct vnil ∷ []))
+        says ! refl $ pure_i !
+        (trail.the_row.own_val (record { spans = a.0.now.spans ++ a.1.0.now ∷ [] }) (vstruct vnil ∷ []))
         ((λ vss. (tt, tt)), tt) ((tt, (refl, tt)), tt) $
         move ! (1 ∷ 2 ∷ 0 ∷ []) $ done !)
 

@@ -1,4 +1,4 @@
-use Rattle.imagesize_source.proofs.Known.{parts_sound}
+use Rattle.imagesize_source.proofs.KnownReadings.{parts_sound}
 use Rattle.imagesize_source.proofs.source.parts.PartsSourceSource.told.Goals as goal
 
 pub returns-clause-sound : goal.returns-clause-sound

@@ -3,8 +3,8 @@ use Rattle.imagesize_source.proofs.Recordings.{recording_reads_text}
 use Rattle.imagesize_source.proofs.source.recording.RecordingSourceSource.read_text.Goals as goal
 
 pub returns-clause-runs : goal.returns-clause-runs
-returns-clause-runs g c =
+returns-clause-runs c =
     recording_reads_text c.args.self.now.bytes.now c.record.new.self.bytes.now c.args.room.now c.copy_from_slice.new.self
-    c.text_at-found.result.now c.args.text _ _ _ _ _ c.args.place
-    (omega arith) c.in_ok-record.ensures.bytes c.in_ok-record.ensures.same_home c.text_at-found.ensures.text c.text_at-found.ensures.fits
-    c.copy_from_slice.ensures.after c.in_ok-record.ensures.recorded
+    c.text_at-found.result.now c.args.text _ _ _ _ c.args.place
+    (omega arith) c.record.ensures.bytes c.record.ensures.same_reference c.text_at-found.ensures.text c.text_at-found.ensures.fits
+    c.copy_from_slice.ensures.after c.record.ensures.recorded

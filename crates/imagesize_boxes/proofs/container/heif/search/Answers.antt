@@ -1,6 +1,0 @@
-use Rattle.std.proofs.Common.{◌+◌}
-use Rattle.imagesize_boxes.proofs.Heif.{search_saturated}
-use Rattle.imagesize_boxes.proofs.container.heif.search.Goals as goal
-
-pub returns : goal.returns
-returns g c = search_saturated c.args.name.now (c.args.place + c.args.distance) (rw c.saturating_add.ensures at c.search_from.ensures)

@@ -1,3 +1,0 @@
-//! Containers of images, in boxes.
-
-pub mod heif;

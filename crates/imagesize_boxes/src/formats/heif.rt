@@ -1,0 +1,425 @@
+//! HEIF and AVIF. ISO/IEC 14496-12, sections 4.2 (boxes), 4.3 (`ftyp`) and 8.11.1 (`meta`); ISO/IEC 23008-12 (the brands, the
+//! properties and their list). The brands of AVIF are those of the AV1 Image File Format.
+ghost use Rattle.std.specs.Prelude.{◌≡◌, ◌+◌, ◌<◌, ◌≤◌, Some, IfOk};
+ghost use Rattle.imagesize_boxes.specs.Heif.{box_size, brand_compression, compatible_compression, extents_size, heif, heif_compression, heif_in_iprp, heif_in_meta, is_general, is_heif, is_named, properties, property_at, property_bytes, search_for, searched_box, skipped_bytes, turn_by};
+ghost use Rattle.imagesize_boxes.specs.Walks.{Amounts, property_said, earlier_largest, gathered_with, gathered_answer, IsLeftFor};
+ghost use Rattle.imagesize_source.specs.Chain.{chain_at};
+ghost use Rattle.imagesize_source.specs.Paying.{Nears};
+ghost use Rattle.imagesize_source.specs.Reading.{bytes_read, map_answer};
+ghost use Rattle.imagesize_source.specs.State.{Follows, Runs, IsSound};
+
+use imagesize_source::readings::{
+    read_bytes, read_bytes_behind, read_if_there, read_u32, read_whole_behind,
+};
+use imagesize_source::source::Source;
+use imagesize_source::walk::{Found, Records, walk};
+use imagesize_source::{Endian, Halt};
+use imagesize_types::compression::Compression;
+use imagesize_types::size::{ImageSize, area};
+
+/// Whether the input begins with a file type box (`ftyp`).
+#[inline(always)]
+#[tactic(auto, unfolding(crate::specs::Heif::is_heif))]
+pub fn matches(head: &[u8; 12]) -> bool
+    ensures { result ≡ is_heif head.now }
+{
+    matches!(head, [_, _, _, _, b'f', b't', b'y', b'p', ..])
+}
+
+/// How the pixels are compressed, by the major brand. If that is a general one, the compatible brands decide.
+#[tactic(auto, using(imagesize_source::proofs::Runs::steps), unfolding(crate::specs::Heif::heif_compression))]
+pub fn detect_compression<S: Source>(
+    source: &mut S,
+    place: u64,
+    head: &[u8; 12],
+) -> Result<Compression, Halt>
+    requires { IsSound (S.state source.old) }
+    ensures { Follows (S.state source.old) (S.state source.new) result (heif_compression place head.now) }
+{
+    let brand = &head[8..];
+    if !is_general(brand) {
+        return Ok(brand_compression(brand));
+    }
+    // The version and the first two compatible brands.
+    let mut brands = [0u8; 12];
+    if !read_whole_behind(source, place, 12, &mut brands)? {
+        return Ok(Compression::Unknown);
+    }
+    Ok(compatible_compression(&brands))
+}
+
+fn compatible_compression(brands: &[u8; 12]) -> Compression
+    ensures { result ≡ compatible_compression (Some brands.now) }
+{
+    if is_general(&brands[4..8]) {
+        return brand_compression(&brands[8..]);
+    }
+    brand_compression(&brands[4..8])
+}
+
+#[inline(always)]
+#[tactic(auto, unfolding(crate::specs::Heif::is_general))]
+fn is_general(brand: &[u8]) -> bool
+    ensures { result ≡ is_general brand.now }
+{
+    matches!(brand, b"mif1" | b"msf1" | b"mif2" | b"miaf")
+}
+
+#[tactic(auto, unfolding(crate::specs::Heif::brand_compression))]
+fn brand_compression(brand: &[u8]) -> Compression
+    ensures { result ≡ brand_compression brand.now }
+{
+    match brand {
+        b"heic" | b"heix" | b"heis" | b"hevs" | b"heim" | b"hevm" | b"hevc" | b"hevx" => {
+            Compression::Hevc
+        }
+        b"avif" | b"avio" | b"avis" | b"MA1A" | b"MA1B" => Compression::Av1,
+        b"jpeg" | b"jpgs" => Compression::Jpeg,
+        _ => Compression::Unknown,
+    }
+}
+
+/// The width and the height in pixels, of the image with the greatest area among the properties, or the first of several. The two
+/// are exchanged if the last rotation is a quarter turn or three quarters.
+#[tactic(auto, using(imagesize_source::proofs::Runs::steps))]
+pub fn size<S: Source>(source: &mut S) -> Result<ImageSize, Halt>
+    ensures { Runs (S.state source.old) (S.state source.new) result
+        (heif (S.state source.old).held.input) }
+{
+    let first = read_u32(source, 0, Endian::Big)? as u64;
+    let meta = search_from(source, first, b"meta")?;
+    size_in_meta(source, meta)
+}
+
+// The size from the `meta` box, which begins with its version and flags.
+#[inline(always)]
+#[tactic(auto, using(imagesize_source::proofs::Runs::steps))]
+fn size_in_meta<S: Source>(source: &mut S, meta: FoundBox) -> Result<ImageSize, Halt>
+    ensures { Runs (S.state source.old) (S.state source.new) result
+        (heif_in_meta meta (S.state source.old).held.input) }
+{
+    read_content::<S, 4>(source, meta.place)?;
+    let iprp = search(source, meta.place, 12, b"iprp")?;
+    size_in_iprp(source, iprp)
+}
+
+// The size from the `iprp` box, which holds the item properties.
+#[inline(always)]
+#[tactic(auto, using(imagesize_source::proofs::Runs::steps))]
+fn size_in_iprp<S: Source>(source: &mut S, iprp: FoundBox) -> Result<ImageSize, Halt>
+    ensures { Runs (S.state source.old) (S.state source.new) result
+        (heif_in_iprp iprp (S.state source.old).held.input) }
+{
+    let ipco = search(source, iprp.place, 8, b"ipco")?;
+    largest(source, ipco)
+}
+
+// A box that a search found.
+#[derive(Clone, Copy)]
+struct FoundBox {
+    place: u64,
+    size: u32,
+}
+
+// Finds the first box with a name, from `place + distance` on. An offset above 2^64 - 1 is past the end of every input.
+#[inline(always)]
+#[tactic(auto, using(crate::proofs::Heif::search_saturated))]
+fn search<S: Source>(
+    source: &mut S,
+    place: u64,
+    distance: u64,
+    name: &[u8; 4],
+) -> Result<FoundBox, Halt>
+    ensures { Runs (S.state source.old) (S.state source.new) result
+        (chain_at (search_for name.now (place + distance)) (S.state source.old).held.input) }
+{
+    search_from(source, place.saturating_add(distance), name)
+}
+
+// Finds the first box with a name, from an offset on.
+#[tactic(auto, using(crate::proofs::Heif::search_advances))]
+fn search_from<S: Source>(source: &mut S, from: u64, name: &[u8; 4]) -> Result<FoundBox, Halt>
+    ensures { Runs (S.state source.old) (S.state source.new) result
+        (chain_at (search_for name.now from) (S.state source.old).held.input) }
+{
+    walk(Boxes { name: *name }, source, from)
+}
+
+// The boxes of a search, and the name that it looks for.
+#[derive(Clone, Copy)]
+struct Boxes {
+    name: [u8; 4],
+}
+
+impl Records for Boxes {
+    type Held = ();
+
+    type Answer = FoundBox;
+
+    ghost said = { λ boxes passed place. searched_box boxes.name place };
+
+    ghost keeps = { λ _ passed place. Unit {0} };
+
+    // Reads the box at an offset.
+    #[inline(always)]
+    #[tactic(auto, using(imagesize_source::proofs::Runs::steps))]
+    fn read_record<S: Source>(
+        &mut self,
+        source: &mut S,
+        place: u64,
+    ) -> Result<Found<(), FoundBox>, Halt> {
+        let head = read_bytes::<S, 8>(source, place)?;
+        let size = box_size(&head);
+        if is_named(&head, &self.name) {
+            return Ok(Found::Answer(FoundBox { place, size }));
+        }
+        if size < 8 {
+            return Err(Halt::InvalidHeifBoxSize { size: size as u8 });
+        }
+        Ok(Found::Other {
+            held: (),
+            length: size as u64,
+        })
+    }
+
+    // The input ends before a box of this name.
+    #[inline(always)]
+    #[tactic(auto, using(crate::proofs::Heif::search_ends))]
+    fn at_end(&self) -> Result<FoundBox, Halt> {
+        Err(Halt::Ended)
+    }
+}
+
+// The size of a box in bytes, from its first four bytes.
+#[inline(always)]
+#[tactic(auto, using(crate::proofs::Heif::big_four), unfolding(crate::specs::Heif::box_size))]
+fn box_size(head: &[u8; 8]) -> u32
+    ensures { result ≡ box_size head.now }
+{
+    u32::from_be_bytes([head[0], head[1], head[2], head[3]])
+}
+
+// Whether the box has this name.
+#[inline(always)]
+#[tactic(auto, unfolding(crate::specs::Heif::is_named))]
+fn is_named(head: &[u8; 8], name: &[u8; 4]) -> bool
+    ensures { result ≡ is_named name.now head.now }
+{
+    head[4] == name[0] && head[5] == name[1] && head[6] == name[2] && head[7] == name[3]
+}
+
+// The first `N` bytes of a box's content, after its size and its name.
+#[inline(always)]
+fn read_content<S: Source, const N: usize>(source: &mut S, place: u64) -> Result<[u8; N], Halt>
+    requires { 0 < N }
+    ensures { Runs (S.state source.old) (S.state source.new) result
+        (bytes_read (S.state source.old).held.input (place + 8) N) }
+{
+    read_bytes_behind::<S, N>(source, place, 8)
+}
+
+// What a property says.
+#[derive(Clone, Copy)]
+enum Property {
+    // The size of an image in pixels.
+    Extents(ImageSize),
+    // A rotation, in quarter turns.
+    Rotation(u8),
+    // Another box, of this size in bytes.
+    Skipped(u32),
+}
+
+// What the properties so far add up to.
+#[derive(Clone, Copy)]
+struct Gathered {
+    // The size of the list's box in bytes, less the sizes of the skipped boxes.
+    left: u32,
+    // The greatest image size so far.
+    best: Option<ImageSize>,
+    // The last rotation, in quarter turns.
+    turn: Option<u8>,
+}
+
+// The size from the properties in this box.
+#[inline(always)]
+#[tactic(auto, using(crate::proofs::Heif::list_saturated))]
+fn largest<S: Source>(source: &mut S, ipco: FoundBox) -> Result<ImageSize, Halt>
+    ensures { Runs (S.state source.old) (S.state source.new) result
+        (chain_at (properties ipco.size (ipco.place + 8)) (S.state source.old).held.input) }
+{
+    largest_from(source, ipco.place.saturating_add(8), ipco.size)
+}
+
+// The size from the properties that begin at an offset, in a box of `all` bytes.
+fn largest_from<S: Source>(source: &mut S, from: u64, all: u32) -> Result<ImageSize, Halt>
+    ensures { Runs (S.state source.old) (S.state source.new) result
+        (chain_at (properties all from) (S.state source.old).held.input) }
+{
+    let gathered = Gathered {
+        left: all,
+        best: None,
+        turn: None,
+    };
+    walk(Properties { all, gathered }, source, from)
+}
+
+// The properties in a box of `all` bytes, and what those so far amount to.
+#[derive(Clone, Copy)]
+struct Properties {
+    all: u32,
+    gathered: Gathered,
+}
+
+impl Records for Properties {
+    type Held = Property;
+
+    type Answer = ImageSize;
+
+    ghost said = { λ list held place. (properties list.all 0).said held place };
+
+    ghost keeps = { λ list held place. Amounts list.all list.gathered held };
+
+    // Reads the property at an offset.
+    #[inline(always)]
+    fn read_record<S: Source>(
+        &mut self,
+        source: &mut S,
+        place: u64,
+    ) -> Result<Found<Property, ImageSize>, Halt> {
+        let Some(property) = read_property(source, place, self.gathered.left)? else {
+            return Ok(Found::Answer(answer(self.gathered)?));
+        };
+        self.gathered = gather(self.gathered, property);
+        Ok(Found::Other {
+            held: property,
+            length: property_bytes(property),
+        })
+    }
+
+    // The size from the properties so far.
+    #[inline(always)]
+    fn at_end(&self) -> Result<ImageSize, Halt> {
+        answer(self.gathered)
+    }
+}
+
+// Reads the property at an offset, or returns `None` at the end of the list. A box is skipped only if it is smaller than `left`
+// bytes.
+#[inline(always)]
+#[tactic(auto, using(imagesize_source::proofs::Runs::steps, imagesize_source::proofs::Runs::missed_before))]
+fn read_property<S: Source>(source: &mut S, place: u64, left: u32) -> Result<Option<Property>, Halt>
+    ensures nears { IfOk result (λ found. Nears (S.state source.old) (S.state source.new) place (property_said place found)) }
+    ensures fits { IfOk result (λ found. IsLeftFor left found) }
+    ensures runs { Follows (S.state source.old) (S.state source.new) result (property_at left place) }
+{
+    let Some(head) = read_if_there::<S, 8>(source, place)? else {
+        return Ok(None);
+    };
+    let size = box_size(&head);
+    if size < 8 {
+        return if is_named(&head, b"mdat") {
+            Ok(None)
+        } else {
+            Err(Halt::Corrupted)
+        };
+    }
+    if is_named(&head, b"ispe") {
+        let content = read_content::<S, 12>(source, place)?;
+        return Ok(Some(Property::Extents(extents_size(&content))));
+    }
+    if is_named(&head, b"irot") {
+        let [quarters] = read_content::<S, 1>(source, place)?;
+        return Ok(Some(Property::Rotation(quarters)));
+    }
+    if left <= size {
+        return Ok(None);
+    }
+    Ok(Some(Property::Skipped(size)))
+}
+
+// How many bytes after a property the next one begins.
+#[inline(always)]
+fn property_bytes(property: Property) -> u64
+    ensures { result ≡ property_bytes property }
+{
+    match property {
+        Property::Extents(_) => 20,
+        Property::Rotation(_) => 9,
+        Property::Skipped(size) => size as u64,
+    }
+}
+
+// Adds one more property.
+#[inline(always)]
+fn gather(gathered: Gathered, property: Property) -> Gathered
+    requires { skipped_bytes property ≤ gathered.left }
+    ensures { result ≡ gathered_with gathered property }
+{
+    match property {
+        Property::Extents(size) => Gathered {
+            best: Some(larger(gathered.best, size)),
+            ..gathered
+        },
+        Property::Rotation(quarters) => Gathered {
+            turn: Some(quarters),
+            ..gathered
+        },
+        Property::Skipped(size) => Gathered {
+            left: gathered.left - size,
+            ..gathered
+        },
+    }
+}
+
+// The width and the height in pixels, from the content of an `ispe` box.
+#[inline(always)]
+#[tactic(auto, using(crate::proofs::Heif::big_four), unfolding(crate::specs::Heif::extents_size))]
+fn extents_size(content: &[u8; 12]) -> ImageSize
+    ensures { result ≡ extents_size content.now }
+{
+    ImageSize {
+        width: u32::from_be_bytes([content[4], content[5], content[6], content[7]]) as usize,
+        height: u32::from_be_bytes([content[8], content[9], content[10], content[11]]) as usize,
+    }
+}
+
+// The size of greater area, or the first of two equal ones. A size without pixels is never greater.
+#[inline(always)]
+fn larger(best: Option<ImageSize>, size: ImageSize) -> ImageSize
+    ensures { result ≡ earlier_largest best size }
+{
+    let best = best.unwrap_or(ImageSize {
+        width: 0,
+        height: 0,
+    });
+    if area(&size) > area(&best) {
+        size
+    } else {
+        best
+    }
+}
+
+// The result at the end of the list.
+#[inline(always)]
+fn answer(gathered: Gathered) -> Result<ImageSize, Halt>
+    ensures { result ≡ gathered_answer gathered }
+{
+    match gathered.best {
+        Some(size) => Ok(turn_by(size, gathered.turn)),
+        None => Err(Halt::NotEnoughData),
+    }
+}
+
+// Exchanges the width and the height for a quarter turn or three quarters.
+#[inline(always)]
+fn turn_by(size: ImageSize, turn: Option<u8>) -> ImageSize
+    ensures { result ≡ turn_by turn size }
+{
+    match turn {
+        Some(1 | 3) => ImageSize {
+            width: size.height,
+            height: size.width,
+        },
+        _ => size,
+    }
+}

@@ -1,0 +1,25 @@
+use Rattle.std.proofs.Common.{◌≡◌, ℕ, ◌+◌, Option, Some, take, subst, refl, sym, ap, ◌∙◌, arith}
+use Rattle.imagesize_source.specs.Input.{part}
+use Rattle.imagesize_io.proofs.Fronts.{given_again}
+use Rattle.imagesize_io.proofs.sized.SizedReaderTold.read_told.Goals as goal
+
+pub returns-then-count-gt0-clause-again : goal.returns-then-count-gt0-clause-again
+returns-then-count-gt0-clause-again g c = λ place is below some.
+    let copy = c.copy_kept-count in
+    let at : ◌≡◌ {A = Option ℕ} (Some c.in-Some.place) (Some place) = sym c.in-Some.is ∙ is in
+    let same : c.in-Some.place ≡ place = cc in
+    let front = c.args.self.now.front.items in
+    let again = given_again front c.args.room.now copy.new.room c.in-Some.place copy.result copy.ensures.count
+    copy.ensures.copied in
+    let on : c.saturating_add.result ≡ place + copy.result =
+    omega (arith, same, c.saturating_add.ensures, copy.ensures.count, copy.ensures.small, below) in (
+      (
+        copy.result,
+        refl,
+        omega (arith, c.if-count-gt0.true),
+        subst (λ (p : ℕ). take copy.result copy.new.room ≡ part front p copy.result) same again,
+        ap Some on,
+      ),
+      refl,
+      refl,
+    )
