@@ -4,7 +4,7 @@
     python3 bindings/lists.py --check        changes nothing; the status is 1 if a list differs from the header
     python3 bindings/lists.py --self-test    plants a mistake in each list, and fails if one is not found
 
-A list is the lines between the comments "by bindings/lists.py: NAME" and "end of the list". All other lines are written by hand.
+The comment of a type ends with its MIME type, if it has one, and its extension. A list is the lines between the comments "by bindings/lists.py: NAME" and "end of the list". All other lines are written by hand.
 """
 
 import pathlib
@@ -26,6 +26,8 @@ COMPRESSED = {
     "PVRTC": "PvrtcCompression",
 }
 HAS_COMPRESSION = "; it has a compression"
+# The end of the comment of a type: its MIME type, if it has one, and its extension.
+MEDIA = re.compile(r"; (?:(image/\S+), )?(\.\w+)$")
 
 # The messages of Python for errors that every format can have. For all others the header's comment is the message.
 MESSAGES = {
@@ -66,6 +68,15 @@ def python_messages():
             for name, (_, comment) in constants("status").items() if name not in NO_ERRORS]
 
 
+def python_media():
+    """The MIME type and the extension of each type."""
+    lines = []
+    for name, (_, comment) in constants("type_number").items():
+        mime, extension = MEDIA.search(comment).groups()
+        lines.append(f"    Kind.{name}: ({'None' if mime is None else chr(34) + mime + chr(34)}, \"{extension}\"),")
+    return lines
+
+
 def names(enum):
     """The library's own names of the types."""
     return [name.capitalize() for name in constants(enum)]
@@ -104,7 +115,7 @@ RUST_PNG = ["        /// Portable network graphics, with the feature `png`.", ' 
 
 def rust_types():
     """The types, each with its number and what it is."""
-    found, lines = constants("type_number"), []
+    found, lines = {name: (number, MEDIA.sub("", comment)) for name, (number, comment) in constants("type_number").items()}, []
     assert {name for name, (_, comment) in found.items() if comment.endswith(HAS_COMPRESSION)} == set(COMPRESSED)
     for name, (number, comment) in found.items():
         compression = f"({COMPRESSED[name]})" if name in COMPRESSED else ""
@@ -118,6 +129,7 @@ LISTS = [
     ("bindings/python/imagesize_proved/_types.py", "statuses", lambda: python_enum("status")),
     ("bindings/python/imagesize_proved/_types.py", "messages", python_messages),
     ("bindings/python/imagesize_proved/_types.py", "types", lambda: python_enum("type_number")),
+    ("bindings/python/imagesize_proved/_types.py", "media", python_media),
     ("bindings/python/imagesize_proved/_types.py", "compressions", lambda: python_enum("compression_number")),
     ("bindings/python/imagesize_proved/_types.py", "families", lambda: python_enum("family_number", {"NO_FAMILY"})),
     ("bindings/js/imagesize.d.ts", "types", lambda: union(names("type_number"))),

@@ -2,10 +2,10 @@
 
     python3 docs/check.py                prints a line for each mistake; the status is 1 if there is one
     python3 docs/check.py --count        prints the words, the long sentences and the project's old words of each page
-    python3 docs/check.py --write        writes the contracts in CALLING.md anew from the sources
+    python3 docs/check.py --write        writes the contracts in CALLING.md and the list of formats in README.md anew
     python3 docs/check.py --self-test    plants a mistake for each check, and fails if one is not found
 
-It checks links, names of files, commands, mutations, definitions and clauses, the contracts in CALLING.md, numbers, worked
+It checks links, names of files, commands, mutations, definitions, clauses and their owners, the contracts in CALLING.md, numbers, worked
 diffs, and the length of sentences. A page of REWRITTEN has none of the words in OLD, and neither have the lines `///` and `//!`
 in `crates/*/src`. Their sentences are as short as those of the pages.
 """
@@ -20,7 +20,7 @@ TOP = pathlib.Path(__file__).resolve().parent.parent
 LINK = re.compile(r"\[[^\]]*\]\(([^)#\s]+)(?:#[^)]*)?\)")
 CODE = re.compile(r"`([^`\n]+)`")
 FENCE = re.compile(r"^( *)```.*?^ *```$", re.M | re.S)
-# What a build makes, and what stands for a name.
+# What a build makes, and placeholders for names.
 MADE = re.compile(r"(^|/)out/|NAME|PATH|FUNCTION|MODULE|\.\.|\*|<|PREFIX|FOLDER|FILE")
 TENS = "twenty thirty forty fifty sixty seventy eighty ninety".split()
 ONES = ("zero one two three four five six seven eight nine ten eleven twelve thirteen fourteen fifteen sixteen seventeen eighteen "
@@ -40,7 +40,7 @@ REWRITTEN = {"README.md", "CALLING.md", "CONTRIBUTING.md", "SECURITY.md", "inclu
 # The docstrings that are still to be rewritten: each file whose path begins like this.
 UNREWRITTEN = ("crates/imagesize_boxes/", "crates/imagesize_source/src/source/parts.rt", "crates/imagesize_source/src/walk.rt",
                "crates/imagesize_walked/src/formats/ico.rt", "crates/imagesize_walked/src/formats/tiff.rt")
-# Commands of the kit, by `rt`; those of a shell that a page may name are not looked at.
+# Commands of the kit, by `rt`; commands of a shell are not checked.
 RT = set("ci must-fail selftest doc version new check verdict lib run test try fmt tidy plant all expand lemma seed names".split())
 
 
@@ -53,7 +53,7 @@ def source(suffixes):
 
 @functools.lru_cache(None)
 def count(pattern, *suffixes):
-    """How often a pattern stands in the sources with these suffixes."""
+    """How often a pattern occurs in the sources with these suffixes."""
     return sum(len(re.findall(pattern, text, re.M)) for text in source(suffixes).values())
 
 
@@ -220,6 +220,35 @@ def defined(page, text):
                 yield f"no definition {name} in a specification"
 
 
+def declared(page, text):
+    """Names in tables of contracts that no code and no specification declares: one word of small letters, or a definition with its
+    arguments."""
+    heads = re.compile(r"Contract|Definition")
+    column = None
+    for line in text.splitlines():
+        cells = line.split("|")
+        if not line.startswith("|"):
+            column = None
+        elif column is None:
+            column = next((n for n, cell in enumerate(cells) if heads.fullmatch(cell.strip())), 0)
+        elif column:
+            for code in CODE.findall(cells[column]):
+                name = code.split()[0]
+                if re.fullmatch(r"[a-z]+|[A-Za-z]\w+ [^()]*", code) and name not in declarations() | RT | {"rt"}:
+                    yield f"nothing declares {name}"
+
+
+@functools.lru_cache(None)
+def declarations():
+    """The names of functions, clauses, types and definitions, and of the fields of records."""
+    code = "\n".join(source((".rt",)).values())
+    specs = "\n".join(source((".antt",)).values())
+    found = {path.name for path in TOP.glob("crates/*")}
+    found.update(re.findall(r"\b(?:fn|ensures|struct|enum|trait|mod|const|ghost) (\w+)", code))
+    found.update(re.findall(r"^ *(?:(?:abbrev|unfoldable|pub|record|data) )*(\w+)\b[^\n]*?(?: :|:$)", specs, re.M))
+    return found
+
+
 LABEL = r"`[a-z]\w*`"
 OF = re.compile(rf"({LABEL}(?:(?:,| and|, and) {LABEL})*) of (`\w+(?:::\w+)?`)")
 
@@ -265,6 +294,25 @@ def quoted():
             lines.append(signature.replace("pub fn ", "fn ").replace(f"fn {name}", f"fn {call}"))
             lines += [f"  ensures {label + ' ' if label else ''}{{ {text} }}" for label, text in found]
     return "\n".join(lines)
+
+
+# The formats whose usual name is not the name of their constant.
+CALLED = {"ASEPRITE": "Aseprite", "EXR": "OpenEXR", "FARBFELD": "Farbfeld", "HEIF": "HEIF (HEIC, AVIF)", "JXL": "JPEG XL", "KTX2": "KTX 2",
+          "PVRTC": "PVR", "TIFF": "TIFF (BigTIFF)", "WEBP": "WebP"}
+LISTED = re.compile(r"^\*\*\d+ formats:\*\* [^.]*\.", re.M)
+
+
+def list_of_formats():
+    """The formats as README lists them, from the header's constants."""
+    body = re.search(r"enum imagesize_type_number \{(.*?)\n\};", (TOP / "include/imagesize.h").read_text(), re.S)[1]
+    found = [CALLED.get(name, name) for name in re.findall(r"^    IMAGESIZE_(\w+)", body, re.M)]
+    return f"**{len(found)} formats:** {', '.join(sorted(found, key=str.casefold))}."
+
+
+def formats(page, text):
+    """The list of formats in README, where the header has others."""
+    if page == TOP / "README.md" and list_of_formats() not in text:
+        yield "the list of formats is not the header's"
 
 
 BLOCK = re.compile(r"(<!-- by docs/check.py --write -->\n```text\n)(.*?\n?)(```)", re.S)
@@ -327,7 +375,7 @@ def prose(page, text):
         comments = re.findall(r"/\*(.*?)\*/", text, re.S)
         comments = [re.sub(r"^ *\* ?", "", comment, flags=re.M) for comment in comments]
         return "\n\n".join(re.sub(r"^ {4,}.*$", "", comment, flags=re.M) for comment in comments)
-    text = re.sub(r"<!--.*?-->", "", text, flags=re.S)
+    text = re.sub(r"<!--.*?-->", "", LISTED.sub("", text), flags=re.S)
     return re.sub(r"^ {4,}[^ -].*$", "", FENCE.sub("", text), flags=re.M)
 
 
@@ -367,7 +415,7 @@ def words(page, text):
             yield f"the project's own word: {word}"
 
 
-CHECKS = (links, files, commands, mutations, definitions, defined, clauses, calling, numbers, length, diffs, long_sentences, words)
+CHECKS = (links, files, commands, mutations, definitions, defined, declared, clauses, calling, formats, numbers, length, diffs, long_sentences, words)
 # Mistakes for each check: the page that one is planted on, and the text.
 PLANTED = [
     (links, "README.md", "[a page](docs/NOT_THERE.md)"),
@@ -376,8 +424,10 @@ PLANTED = [
     (mutations, "docs/PROMISES.md", "| a | Mutations |\n|---|---|\n| b | `no_such_mutation` |"),
     (definitions, "docs/PROVED.md", "`CountsNothingAtAll`"),
     (defined, "docs/PROMISES.md", "| Name | What |\n|---|---|\n| `no_such_name` | nothing |\n"),
+    (declared, "docs/PROVED.md", "| Contract | What |\n|---|---|\n| `nothing`, `Covers spans` | nothing |\n"),
     (clauses, "docs/PROVED.md", "`value` and `stopped` of `blob_size`"),
     (calling, "CALLING.md", None),
+    (formats, "README.md", None),
     (numbers, "README.md", "26 formats"),
     (length, "README.md", "\n" * 81),
     (diffs, "CONTRIBUTING.md", "```diff\n+++ docs/check.py\n+no such line\n```"),
@@ -394,7 +444,7 @@ def self_test():
     for check, name, planted in PLANTED:
         page = TOP / name
         text = page.read_text()
-        bad = text + "\n\n" + planted if planted else text.replace("length header.now < 12", "length header.now < 13")
+        bad = text + "\n\n" + planted if planted else text.replace("length header.now < 12", "length header.now < 13").replace("QOI, ", "")
         if len(list(check(page, bad))) <= len(list(check(page, text))):
             missed.append(check.__name__)
     print(f"self-test: {len(PLANTED)} mistakes planted, {len(missed)} missed {' '.join(missed)}".rstrip())
@@ -412,9 +462,11 @@ def show_counts():
 
 
 def write():
-    """Writes the contracts in CALLING.md."""
+    """Writes the contracts in CALLING.md, and the list of formats in README.md."""
     page = TOP / "CALLING.md"
     page.write_text(BLOCK.sub(lambda match: match[1] + quoted() + "\n" + match[3], page.read_text()))
+    page = TOP / "README.md"
+    page.write_text(LISTED.sub(lambda _: list_of_formats(), page.read_text()))
 
 
 def main():

@@ -1,11 +1,11 @@
 /*
- * Prints the type and the size of each image file that is named, as image does, and reads no more of a file than the blocks
- * that its result depends on.
+ * Prints the type and the size of each image file that is named, as image does. It reads only the blocks of a file that the
+ * result depends on.
  *
  *     blocks [--stdio] FILE..
  *
- * A line for each file, as "Gif 100x100", "Jpeg: failed to fill whole buffer" or "Could not decode image". With --stdio the
- * files are read as a FILE. The status is 0 where each file was read.
+ * A line for each file, such as "Gif 100x100", "Jpeg: failed to fill whole buffer" or "Could not decode image". With --stdio the
+ * files are read as a FILE. The status is 0 if each file was read.
  */
 #define _POSIX_C_SOURCE 200809L
 #include "imagesize_file.h"

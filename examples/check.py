@@ -3,7 +3,7 @@
     python3 check.py FOLDER
 
 FOLDER has the programs `image` and `blocks`, the shared library, and the test vectors that expand.py writes, as `run` builds
-them. To these come the inputs of surprises.tsv, of which the READMEs say what they may not seem to be.
+them. It adds the inputs of surprises.tsv, which the READMEs list as "What you may not expect".
 """
 
 import os

@@ -1,12 +1,12 @@
-"""Checks the constants of the header, and those of a binding, against the library's own names, texts and numbers.
+"""Compares the constants of the header and of the bindings with the library's own names, texts and numbers.
 
     python3 check_constants.py HEADER LIBRARY [MODULE or DECLARATION.d.ts]..
 
 HEADER is imagesize.h and LIBRARY the shared library. Each number of the header must have the text, the name or the family that
-its constant says, each must be there once, and the library must know no other. The lists
-`Status`, `Kind`, `Compression` and `Family` of a Python module or package, where it has them, must have the names of the header
-without their prefix, with its numbers. Of a TypeScript declaration the types `Kind` and `Compression` must have the library's own
-names. The tests of the Rust package compare its types with the library themselves. A binding may also have PNG, which has calls of its own.
+its constant says. Each must be there once, and the library must know no other. If a Python module or package has the lists
+`Status`, `Kind`, `Compression` and `Family`, they must have the header's names without their prefix, and its numbers. In a
+TypeScript declaration the types `Kind` and `Compression` must have the library's own names. The Rust package compares its types
+with the library in its own tests. A binding may also have PNG, which has calls of its own.
 """
 
 import ctypes
@@ -124,7 +124,7 @@ def compression_constant(kind, name):
 
 
 def check_compressions(library, kind, number, compressions):
-    """The compressions of a type have the numbers by which the library names them. Answers their constants."""
+    """The compressions of a type have the numbers by which the library names them. Returns their constants."""
     found = {code: library.text("imagesize_compression_name", number, code) for code in range(256)}
     named = {compression_constant(kind, name): code for code, name in found.items() if name is not None}
     for constant, code in named.items():
@@ -146,7 +146,7 @@ def check_types(library, types, compressions):
 
 
 def check_families(library, lists):
-    """Each family is that of a compression in it."""
+    """Each family is the library's family of a compression in it."""
     found = {
         family: library.family(lists["type"][kind], lists["compression"][compression])
         for family, (kind, compression) in FAMILIES.items()
@@ -171,7 +171,7 @@ def check_png(path, number, types):
 
 
 def check_module(path, lists):
-    """Each list that a module has is the header's; a family that is none may be left out. Answers how many names they have."""
+    """Each list that a module has is the header's; the family that stands for none may be left out. Returns how many names they have."""
     found, count = lists_of(path), 0
     for name, title in [("Status", "status"), ("Kind", "type"), ("Compression", "compression"), ("Family", "family")]:
         members, wanted = found.get(name), dict(lists[title])
@@ -196,7 +196,7 @@ def names_of(library, types):
 
 
 def check_declaration(path, library, lists):
-    """The types of a TypeScript declaration have the library's own names. Answers how many they have."""
+    """The types of a TypeScript declaration have the library's own names. Returns how many."""
     text, count = pathlib.Path(path).read_text(), 0
     for title, wanted in names_of(library, lists["type"]).items():
         (body,) = re.findall(rf"^export type {title} =(.*?);$", text, re.DOTALL | re.MULTILINE)
@@ -207,7 +207,7 @@ def check_declaration(path, library, lists):
 
 
 def check_binding(path, library, lists):
-    """A binding's names are the library's. Answers how many they are."""
+    """A binding's names are the library's. Returns how many."""
     return check_declaration(path, library, lists) if path.endswith(".d.ts") else check_module(path, lists)
 
 

@@ -1,9 +1,9 @@
-"""Compares the declarations of the header with the functions that the library exports, and those of a binding with the header.
+"""Compares the header's declarations with the functions that the library exports, and a binding's declarations with the header.
 
     python3 check_declarations.py HEADER SOURCES [FILE.rs]..
 
-HEADER is imagesize.h, and SOURCES the folder of the library's source. Each exported function must be declared once, with its
-parameters in their order, by the names and the types that a caller in C sees, and nothing else may be declared. The blocks
+HEADER is imagesize.h, and SOURCES the folder of the library's source. Each exported function must be declared once, and
+nothing else may be. Its parameters must be in their order, with the names and the types that a caller in C sees. The blocks
 `extern "C"` of a Rust file may declare fewer functions, each as the header does. The two numbers of a span are compared too.
 """
 

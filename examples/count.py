@@ -2,11 +2,11 @@
 
     python3 count.py FOLDER
 
-FOLDER has the program `repeat`, as `run` compiles it. A line for each file of counted.tsv: the crate's instructions, and those of
-each call that `repeat` knows. The instructions of a call that does nothing are left out. The status is 1 where a call is above
-its bound: imagesize_size takes no more than the crate and 10 for the call, and the others a multiple of imagesize_probe, which a
-body that finds an answer twice goes past, or reads a text byte by byte. 63 parts more cost 400 instructions: they are counted
-once, and a reading looks at the first part before it looks at them.
+FOLDER has the program `repeat`, as `run` compiles it. The script prints a line for each file of counted.tsv: the crate's
+instructions, and the instructions of each call that `repeat` knows. The instructions of a call that does nothing are left out.
+The status is 1 if a call is above its bound. imagesize_size may take as many as the crate, and 10 more for the call. The other
+calls may take a multiple of imagesize_probe: code that finds a result twice, or reads a text byte by byte, takes more. 63 more
+parts may cost 400 instructions: they are counted once, and a reading looks at the first part before it looks at them.
 """
 
 import concurrent.futures
@@ -54,7 +54,7 @@ def of_a_call(program, call, file):
 
 
 def count(program, nothing, name, data):
-    """The instructions of each call on a file, without those of a call that does nothing."""
+    """The instructions of each call on a file, less the instructions of a call that does nothing."""
     with tempfile.TemporaryDirectory() as folder:
         file = pathlib.Path(folder) / name
         file.write_bytes(data)

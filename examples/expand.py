@@ -21,7 +21,7 @@ PLAIN = (
 
 
 def bytes_of(cell):
-    """The bytes that a cell writes as groups, some of which are repeated."""
+    """The bytes of a cell, which writes them as groups. A group may be repeated."""
     found = bytearray()
     for group in cell.replace("-", "").split():
         digits, _, times = group.partition("*")

@@ -3,7 +3,7 @@
  *
  *     files
  *
- * The status is 0 where all is as it should be.
+ * The status is 0 if each call does what it should.
  */
 #define _POSIX_C_SOURCE 200809L
 #include "imagesize_file.h"
@@ -55,7 +55,7 @@ static size_t tiff(uint8_t *bytes, uint32_t offset)
     return offset + sizeof directory - 1;
 }
 
-/* An input in memory that counts what is read of it, and may fail at one of its readings. */
+/* An input in memory. It counts the bytes that are read, and may fail at one of its reads. */
 struct input {
     const uint8_t *bytes;
     size_t length, readings, given, failing;

@@ -4,7 +4,7 @@
  *     image [--spans] FILE..
  *
  * It prints a line for each file, such as "Gif 100x100", "Jpeg: failed to fill whole buffer" or "Could not decode image". With
- * --spans it prints below it the spans that this depends on, such as "  0+12" for twelve bytes from offset 0. The status is 0 if
+ * --spans the spans that the result depends on follow, such as "  0+12" for twelve bytes from offset 0. The status is 0 if
  * every file could be read.
  */
 #include "print.h"

@@ -3,7 +3,7 @@
     python3 image.py [--spans] FILE..
 
 It prints the same lines as image.c: "Gif 100x100", "Jpeg: failed to fill whole buffer" or "Could not decode image". With --spans
-it prints below it the spans that this depends on, such as "  0+12" for twelve bytes from offset 0.
+the spans that the result depends on follow, such as "  0+12" for twelve bytes from offset 0.
 """
 
 from __future__ import annotations

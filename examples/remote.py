@@ -24,11 +24,11 @@ import imagesize_proved  # noqa: E402
 BLOCK = 4096
 BUDGET = 1 << 20
 SECONDS = 10
-"""How long a server may say nothing, and how long a range may take."""
+"""The most seconds that a server may send nothing, and that a range may take."""
 
 
 class RemoteError(Exception):
-    """A server does not give the ranges that it is asked for."""
+    """A server does not send the ranges that were requested."""
 
 
 class Remote:
@@ -51,7 +51,7 @@ class Remote:
         return imagesize_proved.probe_with(fetch, self.total, budget=BUDGET)
 
     def fetch(self, start: int, length: int) -> bytes:
-        """Bytes of the file: as many as are asked for, or those up to its end."""
+        """Bytes of the file: as many as are requested, or fewer up to its end."""
         self.requests += 1
         range_wanted = {"Range": f"bytes={start}-{start + length - 1}", "Accept-Encoding": "identity"}
         request = urllib.request.Request(self.url, headers=range_wanted)
@@ -59,39 +59,39 @@ class Remote:
             raise RemoteError(f"{request.type} is not http")
         try:
             with urllib.request.urlopen(request, timeout=SECONDS) as response:
-                return self.taken(response, start, length)
+                return self.checked(response, start, length)
         except HTTPError as error:
             if error.code == 416 and error.headers["Content-Range"] == "bytes */0":
                 return b""
             raise
 
-    def taken(self, response: HTTPResponse, start: int, length: int) -> bytes:
-        """The bytes of a response, which must be those of the range, of the file that the first response was of."""
+    def checked(self, response: HTTPResponse, start: int, length: int) -> bytes:
+        """The bytes of a response. They must be the requested range, of the same file as in the first response."""
         if response.status != 206:
-            raise RemoteError(f"the server answers {response.status} in place of 206, and so gives no range")
+            raise RemoteError(f"the server sent status {response.status} instead of 206, so it sends no ranges")
         found = re.fullmatch(r"bytes (\d+)-(\d+)/(\d+)", response.headers["Content-Range"] or "")
         if found is None or response.headers["Content-Encoding"] not in (None, "identity"):
-            raise RemoteError("the server does not say which range it gives, or packs it")
+            raise RemoteError("the server does not say which range it sends, or compresses it")
         first, last, total = map(int, found.groups())
         version = str(total), response.headers["ETag"], response.headers["Last-Modified"]
         if self.version not in (None, version):
             raise RemoteError("the file was changed between two ranges")
         self.url, self.version, self.total = response.geturl(), version, total
         if (first, last) != (start, min(start + length, total) - 1):
-            raise RemoteError(f"the server gives bytes {first} to {last} in place of those that were asked for")
+            raise RemoteError(f"the server sent bytes {first} to {last} instead of the requested ones")
         return self.content(response, last + 1 - first)
 
     def content(self, response: HTTPResponse, length: int) -> bytes:
-        """The bytes of a response, which are as many."""
+        """The bytes of a response, exactly `length` of them."""
         data, end = b"", time.monotonic() + SECONDS
         while len(data) < length:
             more = response.read1(length - len(data))
             self.fetched += len(more)
             data += more
             if not more:
-                raise RemoteError(f"the server cut a range: {len(data)} of {length} bytes came")
+                raise RemoteError(f"the server cut a range: it sent {len(data)} of {length} bytes")
             if time.monotonic() > end:
-                raise RemoteError(f"the server takes more than {SECONDS} seconds for a range")
+                raise RemoteError(f"the server took more than {SECONDS} seconds for a range")
         return data
 
 

@@ -1,10 +1,10 @@
 /*
- * Calls the library so many times over the bytes of a file, for count.py.
+ * Calls the library TIMES times over the bytes of a file, for count.py.
  *
  *     repeat CALL TIMES FILE
  *
- * CALL is size, probe, spans, parts (with one part, which has all bytes), many (with 63 parts more, which lie behind the end and have
- * no bytes) or none.
+ * CALL is size, probe, spans, parts, many or none: `parts` passes one part, which has all bytes; `many` passes 63 parts more,
+ * which lie past the end and have no bytes.
  */
 #include "imagesize.h"
 

@@ -201,7 +201,7 @@ static void parts_lead_to_each(struct worker *worker, size_t length, const struc
     }
 }
 
-/* Parts that no input may have: each call returns, and a part that it wants lies within the input. */
+/* Parts that no input may have: each call returns, and a part that it requests lies within the input. */
 static void parts_of_any_kind(struct worker *worker, enum asked asked, size_t length)
 {
     imagesize_span parts[4], wanted = {0, 0};

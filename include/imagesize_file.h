@@ -57,7 +57,7 @@ struct imagesize_file_known {
     size_t length, count, bytes_room, spans_room;
 };
 
-/* A buffer with room for so many items; NULL if there is no memory, and then the old buffer stays. */
+/* A buffer that holds this many items. NULL if there is no memory; then the old buffer stays. */
 static inline void *imagesize_file_grown(void *buffer, size_t *room, size_t items, size_t item)
 {
     if (items <= *room) {
@@ -109,7 +109,7 @@ static inline uint32_t imagesize_file_fetch(struct imagesize_file_known *known, 
     return status;
 }
 
-/* Type and size of the image in an input of `total` bytes, fewer than 2^63, of which `read` gives some. */
+/* Type and size of the image in an input of `total` bytes, fewer than 2^63. `read` returns some of them. */
 static inline uint32_t imagesize_reader_probe(void *reader, imagesize_read *read, uint64_t total, imagesize_image *image)
 {
     struct imagesize_file_known known = {(uint8_t *)malloc(IMAGESIZE_FILE_BLOCK), (imagesize_span *)malloc(sizeof(imagesize_span)), 0,

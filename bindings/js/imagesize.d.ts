@@ -89,7 +89,7 @@ export function probe(bytes: ArrayBufferLike | ArrayBufferView): Image;
  * Every other input of this length that has the same bytes there has the same result. All bytes are copied once.
  *
  * @throws {RangeError} if the copy does not fit into the library's memory (4 GiB, or what the engine gives)
- * @throws {ImageError} `'TOO_MANY_SPANS'` if there are more than `limit`, by default 65,536
+ * @throws {ImageError} `'TOO_MANY_SPANS'` if there are more than `limit` spans, by default 65,536
  * @throws {TypeError} if the argument is not bytes
  */
 export function spans(bytes: ArrayBufferLike | ArrayBufferView, options?: { limit?: number }): Span[];

@@ -98,7 +98,7 @@ export class Library {
     return Array.from({ length: count }, (_, index) => this.#span(room + SPAN * index));
   }
 
-  // The spans of a PNG with these first bytes: what is wanted, one span after another.
+  // The spans of a PNG with these first bytes: each requested span in turn.
   #spansOfPng(front, total, most) {
     const known = { pieces: [], length: 0 };
     const spans = [];
@@ -210,7 +210,7 @@ function beginsPng([first]) {
 }
 
 function checkCount(count, most) {
-  if (count > most) throw new ImageError('TOO_MANY_SPANS', `The answer rests on ${count} spans, and ${most} are allowed`);
+  if (count > most) throw new ImageError('TOO_MANY_SPANS', `The result depends on ${count} spans, and ${most} are allowed`);
 }
 
 // The pages of a 32-bit memory are counted by a number, and those of a 64-bit one by a BigInt, or in older engines by a number.

@@ -28,7 +28,7 @@ Finder = Callable[[str], Tuple[int, int]]
 
 
 def finders() -> Dict[str, Finder]:
-    """The tools, each a call that finds the size of the image at a path. The package's folder goes behind Debian's."""
+    """The tools, each a call that finds the size of the image at a path. The package's folder comes after Debian's."""
     import imagesize  # type: ignore[import]
     from PIL import Image  # type: ignore[import]
 

@@ -84,7 +84,7 @@ def write_wheel(folder: str, tag: str, content: Files) -> str:
 
 
 def wheel_records(tag: str) -> str:
-    """The file WHEEL. It has a line for each tag, of which a platform with dots stands for several."""
+    """The file WHEEL. It has a line for each tag; a platform with dots is several tags."""
     python, abi, platforms = tag.split("-")
     tags = "".join(f"Tag: {python}-{abi}-{one}\n" for one in platforms.split("."))
     return f"Wheel-Version: 1.0\nGenerator: {PACKAGE}\nRoot-Is-Purelib: false\n{tags}"

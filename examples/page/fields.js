@@ -28,7 +28,7 @@ const MARKERS = { 0xc4: 'Huffman tables', 0xc8: 'extension', 0xcc: 'arithmetic c
 const TIFF = ['offset of the directory', 'count of entries'];
 const BIG_TIFF = ['size of an offset', 'always zero', ...TIFF];
 
-// Characters of a name; a dot stands for what cannot be shown.
+// The characters of a name, with a dot for each that cannot be shown.
 const text = (bytes) => Array.from(bytes, (byte) => (byte >= 0x20 && byte < 0x7f ? String.fromCharCode(byte) : '·')).join('');
 const number = (bytes, little) => (little ? [...bytes].reverse() : [...bytes]).reduce((sum, byte) => sum * 256 + byte, 0);
 const cut = (what) => `${what}, which is cut`;

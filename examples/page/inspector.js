@@ -122,7 +122,7 @@ function rowOf(start, length, spans, names, around) {
   return row;
 }
 
-// Marks a field in the list, among the bytes and in the strip.
+// Highlights a field in the list, among the bytes and in the strip.
 function choose(index) {
   shown.chosen = index;
   for (const old of document.querySelectorAll('.chosen')) {
@@ -179,7 +179,7 @@ function nearest(event) {
   return trace.reduce((best, span, index) => (distance(span) < distance(trace[best]) ? index : best), 0);
 }
 
-// Puts a random byte in the place of each byte outside of the spans, probes again, and says what came of it.
+// Replaces each byte outside of the spans by a random one, probes again, and shows the result.
 async function scramble() {
   const asked = shown;
   const { result } = asked;

@@ -12,7 +12,7 @@ FOLDER = pathlib.Path(__file__).resolve().parent / "samples"
 
 
 def filler(length):
-    """Bytes in place of pixels."""
+    """Bytes instead of pixels."""
     return bytes((at * 7 + at // 251) % 255 for at in range(length))
 
 
@@ -37,7 +37,7 @@ def box(name, content):
 
 
 def avif():
-    """An AVIF whose properties are behind its list of items."""
+    """An AVIF whose properties come after its list of items."""
     extents = box(b"ispe", struct.pack(">III", 0, 1920, 1080))
     properties = box(b"ipco", box(b"pixi", bytes.fromhex("0000000003080808")) + box(b"av1C", b"\x81\x04\x0c\0") + extents)
     items = box(b"hdlr", b"\0" * 8 + b"pict" + b"\0" * 13) + box(b"pitm", b"\0\0\0\0\0\1") + box(b"iloc", filler(40)) + box(b"iinf", filler(60))
@@ -46,7 +46,7 @@ def avif():
 
 
 def tiff():
-    """A TIFF with its directory behind its pixels."""
+    """A TIFF with its directory after its pixels."""
     pixels = filler(120000)
     entries = [(0x100, 3, 1, 1600), (0x101, 3, 1, 1200), (0x102, 3, 1, 8), (0x103, 3, 1, 1), (0x106, 3, 1, 1), (0x111, 4, 1, 8)]
     directory = struct.pack("<H", len(entries)) + b"".join(struct.pack("<HHII", *entry) for entry in entries) + b"\0\0\0\0"

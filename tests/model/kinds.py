@@ -56,7 +56,7 @@ def kind(image):
 
 
 def is_tga(head, image):
-    """A TGA is told by its header's fields, and by its footer where it has one."""
+    """A TGA is detected by its header's fields, and by its footer if it has one."""
     map_type, image_type = head[1], head[2]
     if image_type not in (1, 2, 3, 9, 10, 11) or map_type > 1 or len(image) < 18:
         return False
@@ -88,7 +88,7 @@ def compression(name, image):
 
 
 def brand_of(name):
-    """The compression that a brand of HEIF stands for."""
+    """The compression that a brand of HEIF means."""
     brands = {
         "Hevc": b"heic heix heis heim hevc hevx hevm hevs",
         "Av1": b"avif avis avio MA1A MA1B",
@@ -99,7 +99,7 @@ def brand_of(name):
 
 
 def heif(image):
-    """The major brand, which is among the twelve bytes; behind a general one the two compatible brands."""
+    """The major brand, which is among the twelve bytes; after a general one the two compatible brands."""
     found = brand_of(image.data[8:12])
     if found == "general":
         more = image.exactly(12, 12, "minor version and two brands")
@@ -132,7 +132,7 @@ def pkm(image):
 
 
 def dds(image):
-    """The four-character code, or what is read behind it."""
+    """The four-character code, or what is read after it."""
     code = image.exactly(84, 4, "four-character code")
     names = {b"DXT1": "Bc1", b"DXT3": "Bc2", b"DXT5": "Bc3", b"ATI1": "Bc4", b"BC4U": "Bc4", b"BC4S": "Bc4"}
     names |= {b"ATI2": "Bc5", b"BC5U": "Bc5", b"BC5S": "Bc5", b"BC6H": "Bc6h", b"BC7U": "Bc7", b"BC7L": "Bc7"}

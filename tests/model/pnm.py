@@ -5,7 +5,7 @@ from texts import WHITE_SPACE, number_of, raw_line, word
 
 
 def size(image):
-    """The first word that is no comment, and the word behind it."""
+    """The first word that is no comment, and the word after it."""
     offset = 2
     while True:
         text, end, offset = word(image, offset, "word")

@@ -4,7 +4,7 @@ MAX_OFFSET = 2**64 - 1
 
 
 class Refused(Exception):
-    """The image has no size. `args[0]` names the error as docs/LAYOUTS.md does, and behind it is what the error carries."""
+    """The image has no size. `args[0]` names the error as docs/LAYOUTS.md does, and after it what the error carries."""
 
 
 class Input:

@@ -19,13 +19,13 @@ def raw_line(image, offset, most, delimiter, why):
 
 
 def line(image, offset, most, delimiter, why):
-    """The content of a line as a text, and the offset behind it."""
+    """The content of a line as a text, and the offset after it."""
     found = raw_line(image, offset, most, delimiter, why)
     return text_of(found[:-1]), offset + len(found)
 
 
 def word(image, offset, why):
-    """The content of a word as a text, the byte that ends it, and the offset behind it."""
+    """The content of a word as a text, the byte that ends it, and the offset after it."""
     found = image.data[offset : offset + 1024]
     start = next((at for at, byte in enumerate(found) if byte not in WORD_ENDS), len(found))
     end = next((at for at in range(start, len(found)) if found[at] in WORD_ENDS), None)
@@ -47,7 +47,7 @@ def text_of(data):
 
 
 def words_of(text):
-    """What stands between white space."""
+    """What is between white space."""
     return [found for found in re.split(f"[{WHITE_SPACE}]+", text) if found]
 
 

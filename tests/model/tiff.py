@@ -7,7 +7,7 @@ TWO_BYTES, FOUR_BYTES = (3, 8), (4, 9, 11, 13)
 
 
 def size(image):
-    """The first entry behind which both sides are known."""
+    """The first entry after which both sides are known."""
     order, big, directory = header(image)
     number = image.little if order == "little" else image.big
     count, head_length, value_length = (8, 12, 8) if big else (2, 8, 4)

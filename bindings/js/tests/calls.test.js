@@ -1,4 +1,4 @@
-// What callers may lend, what they may do wrong, and what is left behind.
+// What callers may pass, what they may do wrong, and what a call leaves in memory.
 
 import assert from 'node:assert/strict';
 import { execFileSync } from 'node:child_process';
@@ -155,7 +155,7 @@ test('what the library is passed is aligned, apart, and within its memory', () =
   assert.equal(library.spans(full, 3).length, 3);
 });
 
-// It stands before the tests of memory, since it has one of its own.
+// It comes before the tests of memory, since it has a memory of its own.
 test('a trace has the bytes of a few blocks of a long input, or is null', async () => {
   const tiff = tiffBehind(50_000_000);
   const { trace } = await probeBlob(new Blob([tiff]), { trace: true });
@@ -188,7 +188,7 @@ test('a call that throws leaves the module usable', () => {
 
 test('more spans than are allowed are refused', () => {
   const many = jpegBehind(2000, 4);
-  assert.match(refused(() => spans(many, { limit: 100 }), 'TOO_MANY_SPANS').message, /rests on \d{4} spans/);
+  assert.match(refused(() => spans(many, { limit: 100 }), 'TOO_MANY_SPANS').message, /depends on \d{4} spans/);
   assert.ok(spans(many).length > 4000);
 });
 
@@ -265,9 +265,9 @@ test('a file that is cut while it is read is refused, and closed', async () => {
   assert.ok(readdirSync('/proc/self/fd').length <= opened);
 });
 
-// It stands behind the tests of memory, which it grows.
+// It comes after the tests of memory, since the memory grows in it.
 test('at most 64 MiB of a blob or a file are read, where a call names no other limit', async () => {
-  // A chunk of 4096 bytes behind another.
+  // Chunks of 4096 bytes, one after another.
   const chunks = Buffer.alloc(66 * 2 ** 20);
   chunks.write('FORM\0\0\0\0ILBM');
   for (let at = 12; at + 8 < chunks.length; at += 4096) chunks.writeUInt32BE(4088, at + 4);

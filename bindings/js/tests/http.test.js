@@ -10,7 +10,7 @@ import { giveRange, iconOf, jpegBehind, tiffBehind, withPieces, withServer } fro
 
 const jpeg = jpegBehind(4, 50000);
 
-// The error of an address that this server answers, which comes within ten seconds.
+// The error of an address of this server, which comes within ten seconds.
 async function refused(answer, options = {}) {
   return withServer(answer, async (url, requests) => {
     const error = await probeUrl(url, { signal: AbortSignal.timeout(10000), ...options }).then(assert.fail, (reason) => reason);
@@ -84,7 +84,7 @@ test('a server that compresses its ranges is refused, and so is one that hides i
     const error = await refused(give({ 'Content-Encoding': encoding }, encoding === 'x-unknown' ? icon : packed));
     assert.equal(error.code, 'CONTENT_ENCODING', encoding);
   }
-  // An answer of another origin tells of no encoding.
+  // A response of another origin does not show its encoding.
   assert.deepEqual(code(await refused(give({}, icon))), ['WRONG_RANGE', 'The server gives more bytes than its range has']);
   for (const headers of [{}, { 'Content-Length': packed.length }]) {
     const error = await refused((_, response) => response.writeHead(200, { ...known, ...headers }).end(packed));

@@ -53,7 +53,7 @@ function measureCalls(files) {
   const inPython = timedInPython(files);
   files.forEach((file, index) => {
     const bytes = readFileSync(file);
-    const call = () => { try { probe(bytes); } catch { /* a refusal costs too */ } };
+    const call = () => { try { probe(bytes); } catch { /* an error costs too */ } };
     row(basename(file), bytes.length, timed(call), inPython[index]);
   });
 }

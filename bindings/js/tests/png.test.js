@@ -11,7 +11,7 @@ import { ImageError, probe, probeBlob, probeFile, spans } from '../imagesize.js'
 const folder = mkdtempSync(join(tmpdir(), 'imagesize-'));
 after(() => rmSync(folder, { recursive: true }));
 
-// The signature, the image header of an image of 640 by 480, and bytes behind it.
+// The signature, the image header of an image of 640 by 480, and bytes after it.
 const png = Buffer.concat([
   Buffer.from('\x89PNG\r\n\x1a\n\0\0\0\x0dIHDR\0\0\x02\x80\0\0\x01\xe0\x08\0\0\0\0', 'latin1'), Buffer.alloc(9000),
 ]);

@@ -19,7 +19,7 @@ export const worked = readFileSync(new URL('../../../examples/out/worked.tsv', i
 
 const named = ({ kind, compression }) => (compression ? `${kind}(${compression})` : kind);
 
-/** The line about an image, or about its refusal. */
+/** The line about an image, or about its error. */
 export async function lineOf(call) {
   try {
     const image = await call();
@@ -30,7 +30,7 @@ export async function lineOf(call) {
   }
 }
 
-/** A JPEG of 7x5 pixels behind so many segments, each of so many bytes. */
+/** A JPEG of 7x5 pixels whose frame comes after this many segments of this length in bytes. */
 export function jpegBehind(segments, length) {
   const segment = Buffer.alloc(length);
   segment.set([0xff, 0xe1]);
@@ -39,7 +39,7 @@ export function jpegBehind(segments, length) {
   return Buffer.concat([Buffer.from([0xff, 0xd8]), ...Array(segments).fill(segment), Buffer.from(frame), Buffer.alloc(100)]);
 }
 
-/** A TIFF of 5x7 pixels, whose directory stands behind so many bytes. */
+/** A TIFF of 5x7 pixels, whose directory comes after this many bytes. */
 export function tiffBehind(length) {
   const directory = Buffer.from('020000010300010000000500000001010400010000000700000000000000', 'hex');
   const head = Buffer.alloc(length);

@@ -25,7 +25,7 @@ def main(arguments: Optional[Sequence[str]] = None) -> int:
     try:
         sized = print_json(rows) if asked.json else print_table(rows)
         sys.stdout.flush()
-    except BrokenPipeError:  # as of `head`, which has all that it wants
+    except BrokenPipeError:  # `head`, for example, closes the pipe early
         os.dup2(os.open(os.devnull, os.O_WRONLY), sys.stdout.fileno())
         return 1
     except KeyboardInterrupt:
@@ -37,7 +37,7 @@ def parser() -> argparse.ArgumentParser:
     """The options. Without a path the status is 2."""
     asked = argparse.ArgumentParser("imagesize-proved", description="Prints type and size in pixels of image files.")
     asked.add_argument("paths", nargs="+", metavar="PATH", help="a file, or a folder with --recursive")
-    asked.add_argument("--recursive", action="store_true", help="take all files below folders")
+    asked.add_argument("--recursive", action="store_true", help="read all files below folders")
     asked.add_argument("--json", action="store_true", help="print a JSON array with an object for each file")
     asked.add_argument("--spans", action="store_true", help="print the bytes that each result depends on")
     asked.add_argument("--version", action="version", version=__version__)
@@ -45,7 +45,7 @@ def parser() -> argparse.ArgumentParser:
 
 
 def files(paths: Sequence[str], recursive: bool) -> Iterator[str]:
-    """The paths, and in place of a folder all files below it, by name. Links to folders are not followed."""
+    """The paths. Each folder is replaced by all files below it, sorted by name. Links to folders are not followed."""
     for path in paths:
         if recursive and os.path.isdir(path):
             yield from below(path)

@@ -7,8 +7,8 @@ import os
 import sys
 from typing import TYPE_CHECKING, Awaitable, Callable, List, Optional, Protocol, Tuple, TypeVar, Union
 
-from ._library import PNG, Told, png_spans, probe_front, probe_whole, spans_of, type_of
-from ._parts import BLOCK, BUDGET, SPENT, WANTED, BytesLike, Parts, checked, first_block
+from ._library import PNG, Told, png_spans, probe_front, probe_two, probe_whole, spans_of, type_of
+from ._parts import BLOCK, BUDGET, SPENT, WANTED, BytesLike, Parts, blocks, checked, first_block
 from ._types import ImageError, ImageType, Probed, Size, Span, Status, known_type
 
 if TYPE_CHECKING:
@@ -76,12 +76,13 @@ def image_type(image: Image, *, budget: int = BUDGET) -> ImageType:
 
 
 def probe_with(fetch: Callable[[int, int], BytesLike], total: int, *, budget: int = BUDGET) -> Probed:
-    """Type and size of the image in an input of `total` bytes, of which `fetch(start, length)` gives some.
+    """Type and size of the image in an input of `total` bytes. `fetch(start, length)` returns some of them.
 
         >>> probe_with(lambda start, length: blob[start : start + length], len(blob))
 
-    It is asked for bytes within the input, mostly for blocks of 4096, and for at most `budget` in all. Raises what it raises,
-    `EOFError` where it gives fewer bytes than it was asked for, `ValueError` where it gives more, and else as `probe` does.
+    The call asks `fetch` for bytes within the input, mostly for blocks of 4096, and for at most `budget` in all. It raises what
+    `fetch` raises. If `fetch` returns fewer bytes than requested, it raises `EOFError`; if more, `ValueError`. Other errors are
+    those of `probe`.
     """
     budget = checked(budget)
     first = first_block(total, budget)
@@ -94,9 +95,9 @@ def probe_with(fetch: Callable[[int, int], BytesLike], total: int, *, budget: in
 async def probe_async(
     read: Callable[[int, int], Awaitable[BytesLike]], length: int, *, budget: int = BUDGET
 ) -> Probed:
-    """Type and size of the image in an input of `length` bytes, of which the coroutine function `read(start, length)` gives some.
+    """Type and size of the image in an input of `length` bytes. The coroutine function `read(start, length)` returns some of them.
 
-    As `probe_with`.
+    Errors and bounds are those of `probe_with`.
     """
     budget = checked(budget)
     first = first_block(length, budget)
@@ -193,7 +194,19 @@ def _front(file: int, budget: int) -> Tuple[bytes, int]:
 def _told_in(file: int, budget: int) -> Told:
     front, total = _front(file, budget)
     told = probe_front(front, total)
-    return told if told[0] != WANTED else _followed(file, Parts(front, total, budget, told)).told
+    if told[0] != WANTED:
+        return told
+    # Most files of more than one block take a second one, and no third.
+    start, end = blocks(told, total)
+    if len(front) + end - start > budget:
+        return SPENT
+    more = os.pread(file, end - start, start)
+    second = probe_two(front, more, start, total) if len(more) == end - start else None
+    if second and second[0] != WANTED:
+        return second
+    parts = Parts(front, total, budget, told)
+    parts.add(more, second)
+    return _followed(file, parts).told
 
 
 def _parts_in(file: int, budget: int) -> Parts:

@@ -59,7 +59,7 @@ _probe = _LIBRARY.imagesize_probe
 _probe_parts = _LIBRARY.imagesize_probe_parts
 _spans = _LIBRARY.imagesize_spans
 _png = _LIBRARY.imagesize_png_parts_size
-_probe_front = ctypes.PyDLL(_LIBRARY._name).imagesize_probe_parts  # over one block it is over before another thread would run
+_probe_few = ctypes.PyDLL(_LIBRARY._name).imagesize_probe_parts  # over two blocks it is over before another thread would run
 
 
 class _Room:
@@ -70,10 +70,12 @@ class _Room:
         self.read = memoryview(self.numbers).cast("B").cast("Q").tolist
         self.told = [ctypes.byref(self.numbers, 8 * index) for index in range(5)]
         self.front = (ctypes.c_uint64 * 2)()
-        self.length = ctypes.c_size_t.from_buffer(self.front, 8)  # a span from place 0 on is as long as its bytes
+        self.length = ctypes.c_size_t.from_buffer(self.front, 8)  # a span from offset 0 is as long as its bytes
         self.total = ctypes.c_uint64()
         self.spans, self.count = ctypes.c_void_p(), ctypes.c_size_t()
         self.of_front = (self.length, self.front, ctypes.c_size_t(1), self.total, *self.told)
+        self.two, self.length_of_two = (ctypes.c_uint64 * 4)(), ctypes.c_size_t()
+        self.of_two = (self.length_of_two, self.two, ctypes.c_size_t(2), self.total, *self.told)
         self.of_parts = (self.length, self.spans, self.count, self.total, *self.told)
         self.of_png = (self.length, self.spans, self.count, self.total, *self.told[2:])
 
@@ -113,7 +115,7 @@ def probe_whole(data: bytes) -> Told:
 
 
 def probe_front(front: bytes, total: int) -> Told:
-    """Type and size of the image in an input of `total` bytes, of which the first are known."""
+    """Type and size of the image in an input of `total` bytes, whose first bytes are known."""
     if front.startswith(_SIGNATURE):
         return _probe_png(front, array("Q", (0, len(front))), total)
     try:
@@ -123,13 +125,32 @@ def probe_front(front: bytes, total: int) -> Told:
     room.numbers[0] = 0
     room.length.value = len(front)
     room.total.value = total
-    told = _probe_front(front, *room.of_front), room.read()
+    told = _probe_few(front, *room.of_front), room.read()
+    _ROOMS.append(room)
+    return told
+
+
+def probe_two(front: bytes, more: bytes, start: int, total: int) -> Told:
+    """Type and size of the image in an input of `total` bytes, of which the first are known, and more from an offset on.
+
+    The input is no PNG.
+    """
+    try:
+        room = _ROOMS.pop()
+    except IndexError:
+        room = _Room()
+    room.numbers[0] = 0
+    room.total.value = total
+    room.two[:] = [0, len(front), start, len(more)]
+    known = front + more
+    room.length_of_two.value = len(known)
+    told = _probe_few(known, *room.of_two), room.read()
     _ROOMS.append(room)
     return told
 
 
 def probe_parts(known: bytes, spans: "array[int]", total: int) -> Told:
-    """Type and size of the image in an input of `total` bytes, of which some parts are known: start and length of each.
+    """Type and size of the image in an input of `total` bytes, whose parts are known: start and length of each.
 
     The first part has the input's first bytes: eight of them at least, or all.
     """
@@ -144,7 +165,7 @@ def probe_parts(known: bytes, spans: "array[int]", total: int) -> Told:
 
 
 def _probe_png(known: bytes, spans: "array[int]", total: int) -> Told:
-    """The size of a PNG, of which some parts are known."""
+    """The size of a PNG, whose parts are known."""
     room = _room(len(known), total)
     room.spans.value, numbers = spans.buffer_info()
     room.count.value = numbers // 2
@@ -156,7 +177,7 @@ def _probe_png(known: bytes, spans: "array[int]", total: int) -> Told:
 
 
 def png_spans(front: bytes, total: int) -> List[int]:
-    """Start and length of each span that the size of a PNG rests on, from its first 24 bytes: what is wanted, one after another."""
+    """Start and length of each span that the size of a PNG depends on, from its first 24 bytes: each requested span in turn."""
     known, spans = b"", array("Q")
     status, told = _probe_png(known, spans, total)
     while status == _WANTED:

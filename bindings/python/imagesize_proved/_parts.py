@@ -6,7 +6,7 @@ import errno
 import mmap
 import operator
 from array import array
-from typing import TYPE_CHECKING, Optional, Union
+from typing import TYPE_CHECKING, Optional, Tuple, Union
 
 from ._library import Told, probe_front, probe_parts
 from ._types import Status
@@ -51,6 +51,14 @@ def first_block(total: int, budget: int) -> int:
     return min(total, BLOCK, budget)
 
 
+def blocks(told: Told, total: int) -> Tuple[int, int]:
+    """Start and end of the whole blocks around the requested span."""
+    start, length = told[1][4:]
+    end = start + length
+    end += -end % BLOCK
+    return start - start % BLOCK, end if end < total else total
+
+
 class Parts:
     """The known parts of an input of `total` bytes, beginning with its first block. `told` may be the library's result for that.
 
@@ -71,8 +79,11 @@ class Parts:
         self.told = told or probe_front(self.known, total)
         self._go_on()
 
-    def add(self, data: BytesLike) -> None:
-        """Adds the requested bytes. Raises `EOFError` if there are fewer, and `ValueError` if there are more."""
+    def add(self, data: BytesLike, told: Optional[Told] = None) -> None:
+        """Adds the requested bytes. Raises `EOFError` if there are fewer, and `ValueError` if there are more.
+
+        `told` may be the library's result for all that is known then.
+        """
         self.known += self._taken(data)
         if self.start == self.spans[-2] + self.spans[-1]:
             self.spans[-1] += self.length
@@ -81,7 +92,7 @@ class Parts:
         if self.start > self.last:
             self.last = self.start
         self.rounds += 1
-        self.told = probe_parts(self.known, self.spans, self.total)
+        self.told = told or probe_parts(self.known, self.spans, self.total)
         self._go_on()
 
     def filled(self) -> Optional[mmap.mmap]:
@@ -110,20 +121,15 @@ class Parts:
         return data
 
     def _go_on(self) -> None:
-        status, (_, _, _, _, start, length) = self.told
-        if status != WANTED:
+        if self.told[0] != WANTED:
             self.length = 0
             return
-        # Whole blocks, none of them twice. The more rounds there were, the more blocks, so that a long walk takes few rounds.
-        self.start = start - start % BLOCK
-        end = start + length
-        end += -end % BLOCK
+        # No block is fetched twice. The more rounds there were, the more blocks, so that a long walk takes few rounds.
+        self.start, end = blocks(self.told, self.total)
         if self.rounds >= 8:
-            end = max(end, self.start + (BLOCK << self.rounds // 2 - 3))
-        if end > self.total:
-            end = self.total
-        if start < self.last:
-            end = min(end, *(known for known in self.spans[::2] if known > start))
+            end = min(max(end, self.start + (BLOCK << self.rounds // 2 - 3)), self.total)
+        if self.start < self.last:
+            end = min(end, *(known for known in self.spans[::2] if known > self.start))
         self.length = end - self.start
         if len(self.known) + self.length > self.budget:
             self.told, self.length = SPENT, 0

@@ -173,6 +173,7 @@ class Family(IntEnum):
 
 
 _MEDIA: Dict[Kind, Tuple[Optional[str], str]] = {
+    # by bindings/lists.py: media
     Kind.ASEPRITE: (None, ".aseprite"),
     Kind.ASTC: ("image/astc", ".astc"),
     Kind.ATC: (None, ".pkm"),
@@ -198,6 +199,7 @@ _MEDIA: Dict[Kind, Tuple[Optional[str], str]] = {
     Kind.TIFF: ("image/tiff", ".tif"),
     Kind.VTF: ("image/vnd.valve.source.texture", ".vtf"),
     Kind.WEBP: ("image/webp", ".webp"),
+    # end of the list
     Kind.PNG: ("image/png", ".png"),
 }
 _HEIF_MEDIA = {

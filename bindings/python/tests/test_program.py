@@ -96,9 +96,10 @@ class Program(unittest.TestCase):
     def test_output_that_is_closed(self) -> None:
         reader, writer = os.pipe()
         os.close(reader)
-        said = self.run_it("a.gif", stdout=writer)
+        for arguments in ("a.gif",), ("a.gif",) * 1000, ("--json", "a.gif"):
+            said = self.run_it(*arguments, stdout=writer)
+            self.assertEqual((said.returncode, said.stderr), (1, ""))
         os.close(writer)
-        self.assertEqual((said.returncode, said.stderr), (1, ""))
 
     def test_version(self) -> None:
         self.assertEqual(self.run_it("--version").stdout, f"{imagesize_proved.__version__}\n")
@@ -113,4 +114,11 @@ class Program(unittest.TestCase):
         self.assertEqual(written([0, 0.5, 0.9], Terminal()), "")
         self.assertEqual(written([0, 0.5, 1.2], Terminal()), "\r2: b.gif\x1b[K\r\x1b[K")
         self.assertEqual(written([0, 1.2, 1.25], Terminal()), "\r1: a.gif\x1b[K\r\x1b[K")
+        self.assertEqual(written([0, 1, 1.05], Terminal()), "\r1: a.gif\x1b[K\r\x1b[K")
         self.assertEqual(written([0, 1.2, 1.5], io.StringIO()), "")
+        with mock.patch.dict(os.environ, {"COLUMNS": "6"}):
+            self.assertEqual(written([0, 0.5, 1.2], Terminal()), "\r2: b.\x1b[K\r\x1b[K")
+
+    def test_interrupt(self) -> None:
+        with mock.patch.object(program, "probe", side_effect=KeyboardInterrupt):
+            self.assertEqual(program.main(["a.gif"]), 130)

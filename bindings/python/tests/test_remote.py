@@ -91,12 +91,12 @@ class Remote(unittest.TestCase):
 
     def test_faults(self) -> None:
         for fault, error in {
-            "whole": "answers 200 in place of 206",
+            "whole": "sent status 200 instead of 206",
             "missing": "HTTP Error 404",
             "silent": "does not say which range",
-            "packed": "packs it",
-            "elsewhere": "gives bytes 1 to 4096",
-            "cut": "cut a range: 2048 of 4096",
+            "packed": "compresses it",
+            "elsewhere": "sent bytes 1 to 4096",
+            "cut": "cut a range: it sent 2048 of 4096",
             "changes": "changed between two ranges",
             "modified": "changed between two ranges",
             "grows": "changed between two ranges",

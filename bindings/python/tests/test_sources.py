@@ -103,7 +103,7 @@ class Reading(unittest.TestCase):
         self.assertEqual(image.ends, 1)
 
     def test_no_byte_twice(self) -> None:
-        """What is wanted goes from a block that is not known into one that is."""
+        """The requested span goes from an unknown block into a known one."""
         spans = [(16384, 4), (4099, 1), (8192, 9000)]
         wants = iter([*((30, [0, 0, 0, 0, *span]) for span in spans), (0, [10, 0, 640, 480, 0, 0])])
 

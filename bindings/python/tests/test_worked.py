@@ -37,7 +37,7 @@ def surprises() -> Iterator[Tuple[bytes, str]]:
 
 
 def line(call: Callable[..., imagesize.Probed], *arguments: Any) -> str:
-    """The line about what a call answers."""
+    """The line about the result of a call."""
     try:
         found, size = call(*arguments)
     except imagesize.ImageError as error:

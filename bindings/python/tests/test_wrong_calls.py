@@ -171,7 +171,7 @@ class Buffers(unittest.TestCase):
         return found
 
     def results(self, references: Sequence[Any], length: int) -> None:
-        """So many references lie in one buffer, each 8 bytes behind the one before, and the buffer ends no sooner than the last."""
+        """So many references lie in one buffer, each 8 bytes after the one before, and the buffer ends no sooner than the last."""
         room = references[0]._obj
         places = [ctypes.cast(each, ctypes.c_void_p).value or 0 for each in references]
         self.assertEqual([place - ctypes.addressof(room) for place in places], list(range(0, 8 * len(places), 8)))
@@ -187,8 +187,21 @@ class Buffers(unittest.TestCase):
         with tempfile.NamedTemporaryFile() as file:
             file.write(GIF)
             file.flush()
-            ((data, length, spans, count, total, *references),) = self.passed("_probe_front", lambda: imagesize.probe(file.name))
+            ((data, length, spans, count, total, *references),) = self.passed("_probe_few", lambda: imagesize.probe(file.name))
         self.assertEqual((data, length, list(spans), count, total), (GIF, 12, [0, 12], 1, 12))
+        self.assertEqual(len(references), 5)
+        self.results(references, 5)
+
+    def test_second_block(self) -> None:
+        image = b"\xff\xd8\xff\xe0\x7f\xfe" + bytes(32764) + b"\xff\xc0\0\x11\x08\0\x05\0\x07" + bytes(800)
+        self.assertEqual(imagesize.probe(image).size, (7, 5))
+        with tempfile.NamedTemporaryFile() as file:
+            file.write(image)
+            file.flush()
+            found = self.passed("_probe_few", lambda: self.assertEqual(imagesize.probe(file.name).size, (7, 5)))
+        ((*_,), (data, length, spans, count, total, *references)) = found
+        known = image[:4096] + image[32768:]
+        self.assertEqual((data, length, list(spans), count, total), (known, len(known), [0, 4096, 32768, len(image) - 32768], 2, len(image)))
         self.assertEqual(len(references), 5)
         self.results(references, 5)
 

@@ -1,6 +1,6 @@
 //! How images of several ways to store pixels store them.
 
-/// Defines an enum, of which each value has the number that `include/imagesize.h` gives it.
+/// Defines an enum. Each value has the number that `include/imagesize.h` gives it.
 macro_rules! numbered {
     (
         $(#[$about:meta])*

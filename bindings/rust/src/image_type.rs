@@ -25,7 +25,7 @@ macro_rules! numbers {
     };
 }
 
-/// The type whose compression has this number, which is 0 where it has none.
+/// The type whose compression has this number. The number is 0 for a type without one.
 macro_rules! of_compression {
     ($type:path, $number:expr) => {
         ($number == 0).then_some($type)
@@ -35,7 +35,7 @@ macro_rules! of_compression {
     };
 }
 
-/// Defines the types, of which each has the number that `include/imagesize.h` gives it. PNG has one of its own.
+/// Defines the types. Each has the number that `include/imagesize.h` gives it. PNG has one of its own.
 macro_rules! types {
     (
         $(#[$about:meta])*

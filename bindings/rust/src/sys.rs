@@ -157,7 +157,7 @@ impl Parts {
     }
 }
 
-/// Whether these first bytes are those of a PNG, and the package has the feature for it.
+/// Whether these first bytes begin a PNG, and the package has the feature for it.
 fn is_png(bytes: &[u8]) -> bool {
     cfg!(feature = "png") && bytes.starts_with(SIGNATURE)
 }
@@ -234,7 +234,7 @@ fn size_as_png(bytes: &[u8], spans: &[Span], total: u64) -> Parts {
     )
 }
 
-/// Type and size of the image in an input of `total` bytes, of which only the spans are known. `bytes` has the bytes of all
+/// Type and size of the image in an input of `total` bytes, with only the spans known. `bytes` has the bytes of all
 /// spans, one span after another. The first span
 /// has the first eight bytes of the input, or all that it has.
 pub(crate) fn probe_parts(bytes: &[u8], spans: &[Span], total: u64) -> Parts {

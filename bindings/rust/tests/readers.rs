@@ -25,7 +25,7 @@ struct Counting {
     told: u64,
     broken: Option<(usize, ErrorKind)>,
     calls: usize,
-    /// The place and the length of each reading.
+    /// The offset and the length of each read.
     readings: Vec<(u64, usize)>,
 }
 
@@ -95,7 +95,7 @@ impl Seek for Counting {
     }
 }
 
-/// A JPEG of 7x5, of which the frame stands behind this many segments of this length.
+/// A JPEG of 7x5, whose frame comes after this many segments of this length.
 fn jpeg(segments: usize, length: u16) -> Vec<u8> {
     let mut bytes = vec![0xFF, 0xD8];
     for _ in 0..segments {
@@ -108,7 +108,7 @@ fn jpeg(segments: usize, length: u16) -> Vec<u8> {
     bytes
 }
 
-/// A TIFF of 5x7, of which the directory stands behind this many bytes of pixels.
+/// A TIFF of 5x7, whose directory comes after this many bytes of pixels.
 fn tiff(pixels: u32) -> Vec<u8> {
     let mut bytes = b"II*\0".to_vec();
     bytes.extend((8 + pixels).to_le_bytes());
@@ -119,7 +119,7 @@ fn tiff(pixels: u32) -> Vec<u8> {
     bytes
 }
 
-/// An interleaved bitmap of 320x200, of which the head stands behind this many empty chunks.
+/// An interleaved bitmap of 320x200, whose header comes after this many empty chunks.
 fn ilbm(chunks: usize) -> Vec<u8> {
     let head = b"BMHD\0\0\0\x14\x01\x40\0\xC8";
     [
@@ -260,7 +260,7 @@ fn a_walk_from_block_to_block_reads_each_byte_once_and_seeks_no_more() {
             "{} readings",
             reader.readings.len()
         );
-        // It asks for the place and the length, and goes back to the beginning.
+        // It asks for the offset and the length, and goes back to the beginning.
         assert_eq!(reader.calls, reader.readings.len() + 3);
     }
 }

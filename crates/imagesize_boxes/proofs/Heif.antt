@@ -12,7 +12,7 @@ use Rattle.std.specs.List.{find, last_or, sum_by}
 use Rattle.std.specs.Option.{option_or}
 use Rattle.std.specs.Prelude.{codes, flat_map, fold, nat_lt, nat_le, unwrap_or, ok_or, option_map, IfErr, slice_get, filter}
 use Rattle.imagesize_boxes.specs.Heif.{heif_compression, is_general, is_named, box_size, box_searched, search_for, searched_box, extents_size, property_named, property_found, property_at, property_bytes, extents_of, rotations_of, skipped_bytes, no_pixels, largest_or_none, largest_extents, turn_by, heif_answer, property_or_answer, properties, heif, heif_in_meta, heif_in_iprp, boxes_in_iprp, boxes_in_meta, heif_boxes}
-use Rattle.imagesize_boxes.specs.Walks.{earlier_largest, gathered_with, gathered_answer}
+use Rattle.imagesize_boxes.specs.Walks.{Amounts, Largest, earlier_largest, gathered_with, gathered_answer}
 use Rattle.imagesize_boxes.specs.declared.container.heif.FoundBox.{FoundBox}
 use Rattle.imagesize_boxes.specs.declared.container.heif.Gathered.{Gathered}
 use Rattle.imagesize_boxes.specs.declared.container.heif.Property.{Property}
@@ -30,7 +30,7 @@ use Rattle.imagesize_source.specs.Counts.{AtMost}
 use Rattle.imagesize_source.specs.Input.{span_of}
 use Rattle.imagesize_source.specs.Layout.{Layout, bytes, refuse, done, layout_reads, bind, whole}
 use Rattle.imagesize_source.specs.Numbers.{number}
-use Rattle.imagesize_source.specs.Reading.{and_then, bytes_at, bytes_read, number_at, number_read, refuses, is_faulted}
+use Rattle.imagesize_source.specs.Reading.{and_then, bytes_at, bytes_read, number_at, number_read, refuses, is_faulted, map_answer}
 use Rattle.imagesize_source.specs.State.{State, Runs, EndedBy, total}
 use Rattle.imagesize_source.proofs.Always.{CompressionLaws}
 use Rattle.imagesize_source.proofs.Advances.{Tells, advances}
@@ -44,7 +44,6 @@ use Rattle.imagesize_source.proofs.Layouts.{no_part, no_span}
 use Rattle.imagesize_source.proofs.Agreement.{local_bytes, local_then, local_number, without_texts}
 use Rattle.imagesize_source.proofs.Reached.{runs_bind, refused_bind, reached_now}
 use Rattle.imagesize_source.proofs.Tests.{on_test}
-use Rattle.imagesize_source.proofs.Walks.{Walks, walks_start, walks_on, walks_stop, walks_out, walks_past}
 use Rattle.imagesize_source.proofs.Way.{RecordedLaws}
 use Rattle.imagesize_source.proofs.Lists.{last_push}
 use Rattle.imagesize_types.proofs.Largest.{greatest_push}
@@ -67,43 +66,18 @@ by_searched P tag place head found small next =
     (λ _. on_test P (nat_lt (box_size head) 8) (refuse (InvalidHeifBoxSize (box_size head)))
     (done (Next tt (place + box_size head))) (λ _. small) (λ no. next (grind (arith, nat_tests))))
 
-search_advances : (tag : List ℕ) (first : ℕ) (d : List ℕ) → Advances (search_for tag first) d
+pub search_advances : (tag : List ℕ) (first : ℕ) (d : List ℕ) → Advances (search_for tag first) d
 search_advances tag first = advances (search_for tag first)
     (λ passed place head. by_searched (Tells (λ p. place < p)) tag place head tt tt (λ big. omega arith))
     (λ passed place. (omega arith, omega arith))
 
--- how far a search has come
-abbrev pub SearchWalks : List ℕ → ℕ → State → State → ℕ → Type 0
-SearchWalks tag first a b place = Walks (search_for tag first) (λ passed. Unit {0}) a b place
-
-pub search_start : (tag : List ℕ) (first : ℕ) (a : State) → SearchWalks tag first a a first
-search_start tag first a = walks_start (search_for tag first) (λ passed. Unit {0}) a tt
-
-pub search_on : {a b end : State} (tag : List ℕ) (first place next : ℕ) → SearchWalks tag first a b place
-    → Runs b end (Ok (Next tt next)) (layout_reads b.held.input (searched_box tag place)) → SearchWalks tag first a end next
-search_on tag first place next w run = walks_on (search_for tag first) (search_advances tag first) (λ passed. Unit {0}) w
-    (λ passed. Unit {0}) tt next (λ passed _. run) (λ passed _. tt)
-
-pub search_stop : {a b end : State} (tag : List ℕ) (first place : ℕ) (found : FoundBox) → SearchWalks tag first a b place
-    → Runs b end (Ok (Decided found)) (layout_reads b.held.input (searched_box tag place))
-    → Runs a end (Ok found) (chain_at (search_for tag first) a.held.input)
-search_stop tag first place found w run = walks_stop (search_for tag first) (search_advances tag first) (λ passed. Unit {0}) w found
-    (λ passed _. run)
-
-pub search_out : {a b end : State} (tag : List ℕ) (first place : ℕ) (e : Halt) → SearchWalks tag first a b place
-    → Runs b end (Err e) (layout_reads b.held.input (searched_box tag place)) → Runs a end (Err e) (chain_at (search_for tag first) a.held.input)
-search_out tag first place e w run = walks_out (search_for tag first) (search_advances tag first) (λ passed. Unit {0}) w e
-    (λ passed _. run)
-
-pub search_past : {a b : State} (tag : List ℕ) (first place : ℕ) → first < place → SearchWalks tag first a b place → 2 ^ 64 ≤ place
-    → Runs a b (Err Ended) (chain_at (search_for tag first) a.held.input)
-search_past tag first place behind w far = walks_past (search_for tag first) (search_advances tag first) (λ passed. Unit {0}) w
-    (omega arith) (omega arith)
-    (λ passed d _ h. bytes_beyond d place 8 (λ head. box_searched tag place head) h (omega arith))
+-- from the end of the input on there is no box
+pub search_ends : (tag : List ℕ) (d : List ℕ) (place : ℕ) → length d ≤ place → layout_reads d (searched_box tag place) ≡ refuses Ended
+search_ends tag d place far = bytes_beyond d place 8 (λ head. box_searched tag place head) far (omega arith)
 
 search_beyond : (tag : List ℕ) (d : List ℕ) (place : ℕ) → length d ≤ place → chain_at (search_for tag place) d ≡ refuses Ended
 search_beyond tag d place far =
-    let none = bytes_beyond d place 8 (λ head. box_searched tag place head) far (omega arith) in
+    let none = search_ends tag d place far in
     chain_stop (search_for tag place) d (start (search_for tag place)) (Err Ended) (ap (λ r. verdict r.answer) none)
     ∙ ap (λ r. record { answer = Err Ended; marks = r.marks }) none
 
@@ -155,7 +129,7 @@ by_listed P held left place found refused decided extents rotation skipped =
     (refused NotEnoughData) decided)
     (refused Corrupted) extents rotation skipped
 
-properties_advance : (all first : ℕ) (d : List ℕ) → Advances (properties all first) d
+pub properties_advance : (all first : ℕ) (d : List ℕ) → Advances (properties all first) d
 properties_advance all first = advances (properties all first)
     (λ held place bs. by_listed (Tells (λ p. place < p)) held (all - sum_by skipped_bytes held) place (whole 8 bs) (λ e. tt) (λ size. tt)
     (λ content. omega arith) (λ content. omega arith) (λ size big. omega arith))
@@ -164,13 +138,6 @@ properties_advance all first = advances (properties all first)
       by_answer (Tells (λ _. ⊥)) (largest_extents (flat_map extents_of held))
           (last_or None (flat_map rotations_of held)) tt (λ size. tt),
     ))
-
--- These are the largest extents, of several the first.
-pub record Largest (best : Option ImageSize) (sizes : List ImageSize) : Type 0 where
-  is : largest_extents sizes ≡ best
-  first : largest_or_none sizes ≡ unwrap_or best no_pixels
-  area : greatest_area sizes ≡ area_if_some best
-  found : 0 < greatest_area sizes → is_some (find (λ s. eqb (area_of s) (greatest_area sizes)) sizes) ≡ true
 
 largest_some : (sizes : List ImageSize) (size : ImageSize) → largest_extents (sizes ++ size ∷ [])
     ≡ Some (largest_or_none (sizes ++ size ∷ []))
@@ -258,18 +225,12 @@ largest_by best sizes size false test h =
           ∙ h.found (omega arith);
     }
 
--- The properties so far amount to this.
-pub record Amounts (all : ℕ) (g : Gathered) (held : List Property) : Type 0 where
-  left : all - sum_by skipped_bytes held ≡ g.left
-  best : Largest g.best (flat_map extents_of held)
-  turn : last_or None (flat_map rotations_of held) ≡ g.turn
-
 none_more : {X : Type 0} (f : Property → List X) (held : List Property) (property : Property) → f property ≡ []
     → flat_map f (held ++ property ∷ []) ≡ flat_map f held
 none_more f held property none = flat_map-append f held (property ∷ []) ∙ ap (λ xs. flat_map f held ++ (xs ++ [])) none ∙ append-nil
     (flat_map f held)
 
-amounts_on : (all : ℕ) (g : Gathered) (held : List Property) (property : Property) → Amounts all g held
+pub amounts_on : (all : ℕ) (g : Gathered) (held : List Property) (property : Property) → Amounts all g held
     → Amounts all (gathered_with g property) (held ++ property ∷ [])
 amounts_on all g held (Extents size) h = record {
   left = let was = h.left in let push = sum_by_push skipped_bytes held (Extents size) in omega arith;
@@ -288,118 +249,74 @@ amounts_on all g held (Skipped size) h = record {
   turn = ap (last_or None) (none_more rotations_of held (Skipped size) refl) ∙ h.turn;
 }
 
--- how far a walk along the properties has come
-abbrev pub ListWalks : ℕ → ℕ → State → State → ℕ → Gathered → Type 0
-ListWalks all first a b place g = Walks (properties all first) (Amounts all g) a b place
-
-pub list_start : (all first : ℕ) (a : State) → ListWalks all first a a first (record { left = all; best = None; turn = None })
-list_start all first a = walks_start (properties all first) (Amounts all (record { left = all; best = None; turn = None })) a
-    (record {
-      left = omega arith;
-      best = record { is = refl; first = refl; area = refl; found = λ some. absurd (omega arith) };
-      turn =
-          refl;
-    })
-
-list_said : {b end : State} {r : Result (Said Property ImageSize) Halt} (all : ℕ) (g : Gathered) (place : ℕ) (held : List Property)
-    → Amounts all g held → Runs b end r (layout_reads b.held.input (bind (property_at g.left place) (property_or_answer held place)))
-    → Runs b end r (layout_reads b.held.input (bind (property_at (all - sum_by skipped_bytes held) place) (property_or_answer held place)))
-list_said {b} {end} {r} all g place held h run =
-    subst (λ n. Runs b end r (layout_reads b.held.input (bind (property_at n place) (property_or_answer held place)))) (sym h.left) run
-
-pub list_on : {a b end : State} (all first place : ℕ) (g : Gathered) (property : Property) → ListWalks all first a b place g
-    → Runs b end (Ok (Some property)) (layout_reads b.held.input (property_at g.left place)) → ListWalks all first a end
-    (place + property_bytes property) (gathered_with g property)
-list_on all first place g property w run =
-    walks_on (properties all first) (properties_advance all first) (Amounts all g) w (Amounts all (gathered_with g property)) property
-    (place + property_bytes property)
-    (λ held h. list_said all g place held h (runs_bind (Ok (Next property (place + property_bytes property))) (property_at g.left place)
-    (property_or_answer held place) run (λ d. refl) refl tt))
-    (λ held h. amounts_on all g held property h)
-
-pub list_out : {a b end : State} (all first place : ℕ) (g : Gathered) (e : Halt) → ListWalks all first a b place g
-    → Runs {X = Option Property} b end (Err e) (layout_reads b.held.input (property_at g.left place)) → Runs {X = ImageSize} a end (Err e)
-    (chain_at (properties all first) a.held.input)
-list_out all first place g e w run =
-    walks_out (properties all first) (properties_advance all first) (Amounts all g) w e
-    (λ held h. list_said all g place held h (refused_bind (property_at g.left place) (property_or_answer held place) run))
-
 -- what is answered by what the properties amount to
 answers : (all : ℕ) (g : Gathered) (held : List Property) (place : ℕ) (d : List ℕ) → Amounts all g held → layout_reads d (property_or_answer held place None)
     ≡ layout_reads d (heif_answer g.best g.turn)
 answers all g held place d h = ap (λ o. layout_reads d (heif_answer o (last_or None (flat_map rotations_of held)))) h.best.is
     ∙ ap (λ t. layout_reads d (heif_answer g.best t)) h.turn
 
--- the list ends
-list_end_by : {a b end : State} (all first place : ℕ) (g : Gathered) (best : Option ImageSize) → g.best ≡ best
-    → ListWalks all first a b place g → Runs b end (Ok None) (layout_reads b.held.input (property_at g.left place))
-    → Runs a end (ok_or (option_map (turn_by g.turn) best) NotEnoughData) (chain_at (properties all first) a.held.input)
-list_end_by all first place g None is w run =
-    walks_out (properties all first) (properties_advance all first) (Amounts all g) w NotEnoughData
-    (λ held h. list_said all g place held h
-    (runs_bind (Err NotEnoughData) (property_at g.left place) (property_or_answer held place) run
-    (λ d. answers all g held place d h ∙ ap (λ o. layout_reads d (heif_answer o g.turn)) is) refl
-    (record { budget = λ e. absurd cc; memory = λ e. absurd cc; fault = λ e. absurd cc })))
-list_end_by all first place g (Some size) is w run =
-    walks_stop (properties all first) (properties_advance all first) (Amounts all g) w (turn_by g.turn size)
-    (λ held h. list_said all g place held h
-    (runs_bind (Ok (Decided (turn_by g.turn size))) (property_at g.left place) (property_or_answer held place) run
-    (λ d. answers all g held place d h ∙ ap (λ o. layout_reads d (heif_answer o g.turn)) is) refl tt))
-
-pub list_end : {a b end : State} (all first place : ℕ) (g : Gathered) → ListWalks all first a b place g
-    → Runs b end (Ok None) (layout_reads b.held.input (property_at g.left place)) → Runs a end (gathered_answer g)
-    (chain_at (properties all first) a.held.input)
-list_end all first place g w run = list_end_by all first place g g.best refl w run
-
 -- at a place beyond the input it ends too
 none_listed : (d : List ℕ) (held : List Property) (left place : ℕ) → length d ≤ place
     → layout_reads d (bind (property_at left place) (property_or_answer held place)) ≡ layout_reads d (property_or_answer held place None)
 none_listed d held left place far = rw (no_part d place 8 far, no_span d place 8 far) refl
 
-answer_ended : (b : State) (best : Option ImageSize) (turn : Option ℕ)
-    → IfErr (ok_or (option_map (turn_by turn) best) NotEnoughData) (EndedBy b)
-answer_ended b None turn = record { budget = λ e. absurd cc; memory = λ e. absurd cc; fault = λ e. absurd cc }
-answer_ended b (Some size) turn = tt
+answer_read : (d : List ℕ) (best : Option ImageSize) (turn : Option ℕ) → layout_reads d (heif_answer best turn)
+    ≡ record { answer = map_answer Decided (ok_or (option_map (turn_by turn) best) NotEnoughData); marks = [] }
+answer_read d None turn = refl
+answer_read d (Some size) turn = refl
 
-answer_no_fault : (best : Option ImageSize) (turn : Option ℕ) → is_faulted (ok_or (option_map (turn_by turn) best) NotEnoughData)
-    ≡ false
-answer_no_fault None turn = refl
-answer_no_fault (Some size) turn = refl
+-- a record of the list, by what the properties before it amount to
+module _ {b end : State} (all : ℕ) (g : Gathered) (place : ℕ) (held : List Property) (h : Amounts all g held) where
+  said_by : {r : Result (Said Property ImageSize) Halt}
+      → Runs b end r (layout_reads b.held.input (bind (property_at g.left place) (property_or_answer held place)))
+      → Runs b end r (layout_reads b.held.input (bind (property_at (all - sum_by skipped_bytes held) place) (property_or_answer held place)))
+  said_by {r} run =
+      subst (λ n. Runs b end r (layout_reads b.held.input (bind (property_at n place) (property_or_answer held place)))) (sym h.left) run
 
-answer_verdict : (d : List ℕ) (best : Option ImageSize) (turn : Option ℕ)
-    → (verdict (layout_reads d (heif_answer best turn)).answer ≡ Some (ok_or (option_map (turn_by turn) best) NotEnoughData))
-    × ((layout_reads d (heif_answer best turn)).marks ≡ [])
-answer_verdict d None turn = (refl, refl)
-answer_verdict d (Some size) turn = (refl, refl)
+  pub listed_next : (property : Property) → Runs b end (Ok (Some property)) (layout_reads b.held.input (property_at g.left place))
+      → Runs b end (Ok (Next property (place + property_bytes property)))
+      (layout_reads b.held.input (bind (property_at (all - sum_by skipped_bytes held) place) (property_or_answer held place)))
+  listed_next property run = said_by (runs_bind (Ok (Next property (place + property_bytes property))) (property_at g.left place)
+      (property_or_answer held place) run (λ d. refl) refl tt)
 
-ends_beyond : (all first place : ℕ) (g : Gathered) (held : List Property) (d : List ℕ) → length d ≤ place → Amounts all g held
-    → chain_from (properties all first) d (record { held = held; place = place }) ≡ record { answer = gathered_answer g; marks = [] }
-ends_beyond all first place g held d far h =
-    let says = none_listed d held (all - sum_by skipped_bytes held) place far ∙ answers all g held place d h in
-    let is = answer_verdict d g.best g.turn in
-    chain_stop (properties all first) d (record { held = held; place = place }) (gathered_answer g)
-    (ap (λ r. verdict r.answer) says ∙ is.0) ∙ ap (λ marks. record { answer = gathered_answer g; marks = marks })
-    (ap (λ r. r.marks) says ∙ is.1)
+  pub listed_out : (e : Halt) → Runs {X = Option Property} b end (Err e) (layout_reads b.held.input (property_at g.left place))
+      → Runs {X = Said Property ImageSize} b end (Err e)
+      (layout_reads b.held.input (bind (property_at (all - sum_by skipped_bytes held) place) (property_or_answer held place)))
+  listed_out e run = said_by (refused_bind (property_at g.left place) (property_or_answer held place) run)
 
-pub list_past : {a b : State} (all first place : ℕ) (g : Gathered) → first < place → ListWalks all first a b place g → 2 ^ 64 ≤ place
-    → Runs a b (gathered_answer g) (chain_at (properties all first) a.held.input)
-list_past {a} all first place g behind w far =
-    reached_now w.reached (gathered_answer g) (w.sound behind) (answer_no_fault g.best g.turn) (answer_ended _ g.best g.turn)
-    (λ honest short. ends_beyond all first place g w.held a.held.input (omega arith) w.known)
+  pub listed_end : Runs b end (Ok None) (layout_reads b.held.input (property_at g.left place))
+      → Runs b end (map_answer Decided (gathered_answer g))
+      (layout_reads b.held.input (bind (property_at (all - sum_by skipped_bytes held) place) (property_or_answer held place)))
+  listed_end run = said_by (runs_bind (map_answer Decided (gathered_answer g)) (property_at g.left place) (property_or_answer held place) run
+      (λ d. answers all g held place d h ∙ answer_read d g.best g.turn) (no_stop g.best).0 (no_stop g.best).1) where
+        no_stop : (best : Option ImageSize)
+            → (is_faulted (map_answer {Y = Said Property ImageSize} Decided (ok_or (option_map (turn_by g.turn) best) NotEnoughData)) ≡ false)
+            × IfErr (map_answer {Y = Said Property ImageSize} Decided (ok_or (option_map (turn_by g.turn) best) NotEnoughData)) (EndedBy end)
+        no_stop None = (refl, record { budget = λ e. absurd cc; memory = λ e. absurd cc; fault = λ e. absurd cc })
+        no_stop (Some size) = (refl, tt)
+
+pub list_ends : (all : ℕ) (g : Gathered) (held : List Property) → Amounts all g held → (d : List ℕ) (place : ℕ) → length d ≤ place
+    → layout_reads d (bind (property_at (all - sum_by skipped_bytes held) place) (property_or_answer held place))
+    ≡ record { answer = map_answer Decided (gathered_answer g); marks = [] }
+list_ends all g held h d place far =
+    none_listed d held (all - sum_by skipped_bytes held) place far ∙ answers all g held place d h ∙ answer_read d g.best g.turn
+
+none_gathered : (all place : ℕ) (d : List ℕ) → length d ≤ place
+    → chain_at (properties all place) d ≡ record { answer = Err NotEnoughData; marks = [] }
+none_gathered all place d far =
+    let says = list_ends all (record { left = all; best = None; turn = None }) [] (record {
+      left = omega arith;
+      best = record { is = refl; first = refl; area = refl; found = λ some. absurd (omega arith) };
+      turn = refl;
+    }) d place far in
+    chain_stop (properties all place) d (start (properties all place)) (Err NotEnoughData) (ap (λ r. verdict r.answer) says)
+    ∙ ap (λ r. record { answer = Err NotEnoughData; marks = r.marks }) says
 
 pub list_saturated : {a b : State} {r : Result ImageSize Halt} (all place : ℕ)
     → Runs a b r (chain_at (properties all (min place (2 ^ 64 - 1))) a.held.input)
     → Runs a b r (chain_at (properties all place) a.held.input)
 list_saturated all place h = saturated_by (λ p d. chain_at (properties all p) d)
-    (record { answer = Err NotEnoughData; marks = [] }) place
-    (λ d p far. ends_beyond all p p (record { left = all; best = None; turn = None }) [] d far
-    (record {
-      left = omega arith;
-      best = record { is = refl; first = refl; area = refl; found = λ some. absurd (omega arith) };
-      turn =
-          refl;
-    }))
-    h
+    (record { answer = Err NotEnoughData; marks = [] }) place (λ d p far. none_gathered all p d far) h
 
 -- the compression is read from at most 12 bytes, and is always told
 pub heif_compression_laws : (place : ℕ) (head : List ℕ) → CompressionLaws 12 (heif_compression place head)

@@ -1,28 +1,23 @@
 -- What the code holds and says of one box or property at a place, and of a number's bits.
-use Rattle.std.specs.Prelude.{ℕ, ◌+◌, ◌-◌, ◌/◌, ◌%◌, ◌^◌, ◌<◌, ◌≤◌, nat_le, nat_lt, List, length, if◌then◌else◌, Option, None, Some, unwrap_or, ok_or, option_map, Result, Ok, Err}
+use Rattle.std.specs.Prelude.{◌≡◌, ◌==◌, true, find, flat_map, is_some, ℕ, ◌+◌, ◌-◌, ◌/◌, ◌%◌, ◌^◌, ◌<◌, ◌≤◌, nat_le, nat_lt, List, length, if◌then◌else◌, Option, None, Some, unwrap_or, ok_or, option_map, Result, Ok, Err}
 use Rattle.imagesize_boxes.specs.Fields.{Fields, found_by}
-use Rattle.imagesize_boxes.specs.Heif.{no_pixels, property_bytes, skipped_bytes, turn_by}
+use Rattle.std.specs.List.{last_or, sum_by}
+use Rattle.imagesize_boxes.specs.Heif.{extents_of, largest_extents, largest_or_none, no_pixels, property_bytes, rotations_of, skipped_bytes, turn_by}
 use Rattle.imagesize_boxes.specs.declared.container.heif.FoundBox.{FoundBox}
 use Rattle.imagesize_boxes.specs.declared.container.heif.Gathered.{Gathered}
 use Rattle.imagesize_boxes.specs.declared.container.heif.Property.{Property}
 use Rattle.imagesize_boxes.specs.declared.container.heif.Property.TheVariants.{Extents, Rotation, Skipped}
-use Rattle.imagesize_boxes.specs.declared.container.heif.Searched.{Searched}
-use Rattle.imagesize_boxes.specs.declared.container.heif.Searched.TheVariants as searched
 use Rattle.imagesize_boxes.specs.declared.formats.jxl.boxes.BoxHead.{BoxHead}
 use Rattle.imagesize_boxes.specs.declared.formats.jxl.boxes.Found.{Found}
 use Rattle.imagesize_boxes.specs.declared.formats.jxl.boxes.Found.TheVariants.{Whole, Passed}
 use Rattle.imagesize_source.specs.declared.halt.Halt.{Halt}
 use Rattle.imagesize_source.specs.declared.halt.Halt.TheVariants.{Corrupted, NotEnoughData}
 use Rattle.imagesize_source.specs.Chain.{Said, Decided, Next}
-use Rattle.imagesize_types.specs.Largest.{area_if_some}
+use Rattle.imagesize_types.specs.Largest.{area_if_some, greatest_area}
 use Rattle.imagesize_types.specs.Order.{area_of}
 use Rattle.imagesize_types.specs.declared.size.ImageSize.{ImageSize}
 
--- what a box of a HEIF says to a search, and a property to the list
-abbrev pub searched_said : ℕ → Searched → Said (Unit {0}) FoundBox
-searched_said place (searched.Found found) = Decided found
-searched_said place (searched.Other size) = Next tt (place + size)
-
+-- what a property of a HEIF says to the list
 abbrev pub property_said : ℕ → Option Property → Said Property (Unit {0})
 property_said place None = Decided tt
 property_said place (Some property) = Next property (place + property_bytes property)
@@ -45,6 +40,19 @@ gathered_with g (Skipped size) = record g { left = g.left - size }
 -- and what they answer at the end of the list
 abbrev pub gathered_answer : Gathered → Result ImageSize Halt
 gathered_answer g = ok_or (option_map (turn_by g.turn) g.best) NotEnoughData
+
+-- These are the largest extents, of several the first.
+pub record Largest (best : Option ImageSize) (sizes : List ImageSize) : Type 0 where
+  pub is : largest_extents sizes ≡ best
+  pub first : largest_or_none sizes ≡ unwrap_or best no_pixels
+  pub area : greatest_area sizes ≡ area_if_some best
+  pub found : 0 < greatest_area sizes → is_some (find (λ s. area_of s == greatest_area sizes) sizes) ≡ true
+
+-- The properties so far amount to this.
+pub record Amounts (all : ℕ) (g : Gathered) (held : List Property) : Type 0 where
+  pub left : all - sum_by skipped_bytes held ≡ g.left
+  pub best : Largest g.best (flat_map extents_of held)
+  pub turn : last_or None (flat_map rotations_of held) ≡ g.turn
 
 -- what a box of a JPEG XL says
 abbrev pub box_said : Found → Said (List ℕ) (List ℕ)

@@ -6,6 +6,7 @@ use Rattle.std.proofs.lemmas.List.{append-nil, length_push}
 use Rattle.std.proofs.lemmas.List.Elements.{filter-append}
 use Rattle.std.specs.Prelude.{filter, option_and_then}
 use Rattle.std.specs.List.{last_or}
+use Rattle.imagesize_walked.specs.Walks.{Known}
 use Rattle.imagesize_walked.specs.Tiff.{byte_order, size_or_next, count_bytes, directory_at, tiff_begun, entry_bytes, head_bytes, field_type_in, field_type_of, last_value, size_in, size_if_known, stated_place, tag_in, tiff, tiff_directory, tiff_entries, tiff_entry, tiff_head, tiff_header, tiff_value, value_bytes, value_of, version_of, whole_value, directory_begun}
 use Rattle.imagesize_walked.specs.declared.formats.tiff.Entry.{Entry}
 use Rattle.imagesize_walked.specs.declared.formats.tiff.Header.{Header}
@@ -35,11 +36,10 @@ use Rattle.imagesize_source.proofs.Counts.{begun_cost, at_most, at_most_bind, at
 use Rattle.imagesize_source.proofs.Answered.{on_answer}
 use Rattle.imagesize_source.proofs.Agreement.{AllRead, local_layout, local_number, local_then, without_texts}
 use Rattle.imagesize_source.proofs.Extension.{bytes_more, more, number_ok}
-use Rattle.imagesize_source.proofs.Reached.{runs_bind, refused_bind}
+use Rattle.imagesize_source.proofs.Reached.{reads_nothing, runs_bind, refused_bind}
 use Rattle.imagesize_source.proofs.Runs.{total-append}
 use Rattle.imagesize_source.proofs.Tests.{on_test}
 use Rattle.imagesize_source.proofs.Way.{RecordedLaws}
-use Rattle.imagesize_source.proofs.Walks.{Walks, walks_start, walks_on, walks_stop, walks_out, walks_now}
 use Rattle.imagesize_source.proofs.Lists.{last_push}
 
 -- what holds of a refusal and of what goes on
@@ -123,7 +123,7 @@ record_begins : (header : Header) (entries : List Entry) (place : ℕ) → Begin
 unfolding tiff_entry tiff_head
 record_begins header entries place = (omega arith, head_some header.version)
 
-entries_advance : (header : Header) (count : ℕ) (d : List ℕ) → Advances (tiff_entries header count) d
+pub entries_advance : (header : Header) (count : ℕ) (d : List ℕ) → Advances (tiff_entries header count) d
 entries_advance header count = advances (tiff_entries header count)
     (λ entries place. by_count (Tells (λ p. place < p)) header count entries place tt (record_tells header entries place))
     (λ entries place. by_count (Begins place) header count entries place tt (record_begins header entries place))
@@ -150,13 +150,8 @@ last_value_on : (tag : ℕ) (entries : List Entry) (entry : Entry) → last_valu
 last_value_on tag entries entry = ap (option_and_then (λ e. e.value)) (last_by tag entries entry (eqb entry.tag tag) refl) ∙ value_by
     (eqb entry.tag tag) entry (last_or None (filter (λ e. eqb e.tag tag) entries))
 
--- So many entries are known, and by them the two sides.
-pub record Known (i : ℕ) (width height : Option ℕ) (entries : List Entry) : Type 0 where
-  pub many : length entries ≡ i
-  pub wide : last_value 0x100 entries ≡ width
-  pub high : last_value 0x101 entries ≡ height
-
-known_on : (i : ℕ) (width height wide high : Option ℕ) (entries : List Entry) (entry : Entry) → wide ≡ cond (eqb entry.tag 0x100)
+-- with one entry more
+pub known_on : (i : ℕ) (width height wide high : Option ℕ) (entries : List Entry) (entry : Entry) → wide ≡ cond (eqb entry.tag 0x100)
     entry.value width → high ≡ cond (eqb entry.tag 0x101) entry.value height → Known i width height entries → Known (i + 1) wide high
     (entries ++ entry ∷ [])
 known_on i width height wide high entries entry is_wide is_high h = record {
@@ -169,33 +164,6 @@ size_known : (i : ℕ) (width height : Option ℕ) (entries : List Entry) → Kn
     → size_in entries ≡ size_if_known width height
 size_known i width height entries h = ap (λ w. size_if_known w (last_value 0x101 entries)) h.wide ∙ ap (size_if_known width) h.high
 
--- where the entry of an index stands
-abbrev pub entry_at : Header → ℕ → ℕ
-entry_at header i = header.directory + count_bytes header.version + entry_bytes header.version * i
-
--- how far a walk has come
-abbrev pub TiffWalks : Header → ℕ → State → State → ℕ → Option ℕ → Option ℕ → Type 0
-TiffWalks header count a b i width height = Walks (tiff_entries header count) (Known i width height) a b (entry_at header i)
-
-pub tiff_start : (header : Header) (count : ℕ) (a : State) → TiffWalks header count a a 0 None None
-tiff_start header count a =
-    let at : header.directory + count_bytes header.version ≡ entry_at header 0 = omega arith in
-    subst (λ p. Walks (tiff_entries header count) (Known 0 None None) a a p) at
-    (walks_start (tiff_entries header count) (Known 0 None None) a (record { many = refl; wide = refl; high = refl }))
-
--- a place that moves from entry to entry, and is held at the greatest
-pub place_first : (header : Header) (place : ℕ) → place ≡ min (header.directory + count_bytes header.version) (2 ^ 64 - 1)
-    → place ≡ min (entry_at header 0) (2 ^ 64 - 1)
-place_first header place is = omega (arith, is)
-
-pub place_on : (header : Header) (i place behind_head next : ℕ) → place ≡ min (entry_at header i) (2 ^ 64 - 1)
-    → behind_head ≡ min (place + head_bytes header.version) (2 ^ 64 - 1)
-    → next ≡ min (behind_head + value_bytes header.version) (2 ^ 64 - 1) → next ≡ min (entry_at header (i + 1)) (2 ^ 64 - 1)
-place_on header i place behind_head next at head value =
-    let times = mul-add (entry_bytes header.version) i 1 in
-    let entry : entry_at header (i + 1) ≡ entry_at header i + (head_bytes header.version + value_bytes header.version) = omega (arith, times) in
-    omega (arith, at, head, value, entry)
-
 -- no input is so long that an entry stands beyond 64 bits
 entry_beyond : (d : List ℕ) (header : Header) (place : ℕ) → length d ≤ place → layout_reads d (tiff_entry header place) ≡ refuses Ended
 unfolding tiff_entry tiff_head
@@ -204,90 +172,83 @@ entry_beyond d header place h = bytes_beyond d place (head_bytes header.version)
     (λ field_type. bind (tiff_value header.version (place + head_bytes header.version))
     (λ value. done (entry_of header (take 4 head) field_type value)))) h (head_some header.version)
 
-entry_saturated : {a b : State} {r : Result Entry Halt} (header : Header) (place : ℕ)
-    → Runs a b r (layout_reads a.held.input (tiff_entry header (min place (2 ^ 64 - 1))))
-    → Runs a b r (layout_reads a.held.input (tiff_entry header place))
-entry_saturated header place h = saturated_by (λ p d. layout_reads d (tiff_entry header p)) (refuses Ended) place
-    (λ d p far. entry_beyond d header p far) h
+-- the record of an entry, where there are more, and where there are none
+more_said : (header : Header) (count i : ℕ) (width height : Option ℕ) (entries : List Entry) (place : ℕ) → Known i width height entries
+    → i ≢ count → (tiff_entries header count).said entries place ≡ record_behind header entries place
+more_said header count i width height entries place h more =
+    let many = h.many in
+    let no : eqb (length entries) count ≡ false = grind (arith, nat_tests) in
+    ap (λ test. cond test (refuse NoDimensionsInIfd) (record_behind header entries place)) no
 
--- the record of an entry, where there are more
-more_said : {b end : State} {r : Result (Said Entry ImageSize) Halt} (header : Header) (count i : ℕ) (entries : List Entry)
-    (place : ℕ) → i < count → length entries ≡ i → Runs b end r (layout_reads b.held.input (record_behind header entries place))
-    → Runs b end r (layout_reads b.held.input ((tiff_entries header count).said entries place))
-more_said {b} {end} {r} header count i entries place below many run =
-    let more : eqb (length entries) count ≡ false = grind (arith, nat_tests) in
-    subst (λ t. Runs b end r (layout_reads b.held.input t))
-    (sym (ap (λ test. cond test (refuse NoDimensionsInIfd) (record_behind header entries place)) more)) run
+pub end_said : (header : Header) (count : ℕ) (entries : List Entry) (place : ℕ) → length entries ≡ count
+    → (tiff_entries header count).said entries place ≡ refuse NoDimensionsInIfd
+end_said header count entries place many =
+    let all : eqb (length entries) count ≡ true = grind (arith, nat_tests) in
+    ap (λ test. cond test (refuse NoDimensionsInIfd) (record_behind header entries place)) all
 
--- at the entry of an index, whose place is held at the greatest
-module _ {a b : State} (header : Header) (count i : ℕ) (width height : Option ℕ) (below : i < count)
-    (w : TiffWalks header count a b i width height) (place : ℕ) (at : place ≡ min (entry_at header i) (2 ^ 64 - 1)) where
-  -- the record, by the entry that was read
-  entry_read : {end : State} {r : Result Entry Halt} → Runs b end r (layout_reads b.held.input (tiff_entry header place))
-      → Runs b end r (layout_reads b.held.input (tiff_entry header (entry_at header i)))
-  entry_read {end} {r} run = entry_saturated header (entry_at header i)
-      (subst (λ p. Runs b end r (layout_reads b.held.input (tiff_entry header p))) at run)
+-- where there are none, nothing is read
+pub entries_done : {a : State} (header : Header) (count : ℕ) (entries : List Entry) (place : ℕ) → IsSound a → length entries ≡ count
+    → Runs {X = Said Entry ImageSize} a a (Err NoDimensionsInIfd) (layout_reads a.held.input ((tiff_entries header count).said entries place))
+entries_done {a} header count entries place sound many =
+    subst (λ t. Runs {X = Said Entry ImageSize} a a (Err NoDimensionsInIfd) (layout_reads a.held.input t))
+    (sym (end_said header count entries place many))
+    (reads_nothing a (Err NoDimensionsInIfd) sound refl (record { budget = λ e. absurd cc; memory = λ e. absurd cc; fault = λ e. absurd cc }))
 
-  -- what it says behind others
-  entry_said : {end : State} (entry : Entry) (wide high : Option ℕ) (size : Option ImageSize) → wide ≡ cond (eqb entry.tag 0x100)
-      entry.value width → high ≡ cond (eqb entry.tag 0x101) entry.value height → size_if_known wide high ≡ size
-      → Runs b end (Ok entry) (layout_reads b.held.input (tiff_entry header place)) → (entries : List Entry) → Known i width height entries
-      → Runs b end (Ok (size_or_next size entry (entry_at header i + entry_bytes header.version)))
-      (layout_reads b.held.input ((tiff_entries header count).said entries (entry_at header i)))
-  entry_said entry wide high size is_wide is_high is run entries h =
-      let next : ℕ = entry_at header i + entry_bytes header.version in
+-- what a record says behind others, by the entry that was read
+module _ {a b : State} (header : Header) (count i : ℕ) (width height : Option ℕ) (more : i ≢ count) (place : ℕ) (entries : List Entry)
+    (h : Known i width height entries) where
+  pub entry_said : (entry : Entry) (wide high : Option ℕ) (size : Option ImageSize) → wide ≡ cond (eqb entry.tag 0x100) entry.value width
+      → high ≡ cond (eqb entry.tag 0x101) entry.value height → size_if_known wide high ≡ size
+      → Runs a b (Ok entry) (layout_reads a.held.input (tiff_entry header place))
+      → Runs a b (Ok (size_or_next size entry (place + entry_bytes header.version)))
+      (layout_reads a.held.input ((tiff_entries header count).said entries place))
+  entry_said entry wide high size is_wide is_high is run =
+      let next : ℕ = place + entry_bytes header.version in
       let known : size_in (entries ++ entry ∷ []) ≡ size = size_known (i + 1) wide high (entries ++ entry ∷ [])
       (known_on i width height wide high entries entry is_wide is_high h) ∙ is in
-      more_said header count i entries (entry_at header i) below h.many
-      (runs_bind (Ok (size_or_next size entry next)) (tiff_entry header (entry_at header i)) (says header entries (entry_at header i))
-      (entry_read run)
+      subst (λ t. Runs a b (Ok (size_or_next size entry next)) (layout_reads a.held.input t))
+      (sym (more_said header count i width height entries place h more))
+      (runs_bind (Ok (size_or_next size entry next)) (tiff_entry header place) (says header entries place) run
       (λ d. ap (λ o. layout_reads d (done (size_or_next o entry next))) known) refl tt)
 
-  -- the walk goes on where a side is still unknown
-  pub tiff_on : {end : State} (entry : Entry) (wide high : Option ℕ) → wide ≡ cond (eqb entry.tag 0x100) entry.value width
-      → high ≡ cond (eqb entry.tag 0x101) entry.value height → size_if_known wide high ≡ None
-      → Runs b end (Ok entry) (layout_reads b.held.input (tiff_entry header place)) → TiffWalks header count a end (i + 1) wide high
-  tiff_on {end} entry wide high is_wide is_high is run =
-      let on = walks_on (tiff_entries header count) (entries_advance header count) (Known i width height) w (Known (i + 1) wide high)
-      entry (entry_at header i + entry_bytes header.version)
-      (entry_said entry wide high None is_wide is_high is run)
-      (λ entries h. known_on i width height wide high entries entry is_wide is_high h) in
-      let times = mul-add (entry_bytes header.version) i 1 in
-      let next : entry_at header i + entry_bytes header.version ≡ entry_at header (i + 1) = omega arith in
-      subst (λ p. Walks (tiff_entries header count) (Known (i + 1) wide high) a end p) next on
+  pub entry_refused : (e : Halt) → Runs {X = Entry} a b (Err e) (layout_reads a.held.input (tiff_entry header place))
+      → Runs {X = Said Entry ImageSize} a b (Err e) (layout_reads a.held.input ((tiff_entries header count).said entries place))
+  entry_refused e run = subst (λ t. Runs {X = Said Entry ImageSize} a b (Err e) (layout_reads a.held.input t))
+      (sym (more_said header count i width height entries place h more)) (refused_bind (tiff_entry header place) (says header entries place) run)
 
-  -- and ends where both are known
-  pub tiff_stop : {end : State} (entry : Entry) (wide high : Option ℕ) (size : ImageSize) → wide ≡ cond (eqb entry.tag 0x100) entry.value
-      width → high ≡ cond (eqb entry.tag 0x101) entry.value height → size_if_known wide high ≡ Some size
-      → Runs b end (Ok entry) (layout_reads b.held.input (tiff_entry header place))
-      → Runs a end (Ok size) (chain_at (tiff_entries header count) a.held.input)
-  tiff_stop entry wide high size is_wide is_high is run =
-      walks_stop (tiff_entries header count) (entries_advance header count) (Known i width height) w size
-      (entry_said entry wide high (Some size) is_wide is_high is run)
+-- from the end of the input on there is no entry
+pub entries_end : (header : Header) (count i : ℕ) (width height : Option ℕ) (entries : List Entry) → Known i width height entries → i ≢ count
+    → (d : List ℕ) (place : ℕ) → length d ≤ place → layout_reads d ((tiff_entries header count).said entries place) ≡ refuses Ended
+unfolding tiff_entry tiff_head
+entries_end header count i width height entries h more d place far =
+    ap (layout_reads d) (more_said header count i width height entries place h more)
+    ∙ bytes_beyond d place (head_bytes header.version) (λ head. bind (accept (field_type_of header.version (field_type_in header.order (take 4 head)))
+    (λ field_type. bind (tiff_value header.version (place + head_bytes header.version))
+    (λ value. done (entry_of header (take 4 head) field_type value)))) (says header entries place)) far (head_some header.version)
 
-  -- or where the entry is refused
-  pub tiff_out : {end : State} (e : Halt) → Runs {X = Entry} b end (Err e) (layout_reads b.held.input (tiff_entry header place))
-      → Runs {X = ImageSize} a end (Err e) (chain_at (tiff_entries header count) a.held.input)
-  tiff_out e run =
-      walks_out (tiff_entries header count) (entries_advance header count) (Known i width height) w e
-      (λ entries h. more_said header count i entries (entry_at header i) below h.many
-      (refused_bind (tiff_entry header (entry_at header i)) (says header entries (entry_at header i)) (entry_read run)))
+-- so a directory beyond 64 bits serves as well at the greatest place
+none_there : (header : Header) (count place : ℕ) (d : List ℕ) → length d ≤ place
+    → chain_at (record { first = place; said = (tiff_entries header count).said }) d
+    ≡ record { answer = cond (eqb 0 count) (Err NoDimensionsInIfd) (Err Ended); marks = [] }
+none_there header count place d far = by_count (eqb 0 count) refl where
+  c : Chain Entry ImageSize
+  c = record { first = place; said = (tiff_entries header count).said }
 
-end_said : (header : Header) (count : ℕ) (entries : List Entry) (place : ℕ) (d : List ℕ) → length entries ≡ count
-    → layout_reads d ((tiff_entries header count).said entries place) ≡ layout_reads d (refuse NoDimensionsInIfd)
-end_said header count entries place d many =
-    let all : eqb (length entries) count ≡ true = grind (arith, nat_tests) in
-    ap (λ test. layout_reads d (cond test (refuse NoDimensionsInIfd) (record_behind header entries place))) all
+  by_count : (all : Bool) → eqb 0 count ≡ all → chain_at c d ≡ record { answer = cond all (Err NoDimensionsInIfd) (Err Ended); marks = [] }
+  by_count true is = chain_stop c d (start c) (Err NoDimensionsInIfd)
+      (ap (λ test. verdict (layout_reads d (cond test (refuse NoDimensionsInIfd) (record_behind header [] place))).answer) is)
+      ∙ ap (λ test. record { answer = Err NoDimensionsInIfd; marks = (layout_reads d (cond test (refuse NoDimensionsInIfd) (record_behind header [] place))).marks }) is
+  by_count false is =
+      let more : 0 ≢ count = λ same. absurd (let yes : eqb 0 count ≡ true = grind (arith, nat_tests) in let no : true ≡ false = sym yes ∙ is in cc) in
+      let none = entries_end header count 0 None None [] (record { many = refl; wide = refl; high = refl }) more d place far in
+      chain_stop c d (start c) (Err Ended) (ap (λ r. verdict r.answer) none) ∙ ap (λ r. record { answer = Err Ended; marks = r.marks }) none
 
--- all entries were read
-pub tiff_done : {a b : State} (header : Header) (count i : ℕ) (width height : Option ℕ) → i ≡ count → IsSound b
-    → TiffWalks header count a b i width height → Runs a b (Err NoDimensionsInIfd)
-    (chain_at (tiff_entries header count) a.held.input)
-tiff_done header count i width height at sound w =
-    walks_now (tiff_entries header count) (entries_advance header count) (Known i width height) w (Err NoDimensionsInIfd) sound
-    refl (record { budget = λ e. absurd cc; memory = λ e. absurd cc; fault = λ e. absurd cc })
-    (λ entries d h. let says = end_said header count entries (entry_at header i) d (h.many ∙ at) in
-    (ap (λ r. verdict r.answer) says, ap (λ r. r.marks) says))
+pub entries_saturated : {a b : State} {r : Result ImageSize Halt} (header : Header) (count : ℕ)
+    → Runs a b r (chain_at (record { first = min (header.directory + count_bytes header.version) (2 ^ 64 - 1); said = (tiff_entries header count).said }) a.held.input)
+    → Runs a b r (chain_at (tiff_entries header count) a.held.input)
+entries_saturated header count h = saturated_by (λ p d. chain_at (record { first = p; said = (tiff_entries header count).said }) d)
+    (record { answer = cond (eqb 0 count) (Err NoDimensionsInIfd) (Err Ended); marks = [] }) (header.directory + count_bytes header.version)
+    (λ d p far. none_there header count p d far) h
 
 -- an entry has 12 bytes, and 20 in BigTIFF
 entry_few : (version : Version) → head_bytes version + value_bytes version ≤ 20
@@ -389,7 +350,7 @@ ends_at : (header : Header) (count : ℕ) (d : List ℕ) (t : Along Entry) (entr
     → (next_record (tiff_entries header count) d t).answer ≡ Ok (Next entry place) → length t.held ≡ count → ⊥
 ends_at header count d t entry place is at =
     let out : Err NoDimensionsInIfd ≡ Ok (Next entry place) =
-    sym (ap (λ r. r.answer) (end_said header count t.held t.place d at)) ∙ is in
+    sym (ap (λ l. (layout_reads d l).answer) (end_said header count t.held t.place at)) ∙ is in
     absurd cc
 
 -- where the entries are all read, nothing is

@@ -6,6 +6,8 @@ use Rattle.imagesize_source.specs.Layout.Layout.{done}
 use Rattle.imagesize_types.specs.Largest.{area_if_some, greatest_area, last_largest}
 use Rattle.imagesize_source.specs.Chain.{Said, Decided, Next}
 use Rattle.imagesize_types.specs.declared.size.ImageSize.{ImageSize}
+use Rattle.imagesize_walked.specs.Tiff.{last_value}
+use Rattle.imagesize_walked.specs.declared.formats.tiff.Entry.{Entry}
 use Rattle.imagesize_walked.specs.Jpeg.{depth, count_starts, count_ends}
 use Rattle.imagesize_walked.specs.declared.formats.jpeg.Role.{Role}
 use Rattle.imagesize_walked.specs.declared.formats.jpeg.Role.TheVariants as role
@@ -54,3 +56,9 @@ pub record Seen (count : ℕ) (largest : Option ImageSize) (sizes : List ImageSi
 -- the first bytes of the entry at an offset, of which so many are behind it; none behind the last
 abbrev pub entry_in : ℕ → ℕ → ℕ → Layout (Option (List ℕ))
 entry_in count seen place = if seen == count then done None else if_there place 2 done
+
+-- So many entries of a TIFF were read, and by them the two sides are known.
+pub record Known (count : ℕ) (width height : Option ℕ) (entries : List Entry) : Type 0 where
+  pub many : length entries ≡ count
+  pub wide : last_value 0x100 entries ≡ width
+  pub high : last_value 0x101 entries ≡ height

@@ -28,7 +28,7 @@ export async function withTab(use) {
   }
 }
 
-// Commands and their answers, and events, each a text that a zero ends.
+// Commands and their results, and events. Each is a text that ends with a zero.
 class Link {
   #pipe;
   #last = 0;

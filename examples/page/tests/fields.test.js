@@ -59,13 +59,13 @@ test('a span named width holds the width, and one named height the height', () =
 
 test('names follow the structure of a format', () => {
   const cases = [
-    // A marker of which one byte is there, and a segment of length 0, after which its own bytes are read as a marker.
+    // A marker with only one byte there; and a segment of length 0, whose own bytes are read as the next marker.
     [hex('ffd8 ffe0 0007 0000000000 ff'), ['marker: APP0', 'segment length', 'marker, which is cut']],
     [hex('ffd8 ffe0 0000 000000000000'), ['marker: APP0', 'segment length', 'no marker']],
     // A chunk of 2 bytes: the header is 10 bytes after it.
     [hex(`${ascii('FORM')} 00000020 ${ascii('ILBMANNO')} 00000002 0000 ${ascii('BMHD')} 00000014 0140 00c8 00000000`),
       ['chunk: ANNO', 'chunk: BMHD', 'width', 'height']],
-    // Extents of which three bytes are missing.
+    // Extents without their last three bytes.
     [hex(`00000010 ${ascii('ftypavif')} 00000000 00000039 ${ascii('meta')} 00000000 0000002d ${ascii('iprp')} 00000025 ${ascii('ipco')} 00000014 ${ascii('ispe')} 0000000000000040 00`),
       ['size of the first box', 'box: meta', 'version and flags', 'box: iprp', 'box: ipco', 'box: ispe', 'width and height']],
     // A comment, a width, and a height that begins as a comment does.

@@ -526,7 +526,7 @@ test('the page', async (t) => {
           'The server does not answer, or does not allow this page to read the file.',
           '7 × 5',
         ]);
-        // Some browsers refuse such an answer themselves.
+        // Some browsers reject such a response themselves.
         assert.ok(rows[4].refused);
         assert.equal(rows[5].cells[3], 'This is no web address.');
       });

@@ -2,16 +2,17 @@
 //! (the brands, the properties and their list); the brands of AVIF by the AV1 Image File Format.
 ghost use Rattle.std.specs.Prelude.{◌≡◌, ◌+◌, ◌<◌, ◌≤◌, Some, IfOk};
 ghost use Rattle.imagesize_boxes.specs.Heif.{box_size, brand_compression, compatible_compression, extents_size, heif, heif_compression, heif_in_iprp, heif_in_meta, is_general, is_heif, is_named, properties, property_at, property_bytes, search_for, searched_box, skipped_bytes, turn_by};
-ghost use Rattle.imagesize_boxes.specs.Walks.{searched_said, property_said, earlier_largest, gathered_with, gathered_answer, IsLeftFor};
+ghost use Rattle.imagesize_boxes.specs.Walks.{Amounts, property_said, earlier_largest, gathered_with, gathered_answer, IsLeftFor};
 ghost use Rattle.imagesize_source.specs.Chain.{chain_at};
 ghost use Rattle.imagesize_source.specs.Paying.{Nears};
 ghost use Rattle.imagesize_source.specs.Reading.{bytes_read, map_answer};
 ghost use Rattle.imagesize_source.specs.State.{Follows, Runs, IsSound};
 
 use imagesize_source::readings::{
-    place_behind, read_bytes, read_bytes_behind, read_if_there, read_u32, read_whole_behind,
+    read_bytes, read_bytes_behind, read_if_there, read_u32, read_whole_behind,
 };
 use imagesize_source::source::Source;
+use imagesize_source::walk::{Found, Records, walk};
 use imagesize_source::{Endian, Halt};
 use imagesize_types::compression::Compression;
 use imagesize_types::size::{ImageSize, area};
@@ -120,14 +121,6 @@ struct FoundBox {
     size: u32,
 }
 
-// What a box says to a search.
-enum Searched {
-    // It is the one that is wanted.
-    Found(FoundBox),
-    // The next stands behind it. It has so many bytes.
-    Other { size: u32 },
-}
-
 // The first box of a name, from so far behind a place on. A place above 2^64 - 1 is behind the end of every input.
 #[inline(always)]
 #[tactic(auto, using(crate::proofs::Heif::search_saturated))]
@@ -143,36 +136,58 @@ fn search<S: Source>(
     search_from(source, place.saturating_add(distance), name)
 }
 
-// The first box of a name, from a place on.
+// Finds the first box with a name, from an offset on.
+#[tactic(auto, using(crate::proofs::Heif::search_advances))]
 fn search_from<S: Source>(source: &mut S, from: u64, name: &[u8; 4]) -> Result<FoundBox, Halt>
     ensures { Runs (S.state source.old) (S.state source.new) result
         (chain_at (search_for name.now from) (S.state source.old).held.input) }
 {
-    let mut place = from;
-    loop {
-        match read_box(source, place, name)? {
-            Searched::Found(found) => return Ok(found),
-            Searched::Other { size } => place = place_behind(place, size as u64)?,
-        }
-    }
+    walk(Boxes { name: *name }, source, from)
 }
 
-// The box at a place.
-#[inline(always)]
-#[tactic(auto, using(imagesize_source::proofs::Runs::steps))]
-fn read_box<S: Source>(source: &mut S, place: u64, name: &[u8; 4]) -> Result<Searched, Halt>
-    ensures nears { IfOk result (λ found. Nears (S.state source.old) (S.state source.new) place (searched_said place found)) }
-    ensures runs { Follows (S.state source.old) (S.state source.new) (map_answer (λ found. searched_said place found) result) (searched_box name.now place) }
-{
-    let head = read_bytes::<S, 8>(source, place)?;
-    let size = box_size(&head);
-    if is_named(&head, name) {
-        return Ok(Searched::Found(FoundBox { place, size }));
+// The boxes of a search, and the name that it looks for.
+#[derive(Clone, Copy)]
+struct Boxes {
+    name: [u8; 4],
+}
+
+impl Records for Boxes {
+    type Held = ();
+
+    type Answer = FoundBox;
+
+    ghost said = { λ boxes passed place. searched_box boxes.name place };
+
+    ghost keeps = { λ _ passed place. Unit {0} };
+
+    // Reads the box at an offset.
+    #[inline(always)]
+    #[tactic(auto, using(imagesize_source::proofs::Runs::steps))]
+    fn read_record<S: Source>(
+        &mut self,
+        source: &mut S,
+        place: u64,
+    ) -> Result<Found<(), FoundBox>, Halt> {
+        let head = read_bytes::<S, 8>(source, place)?;
+        let size = box_size(&head);
+        if is_named(&head, &self.name) {
+            return Ok(Found::Answer(FoundBox { place, size }));
+        }
+        if size < 8 {
+            return Err(Halt::InvalidHeifBoxSize { size: size as u8 });
+        }
+        Ok(Found::Other {
+            held: (),
+            length: size as u64,
+        })
     }
-    if size < 8 {
-        return Err(Halt::InvalidHeifBoxSize { size: size as u8 });
+
+    // The input ends before such a box.
+    #[inline(always)]
+    #[tactic(auto, using(crate::proofs::Heif::search_ends))]
+    fn at_end(&self) -> Result<FoundBox, Halt> {
+        Err(Halt::Ended)
     }
-    Ok(Searched::Other { size })
 }
 
 // How many bytes a box has, by its first four.
@@ -235,26 +250,56 @@ fn largest<S: Source>(source: &mut S, ipco: FoundBox) -> Result<ImageSize, Halt>
     largest_from(source, ipco.place.saturating_add(8), ipco.size)
 }
 
-// The size by the properties from a place on, in a box of so many bytes.
+// The size from the properties that begin at an offset, in a box of `all` bytes.
 fn largest_from<S: Source>(source: &mut S, from: u64, all: u32) -> Result<ImageSize, Halt>
     ensures { Runs (S.state source.old) (S.state source.new) result
         (chain_at (properties all from) (S.state source.old).held.input) }
 {
-    let mut place = from;
-    let mut gathered = Gathered {
+    let gathered = Gathered {
         left: all,
         best: None,
         turn: None,
     };
-    loop {
-        let Some(property) = read_property(source, place, gathered.left)? else {
-            return answer(gathered);
+    walk(Properties { all, gathered }, source, from)
+}
+
+// The properties in a box of `all` bytes, and what those so far amount to.
+#[derive(Clone, Copy)]
+struct Properties {
+    all: u32,
+    gathered: Gathered,
+}
+
+impl Records for Properties {
+    type Held = Property;
+
+    type Answer = ImageSize;
+
+    ghost said = { λ list held place. (properties list.all 0).said held place };
+
+    ghost keeps = { λ list held place. Amounts list.all list.gathered held };
+
+    // Reads the property at an offset.
+    #[inline(always)]
+    fn read_record<S: Source>(
+        &mut self,
+        source: &mut S,
+        place: u64,
+    ) -> Result<Found<Property, ImageSize>, Halt> {
+        let Some(property) = read_property(source, place, self.gathered.left)? else {
+            return Ok(Found::Answer(answer(self.gathered)?));
         };
-        gathered = gather(gathered, property);
-        match place.checked_add(property_bytes(property)) {
-            Some(next) => place = next,
-            None => return answer(gathered),
-        }
+        self.gathered = gather(self.gathered, property);
+        Ok(Found::Other {
+            held: property,
+            length: property_bytes(property),
+        })
+    }
+
+    // The size from the properties so far.
+    #[inline(always)]
+    fn at_end(&self) -> Result<ImageSize, Halt> {
+        answer(self.gathered)
     }
 }
 

@@ -1,7 +1,9 @@
 //! TIFF, by "TIFF Revision 6.0" (section 2), and BigTIFF, by "The BigTIFF File Format".
-ghost use Rattle.std.specs.Prelude.{◌≡◌, ◌+◌, ◌≤◌, ◌==◌, if◌then◌else◌, false, take, length};
+ghost use Rattle.std.specs.Prelude.{◌≡◌, ◌+◌, ◌<◌, ◌≤◌, IfOk, ◌==◌, if◌then◌else◌, false, take, length};
 ghost use Rattle.imagesize_walked.specs.Tiff.{byte_order, count_bytes, directory_at, head_bytes, is_tiff, field_type_in, field_type_of, size_if_known, stated_place, tag_in, tiff, tiff_entries, tiff_entry, tiff_head, tiff_header, tiff_value, value_bytes, value_of, version_of};
 ghost use Rattle.imagesize_source.specs.Chain.{chain_at};
+ghost use Rattle.imagesize_source.specs.Paying.{ahead_of};
+ghost use Rattle.imagesize_walked.specs.Walks.{Known};
 ghost use Rattle.imagesize_source.specs.Reading.{is_stopped, number_read};
 ghost use Rattle.imagesize_source.specs.State.{Runs, Follows, IsSound};
 
@@ -9,6 +11,7 @@ use imagesize_source::readings::{
     read_bytes, read_exact_at, read_u16, read_u32, read_u64, read_whole_behind,
 };
 use imagesize_source::source::Source;
+use imagesize_source::walk::{Found, Records, walk};
 use imagesize_source::{Endian, Halt};
 use imagesize_types::size::ImageSize;
 
@@ -157,7 +160,7 @@ fn find_size<S: Source>(source: &mut S, header: &Header, count: u64) -> Result<I
     }
 }
 
-// The same, by how many bytes the head and the value of an entry have. A place above 2^64 - 1 is behind the end of every
+// The same, by how many bytes the head and the value of an entry have. An offset above 2^64 - 1 is past the end of every
 // input.
 #[inline(always)]
 fn find_size_of<S: Source, const HEAD: usize, const VALUE: usize>(
@@ -171,21 +174,72 @@ fn find_size_of<S: Source, const HEAD: usize, const VALUE: usize>(
     ensures { Runs (S.state source.old) (S.state source.new) result
         (chain_at (tiff_entries header.now count) (S.state source.old).held.input) }
 {
-    let mut place = header.directory.saturating_add(count_bytes(header.version));
-    let mut width: Option<u32> = None;
-    let mut height: Option<u32> = None;
-    for _ in 0..count {
-        let entry = read_entry::<S, HEAD, VALUE>(source, header, place)?;
-        width = side_behind(0x100, width, &entry);
-        height = side_behind(0x101, height, &entry);
-        if let Some(size) = size_of_sides(width, height) {
-            return Ok(size);
+    let entries = Entries::<HEAD, VALUE> {
+        header: *header,
+        count,
+        seen: 0,
+        width: None,
+        height: None,
+    };
+    let first = header.directory.saturating_add(count_bytes(header.version));
+    walk(entries, source, first)
+}
+
+// The entries of the directory: how many it counts, how many were read, and the sides that these tell.
+#[derive(Drop)]
+struct Entries<const HEAD: usize, const VALUE: usize> {
+    header: Header,
+    count: u64,
+    seen: u64,
+    width: Option<u32>,
+    height: Option<u32>,
+    ghost few: { seen ≤ count },
+    ghost head: { HEAD ≡ head_bytes header.version },
+    ghost value: { VALUE ≡ value_bytes header.version },
+}
+
+impl<const HEAD: usize, const VALUE: usize> Records for Entries<HEAD, VALUE> {
+    type Held = Entry;
+
+    type Answer = ImageSize;
+
+    ghost said = { λ entries held place. (tiff_entries entries.header entries.count).said held place };
+
+    ghost keeps = { λ entries held place. Known entries.seen entries.width entries.height held };
+
+    // Reads the entry at an offset.
+    #[inline(always)]
+    fn read_record<S: Source>(
+        &mut self,
+        source: &mut S,
+        place: u64,
+    ) -> Result<Found<Entry, ImageSize>, Halt> {
+        if self.seen == self.count {
+            // The proof needs that the input is not so long.
+            let _told = source.told();
+            return Err(Halt::NoDimensionsInIfd);
         }
-        place = place
-            .saturating_add(HEAD as u64)
-            .saturating_add(VALUE as u64);
+        let entry = read_entry::<S, HEAD, VALUE>(source, &self.header, place)?;
+        self.seen += 1;
+        self.width = side_behind(0x100, self.width, &entry);
+        self.height = side_behind(0x101, self.height, &entry);
+        match size_of_sides(self.width, self.height) {
+            Some(size) => Ok(Found::Answer(size)),
+            None => Ok(Found::Other {
+                held: entry,
+                length: (HEAD + VALUE) as u64,
+            }),
+        }
     }
-    Err(Halt::NoDimensionsInIfd)
+
+    // No entry is left, or the input ends before the next one.
+    #[inline(always)]
+    fn at_end(&self) -> Result<ImageSize, Halt> {
+        if self.seen == self.count {
+            return Err(Halt::NoDimensionsInIfd);
+        }
+        Err(Halt::Ended)
+    }
 }
 
 #[inline(always)]
@@ -238,7 +292,8 @@ fn read_entry<S: Source, const HEAD: usize, const VALUE: usize>(
 ) -> Result<Entry, Halt>
     requires head { HEAD ≡ head_bytes header.now.version }
     requires value { VALUE ≡ value_bytes header.now.version }
-    ensures { Follows (S.state source.old) (S.state source.new) result (tiff_entry header.now place) }
+    ensures nears { IfOk result (λ entry. ahead_of (S.state source.new) (place + 1) < ahead_of (S.state source.old) place) }
+    ensures runs { Follows (S.state source.old) (S.state source.new) result (tiff_entry header.now place) }
 {
     let head = read_head::<S, HEAD>(source, header.version, place)?;
     let field_type = field_type_of(header.version, field_type_in(header.order, head))?;
@@ -258,7 +313,8 @@ fn read_head<S: Source, const HEAD: usize>(
     place: u64,
 ) -> Result<[u8; 4], Halt>
     requires { HEAD ≡ head_bytes version }
-    ensures { Follows (S.state source.old) (S.state source.new) result (tiff_head version place) }
+    ensures nears { IfOk result (λ head. ahead_of (S.state source.new) (place + 1) < ahead_of (S.state source.old) place) }
+    ensures runs { Follows (S.state source.old) (S.state source.new) result (tiff_head version place) }
 {
     let mut head = [0u8; HEAD];
     read_exact_at(source, place, &mut head)?;
