@@ -1,6 +1,5 @@
 pub mod Compressions
 pub mod Counts
-pub mod Heard
 pub mod Kind
 pub mod Meaning
 pub mod Names
@@ -9,6 +8,5 @@ pub mod Probed
 pub mod Queries
 pub mod Ranks
 pub mod Short
-pub mod Streamed
 pub mod Traced
 pub mod Types

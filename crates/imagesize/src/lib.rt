@@ -3,13 +3,13 @@
 
 mod calls;
 mod file;
-mod formats;
+#[doc(hidden)]
+pub mod formats;
 mod laws;
 mod names;
 mod parts;
 mod queries;
 mod spans;
-mod stream;
 mod trace;
 mod types;
 

@@ -1,49 +1,103 @@
-//! What stands at fixed places near the beginning of an input that comes in pieces.
-ghost use Rattle.std.specs.Prelude.{◌≡◌, ℕ, ◌+◌, ◌<◌, ◌≤◌, ◌^◌, ◌++◌, List, length, take, true, false};
-ghost use Rattle.imagesize_source.specs.Layout.{Layout, layout_reads};
-ghost use Rattle.imagesize_source.specs.Reading.{is_faulted, is_stopped};
+//! What the first bytes of an image tell: its type, and its size where that stands among them.
+ghost use Rattle.std.specs.Prelude.{◌≡◌};
+ghost use Rattle.imagesize_source.specs.Layout.Layout.{refuse};
 ghost use Rattle.imagesize_source.specs.State.{Follows};
-ghost use Rattle.imagesize_stream.specs.Stream.{AllBelow, Begins, Reach, Says};
+ghost use Rattle.imagesize.specs.Streamed.{first_layout, fixed_layout};
 
-use crate::source::StreamSource;
+use crate::formats::{first_row, with_compression};
+use crate::types::ImageType;
+use imagesize_fixed::container::{atc, dds, pkm, pvrtc};
+use imagesize_fixed::formats::tga::may_be_tga;
+use imagesize_fixed::formats::{
+    aseprite, astc, bmp, farbfeld, gif, ktx2, psd, qoi, tga, vtf, webp,
+};
 use imagesize_source::Halt;
+use imagesize_source::readings::read_exact_at;
 use imagesize_source::source::Source;
+use imagesize_pieces::front::Fixed;
+use imagesize_types::size::ImageSize;
 
-/// What stands at fixed places.
-pub trait Fixed {
-    /// What it tells.
-    type Answer: Drop;
-
-    /// Where it stands.
-    ghost layout: { Self → Layout Self.Answer };
-
-    /// Reads it.
-    fn read<S: Source>(&self, source: &mut S) -> Result<Self::Answer, Halt>
-        ensures { Follows (S.state source.old) (S.state source.new) result (layout self.now) };
+/// What the first bytes say of the type.
+#[derive(Drop)]
+pub(crate) enum First {
+    /// It is this.
+    Type(ImageType),
+    /// These can begin a TGA, of which the last bytes tell whether it is one.
+    MaybeTga { head: [u8; 12] },
 }
 
-/// Reads it from the first bytes of an input, of which the room has so many and the others come. Where they do not tell it, the
-/// reading fails, and all of them fit the room.
-pub fn read_front<F: Fixed>(
-    fixed: &F,
-    room: &[u8],
-    passed: usize,
-    chunk: &[u8],
-    told: u64,
-) -> Result<F::Answer, Halt>
-    requires reach { Reach 0 (length room.now + 1) (F.layout fixed.now) }
-    requires within { passed ≤ length room.now }
-    requires fits { passed + length chunk.now ≤ told }
-    requires short { told < 2 ^ 63 }
-    ensures says { is_faulted result ≡ false → Says (take passed room.now ++ chunk.now) told (λ d. layout_reads d (F.layout fixed.now)) result }
-    ensures unstopped { is_faulted result ≡ false → is_stopped result ≡ false }
-    ensures room { is_faulted result ≡ true → passed + length chunk.now ≤ length room.now }
-    ensures complete { is_faulted result ≡ true → (d : List ℕ) → Begins (take passed room.now ++ chunk.now) told d → length d ≡ told
-        → AllBelow (passed + length chunk.now) (layout_reads d (F.layout fixed.now)).marks → ⊥ }
+/// The type, by the first bytes.
+#[derive(Clone, Copy)]
+pub(crate) struct FirstBytes;
 
-    // Nothing is missed where all came.
-    ensures whole { told ≤ passed + length chunk.now → is_faulted result ≡ false }
+impl Fixed for FirstBytes {
+    type Answer = First;
+
+    ghost layout = { λ _. first_layout };
+
+    #[tactic(auto, using(imagesize_source::proofs::Runs::steps, imagesize_source::proofs::Layouts::binding))]
+    fn read<S: Source>(&self, source: &mut S) -> Result<First, Halt> {
+        let mut head = [0u8; 12];
+        read_exact_at(source, 0, &mut head)?;
+        match first_row(&head) {
+            Some(found) => {
+                let image = with_compression(source, 0, &head, found)?;
+                Ok(First::Type(image))
+            }
+            None if may_be_tga(&head) => Ok(First::MaybeTga { head }),
+            None => Err(Halt::NotSupported),
+        }
+    }
+}
+
+/// The size of an image of a type whose sizes are at fixed offsets.
+#[derive(Clone, Copy)]
+pub(crate) struct FixedSize {
+    pub(crate) image: ImageType,
+}
+
+impl Fixed for FixedSize {
+    type Answer = ImageSize;
+
+    ghost layout = { λ size. fixed_layout size.image };
+
+    fn read<S: Source>(&self, source: &mut S) -> Result<ImageSize, Halt> {
+        match self.image {
+            ImageType::Aseprite => aseprite::size(source),
+            ImageType::Astc => astc::size(source),
+            ImageType::Atc(_) => atc::size(source),
+            ImageType::Bmp => bmp::size(source),
+            ImageType::Dds(_) => dds::size(source),
+            ImageType::Eac(_) | ImageType::Etc2(_) => pkm::size(source),
+            ImageType::Farbfeld => farbfeld::size(source),
+            ImageType::Gif => gif::size(source),
+            ImageType::Ktx2 => ktx2::size(source),
+            ImageType::Pvrtc(_) => pvrtc::size(source),
+            ImageType::Psd => psd::size(source),
+            ImageType::Qoi => qoi::size(source),
+            ImageType::Tga => tga::size(source),
+            ImageType::Vtf => vtf::size(source),
+            ImageType::Webp => webp::size(source),
+            ImageType::Exr => refused(source),
+            ImageType::Hdr => refused(source),
+            ImageType::Heif(_) => refused(source),
+            ImageType::Ico => refused(source),
+            ImageType::Ilbm => refused(source),
+            ImageType::Jpeg => refused(source),
+            ImageType::Jxl => refused(source),
+            ImageType::Pnm => refused(source),
+            ImageType::Tiff => refused(source),
+        }
+    }
+}
+
+// A type whose sizes are not at fixed offsets.
+#[inline(always)]
+#[tactic(auto, using(imagesize_source::proofs::Runs::steps))]
+fn refused<S: Source>(source: &mut S) -> Result<ImageSize, Halt>
+    ensures { Follows (S.state source.old) (S.state source.new) result (refuse Halt.Corrupted) }
 {
-    let mut source = StreamSource::new(0, &room[..passed], chunk, told);
-    fixed.read(&mut source)
+    // The proof needs that the input is not so long.
+    let _told = source.told();
+    Err(Halt::Corrupted)
 }

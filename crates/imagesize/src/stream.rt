@@ -1,4 +1,0 @@
-//! An image whose bytes come in pieces.
-
-mod front;
-mod hear;

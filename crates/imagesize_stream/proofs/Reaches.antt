@@ -1,0 +1,153 @@
+-- How far the readings of a type, and of a size at fixed offsets, go.
+use Rattle.std.proofs.Common.{ℕ, Bool, true, false, cond, eqb, List, [], ◌∷◌, Option, None, Some, slice_index, arith}
+use Rattle.std.specs.Prelude.{codes}
+use Rattle.std.specs.Str.{bytes_eq}
+use Rattle.imagesize.specs.Kind.{first_row, with_compression}
+use Rattle.imagesize.specs.Streamed.{first_by, first_layout, fixed_layout}
+use Rattle.imagesize.specs.Types.{rows}
+use Rattle.imagesize.specs.declared.stream.front.First.TheVariants as first
+use Rattle.imagesize.specs.declared.types.ImageType.{ImageType}
+use Rattle.imagesize.specs.declared.types.ImageType.TheVariants.{Aseprite, Astc, Atc, Bmp, Dds, Eac, Etc2, Exr, Farbfeld, Gif, Hdr, Heif, Ico, Ilbm, Jpeg, Jxl, Ktx2, Pnm, Pvrtc, Psd, Qoi, Tga, Tiff, Vtf, Webp}
+use Rattle.imagesize_boxes.specs.Heif.{brand_compression, compatible_compression, heif_compression, is_general}
+use Rattle.imagesize_fixed.specs.Atc.{atc_compression, is_atc}
+use Rattle.imagesize_fixed.specs.Dds.{dds, dds_bit_counts, dds_codes, dds_compression, dds_compression_by, dds_number_of, dxgi_formats, is_dds}
+use Rattle.imagesize_fixed.specs.Pkm.{pkm, pkm_compression}
+use Rattle.imagesize_fixed.specs.Pvrtc.{is_pvr3, pvr2, pvr3, pvrtc_compression, pvrtc_compression_by, pvrtc_format_of}
+use Rattle.imagesize_fixed.specs.Tga.{may_be_tga}
+use Rattle.imagesize_fixed.specs.Webp.{extended_webp, lossless_webp, lossy_webp, webp_form}
+use Rattle.imagesize_types.specs.Head.{four_at}
+use Rattle.imagesize_types.specs.Table.{look_up_text}
+use Rattle.imagesize_types.specs.declared.compression.DdsCompression.TheVariants.{Unknown as unknown_dds}
+use Rattle.imagesize_types.specs.declared.compression.PvrtcCompression.TheVariants.{Unknown as unknown_pvrtc}
+use Rattle.imagesize_source.specs.declared.halt.Halt.TheVariants.{InvalidVp8Tag, NotSupported}
+use Rattle.imagesize_source.specs.Layout.{Layout, bind, bytes, if_there, whole}
+use Rattle.imagesize_source.specs.Layout.Layout.{field, reading, refuse, «done»}
+use Rattle.imagesize_pieces.specs.Stream.{Reach}
+
+reach_if : {X : Type 0} (b : Bool) (low high : ℕ) (t u : Layout X) → Reach low high t → Reach low high u → Reach low high (cond b t u)
+reach_if true low high t u first second = first
+reach_if false low high t u first second = second
+
+reach_bind : {X Y : Type 0} (low high : ℕ) (t : Layout X) (g : X → Layout Y) → Reach low high t → ((x : X) → Reach low high (g x))
+    → Reach low high (bind t g)
+reach_bind low high (done x) g reach rest = rest x
+reach_bind low high (refuse e) g reach rest = tt
+reach_bind low high (field order place n f) g reach rest = (reach.0, reach.1, λ v. reach_bind low high (f v) g (reach.2 v) rest)
+reach_bind low high (reading r place f) g reach rest = (reach.0, reach.1, λ bs. reach_bind low high (f bs) g (reach.2 bs) rest)
+
+dds_size : Reach 0 132 dds
+dds_size = (omega arith, omega arith, λ height. (omega arith, omega arith, λ width. tt))
+
+pkm_size : Reach 0 132 pkm
+pkm_size = (omega arith, omega arith, λ a. (omega arith, omega arith, λ b. (omega arith, omega arith, λ width. (omega arith, omega arith, λ height. tt))))
+
+pvr2_size : Reach 0 132 pvr2
+pvr2_size = (omega arith, omega arith, λ height. (omega arith, omega arith, λ width. tt))
+
+pvr3_size : Reach 0 132 pvr3
+pvr3_size = (omega arith, omega arith, λ height. (omega arith, omega arith, λ width. tt))
+
+atc_by : (head : List ℕ) → Reach 0 132 (cond (is_atc head) pkm pvr2)
+atc_by head = reach_if (is_atc head) 0 132 pkm pvr2 pkm_size pvr2_size
+
+lossy : Reach 0 132 lossy_webp
+lossy = (omega arith, omega arith, λ x. (omega arith, omega arith, λ y. tt))
+
+lossless : Reach 0 132 lossless_webp
+lossless = (omega arith, omega arith, λ x. tt)
+
+extended : Reach 0 132 extended_webp
+extended = (omega arith, omega arith, λ x. (omega arith, omega arith, λ y. tt))
+
+webp_by : (letter : ℕ) → Reach 0 132 (webp_form letter)
+webp_by letter =
+    reach_if (eqb letter 0x20) 0 132 lossy_webp
+    (cond (eqb letter 0x4C) lossless_webp (cond (eqb letter 0x58) extended_webp (refuse InvalidVp8Tag))) lossy
+    (reach_if (eqb letter 0x4C) 0 132 lossless_webp (cond (eqb letter 0x58) extended_webp (refuse InvalidVp8Tag)) lossless
+    (reach_if (eqb letter 0x58) 0 132 extended_webp (refuse InvalidVp8Tag) extended tt))
+
+pub fixed_reaches : (type : ImageType) → Reach 0 132 (fixed_layout type)
+fixed_reaches Aseprite = (omega arith, omega arith, λ v. (omega arith, omega arith, λ w. tt))
+fixed_reaches Astc = (omega arith, omega arith, λ v. (omega arith, omega arith, λ w. tt))
+fixed_reaches (Atc _) = (
+  omega arith,
+  omega arith,
+  λ tag. reach_if (is_dds tag) 0 132 dds (bytes 0 8 (λ head. cond (is_atc head) pkm pvr2)) dds_size
+      (omega arith, omega arith, λ head. atc_by head),
+)
+fixed_reaches Bmp = (omega arith, omega arith, λ v. (omega arith, omega arith, λ w. tt))
+fixed_reaches (Dds _) = dds_size
+fixed_reaches (Eac _) = pkm_size
+fixed_reaches (Etc2 _) = pkm_size
+fixed_reaches Exr = tt
+fixed_reaches Farbfeld = (omega arith, omega arith, λ v. (omega arith, omega arith, λ w. tt))
+fixed_reaches Gif = (omega arith, omega arith, λ v. (omega arith, omega arith, λ w. tt))
+fixed_reaches Hdr = tt
+fixed_reaches (Heif _) = tt
+fixed_reaches Ico = tt
+fixed_reaches Ilbm = tt
+fixed_reaches Jpeg = tt
+fixed_reaches Jxl = tt
+fixed_reaches Ktx2 = (omega arith, omega arith, λ v. (omega arith, omega arith, λ w. tt))
+fixed_reaches Pnm = tt
+fixed_reaches (Pvrtc _) = (omega arith, omega arith, λ tag. reach_if (is_pvr3 tag) 0 132 pvr3 pvr2 pvr3_size pvr2_size)
+fixed_reaches Psd = (omega arith, omega arith, λ v. (omega arith, omega arith, λ w. tt))
+fixed_reaches Qoi = (omega arith, omega arith, λ v. (omega arith, omega arith, λ w. tt))
+fixed_reaches Tga = (omega arith, omega arith, λ v. (omega arith, omega arith, λ w. tt))
+fixed_reaches Tiff = tt
+fixed_reaches Vtf = (omega arith, omega arith, λ v. (omega arith, omega arith, λ w. tt))
+fixed_reaches Webp = (omega arith, omega arith, λ tag. webp_by (slice_index tag 3))
+
+heif_reaches : (head : List ℕ) → Reach 0 132 (heif_compression 0 head)
+unfolding heif_compression
+heif_reaches head =
+    reach_if (is_general (four_at 8 head)) 0 132 (if_there 12 12 (λ more. done (compatible_compression more))) (done (brand_compression (four_at 8 head)))
+    (omega arith, omega arith, λ more. tt) tt
+
+atc_reaches : Reach 0 132 atc_compression
+unfolding atc_compression
+atc_reaches = (omega arith, omega arith, λ bs. tt)
+
+pkm_reaches : Reach 0 132 pkm_compression
+unfolding pkm_compression
+pkm_reaches = (omega arith, omega arith, λ bs. tt)
+
+pvrtc_by : (tag : Option (List ℕ)) → Reach 0 132 (pvrtc_compression_by tag)
+pvrtc_by None = tt
+pvrtc_by (Some tag) = reach_if (is_pvr3 tag) 0 132 (if_there 8 8 (λ bs. done (pvrtc_format_of bs))) (done unknown_pvrtc)
+    (omega arith, omega arith, λ bs. tt) tt
+
+pvrtc_reaches : Reach 0 132 pvrtc_compression
+unfolding pvrtc_compression
+pvrtc_reaches = (omega arith, omega arith, λ bs. pvrtc_by (whole 4 bs))
+
+dds_by : (code : Option (List ℕ)) → Reach 0 132 (dds_compression_by code)
+dds_by None = tt
+dds_by (Some code) =
+    reach_if (bytes_eq code (codes "DX10")) 0 132 (if_there 128 4 (λ bs. done (dds_number_of dxgi_formats bs)))
+    (cond (bytes_eq code (0 ∷ 0 ∷ 0 ∷ 0 ∷ [])) (if_there 88 4 (λ bs. done (dds_number_of dds_bit_counts bs))) (done (look_up_text dds_codes unknown_dds code)))
+    (omega arith, omega arith, λ bs. tt)
+    (reach_if (bytes_eq code (0 ∷ 0 ∷ 0 ∷ 0 ∷ [])) 0 132 (if_there 88 4 (λ bs. done (dds_number_of dds_bit_counts bs)))
+    (done (look_up_text dds_codes unknown_dds code)) (omega arith, omega arith, λ bs. tt) tt)
+
+dds_reaches : Reach 0 132 dds_compression
+unfolding dds_compression
+dds_reaches = (omega arith, omega arith, λ bs. dds_by (whole 4 bs))
+
+compression_reaches : (head : List ℕ) (found : ImageType) → Reach 0 132 (with_compression 0 head found)
+unfolding with_compression
+compression_reaches head (Heif _) = reach_bind 0 132 (heif_compression 0 head) _ (heif_reaches head) (λ c. tt)
+compression_reaches head (Atc _) = reach_bind 0 132 atc_compression _ atc_reaches (λ c. tt)
+compression_reaches head (Pvrtc _) = reach_bind 0 132 pvrtc_compression _ pvrtc_reaches (λ c. tt)
+compression_reaches head (Eac _) = reach_bind 0 132 pkm_compression _ pkm_reaches (λ c. tt)
+compression_reaches head (Etc2 _) = reach_bind 0 132 pkm_compression _ pkm_reaches (λ c. tt)
+compression_reaches head (Dds _) = reach_bind 0 132 dds_compression _ dds_reaches (λ c. tt)
+compression_reaches head _ = tt
+
+by_row : (head : List ℕ) (row : Option ImageType) → Reach 0 132 (first_by head row)
+by_row head (Some found) = reach_bind 0 132 (with_compression 0 head found) (λ type. done (first.Type type)) (compression_reaches head found) (λ type. tt)
+by_row head None = reach_if (may_be_tga head) 0 132 (done (first.MaybeTga head)) (refuse NotSupported) tt tt
+
+-- the type
+pub first_reaches : Reach 0 132 first_layout
+first_reaches = (omega arith, omega arith, λ head. by_row head (first_row rows head))
