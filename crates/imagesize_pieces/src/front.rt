@@ -1,5 +1,5 @@
 //! What stands at fixed places near the beginning of an input that comes in pieces.
-ghost use Rattle.std.specs.Prelude.{◌≡◌, ℕ, ◌+◌, ◌<◌, ◌≤◌, ◌^◌, ◌++◌, List, length, take, true, false};
+ghost use Rattle.std.specs.Prelude.{◌≡◌, ℕ, ◌<◌, ◌≤◌, ◌^◌, List, length, true, false};
 ghost use Rattle.imagesize_source.specs.Layout.{Layout, layout_reads};
 ghost use Rattle.imagesize_source.specs.Reading.{is_faulted, is_stopped};
 ghost use Rattle.imagesize_source.specs.State.{Follows};
@@ -22,28 +22,19 @@ pub trait Fixed {
         ensures { Follows (S.state source.old) (S.state source.new) result (layout self.now) };
 }
 
-/// Reads it from the first bytes of an input, of which the room has so many and the others come. Where they do not tell it, the
-/// reading fails, and all of them fit the room.
-pub fn read_front<F: Fixed>(
-    fixed: &F,
-    room: &[u8],
-    passed: usize,
-    chunk: &[u8],
-    told: u64,
-) -> Result<F::Answer, Halt>
-    requires reach { Reach 0 (length room.now + 1) (F.layout fixed.now) }
-    requires within { passed ≤ length room.now }
-    requires fits { passed + length chunk.now ≤ told }
+/// Reads it from the first bytes of an input of at most `told` bytes. If they do not tell it, the reading fails.
+pub fn read_front<F: Fixed>(fixed: &F, bytes: &[u8], told: u64) -> Result<F::Answer, Halt>
+    requires fits { length bytes.now ≤ told }
     requires short { told < 2 ^ 63 }
-    ensures says { is_faulted result ≡ false → Says (take passed room.now ++ chunk.now) told (λ d. layout_reads d (F.layout fixed.now)) result }
+    ensures says { is_faulted result ≡ false → Says bytes.now told (λ d. layout_reads d (F.layout fixed.now)) result }
     ensures unstopped { is_faulted result ≡ false → is_stopped result ≡ false }
-    ensures room { is_faulted result ≡ true → passed + length chunk.now ≤ length room.now }
-    ensures complete { is_faulted result ≡ true → (d : List ℕ) → Begins (take passed room.now ++ chunk.now) told d → length d ≡ told
-        → AllBelow (passed + length chunk.now) (layout_reads d (F.layout fixed.now)).marks → ⊥ }
+    ensures few { is_faulted result ≡ true → (high : ℕ) → Reach 0 high (F.layout fixed.now) → length bytes.now < high }
+    ensures complete { is_faulted result ≡ true → (d : List ℕ) → Begins bytes.now told d → length d ≡ told
+        → AllBelow (length bytes.now) (layout_reads d (F.layout fixed.now)).marks → ⊥ }
 
     // Nothing is missed where all came.
-    ensures whole { told ≤ passed + length chunk.now → is_faulted result ≡ false }
+    ensures whole { told ≤ length bytes.now → is_faulted result ≡ false }
 {
-    let mut source = StreamSource::new(0, &room[..passed], chunk, told);
+    let mut source = StreamSource::new(0, bytes, &[], told);
     fixed.read(&mut source)
 }

@@ -31,6 +31,9 @@ pub fn read_on<R: Records>(
     ensures stays { IfSome result (λ _. (stand.new ≡ stand.old) × (room.new ≡ room.old)) }
     ensures unstopped { IfSome result (λ answer. is_stopped answer ≡ false) }
 
+    // Nothing is missed where all came.
+    ensures whole { stand.old.told ≤ stand.old.passed + length chunk.now → result ≡ None → ⊥ }
+
     // Of each list of bytes that came before:
     ensures goes_on { result ≡ None → (first : ℕ) (whole : List ℕ → Reads R.Answer) (front : List ℕ)
         → Stands first (R.said records.old) (R.keeps records.old) stand.old room.old whole front
@@ -58,26 +61,6 @@ pub fn read_on<R: Records>(
         return None;
     }
     Some(found)
-}
-
-/// The answer of the input that has no more bytes than those that came.
-pub fn read_last<R: Records>(records: &mut R, stand: &Stand, room: &[u8]) -> Result<R::Answer, Halt>
-    requires follows { CanFollow (chain_of 0 (R.said records.old)) }
-    requires keeps { (held : List R.Held) × R.keeps records.old held stand.now.place }
-    requires reaches { (held : List R.Held) (place : ℕ) → Reach place (place + (length room.now + 1)) (R.said records.old held place) }
-    requires room { stand.now.passed - stand.now.start ≤ length room.now }
-    ensures { (first : ℕ) (whole : List ℕ → Reads R.Answer) (front : List ℕ)
-        → Stands first (R.said records.old) (R.keeps records.old) stand.now room.now whole front → result ≡ (whole front).answer }
-{
-    let count = stand.passed.saturating_sub(stand.start) as usize;
-    let mut source = StreamSource::new(
-        stand.start.min(stand.passed),
-        &room[..count],
-        &[],
-        stand.passed,
-    );
-    let mut place = stand.place;
-    walk_on(records, &mut place, &mut source)
 }
 
 /// Whether a reading failed, for bytes that did not come yet.

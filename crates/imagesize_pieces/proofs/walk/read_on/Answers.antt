@@ -8,7 +8,7 @@ use Rattle.imagesize_source.proofs.Agreement.{covered-right}
 use Rattle.imagesize_source.proofs.Marks.{behind-behind}
 use Rattle.imagesize_source.proofs.Sharing.{chain_shared}
 use Rattle.imagesize_pieces.specs.Stream.{Begins, Says}
-use Rattle.imagesize_pieces.proofs.Asking.{complete_begun, says_begun, says_behind}
+use Rattle.imagesize_pieces.proofs.Asking.{complete_begun, none_missed, says_begun, says_behind}
 use Rattle.imagesize_pieces.proofs.Beginning.{any_run, begins_left, kept_on, run_held}
 use Rattle.imagesize_pieces.proofs.Called.{called, goes_on, same_frame}
 use Rattle.imagesize_pieces.proofs.Going.{ahead_begun, chain_above, few_left, leads_begun, stood_as}
@@ -196,3 +196,30 @@ returns-then-is_faulted-clause-complete g c = λ none first whole front s d begi
       below p (subst (λ (w : Reads _). is_covered w.marks p ≡ true) (sym (s.resumes d (begins_left front c.args.chunk.now c.args.stand.now.told d begins)))
           (covered-right s.before _ p here)),
     ))
+
+pub returns-then-is_faulted-clause-whole : goal.returns-then-is_faulted-clause-whole
+returns-then-is_faulted-clause-whole g c = λ all none.
+    let a = c.new-source.result in let b = c.walk_on-found.new.source in let new = c.new-source.ensures in
+    let faults : is_faulted c.walk_on-found.result ≡ true = sym c.is_faulted.ensures ∙ c.if-is_faulted.true in
+    let runs = c.walk_on-found.ensures.runs 0 c.requires.keeps.0 c.requires.keeps.1 in
+    let call = called (λ e. chain_from (chain_of 0 (g.R.Records.said c.args.records.now)) e (record { held = c.requires.keeps.0; place = c.args.stand.now.place }))
+    _ _ _ _ _ _ _ b.log.spans _ b.missed _ new.seen new.missed runs b.seen b.lacks in
+    let start_is : a.start ≡ min c.args.stand.now.start (c.args.stand.now.passed + length c.args.chunk.now) = new.start ∙ c.min-start.ensures in
+    let short = subst (λ k. k < 2 ^ 63) (sym new.told) c.args.stand.now.short in
+    let run = any_run a.kept.now a.chunk.now a.start in
+    let ends = run.ends in
+    let kept_long : length a.kept.now ≡ c.args.stand.now.passed - c.args.stand.now.start =
+    ap length (new.kept ∙ ap (λ k. take k c.args.room.now) c.saturating_sub-count.ensures)
+    ∙ length-take (c.args.stand.now.passed - c.args.stand.now.start) c.args.room.now ∙ omega (arith, c.requires.room) in
+    let unread_long : length a.chunk.now ≡ length c.bytes_behind-unread.result.now = ap length new.chunk in
+    let chunk_long : length a.chunk.now ≡ length c.args.chunk.now - (c.args.stand.now.start - c.args.stand.now.passed) =
+    unread_long ∙ ap length (c.bytes_behind-unread.ensures ∙ ap (λ k. drop k c.args.chunk.now) c.saturating_sub.ensures)
+    ∙ length-drop (c.args.stand.now.start - c.args.stand.now.passed) c.args.chunk.now in
+    none_missed _ (λ d e. chain_shared (chain_of 0 (g.R.Records.said c.args.records.now)) d e (c.requires.follows d)
+    (c.requires.follows e) (record { held = c.requires.keeps.0; place = c.args.stand.now.place }))
+    a.told a.start a.kept.now a.chunk.now _ run (omega (arith, a.within)) short b.log.spans b.missed _ call faults
+    (omega (arith, all, new.told, ends, kept_long, chunk_long, start_is))
+    (λ p here.
+    let above = chain_above (chain_of 0 (g.R.Records.said c.args.records.now)) (length c.args.room.now + 1) c.requires.reaches _
+    (c.requires.follows _) (record { held = c.requires.keeps.0; place = c.args.stand.now.place }) p here in
+    omega (arith, above, start_is, c.args.stand.now.ahead))
