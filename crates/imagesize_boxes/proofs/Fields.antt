@@ -1,10 +1,9 @@
 -- Fields of bits: what more bits leave, and the bits as a number.
-use Rattle.std.proofs.Common.{◌≡◌, ℕ, zero, suc, ◌+◌, ◌-◌, ◌*◌, ◌/◌, ◌%◌, ◌^◌, ◌<◌, ◌≤◌, Bool, true, false, cond, leb, List, [], ◌∷◌, ◌++◌, length, take, drop, get_or, slice_index_or, bit_and, Result, Ok, Err, refl, sym, ap, ◌∙◌, subst, add-one, arith}
+use Rattle.std.proofs.Common.{◌≡◌, ℕ, zero, suc, ◌+◌, ◌-◌, ◌*◌, ◌/◌, ◌%◌, ◌^◌, ◌<◌, ◌≤◌, Bool, true, false, cond, leb, List, [], ◌∷◌, ◌++◌, length, take, drop, get_or, bit_and, Result, Ok, Err, refl, sym, ap, ◌∙◌, subst, add-one, arith}
 use Rattle.std.proofs.lemmas.Bool.Decides.{nat_tests}
-use Rattle.std.proofs.lemmas.List.{append-nil, length-append, length-drop, length-take, length-take-le, drop-append-le, take-append-drop, take-append-le}
+use Rattle.std.proofs.lemmas.List.{length-append, length-drop, length-take, length-take-le, drop-append-le, take-append-drop, take-append-le}
 use Rattle.std.proofs.Math.Numerals.{one-add}
 use Rattle.std.proofs.Math.Pow.{mod-mod-pow}
-use Rattle.std.proofs.Math.Seq.{take-append_seam}
 use Rattle.std.proofs.lemmas.Nat.{and_mask, one_shl, pow_pos, mod-pow-add, shr-shr, field_of}
 use Rattle.std.specs.Int.{w128, from_le_bytes}
 use Rattle.imagesize_source.specs.declared.halt.Halt.{Halt}
@@ -153,18 +152,6 @@ found_more list more (bits from count f) v is =
     found_on (field_at list from count) (field_at (list ++ more) from count) (λ n. found_by (field_at list) (f n))
     (λ n. found_by (field_at (list ++ more)) (f n)) v
     (λ n at. field_more list more from count n at) (λ n at. found_more list more (f n) v at) is
-
--- bytes that were put in front are taken from there
-pub taken_back : (front rest : List ℕ) → take (length front) (front ++ rest) ≡ front
-taken_back front rest = take-append_seam front rest
-
--- and so are two, and others behind them
-pub taken_behind : (start room : List ℕ) (n : ℕ) → length start ≡ 2 → take (2 + n) (slice_index_or start 0 0 ∷ slice_index_or start 1 0
-    ∷ (room ++ [])) ≡ start ++ take n room
-taken_behind [] room n is = absurd (omega (arith, is))
-taken_behind (a ∷ []) room n is = absurd (omega (arith, is))
-taken_behind (a ∷ b ∷ []) room n is = let e : 2 + n ≡ suc (suc n) = omega arith in rw (e, append-nil room) refl
-taken_behind (a ∷ b ∷ x ∷ rest) room n is = absurd (omega (arith, is))
 
 -- the first bytes have the lowest bits
 little_take : (k : ℕ) (bytes : List ℕ) → ((i : ℕ) → get_or bytes i 0 < 256) → little (take k bytes) ≡ little bytes % 2 ^ (8 * k)

@@ -10,7 +10,7 @@ use Rattle.std.proofs.lemmas.List.Sums.{sum_by_push}
 use Rattle.std.specs.Int.{w32, from_be_bytes}
 use Rattle.std.specs.List.{find, last_or, sum_by}
 use Rattle.std.specs.Option.{option_or}
-use Rattle.std.specs.Prelude.{codes, flat_map, fold, nat_lt, nat_le, unwrap_or, ok_or, option_map, IfErr, slice_get, filter}
+use Rattle.std.specs.Prelude.{codes, flat_map, fold, nat_lt, nat_le, unwrap_or, ok_or, option_map, slice_get, filter}
 use Rattle.imagesize_boxes.specs.Heif.{heif_compression, is_general, is_named, box_size, box_searched, search_for, searched_box, extents_size, property_named, property_found, property_at, property_bytes, extents_of, rotations_of, skipped_bytes, no_pixels, largest_or_none, largest_extents, turn_by, heif_answer, property_or_answer, properties, heif, heif_in_meta, heif_in_iprp, boxes_in_iprp, boxes_in_meta, heif_boxes}
 use Rattle.imagesize_boxes.specs.Walks.{Amounts, Largest, earlier_largest, gathered_with, gathered_answer}
 use Rattle.imagesize_boxes.specs.declared.container.heif.FoundBox.{FoundBox}
@@ -25,13 +25,13 @@ use Rattle.imagesize_source.specs.declared.halt.Halt.{Halt}
 use Rattle.imagesize_source.specs.declared.halt.Halt.TheVariants.{Corrupted, Ended, InvalidHeifBoxSize, NotEnoughData}
 use Rattle.imagesize_source.specs.declared.endian.Endian.TheVariants.{Big}
 use Rattle.imagesize_source.specs.Agreement.{IsLocal}
-use Rattle.imagesize_source.specs.Chain.{Said, Decided, Next, Advances, start, verdict, records, chain_from, chain_at, count_behind}
+use Rattle.imagesize_source.specs.Chain.{Said, Decided, Next, Advances, start, verdict, records, chain_at, count_behind}
 use Rattle.imagesize_source.specs.Counts.{AtMost}
 use Rattle.imagesize_source.specs.Input.{span_of}
 use Rattle.imagesize_source.specs.Layout.{Layout, bytes, refuse, done, layout_reads, bind, whole}
 use Rattle.imagesize_source.specs.Numbers.{number}
-use Rattle.imagesize_source.specs.Reading.{and_then, bytes_at, bytes_read, number_at, number_read, refuses, is_faulted, map_answer}
-use Rattle.imagesize_source.specs.State.{State, Runs, EndedBy, total}
+use Rattle.imagesize_source.specs.Reading.{and_then, bytes_at, bytes_read, number_at, number_read, refuses, map_answer}
+use Rattle.imagesize_source.specs.State.{State, Runs, total}
 use Rattle.imagesize_source.proofs.Always.{CompressionLaws}
 use Rattle.imagesize_source.proofs.Advances.{Tells, advances}
 use Rattle.imagesize_source.proofs.Spends.{Spends, Onto, chain_onto, left, said_to, spends_then}
@@ -42,7 +42,7 @@ use Rattle.imagesize_source.proofs.Counts.{begun_cost, then_within, total-span_o
 use Rattle.imagesize_source.proofs.Bytes.{first_four}
 use Rattle.imagesize_source.proofs.Layouts.{no_part, no_span}
 use Rattle.imagesize_source.proofs.Agreement.{local_bytes, local_then, local_number, without_texts}
-use Rattle.imagesize_source.proofs.Reached.{runs_bind, refused_bind, reached_now}
+use Rattle.imagesize_source.proofs.Reached.{runs_bind, refused_bind}
 use Rattle.imagesize_source.proofs.Tests.{on_test}
 use Rattle.imagesize_source.proofs.Way.{RecordedLaws}
 use Rattle.imagesize_source.proofs.Lists.{last_push}
@@ -283,17 +283,6 @@ module _ {b end : State} (all : ℕ) (g : Gathered) (place : ℕ) (held : List P
       → Runs {X = Said Property ImageSize} b end (Err e)
       (layout_reads b.held.input (bind (property_at (all - sum_by skipped_bytes held) place) (property_or_answer held place)))
   listed_out e run = said_by (refused_bind (property_at g.left place) (property_or_answer held place) run)
-
-  pub listed_end : Runs b end (Ok None) (layout_reads b.held.input (property_at g.left place))
-      → Runs b end (map_answer Decided (gathered_answer g))
-      (layout_reads b.held.input (bind (property_at (all - sum_by skipped_bytes held) place) (property_or_answer held place)))
-  listed_end run = said_by (runs_bind (map_answer Decided (gathered_answer g)) (property_at g.left place) (property_or_answer held place) run
-      (λ d. answers all g held place d h ∙ answer_read d g.best g.turn) (no_stop g.best).0 (no_stop g.best).1) where
-        no_stop : (best : Option ImageSize)
-            → (is_faulted (map_answer {Y = Said Property ImageSize} Decided (ok_or (option_map (turn_by g.turn) best) NotEnoughData)) ≡ false)
-            × IfErr (map_answer {Y = Said Property ImageSize} Decided (ok_or (option_map (turn_by g.turn) best) NotEnoughData)) (EndedBy end)
-        no_stop None = (refl, record { budget = λ e. absurd cc; memory = λ e. absurd cc; fault = λ e. absurd cc })
-        no_stop (Some size) = (refl, tt)
 
 pub list_ends : (all : ℕ) (g : Gathered) (held : List Property) → Amounts all g held → (d : List ℕ) (place : ℕ) → length d ≤ place
     → layout_reads d (bind (property_at (all - sum_by skipped_bytes held) place) (property_or_answer held place))

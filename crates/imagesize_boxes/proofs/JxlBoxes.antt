@@ -1,5 +1,5 @@
 -- JPEG XL: the ways that a box can go, how a walk along the boxes goes, and the size by what it found.
-use Rattle.std.proofs.Common.{◌≡◌, ℕ, ◌+◌, ◌-◌, ◌*◌, ◌^◌, ◌<◌, ◌≤◌, true, false, cond, eqb, leb, ltb, not, ◌&&◌, ◌||◌, codes, take, drop, min, slice_index, List, [], ◌∷◌, ◌++◌, length, get_or, Result, Ok, Err, refl, sym, ap, ◌∙◌, subst, arith}
+use Rattle.std.proofs.Common.{◌≡◌, ℕ, ◌+◌, ◌-◌, ◌*◌, ◌^◌, ◌<◌, ◌≤◌, true, false, cond, eqb, leb, ltb, not, ◌&&◌, ◌||◌, codes, take, drop, min, slice_index, List, [], ◌∷◌, ◌++◌, length, get_or, Result, Ok, Err, refl, sym, ap, ◌∙◌, arith}
 use Rattle.std.proofs.lemmas.Bool.Decides.{nat_tests}
 use Rattle.std.proofs.lemmas.List.{append-nil, length-take, length-take-le, get_or-take}
 use Rattle.std.proofs.lemmas.List.Folds.{concat-append}
@@ -13,17 +13,16 @@ use Rattle.imagesize_types.specs.Head.{begins}
 use Rattle.imagesize_types.specs.declared.size.ImageSize.{ImageSize}
 use Rattle.imagesize_source.specs.declared.halt.Halt.{Halt}
 use Rattle.imagesize_source.specs.declared.halt.Halt.TheVariants.{Corrupted, Ended, InvalidJxlBoxSize, InvalidJxlSignature}
-use Rattle.imagesize_source.specs.Chain.{Said, Decided, Next, Advances, chain_at}
+use Rattle.imagesize_source.specs.Chain.{Said, Decided, Next, Advances}
 use Rattle.imagesize_source.specs.Layout.{Layout, layout_reads, bind, bytes, bytes_there, accept}
 use Rattle.imagesize_source.specs.Layout.Layout.{field, refuse, done}
-use Rattle.imagesize_source.specs.Reading.{is_failure}
+use Rattle.imagesize_source.specs.Reading.{is_failure, refuses}
 use Rattle.imagesize_source.specs.State.{State, Runs, EndedBy, IsSound}
 use Rattle.imagesize_source.proofs.Advances.{Tells, advances}
 use Rattle.imagesize_source.proofs.Reached.{reads_nothing}
+use Rattle.imagesize_source.proofs.PastTheEnd.{bytes_beyond}
 use Rattle.imagesize_source.proofs.Runs.{runs_then}
 use Rattle.imagesize_source.proofs.Tests.{on_test}
-use Rattle.imagesize_source.proofs.Walks.{Walks, walks_start, walks_on, walks_stop, walks_out}
-use Rattle.imagesize_source.specs.declared.halt.Halt.TheVariants as halt
 use Rattle.imagesize_source.specs.declared.endian.Endian.TheVariants.{Little, Big}
 use Rattle.imagesize_source.specs.Numbers.{number, little}
 
@@ -137,33 +136,19 @@ jxl_advances = advances jxl_chain
     (record { tag = drop 4 front; size = number Big (take 4 front); length = 8 }))))
     (λ pieces place. (omega arith, omega arith))
 
--- how far a walk has come: behind boxes with these bytes
-abbrev pub JxlWalks : State → State → ℕ → List ℕ → Type 0
-JxlWalks a b place front = Walks jxl_chain (λ pieces. concat pieces ≡ front) a b place
+-- from the end of the input on no box begins
+pub boxes_end : (front : List ℕ) (d : List ℕ) (place : ℕ) → length d ≤ place → layout_reads d (jxl_box front place) ≡ refuses Ended
+unfolding box_head
+boxes_end front d place far = bytes_beyond d place 8
+    (λ head. bind (cond (eqb (number Big (take 4 head)) 1)
+    (field Big (place + 8) 8 (λ size. accept (box_checked place (record { tag = drop 4 head; size = size; length = 16 })) done))
+    (accept (box_checked place (record { tag = drop 4 head; size = number Big (take 4 head); length = 8 })) done))
+    (λ head. box_content front place head)) far (omega arith)
 
-pub walk_start : (a : State) → JxlWalks a a 12 []
-walk_start a = walks_start jxl_chain (λ pieces. concat pieces ≡ []) a refl
-
-box_as : {b end : State} {r : Result (Said (List ℕ) (List ℕ)) Halt} (place : ℕ) (front : List ℕ)
-    → Runs b end r (layout_reads b.held.input (jxl_box front place)) → (pieces : List (List ℕ)) → concat pieces ≡ front
-    → Runs b end r (layout_reads b.held.input (jxl_box (concat pieces) place))
-box_as {b} {end} {r} place front run pieces is = subst (λ held. Runs b end r (layout_reads b.held.input (jxl_box held place))) (sym is) run
-
-pub walk_on : {a b end : State} (place next : ℕ) (front piece : List ℕ) → JxlWalks a b place front → Runs b end (Ok (Next piece next))
-    (layout_reads b.held.input (jxl_box front place)) → JxlWalks a end next (front ++ piece)
-walk_on place next front piece w run =
-    walks_on jxl_chain jxl_advances (λ pieces. concat pieces ≡ front) w (λ pieces. concat pieces ≡ front ++ piece) piece next
-    (box_as place front run)
-    (λ pieces is. concat-append pieces (piece ∷ []) ∙ ap (λ rest. concat pieces ++ rest) (append-nil piece) ∙ ap (λ held. held ++ piece)
-    is)
-
-pub walk_stop : {a b end : State} (place : ℕ) (front whole : List ℕ) → JxlWalks a b place front → Runs b end (Ok (Decided whole))
-    (layout_reads b.held.input (jxl_box front place)) → Runs a end (Ok whole) (chain_at jxl_chain a.held.input)
-walk_stop place front whole w run = walks_stop jxl_chain jxl_advances (λ pieces. concat pieces ≡ front) w whole (box_as place front run)
-
-pub walk_out : {a b end : State} (place : ℕ) (front : List ℕ) (e : Halt) → JxlWalks a b place front
-    → Runs b end (Err e) (layout_reads b.held.input (jxl_box front place)) → Runs {X = List ℕ} a end (Err e) (chain_at jxl_chain a.held.input)
-walk_out place front e w run = walks_out jxl_chain jxl_advances (λ pieces. concat pieces ≡ front) w e (box_as place front run)
+-- the bytes of the boxes so far, and of one more
+pub joined : (pieces : List (List ℕ)) (front piece : List ℕ) → concat pieces ≡ front → concat (pieces ++ piece ∷ []) ≡ front ++ piece
+joined pieces front piece is = concat-append pieces (piece ∷ []) ∙ ap (λ rest. concat pieces ++ rest) (append-nil piece)
+    ∙ ap (λ held. held ++ piece) is
 
 -- The size by a codestream.
 

@@ -3,13 +3,10 @@ use Rattle.std.specs.Prelude.{◌≡◌, ◌==◌, true, find, flat_map, is_some
 use Rattle.imagesize_boxes.specs.Fields.{Fields, found_by}
 use Rattle.std.specs.List.{last_or, sum_by}
 use Rattle.imagesize_boxes.specs.Heif.{extents_of, largest_extents, largest_or_none, no_pixels, property_bytes, rotations_of, skipped_bytes, turn_by}
-use Rattle.imagesize_boxes.specs.declared.container.heif.FoundBox.{FoundBox}
 use Rattle.imagesize_boxes.specs.declared.container.heif.Gathered.{Gathered}
 use Rattle.imagesize_boxes.specs.declared.container.heif.Property.{Property}
 use Rattle.imagesize_boxes.specs.declared.container.heif.Property.TheVariants.{Extents, Rotation, Skipped}
 use Rattle.imagesize_boxes.specs.declared.formats.jxl.boxes.BoxHead.{BoxHead}
-use Rattle.imagesize_boxes.specs.declared.formats.jxl.boxes.Found.{Found}
-use Rattle.imagesize_boxes.specs.declared.formats.jxl.boxes.Found.TheVariants.{Whole, Passed}
 use Rattle.imagesize_source.specs.declared.halt.Halt.{Halt}
 use Rattle.imagesize_source.specs.declared.halt.Halt.TheVariants.{Corrupted, NotEnoughData}
 use Rattle.imagesize_source.specs.Chain.{Said, Decided, Next}
@@ -54,20 +51,15 @@ pub record Amounts (all : ℕ) (g : Gathered) (held : List Property) : Type 0 wh
   pub best : Largest g.best (flat_map extents_of held)
   pub turn : last_or None (flat_map rotations_of held) ≡ g.turn
 
--- what a box of a JPEG XL says
-abbrev pub box_said : Found → Said (List ℕ) (List ℕ)
-box_said (Whole front) = Decided front.items
-box_said (Passed piece next) = Next piece.items next
-
--- the next box stands behind the place
-abbrev pub IsFurther : ℕ → Found → Type 0
-IsFurther place (Whole front) = Unit {0}
-IsFurther place (Passed piece next) = place < next
+-- the next box of a JPEG XL stands behind the place
+abbrev pub IsFurther : ℕ → Said (List ℕ) (List ℕ) → Type 0
+IsFurther place (Decided front) = Unit {0}
+IsFurther place (Next piece next) = place < next
 
 -- there is room for the piece behind these bytes
-abbrev pub FitsBehind : List ℕ → Found → Type 0
-FitsBehind held (Whole front) = Unit {0}
-FitsBehind held (Passed piece next) = length held + length piece.items ≤ 16
+abbrev pub FitsBehind : List ℕ → Said (List ℕ) (List ℕ) → Type 0
+FitsBehind held (Decided front) = Unit {0}
+FitsBehind held (Next piece next) = length held + length piece ≤ 16
 
 -- Such a head was checked.
 pub record IsHead (place : ℕ) (head : BoxHead) : Type 0 where

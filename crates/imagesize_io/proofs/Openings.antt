@@ -217,16 +217,6 @@ opened_takes (Some t) mid count home opened b r reads_of told opens h = λ hones
     takes_of t _ b r (reads_of t.bytes t.place) (starts_at t count home honest) (runs_of t mid count home opened.told opened.place b r
     reads_of honest began h) told
 
--- A reader that cannot open stays as it was, but for its place.
-pub fails_leaves : (telling new : Option Telling) (e : ImageError) → Opens telling new (Err e) → Leaves telling new
-fails_leaves None new e is = is
-fails_leaves (Some t) None e fails = absurd fails.1
-fails_leaves (Some t) (Some u) e fails = record {
-  bytes = fails.1.0;
-  can_fail = fails.1.1 ∙ sym fails.0;
-  interruptions = λ honest never. absurd (let no : true ≡ false = sym fails.0 ∙ never in cc);
-}
-
 -- no more interruptions are left than come in all
 fewer_left : (b : Bool) (n k : ℕ) → cond b (Some n) None ≡ Some k → n ≤ k
 fewer_left true n k is = let same : n ≡ k = cc in omega (arith, same)

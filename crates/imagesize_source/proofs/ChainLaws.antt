@@ -9,7 +9,7 @@ use Rattle.imagesize_source.specs.Extension.{Plain, Lasts}
 use Rattle.imagesize_source.specs.Reading.{and_then, put_behind}
 use Rattle.imagesize_source.specs.State.{total}
 use Rattle.imagesize_source.proofs.Chains.{chain_unfolds, follows, chain_next, chain_stop, records_next, records_stop}
-use Rattle.imagesize_source.proofs.Agreement.{AllRead, alike_layout, alike_then, local}
+use Rattle.imagesize_source.proofs.Agreement.{AllRead, alike_layout, alike_then}
 use Rattle.imagesize_source.proofs.Counts.{at_most}
 use Rattle.imagesize_source.proofs.Extension.{more}
 use Rattle.imagesize_source.proofs.Runs.{total-append}

@@ -119,10 +119,6 @@ covered_known d (s ∷ spans) bytes place parts below is = by_test (reaches (len
           on rest
           (later (has_place s place) refl (not_first has) is)
 
-some_of : (o : Option ℕ) → is_some o ≡ true → (b : ℕ) × (o ≡ Some b)
-some_of None is = absurd cc
-some_of (Some b) is = (b, refl)
-
 -- no part has a place that is not known
 pub unknown_free : (d : List ℕ) (n : ℕ) (spans : List Span) (bytes : List ℕ) (place : ℕ) → HasParts d n spans bytes → place < n
     → is_some (byte_in_parts n spans bytes place) ≡ false → is_covered spans place ≡ false

@@ -26,5 +26,4 @@ pub mod Spends
 pub mod Strides
 pub mod Tests
 pub mod Texts
-pub mod Walks
 pub mod Way

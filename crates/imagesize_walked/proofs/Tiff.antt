@@ -1,6 +1,5 @@
 -- TIFF: how a walk along the entries goes, how many bytes they are read from, and what it sees of an input.
 use Rattle.std.proofs.Common.{◌≡◌, ◌≢◌, ℕ, ◌+◌, ◌-◌, ◌*◌, ◌^◌, ◌<◌, ◌≤◌, min, Bool, true, false, cond, eqb, List, [], ◌∷◌, ◌++◌, length, take, Option, Some, None, Result, Ok, Err, refl, sym, ap, ◌∙◌, subst, arith}
-use Rattle.std.proofs.Math.Nat.{mul-add}
 use Rattle.std.proofs.lemmas.Bool.Decides.{nat_tests}
 use Rattle.std.proofs.lemmas.List.{append-nil, length_push}
 use Rattle.std.proofs.lemmas.List.Elements.{filter-append}
@@ -163,14 +162,6 @@ known_on i width height wide high entries entry is_wide is_high h = record {
 size_known : (i : ℕ) (width height : Option ℕ) (entries : List Entry) → Known i width height entries
     → size_in entries ≡ size_if_known width height
 size_known i width height entries h = ap (λ w. size_if_known w (last_value 0x101 entries)) h.wide ∙ ap (size_if_known width) h.high
-
--- no input is so long that an entry stands beyond 64 bits
-entry_beyond : (d : List ℕ) (header : Header) (place : ℕ) → length d ≤ place → layout_reads d (tiff_entry header place) ≡ refuses Ended
-unfolding tiff_entry tiff_head
-entry_beyond d header place h = bytes_beyond d place (head_bytes header.version)
-    (λ head. accept (field_type_of header.version (field_type_in header.order (take 4 head)))
-    (λ field_type. bind (tiff_value header.version (place + head_bytes header.version))
-    (λ value. done (entry_of header (take 4 head) field_type value)))) h (head_some header.version)
 
 -- the record of an entry, where there are more, and where there are none
 more_said : (header : Header) (count i : ℕ) (width height : Option ℕ) (entries : List Entry) (place : ℕ) → Known i width height entries

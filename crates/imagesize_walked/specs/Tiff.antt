@@ -1,5 +1,5 @@
 -- TIFF, by "TIFF Revision 6.0" (section 2), and BigTIFF, by "The BigTIFF File Format".
-use Rattle.std.specs.Prelude.{◌≡◌, ℕ, ◌+◌, ◌==◌, min, Bool, List, codes, [], ◌∷◌, ◌++◌, ◌||◌, length, take, drop, filter, if◌then◌else◌, Option, None, Some, option_and_then, Result, Ok, Err}
+use Rattle.std.specs.Prelude.{ℕ, ◌+◌, ◌==◌, min, Bool, List, codes, [], ◌∷◌, ◌++◌, ◌||◌, length, take, drop, filter, if◌then◌else◌, Option, None, Some, option_and_then, Result, Ok, Err}
 use Rattle.std.specs.List.{last_or}
 use Rattle.imagesize_types.specs.Head.{begins}
 use Rattle.imagesize_types.specs.Table.{look_up}

@@ -1,8 +1,6 @@
 //! JPEG XL, by ISO/IEC 18181-1 (the codestream) and 18181-2 (the boxes around it).
-ghost use Rattle.std.specs.Prelude.{◌≡◌, ◌≤◌, ◌++◌, take, option_map};
-ghost use Rattle.imagesize_boxes.specs.Jxl.{is_jxl, jxl, jxl_chain, jxl_codestream, jxl_start};
-ghost use Rattle.imagesize_source.specs.Chain.{chain_at};
-ghost use Rattle.imagesize_source.specs.Reading.{map_answer};
+ghost use Rattle.std.specs.Prelude.{◌≡◌};
+ghost use Rattle.imagesize_boxes.specs.Jxl.{is_jxl, jxl, jxl_codestream, jxl_start};
 ghost use Rattle.imagesize_source.specs.State.{Follows, Runs};
 
 mod bits;
@@ -42,38 +40,25 @@ pub fn size<S: Source>(source: &mut S) -> Result<ImageSize, Halt>
         (jxl (S.state source.old).held.input) }
 {
     let front = read_codestream(source)?;
-    header::codestream_size(&front.bytes, front.len)
+    front.size()
 }
 
 // The first bytes of the codestream, which stands alone or in boxes.
 #[tactic(auto, using(imagesize_source::proofs::Runs::steps))]
 fn read_codestream<S: Source>(source: &mut S) -> Result<Front, Halt>
-    ensures { Runs (S.state source.old) (S.state source.new)
-        (map_answer (λ front. take front.len front.bytes) result)
+    ensures { Runs (S.state source.old) (S.state source.new) result
         (jxl_codestream (S.state source.old).held.input) }
 {
     match read_start(source)? {
         Some(front) => Ok(front),
-        None => read_boxes(source),
+        None => boxes::read_codestream(source),
     }
-}
-
-// Those of a codestream in boxes.
-#[tactic(auto, using(imagesize_source::proofs::Runs::steps))]
-fn read_boxes<S: Source>(source: &mut S) -> Result<Front, Halt>
-    ensures { Runs (S.state source.old) (S.state source.new)
-        (map_answer (λ front. take front.len front.bytes) result)
-        (chain_at jxl_chain (S.state source.old).held.input) }
-{
-    let codestream = boxes::read_codestream(source)?;
-    Ok(Front::of(codestream.as_slice()))
 }
 
 // Those of a codestream that stands alone; none where boxes stand.
 #[tactic(auto, using(imagesize_source::proofs::Runs::steps))]
 fn read_start<S: Source>(source: &mut S) -> Result<Option<Front>, Halt>
-    ensures { Follows (S.state source.old) (S.state source.new) (map_answer (λ found. option_map (λ front. take front.len front.bytes) found)
-        result) jxl_start }
+    ensures { Follows (S.state source.old) (S.state source.new) result jxl_start }
 {
     let start = read_bytes::<S, 2>(source, 0)?;
     if !header::has_signature(&start) {
@@ -81,19 +66,5 @@ fn read_start<S: Source>(source: &mut S) -> Result<Option<Front>, Halt>
     }
     let mut room = [0u8; 14];
     let there = source.read_at(2, &mut room)?;
-    Ok(Some(join(start, room, there)))
-}
-
-// The two bytes, and so many of those behind them.
-#[inline]
-fn join(start: [u8; 2], room: [u8; 14], there: usize) -> Front
-    requires { there ≤ 14 }
-    ensures { take result.len result.bytes ≡ start ++ take there room }
-{
-    let mut bytes = [start[0], start[1], 0, 0, 0, 0, 0, 0, 0, 0, 0, 0, 0, 0, 0, 0];
-    bytes[2..].copy_from_slice(&room);
-    Front {
-        bytes,
-        len: 2 + there,
-    }
+    Ok(Some(Front::of_start(start, room, there)))
 }

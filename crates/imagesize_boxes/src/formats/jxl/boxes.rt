@@ -1,50 +1,71 @@
 //! The boxes of JPEG XL, by ISO/IEC 18181-2, and the bytes of a codestream in them.
 ghost use Rattle.std.specs.Prelude.{◌≡◌, ◌+◌, ◌<◌, ◌≤◌, ◌++◌, length, drop, take, codes, IfOk};
+ghost use Rattle.std.specs.List.{concat};
 ghost use Rattle.imagesize_boxes.specs.Jxl.{box_checked, box_content, box_head, box_room, codestream_box, jxl_box, jxl_chain, partial_box, partial_said, piece_at, said_behind};
-ghost use Rattle.imagesize_boxes.specs.Walks.{box_said, IsFurther, FitsBehind, IsHead};
+ghost use Rattle.imagesize_boxes.specs.Walks.{IsFurther, FitsBehind, IsHead};
 ghost use Rattle.imagesize_types.specs.Head.{begins};
 ghost use Rattle.imagesize_source.specs.Chain.{Decided, chain_at};
 ghost use Rattle.imagesize_source.specs.Numbers.{number};
 ghost use Rattle.imagesize_source.specs.Paying.{Nears, ahead_of};
 ghost use Rattle.imagesize_source.specs.Reading.{number_read, part_read, map_answer};
 ghost use Rattle.imagesize_source.specs.State.{Follows, Runs, IsSound};
+ghost use Rattle.imagesize_source.specs.Walk.{said_at};
 ghost use Rattle.imagesize_source.specs.declared.endian.Endian.TheVariants as endian;
 
-use super::front::MOST;
-use arrayvec::ArrayVec;
+use super::front::{Front, MOST};
 use imagesize_source::readings::{read_bytes, read_bytes_behind, read_u64};
 use imagesize_source::source::Source;
+use imagesize_source::walk::{Found, Records, walk};
 use imagesize_source::{Endian, Halt};
 
-/// The first bytes of a codestream, or a piece of them.
-pub(super) type Codestream = ArrayVec<u8, MOST>;
-
 // The first bytes of the codestream in the boxes behind the signature box.
-pub(super) fn read_codestream<S: Source>(source: &mut S) -> Result<Codestream, Halt>
-    ensures { Runs (S.state source.old) (S.state source.new)
-        (map_answer (λ bytes. bytes.items) result)
+pub(super) fn read_codestream<S: Source>(source: &mut S) -> Result<Front, Halt>
+    ensures { Runs (S.state source.old) (S.state source.new) result
         (chain_at jxl_chain (S.state source.old).held.input) }
 {
-    let mut codestream = Codestream::new();
-    let mut place: u64 = 12;
-    loop {
-        match read_box(source, place, &codestream)? {
-            Found::Whole(bytes) => return Ok(bytes),
-            Found::Passed { piece, next } => {
-                append(&mut codestream, &piece);
-                place = next;
+    let boxes = Boxes {
+        front: Front::new(),
+    };
+    walk(boxes, source, 12)
+}
+
+// The boxes, and what those so far hold of the codestream.
+#[derive(Drop)]
+struct Boxes {
+    front: Front,
+    ghost few: { length front ≤ 16 },
+}
+
+impl Records for Boxes {
+    type Held = Front;
+
+    type Answer = Front;
+
+    ghost said = { λ boxes held place. jxl_box (concat held) place };
+
+    ghost keeps = { λ boxes held place. concat held ≡ boxes.front };
+
+    // Reads the box at an offset.
+    #[tactic(auto, using(crate::proofs::JxlBoxes::joined))]
+    fn read_record<S: Source>(
+        &mut self,
+        source: &mut S,
+        place: u64,
+    ) -> Result<Found<Front, Front>, Halt> {
+        match read_box(source, place, &self.front)? {
+            Found::Answer(front) => Ok(Found::Answer(front)),
+            Found::Other { held, length } => {
+                self.front.extend(held.as_slice());
+                Ok(Found::Other { held, length })
             }
         }
     }
-}
 
-// What a box says.
-#[derive(Drop)]
-enum Found {
-    // The first bytes of the codestream, as far as they are wanted.
-    Whole(Codestream),
-    // The next of them, none or more, and the place of the next box.
-    Passed { piece: Codestream, next: u64 },
+    // The input ends before such a box.
+    #[tactic(auto, using(crate::proofs::JxlBoxes::boxes_end))]
+    fn at_end(&self) -> Result<Front, Halt> {
+        Err(Halt::Ended)
+    }
 }
 
 // The head of a box.
@@ -59,14 +80,18 @@ struct BoxHead {
 
 // The box at a place, behind boxes with these bytes of the codestream.
 #[tactic(auto, using(imagesize_source::proofs::Runs::steps, imagesize_source::proofs::Layouts::binding))]
-fn read_box<S: Source>(source: &mut S, place: u64, held: &Codestream) -> Result<Found, Halt>
-    requires { length held.now.items ≤ 16 }
-    ensures nears { IfOk result (λ found. Nears (S.state source.old) (S.state source.new) place (box_said found)) }
-    ensures fits { IfOk result (λ found. FitsBehind held.now.items found) }
-    ensures runs { Follows (S.state source.old) (S.state source.new) (map_answer (λ found. box_said found) result) (jxl_box held.now.items place) }
+fn read_box<S: Source>(
+    source: &mut S,
+    place: u64,
+    front: &Front,
+) -> Result<Found<Front, Front>, Halt>
+    requires { length front.now ≤ 16 }
+    ensures nears { IfOk result (λ found. Nears (S.state source.old) (S.state source.new) place (said_at place found)) }
+    ensures fits { IfOk result (λ found. FitsBehind front.now (said_at place found)) }
+    ensures runs { Follows (S.state source.old) (S.state source.new) (map_answer (said_at place) result) (jxl_box front.now place) }
 {
     let head = read_head(source, place)?;
-    read_content(source, place, &head, held)
+    read_content(source, place, &head, front)
 }
 
 // The head of the box at a place.
@@ -152,22 +177,22 @@ fn read_content<S: Source>(
     source: &mut S,
     place: u64,
     head: &BoxHead,
-    held: &Codestream,
-) -> Result<Found, Halt>
+    front: &Front,
+) -> Result<Found<Front, Front>, Halt>
     requires sound { IsSound (S.state source.old) }
     requires is { IsHead place head.now }
-    requires room { length held.now.items ≤ 16 }
-    ensures further { IfOk result (λ found. IsFurther place found) }
-    ensures fits { IfOk result (λ found. FitsBehind held.now.items found) }
-    ensures runs { Follows (S.state source.old) (S.state source.new) (map_answer (λ found. box_said found) result) (box_content held.now.items place head.now) }
+    requires few { length front.now ≤ 16 }
+    ensures further { IfOk result (λ found. IsFurther place (said_at place found)) }
+    ensures fits { IfOk result (λ found. FitsBehind front.now (said_at place found)) }
+    ensures runs { Follows (S.state source.old) (S.state source.new) (map_answer (said_at place) result) (box_content front.now place head.now) }
 {
     if is_codestream_box(head) {
-        return Ok(Found::Whole(read_whole(source, place, head)?));
+        return Ok(Found::Answer(read_whole(source, place, head)?));
     }
     if is_partial_box(head) {
-        return read_partial(source, place, head, held);
+        return read_partial(source, place, head, front);
     }
-    Ok(found_behind(place, head, held, Codestream::new()))
+    Ok(found_behind(place, head, front, Front::new()))
 }
 
 #[inline]
@@ -198,10 +223,10 @@ fn room(head: &BoxHead) -> u64
 
 // The first bytes of the codestream, in the one box that has it whole.
 #[tactic(auto, using(imagesize_source::proofs::Runs::steps, imagesize_source::proofs::Layouts::binding))]
-fn read_whole<S: Source>(source: &mut S, place: u64, head: &BoxHead) -> Result<Codestream, Halt>
+fn read_whole<S: Source>(source: &mut S, place: u64, head: &BoxHead) -> Result<Front, Halt>
     requires sound { IsSound (S.state source.old) }
     requires is { IsHead place head.now }
-    ensures { Follows (S.state source.old) (S.state source.new) (map_answer (λ codestream. Decided codestream.items) result) (codestream_box place head.now) }
+    ensures { Follows (S.state source.old) (S.state source.new) (map_answer (λ front. Decided front) result) (codestream_box place head.now) }
 {
     let most = room(head).min(MOST as u64) as usize;
     read_piece(source, place, head.length, most)
@@ -213,23 +238,22 @@ fn read_partial<S: Source>(
     source: &mut S,
     place: u64,
     head: &BoxHead,
-    held: &Codestream,
-) -> Result<Found, Halt>
+    front: &Front,
+) -> Result<Found<Front, Front>, Halt>
     requires sound { IsSound (S.state source.old) }
     requires is { IsHead place head.now }
-    requires room { length held.now.items ≤ 16 }
-    ensures further { IfOk result (λ found. IsFurther place found) }
-    ensures fits { IfOk result (λ found. FitsBehind held.now.items found) }
-    ensures runs { Follows (S.state source.old) (S.state source.new) (map_answer (λ found. box_said found) result) (partial_box held.now.items place head.now) }
+    ensures further { IfOk result (λ found. IsFurther place (said_at place found)) }
+    ensures fits { IfOk result (λ found. FitsBehind front.now (said_at place found)) }
+    ensures runs { Follows (S.state source.old) (S.state source.new) (map_answer (said_at place) result) (partial_box front.now place head.now) }
 {
     let room = room(head);
     if room < 4 {
         return Err(Halt::Ended);
     }
     let index = read_bytes_behind::<S, 4>(source, place, head.length)?;
-    let most = (room - 4).min(held.remaining_capacity() as u64) as usize;
+    let most = (room - 4).min(front.room() as u64) as usize;
     let piece = read_piece(source, place, head.length + 4, most)?;
-    Ok(behind_piece(place, head, held, index, piece))
+    Ok(behind_piece(place, head, front, index, piece))
 }
 
 // What is there of so many bytes, so far behind a place. No byte is no reading.
@@ -238,19 +262,21 @@ fn read_piece<S: Source>(
     place: u64,
     distance: u64,
     most: usize,
-) -> Result<Codestream, Halt>
+) -> Result<Front, Halt>
     requires sound { IsSound (S.state source.old) }
     requires few { most ≤ 16 }
-    ensures few { IfOk result (λ bytes. length bytes.items ≤ most) }
-    ensures runs { Follows (S.state source.old) (S.state source.new) (map_answer (λ bytes. bytes.items) result) (piece_at (place + distance) most) }
+    ensures few { IfOk result (λ bytes. length bytes ≤ most) }
+    ensures runs { Follows (S.state source.old) (S.state source.new) result (piece_at (place + distance) most) }
 {
+    let mut piece = Front::new();
     if most == 0 {
-        return Ok(Codestream::new());
+        return Ok(piece);
     }
     let mut all = [0u8; MOST];
     let room = &mut all[..most];
     let there = read_there(source, place, distance, room)?;
-    Ok(piece_of(&room[..there]))
+    piece.extend(&room[..there]);
+    Ok(piece)
 }
 
 // What is there, so far behind a place, into the room; and how many bytes that is.
@@ -268,68 +294,50 @@ fn read_there<S: Source>(
     source.read_at(place.saturating_add(distance), room)
 }
 
-// These bytes as a piece.
-fn piece_of(bytes: &[u8]) -> Codestream
-    requires { length bytes.now ≤ 16 }
-    ensures { result.items ≡ bytes.now }
-{
-    let mut piece = Codestream::new();
-    let _ = piece.try_extend_from_slice(bytes);
-    piece
-}
-
 // What a piece says: the walk ends where all bytes are there, or where its index says that it is the last.
 fn behind_piece(
     place: u64,
     head: &BoxHead,
-    held: &Codestream,
+    front: &Front,
     index: [u8; 4],
-    piece: Codestream,
-) -> Found
+    piece: Front,
+) -> Found<Front, Front>
     requires is { IsHead place head.now }
-    requires fits { length held.now.items + length piece.items ≤ 16 }
-    ensures further { IsFurther place result }
-    ensures fits { FitsBehind held.now.items result }
-    ensures is { box_said result ≡ partial_said held.now.items place head.now index piece.items }
+    requires fits { length front.now + length piece ≤ 16 }
+    ensures further { IsFurther place (said_at place result) }
+    ensures fits { FitsBehind front.now (said_at place result) }
+    ensures is { said_at place result ≡ partial_said front.now place head.now index piece }
 {
-    if held.len() + piece.len() == MOST || index[0] >= 0x80 {
-        return Found::Whole(join(held, &piece));
+    if front.room() == piece.len() || index[0] >= 0x80 {
+        return Found::Answer(join(front, &piece));
     }
-    found_behind(place, head, held, piece)
+    found_behind(place, head, front, piece)
 }
 
 // What a box with this piece says. An open box is the last.
-fn found_behind(place: u64, head: &BoxHead, held: &Codestream, piece: Codestream) -> Found
+fn found_behind(place: u64, head: &BoxHead, front: &Front, piece: Front) -> Found<Front, Front>
     requires is { IsHead place head.now }
-    requires fits { length held.now.items + length piece.items ≤ 16 }
-    ensures further { IsFurther place result }
-    ensures fits { FitsBehind held.now.items result }
-    ensures is { box_said result ≡ said_behind held.now.items place head.now piece.items }
+    requires fits { length front.now + length piece ≤ 16 }
+    ensures further { IsFurther place (said_at place result) }
+    ensures fits { FitsBehind front.now (said_at place result) }
+    ensures is { said_at place result ≡ said_behind front.now place head.now piece }
 {
     if head.size == 0 {
-        return Found::Whole(join(held, &piece));
+        return Found::Answer(join(front, &piece));
     }
-    Found::Passed {
-        piece,
-        next: place + head.size,
+    Found::Other {
+        held: piece,
+        length: head.size,
     }
 }
 
 // The bytes and the piece behind them.
-fn join(held: &Codestream, piece: &Codestream) -> Codestream
-    requires { length held.now.items + length piece.now.items ≤ 16 }
-    ensures { result.items ≡ held.now.items ++ piece.now.items }
+fn join(front: &Front, piece: &Front) -> Front
+    requires { length front.now + length piece.now ≤ 16 }
+    ensures { result ≡ front.now ++ piece.now }
 {
-    let mut all = Codestream::new();
-    append(&mut all, held);
-    append(&mut all, piece);
+    let mut all = Front::new();
+    all.extend(front.as_slice());
+    all.extend(piece.as_slice());
     all
-}
-
-// Adds a piece for which there is room.
-fn append(codestream: &mut Codestream, piece: &Codestream)
-    requires { length codestream.old.items + length piece.now.items ≤ 16 }
-    ensures { codestream.new.items ≡ codestream.old.items ++ piece.now.items }
-{
-    let _ = codestream.try_extend_from_slice(piece.as_slice());
 }

@@ -1,4 +1,4 @@
-use Rattle.std.proofs.Common.{◌≡◌, ◌+◌, ◌<◌, ◌++◌, ◌∷◌, ◌^◌, ◌∙◌, refl, arith}
+use Rattle.std.proofs.Common.{◌≡◌, ◌+◌, ◌<◌, ◌^◌, ◌∙◌, refl, arith}
 use Rattle.imagesize_source.proofs.Strides.{strides_start, strides_on, strides_stop, strides_out, strides_past, strides_stand}
 use Rattle.imagesize_source.proofs.walk.walk_on.Goals as goal
 

@@ -1,4 +1,3 @@
-use Rattle.std.proofs.Common.{◌+◌}
 use Rattle.imagesize_walked.proofs.Tiff.{entries_advance, entries_saturated}
 use Rattle.imagesize_walked.proofs.formats.tiff.find_size_of.Goals as goal
 
