@@ -21,7 +21,7 @@ abbrev pub Reach : {X : Type 0} → ℕ → ℕ → Layout X → Type 0
 Reach low high (done x) = Unit {0}
 Reach low high (refuse e) = Unit {0}
 Reach low high (field order place n f) = (low ≤ place) × (place + n ≤ high) × ((v : ℕ) → Reach low high (f v))
-Reach low high (reading r place f) = (low ≤ place) × (place + most r ≤ high) × ((bs : List ℕ) → Reach low high (f bs))
+Reach low high (reading r place f) = (low ≤ place) × (place + most r ≤ high) × ((bs : List ℕ) → length bs ≤ most r → Reach low high (f bs))
 
 -- no place of these spans is as great
 abbrev pub AllBelow : ℕ → List Span → Type 0

@@ -3,9 +3,9 @@ use Rattle.std.proofs.Common.{◌≡◌, ℕ, Bool, true, false, List, [], ◌++
 use Rattle.std.proofs.lemmas.List.{append-nil}
 use Rattle.imagesize.specs.Kind.{first_row, kind_by, tga_or_none, with_compression}
 use Rattle.imagesize.specs.Meaning.{kind_reads}
-use Rattle.imagesize.specs.Streamed.{first_by, first_layout, type_behind}
+use Rattle.imagesize_stream.specs.Streamed.{first_by, first_layout, type_behind}
 use Rattle.imagesize.specs.Types.{rows}
-use Rattle.imagesize.specs.declared.stream.front.First.TheVariants as first
+use Rattle.imagesize_stream.specs.declared.front.First.TheVariants as first
 use Rattle.imagesize.specs.declared.types.ImageType.{ImageType}
 use Rattle.imagesize_fixed.specs.Tga.{is_tga, may_be_tga}
 use Rattle.imagesize_source.specs.Input.{span_of}

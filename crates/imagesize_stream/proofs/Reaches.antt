@@ -1,39 +1,43 @@
 -- How far the readings of a type, and of a size at fixed offsets, go.
-use Rattle.std.proofs.Common.{ℕ, Bool, true, false, cond, eqb, List, [], ◌∷◌, Option, None, Some, slice_index, arith}
+use Rattle.std.proofs.Common.{ℕ, ◌+◌, length, Bool, true, false, cond, eqb, List, [], ◌∷◌, Option, None, Some, slice_index, arith}
 use Rattle.std.specs.Prelude.{codes}
 use Rattle.std.specs.Str.{bytes_eq}
 use Rattle.imagesize.specs.Kind.{first_row, with_compression}
-use Rattle.imagesize.specs.Streamed.{first_by, first_layout, fixed_layout}
+use Rattle.imagesize_stream.specs.Streamed.{first_by, first_layout, opening, opens, sized}
 use Rattle.imagesize.specs.Types.{rows}
-use Rattle.imagesize.specs.declared.stream.front.First.TheVariants as first
+use Rattle.imagesize_stream.specs.declared.front.First.TheVariants as first
 use Rattle.imagesize.specs.declared.types.ImageType.{ImageType}
 use Rattle.imagesize.specs.declared.types.ImageType.TheVariants.{Aseprite, Astc, Atc, Bmp, Dds, Eac, Etc2, Exr, Farbfeld, Gif, Hdr, Heif, Ico, Ilbm, Jpeg, Jxl, Ktx2, Pnm, Pvrtc, Psd, Qoi, Tga, Tiff, Vtf, Webp}
 use Rattle.imagesize_boxes.specs.Heif.{brand_compression, compatible_compression, heif_compression, is_general}
-use Rattle.imagesize_fixed.specs.Atc.{atc_compression, is_atc}
+use Rattle.imagesize_fixed.specs.Atc.{atc, atc_compression, is_atc}
 use Rattle.imagesize_fixed.specs.Dds.{dds, dds_bit_counts, dds_codes, dds_compression, dds_compression_by, dds_number_of, dxgi_formats, is_dds}
 use Rattle.imagesize_fixed.specs.Pkm.{pkm, pkm_compression}
-use Rattle.imagesize_fixed.specs.Pvrtc.{is_pvr3, pvr2, pvr3, pvrtc_compression, pvrtc_compression_by, pvrtc_format_of}
-use Rattle.imagesize_fixed.specs.Tga.{may_be_tga}
-use Rattle.imagesize_fixed.specs.Webp.{extended_webp, lossless_webp, lossy_webp, webp_form}
+use Rattle.imagesize_fixed.specs.Pvrtc.{pvrtc, is_pvr3, pvr2, pvr3, pvrtc_compression, pvrtc_compression_by, pvrtc_format_of}
+use Rattle.imagesize_fixed.specs.Tga.{may_be_tga, tga}
+use Rattle.imagesize_fixed.specs.Webp.{webp, extended_webp, lossless_webp, lossy_webp, webp_form}
 use Rattle.imagesize_types.specs.Head.{four_at}
 use Rattle.imagesize_types.specs.Table.{look_up_text}
 use Rattle.imagesize_types.specs.declared.compression.DdsCompression.TheVariants.{Unknown as unknown_dds}
 use Rattle.imagesize_types.specs.declared.compression.PvrtcCompression.TheVariants.{Unknown as unknown_pvrtc}
-use Rattle.imagesize_source.specs.declared.halt.Halt.TheVariants.{InvalidVp8Tag, NotSupported}
+use Rattle.imagesize_source.specs.declared.halt.Halt.TheVariants.{InvalidHdrIdentifier, InvalidVp8Tag, NotSupported}
 use Rattle.imagesize_source.specs.Layout.{Layout, bind, bytes, if_there, whole}
 use Rattle.imagesize_source.specs.Layout.Layout.{field, reading, refuse, «done»}
 use Rattle.imagesize_pieces.specs.Stream.{Reach}
-
-reach_if : {X : Type 0} (b : Bool) (low high : ℕ) (t u : Layout X) → Reach low high t → Reach low high u → Reach low high (cond b t u)
-reach_if true low high t u first second = first
-reach_if false low high t u first second = second
-
-reach_bind : {X Y : Type 0} (low high : ℕ) (t : Layout X) (g : X → Layout Y) → Reach low high t → ((x : X) → Reach low high (g x))
-    → Reach low high (bind t g)
-reach_bind low high (done x) g reach rest = rest x
-reach_bind low high (refuse e) g reach rest = tt
-reach_bind low high (field order place n f) g reach rest = (reach.0, reach.1, λ v. reach_bind low high (f v) g (reach.2 v) rest)
-reach_bind low high (reading r place f) g reach rest = (reach.0, reach.1, λ bs. reach_bind low high (f bs) g (reach.2 bs) rest)
+use Rattle.imagesize_pieces.proofs.Reaching.{reach_accept, reach_bind, reach_if}
+use Rattle.imagesize_stream.specs.declared.awaited.Awaited.TheVariants.{Line}
+use Rattle.imagesize_stream.specs.declared.front.Opening.TheVariants as opened
+use Rattle.imagesize_texts.specs.Contents.{line_text}
+use Rattle.imagesize_texts.specs.Hdr.{check_identifier, hdr_identifier, is_identifier}
+use Rattle.imagesize_types.specs.declared.size.ImageSize.{ImageSize}
+use Rattle.imagesize_fixed.specs.Aseprite.{aseprite}
+use Rattle.imagesize_fixed.specs.Astc.{astc}
+use Rattle.imagesize_fixed.specs.Bmp.{bmp}
+use Rattle.imagesize_fixed.specs.Farbfeld.{farbfeld}
+use Rattle.imagesize_fixed.specs.Gif.{gif}
+use Rattle.imagesize_fixed.specs.Ktx2.{ktx2}
+use Rattle.imagesize_fixed.specs.Psd.{psd}
+use Rattle.imagesize_fixed.specs.Qoi.{qoi}
+use Rattle.imagesize_fixed.specs.Vtf.{vtf}
 
 dds_size : Reach 0 132 dds
 dds_size = (omega arith, omega arith, λ height. (omega arith, omega arith, λ width. tt))
@@ -66,73 +70,80 @@ webp_by letter =
     (reach_if (eqb letter 0x4C) 0 132 lossless_webp (cond (eqb letter 0x58) extended_webp (refuse InvalidVp8Tag)) lossless
     (reach_if (eqb letter 0x58) 0 132 extended_webp (refuse InvalidVp8Tag) extended tt))
 
-pub fixed_reaches : (type : ImageType) → Reach 0 132 (fixed_layout type)
-fixed_reaches Aseprite = (omega arith, omega arith, λ v. (omega arith, omega arith, λ w. tt))
-fixed_reaches Astc = (omega arith, omega arith, λ v. (omega arith, omega arith, λ w. tt))
-fixed_reaches (Atc _) = (
+reach_sized : (t : Layout ImageSize) → Reach 0 132 t → Reach 0 132 (sized t)
+reach_sized t reach = reach_bind 0 132 t (λ size. done (opened.Size size)) reach (λ size. tt)
+
+identifier_reaches : Reach 0 132 hdr_identifier
+identifier_reaches = (omega arith, omega arith, λ bs few. reach_accept 0 132 (line_text 0x0A 11 bs) check_identifier
+    (λ text _. reach_if (is_identifier text) 0 132 (done (length text + 1)) (refuse InvalidHdrIdentifier) tt tt))
+
+pub opening_reaches : (type : ImageType) → Reach 0 132 (opening type)
+opening_reaches Aseprite = reach_sized aseprite (omega arith, omega arith, λ v. (omega arith, omega arith, λ w. tt))
+opening_reaches Astc = reach_sized astc (omega arith, omega arith, λ v. (omega arith, omega arith, λ w. tt))
+opening_reaches (Atc _) = reach_sized atc (
   omega arith,
   omega arith,
-  λ tag. reach_if (is_dds tag) 0 132 dds (bytes 0 8 (λ head. cond (is_atc head) pkm pvr2)) dds_size
-      (omega arith, omega arith, λ head. atc_by head),
+  λ tag few. reach_if (is_dds tag) 0 132 dds (bytes 0 8 (λ head. cond (is_atc head) pkm pvr2)) dds_size
+      (omega arith, omega arith, λ head few. atc_by head),
 )
-fixed_reaches Bmp = (omega arith, omega arith, λ v. (omega arith, omega arith, λ w. tt))
-fixed_reaches (Dds _) = dds_size
-fixed_reaches (Eac _) = pkm_size
-fixed_reaches (Etc2 _) = pkm_size
-fixed_reaches Exr = tt
-fixed_reaches Farbfeld = (omega arith, omega arith, λ v. (omega arith, omega arith, λ w. tt))
-fixed_reaches Gif = (omega arith, omega arith, λ v. (omega arith, omega arith, λ w. tt))
-fixed_reaches Hdr = tt
-fixed_reaches (Heif _) = tt
-fixed_reaches Ico = tt
-fixed_reaches Ilbm = tt
-fixed_reaches Jpeg = tt
-fixed_reaches Jxl = tt
-fixed_reaches Ktx2 = (omega arith, omega arith, λ v. (omega arith, omega arith, λ w. tt))
-fixed_reaches Pnm = tt
-fixed_reaches (Pvrtc _) = (omega arith, omega arith, λ tag. reach_if (is_pvr3 tag) 0 132 pvr3 pvr2 pvr3_size pvr2_size)
-fixed_reaches Psd = (omega arith, omega arith, λ v. (omega arith, omega arith, λ w. tt))
-fixed_reaches Qoi = (omega arith, omega arith, λ v. (omega arith, omega arith, λ w. tt))
-fixed_reaches Tga = (omega arith, omega arith, λ v. (omega arith, omega arith, λ w. tt))
-fixed_reaches Tiff = tt
-fixed_reaches Vtf = (omega arith, omega arith, λ v. (omega arith, omega arith, λ w. tt))
-fixed_reaches Webp = (omega arith, omega arith, λ tag. webp_by (slice_index tag 3))
+opening_reaches Bmp = reach_sized bmp (omega arith, omega arith, λ v. (omega arith, omega arith, λ w. tt))
+opening_reaches (Dds _) = reach_sized dds dds_size
+opening_reaches (Eac _) = reach_sized pkm pkm_size
+opening_reaches (Etc2 _) = reach_sized pkm pkm_size
+opening_reaches Exr = (omega arith, omega arith, λ version. tt)
+opening_reaches Farbfeld = reach_sized farbfeld (omega arith, omega arith, λ v. (omega arith, omega arith, λ w. tt))
+opening_reaches Gif = reach_sized gif (omega arith, omega arith, λ v. (omega arith, omega arith, λ w. tt))
+opening_reaches Hdr = reach_bind 0 132 hdr_identifier (λ first. opens Line first) identifier_reaches (λ first. tt)
+opening_reaches (Heif _) = tt
+opening_reaches Ico = tt
+opening_reaches Ilbm = tt
+opening_reaches Jpeg = tt
+opening_reaches Jxl = tt
+opening_reaches Ktx2 = reach_sized ktx2 (omega arith, omega arith, λ v. (omega arith, omega arith, λ w. tt))
+opening_reaches Pnm = tt
+opening_reaches (Pvrtc _) = reach_sized pvrtc (omega arith, omega arith, λ tag few. reach_if (is_pvr3 tag) 0 132 pvr3 pvr2 pvr3_size pvr2_size)
+opening_reaches Psd = reach_sized psd (omega arith, omega arith, λ v. (omega arith, omega arith, λ w. tt))
+opening_reaches Qoi = reach_sized qoi (omega arith, omega arith, λ v. (omega arith, omega arith, λ w. tt))
+opening_reaches Tga = reach_sized tga (omega arith, omega arith, λ v. (omega arith, omega arith, λ w. tt))
+opening_reaches Tiff = tt
+opening_reaches Vtf = reach_sized vtf (omega arith, omega arith, λ v. (omega arith, omega arith, λ w. tt))
+opening_reaches Webp = reach_sized webp (omega arith, omega arith, λ tag few. webp_by (slice_index tag 3))
 
 heif_reaches : (head : List ℕ) → Reach 0 132 (heif_compression 0 head)
 unfolding heif_compression
 heif_reaches head =
     reach_if (is_general (four_at 8 head)) 0 132 (if_there 12 12 (λ more. done (compatible_compression more))) (done (brand_compression (four_at 8 head)))
-    (omega arith, omega arith, λ more. tt) tt
+    (omega arith, omega arith, λ more few. tt) tt
 
 atc_reaches : Reach 0 132 atc_compression
 unfolding atc_compression
-atc_reaches = (omega arith, omega arith, λ bs. tt)
+atc_reaches = (omega arith, omega arith, λ bs few. tt)
 
 pkm_reaches : Reach 0 132 pkm_compression
 unfolding pkm_compression
-pkm_reaches = (omega arith, omega arith, λ bs. tt)
+pkm_reaches = (omega arith, omega arith, λ bs few. tt)
 
 pvrtc_by : (tag : Option (List ℕ)) → Reach 0 132 (pvrtc_compression_by tag)
 pvrtc_by None = tt
 pvrtc_by (Some tag) = reach_if (is_pvr3 tag) 0 132 (if_there 8 8 (λ bs. done (pvrtc_format_of bs))) (done unknown_pvrtc)
-    (omega arith, omega arith, λ bs. tt) tt
+    (omega arith, omega arith, λ bs few. tt) tt
 
 pvrtc_reaches : Reach 0 132 pvrtc_compression
 unfolding pvrtc_compression
-pvrtc_reaches = (omega arith, omega arith, λ bs. pvrtc_by (whole 4 bs))
+pvrtc_reaches = (omega arith, omega arith, λ bs few. pvrtc_by (whole 4 bs))
 
 dds_by : (code : Option (List ℕ)) → Reach 0 132 (dds_compression_by code)
 dds_by None = tt
 dds_by (Some code) =
     reach_if (bytes_eq code (codes "DX10")) 0 132 (if_there 128 4 (λ bs. done (dds_number_of dxgi_formats bs)))
     (cond (bytes_eq code (0 ∷ 0 ∷ 0 ∷ 0 ∷ [])) (if_there 88 4 (λ bs. done (dds_number_of dds_bit_counts bs))) (done (look_up_text dds_codes unknown_dds code)))
-    (omega arith, omega arith, λ bs. tt)
+    (omega arith, omega arith, λ bs few. tt)
     (reach_if (bytes_eq code (0 ∷ 0 ∷ 0 ∷ 0 ∷ [])) 0 132 (if_there 88 4 (λ bs. done (dds_number_of dds_bit_counts bs)))
-    (done (look_up_text dds_codes unknown_dds code)) (omega arith, omega arith, λ bs. tt) tt)
+    (done (look_up_text dds_codes unknown_dds code)) (omega arith, omega arith, λ bs few. tt) tt)
 
 dds_reaches : Reach 0 132 dds_compression
 unfolding dds_compression
-dds_reaches = (omega arith, omega arith, λ bs. dds_by (whole 4 bs))
+dds_reaches = (omega arith, omega arith, λ bs few. dds_by (whole 4 bs))
 
 compression_reaches : (head : List ℕ) (found : ImageType) → Reach 0 132 (with_compression 0 head found)
 unfolding with_compression
@@ -150,4 +161,4 @@ by_row head None = reach_if (may_be_tga head) 0 132 (done (first.MaybeTga head))
 
 -- the type
 pub first_reaches : Reach 0 132 first_layout
-first_reaches = (omega arith, omega arith, λ head. by_row head (first_row rows head))
+first_reaches = (omega arith, omega arith, λ head few. by_row head (first_row rows head))

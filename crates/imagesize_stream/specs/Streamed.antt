@@ -1,17 +1,38 @@
--- Types and sizes of an image whose bytes come in pieces.
-use Rattle.std.specs.Prelude.{ℕ, Bool, true, false, List, length, if◌then◌else◌, Option, None, Some}
+-- What the first bytes of an image tell: its type, and its size or the records that it is behind.
+use Rattle.std.specs.Prelude.{ℕ, List, length, nat_lt, if◌then◌else◌, Option, None, Some}
 use Rattle.imagesize.specs.Kind.{first_row, tga_or_none, with_compression}
-use Rattle.imagesize.specs.Types.{rows, way_of}
-use Rattle.imagesize.specs.declared.stream.front.First.{First}
-use Rattle.imagesize.specs.declared.stream.front.First.TheVariants as first
+use Rattle.imagesize.specs.Types.{rows}
 use Rattle.imagesize.specs.declared.types.ImageType.{ImageType}
-use Rattle.imagesize_fixed.specs.Tga.{is_tga, may_be_tga}
+use Rattle.imagesize.specs.declared.types.ImageType.TheVariants.{Aseprite, Astc, Atc, Bmp, Dds, Eac, Etc2, Exr, Farbfeld, Gif, Hdr, Heif, Ico, Ilbm, Jpeg, Jxl, Ktx2, Pnm, Pvrtc, Psd, Qoi, Tga, Tiff, Vtf, Webp}
+use Rattle.imagesize_fixed.specs.Aseprite.{aseprite}
+use Rattle.imagesize_fixed.specs.Astc.{astc}
+use Rattle.imagesize_fixed.specs.Atc.{atc}
+use Rattle.imagesize_fixed.specs.Bmp.{bmp}
+use Rattle.imagesize_fixed.specs.Dds.{dds}
+use Rattle.imagesize_fixed.specs.Farbfeld.{farbfeld}
+use Rattle.imagesize_fixed.specs.Gif.{gif}
+use Rattle.imagesize_fixed.specs.Ktx2.{ktx2}
+use Rattle.imagesize_fixed.specs.Pkm.{pkm}
+use Rattle.imagesize_fixed.specs.Psd.{psd}
+use Rattle.imagesize_fixed.specs.Pvrtc.{pvrtc}
+use Rattle.imagesize_fixed.specs.Qoi.{qoi}
+use Rattle.imagesize_fixed.specs.Tga.{is_tga, may_be_tga, tga}
+use Rattle.imagesize_fixed.specs.Vtf.{vtf}
+use Rattle.imagesize_fixed.specs.Webp.{webp}
 use Rattle.imagesize_source.specs.Layout.{Layout, bind, bytes, layout_reads}
-use Rattle.imagesize_source.specs.Layout.Layout.{refuse, «done»}
+use Rattle.imagesize_source.specs.Layout.Layout.{field, refuse, «done»}
 use Rattle.imagesize_source.specs.Reading.{Reads, gives}
-use Rattle.imagesize_source.specs.Way.{Way, Fixed, Recorded, Texts}
-use Rattle.imagesize_types.specs.declared.size.ImageSize.{ImageSize}
+use Rattle.imagesize_source.specs.declared.endian.Endian.TheVariants.{Little}
 use Rattle.imagesize_source.specs.declared.halt.Halt.TheVariants.{Corrupted, NotSupported}
+use Rattle.imagesize_stream.specs.declared.awaited.Awaited.{Awaited}
+use Rattle.imagesize_stream.specs.declared.awaited.Awaited.TheVariants.{Attribute, Chunk, Line, Segment, Word}
+use Rattle.imagesize_stream.specs.declared.front.First.{First}
+use Rattle.imagesize_stream.specs.declared.front.First.TheVariants as first
+use Rattle.imagesize_stream.specs.declared.front.Opening.{Opening}
+use Rattle.imagesize_stream.specs.declared.front.Opening.TheVariants as opened
+use Rattle.imagesize_texts.specs.Exr.{name_room}
+use Rattle.imagesize_texts.specs.Hdr.{hdr_identifier}
+use Rattle.imagesize_types.specs.declared.size.ImageSize.{ImageSize}
 
 -- what the first bytes say of the type, by the first row that holds of them
 abbrev pub first_by : List ℕ → Option ImageType → Layout First
@@ -26,18 +47,45 @@ abbrev pub type_behind : List ℕ → First → Reads ImageType
 type_behind d (first.Type type) = gives type
 type_behind d (first.MaybeTga head) = layout_reads d (bind (is_tga (length d) head) tga_or_none)
 
--- the layout of a size at fixed offsets
-abbrev pub at_fixed : {X : Type 0} → Way X → Layout X
-at_fixed (Fixed layout) = layout
-at_fixed (Recorded each reads begun) = refuse Corrupted
-at_fixed (Texts reads) = refuse Corrupted
+-- the size where it stands among the first bytes, or the record that is next
+abbrev pub sized : Layout ImageSize → Layout Opening
+sized layout = bind layout (λ size. done (opened.Size size))
 
--- the layout of a type's size, where that is at fixed offsets
-abbrev pub fixed_layout : ImageType → Layout ImageSize
-fixed_layout type = at_fixed (way_of type)
+abbrev pub opens : Awaited → ℕ → Layout Opening
+opens next place = done (opened.Records next place)
 
--- a size is at fixed offsets
-abbrev pub is_at_fixed : {X : Type 0} → Way X → Bool
-is_at_fixed (Fixed layout) = true
-is_at_fixed (Recorded each reads begun) = false
-is_at_fixed (Texts reads) = false
+-- the version of an EXR, by which its names may be long
+abbrev pub open_exr : Layout Opening
+open_exr = field Little 4 4 (λ version. opens (Attribute (nat_lt 32 (name_room version))) 8)
+
+-- the first line of a Radiance picture
+abbrev pub open_hdr : Layout Opening
+open_hdr = bind hdr_identifier (λ first. opens Line first)
+
+-- what the first bytes say of the size, by the type
+abbrev pub opening : ImageType → Layout Opening
+opening Aseprite = sized aseprite
+opening Astc = sized astc
+opening (Atc _) = sized atc
+opening Bmp = sized bmp
+opening (Dds _) = sized dds
+opening (Eac _) = sized pkm
+opening (Etc2 _) = sized pkm
+opening Exr = open_exr
+opening Farbfeld = sized farbfeld
+opening Gif = sized gif
+opening Hdr = open_hdr
+opening (Heif _) = refuse Corrupted
+opening Ico = refuse Corrupted
+opening Ilbm = opens Chunk 12
+opening Jpeg = opens (Segment 0) 2
+opening Jxl = refuse Corrupted
+opening Ktx2 = sized ktx2
+opening Pnm = opens Word 2
+opening (Pvrtc _) = sized pvrtc
+opening Psd = sized psd
+opening Qoi = sized qoi
+opening Tga = sized tga
+opening Tiff = refuse Corrupted
+opening Vtf = sized vtf
+opening Webp = sized webp

@@ -2,19 +2,22 @@
 ghost use Rattle.std.specs.Prelude.{◌≡◌};
 ghost use Rattle.imagesize_source.specs.Layout.Layout.{refuse};
 ghost use Rattle.imagesize_source.specs.State.{Follows};
-ghost use Rattle.imagesize.specs.Streamed.{first_layout, fixed_layout};
+ghost use Rattle.imagesize_stream.specs.Streamed.{first_layout, open_exr, open_hdr, opening, opens};
 
-use crate::formats::{first_row, with_compression};
-use crate::types::ImageType;
+use crate::awaited::Awaited;
+use imagesize::ImageType;
+use imagesize::formats::{first_row, with_compression};
 use imagesize_fixed::container::{atc, dds, pkm, pvrtc};
 use imagesize_fixed::formats::tga::may_be_tga;
 use imagesize_fixed::formats::{
     aseprite, astc, bmp, farbfeld, gif, ktx2, psd, qoi, tga, vtf, webp,
 };
-use imagesize_source::Halt;
-use imagesize_source::readings::read_exact_at;
-use imagesize_source::source::Source;
 use imagesize_pieces::front::Fixed;
+use imagesize_source::readings::{read_exact_at, read_u32};
+use imagesize_source::source::Source;
+use imagesize_source::{Endian, Halt};
+use imagesize_texts::formats::exr::name_room;
+use imagesize_texts::formats::hdr::read_identifier;
 use imagesize_types::size::ImageSize;
 
 /// What the first bytes say of the type.
@@ -50,51 +53,94 @@ impl Fixed for FirstBytes {
     }
 }
 
-/// The size of an image of a type whose sizes are at fixed offsets.
+/// What the first bytes say of the size.
+#[derive(Drop)]
+pub(crate) enum Opening {
+    /// It is this.
+    Size(ImageSize),
+    /// It is behind records, of which this one is next.
+    Records { next: Awaited, place: u64 },
+}
+
+/// The size of an image of this type, by the first bytes.
 #[derive(Clone, Copy)]
-pub(crate) struct FixedSize {
+pub(crate) struct FirstSize {
     pub(crate) image: ImageType,
 }
 
-impl Fixed for FixedSize {
-    type Answer = ImageSize;
+impl Fixed for FirstSize {
+    type Answer = Opening;
 
-    ghost layout = { λ size. fixed_layout size.image };
+    ghost layout = { λ size. opening size.image };
 
-    fn read<S: Source>(&self, source: &mut S) -> Result<ImageSize, Halt> {
+    #[tactic(auto, using(imagesize_source::proofs::Runs::steps, imagesize_source::proofs::Layouts::binding))]
+    fn read<S: Source>(&self, source: &mut S) -> Result<Opening, Halt> {
         match self.image {
-            ImageType::Aseprite => aseprite::size(source),
-            ImageType::Astc => astc::size(source),
-            ImageType::Atc(_) => atc::size(source),
-            ImageType::Bmp => bmp::size(source),
-            ImageType::Dds(_) => dds::size(source),
-            ImageType::Eac(_) | ImageType::Etc2(_) => pkm::size(source),
-            ImageType::Farbfeld => farbfeld::size(source),
-            ImageType::Gif => gif::size(source),
-            ImageType::Ktx2 => ktx2::size(source),
-            ImageType::Pvrtc(_) => pvrtc::size(source),
-            ImageType::Psd => psd::size(source),
-            ImageType::Qoi => qoi::size(source),
-            ImageType::Tga => tga::size(source),
-            ImageType::Vtf => vtf::size(source),
-            ImageType::Webp => webp::size(source),
-            ImageType::Exr => refused(source),
-            ImageType::Hdr => refused(source),
+            ImageType::Aseprite => Ok(Opening::Size(aseprite::size(source)?)),
+            ImageType::Astc => Ok(Opening::Size(astc::size(source)?)),
+            ImageType::Atc(_) => Ok(Opening::Size(atc::size(source)?)),
+            ImageType::Bmp => Ok(Opening::Size(bmp::size(source)?)),
+            ImageType::Dds(_) => Ok(Opening::Size(dds::size(source)?)),
+            ImageType::Eac(_) | ImageType::Etc2(_) => Ok(Opening::Size(pkm::size(source)?)),
+            ImageType::Exr => open_exr(source),
+            ImageType::Farbfeld => Ok(Opening::Size(farbfeld::size(source)?)),
+            ImageType::Gif => Ok(Opening::Size(gif::size(source)?)),
+            ImageType::Hdr => open_hdr(source),
             ImageType::Heif(_) => refused(source),
             ImageType::Ico => refused(source),
-            ImageType::Ilbm => refused(source),
-            ImageType::Jpeg => refused(source),
+            ImageType::Ilbm => open_at(source, Awaited::Chunk, 12),
+            ImageType::Jpeg => open_at(source, Awaited::Segment { depth: 0 }, 2),
             ImageType::Jxl => refused(source),
-            ImageType::Pnm => refused(source),
+            ImageType::Ktx2 => Ok(Opening::Size(ktx2::size(source)?)),
+            ImageType::Pnm => open_at(source, Awaited::Word, 2),
+            ImageType::Pvrtc(_) => Ok(Opening::Size(pvrtc::size(source)?)),
+            ImageType::Psd => Ok(Opening::Size(psd::size(source)?)),
+            ImageType::Qoi => Ok(Opening::Size(qoi::size(source)?)),
+            ImageType::Tga => Ok(Opening::Size(tga::size(source)?)),
             ImageType::Tiff => refused(source),
+            ImageType::Vtf => Ok(Opening::Size(vtf::size(source)?)),
+            ImageType::Webp => Ok(Opening::Size(webp::size(source)?)),
         }
     }
 }
 
-// A type whose sizes are not at fixed offsets.
+// Records from an offset on that is known without a reading.
 #[inline(always)]
 #[tactic(auto, using(imagesize_source::proofs::Runs::steps))]
-fn refused<S: Source>(source: &mut S) -> Result<ImageSize, Halt>
+fn open_at<S: Source>(source: &mut S, next: Awaited, place: u64) -> Result<Opening, Halt>
+    ensures { Follows (S.state source.old) (S.state source.new) result (opens next place) }
+{
+    // The proof needs that the input is not so long.
+    let _told = source.told();
+    Ok(Opening::Records { next, place })
+}
+
+#[tactic(auto, using(imagesize_source::proofs::Runs::steps))]
+fn open_exr<S: Source>(source: &mut S) -> Result<Opening, Halt>
+    ensures { Follows (S.state source.old) (S.state source.new) result open_exr }
+{
+    let version = read_u32(source, 4, Endian::Little)?;
+    let long = name_room(version) > 32;
+    Ok(Opening::Records {
+        next: Awaited::Attribute { long },
+        place: 8,
+    })
+}
+
+#[tactic(auto, using(imagesize_source::proofs::Runs::steps, imagesize_source::proofs::Layouts::binding))]
+fn open_hdr<S: Source>(source: &mut S) -> Result<Opening, Halt>
+    ensures { Follows (S.state source.old) (S.state source.new) result open_hdr }
+{
+    let place = read_identifier(source)?;
+    Ok(Opening::Records {
+        next: Awaited::Line,
+        place,
+    })
+}
+
+#[inline(always)]
+#[tactic(auto, using(imagesize_source::proofs::Runs::steps))]
+fn refused<S: Source>(source: &mut S) -> Result<Opening, Halt>
     ensures { Follows (S.state source.old) (S.state source.new) result (refuse Halt.Corrupted) }
 {
     // The proof needs that the input is not so long.

@@ -39,10 +39,11 @@ pub fn size<S: Source>(source: &mut S) -> Result<ImageSize, Halt>
     walk(words, source, 2)
 }
 
-// The words after the magic number, which are read into `room`.
+/// The words after the magic number.
 #[derive(Drop)]
-struct Words {
-    room: [u8; WORD_ROOM],
+pub struct Words {
+    /// A word is read into this buffer.
+    pub room: [u8; WORD_ROOM],
 }
 
 impl Records for Words {

@@ -1,0 +1,5 @@
+pub mod Behind
+pub mod Steps
+pub mod Running
+pub mod Firsts
+pub mod Reaches

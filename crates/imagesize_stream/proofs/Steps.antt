@@ -1,0 +1,81 @@
+-- The chain of what is awaited: it advances, how far its records reach, and how it ends.
+use Rattle.std.proofs.Common.{◌≡◌, ℕ, ◌+◌, ◌<◌, ◌≤◌, Bool, true, false, List, [], length, ap, ◌∙◌, arith}
+use Rattle.imagesize_source.specs.Chain.{Said, Decided, Next, Advances}
+use Rattle.imagesize_source.specs.Layout.{Layout, done, refuse, field, reading, bind, layout_reads}
+use Rattle.imagesize_source.specs.Reading.{Reading, AllOf, PartOf, TextOf, Reads, and_then, refuses}
+use Rattle.imagesize_source.specs.declared.halt.Halt.TheVariants.{Ended}
+use Rattle.imagesize_source.proofs.Advances.{Begins, OrSome, Tells, advances}
+use Rattle.imagesize_source.proofs.Layouts.{over-bind}
+use Rattle.imagesize_stream.specs.Steps.{IsSteady, after, awaited_chain, awaited_said, decides, last_awaited, names_of, step}
+use Rattle.imagesize_stream.specs.declared.awaited.Awaited.{Awaited}
+use Rattle.imagesize_stream.specs.declared.awaited.Awaited.TheVariants.{Attribute, Chunk, Line, Segment, Word}
+use Rattle.imagesize_texts.specs.Exr.{exr_attribute}
+use Rattle.imagesize_texts.proofs.Exr.{attribute_begins, attribute_tells, exr_ends}
+use Rattle.imagesize_texts.proofs.Hdr.{hdr_begins, hdr_ends, hdr_tells}
+use Rattle.imagesize_texts.proofs.Pnm.{pnm_begins, pnm_ends, pnm_tells}
+use Rattle.imagesize_texts.specs.Hdr.{hdr_line}
+use Rattle.imagesize_texts.specs.Pnm.{pnm_word}
+use Rattle.imagesize_texts.specs.Texts.{line_at, word}
+use Rattle.imagesize_types.specs.declared.size.ImageSize.{ImageSize}
+use Rattle.imagesize_walked.proofs.Ilbm.{chunk_begins, chunk_tells, ilbm_ends}
+use Rattle.imagesize_walked.proofs.Jpeg.{jpeg_ends, segment_begins, segment_tells}
+use Rattle.imagesize_walked.specs.Ilbm.{ilbm_chunk}
+use Rattle.imagesize_walked.specs.Jpeg.{jpeg_segment}
+use Rattle.imagesize_walked.specs.Walks.{depth_behind}
+
+module _ {C Y : Type 0} (on : C → Awaited) (verdict : Y → Layout (Said Awaited ImageSize)) where
+  -- what is behind a record tells the places that it tells
+  pub tells_behind : (P : ℕ → Type 0) → ((y : Y) → Tells P (verdict y)) → (t : Layout (Said C Y)) → Tells P t → Tells P (bind t (after on verdict))
+  tells_behind P each (done (Decided y)) tells = each y
+  tells_behind P each (done (Next v place)) tells = tells
+  tells_behind P each (refuse e) tells = tt
+  tells_behind P each (field order place k f) tells = λ v. tells_behind P each (f v) (tells v)
+  tells_behind P each (reading r place f) tells = λ bs. tells_behind P each (f bs) (tells bs)
+
+or_some : (r : Reading) {P Q : Type 0} → (P → Q) → OrSome r P → OrSome r Q
+or_some (AllOf k) on some = some
+or_some (PartOf k) on some = on some
+or_some (TextOf t k) on some = on some
+
+-- and begins where it begins
+pub begins_behind : {C Y : Type 0} (on : C → Awaited) (verdict : Y → Layout (Said Awaited ImageSize)) (q : ℕ)
+    → ((y : Y) (P : ℕ → Type 0) → Tells P (verdict y)) → (t : Layout (Said C Y)) → Begins q t → ((y : Y) → Begins q (verdict y))
+    → Begins q (bind t (after on verdict))
+begins_behind on verdict q none (done (Decided y)) begins each = each y
+begins_behind on verdict q none (done (Next v place)) begins each = begins
+begins_behind on verdict q none (refuse e) begins each = tt
+begins_behind on verdict q none (field order place k f) begins each = begins
+begins_behind on verdict q none (reading r place f) begins each =
+    (begins.0, or_some r (tells_behind on verdict (λ _. ⊥) (λ y. none y (λ _. ⊥)) (f [])) begins.1)
+
+step_tells : (next : Awaited) (place : ℕ) → Tells (λ p. place < p) (step next place)
+step_tells (Segment depth) place = tells_behind (λ marker. Segment (depth_behind depth marker)) decides _ (λ _. tt) (jpeg_segment depth place) (segment_tells depth place)
+step_tells Chunk place = tells_behind (λ _. Chunk) decides _ (λ _. tt) (ilbm_chunk place) (chunk_tells place)
+step_tells (Attribute long) place = tells_behind (λ _. Attribute long) decides _ (λ _. tt) (exr_attribute (names_of long) place) (attribute_tells (names_of long) place)
+step_tells Line place = tells_behind (λ _. Line) decides _ (λ _. tt) (line_at 0x0A place 256 (hdr_line place)) (hdr_tells place)
+step_tells Word place = tells_behind (λ _. Word) decides _ (λ _. tt) (word place (pnm_word place)) (pnm_tells place)
+
+step_begins : (next : Awaited) (place : ℕ) → Begins place (step next place)
+step_begins (Segment depth) place = begins_behind (λ marker. Segment (depth_behind depth marker)) decides place (λ _ P. tt) (jpeg_segment depth place) (segment_begins depth place) (λ _. tt)
+step_begins Chunk place = begins_behind (λ _. Chunk) decides place (λ _ P. tt) (ilbm_chunk place) (chunk_begins place) (λ _. tt)
+step_begins (Attribute long) place = begins_behind (λ _. Attribute long) decides place (λ _ P. tt) (exr_attribute (names_of long) place) (attribute_begins (names_of long) place) (λ _. tt)
+step_begins Line place = begins_behind (λ _. Line) decides place (λ _ P. tt) (line_at 0x0A place 256 (hdr_line place)) (hdr_begins place) (λ _. tt)
+step_begins Word place = begins_behind (λ _. Word) decides place (λ _ P. tt) (word place (pnm_word place)) (pnm_begins place) (λ _. tt)
+
+pub awaited_advances : (d : List ℕ) → Advances awaited_chain d
+awaited_advances = advances awaited_chain (λ held place. step_tells (last_awaited held) place) (λ held place. step_begins (last_awaited held) place)
+
+-- what is refused beyond the end is refused with what is behind it
+refused_behind : {X Y : Type 0} (d : List ℕ) (t : Layout X) (g : X → Layout Y) → layout_reads d t ≡ refuses Ended → layout_reads d (bind t g) ≡ refuses Ended
+refused_behind d t g is = over-bind d t g ∙ ap (λ r. and_then r (λ x. layout_reads d (g x))) is
+
+some_names : (long : Bool) → 0 < names_of long
+some_names true = omega arith
+some_names false = omega arith
+
+pub step_ends : (next : Awaited) (d : List ℕ) (place : ℕ) → length d ≤ place → layout_reads d (step next place) ≡ refuses Ended
+step_ends (Segment depth) d place far = refused_behind d (jpeg_segment depth place) _ (jpeg_ends d depth place far)
+step_ends Chunk d place far = refused_behind d (ilbm_chunk place) _ (ilbm_ends d place far)
+step_ends (Attribute long) d place far = refused_behind d (exr_attribute (names_of long) place) _ (exr_ends d (names_of long) place (some_names long) far)
+step_ends Line d place far = refused_behind d (line_at 0x0A place 256 (hdr_line place)) _ (hdr_ends d place far)
+step_ends Word d place far = refused_behind d (word place (pnm_word place)) _ (pnm_ends d place far)

@@ -1,0 +1,64 @@
+-- What a stream awaits of an image whose size is behind records: the record that is next, as one chain for all formats.
+use Rattle.std.specs.Prelude.{◌≡◌, ℕ, ◌<◌, Bool, true, false, List, [], ◌∷◌, Option, None, Some, unwrap_or, if◌then◌else◌}
+use Rattle.std.specs.List.{last_or}
+use Rattle.imagesize_source.specs.Chain.{Said, Decided, Next, Chain}
+use Rattle.imagesize_source.specs.Layout.{Layout, bind}
+use Rattle.imagesize_source.specs.Layout.Layout.{«done»}
+use Rattle.imagesize_source.specs.Walk.{chain_of}
+use Rattle.imagesize_stream.specs.declared.awaited.Awaited.{Awaited}
+use Rattle.imagesize_stream.specs.declared.awaited.Awaited.TheVariants.{Attribute, Chunk, Line, Segment, Word}
+use Rattle.imagesize_texts.specs.Exr.{exr_attribute}
+use Rattle.imagesize_texts.specs.Hdr.{hdr_line}
+use Rattle.imagesize_texts.specs.Pnm.{pnm_word}
+use Rattle.imagesize_texts.specs.Texts.{line_at, word}
+use Rattle.imagesize_types.specs.declared.size.ImageSize.{ImageSize}
+use Rattle.imagesize_walked.specs.Ilbm.{ilbm_chunk}
+use Rattle.imagesize_walked.specs.Jpeg.{jpeg_segment}
+use Rattle.imagesize_walked.specs.Walks.{depth_behind}
+
+-- what goes on from what a format's record says: its verdict, or the record that is next
+abbrev pub after : {C Y : Type 0} → (C → Awaited) → (Y → Layout (Said Awaited ImageSize)) → Said C Y → Layout (Said Awaited ImageSize)
+after on verdict (Decided y) = verdict y
+after on verdict (Next v place) = done (Next (on v) place)
+
+abbrev pub decides : ImageSize → Layout (Said Awaited ImageSize)
+decides size = done (Decided size)
+
+-- how many bytes a name of an EXR may have, with the zero that ends it
+abbrev pub names_of : Bool → ℕ
+names_of long = if long then 256 else 32
+
+-- the layout of the record that is awaited at a place
+abbrev pub step : Awaited → ℕ → Layout (Said Awaited ImageSize)
+step (Segment depth) place = bind (jpeg_segment depth place) (after (λ marker. Segment (depth_behind depth marker)) decides)
+step Chunk place = bind (ilbm_chunk place) (after (λ _. Chunk) decides)
+step (Attribute long) place = bind (exr_attribute (names_of long) place) (after (λ _. Attribute long) decides)
+step Line place = bind (line_at 0x0A place 256 (hdr_line place)) (after (λ _. Line) decides)
+step Word place = bind (word place (pnm_word place)) (after (λ _. Word) decides)
+
+-- a record holds what is awaited behind it
+abbrev pub last_awaited : List Awaited → Awaited
+last_awaited held = unwrap_or (last_or None held) Chunk
+
+abbrev pub awaited_said : List Awaited → ℕ → Layout (Said Awaited ImageSize)
+awaited_said held place = step (last_awaited held) place
+
+abbrev pub awaited_chain : Chain Awaited ImageSize
+awaited_chain = chain_of 0 awaited_said
+
+-- what holds of the record that is awaited at a place
+abbrev pub IsSteady : Awaited → ℕ → Type 0
+IsSteady (Segment depth) place = depth < place
+IsSteady Chunk place = Unit {0}
+IsSteady (Attribute long) place = Unit {0}
+IsSteady Line place = Unit {0}
+IsSteady Word place = Unit {0}
+
+-- and of the one behind
+abbrev pub StaysSteady : Said Awaited ImageSize → Type 0
+StaysSteady (Decided size) = Unit {0}
+StaysSteady (Next next place) = IsSteady next place
+
+-- the value stands at the record that is next behind those that hold these
+abbrev pub Awaits : Awaited → List Awaited → ℕ → Type 0
+Awaits next held place = (last_awaited held ≡ next) × IsSteady next place

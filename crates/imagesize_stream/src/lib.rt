@@ -1,0 +1,6 @@
+//! The type of an image and its size in pixels, from bytes that come in pieces.
+#![tactic(auto)]
+
+mod awaited;
+mod front;
+mod sizes;
