@@ -24,7 +24,7 @@ seen_by f rest back marks (Ok x) =
     ∙ ap (put_behind (marks ++ [])) (sym (back x))
 seen_by f rest back marks (Err e) = refl
 
-seen_from : {X Y : Type 0} (r : Reads X) (f : X → Y) (rest : Y → Reads X) → ((x : X) → rest (f x) ≡ gives x)
+pub seen_from : {X Y : Type 0} (r : Reads X) (f : X → Y) (rest : Y → Reads X) → ((x : X) → rest (f x) ≡ gives x)
     → r ≡ and_then (and_then r (λ x. gives (f x))) rest
 seen_from r f rest back = seen_by f rest back r.marks r.answer
 

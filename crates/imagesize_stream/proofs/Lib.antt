@@ -3,3 +3,5 @@ pub mod Steps
 pub mod Running
 pub mod Firsts
 pub mod Reaches
+pub mod Far
+pub mod Opened

@@ -82,7 +82,7 @@ counts_on : (p : ℕ → Bool) (markers : List ℕ) (marker : ℕ) → count_by 
 counts_on p markers marker = sum_by-append (λ m. cond (p m) 1 0) markers (marker ∷ []) ∙ ap (λ n. count_by p markers + n)
     (zero-add (cond (p marker) 1 0))
 
-nested_on : (k marker : ℕ) (markers : List ℕ) → (marker ≡ 0xD9 → 0 < k) → Nested k markers → Nested (depth_behind k marker)
+pub nested_on : (k marker : ℕ) (markers : List ℕ) → (marker ≡ 0xD9 → 0 < k) → Nested k markers → Nested (depth_behind k marker)
     (markers ++ marker ∷ [])
 nested_on k marker markers inner h =
     let starts = counts_on (λ m. eqb m 0xD8) markers marker in

@@ -1,0 +1,129 @@
+-- How far the record that is awaited is read.
+use Rattle.std.proofs.Common.{◌≡◌, ℕ, ◌+◌, ◌≤◌, Bool, true, false, ◌&&◌, cond, eqb, List, length, slice_index, Option, None, Some, Result, Ok, refl, arith}
+use Rattle.std.specs.Str.{trim}
+use Rattle.imagesize_pieces.proofs.Reaching.{reach_accept, reach_bind, reach_if}
+use Rattle.imagesize_pieces.specs.Stream.{Reach}
+use Rattle.imagesize_source.specs.Chain.{Said, Decided, Next}
+use Rattle.imagesize_source.specs.Layout.{Layout, accept, bytes}
+use Rattle.imagesize_source.specs.Layout.Layout.{refuse, «done»}
+use Rattle.imagesize_source.specs.declared.halt.Halt.TheVariants.{Corrupted, DataWindowNotFound}
+use Rattle.imagesize_stream.specs.Steps.{after, decides, names_of, step}
+use Rattle.imagesize_stream.specs.declared.awaited.Awaited.{Awaited}
+use Rattle.imagesize_stream.specs.declared.awaited.Awaited.TheVariants.{Attribute, Chunk, Line, Segment, Word}
+use Rattle.imagesize_texts.proofs.Texts.{length_ok, line_ok, word_ok}
+use Rattle.imagesize_texts.specs.Contents.{WordRead, line_length, line_text, number_text, word_text}
+use Rattle.imagesize_texts.specs.Exr.{exr_attribute, exr_named, exr_typed, exr_value, exr_window, is_box, is_data_window, window_size}
+use Rattle.imagesize_texts.specs.Hdr.{hdr_line, is_resolution, resolution}
+use Rattle.imagesize_texts.specs.Pnm.{is_blank, is_comment, pnm_comment, pnm_height, pnm_passed, pnm_size, pnm_word}
+use Rattle.imagesize_texts.specs.Texts.{line_at, passed_line, word}
+use Rattle.imagesize_types.specs.declared.size.ImageSize.{ImageSize}
+use Rattle.imagesize_walked.specs.Ilbm.{bitmap_header, chunk_bytes, chunk_length, ilbm_chunk, ilbm_named, is_bitmap_header, is_body}
+use Rattle.imagesize_walked.specs.Jpeg.{is_own_end, is_own_frame, jpeg_frame, jpeg_marked, jpeg_other, jpeg_segment}
+use Rattle.imagesize_walked.specs.Walks.{depth_behind}
+
+-- what goes on where the verdict is the size
+after_size : {C : Type 0} (low high : ℕ) (on : C → Awaited) (said : Said C ImageSize) → Reach low high (after on decides said)
+after_size low high on (Decided size) = tt
+after_size low high on (Next v place) = tt
+
+frame_far : (place : ℕ) → Reach place (place + 2048) (jpeg_frame place)
+frame_far place = (omega arith, omega arith, λ height. (omega arith, omega arith, λ width. tt))
+
+other_far : (place marker : ℕ) → Reach place (place + 2048) (jpeg_other place marker)
+other_far place marker = (omega arith, omega arith, λ length. tt)
+
+segment_far : (k place : ℕ) → Reach place (place + 2048) (jpeg_segment k place)
+segment_far k place = (
+  omega arith,
+  omega arith,
+  λ head few. reach_if (eqb (slice_index head 0) 0xFF) place (place + 2048) (jpeg_marked k place (slice_index head 1)) (refuse Corrupted)
+      (reach_if (is_own_frame k (slice_index head 1)) place (place + 2048) (jpeg_frame place) _ (frame_far place)
+      (reach_if (is_own_end k (slice_index head 1)) place (place + 2048) (refuse Corrupted) (jpeg_other place (slice_index head 1)) tt
+      (other_far place (slice_index head 1)))) tt,
+)
+
+chunk_far : (place : ℕ) → Reach place (place + 2048) (ilbm_chunk place)
+chunk_far place = (
+  omega arith,
+  omega arith,
+  λ head few. reach_if (is_bitmap_header head) place (place + 2048) (bitmap_header place) _
+      (omega arith, omega arith, λ width. (omega arith, omega arith, λ height. tt))
+      (reach_if (is_body head) place (place + 2048) (refuse Corrupted) (done (Next tt (place + chunk_bytes (chunk_length head)))) tt tt),
+)
+
+window_far : (low high place taken : ℕ) (size : Option ImageSize) → Reach low high (exr_window place taken size)
+window_far low high place taken (Some size) = tt
+window_far low high place taken None = tt
+
+value_far : (place taken size : ℕ) (is_window : Bool) → taken ≤ 600 → Reach place (place + 2048) (exr_value place taken is_window size)
+value_far place taken size is_window few =
+    reach_if is_window place (place + 2048) (bytes (place + taken) 16 (λ bs. exr_window place taken (window_size bs))) (done (Next tt (place + (taken + size))))
+    (omega arith, omega arith, λ bs _. window_far place (place + 2048) place taken (window_size bs)) tt
+
+typed_far : (place : ℕ) (name type_name : List ℕ) → length name ≤ 256 → length type_name ≤ 256
+    → Reach place (place + 2048) (exr_typed place name type_name)
+typed_far place name type_name few also = (
+  omega arith,
+  omega arith,
+  λ size. value_far place (length name + 1 + (length type_name + 1) + 4) size (is_data_window name && is_box type_name) (omega arith),
+)
+
+-- a line has fewer bytes than were read of it
+line_few : (most : ℕ) (bs text : List ℕ) → most ≤ 256 → length bs ≤ most → line_text 0 most bs ≡ Ok text → length text ≤ 256
+line_few most bs text few short is = omega (arith, (line_ok 0 most bs text is).0)
+
+named_far : (room place : ℕ) (name : List ℕ) → room ≤ 256 → length name ≤ 256 → Reach place (place + 2048) (exr_named room place name)
+named_far room place name few short =
+    reach_if (eqb (length name) 0) place (place + 2048) (refuse DataWindowNotFound) (line_at 0 (place + (length name + 1)) room (exr_typed place name)) tt (
+      omega arith,
+      omega arith,
+      λ bs most. reach_accept place (place + 2048) (line_text 0 room bs) (exr_typed place name)
+          (λ type_name is. typed_far place name type_name short (line_few room bs type_name few most is)),
+    )
+
+attribute_far : (room place : ℕ) → room ≤ 256 → Reach place (place + 2048) (exr_attribute room place)
+attribute_far room place few = (
+  omega arith,
+  omega arith,
+  λ bs most. reach_accept place (place + 2048) (line_text 0 room bs) (exr_named room place)
+      (λ name is. named_far room place name few (line_few room bs name few most is)),
+)
+
+names_few : (long : Bool) → names_of long ≤ 256
+names_few true = omega arith
+names_few false = omega arith
+
+hdr_far : (place : ℕ) → Reach place (place + 2048) (line_at 0x0A place 256 (hdr_line place))
+hdr_far place = (
+  omega arith,
+  omega arith,
+  λ bs most. reach_accept place (place + 2048) (line_text 0x0A 256 bs) (hdr_line place)
+      (λ text _. reach_if (is_resolution text) place (place + 2048) (accept (resolution text) (λ size. done (Decided size))) (done (Next tt (place + (length text + 1))))
+      (reach_accept place (place + 2048) (resolution text) (λ size. done (Decided size)) (λ size _. tt)) tt),
+)
+
+word_far : (place : ℕ) (w : WordRead) → w.taken ≤ 1024 → Reach place (place + 2048) (pnm_word place w)
+word_far place w few =
+    reach_if (is_comment w.text) place (place + 2048) (pnm_comment place w) _
+    (reach_if (eqb w.ended_by 0x0A) place (place + 2048) (pnm_passed place w.taken) (passed_line 0x0A (place + w.taken) 1024 (λ rest. pnm_passed place (w.taken + rest))) tt
+    (omega arith, omega arith, λ bs most. reach_accept place (place + 2048) (line_length 0x0A 1024 bs) (λ rest. pnm_passed place (w.taken + rest)) (λ rest _. tt)))
+    (reach_if (is_blank w.text) place (place + 2048) (pnm_passed place w.taken) (pnm_height place w) tt
+    (omega arith, omega arith, λ bs most. reach_accept place (place + 2048) (word_text bs)
+    (λ next. accept (pnm_size (number_text w.text) (number_text (trim next.text))) (λ size. done (Decided size)))
+    (λ next _. reach_accept place (place + 2048) (pnm_size (number_text w.text) (number_text (trim next.text))) (λ size. done (Decided size)) (λ size _. tt))))
+
+pnm_far : (place : ℕ) → Reach place (place + 2048) (word place (pnm_word place))
+pnm_far place = (
+  omega arith,
+  omega arith,
+  λ bs most. reach_accept place (place + 2048) (word_text bs) (pnm_word place) (λ w is. word_far place w (omega (arith, most, (word_ok bs w is).0))),
+)
+
+pub step_far : (next : Awaited) (place : ℕ) → Reach place (place + 2048) (step next place)
+step_far (Segment depth) place = reach_bind place (place + 2048) (jpeg_segment depth place) _ (segment_far depth place)
+    (after_size place (place + 2048) (λ marker. Segment (depth_behind depth marker)))
+step_far Chunk place = reach_bind place (place + 2048) (ilbm_chunk place) _ (chunk_far place) (after_size place (place + 2048) (λ _. Chunk))
+step_far (Attribute long) place = reach_bind place (place + 2048) (exr_attribute (names_of long) place) _ (attribute_far (names_of long) place (names_few long))
+    (after_size place (place + 2048) (λ _. Attribute long))
+step_far Line place = reach_bind place (place + 2048) (line_at 0x0A place 256 (hdr_line place)) _ (hdr_far place) (after_size place (place + 2048) (λ _. Line))
+step_far Word place = reach_bind place (place + 2048) (word place (pnm_word place)) _ (pnm_far place) (after_size place (place + 2048) (λ _. Word))

@@ -1,0 +1,174 @@
+-- The size of an image by its first bytes, and by the records behind them.
+use Rattle.std.proofs.Common.{◌≡◌, ℕ, ◌+◌, ◌<◌, Bool, true, false, ltb, cond, eqb, List, [], ◌∷◌, ◌++◌, slice_index, Result, Ok, Err, refl, sym, ap, ◌∙◌, subst, arith}
+use Rattle.std.proofs.lemmas.Bool.Decides.{nat_tests}
+use Rattle.std.specs.Prelude.{bit_and}
+use Rattle.imagesize.specs.Meaning.{size_reads}
+use Rattle.imagesize.specs.declared.types.ImageType.{ImageType}
+use Rattle.imagesize.specs.declared.types.ImageType.TheVariants.{Aseprite, Astc, Atc, Bmp, Dds, Eac, Etc2, Exr, Farbfeld, Gif, Hdr, Heif, Ico, Ilbm, Jpeg, Jxl, Ktx2, Pnm, Pvrtc, Psd, Qoi, Tga, Tiff, Vtf, Webp}
+use Rattle.imagesize_fixed.specs.Aseprite.{aseprite}
+use Rattle.imagesize_fixed.specs.Astc.{astc}
+use Rattle.imagesize_fixed.specs.Atc.{atc}
+use Rattle.imagesize_fixed.specs.Bmp.{bmp}
+use Rattle.imagesize_fixed.specs.Dds.{dds}
+use Rattle.imagesize_fixed.specs.Farbfeld.{farbfeld}
+use Rattle.imagesize_fixed.specs.Gif.{gif}
+use Rattle.imagesize_fixed.specs.Ktx2.{ktx2}
+use Rattle.imagesize_fixed.specs.Pkm.{pkm}
+use Rattle.imagesize_fixed.specs.Psd.{psd}
+use Rattle.imagesize_fixed.specs.Pvrtc.{pvrtc}
+use Rattle.imagesize_fixed.specs.Qoi.{qoi}
+use Rattle.imagesize_fixed.specs.Tga.{tga}
+use Rattle.imagesize_fixed.specs.Vtf.{vtf}
+use Rattle.imagesize_fixed.specs.Webp.{webp}
+use Rattle.imagesize_source.specs.Chain.{Said, Decided, Next, Chain, Advances, chain_at, start}
+use Rattle.imagesize_source.specs.Input.{span_of}
+use Rattle.imagesize_source.specs.Layout.{Layout, bind, layout_reads}
+use Rattle.imagesize_source.specs.Layout.Layout.{field, reading, refuse, «done»}
+use Rattle.imagesize_source.specs.Reading.{Reads, and_then, gives, go_on, number_at, read_of}
+use Rattle.imagesize_source.specs.declared.endian.Endian.TheVariants.{Little}
+use Rattle.imagesize_source.specs.declared.halt.Halt.{Halt}
+use Rattle.imagesize_source.specs.declared.halt.Halt.TheVariants.{Corrupted}
+use Rattle.imagesize_source.specs.declared.span.Span.{Span}
+use Rattle.imagesize_source.proofs.Layouts.{onward-and_then, over-bind}
+use Rattle.imagesize_source.proofs.Tests.{on_test}
+use Rattle.imagesize_stream.specs.Steps.{after, decides, names_of, step}
+use Rattle.imagesize_stream.specs.Streamed.{open_exr, open_hdr, opening, opens, sized}
+use Rattle.imagesize_stream.specs.declared.awaited.Awaited.{Awaited}
+use Rattle.imagesize_stream.specs.declared.awaited.Awaited.TheVariants.{Attribute, Chunk, Line, Segment, Word}
+use Rattle.imagesize_stream.specs.declared.front.Opening.{Opening}
+use Rattle.imagesize_stream.specs.declared.front.Opening.TheVariants as opened
+use Rattle.imagesize_stream.proofs.Firsts.{seen_from}
+use Rattle.imagesize_stream.proofs.Running.{as_awaited, by_size, goes, run}
+use Rattle.imagesize_texts.proofs.Exr.{attribute_advances}
+use Rattle.imagesize_texts.proofs.Hdr.{hdr_advances}
+use Rattle.imagesize_texts.proofs.Pnm.{pnm_advances}
+use Rattle.imagesize_texts.specs.Exr.{exr, exr_attribute, exr_attributes, name_room}
+use Rattle.imagesize_texts.specs.Hdr.{hdr, hdr_identifier, hdr_line, hdr_lines}
+use Rattle.imagesize_texts.specs.Pnm.{pnm, pnm_word, pnm_words}
+use Rattle.imagesize_texts.specs.Texts.{line_at, word}
+use Rattle.imagesize_types.specs.declared.size.ImageSize.{ImageSize}
+use Rattle.imagesize_walked.proofs.Ilbm.{ilbm_advances}
+use Rattle.imagesize_walked.proofs.Jpeg.{jpeg_advances, nested_on}
+use Rattle.imagesize_walked.specs.Ilbm.{ilbm, ilbm_chunk, ilbm_chunks}
+use Rattle.imagesize_walked.specs.Jpeg.{depth, is_own_end, is_own_frame, jpeg, jpeg_frame, jpeg_marked, jpeg_other, jpeg_segment, jpeg_segments}
+use Rattle.imagesize_walked.specs.Walks.{Nested, depth_behind}
+
+-- what goes on from the first bytes
+abbrev pub opened_rest : List ℕ → Opening → Reads ImageSize
+opened_rest d (opened.Size size) = gives size
+opened_rest d (opened.Records next place) = run next place d
+
+sized_as : (d : List ℕ) (t : Layout ImageSize) → layout_reads d t ≡ and_then (layout_reads d (sized t)) (opened_rest d)
+sized_as d t =
+    seen_from (layout_reads d t) (λ size. opened.Size size) (opened_rest d) (λ size. refl)
+    ∙ ap (λ r. and_then r (opened_rest d)) (sym (over-bind d t (λ size. done (opened.Size size))))
+
+-- A format each of whose records is read alike.
+alike_as : {C : Type 0} (c : Chain C ImageSize) (next : Awaited) (t : ℕ → Layout (Said C ImageSize))
+    → ((held : List C) (place : ℕ) → c.said held place ≡ t place) → ((place : ℕ) → step next place ≡ bind (t place) (after (λ _. next) decides))
+    → ((d : List ℕ) → Advances c d) → (d : List ℕ) → run next c.first d ≡ chain_at c d
+alike_as {C} c next t is steps adv d =
+    as_awaited {T = Unit {0}} c (λ _. next) (λ _ _. tt) decides (λ _ _. Unit {0})
+    (λ e held x place known. ap (layout_reads e) (steps place) ∙ over-bind e (t place) (after (λ _. next) decides)
+    ∙ ap (λ u. and_then (layout_reads e u) (λ said. layout_reads e (after (λ _. next) decides said))) (sym (is held place)))
+    (λ e held x place v q known got. tt) d (adv d) (start c) tt tt
+    ∙ by_size d (chain_at c d)
+
+-- whatever its readings answer, each thing that a layout says has the property
+abbrev Saying : {X : Type 0} → (X → Type 0) → Layout X → Type 0
+Saying P (done x) = P x
+Saying P (refuse e) = Unit {0}
+Saying P (field order place k f) = (v : ℕ) → Saying P (f v)
+Saying P (reading r place f) = (bs : List ℕ) → Saying P (f bs)
+
+saying_on : {X Y : Type 0} (P : X → Type 0) (marks : List Span) (r : Result Y Halt) (f : Y → Reads X) (x : X) → (go_on marks r f).answer ≡ Ok x
+    → ((y : Y) → (f y).answer ≡ Ok x → P x) → P x
+saying_on P marks (Ok y) f x is each = each y is
+saying_on P marks (Err e) f x is each = absurd cc
+
+saying : {X : Type 0} (P : X → Type 0) (d : List ℕ) (t : Layout X) (x : X) → Saying P t → (layout_reads d t).answer ≡ Ok x → P x
+saying P d (done y) x h is = let same : y ≡ x = cc in subst P same h
+saying P d (refuse e) x h is = absurd cc
+saying P d (field order place k f) x h is = saying_on P (span_of d place k) (number_at d order place k) (λ n. layout_reads d (f n)) x is
+    (λ n got. saying P d (f n) x (h n) got)
+saying P d (reading r place f) x h is = saying_on P (read_of d r place).marks (read_of d r place).answer (λ bs. layout_reads d (f bs)) x is
+    (λ bs got. saying P d (f bs) x (h bs) got)
+
+-- a segment that ends an image within the image stands in one
+abbrev Inner : ℕ → Said ℕ ImageSize → Type 0
+Inner k (Decided size) = Unit {0}
+Inner k (Next marker place) = marker ≡ 0xD9 → 0 < k
+
+segment_inner : (k place : ℕ) → Saying (Inner k) (jpeg_segment k place)
+segment_inner k place head =
+    on_test (Saying (Inner k)) (eqb (slice_index head 0) 0xFF) (jpeg_marked k place (slice_index head 1)) (refuse Corrupted)
+    (λ _. on_test (Saying (Inner k)) (is_own_frame k (slice_index head 1)) (jpeg_frame place) _ (λ _ height width. tt)
+    (λ _. on_test (Saying (Inner k)) (is_own_end k (slice_index head 1)) (refuse Corrupted) (jpeg_other place (slice_index head 1)) (λ _. tt)
+    (λ none length ends. grind (arith, nat_tests))))
+    (λ _. tt)
+
+jpeg_as : (d : List ℕ) → run (Segment 0) 2 d ≡ jpeg d
+jpeg_as d =
+    as_awaited jpeg_segments Segment depth_behind decides (λ markers k. Nested k markers)
+    (λ e markers k place known. over-bind e (jpeg_segment k place) (after (λ marker. Segment (depth_behind k marker)) decides)
+    ∙ ap (λ n. and_then (layout_reads e (jpeg_segment n place)) (λ said. layout_reads e (after (λ marker. Segment (depth_behind k marker)) decides said))) (sym known.is))
+    (λ e markers k place v q known got. nested_on k v markers
+    (saying (Inner k) e (jpeg_segment k place) (Next v q) (segment_inner k place)
+    (subst (λ n. (layout_reads e (jpeg_segment n place)).answer ≡ Ok (Next v q)) known.is got)) known)
+    d (jpeg_advances d) (start jpeg_segments) 0 (record { is = refl; balanced = omega arith })
+    ∙ by_size d (jpeg d)
+
+ilbm_as : (d : List ℕ) → run Chunk 12 d ≡ ilbm d
+ilbm_as = alike_as ilbm_chunks Chunk ilbm_chunk (λ held place. refl) (λ place. refl) ilbm_advances
+
+pnm_as : (d : List ℕ) → run Word 2 d ≡ pnm d
+pnm_as = alike_as pnm_words Word (λ place. word place (pnm_word place)) (λ held place. refl) (λ place. refl) pnm_advances
+
+lines_as : (first : ℕ) (d : List ℕ) → run Line first d ≡ chain_at (hdr_lines first) d
+lines_as first = alike_as (hdr_lines first) Line (λ place. line_at 0x0A place 256 (hdr_line place)) (λ held place. refl) (λ place. refl) (hdr_advances first)
+
+attributes_as : (long : Bool) (d : List ℕ) → run (Attribute long) 8 d ≡ chain_at (exr_attributes (names_of long)) d
+attributes_as long = alike_as (exr_attributes (names_of long)) (Attribute long) (exr_attribute (names_of long)) (λ held place. refl) (λ place. refl)
+    (attribute_advances (names_of long))
+
+room_as : (version : ℕ) → names_of (ltb 32 (name_room version)) ≡ name_room version
+unfolding name_room
+room_as version = on_test (λ n. names_of (ltb 32 n) ≡ n) (eqb (bit_and version 0x400) 0) 32 256 (λ _. refl) (λ _. refl)
+
+exr_as : (d : List ℕ) → exr d ≡ and_then (layout_reads d open_exr) (opened_rest d)
+exr_as d = onward-and_then (span_of d 4 4) (number_at d Little 4 4) (λ version. gives (opened.Records (Attribute (ltb 32 (name_room version))) 8)) (opened_rest d)
+    (λ version. chain_at (exr_attributes (name_room version)) d)
+    (λ version. ap (λ room. chain_at (exr_attributes room) d) (sym (room_as version)) ∙ sym (attributes_as (ltb 32 (name_room version)) d))
+
+hdr_as : (d : List ℕ) → hdr d ≡ and_then (layout_reads d open_hdr) (opened_rest d)
+hdr_as d =
+    onward-and_then (layout_reads d hdr_identifier).marks (layout_reads d hdr_identifier).answer (λ first. gives (opened.Records Line first)) (opened_rest d)
+    (λ first. chain_at (hdr_lines first) d) (λ first. sym (lines_as first d))
+    ∙ ap (λ r. and_then r (opened_rest d)) (sym (over-bind d hdr_identifier (λ first. opens Line first)))
+
+pub opened_as : (type : ImageType) (d : List ℕ) → size_reads type d ≡ and_then (layout_reads d (opening type)) (opened_rest d)
+opened_as Aseprite d = sized_as d aseprite
+opened_as Astc d = sized_as d astc
+opened_as (Atc _) d = sized_as d atc
+opened_as Bmp d = sized_as d bmp
+opened_as (Dds _) d = sized_as d dds
+opened_as (Eac _) d = sized_as d pkm
+opened_as (Etc2 _) d = sized_as d pkm
+opened_as Exr d = exr_as d
+opened_as Farbfeld d = sized_as d farbfeld
+opened_as Gif d = sized_as d gif
+opened_as Hdr d = hdr_as d
+opened_as (Heif _) d = ?
+opened_as Ico d = ?
+opened_as Ilbm d = sym (ilbm_as d)
+opened_as Jpeg d = sym (jpeg_as d)
+opened_as Jxl d = ?
+opened_as Ktx2 d = sized_as d ktx2
+opened_as Pnm d = sym (pnm_as d)
+opened_as (Pvrtc _) d = sized_as d pvrtc
+opened_as Psd d = sized_as d psd
+opened_as Qoi d = sized_as d qoi
+opened_as Tga d = sized_as d tga
+opened_as Tiff d = ?
+opened_as Vtf d = sized_as d vtf
+opened_as Webp d = sized_as d webp
