@@ -5,3 +5,5 @@ pub mod Firsts
 pub mod Reaches
 pub mod Far
 pub mod Opened
+pub mod Hearing
+pub mod Saying

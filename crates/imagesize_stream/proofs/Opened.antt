@@ -38,6 +38,7 @@ use Rattle.imagesize_stream.specs.declared.awaited.Awaited.TheVariants.{Attribut
 use Rattle.imagesize_stream.specs.declared.front.Opening.{Opening}
 use Rattle.imagesize_stream.specs.declared.front.Opening.TheVariants as opened
 use Rattle.imagesize_stream.proofs.Firsts.{seen_from}
+use Rattle.imagesize_stream.proofs.Saying.{Saying, saying}
 use Rattle.imagesize_stream.proofs.Running.{as_awaited, by_size, goes, run}
 use Rattle.imagesize_texts.proofs.Exr.{attribute_advances}
 use Rattle.imagesize_texts.proofs.Hdr.{hdr_advances}
@@ -73,26 +74,6 @@ alike_as {C} c next t is steps adv d =
     ∙ ap (λ u. and_then (layout_reads e u) (λ said. layout_reads e (after (λ _. next) decides said))) (sym (is held place)))
     (λ e held x place v q known got. tt) d (adv d) (start c) tt tt
     ∙ by_size d (chain_at c d)
-
--- whatever its readings answer, each thing that a layout says has the property
-abbrev Saying : {X : Type 0} → (X → Type 0) → Layout X → Type 0
-Saying P (done x) = P x
-Saying P (refuse e) = Unit {0}
-Saying P (field order place k f) = (v : ℕ) → Saying P (f v)
-Saying P (reading r place f) = (bs : List ℕ) → Saying P (f bs)
-
-saying_on : {X Y : Type 0} (P : X → Type 0) (marks : List Span) (r : Result Y Halt) (f : Y → Reads X) (x : X) → (go_on marks r f).answer ≡ Ok x
-    → ((y : Y) → (f y).answer ≡ Ok x → P x) → P x
-saying_on P marks (Ok y) f x is each = each y is
-saying_on P marks (Err e) f x is each = absurd cc
-
-saying : {X : Type 0} (P : X → Type 0) (d : List ℕ) (t : Layout X) (x : X) → Saying P t → (layout_reads d t).answer ≡ Ok x → P x
-saying P d (done y) x h is = let same : y ≡ x = cc in subst P same h
-saying P d (refuse e) x h is = absurd cc
-saying P d (field order place k f) x h is = saying_on P (span_of d place k) (number_at d order place k) (λ n. layout_reads d (f n)) x is
-    (λ n got. saying P d (f n) x (h n) got)
-saying P d (reading r place f) x h is = saying_on P (read_of d r place).marks (read_of d r place).answer (λ bs. layout_reads d (f bs)) x is
-    (λ bs got. saying P d (f bs) x (h bs) got)
 
 -- a segment that ends an image within the image stands in one
 abbrev Inner : ℕ → Said ℕ ImageSize → Type 0

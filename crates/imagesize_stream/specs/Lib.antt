@@ -1,2 +1,3 @@
+pub mod Heard
 pub mod Steps
 pub mod Streamed

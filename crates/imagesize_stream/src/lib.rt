@@ -3,4 +3,5 @@
 
 mod awaited;
 mod front;
+mod hear;
 mod sizes;
