@@ -16,7 +16,7 @@ use Rattle.imagesize_stream.proofs.Firsts.{type_by_first}
 use Rattle.imagesize_stream.proofs.Opened.{opened_as, opened_rest}
 use Rattle.imagesize_stream.proofs.Running.{run}
 use Rattle.imagesize_stream.proofs.Saying.{OpensSteady, opening_steady, saying}
-use Rattle.imagesize_stream.specs.Heard.{RestsOnMore, TypeIs}
+use Rattle.imagesize_stream.specs.Heard.{RestsOnMore, SizeIs, TypeIs}
 use Rattle.imagesize_stream.specs.Steps.{IsSteady}
 use Rattle.imagesize_stream.specs.Streamed.{first_layout, opening, type_behind}
 use Rattle.imagesize_stream.specs.declared.awaited.Awaited.{Awaited}
@@ -88,7 +88,7 @@ module _ (front : List ℕ) (told : ℕ) where
         (ap (λ (r : Reads Opening). r.answer) (is.is front (begins_all front told fits)))
 
   -- a mark of the first readings is one of all
-  first_covered : {X Y : Type 0} (marks : List Span) (r : Result X Halt) (f : X → Reads Y) (place : ℕ) → is_covered marks place ≡ true
+  pub first_covered : {X Y : Type 0} (marks : List Span) (r : Result X Halt) (f : X → Reads Y) (place : ℕ) → is_covered marks place ≡ true
       → is_covered (go_on marks r f).marks place ≡ true
   first_covered marks (Ok x) f place here = covered-left marks (f x).marks place here
   first_covered marks (Err e) f place here = here
@@ -117,3 +117,7 @@ module _ (front : List ℕ) (told : ℕ) where
       → ((d : List ℕ) → Begins front told d → length d ≡ told → AllBelow (length front) (layout_reads d (opening type)).marks → ⊥)
       → RestsOnMore front told
   size_missing type says none = λ d begins as_long below. none d begins as_long (λ place here. below place (size_covered type says d begins place here))
+
+-- the answer of the readings
+pub size_of_said : (front : List ℕ) (told : ℕ) (size : Result ImageSize Halt) → Says front told (λ d. meaning_reads d 0) size → SizeIs front told size
+size_of_said front told size says d begins = ap (λ (r : Reads ImageSize). r.answer) (says.is d begins)

@@ -7,3 +7,5 @@ pub mod Far
 pub mod Opened
 pub mod Hearing
 pub mod Saying
+pub mod Coming
+pub mod Footers

@@ -1,5 +1,6 @@
 -- What a stream awaits of an image whose size is behind records: the record that is next, as one chain for all formats.
 use Rattle.std.specs.Prelude.{◌≡◌, ℕ, ◌<◌, Bool, true, false, List, [], ◌∷◌, Option, None, Some, unwrap_or, if◌then◌else◌}
+use Rattle.std.specs.Coded.{Unit-prop, le_prop}
 use Rattle.std.specs.List.{last_or}
 use Rattle.imagesize_source.specs.Chain.{Said, Decided, Next, Chain}
 use Rattle.imagesize_source.specs.Layout.{Layout, bind}
@@ -53,6 +54,13 @@ IsSteady Chunk place = Unit {0}
 IsSteady (Attribute long) place = Unit {0}
 IsSteady Line place = Unit {0}
 IsSteady Word place = Unit {0}
+
+pub steady_prop : (next : Awaited) (place : ℕ) → IsProp (IsSteady next place)
+steady_prop (Segment depth) place = le_prop
+steady_prop Chunk place = Unit-prop
+steady_prop (Attribute long) place = Unit-prop
+steady_prop Line place = Unit-prop
+steady_prop Word place = Unit-prop
 
 -- and of the one behind
 abbrev pub StaysSteady : Said Awaited ImageSize → Type 0

@@ -1,6 +1,7 @@
 //! What the first bytes of an image tell: its type, and its size where that stands among them.
 ghost use Rattle.std.specs.Prelude.{◌≡◌};
 ghost use Rattle.imagesize_source.specs.Layout.Layout.{refuse};
+ghost use Rattle.imagesize_fixed.specs.Tga.{tga, tga_by_header};
 ghost use Rattle.imagesize_source.specs.State.{Follows};
 ghost use Rattle.imagesize_stream.specs.Streamed.{first_layout, open_exr, open_hdr, opening, opens};
 
@@ -8,7 +9,7 @@ use crate::awaited::Awaited;
 use imagesize::ImageType;
 use imagesize::formats::{first_row, with_compression};
 use imagesize_fixed::container::{atc, dds, pkm, pvrtc};
-use imagesize_fixed::formats::tga::may_be_tga;
+use imagesize_fixed::formats::tga::{has_sound_header, may_be_tga};
 use imagesize_fixed::formats::{
     aseprite, astc, bmp, farbfeld, gif, ktx2, psd, qoi, tga, vtf, webp,
 };
@@ -101,6 +102,36 @@ impl Fixed for FirstSize {
             ImageType::Vtf => Ok(Opening::Size(vtf::size(source)?)),
             ImageType::Webp => Ok(Opening::Size(webp::size(source)?)),
         }
+    }
+}
+
+/// Whether the header of what may be a TGA with these first bytes is sound.
+#[derive(Clone, Copy)]
+pub(crate) struct TgaHeader {
+    pub(crate) head: [u8; 12],
+}
+
+impl Fixed for TgaHeader {
+    type Answer = bool;
+
+    ghost layout = { λ header. tga_by_header header.head };
+
+    fn read<S: Source>(&self, source: &mut S) -> Result<bool, Halt> {
+        has_sound_header(source, &self.head)
+    }
+}
+
+/// The size of a TGA.
+#[derive(Clone, Copy)]
+pub(crate) struct TgaSize;
+
+impl Fixed for TgaSize {
+    type Answer = ImageSize;
+
+    ghost layout = { λ _. tga };
+
+    fn read<S: Source>(&self, source: &mut S) -> Result<ImageSize, Halt> {
+        tga::size(source)
     }
 }
 

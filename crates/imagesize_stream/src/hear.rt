@@ -1,12 +1,17 @@
 //! What the bytes so far say of an image, from its first byte on.
-ghost use Rattle.std.specs.Prelude.{◌≡◌, ◌<◌, ◌≤◌, ◌^◌, Ok, length};
+ghost use Rattle.std.specs.Prelude.{◌≡◌, ◌<◌, ◌≤◌, ◌^◌, ◌&&◌, not, Ok, length};
+ghost use Rattle.imagesize_fixed.specs.Tga.{lacks_its_map};
 ghost use Rattle.imagesize.specs.Meaning.{kind_reads};
 ghost use Rattle.imagesize_pieces.specs.Stream.{Says};
+ghost use Rattle.imagesize_source.specs.Layout.{layout_reads};
+ghost use Rattle.imagesize_stream.specs.declared.front.First.TheVariants as first;
+ghost use Rattle.imagesize_stream.specs.Streamed.{first_layout};
 ghost use Rattle.imagesize_stream.specs.Heard.{Hears, IfMissing};
 
 use crate::awaited::Awaited;
-use crate::front::{First, FirstBytes, FirstSize, Opening};
+use crate::front::{First, FirstBytes, FirstSize, Opening, TgaHeader, TgaSize};
 use imagesize::ImageType;
+use imagesize_fixed::formats::tga::lacks_its_map;
 use imagesize_pieces::front::read_front;
 use imagesize_pieces::walk::is_faulted;
 use imagesize_source::Halt;
@@ -30,9 +35,9 @@ pub(crate) enum Heard {
         next: Awaited,
         place: u64,
     },
-    /// The first bytes of what may be a TGA.
-    MaybeTga {
-        head: [u8; 12],
+    /// The last bytes tell whether it is a TGA, of this size.
+    Footer {
+        size: ImageSize,
     },
 }
 
@@ -58,7 +63,7 @@ pub(crate) fn hear(bytes: &[u8], told: u64) -> Heard
         }
     };
     match first {
-        First::MaybeTga { head } => Heard::MaybeTga { head },
+        First::MaybeTga { head } => hear_tga(&head, bytes, told),
         First::Type(image) => hear_size(image, bytes, told),
     }
 }
@@ -92,4 +97,44 @@ fn hear_size(image: ImageType, bytes: &[u8], told: u64) -> Heard
         },
         Opening::Records { next, place } => Heard::Records { image, next, place },
     }
+}
+
+// The same of what may be a TGA, by its first twelve bytes. Where its header does not tell it, its footer does.
+fn hear_tga(head: &[u8; 12], bytes: &[u8], told: u64) -> Heard
+    requires first { Says bytes.now told (λ d. layout_reads d first_layout) (Ok (first.MaybeTga head.now)) }
+    requires fits { length bytes.now ≤ told }
+    requires short { told < 2 ^ 63 }
+    ensures hears { Hears bytes.now told result }
+    ensures few { IfMissing result (length bytes.now < 132) }
+    ensures whole { told ≤ length bytes.now → IfMissing result ⊥ }
+{
+    if told < 18 {
+        return Heard::Answer {
+            image: None,
+            size: Err(Halt::NotSupported),
+        };
+    }
+    if bytes.len() < 18 {
+        return Heard::Missing { image: None };
+    }
+    let Ok(sound) = read_front(&TgaHeader { head: *head }, bytes, told) else {
+        return Heard::Missing { image: None };
+    };
+    let Ok(size) = read_front(&TgaSize, bytes, told) else {
+        return Heard::Missing { image: None };
+    };
+    if is_by_header(sound, head) {
+        return Heard::Answer {
+            image: Some(ImageType::Tga),
+            size: Ok(size),
+        };
+    }
+    Heard::Footer { size }
+}
+
+// Whether it is a TGA whatever its last bytes are.
+fn is_by_header(sound: bool, head: &[u8; 12]) -> bool
+    ensures { result ≡ (sound && not (lacks_its_map head.now)) }
+{
+    sound && !lacks_its_map(head)
 }

@@ -4,4 +4,8 @@
 mod awaited;
 mod front;
 mod hear;
+mod probe;
 mod sizes;
+mod stage;
+
+pub use probe::StreamProbe;

@@ -1,7 +1,7 @@
 use Rattle.std.proofs.Common.{true, Ok, Err, length, sym, ◌∙◌, subst}
 use Rattle.imagesize_pieces.specs.Stream.{Says}
 use Rattle.imagesize_source.specs.Layout.{layout_reads}
-use Rattle.imagesize_stream.proofs.Hearing.{first_missing, meaning_refused, type_is, type_refused, type_said}
+use Rattle.imagesize_stream.proofs.Hearing.{first_missing, meaning_refused, size_of_said, type_is, type_refused, type_said}
 use Rattle.imagesize_stream.proofs.Reaches.{first_reaches}
 use Rattle.imagesize_stream.specs.Streamed.{first_layout}
 use Rattle.imagesize_stream.specs.declared.front.First.{First}
@@ -26,5 +26,5 @@ returns-in-Err-clause-hears c =
     let says = c.read_front-found.ensures.says (sym c.is_faulted.ensures ∙ c.if-is_faulted.false) in
     let refused = type_refused c.args.bytes.now c.args.told c.in-Err.halt (rw c.in-Err.is at says) in (
       type_is c.args.bytes.now c.args.told _ refused,
-      meaning_refused c.args.bytes.now c.args.told c.in-Err.halt refused,
+      size_of_said c.args.bytes.now c.args.told _ (meaning_refused c.args.bytes.now c.args.told c.in-Err.halt refused),
     )
