@@ -266,10 +266,12 @@ last_is front long = take_all 18 (drop (length front - 18) front) (omega (arith,
 -- so they tell it
 pub footer_tells : (front chunk last : List ℕ) (told : ℕ) (size : ImageSize) (b : Bool) → 18 ≤ length front → told ≤ length (front ++ chunk)
     → last ≡ drop (length (front ++ chunk) - 18) (front ++ chunk) → ((d : List ℕ) → Begins front told d → IsByFooter size d)
-    → is_tga_footer last ≡ b → TypeIs (front ++ chunk) told (cond b (Some Tga) None) × SizeIs (front ++ chunk) told (cond b (Ok size) (Err NotSupported))
-footer_tells front chunk last told size b long all is by_footer decides = (
+    → is_tga_footer last ≡ b → length (front ++ chunk) ≤ told
+    → TypeIs (front ++ chunk) told (cond b (Some Tga) None) × SizeIs (front ++ chunk) told (cond b (Ok size) (Err NotSupported)) × (length (front ++ chunk) ≤ told)
+footer_tells front chunk last told size b long all is by_footer decides within = (
   (λ d begins. ap result_ok ((by_footer d (begins_left front chunk told d begins)).type ∙ ap (λ t. cond t (Ok Tga) (Err NotSupported)) (test d begins)) ∙ kind_by b),
   λ d begins. (by_footer d (begins_left front chunk told d begins)).size_is ∙ ap (λ t. cond t (Ok size) (Err NotSupported)) (test d begins),
+  within,
 ) where
   test : (d : List ℕ) → Begins (front ++ chunk) told d → is_tga_footer (part d (length d - 18) 18) ≡ b
   test d begins =

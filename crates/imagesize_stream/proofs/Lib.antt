@@ -9,3 +9,4 @@ pub mod Hearing
 pub mod Saying
 pub mod Coming
 pub mod Footers
+pub mod Ending

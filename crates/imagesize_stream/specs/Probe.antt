@@ -3,8 +3,7 @@ use Rattle.std.specs.Prelude.{◌≡◌, ℕ, ◌+◌, ◌-◌, ◌<◌, ◌≤�
 use Rattle.std.specs.Coded.{Unit-prop, le_prop, ×_prop}
 use Rattle.imagesize.specs.Meaning.{meaning_reads}
 use Rattle.imagesize.specs.declared.types.ImageType.{ImageType}
-use Rattle.imagesize_pieces.specs.Standing.{Stands}
-use Rattle.imagesize_pieces.specs.Stream.{Begins}
+use Rattle.imagesize_pieces.specs.Stream.{Begins, Streams}
 use Rattle.imagesize_pieces.specs.declared.stand.Stand.{Stand}
 use Rattle.imagesize_source.specs.declared.halt.Halt.{Halt}
 use Rattle.imagesize_stream.specs.Heard.{IsByFooter, SizeIs, TypeIs}
@@ -18,27 +17,34 @@ abbrev pub TypeSays : List ℕ → ℕ → Option ImageType → Type 0
 TypeSays front told kind = IfSome kind (λ type. TypeIs front told (Some type))
 
 -- These bytes came, by the stage: the room has all of them; or a walk stands behind some; or the room has the last of them; or they tell all.
+abbrev pub CameBy : Stage → Option ImageType → ℕ → ℕ → ℕ → ℕ → List ℕ → List ℕ → Type 0
+CameBy First kind start place passed told room front = (take passed room ≡ front) × TypeSays front told kind
+CameBy (Records next) kind start place passed told room front =
+    TypeIs front told kind × Streams 0 awaited_said (λ held. Awaits next held place) start place told passed (take (passed - start) room)
+    (λ d. meaning_reads d 0) front
+CameBy (Footer size) kind start place passed told room front =
+    (passed ≡ length front) × (take 18 room ≡ drop (length front - 18) front) × TypeSays front told kind
+    × ((d : List ℕ) → Begins front told d → IsByFooter size d)
+CameBy (Done size) kind start place passed told room front = TypeIs front told kind × SizeIs front told size × (length front ≤ told)
+
 abbrev pub CameTo : Stage → Option ImageType → Stand → List ℕ → List ℕ → Type 0
-CameTo First kind stand room front = (take stand.passed room ≡ front) × TypeSays front stand.told kind
-CameTo (Records next) kind stand room front =
-    TypeIs front stand.told kind × Stands 0 awaited_said (Awaits next) stand room (λ d. meaning_reads d 0) front
-CameTo (Footer size) kind stand room front =
-    (stand.passed ≡ length front) × (take 18 room ≡ drop (length front - 18) front) × TypeSays front stand.told kind
-    × ((d : List ℕ) → Begins front stand.told d → IsByFooter size d)
-CameTo (Done size) kind stand room front = TypeIs front stand.told kind × SizeIs front stand.told size
+CameTo stage kind stand room front = CameBy stage kind stand.start stand.place stand.passed stand.told room front
 
 -- what always holds at a stage
-abbrev pub HoldsAt : Stage → Stand → Type 0
-HoldsAt First stand = (stand.start ≤ 0) × (stand.passed < 132)
-HoldsAt (Records next) stand = IsSteady next stand.place × (stand.passed - stand.start ≤ 2047)
-HoldsAt (Footer size) stand = (18 ≤ stand.passed) × (stand.passed < stand.told)
-HoldsAt (Done size) stand = Unit {0}
+abbrev pub HoldsBy : Stage → ℕ → ℕ → ℕ → Type 0
+HoldsBy First start place passed = (start ≤ 0) × (passed < 132)
+HoldsBy (Records next) start place passed = IsSteady next place × (passed - start ≤ 2047)
+HoldsBy (Footer size) start place passed = 18 ≤ passed
+HoldsBy (Done size) start place passed = Unit {0}
 
-pub holds_prop : (stage : Stage) (stand : Stand) → IsProp (HoldsAt stage stand)
-holds_prop First stand = ×_prop le_prop le_prop
-holds_prop (Records next) stand = ×_prop (steady_prop next stand.place) le_prop
-holds_prop (Footer size) stand = ×_prop le_prop le_prop
-holds_prop (Done size) stand = Unit-prop
+pub holds_prop : (stage : Stage) (start place passed : ℕ) → IsProp (HoldsBy stage start place passed)
+holds_prop First start place passed = ×_prop le_prop le_prop
+holds_prop (Records next) start place passed = ×_prop (steady_prop next place) le_prop
+holds_prop (Footer size) start place passed = le_prop
+holds_prop (Done size) start place passed = Unit-prop
+
+abbrev pub HoldsAt : Stage → Stand → Type 0
+HoldsAt stage stand = HoldsBy stage stand.start stand.place stand.passed
 
 -- there is no answer yet, and this holds
 abbrev pub IfAwaiting : Stage → Type 0 → Type 0

@@ -24,7 +24,7 @@ pub struct StreamProbe {
     room: [u8; ROOM],
     kind: Option<ImageType>,
     stage: Stage,
-    ghost holds: { HoldsAt stage stand } by { holds_prop stage stand },
+    ghost holds: { HoldsAt stage stand } by { holds_prop stage stand.start stand.place stand.passed },
 }
 
 impl StreamProbe {
@@ -87,6 +87,9 @@ impl StreamProbe {
         ensures kind { (front : List ℕ) → Came self front → result.0 ≡ result_ok (kind_of front 0).answer }
         ensures size { (front : List ℕ) → Came self front → result.1 ≡ (meaning front 0).answer }
     {
+        if let Some(answer) = self.answer() {
+            return answer;
+        }
         self.stand.told = self.stand.passed;
         self.take_in(&[]);
         match self.answer() {

@@ -138,6 +138,20 @@ abbrev pub size_or_next : Option ImageSize → Entry → ℕ → Said Entry Imag
 size_or_next (Some size) entry next = Decided size
 size_or_next None entry next = Next entry next
 
+-- a side of the image behind an entry: where it has the side's tag its value, also where it has none
+abbrev pub side_with : ℕ → Option ℕ → Entry → Option ℕ
+side_with tag side entry = if entry.tag == tag then entry.value else side
+
+-- what an entry says behind those that give these sides
+abbrev pub entry_says : Header → Option ℕ → Option ℕ → ℕ → Entry → Layout (Said Entry ImageSize)
+entry_says header width height place entry =
+    done (size_or_next (size_if_known (side_with 0x100 width entry) (side_with 0x101 height entry)) entry (place + entry_bytes header.version))
+
+-- the record behind so many entries, of as many as there are, by the sides that they give
+abbrev pub entry_behind : Header → ℕ → ℕ → Option ℕ → Option ℕ → ℕ → Layout (Said Entry ImageSize)
+entry_behind header count seen width height place =
+    if seen == count then refuse NoDimensionsInIfd else bind (tiff_entry header place) (entry_says header width height place)
+
 -- as many entries as the count says, behind it and without gaps
 abbrev pub tiff_entries : Header → ℕ → Chain Entry ImageSize
 tiff_entries header count = record {

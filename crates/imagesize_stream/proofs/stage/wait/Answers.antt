@@ -24,6 +24,7 @@ returns-then-is_footer-clause-goes_on c = λ front came.
     (omega (arith, as_many, c.if-stand.false, length-append front c.args.chunk.now))
     (last_on front c.args.chunk.now (take 18 c.args.room.now) c.keep_behind.new.room (length c.args.chunk.now) some came.1 refl c.keep_behind.ensures)
     came.3 (ap is_tga_footer (sym c.copy_from_slice.ensures.after) ∙ sym c.is_footer.ensures ∙ c.if-is_footer.true)
+    (omega (arith, as_many, c.requires.fits, length-append front c.args.chunk.now))
 
 pub returns-clause-goes_on : goal.returns-clause-goes_on
 returns-clause-goes_on c = λ front came.
@@ -33,3 +34,4 @@ returns-clause-goes_on c = λ front came.
     (omega (arith, as_many, c.if-stand.false, length-append front c.args.chunk.now))
     (last_on front c.args.chunk.now (take 18 c.args.room.now) c.keep_behind.new.room (length c.args.chunk.now) some came.1 refl c.keep_behind.ensures)
     came.3 (ap is_tga_footer (sym c.copy_from_slice.ensures.after) ∙ sym c.is_footer.ensures ∙ c.if-is_footer.false)
+    (omega (arith, as_many, c.requires.fits, length-append front c.args.chunk.now))
