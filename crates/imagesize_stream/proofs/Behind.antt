@@ -1,9 +1,17 @@
 -- What goes on from the record that a format reads.
-use Rattle.std.proofs.Common.{◌≡◌, ℕ, ◌+◌, Result, Ok, Err, refl, sym, ap, ◌∙◌, subst, arith}
+use Rattle.std.proofs.Common.{◌≡◌, ℕ, ◌+◌, ◌-◌, ◌<◌, ◌≤◌, false, leb, List, length, Option, None, Some, Result, Ok, Err, refl, sym, ap, ◌∙◌, subst, arith}
+use Rattle.std.proofs.lemmas.Bool.Decides.{nat_tests}
+use Rattle.std.specs.Option.{ForSome}
+use Rattle.imagesize_source.specs.declared.endian.Endian.{Endian}
+use Rattle.imagesize_source.specs.declared.halt.Halt.TheVariants.{Ended}
+use Rattle.imagesize_source.proofs.Layouts.{no_span}
+use Rattle.imagesize_stream.specs.Steps.{IsSmall}
+use Rattle.imagesize_types.specs.declared.size.ImageSize.{ImageSize}
+use Rattle.imagesize_walked.specs.Walks.{IsIcon}
 use Rattle.imagesize_source.specs.Chain.{Said, Decided, Next}
 use Rattle.imagesize_source.specs.Layout.{Layout, bind, layout_reads}
-use Rattle.imagesize_source.specs.Layout.Layout.{«done»}
-use Rattle.imagesize_source.specs.Reading.{gives}
+use Rattle.imagesize_source.specs.Layout.Layout.{field, «done»}
+use Rattle.imagesize_source.specs.Reading.{bytes_at, gives, number_at, refuses}
 use Rattle.imagesize_source.specs.State.{State, Runs, IsSound}
 use Rattle.imagesize_source.specs.declared.halt.Halt.{Halt}
 use Rattle.imagesize_walked.specs.Walks.{LeadsTo, depth_behind}
@@ -44,3 +52,23 @@ runs_off {X} {Y} {a} {b} t g e first =
 pub leads_as : (depth behind marker : ℕ) → LeadsTo depth marker behind → behind ≡ depth_behind depth marker
 unfolding LeadsTo
 leads_as depth behind marker leads = leads.0
+
+bytes_none : (d : List ℕ) (place k : ℕ) → length d ≤ place → 0 < k → bytes_at d place k ≡ Err Ended
+unfolding bytes_at
+bytes_none d place k far some = let test : leb k (length d - place) ≡ false = grind (arith, nat_tests) in rw test refl
+
+-- a layout that reads a number beyond the end of the input is refused there
+pub number_beyond : {X : Type 0} (d : List ℕ) (order : Endian) (place k : ℕ) (f : ℕ → Layout X) → length d ≤ place → 0 < k
+    → layout_reads d (field order place k f) ≡ refuses Ended
+unfolding number_at
+number_beyond d order place k f far some =
+    rw (no_span d place k far, bytes_none d place k far some) refl
+
+-- sizes whose sides are small
+pub small_icon : (largest : Option ImageSize) → IsSmall largest → ForSome largest IsIcon
+small_icon None small = λ size is. absurd cc
+small_icon (Some size) small = λ other is. let same : size ≡ other = cc in subst IsIcon same (record { wide = small.0; high = small.1 })
+
+pub icon_small : (largest : Option ImageSize) → ForSome largest IsIcon → IsSmall largest
+icon_small None icon = tt
+icon_small (Some size) icon = let is = icon size refl in (is.wide, is.high)

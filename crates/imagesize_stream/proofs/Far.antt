@@ -1,15 +1,15 @@
 -- How far the record that is awaited is read.
-use Rattle.std.proofs.Common.{◌≡◌, ℕ, ◌+◌, ◌≤◌, Bool, true, false, ◌&&◌, cond, eqb, List, length, slice_index, Option, None, Some, Result, Ok, refl, arith}
+use Rattle.std.proofs.Common.{◌≡◌, ℕ, ◌+◌, ◌≤◌, Bool, true, false, ◌&&◌, cond, eqb, List, length, slice_index, take, Option, None, Some, Result, Ok, refl, arith}
 use Rattle.std.specs.Str.{trim}
 use Rattle.imagesize_pieces.proofs.Reaching.{reach_accept, reach_bind, reach_if}
 use Rattle.imagesize_pieces.specs.Stream.{Reach}
 use Rattle.imagesize_source.specs.Chain.{Said, Decided, Next}
-use Rattle.imagesize_source.specs.Layout.{Layout, accept, bytes}
+use Rattle.imagesize_source.specs.Layout.{Layout, accept, bind, bytes, if_there, whole}
 use Rattle.imagesize_source.specs.Layout.Layout.{refuse, «done»}
-use Rattle.imagesize_source.specs.declared.halt.Halt.TheVariants.{Corrupted, DataWindowNotFound}
-use Rattle.imagesize_stream.specs.Steps.{after, decides, names_of, step}
+use Rattle.imagesize_source.specs.declared.halt.Halt.TheVariants.{Corrupted, DataWindowNotFound, NoDimensionsInIfd}
+use Rattle.imagesize_stream.specs.Steps.{after, decides, listed_with, names_of, step}
 use Rattle.imagesize_stream.specs.declared.awaited.Awaited.{Awaited}
-use Rattle.imagesize_stream.specs.declared.awaited.Awaited.TheVariants.{Attribute, Chunk, Line, Segment, Word}
+use Rattle.imagesize_stream.specs.declared.awaited.Awaited.TheVariants.{Attribute, Chunk, Directory, Entry, Icon, Line, Segment, Word}
 use Rattle.imagesize_texts.proofs.Texts.{length_ok, line_ok, word_ok}
 use Rattle.imagesize_texts.specs.Contents.{WordRead, line_length, line_text, number_text, word_text}
 use Rattle.imagesize_texts.specs.Exr.{exr_attribute, exr_named, exr_typed, exr_value, exr_window, is_box, is_data_window, window_size}
@@ -19,7 +19,14 @@ use Rattle.imagesize_texts.specs.Texts.{line_at, passed_line, word}
 use Rattle.imagesize_types.specs.declared.size.ImageSize.{ImageSize}
 use Rattle.imagesize_walked.specs.Ilbm.{bitmap_header, chunk_bytes, chunk_length, ilbm_chunk, ilbm_named, is_bitmap_header, is_body}
 use Rattle.imagesize_walked.specs.Jpeg.{is_own_end, is_own_frame, jpeg_frame, jpeg_marked, jpeg_other, jpeg_segment}
+use Rattle.imagesize_types.specs.Largest.{later_largest}
+use Rattle.imagesize_walked.specs.Ico.{icon_answer, icon_entry, icon_in}
+use Rattle.imagesize_walked.specs.Tiff.{count_bytes, entry_behind, entry_bytes, entry_says, field_type_in, field_type_of, head_bytes, side_with, size_if_known, size_or_next, tiff_entry, tiff_head, tiff_value, value_bytes, whole_value}
 use Rattle.imagesize_walked.specs.Walks.{depth_behind}
+use Rattle.imagesize_walked.specs.declared.formats.tiff.Entry as tiff
+use Rattle.imagesize_walked.specs.declared.formats.tiff.Header.{Header}
+use Rattle.imagesize_walked.specs.declared.formats.tiff.Version.{Version}
+use Rattle.imagesize_walked.specs.declared.formats.tiff.Version.TheVariants.{BigTiff, Tiff}
 
 -- what goes on where the verdict is the size
 after_size : {C : Type 0} (low high : ℕ) (on : C → Awaited) (said : Said C ImageSize) → Reach low high (after on decides said)
@@ -119,6 +126,41 @@ pnm_far place = (
   λ bs most. reach_accept place (place + 2048) (word_text bs) (pnm_word place) (λ w is. word_far place w (omega (arith, most, (word_ok bs w is).0))),
 )
 
+answer_far : (place : ℕ) (best : Option ImageSize) → Reach place (place + 2048) (icon_answer best)
+answer_far place None = tt
+answer_far place (Some size) = tt
+
+icon_far : (count seen : ℕ) (best : Option ImageSize) (place : ℕ) → Reach place (place + 2048) (icon_in count seen best place)
+icon_far count seen best place =
+    reach_if (eqb seen count) place (place + 2048) (icon_answer best) (if_there place 2 (icon_entry best place)) (answer_far place best)
+    (omega arith, omega arith, λ bs few. entry_far (whole 2 bs)) where
+  entry_far : (found : Option (List ℕ)) → Reach place (place + 2048) (icon_entry best place found)
+  entry_far None = answer_far place best
+  entry_far (Some bytes) = tt
+
+head_few : (version : Version) → (head_bytes version ≤ 12) × (value_bytes version ≤ 8) × (count_bytes version ≤ 8)
+head_few Tiff = (omega arith, omega arith, omega arith)
+head_few BigTiff = (omega arith, omega arith, omega arith)
+
+listed_far : (header : Header) (count seen : ℕ) (width height : Option ℕ) (place : ℕ) → Reach place (place + 2048) (entry_behind header count seen width height place)
+unfolding tiff_entry tiff_head tiff_value
+listed_far header count seen width height place =
+    let few = head_few header.version in
+    reach_if (eqb seen count) place (place + 2048) (refuse NoDimensionsInIfd) (bind (tiff_entry header place) (entry_says header width height place)) tt
+    (reach_bind place (place + 2048) (tiff_entry header place) (entry_says header width height place) (
+      omega arith,
+      omega (arith, few.0),
+      λ head most. reach_accept place (place + 2048) (field_type_of header.version (field_type_in header.order (take 4 head))) _
+          (λ field_type _. reach_bind place (place + 2048) (tiff_value header.version (place + head_bytes header.version)) _ (
+            omega arith,
+            omega (arith, few.0, few.1),
+            λ bs short. reach_accept place (place + 2048) (whole_value (whole (value_bytes header.version) bs)) done (λ value _. tt),
+          ) (λ value. tt)),
+    ) (λ entry. says_far (size_if_known (side_with 0x100 width entry) (side_with 0x101 height entry)) entry)) where
+  says_far : (size : Option ImageSize) (entry : tiff.Entry) → Reach place (place + 2048) (done (size_or_next size entry (place + entry_bytes header.version)))
+  says_far None entry = tt
+  says_far (Some size) entry = tt
+
 pub step_far : (next : Awaited) (place : ℕ) → Reach place (place + 2048) (step next place)
 step_far (Segment depth) place = reach_bind place (place + 2048) (jpeg_segment depth place) _ (segment_far depth place)
     (after_size place (place + 2048) (λ marker. Segment (depth_behind depth marker)))
@@ -126,4 +168,9 @@ step_far Chunk place = reach_bind place (place + 2048) (ilbm_chunk place) _ (chu
 step_far (Attribute long) place = reach_bind place (place + 2048) (exr_attribute (names_of long) place) _ (attribute_far (names_of long) place (names_few long))
     (after_size place (place + 2048) (λ _. Attribute long))
 step_far Line place = reach_bind place (place + 2048) (line_at 0x0A place 256 (hdr_line place)) _ (hdr_far place) (after_size place (place + 2048) (λ _. Line))
+step_far (Icon count seen largest) place = reach_bind place (place + 2048) (icon_in count seen largest place) _ (icon_far count seen largest place)
+    (after_size place (place + 2048) (λ size. Icon count (seen + 1) (later_largest largest size)))
+step_far (Directory header) place = (omega arith, omega (arith, (head_few header.version).2), λ count. tt)
+step_far (Entry l) place = reach_bind place (place + 2048) (entry_behind l.header l.count l.seen l.width l.height place) _
+    (listed_far l.header l.count l.seen l.width l.height place) (after_size place (place + 2048) (λ entry. Entry (listed_with l entry)))
 step_far Word place = reach_bind place (place + 2048) (word place (pnm_word place)) _ (pnm_far place) (after_size place (place + 2048) (λ _. Word))

@@ -1,6 +1,7 @@
 -- The size of an image by its first bytes, and by the records behind them.
-use Rattle.std.proofs.Common.{◌≡◌, ℕ, ◌+◌, ◌<◌, Bool, true, false, ltb, cond, eqb, List, [], ◌∷◌, ◌++◌, slice_index, Result, Ok, Err, refl, sym, ap, ◌∙◌, subst, arith}
+use Rattle.std.proofs.Common.{◌≡◌, ℕ, ◌+◌, ◌<◌, Bool, true, false, ltb, cond, eqb, List, [], ◌∷◌, ◌++◌, length, Option, None, slice_index, Result, Ok, Err, refl, sym, ap, ◌∙◌, subst, arith}
 use Rattle.std.proofs.lemmas.Bool.Decides.{nat_tests}
+use Rattle.std.proofs.lemmas.List.{length_push}
 use Rattle.std.specs.Prelude.{bit_and}
 use Rattle.imagesize.specs.Meaning.{size_reads}
 use Rattle.imagesize.specs.declared.types.ImageType.{ImageType}
@@ -31,15 +32,16 @@ use Rattle.imagesize_source.specs.declared.halt.Halt.TheVariants.{Corrupted}
 use Rattle.imagesize_source.specs.declared.span.Span.{Span}
 use Rattle.imagesize_source.proofs.Layouts.{onward-and_then, over-bind}
 use Rattle.imagesize_source.proofs.Tests.{on_test}
-use Rattle.imagesize_stream.specs.Steps.{after, decides, names_of, step}
-use Rattle.imagesize_stream.specs.Streamed.{open_exr, open_hdr, opening, opens, sized}
+use Rattle.imagesize_stream.specs.Steps.{after, decides, listed_with, names_of, step}
+use Rattle.imagesize_stream.specs.Streamed.{open_exr, open_hdr, open_ico, open_tiff, opening, opens, sized}
 use Rattle.imagesize_stream.specs.declared.awaited.Awaited.{Awaited}
-use Rattle.imagesize_stream.specs.declared.awaited.Awaited.TheVariants.{Attribute, Chunk, Line, Segment, Word}
+use Rattle.imagesize_stream.specs.declared.awaited.Awaited.TheVariants.{Attribute, Chunk, Directory, Entry, Icon, Line, Segment, Word}
+use Rattle.imagesize_stream.specs.declared.awaited.Listed.{Listed}
 use Rattle.imagesize_stream.specs.declared.front.Opening.{Opening}
 use Rattle.imagesize_stream.specs.declared.front.Opening.TheVariants as opened
 use Rattle.imagesize_stream.proofs.Firsts.{seen_from}
 use Rattle.imagesize_stream.proofs.Saying.{Saying, saying}
-use Rattle.imagesize_stream.proofs.Running.{as_awaited, by_size, goes, run}
+use Rattle.imagesize_stream.proofs.Running.{as_awaited, by_size, goes, run, run_unfolds}
 use Rattle.imagesize_texts.proofs.Exr.{attribute_advances}
 use Rattle.imagesize_texts.proofs.Hdr.{hdr_advances}
 use Rattle.imagesize_texts.proofs.Pnm.{pnm_advances}
@@ -52,7 +54,13 @@ use Rattle.imagesize_walked.proofs.Ilbm.{ilbm_advances}
 use Rattle.imagesize_walked.proofs.Jpeg.{jpeg_advances, nested_on}
 use Rattle.imagesize_walked.specs.Ilbm.{ilbm, ilbm_chunk, ilbm_chunks}
 use Rattle.imagesize_walked.specs.Jpeg.{depth, is_own_end, is_own_frame, jpeg, jpeg_frame, jpeg_marked, jpeg_other, jpeg_segment, jpeg_segments}
-use Rattle.imagesize_walked.specs.Walks.{Nested, depth_behind}
+use Rattle.imagesize_types.specs.Largest.{area_if_some, greatest_area, last_largest, later_largest}
+use Rattle.imagesize_walked.proofs.Ico.{icon_advances, largest_on}
+use Rattle.imagesize_walked.proofs.Tiff.{entries_advance, entry_as, known_on}
+use Rattle.imagesize_walked.specs.Ico.{ico, icon_entries, icon_in}
+use Rattle.imagesize_walked.specs.Tiff.{count_bytes, entry_behind, side_with, tiff, tiff_directory, tiff_entries, tiff_header}
+use Rattle.imagesize_walked.specs.Walks.{Known, Nested, depth_behind}
+use Rattle.imagesize_walked.specs.declared.formats.tiff.Header.{Header}
 
 -- what goes on from the first bytes
 abbrev pub opened_rest : List ℕ → Opening → Reads ImageSize
@@ -127,6 +135,57 @@ hdr_as d =
     (λ first. chain_at (hdr_lines first) d) (λ first. sym (lines_as first d))
     ∙ ap (λ r. and_then r (opened_rest d)) (sym (over-bind d hdr_identifier (λ first. opens Line first)))
 
+-- so many icons, by what is kept of them
+record Icons (sizes : List ImageSize) (x : ℕ × Option ImageSize) : Type 0 where
+  many : length sizes ≡ x.0
+  is : last_largest sizes ≡ x.1
+  area : greatest_area sizes ≡ area_if_some x.1
+
+icons_as : (count : ℕ) (d : List ℕ) → run (Icon count 0 None) 6 d ≡ chain_at (icon_entries count) d
+icons_as count d =
+    as_awaited (icon_entries count) (λ (x : ℕ × Option ImageSize). Icon count x.0 x.1) (λ x size. (x.0 + 1, later_largest x.1 size)) decides Icons
+    (λ e sizes x place known. over-bind e (icon_in count x.0 x.1 place) (after (λ size. Icon count (x.0 + 1) (later_largest x.1 size)) decides)
+    ∙ ap (λ n. and_then (layout_reads e (icon_in count n x.1 place)) (λ said. layout_reads e (after (λ size. Icon count (x.0 + 1) (later_largest x.1 size)) decides said))) (sym known.many)
+    ∙ ap (λ b. and_then (layout_reads e (icon_in count (length sizes) b place)) (λ said. layout_reads e (after (λ size. Icon count (x.0 + 1) (later_largest x.1 size)) decides said))) (sym known.is))
+    (λ e sizes x place v q known got.
+    let on = largest_on x.1 sizes v known.is known.area in
+    record { many = length_push sizes v ∙ ap (λ n. n + 1) known.many; is = on.0; area = on.1 })
+    d (icon_advances count d) (start (icon_entries count)) (0, None) (record { many = refl; is = refl; area = refl })
+    ∙ by_size d (chain_at (icon_entries count) d)
+
+ico_as : (d : List ℕ) → ico d ≡ and_then (layout_reads d open_ico) (opened_rest d)
+ico_as d = onward-and_then (span_of d 4 2) (number_at d Little 4 2) (λ count. gives (opened.Records (Icon count 0 None) 6)) (opened_rest d)
+    (λ count. chain_at (icon_entries count) d) (λ count. sym (icons_as count d))
+
+abbrev listing : Header → ℕ → ℕ × Option ℕ × Option ℕ → Listed
+listing header count x = record { header = header; count = count; seen = x.0; width = x.1; height = x.2 }
+
+entries_as : (header : Header) (count : ℕ) (d : List ℕ)
+    → run (Entry (listing header count (0, None, None))) (header.directory + count_bytes header.version) d ≡ chain_at (tiff_entries header count) d
+entries_as header count d =
+    as_awaited (tiff_entries header count) (λ (x : ℕ × Option ℕ × Option ℕ). Entry (listing header count x))
+    (λ x entry. (x.0 + 1, side_with 0x100 x.1 entry, side_with 0x101 x.2 entry)) decides (λ entries x. Known x.0 x.1 x.2 entries)
+    (λ e entries x place known.
+    over-bind e (entry_behind header count x.0 x.1 x.2 place) (after (λ entry. Entry (listed_with (listing header count x) entry)) decides)
+    ∙ ap (λ r. and_then r (λ said. layout_reads e (after (λ entry. Entry (listed_with (listing header count x) entry)) decides said)))
+    (sym (entry_as e header count x.0 x.1 x.2 place entries known)))
+    (λ e entries x place v q known got. known_on x.0 x.1 x.2 (side_with 0x100 x.1 v) (side_with 0x101 x.2 v) entries v refl refl known)
+    d (entries_advance header count d) (start (tiff_entries header count)) (0, None, None) (record { many = refl; wide = refl; high = refl })
+    ∙ by_size d (chain_at (tiff_entries header count) d)
+
+directory_as : (header : Header) (d : List ℕ) → run (Directory header) header.directory d ≡ tiff_directory d header
+directory_as header d =
+    run_unfolds d (Directory header) header.directory
+    ∙ sym (onward-and_then (span_of d header.directory (count_bytes header.version)) (number_at d header.order header.directory (count_bytes header.version))
+    (λ count. gives (Next (Entry (listing header count (0, None, None))) (header.directory + count_bytes header.version))) (goes d)
+    (λ count. chain_at (tiff_entries header count) d) (λ count. sym (entries_as header count d)))
+
+tiff_as : (d : List ℕ) → tiff d ≡ and_then (layout_reads d open_tiff) (opened_rest d)
+tiff_as d =
+    onward-and_then (layout_reads d tiff_header).marks (layout_reads d tiff_header).answer (λ header. gives (opened.Records (Directory header) header.directory)) (opened_rest d)
+    (tiff_directory d) (λ header. sym (directory_as header d))
+    ∙ ap (λ r. and_then r (opened_rest d)) (sym (over-bind d tiff_header (λ header. opens (Directory header) header.directory)))
+
 pub opened_as : (type : ImageType) (d : List ℕ) → size_reads type d ≡ and_then (layout_reads d (opening type)) (opened_rest d)
 opened_as Aseprite d = sized_as d aseprite
 opened_as Astc d = sized_as d astc
@@ -140,7 +199,7 @@ opened_as Farbfeld d = sized_as d farbfeld
 opened_as Gif d = sized_as d gif
 opened_as Hdr d = hdr_as d
 opened_as (Heif _) d = ?
-opened_as Ico d = ?
+opened_as Ico d = ico_as d
 opened_as Ilbm d = sym (ilbm_as d)
 opened_as Jpeg d = sym (jpeg_as d)
 opened_as Jxl d = ?
@@ -150,6 +209,6 @@ opened_as (Pvrtc _) d = sized_as d pvrtc
 opened_as Psd d = sized_as d psd
 opened_as Qoi d = sized_as d qoi
 opened_as Tga d = sized_as d tga
-opened_as Tiff d = ?
+opened_as Tiff d = tiff_as d
 opened_as Vtf d = sized_as d vtf
 opened_as Webp d = sized_as d webp

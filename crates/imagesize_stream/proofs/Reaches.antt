@@ -19,16 +19,20 @@ use Rattle.imagesize_types.specs.Head.{four_at}
 use Rattle.imagesize_types.specs.Table.{look_up_text}
 use Rattle.imagesize_types.specs.declared.compression.DdsCompression.TheVariants.{Unknown as unknown_dds}
 use Rattle.imagesize_types.specs.declared.compression.PvrtcCompression.TheVariants.{Unknown as unknown_pvrtc}
-use Rattle.imagesize_source.specs.declared.halt.Halt.TheVariants.{InvalidHdrIdentifier, InvalidVp8Tag, NotSupported}
+use Rattle.imagesize_source.specs.declared.halt.Halt.TheVariants.{BigTiffOffsetSize, InvalidBigTiffHeader, InvalidHdrIdentifier, InvalidVp8Tag, NotSupported}
 use Rattle.imagesize_source.specs.Layout.{Layout, bind, bytes, if_there, whole}
 use Rattle.imagesize_source.specs.Layout.Layout.{field, reading, refuse, «done»}
 use Rattle.imagesize_pieces.specs.Stream.{Reach}
 use Rattle.imagesize_pieces.proofs.Reaching.{reach_accept, reach_bind, reach_if}
-use Rattle.imagesize_stream.specs.declared.awaited.Awaited.TheVariants.{Line}
+use Rattle.imagesize_stream.specs.declared.awaited.Awaited.TheVariants.{Directory, Line}
 use Rattle.imagesize_stream.specs.declared.front.Opening.TheVariants as opened
 use Rattle.imagesize_texts.specs.Contents.{line_text}
 use Rattle.imagesize_texts.specs.Hdr.{check_identifier, hdr_identifier, is_identifier}
 use Rattle.imagesize_types.specs.declared.size.ImageSize.{ImageSize}
+use Rattle.imagesize_source.specs.declared.endian.Endian.{Endian}
+use Rattle.imagesize_walked.specs.Tiff.{byte_order, directory_at, stated_place, tiff_header, version_of}
+use Rattle.imagesize_walked.specs.declared.formats.tiff.Version.{Version}
+use Rattle.imagesize_walked.specs.declared.formats.tiff.Version.TheVariants.{BigTiff, Tiff as Tiff_version}
 use Rattle.imagesize_fixed.specs.Aseprite.{aseprite}
 use Rattle.imagesize_fixed.specs.Astc.{astc}
 use Rattle.imagesize_fixed.specs.Bmp.{bmp}
@@ -77,6 +81,30 @@ identifier_reaches : Reach 0 132 hdr_identifier
 identifier_reaches = (omega arith, omega arith, λ bs few. reach_accept 0 132 (line_text 0x0A 11 bs) check_identifier
     (λ text _. reach_if (is_identifier text) 0 132 (done (length text + 1)) (refuse InvalidHdrIdentifier) tt tt))
 
+place_reaches : (order : Endian) (version : Version) → Reach 0 132 (stated_place order version)
+unfolding stated_place
+place_reaches order Tiff_version = (omega arith, omega arith, λ place. tt)
+place_reaches order BigTiff = (
+  omega arith,
+  omega arith,
+  λ size. reach_if (eqb size 8) 0 132 (field order 6 2 (λ zeros. cond (eqb zeros 0) (field order 8 8 done) (refuse InvalidBigTiffHeader))) (refuse BigTiffOffsetSize)
+      (omega arith, omega arith, λ zeros. reach_if (eqb zeros 0) 0 132 (field order 8 8 done) (refuse InvalidBigTiffHeader)
+      (omega arith, omega arith, λ place. tt) tt) tt,
+)
+
+header_reaches : Reach 0 132 tiff_header
+unfolding tiff_header
+header_reaches = (
+  omega arith,
+  omega arith,
+  λ mark few. reach_accept 0 132 (byte_order mark) _ (λ order _. (
+    omega arith,
+    omega arith,
+    λ number. reach_accept 0 132 (version_of number) _ (λ version _. reach_bind 0 132 (stated_place order version) _ (place_reaches order version)
+        (λ place. reach_accept 0 132 (directory_at order version place) done (λ header _. tt))),
+  )),
+)
+
 pub opening_reaches : (type : ImageType) → Reach 0 132 (opening type)
 opening_reaches Aseprite = reach_sized aseprite (omega arith, omega arith, λ v. (omega arith, omega arith, λ w. tt))
 opening_reaches Astc = reach_sized astc (omega arith, omega arith, λ v. (omega arith, omega arith, λ w. tt))
@@ -95,7 +123,7 @@ opening_reaches Farbfeld = reach_sized farbfeld (omega arith, omega arith, λ v.
 opening_reaches Gif = reach_sized gif (omega arith, omega arith, λ v. (omega arith, omega arith, λ w. tt))
 opening_reaches Hdr = reach_bind 0 132 hdr_identifier (λ first. opens Line first) identifier_reaches (λ first. tt)
 opening_reaches (Heif _) = tt
-opening_reaches Ico = tt
+opening_reaches Ico = (omega arith, omega arith, λ count. tt)
 opening_reaches Ilbm = tt
 opening_reaches Jpeg = tt
 opening_reaches Jxl = tt
@@ -105,7 +133,7 @@ opening_reaches (Pvrtc _) = reach_sized pvrtc (omega arith, omega arith, λ tag 
 opening_reaches Psd = reach_sized psd (omega arith, omega arith, λ v. (omega arith, omega arith, λ w. tt))
 opening_reaches Qoi = reach_sized qoi (omega arith, omega arith, λ v. (omega arith, omega arith, λ w. tt))
 opening_reaches Tga = reach_sized tga (omega arith, omega arith, λ v. (omega arith, omega arith, λ w. tt))
-opening_reaches Tiff = tt
+opening_reaches Tiff = reach_bind 0 132 tiff_header (λ header. opens (Directory header) header.directory) header_reaches (λ header. tt)
 opening_reaches Vtf = reach_sized vtf (omega arith, omega arith, λ v. (omega arith, omega arith, λ w. tt))
 opening_reaches Webp = reach_sized webp (omega arith, omega arith, λ tag few. webp_by (slice_index tag 3))
 

@@ -25,11 +25,12 @@ use Rattle.imagesize_source.specs.declared.halt.Halt.{Halt}
 use Rattle.imagesize_source.specs.declared.span.Span.{Span}
 use Rattle.imagesize_stream.specs.Steps.{IsSteady}
 use Rattle.imagesize_stream.specs.Streamed.{opening, opens, sized}
-use Rattle.imagesize_stream.specs.declared.awaited.Awaited.TheVariants.{Line}
+use Rattle.imagesize_stream.specs.declared.awaited.Awaited.TheVariants.{Directory, Line}
 use Rattle.imagesize_stream.specs.declared.front.Opening.{Opening}
 use Rattle.imagesize_stream.specs.declared.front.Opening.TheVariants as opened
 use Rattle.imagesize_texts.specs.Hdr.{hdr_identifier}
 use Rattle.imagesize_types.specs.declared.size.ImageSize.{ImageSize}
+use Rattle.imagesize_walked.specs.Tiff.{tiff_header}
 
 -- whatever its readings answer, each thing that a layout says has the property
 abbrev pub Saying : {X : Type 0} → (X → Type 0) → Layout X → Type 0
@@ -79,7 +80,7 @@ opening_steady Farbfeld = steady_sized farbfeld
 opening_steady Gif = steady_sized gif
 opening_steady Hdr = saying_bind OpensSteady hdr_identifier (λ first. opens Line first) (λ first. tt)
 opening_steady (Heif _) = tt
-opening_steady Ico = tt
+opening_steady Ico = λ count. (omega arith, tt)
 opening_steady Ilbm = tt
 opening_steady Jpeg = omega arith
 opening_steady Jxl = tt
@@ -89,6 +90,6 @@ opening_steady (Pvrtc _) = steady_sized pvrtc
 opening_steady Psd = steady_sized psd
 opening_steady Qoi = steady_sized qoi
 opening_steady Tga = steady_sized tga
-opening_steady Tiff = tt
+opening_steady Tiff = saying_bind OpensSteady tiff_header (λ header. opens (Directory header) header.directory) (λ header. tt)
 opening_steady Vtf = steady_sized vtf
 opening_steady Webp = steady_sized webp

@@ -1,14 +1,17 @@
 -- The chain of what is awaited: it advances, how far its records reach, and how it ends.
-use Rattle.std.proofs.Common.{◌≡◌, ℕ, ◌+◌, ◌<◌, ◌≤◌, Bool, true, false, List, [], length, ap, ◌∙◌, arith}
+use Rattle.std.proofs.Common.{◌≡◌, ℕ, ◌+◌, ◌<◌, ◌≤◌, Bool, true, false, cond, eqb, List, [], length, None, Result, Ok, Err, refl, sym, ap, ◌∙◌, arith}
+use Rattle.std.specs.Prelude.{ok_or}
 use Rattle.imagesize_source.specs.Chain.{Said, Decided, Next, Advances}
 use Rattle.imagesize_source.specs.Layout.{Layout, done, refuse, field, reading, bind, layout_reads}
-use Rattle.imagesize_source.specs.Reading.{Reading, AllOf, PartOf, TextOf, Reads, and_then, refuses}
-use Rattle.imagesize_source.specs.declared.halt.Halt.TheVariants.{Ended}
+use Rattle.imagesize_source.specs.Reading.{Reading, AllOf, PartOf, TextOf, Reads, and_then, map_answer, refuses}
+use Rattle.imagesize_source.specs.declared.halt.Halt.TheVariants.{Corrupted, Ended, NoDimensionsInIfd}
+use Rattle.imagesize_source.specs.declared.halt.Halt.{Halt}
 use Rattle.imagesize_source.proofs.Advances.{Begins, OrSome, Tells, advances}
 use Rattle.imagesize_source.proofs.Layouts.{over-bind}
-use Rattle.imagesize_stream.specs.Steps.{IsSteady, after, awaited_chain, awaited_said, decides, last_awaited, names_of, step}
+use Rattle.imagesize_stream.specs.Steps.{after, awaited_chain, decides, ends_with, last_awaited, listed_with, names_of, step}
 use Rattle.imagesize_stream.specs.declared.awaited.Awaited.{Awaited}
-use Rattle.imagesize_stream.specs.declared.awaited.Awaited.TheVariants.{Attribute, Chunk, Line, Segment, Word}
+use Rattle.imagesize_stream.specs.declared.awaited.Awaited.TheVariants.{Attribute, Chunk, Directory, Entry, Icon, Line, Segment, Word}
+use Rattle.imagesize_stream.specs.declared.awaited.Listed.{Listed}
 use Rattle.imagesize_texts.specs.Exr.{exr_attribute}
 use Rattle.imagesize_texts.proofs.Exr.{attribute_begins, attribute_tells, exr_ends}
 use Rattle.imagesize_texts.proofs.Hdr.{hdr_begins, hdr_ends, hdr_tells}
@@ -21,7 +24,16 @@ use Rattle.imagesize_walked.proofs.Ilbm.{chunk_begins, chunk_tells, ilbm_ends}
 use Rattle.imagesize_walked.proofs.Jpeg.{jpeg_ends, segment_begins, segment_tells}
 use Rattle.imagesize_walked.specs.Ilbm.{ilbm_chunk}
 use Rattle.imagesize_walked.specs.Jpeg.{jpeg_segment}
+use Rattle.imagesize_stream.proofs.Behind.{number_beyond}
+use Rattle.imagesize_types.specs.Largest.{later_largest}
+use Rattle.imagesize_walked.proofs.Ico.{icon_begins, icon_in_ends, icon_tells}
+use Rattle.imagesize_walked.proofs.Tiff.{behind_begins, behind_ends, behind_tells}
+use Rattle.imagesize_walked.specs.Ico.{icon_in}
+use Rattle.imagesize_walked.specs.Tiff.{count_bytes, entry_behind}
 use Rattle.imagesize_walked.specs.Walks.{depth_behind}
+use Rattle.imagesize_walked.specs.declared.formats.tiff.Entry as tiff
+use Rattle.imagesize_walked.specs.declared.formats.tiff.Version.{Version}
+use Rattle.imagesize_walked.specs.declared.formats.tiff.Version.TheVariants.{BigTiff, Tiff}
 
 module _ {C Y : Type 0} (on : C → Awaited) (verdict : Y → Layout (Said Awaited ImageSize)) where
   -- what is behind a record tells the places that it tells
@@ -48,11 +60,20 @@ begins_behind on verdict q none (field order place k f) begins each = begins
 begins_behind on verdict q none (reading r place f) begins each =
     (begins.0, or_some r (tells_behind on verdict (λ _. ⊥) (λ y. none y (λ _. ⊥)) (f [])) begins.1)
 
+count_some : (version : Version) → 0 < count_bytes version
+count_some Tiff = omega arith
+count_some BigTiff = omega arith
+
 step_tells : (next : Awaited) (place : ℕ) → Tells (λ p. place < p) (step next place)
 step_tells (Segment depth) place = tells_behind (λ marker. Segment (depth_behind depth marker)) decides _ (λ _. tt) (jpeg_segment depth place) (segment_tells depth place)
 step_tells Chunk place = tells_behind (λ _. Chunk) decides _ (λ _. tt) (ilbm_chunk place) (chunk_tells place)
 step_tells (Attribute long) place = tells_behind (λ _. Attribute long) decides _ (λ _. tt) (exr_attribute (names_of long) place) (attribute_tells (names_of long) place)
 step_tells Line place = tells_behind (λ _. Line) decides _ (λ _. tt) (line_at 0x0A place 256 (hdr_line place)) (hdr_tells place)
+step_tells (Icon count seen largest) place = tells_behind (λ size. Icon count (seen + 1) (later_largest largest size)) decides _ (λ _. tt)
+    (icon_in count seen largest place) (icon_tells count seen largest place)
+step_tells (Directory header) place = λ count. omega (arith, count_some header.version)
+step_tells (Entry l) place = tells_behind (λ entry. Entry (listed_with l entry)) decides _ (λ _. tt)
+    (entry_behind l.header l.count l.seen l.width l.height place) (behind_tells l.header l.count l.seen l.width l.height place)
 step_tells Word place = tells_behind (λ _. Word) decides _ (λ _. tt) (word place (pnm_word place)) (pnm_tells place)
 
 step_begins : (next : Awaited) (place : ℕ) → Begins place (step next place)
@@ -60,6 +81,11 @@ step_begins (Segment depth) place = begins_behind (λ marker. Segment (depth_beh
 step_begins Chunk place = begins_behind (λ _. Chunk) decides place (λ _ P. tt) (ilbm_chunk place) (chunk_begins place) (λ _. tt)
 step_begins (Attribute long) place = begins_behind (λ _. Attribute long) decides place (λ _ P. tt) (exr_attribute (names_of long) place) (attribute_begins (names_of long) place) (λ _. tt)
 step_begins Line place = begins_behind (λ _. Line) decides place (λ _ P. tt) (line_at 0x0A place 256 (hdr_line place)) (hdr_begins place) (λ _. tt)
+step_begins (Icon count seen largest) place = begins_behind (λ size. Icon count (seen + 1) (later_largest largest size)) decides place (λ _ P. tt)
+    (icon_in count seen largest place) (icon_begins count seen largest place) (λ _. tt)
+step_begins (Directory header) place = (omega arith, count_some header.version)
+step_begins (Entry l) place = begins_behind (λ entry. Entry (listed_with l entry)) decides place (λ _ P. tt)
+    (entry_behind l.header l.count l.seen l.width l.height place) (behind_begins l.header l.count l.seen l.width l.height place) (λ _. tt)
 step_begins Word place = begins_behind (λ _. Word) decides place (λ _ P. tt) (word place (pnm_word place)) (pnm_begins place) (λ _. tt)
 
 pub awaited_advances : (d : List ℕ) → Advances awaited_chain d
@@ -73,9 +99,29 @@ some_names : (long : Bool) → 0 < names_of long
 some_names true = omega arith
 some_names false = omega arith
 
-pub step_ends : (next : Awaited) (d : List ℕ) (place : ℕ) → length d ≤ place → layout_reads d (step next place) ≡ refuses Ended
+-- what decides beyond the end decides with what is behind it
+decided_behind : {C : Type 0} (d : List ℕ) (t : Layout (Said C ImageSize)) (on : C → Awaited) (r : Result ImageSize Halt)
+    → layout_reads d t ≡ record { answer = map_answer Decided r; marks = [] }
+    → layout_reads d (bind t (after on decides)) ≡ record { answer = map_answer Decided r; marks = [] }
+decided_behind d t on (Ok size) is = over-bind d t (after on decides) ∙ ap (λ r. and_then r (λ said. layout_reads d (after on decides said))) is
+decided_behind d t on (Err e) is = over-bind d t (after on decides) ∙ ap (λ r. and_then r (λ said. layout_reads d (after on decides said))) is
+
+listed_ends : (l : Listed) (all : Bool) → cond all (Err NoDimensionsInIfd) (Err Ended) ≡ map_answer {X = ImageSize} {Y = Said tiff.Entry ImageSize} Decided (cond all (Err NoDimensionsInIfd) (Err Ended))
+listed_ends l true = refl
+listed_ends l false = refl
+
+pub step_ends : (next : Awaited) (d : List ℕ) (place : ℕ) → length d ≤ place
+    → layout_reads d (step next place) ≡ record { answer = map_answer Decided (ends_with next); marks = [] }
 step_ends (Segment depth) d place far = refused_behind d (jpeg_segment depth place) _ (jpeg_ends d depth place far)
 step_ends Chunk d place far = refused_behind d (ilbm_chunk place) _ (ilbm_ends d place far)
 step_ends (Attribute long) d place far = refused_behind d (exr_attribute (names_of long) place) _ (exr_ends d (names_of long) place (some_names long) far)
 step_ends Line d place far = refused_behind d (line_at 0x0A place 256 (hdr_line place)) _ (hdr_ends d place far)
+step_ends (Icon count seen largest) d place far = decided_behind d (icon_in count seen largest place) (λ size. Icon count (seen + 1) (later_largest largest size))
+    (ok_or largest Corrupted) (icon_in_ends count seen largest d place far)
+step_ends (Directory header) d place far = number_beyond d header.order place (count_bytes header.version)
+    (λ count. done (Next (Entry (record { header = header; count = count; seen = 0; width = None; height = None })) (place + count_bytes header.version)))
+    far (count_some header.version)
+step_ends (Entry l) d place far = decided_behind d (entry_behind l.header l.count l.seen l.width l.height place) (λ entry. Entry (listed_with l entry))
+    (cond (eqb l.seen l.count) (Err NoDimensionsInIfd) (Err Ended))
+    (behind_ends l.header l.count l.seen l.width l.height d place far ∙ ap (λ r. record { answer = r; marks = [] }) (listed_ends l (eqb l.seen l.count)))
 step_ends Word d place far = refused_behind d (word place (pnm_word place)) _ (pnm_ends d place far)

@@ -1,18 +1,25 @@
 -- What a stream awaits of an image whose size is behind records: the record that is next, as one chain for all formats.
-use Rattle.std.specs.Prelude.{◌≡◌, ℕ, ◌<◌, Bool, true, false, List, [], ◌∷◌, Option, None, Some, unwrap_or, if◌then◌else◌}
-use Rattle.std.specs.Coded.{Unit-prop, le_prop}
+use Rattle.std.specs.Prelude.{◌≡◌, ℕ, ◌+◌, ◌<◌, ◌≤◌, ◌==◌, Bool, true, false, List, [], ◌∷◌, Option, None, Some, Result, Ok, Err, ok_or, unwrap_or, if◌then◌else◌}
+use Rattle.std.specs.Coded.{Unit-prop, le_prop, ×_prop}
 use Rattle.std.specs.List.{last_or}
 use Rattle.imagesize_source.specs.Chain.{Said, Decided, Next, Chain}
 use Rattle.imagesize_source.specs.Layout.{Layout, bind}
-use Rattle.imagesize_source.specs.Layout.Layout.{«done»}
+use Rattle.imagesize_source.specs.Layout.Layout.{field, «done»}
+use Rattle.imagesize_source.specs.declared.halt.Halt.{Halt}
+use Rattle.imagesize_source.specs.declared.halt.Halt.TheVariants.{Corrupted, Ended, NoDimensionsInIfd}
 use Rattle.imagesize_source.specs.Walk.{chain_of}
 use Rattle.imagesize_stream.specs.declared.awaited.Awaited.{Awaited}
-use Rattle.imagesize_stream.specs.declared.awaited.Awaited.TheVariants.{Attribute, Chunk, Line, Segment, Word}
+use Rattle.imagesize_stream.specs.declared.awaited.Awaited.TheVariants.{Attribute, Chunk, Directory, Entry, Icon, Line, Segment, Word}
+use Rattle.imagesize_stream.specs.declared.awaited.Listed.{Listed}
 use Rattle.imagesize_texts.specs.Exr.{exr_attribute}
 use Rattle.imagesize_texts.specs.Hdr.{hdr_line}
 use Rattle.imagesize_texts.specs.Pnm.{pnm_word}
 use Rattle.imagesize_texts.specs.Texts.{line_at, word}
+use Rattle.imagesize_types.specs.Largest.{later_largest}
 use Rattle.imagesize_types.specs.declared.size.ImageSize.{ImageSize}
+use Rattle.imagesize_walked.specs.Ico.{icon_in}
+use Rattle.imagesize_walked.specs.Tiff.{count_bytes, entry_behind, side_with}
+use Rattle.imagesize_walked.specs.declared.formats.tiff.Entry as tiff
 use Rattle.imagesize_walked.specs.Ilbm.{ilbm_chunk}
 use Rattle.imagesize_walked.specs.Jpeg.{jpeg_segment}
 use Rattle.imagesize_walked.specs.Walks.{depth_behind}
@@ -29,6 +36,10 @@ decides size = done (Decided size)
 abbrev pub names_of : Bool → ℕ
 names_of long = if long then 256 else 32
 
+-- with one entry of a TIFF more
+abbrev pub listed_with : Listed → tiff.Entry → Listed
+listed_with l entry = record l { seen = l.seen + 1; width = side_with 0x100 l.width entry; height = side_with 0x101 l.height entry }
+
 -- the layout of the record that is awaited at a place
 abbrev pub step : Awaited → ℕ → Layout (Said Awaited ImageSize)
 step (Segment depth) place = bind (jpeg_segment depth place) (after (λ marker. Segment (depth_behind depth marker)) decides)
@@ -36,6 +47,12 @@ step Chunk place = bind (ilbm_chunk place) (after (λ _. Chunk) decides)
 step (Attribute long) place = bind (exr_attribute (names_of long) place) (after (λ _. Attribute long) decides)
 step Line place = bind (line_at 0x0A place 256 (hdr_line place)) (after (λ _. Line) decides)
 step Word place = bind (word place (pnm_word place)) (after (λ _. Word) decides)
+
+step (Icon count seen largest) place =
+    bind (icon_in count seen largest place) (after (λ size. Icon count (seen + 1) (later_largest largest size)) decides)
+step (Directory header) place = field header.order place (count_bytes header.version)
+    (λ count. done (Next (Entry (record { header = header; count = count; seen = 0; width = None; height = None })) (place + count_bytes header.version)))
+step (Entry l) place = bind (entry_behind l.header l.count l.seen l.width l.height place) (after (λ entry. Entry (listed_with l entry)) decides)
 
 -- a record holds what is awaited behind it
 abbrev pub last_awaited : List Awaited → Awaited
@@ -47,6 +64,26 @@ awaited_said held place = step (last_awaited held) place
 abbrev pub awaited_chain : Chain Awaited ImageSize
 awaited_chain = chain_of 0 awaited_said
 
+-- the verdict at the end of the input
+abbrev pub ends_with : Awaited → Result ImageSize Halt
+ends_with (Segment depth) = Err Ended
+ends_with Chunk = Err Ended
+ends_with (Attribute long) = Err Ended
+ends_with Line = Err Ended
+ends_with Word = Err Ended
+ends_with (Icon count seen largest) = ok_or largest Corrupted
+ends_with (Directory header) = Err Ended
+ends_with (Entry l) = if l.seen == l.count then Err NoDimensionsInIfd else Err Ended
+
+-- no side of the largest icon is above 256 pixels
+abbrev pub IsSmall : Option ImageSize → Type 0
+IsSmall None = Unit {0}
+IsSmall (Some size) = (size.width ≤ 256) × (size.height ≤ 256)
+
+pub small_prop : (largest : Option ImageSize) → IsProp (IsSmall largest)
+small_prop None = Unit-prop
+small_prop (Some size) = ×_prop le_prop le_prop
+
 -- what holds of the record that is awaited at a place
 abbrev pub IsSteady : Awaited → ℕ → Type 0
 IsSteady (Segment depth) place = depth < place
@@ -54,6 +91,9 @@ IsSteady Chunk place = Unit {0}
 IsSteady (Attribute long) place = Unit {0}
 IsSteady Line place = Unit {0}
 IsSteady Word place = Unit {0}
+IsSteady (Icon count seen largest) place = (seen ≤ count) × IsSmall largest
+IsSteady (Directory header) place = Unit {0}
+IsSteady (Entry l) place = l.seen ≤ l.count
 
 pub steady_prop : (next : Awaited) (place : ℕ) → IsProp (IsSteady next place)
 steady_prop (Segment depth) place = le_prop
@@ -61,6 +101,9 @@ steady_prop Chunk place = Unit-prop
 steady_prop (Attribute long) place = Unit-prop
 steady_prop Line place = Unit-prop
 steady_prop Word place = Unit-prop
+steady_prop (Icon count seen largest) place = ×_prop le_prop (small_prop largest)
+steady_prop (Directory header) place = Unit-prop
+steady_prop (Entry l) place = le_prop
 
 -- and of the one behind
 abbrev pub StaysSteady : Said Awaited ImageSize → Type 0

@@ -25,7 +25,7 @@ use Rattle.imagesize_source.specs.Reading.{Reads, gives}
 use Rattle.imagesize_source.specs.declared.endian.Endian.TheVariants.{Little}
 use Rattle.imagesize_source.specs.declared.halt.Halt.TheVariants.{Corrupted, NotSupported}
 use Rattle.imagesize_stream.specs.declared.awaited.Awaited.{Awaited}
-use Rattle.imagesize_stream.specs.declared.awaited.Awaited.TheVariants.{Attribute, Chunk, Line, Segment, Word}
+use Rattle.imagesize_stream.specs.declared.awaited.Awaited.TheVariants.{Attribute, Chunk, Directory, Icon, Line, Segment, Word}
 use Rattle.imagesize_stream.specs.declared.front.First.{First}
 use Rattle.imagesize_stream.specs.declared.front.First.TheVariants as first
 use Rattle.imagesize_stream.specs.declared.front.Opening.{Opening}
@@ -33,6 +33,7 @@ use Rattle.imagesize_stream.specs.declared.front.Opening.TheVariants as opened
 use Rattle.imagesize_texts.specs.Exr.{name_room}
 use Rattle.imagesize_texts.specs.Hdr.{hdr_identifier}
 use Rattle.imagesize_types.specs.declared.size.ImageSize.{ImageSize}
+use Rattle.imagesize_walked.specs.Tiff.{tiff_header}
 
 -- what the first bytes say of the type, by the first row that holds of them
 abbrev pub first_by : List ℕ → Option ImageType → Layout First
@@ -62,6 +63,14 @@ open_exr = field Little 4 4 (λ version. opens (Attribute (nat_lt 32 (name_room 
 abbrev pub open_hdr : Layout Opening
 open_hdr = bind hdr_identifier (λ first. opens Line first)
 
+-- the count of the icons
+abbrev pub open_ico : Layout Opening
+open_ico = field Little 4 2 (λ count. opens (Icon count 0 None) 6)
+
+-- the header of a TIFF
+abbrev pub open_tiff : Layout Opening
+open_tiff = bind tiff_header (λ header. opens (Directory header) header.directory)
+
 -- what the first bytes say of the size, by the type
 abbrev pub opening : ImageType → Layout Opening
 opening Aseprite = sized aseprite
@@ -76,7 +85,7 @@ opening Farbfeld = sized farbfeld
 opening Gif = sized gif
 opening Hdr = open_hdr
 opening (Heif _) = refuse Corrupted
-opening Ico = refuse Corrupted
+opening Ico = open_ico
 opening Ilbm = opens Chunk 12
 opening Jpeg = opens (Segment 0) 2
 opening Jxl = refuse Corrupted
@@ -86,6 +95,6 @@ opening (Pvrtc _) = sized pvrtc
 opening Psd = sized psd
 opening Qoi = sized qoi
 opening Tga = sized tga
-opening Tiff = refuse Corrupted
+opening Tiff = open_tiff
 opening Vtf = sized vtf
 opening Webp = sized webp

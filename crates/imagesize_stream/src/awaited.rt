@@ -1,24 +1,27 @@
 //! The record that a stream awaits next, of each format whose size is behind records.
-ghost use Rattle.std.specs.Prelude.{◌≡◌, ℕ, ◌<◌, [], false, Err, IfOk};
+ghost use Rattle.std.specs.Prelude.{◌≡◌, ℕ, ◌<◌, ◌≤◌, [], false, IfOk};
 ghost use Rattle.imagesize_source.specs.Layout.{bind, layout_reads};
-ghost use Rattle.imagesize_source.specs.Paying.{Nears};
-ghost use Rattle.imagesize_source.specs.Reading.{is_stopped, map_answer};
-ghost use Rattle.imagesize_source.specs.declared.halt.Halt.TheVariants as halt;
+ghost use Rattle.imagesize_source.specs.Paying.{Nears, Paid};
+ghost use Rattle.imagesize_source.specs.Reading.{is_stopped, map_answer, number_read};
 ghost use Rattle.imagesize_source.specs.State.{Follows, Runs};
 ghost use Rattle.imagesize_source.specs.Walk.{said_at};
-ghost use Rattle.imagesize_stream.specs.Steps.{IsSteady, StaysSteady, after, decides, names_of, step};
+ghost use Rattle.imagesize_stream.specs.Steps.{IsSmall, IsSteady, StaysSteady, after, decides, ends_with, names_of, step};
+ghost use Rattle.imagesize_walked.specs.Tiff.{head_bytes, value_bytes};
 ghost use Rattle.imagesize_stream.specs.declared.awaited.Awaited.TheVariants as awaited;
 
-use imagesize_source::Halt;
+use imagesize_source::readings::read_bytes;
 use imagesize_source::source::Source;
 use imagesize_source::walk::{Found, Records};
+use imagesize_source::{Endian, Halt};
 use imagesize_texts::formats::exr::Attributes;
 use imagesize_texts::formats::hdr::{LINE_ROOM, Lines};
 use imagesize_texts::formats::pnm::Words;
 use imagesize_texts::util::WORD_ROOM;
 use imagesize_types::size::ImageSize;
 use imagesize_walked::formats::ilbm::Chunks;
+use imagesize_walked::formats::ico::Entries as Icons;
 use imagesize_walked::formats::jpeg::Segments;
+use imagesize_walked::formats::tiff::{self, Entries, Header, Version};
 
 /// The record that is next.
 #[derive(Clone, Copy)]
@@ -33,6 +36,26 @@ pub(crate) enum Awaited {
     Line,
     /// A word of a portable bitmap.
     Word,
+    /// An entry of an icon, of so many, behind so many with this largest size.
+    Icon {
+        count: u16,
+        seen: u16,
+        largest: Option<ImageSize>,
+    },
+    /// The count of a TIFF's entries.
+    Directory { header: Header },
+    /// An entry of a TIFF.
+    Entry(Listed),
+}
+
+/// How many entries a TIFF has, how many were read, and the sides that these give.
+#[derive(Clone, Copy)]
+pub(crate) struct Listed {
+    pub(crate) header: Header,
+    pub(crate) count: u64,
+    pub(crate) seen: u64,
+    pub(crate) width: Option<u32>,
+    pub(crate) height: Option<u32>,
 }
 
 impl Awaited {
@@ -54,15 +77,26 @@ impl Awaited {
             Awaited::Attribute { long } => read_attribute(source, place, long),
             Awaited::Line => read_line(source, place),
             Awaited::Word => read_word(source, place),
+            Awaited::Icon {
+                count,
+                seen,
+                largest,
+            } => read_icon(source, place, count, seen, largest),
+            Awaited::Directory { header } => read_directory(source, place, header),
+            Awaited::Entry(listed) => read_entry(source, place, listed),
         }
     }
 
     // The verdict at the end of the input.
     pub(crate) fn at_end(self) -> Result<ImageSize, Halt>
         ensures goes_on { is_stopped result ≡ false }
-        ensures is { result ≡ Err halt.Ended }
+        ensures is { result ≡ ends_with self }
     {
-        Err(Halt::Ended)
+        match self {
+            Awaited::Icon { largest, .. } => largest.ok_or(Halt::Corrupted),
+            Awaited::Entry(listed) if listed.seen == listed.count => Err(Halt::NoDimensionsInIfd),
+            _ => Err(Halt::Ended),
+        }
     }
 }
 
@@ -151,4 +185,140 @@ fn read_word<S: Source>(source: &mut S, place: u64) -> Result<Found<Awaited, Ima
         room: [0; WORD_ROOM],
     };
     read_same(&mut words, source, place, Awaited::Word)
+}
+
+fn read_icon<S: Source>(
+    source: &mut S,
+    place: u64,
+    count: u16,
+    seen: u16,
+    largest: Option<ImageSize>,
+) -> Result<Found<Awaited, ImageSize>, Halt>
+    requires seen { seen ≤ count }
+    requires small { IsSmall largest }
+    ensures nears { IfOk result (λ found. Nears (S.state source.old) (S.state source.new) place (said_at place found)) }
+    ensures steady { IfOk result (λ found. StaysSteady (said_at place found)) }
+    ensures runs { Follows (S.state source.old) (S.state source.new) (map_answer (said_at place) result) (step (awaited.Icon count seen largest) place) }
+{
+    let mut icons = Icons {
+        count,
+        seen,
+        largest,
+    };
+    match icons.read_icon(source, place)? {
+        Found::Answer(size) => Ok(Found::Answer(size)),
+        Found::Other { length, .. } => {
+            let held = Awaited::Icon {
+                count,
+                seen: icons.seen,
+                largest: icons.largest,
+            };
+            Ok(Found::Other { held, length })
+        }
+    }
+}
+
+#[tactic(auto, using(imagesize_source::proofs::Runs::steps))]
+fn read_directory<S: Source>(
+    source: &mut S,
+    place: u64,
+    header: Header,
+) -> Result<Found<Awaited, ImageSize>, Halt>
+    ensures nears { IfOk result (λ found. Nears (S.state source.old) (S.state source.new) place (said_at place found)) }
+    ensures steady { IfOk result (λ found. StaysSteady (said_at place found)) }
+    ensures runs { Follows (S.state source.old) (S.state source.new) (map_answer (said_at place) result) (step (awaited.Directory header) place) }
+{
+    let count = match header.version {
+        Version::Tiff => read_short(source, place, header.order)?,
+        Version::BigTiff => read_long(source, place, header.order)?,
+    };
+    let held = Awaited::Entry(Listed {
+        header,
+        count,
+        seen: 0,
+        width: None,
+        height: None,
+    });
+    Ok(Found::Other {
+        held,
+        length: tiff::count_bytes(header.version),
+    })
+}
+
+// A number of two bytes.
+#[tactic(auto, using(imagesize_source::proofs::Runs::number_there, imagesize_source::proofs::Runs::number_missing))]
+fn read_short<S: Source>(source: &mut S, place: u64, order: Endian) -> Result<u64, Halt>
+    ensures pays { IfOk result (λ _. Paid (S.state source.old) (S.state source.new) place) }
+    ensures runs { Runs (S.state source.old) (S.state source.new) result (number_read (S.state source.old).held.input order place 2) }
+{
+    let bytes = read_bytes::<S, 2>(source, place)?;
+    Ok(order.u16(bytes) as u64)
+}
+
+// A number of eight bytes.
+#[tactic(auto, using(imagesize_source::proofs::Runs::number_there, imagesize_source::proofs::Runs::number_missing))]
+fn read_long<S: Source>(source: &mut S, place: u64, order: Endian) -> Result<u64, Halt>
+    ensures pays { IfOk result (λ _. Paid (S.state source.old) (S.state source.new) place) }
+    ensures runs { Runs (S.state source.old) (S.state source.new) result (number_read (S.state source.old).held.input order place 8) }
+{
+    let bytes = read_bytes::<S, 8>(source, place)?;
+    Ok(order.u64(bytes))
+}
+
+fn read_entry<S: Source>(
+    source: &mut S,
+    place: u64,
+    listed: Listed,
+) -> Result<Found<Awaited, ImageSize>, Halt>
+    requires { listed.seen ≤ listed.count }
+    ensures nears { IfOk result (λ found. Nears (S.state source.old) (S.state source.new) place (said_at place found)) }
+    ensures steady { IfOk result (λ found. StaysSteady (said_at place found)) }
+    ensures runs { Follows (S.state source.old) (S.state source.new) (map_answer (said_at place) result) (step (awaited.Entry listed) place) }
+{
+    match listed.header.version {
+        Version::Tiff => read_entry_of::<S, 8, 4>(source, place, listed),
+        Version::BigTiff => read_entry_of::<S, 12, 8>(source, place, listed),
+    }
+}
+
+// The same, by how many bytes the head and the value of an entry have.
+fn read_entry_of<S: Source, const HEAD: usize, const VALUE: usize>(
+    source: &mut S,
+    place: u64,
+    listed: Listed,
+) -> Result<Found<Awaited, ImageSize>, Halt>
+    requires few { listed.seen ≤ listed.count }
+    requires head { HEAD ≡ head_bytes listed.header.version }
+    requires value { VALUE ≡ value_bytes listed.header.version }
+    ensures nears { IfOk result (λ found. Nears (S.state source.old) (S.state source.new) place (said_at place found)) }
+    ensures steady { IfOk result (λ found. StaysSteady (said_at place found)) }
+    ensures runs { Follows (S.state source.old) (S.state source.new) (map_answer (said_at place) result) (step (awaited.Entry listed) place) }
+{
+    let Listed {
+        header,
+        count,
+        seen,
+        width,
+        height,
+    } = listed;
+    let mut entries = Entries::<HEAD, VALUE> {
+        header,
+        count,
+        seen,
+        width,
+        height,
+    };
+    match entries.read_next(source, place)? {
+        Found::Answer(size) => Ok(Found::Answer(size)),
+        Found::Other { length, .. } => {
+            let held = Awaited::Entry(Listed {
+                header,
+                count,
+                seen: entries.seen,
+                width: entries.width,
+                height: entries.height,
+            });
+            Ok(Found::Other { held, length })
+        }
+    }
 }

@@ -3,7 +3,7 @@ ghost use Rattle.std.specs.Prelude.{◌≡◌};
 ghost use Rattle.imagesize_source.specs.Layout.Layout.{refuse};
 ghost use Rattle.imagesize_fixed.specs.Tga.{tga, tga_by_header};
 ghost use Rattle.imagesize_source.specs.State.{Follows};
-ghost use Rattle.imagesize_stream.specs.Streamed.{first_layout, open_exr, open_hdr, opening, opens};
+ghost use Rattle.imagesize_stream.specs.Streamed.{first_layout, open_exr, open_hdr, open_ico, open_tiff, opening, opens};
 
 use crate::awaited::Awaited;
 use imagesize::ImageType;
@@ -14,12 +14,13 @@ use imagesize_fixed::formats::{
     aseprite, astc, bmp, farbfeld, gif, ktx2, psd, qoi, tga, vtf, webp,
 };
 use imagesize_pieces::front::Fixed;
-use imagesize_source::readings::{read_exact_at, read_u32};
+use imagesize_source::readings::{read_exact_at, read_u16, read_u32};
 use imagesize_source::source::Source;
 use imagesize_source::{Endian, Halt};
 use imagesize_texts::formats::exr::name_room;
 use imagesize_texts::formats::hdr::read_identifier;
 use imagesize_types::size::ImageSize;
+use imagesize_walked::formats::tiff::read_header;
 
 /// What the first bytes say of the type.
 #[derive(Drop)]
@@ -88,7 +89,7 @@ impl Fixed for FirstSize {
             ImageType::Gif => Ok(Opening::Size(gif::size(source)?)),
             ImageType::Hdr => open_hdr(source),
             ImageType::Heif(_) => refused(source),
-            ImageType::Ico => refused(source),
+            ImageType::Ico => open_ico(source),
             ImageType::Ilbm => open_at(source, Awaited::Chunk, 12),
             ImageType::Jpeg => open_at(source, Awaited::Segment { depth: 0 }, 2),
             ImageType::Jxl => refused(source),
@@ -98,7 +99,7 @@ impl Fixed for FirstSize {
             ImageType::Psd => Ok(Opening::Size(psd::size(source)?)),
             ImageType::Qoi => Ok(Opening::Size(qoi::size(source)?)),
             ImageType::Tga => Ok(Opening::Size(tga::size(source)?)),
-            ImageType::Tiff => refused(source),
+            ImageType::Tiff => open_tiff(source),
             ImageType::Vtf => Ok(Opening::Size(vtf::size(source)?)),
             ImageType::Webp => Ok(Opening::Size(webp::size(source)?)),
         }
@@ -166,6 +167,32 @@ fn open_hdr<S: Source>(source: &mut S) -> Result<Opening, Halt>
     Ok(Opening::Records {
         next: Awaited::Line,
         place,
+    })
+}
+
+#[tactic(auto, using(imagesize_source::proofs::Runs::steps))]
+fn open_ico<S: Source>(source: &mut S) -> Result<Opening, Halt>
+    ensures { Follows (S.state source.old) (S.state source.new) result open_ico }
+{
+    let count = read_u16(source, 4, Endian::Little)?;
+    Ok(Opening::Records {
+        next: Awaited::Icon {
+            count,
+            seen: 0,
+            largest: None,
+        },
+        place: 6,
+    })
+}
+
+#[tactic(auto, using(imagesize_source::proofs::Runs::steps, imagesize_source::proofs::Layouts::binding))]
+fn open_tiff<S: Source>(source: &mut S) -> Result<Opening, Halt>
+    ensures { Follows (S.state source.old) (S.state source.new) result open_tiff }
+{
+    let header = read_header(source)?;
+    Ok(Opening::Records {
+        next: Awaited::Directory { header },
+        place: header.directory,
     })
 }
 
