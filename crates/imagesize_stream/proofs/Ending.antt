@@ -1,5 +1,5 @@
 -- How a probe ends: what it tells where all bytes came.
-use Rattle.std.proofs.Common.{◌≡◌, ℕ, ◌+◌, ◌-◌, ◌<◌, ◌≤◌, List, [], ◌∷◌, ◌++◌, length, min, take, Option, None, Some, Result, Ok, Err, refl, sym, ap, ◌∙◌, subst, arith}
+use Rattle.std.proofs.Common.{◌≡◌, ℕ, ◌+◌, ◌-◌, ◌<◌, ◌≤◌, List, [], ◌∷◌, ◌++◌, length, min, take, Option, None, Some, Result, Ok, Err, IfSome, refl, sym, ap, ◌∙◌, subst, arith}
 use Rattle.std.proofs.lemmas.List.{append-nil, length-append, length-take, take_all}
 use Rattle.std.specs.Result.{result_ok}
 use Rattle.imagesize.specs.Meaning.{kind_reads, meaning_reads}
@@ -91,3 +91,24 @@ rests_cut front chunk cut passed told many is rests =
 pub rests_below : (front chunk : List ℕ) (told : ℕ) → RestsOnMore (front ++ chunk) told → (d : List ℕ) → Begins (front ++ chunk) told d → length d ≡ told
     → AllBelow (length front + length chunk) (meaning_reads d 0).marks → ⊥
 rests_below front chunk told rests d begins as_long below = rests d begins as_long (λ p here. omega (arith, below p here, length-append front chunk))
+
+-- the same of a later stage
+pub awaiting_as : {P : Type 0} (stage other : Stage) → stage ≡ other → IfAwaiting other P → IfAwaiting stage P
+awaiting_as {P} stage other is p = subst (λ s. IfAwaiting s P) (sym is) p
+
+-- whether or not there is an answer
+pub tells_all : (kind : Option ImageType) (stage : Stage) (start place passed told was : ℕ) (room front : List ℕ)
+    (answer : Option (Option ImageType × Result ImageSize ImageError)) → answer ≡ stage_answer kind stage → told ≡ was
+    → CameBy stage kind start place passed told room front
+    → IfSome answer (λ a. (d : List ℕ) → Begins front was d → (a.0 ≡ result_ok (stated (kind_reads d 0).answer)) × (a.1 ≡ stated (meaning_reads d 0).answer))
+tells_all kind stage start place passed told was room front None is same came = tt
+tells_all kind stage start place passed told was room front (Some answer) is same came =
+    λ d begins. tells kind stage start place passed told room front d answer is came (subst (λ k. Begins front k d) (sym same) begins)
+
+-- the answer where no more bytes come
+pub finished : (kind : Option ImageType) (stage : Stage) (start place passed told : ℕ) (room front none : List ℕ)
+    (answer : Option ImageType × Result ImageSize ImageError) → Some answer ≡ stage_answer kind stage
+    → CameBy stage kind start place passed told room (front ++ none) → length none ≡ 0 → length front ≤ told
+    → (answer.0 ≡ result_ok (stated (kind_reads front 0).answer)) × (answer.1 ≡ stated (meaning_reads front 0).answer)
+finished kind stage start place passed told room front none answer is came empty fits =
+    tells kind stage start place passed told room (front ++ none) front answer is came (begins_whole front none told empty fits)

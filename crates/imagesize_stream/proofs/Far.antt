@@ -1,5 +1,5 @@
 -- How far the record that is awaited is read.
-use Rattle.std.proofs.Common.{◌≡◌, ℕ, ◌+◌, ◌≤◌, Bool, true, false, ◌&&◌, cond, eqb, List, length, slice_index, take, Option, None, Some, Result, Ok, refl, arith}
+use Rattle.std.proofs.Common.{◌≡◌, ℕ, ◌+◌, ◌≤◌, Bool, true, false, ◌&&◌, cond, eqb, List, length, slice_index, take, Option, None, Some, Result, Ok, Err, refl, arith}
 use Rattle.std.specs.Str.{trim}
 use Rattle.imagesize_pieces.proofs.Reaching.{reach_accept, reach_bind, reach_if}
 use Rattle.imagesize_pieces.specs.Stream.{Reach}
@@ -7,9 +7,9 @@ use Rattle.imagesize_source.specs.Chain.{Said, Decided, Next}
 use Rattle.imagesize_source.specs.Layout.{Layout, accept, bind, bytes, if_there, whole}
 use Rattle.imagesize_source.specs.Layout.Layout.{refuse, «done»}
 use Rattle.imagesize_source.specs.declared.halt.Halt.TheVariants.{Corrupted, DataWindowNotFound, NoDimensionsInIfd}
-use Rattle.imagesize_stream.specs.Steps.{after, decides, listed_with, names_of, step}
+use Rattle.imagesize_stream.specs.Steps.{after, decides, ipco_leads, iprp_leads, listed_with, meta_leads, names_of, property_step, step}
 use Rattle.imagesize_stream.specs.declared.awaited.Awaited.{Awaited}
-use Rattle.imagesize_stream.specs.declared.awaited.Awaited.TheVariants.{Attribute, Chunk, Directory, Entry, Icon, Line, Segment, Word}
+use Rattle.imagesize_stream.specs.declared.awaited.Awaited.TheVariants.{Attribute, Chunk, Directory, Entry, Icon, Ipco, Iprp, Line, Meta, Property, Segment, Word}
 use Rattle.imagesize_texts.proofs.Texts.{length_ok, line_ok, word_ok}
 use Rattle.imagesize_texts.specs.Contents.{WordRead, line_length, line_text, number_text, word_text}
 use Rattle.imagesize_texts.specs.Exr.{exr_attribute, exr_named, exr_typed, exr_value, exr_window, is_box, is_data_window, window_size}
@@ -19,6 +19,13 @@ use Rattle.imagesize_texts.specs.Texts.{line_at, passed_line, word}
 use Rattle.imagesize_types.specs.declared.size.ImageSize.{ImageSize}
 use Rattle.imagesize_walked.specs.Ilbm.{bitmap_header, chunk_bytes, chunk_length, ilbm_chunk, ilbm_named, is_bitmap_header, is_body}
 use Rattle.imagesize_walked.specs.Jpeg.{is_own_end, is_own_frame, jpeg_frame, jpeg_marked, jpeg_other, jpeg_segment}
+use Rattle.imagesize_boxes.proofs.Heif.{by_found, by_searched}
+use Rattle.imagesize_boxes.specs.Heif.{property_at, searched_box}
+use Rattle.imagesize_boxes.specs.Walks.{gathered_answer}
+use Rattle.imagesize_boxes.specs.declared.container.heif.FoundBox.{FoundBox}
+use Rattle.imagesize_boxes.specs.declared.container.heif.Gathered.{Gathered}
+use Rattle.imagesize_source.specs.declared.halt.Halt.{Halt}
+use Rattle.std.specs.Prelude.{codes}
 use Rattle.imagesize_types.specs.Largest.{later_largest}
 use Rattle.imagesize_walked.specs.Ico.{icon_answer, icon_entry, icon_in}
 use Rattle.imagesize_walked.specs.Tiff.{count_bytes, entry_behind, entry_bytes, entry_says, field_type_in, field_type_of, head_bytes, side_with, size_if_known, size_or_next, tiff_entry, tiff_head, tiff_value, value_bytes, whole_value}
@@ -161,6 +168,26 @@ listed_far header count seen width height place =
   says_far None entry = tt
   says_far (Some size) entry = tt
 
+box_far : (tag : List ℕ) (place : ℕ) → Reach place (place + 2048) (searched_box tag place)
+box_far tag place = (omega arith, omega arith, λ head few. by_searched (Reach place (place + 2048)) tag place head tt tt (λ big. tt))
+
+after_box : (place : ℕ) (next : Awaited) (leads : FoundBox → Layout (Said Awaited ImageSize)) → ((found : FoundBox) → Reach place (place + 2048) (leads found))
+    → (said : Said (Unit {0}) FoundBox) → Reach place (place + 2048) (after (λ _. next) leads said)
+after_box place next leads far (Decided found) = far found
+after_box place next leads far (Next v q) = tt
+
+accepted_far : (place : ℕ) (r : Result ImageSize Halt) → Reach place (place + 2048) (accept r decides)
+accepted_far place (Ok size) = tt
+accepted_far place (Err e) = tt
+
+property_far : (g : Gathered) (place : ℕ) → Reach place (place + 2048) (bind (property_at g.left place) (property_step g place))
+property_far g place = (
+  omega arith,
+  omega arith,
+  λ bs few. by_found (λ t. Reach place (place + 2048) (bind t (property_step g place))) g.left place (whole 8 bs) (accepted_far place (gathered_answer g)) tt
+      (omega arith, omega arith, λ content short. tt) (omega arith, omega arith, λ content short. tt) (λ size big. tt),
+)
+
 pub step_far : (next : Awaited) (place : ℕ) → Reach place (place + 2048) (step next place)
 step_far (Segment depth) place = reach_bind place (place + 2048) (jpeg_segment depth place) _ (segment_far depth place)
     (after_size place (place + 2048) (λ marker. Segment (depth_behind depth marker)))
@@ -173,4 +200,11 @@ step_far (Icon count seen largest) place = reach_bind place (place + 2048) (icon
 step_far (Directory header) place = (omega arith, omega (arith, (head_few header.version).2), λ count. tt)
 step_far (Entry l) place = reach_bind place (place + 2048) (entry_behind l.header l.count l.seen l.width l.height place) _
     (listed_far l.header l.count l.seen l.width l.height place) (after_size place (place + 2048) (λ entry. Entry (listed_with l entry)))
+step_far Meta place = reach_bind place (place + 2048) (searched_box (codes "meta") place) _ (box_far (codes "meta") place)
+    (after_box place Meta (meta_leads place) (λ found. (omega arith, omega arith, λ version few. tt)))
+step_far Iprp place = reach_bind place (place + 2048) (searched_box (codes "iprp") place) _ (box_far (codes "iprp") place)
+    (after_box place Iprp (iprp_leads place) (λ found. tt))
+step_far Ipco place = reach_bind place (place + 2048) (searched_box (codes "ipco") place) _ (box_far (codes "ipco") place)
+    (after_box place Ipco (ipco_leads place) (λ found. tt))
+step_far (Property g) place = property_far g place
 step_far Word place = reach_bind place (place + 2048) (word place (pnm_word place)) _ (pnm_far place) (after_size place (place + 2048) (λ _. Word))

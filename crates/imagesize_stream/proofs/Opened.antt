@@ -1,8 +1,8 @@
 -- The size of an image by its first bytes, and by the records behind them.
-use Rattle.std.proofs.Common.{◌≡◌, ℕ, ◌+◌, ◌<◌, Bool, true, false, ltb, cond, eqb, List, [], ◌∷◌, ◌++◌, length, Option, None, slice_index, Result, Ok, Err, refl, sym, ap, ◌∙◌, subst, arith}
+use Rattle.std.proofs.Common.{◌≡◌, ℕ, ◌+◌, ◌<◌, Bool, true, false, ltb, cond, eqb, List, [], ◌∷◌, ◌++◌, length, Option, None, Some, slice_index, Result, Ok, Err, refl, sym, ap, ◌∙◌, subst, arith}
 use Rattle.std.proofs.lemmas.Bool.Decides.{nat_tests}
 use Rattle.std.proofs.lemmas.List.{length_push}
-use Rattle.std.specs.Prelude.{bit_and}
+use Rattle.std.specs.Prelude.{bit_and, codes}
 use Rattle.imagesize.specs.Meaning.{size_reads}
 use Rattle.imagesize.specs.declared.types.ImageType.{ImageType}
 use Rattle.imagesize.specs.declared.types.ImageType.TheVariants.{Aseprite, Astc, Atc, Bmp, Dds, Eac, Etc2, Exr, Farbfeld, Gif, Hdr, Heif, Ico, Ilbm, Jpeg, Jxl, Ktx2, Pnm, Pvrtc, Psd, Qoi, Tga, Tiff, Vtf, Webp}
@@ -23,25 +23,25 @@ use Rattle.imagesize_fixed.specs.Vtf.{vtf}
 use Rattle.imagesize_fixed.specs.Webp.{webp}
 use Rattle.imagesize_source.specs.Chain.{Said, Decided, Next, Chain, Advances, chain_at, start}
 use Rattle.imagesize_source.specs.Input.{span_of}
-use Rattle.imagesize_source.specs.Layout.{Layout, bind, layout_reads}
+use Rattle.imagesize_source.specs.Layout.{Layout, accept, bind, layout_reads}
 use Rattle.imagesize_source.specs.Layout.Layout.{field, reading, refuse, «done»}
-use Rattle.imagesize_source.specs.Reading.{Reads, and_then, gives, go_on, number_at, read_of}
-use Rattle.imagesize_source.specs.declared.endian.Endian.TheVariants.{Little}
+use Rattle.imagesize_source.specs.Reading.{Reads, and_then, bytes_at, gives, go_on, map_answer, number_at, read_of}
+use Rattle.imagesize_source.specs.declared.endian.Endian.TheVariants.{Big, Little}
 use Rattle.imagesize_source.specs.declared.halt.Halt.{Halt}
 use Rattle.imagesize_source.specs.declared.halt.Halt.TheVariants.{Corrupted}
 use Rattle.imagesize_source.specs.declared.span.Span.{Span}
 use Rattle.imagesize_source.proofs.Layouts.{onward-and_then, over-bind}
 use Rattle.imagesize_source.proofs.Tests.{on_test}
-use Rattle.imagesize_stream.specs.Steps.{after, decides, listed_with, names_of, step}
-use Rattle.imagesize_stream.specs.Streamed.{open_exr, open_hdr, open_ico, open_tiff, opening, opens, sized}
+use Rattle.imagesize_stream.specs.Steps.{after, decides, gathered_first, ipco_leads, iprp_leads, listed_with, meta_leads, names_of, property_step, step}
+use Rattle.imagesize_stream.specs.Streamed.{open_exr, open_hdr, open_heif, open_ico, open_tiff, opening, opens, sized}
 use Rattle.imagesize_stream.specs.declared.awaited.Awaited.{Awaited}
-use Rattle.imagesize_stream.specs.declared.awaited.Awaited.TheVariants.{Attribute, Chunk, Directory, Entry, Icon, Line, Segment, Word}
+use Rattle.imagesize_stream.specs.declared.awaited.Awaited.TheVariants.{Attribute, Chunk, Directory, Entry, Icon, Ipco, Iprp, Line, Meta, Property, Segment, Word}
 use Rattle.imagesize_stream.specs.declared.awaited.Listed.{Listed}
 use Rattle.imagesize_stream.specs.declared.front.Opening.{Opening}
 use Rattle.imagesize_stream.specs.declared.front.Opening.TheVariants as opened
 use Rattle.imagesize_stream.proofs.Firsts.{seen_from}
 use Rattle.imagesize_stream.proofs.Saying.{Saying, saying}
-use Rattle.imagesize_stream.proofs.Running.{as_awaited, by_size, goes, run, run_unfolds}
+use Rattle.imagesize_stream.proofs.Running.{as_awaited, by_size, goes, on_answer, run, run_unfolds}
 use Rattle.imagesize_texts.proofs.Exr.{attribute_advances}
 use Rattle.imagesize_texts.proofs.Hdr.{hdr_advances}
 use Rattle.imagesize_texts.proofs.Pnm.{pnm_advances}
@@ -54,6 +54,12 @@ use Rattle.imagesize_walked.proofs.Ilbm.{ilbm_advances}
 use Rattle.imagesize_walked.proofs.Jpeg.{jpeg_advances, nested_on}
 use Rattle.imagesize_walked.specs.Ilbm.{ilbm, ilbm_chunk, ilbm_chunks}
 use Rattle.imagesize_walked.specs.Jpeg.{depth, is_own_end, is_own_frame, jpeg, jpeg_frame, jpeg_marked, jpeg_other, jpeg_segment, jpeg_segments}
+use Rattle.imagesize_boxes.proofs.Heif.{amounts_on, answer_read, answers, by_searched, properties_advance, search_advances}
+use Rattle.imagesize_boxes.specs.Heif.{heif as heif_reads, heif_in_iprp, heif_in_meta, properties, property_at, property_bytes, property_or_answer, search_for, searched_box}
+use Rattle.imagesize_boxes.specs.Walks.{Amounts, gathered_answer, gathered_with}
+use Rattle.imagesize_boxes.specs.declared.container.heif.FoundBox.{FoundBox}
+use Rattle.imagesize_boxes.specs.declared.container.heif.Gathered.{Gathered}
+use Rattle.imagesize_boxes.specs.declared.container.heif.Property as heif
 use Rattle.imagesize_types.specs.Largest.{area_if_some, greatest_area, last_largest, later_largest}
 use Rattle.imagesize_walked.proofs.Ico.{icon_advances, largest_on}
 use Rattle.imagesize_walked.proofs.Tiff.{entries_advance, entry_as, known_on}
@@ -186,6 +192,93 @@ tiff_as d =
     (tiff_directory d) (λ header. sym (directory_as header d))
     ∙ ap (λ r. and_then r (opened_rest d)) (sym (over-bind d tiff_header (λ header. opens (Directory header) header.directory)))
 
+-- a search finds a box at its own place
+abbrev AtPlace : ℕ → Said (Unit {0}) FoundBox → Type 0
+AtPlace place (Decided found) = found.place ≡ place
+AtPlace place (Next v q) = Unit {0}
+
+box_placed : (tag : List ℕ) (place : ℕ) → Saying (AtPlace place) (searched_box tag place)
+box_placed tag place head = by_searched (Saying (AtPlace place)) tag place head refl tt (λ big. tt)
+
+-- A search: what goes on behind its box.
+search_as : (next : Awaited) (tag : List ℕ) (leads : ℕ → FoundBox → Layout (Said Awaited ImageSize))
+    → ((place : ℕ) → step next place ≡ bind (searched_box tag place) (after (λ _. next) (leads place))) → (first : ℕ) (d : List ℕ)
+    → run next first d ≡ and_then (chain_at (search_for tag first) d) (λ found. and_then (layout_reads d (leads found.place found)) (goes d))
+search_as next tag leads is first d =
+    as_awaited {T = Unit {0}} (search_for tag first) (λ _. next) (λ _ _. tt) (λ found. leads found.place found) (λ _ _. Unit {0})
+    (λ e held x place known. ap (layout_reads e) (is place) ∙ over-bind e (searched_box tag place) (after (λ _. next) (leads place))
+    ∙ on_answer (layout_reads e (searched_box tag place)).marks (layout_reads e (searched_box tag place)).answer
+    (λ said. layout_reads e (after (λ _. next) (leads place) said)) (λ said. layout_reads e (after (λ _. next) (λ found. leads found.place found) said))
+    (led e place))
+    (λ e held x place v q known got. tt) d (search_advances tag first d) (start (search_for tag first)) tt tt
+  where
+    led : (e : List ℕ) (place : ℕ) (said : Said (Unit {0}) FoundBox) → (layout_reads e (searched_box tag place)).answer ≡ Ok said
+        → layout_reads e (after (λ _. next) (leads place) said) ≡ layout_reads e (after (λ _. next) (λ found. leads found.place found) said)
+    led e place (Decided found) got =
+        ap (λ p. layout_reads e (leads p found)) (sym (saying (AtPlace place) e (searched_box tag place) (Decided found) (box_placed tag place) got))
+    led e place (Next v q) got = refl
+
+properties_as : (all first : ℕ) (d : List ℕ) → run (Property (gathered_first all)) first d ≡ chain_at (properties all first) d
+properties_as all first d =
+    as_awaited (properties all first) Property gathered_with decides (λ held g. Amounts all g held)
+    (λ e held g place known.
+    over-bind e (property_at g.left place) (property_step g place)
+    ∙ onward-and_then (layout_reads e (property_at g.left place)).marks (layout_reads e (property_at g.left place)).answer
+    (λ found. layout_reads e (property_or_answer held place found)) (λ said. layout_reads e (after (λ p. Property (gathered_with g p)) decides said))
+    (λ found. layout_reads e (property_step g place found)) (listed e held g place known)
+    ∙ ap (λ r. and_then r (λ said. layout_reads e (after (λ p. Property (gathered_with g p)) decides said)))
+    (sym (over-bind e (property_at g.left place) (property_or_answer held place))
+    ∙ ap (λ n. layout_reads e (bind (property_at n place) (property_or_answer held place))) (sym known.left)))
+    (λ e held g place v q known got. amounts_on all g held v known)
+    d (properties_advance all first d) (start (properties all first)) (gathered_first all) (record {
+      left = omega arith;
+      best = record { is = refl; first = refl; area = refl; found = λ some. absurd (omega arith) };
+      turn = refl;
+    })
+    ∙ by_size d (chain_at (properties all first) d)
+  where
+    decided : (e : List ℕ) (g : Gathered) (r : Result ImageSize Halt)
+        → layout_reads e (accept r decides) ≡ and_then (record { answer = map_answer {Y = Said heif.Property ImageSize} Decided r; marks = [] })
+        (λ said. layout_reads e (after (λ p. Property (gathered_with g p)) decides said))
+    decided e g (Ok size) = refl
+    decided e g (Err halt) = refl
+
+    listed : (e : List ℕ) (held : List heif.Property) (g : Gathered) (place : ℕ) → Amounts all g held → (found : Option heif.Property)
+        → layout_reads e (property_step g place found) ≡ and_then (layout_reads e (property_or_answer held place found))
+        (λ said. layout_reads e (after (λ p. Property (gathered_with g p)) decides said))
+    listed e held g place known None =
+        decided e g (gathered_answer g)
+        ∙ ap (λ r. and_then r (λ said. layout_reads e (after (λ p. Property (gathered_with g p)) decides said)))
+        (sym (answers all g held place e known ∙ answer_read e g.best g.turn))
+    listed e held g place known (Some property) = refl
+
+ipco_as : (first : ℕ) (d : List ℕ) → run Ipco first d
+    ≡ and_then (chain_at (search_for (codes "ipco") first) d) (λ ipco. chain_at (properties ipco.size (ipco.place + 8)) d)
+ipco_as first d =
+    search_as Ipco (codes "ipco") ipco_leads (λ place. refl) first d
+    ∙ on_answer (chain_at (search_for (codes "ipco") first) d).marks (chain_at (search_for (codes "ipco") first) d).answer _ _
+    (λ ipco _. properties_as ipco.size (ipco.place + 8) d)
+
+iprp_as : (first : ℕ) (d : List ℕ) → run Iprp first d ≡ and_then (chain_at (search_for (codes "iprp") first) d) (λ iprp. heif_in_iprp iprp d)
+iprp_as first d =
+    search_as Iprp (codes "iprp") iprp_leads (λ place. refl) first d
+    ∙ on_answer (chain_at (search_for (codes "iprp") first) d).marks (chain_at (search_for (codes "iprp") first) d).answer _ _
+    (λ iprp _. ipco_as (iprp.place + 8) d)
+
+in_meta_as : (meta : FoundBox) (d : List ℕ) → and_then (layout_reads d (meta_leads meta.place meta)) (goes d) ≡ heif_in_meta meta d
+in_meta_as meta d = sym (onward-and_then (span_of d (meta.place + 8) 4) (bytes_at d (meta.place + 8) 4) (λ version. gives (Next Iprp (meta.place + 12))) (goes d)
+    (λ version. and_then (chain_at (search_for (codes "iprp") (meta.place + 12)) d) (λ iprp. heif_in_iprp iprp d))
+    (λ version. sym (iprp_as (meta.place + 12) d)))
+
+meta_as : (first : ℕ) (d : List ℕ) → run Meta first d ≡ and_then (chain_at (search_for (codes "meta") first) d) (λ meta. heif_in_meta meta d)
+meta_as first d =
+    search_as Meta (codes "meta") meta_leads (λ place. refl) first d
+    ∙ on_answer (chain_at (search_for (codes "meta") first) d).marks (chain_at (search_for (codes "meta") first) d).answer _ _ (λ meta _. in_meta_as meta d)
+
+heif_as : (d : List ℕ) → heif_reads d ≡ and_then (layout_reads d open_heif) (opened_rest d)
+heif_as d = onward-and_then (span_of d 0 4) (number_at d Big 0 4) (λ first. gives (opened.Records Meta first)) (opened_rest d)
+    (λ first. and_then (chain_at (search_for (codes "meta") first) d) (λ meta. heif_in_meta meta d)) (λ first. sym (meta_as first d))
+
 pub opened_as : (type : ImageType) (d : List ℕ) → size_reads type d ≡ and_then (layout_reads d (opening type)) (opened_rest d)
 opened_as Aseprite d = sized_as d aseprite
 opened_as Astc d = sized_as d astc
@@ -198,7 +291,7 @@ opened_as Exr d = exr_as d
 opened_as Farbfeld d = sized_as d farbfeld
 opened_as Gif d = sized_as d gif
 opened_as Hdr d = hdr_as d
-opened_as (Heif _) d = ?
+opened_as (Heif _) d = heif_as d
 opened_as Ico d = ico_as d
 opened_as Ilbm d = sym (ilbm_as d)
 opened_as Jpeg d = sym (jpeg_as d)

@@ -1,16 +1,20 @@
 -- The chain of what is awaited: it advances, how far its records reach, and how it ends.
 use Rattle.std.proofs.Common.{◌≡◌, ℕ, ◌+◌, ◌<◌, ◌≤◌, Bool, true, false, cond, eqb, List, [], length, None, Result, Ok, Err, refl, sym, ap, ◌∙◌, arith}
-use Rattle.std.specs.Prelude.{ok_or}
+use Rattle.std.specs.Prelude.{codes, ok_or}
+use Rattle.imagesize_boxes.proofs.Heif.{by_found, by_searched, search_ends}
+use Rattle.imagesize_boxes.specs.Heif.{property_at, searched_box}
+use Rattle.imagesize_boxes.specs.Walks.{gathered_answer}
+use Rattle.imagesize_boxes.specs.declared.container.heif.Gathered.{Gathered}
 use Rattle.imagesize_source.specs.Chain.{Said, Decided, Next, Advances}
-use Rattle.imagesize_source.specs.Layout.{Layout, done, refuse, field, reading, bind, layout_reads}
+use Rattle.imagesize_source.specs.Layout.{Layout, accept, done, refuse, field, reading, bind, layout_reads, whole}
 use Rattle.imagesize_source.specs.Reading.{Reading, AllOf, PartOf, TextOf, Reads, and_then, map_answer, refuses}
 use Rattle.imagesize_source.specs.declared.halt.Halt.TheVariants.{Corrupted, Ended, NoDimensionsInIfd}
 use Rattle.imagesize_source.specs.declared.halt.Halt.{Halt}
 use Rattle.imagesize_source.proofs.Advances.{Begins, OrSome, Tells, advances}
-use Rattle.imagesize_source.proofs.Layouts.{over-bind}
-use Rattle.imagesize_stream.specs.Steps.{after, awaited_chain, decides, ends_with, last_awaited, listed_with, names_of, step}
+use Rattle.imagesize_source.proofs.Layouts.{no_part, no_span, over-bind}
+use Rattle.imagesize_stream.specs.Steps.{after, awaited_chain, decides, ends_with, ipco_leads, iprp_leads, last_awaited, listed_with, meta_leads, names_of, property_step, step}
 use Rattle.imagesize_stream.specs.declared.awaited.Awaited.{Awaited}
-use Rattle.imagesize_stream.specs.declared.awaited.Awaited.TheVariants.{Attribute, Chunk, Directory, Entry, Icon, Line, Segment, Word}
+use Rattle.imagesize_stream.specs.declared.awaited.Awaited.TheVariants.{Attribute, Chunk, Directory, Entry, Icon, Ipco, Iprp, Line, Meta, Property, Segment, Word}
 use Rattle.imagesize_stream.specs.declared.awaited.Listed.{Listed}
 use Rattle.imagesize_texts.specs.Exr.{exr_attribute}
 use Rattle.imagesize_texts.proofs.Exr.{attribute_begins, attribute_tells, exr_ends}
@@ -60,6 +64,13 @@ begins_behind on verdict q none (field order place k f) begins each = begins
 begins_behind on verdict q none (reading r place f) begins each =
     (begins.0, or_some r (tells_behind on verdict (λ _. ⊥) (λ y. none y (λ _. ⊥)) (f [])) begins.1)
 
+box_tells : (tag : List ℕ) (place : ℕ) → Tells (λ p. place < p) (searched_box tag place)
+box_tells tag place = λ head. by_searched (Tells (λ p. place < p)) tag place head tt tt (λ big. omega arith)
+
+accepted_tells : (P : ℕ → Type 0) (r : Result ImageSize Halt) → Tells P (accept r decides)
+accepted_tells P (Ok size) = tt
+accepted_tells P (Err e) = tt
+
 count_some : (version : Version) → 0 < count_bytes version
 count_some Tiff = omega arith
 count_some BigTiff = omega arith
@@ -74,6 +85,11 @@ step_tells (Icon count seen largest) place = tells_behind (λ size. Icon count (
 step_tells (Directory header) place = λ count. omega (arith, count_some header.version)
 step_tells (Entry l) place = tells_behind (λ entry. Entry (listed_with l entry)) decides _ (λ _. tt)
     (entry_behind l.header l.count l.seen l.width l.height place) (behind_tells l.header l.count l.seen l.width l.height place)
+step_tells Meta place = tells_behind (λ _. Meta) (meta_leads place) (λ p. place < p) (λ found version. omega arith) (searched_box (codes "meta") place) (box_tells (codes "meta") place)
+step_tells Iprp place = tells_behind (λ _. Iprp) (iprp_leads place) (λ p. place < p) (λ found. omega arith) (searched_box (codes "iprp") place) (box_tells (codes "iprp") place)
+step_tells Ipco place = tells_behind (λ _. Ipco) (ipco_leads place) (λ p. place < p) (λ found. omega arith) (searched_box (codes "ipco") place) (box_tells (codes "ipco") place)
+step_tells (Property g) place = λ bs. by_found (λ t. Tells (λ p. place < p) (bind t (property_step g place))) g.left place (whole 8 bs)
+    (accepted_tells (λ p. place < p) (gathered_answer g)) tt (λ content. omega arith) (λ content. omega arith) (λ size big. omega arith)
 step_tells Word place = tells_behind (λ _. Word) decides _ (λ _. tt) (word place (pnm_word place)) (pnm_tells place)
 
 step_begins : (next : Awaited) (place : ℕ) → Begins place (step next place)
@@ -86,6 +102,10 @@ step_begins (Icon count seen largest) place = begins_behind (λ size. Icon count
 step_begins (Directory header) place = (omega arith, count_some header.version)
 step_begins (Entry l) place = begins_behind (λ entry. Entry (listed_with l entry)) decides place (λ _ P. tt)
     (entry_behind l.header l.count l.seen l.width l.height place) (behind_begins l.header l.count l.seen l.width l.height place) (λ _. tt)
+step_begins Meta place = (omega arith, omega arith)
+step_begins Iprp place = (omega arith, omega arith)
+step_begins Ipco place = (omega arith, omega arith)
+step_begins (Property g) place = (omega arith, accepted_tells (λ _. ⊥) (gathered_answer g))
 step_begins Word place = begins_behind (λ _. Word) decides place (λ _ P. tt) (word place (pnm_word place)) (pnm_begins place) (λ _. tt)
 
 pub awaited_advances : (d : List ℕ) → Advances awaited_chain d
@@ -106,6 +126,14 @@ decided_behind : {C : Type 0} (d : List ℕ) (t : Layout (Said C ImageSize)) (on
 decided_behind d t on (Ok size) is = over-bind d t (after on decides) ∙ ap (λ r. and_then r (λ said. layout_reads d (after on decides said))) is
 decided_behind d t on (Err e) is = over-bind d t (after on decides) ∙ ap (λ r. and_then r (λ said. layout_reads d (after on decides said))) is
 
+accepted_ends : (d : List ℕ) (r : Result ImageSize Halt) → layout_reads d (accept r decides) ≡ record { answer = map_answer Decided r; marks = [] }
+accepted_ends d (Ok size) = refl
+accepted_ends d (Err e) = refl
+
+property_ends : (g : Gathered) (d : List ℕ) (place : ℕ) → length d ≤ place
+    → layout_reads d (bind (property_at g.left place) (property_step g place)) ≡ layout_reads d (accept (gathered_answer g) decides)
+property_ends g d place far = rw (no_part d place 8 far, no_span d place 8 far) refl
+
 listed_ends : (l : Listed) (all : Bool) → cond all (Err NoDimensionsInIfd) (Err Ended) ≡ map_answer {X = ImageSize} {Y = Said tiff.Entry ImageSize} Decided (cond all (Err NoDimensionsInIfd) (Err Ended))
 listed_ends l true = refl
 listed_ends l false = refl
@@ -124,4 +152,8 @@ step_ends (Directory header) d place far = number_beyond d header.order place (c
 step_ends (Entry l) d place far = decided_behind d (entry_behind l.header l.count l.seen l.width l.height place) (λ entry. Entry (listed_with l entry))
     (cond (eqb l.seen l.count) (Err NoDimensionsInIfd) (Err Ended))
     (behind_ends l.header l.count l.seen l.width l.height d place far ∙ ap (λ r. record { answer = r; marks = [] }) (listed_ends l (eqb l.seen l.count)))
+step_ends Meta d place far = refused_behind d (searched_box (codes "meta") place) _ (search_ends (codes "meta") d place far)
+step_ends Iprp d place far = refused_behind d (searched_box (codes "iprp") place) _ (search_ends (codes "iprp") d place far)
+step_ends Ipco d place far = refused_behind d (searched_box (codes "ipco") place) _ (search_ends (codes "ipco") d place far)
+step_ends (Property g) d place far = property_ends g d place far ∙ accepted_ends d (gathered_answer g)
 step_ends Word d place far = refused_behind d (word place (pnm_word place)) _ (pnm_ends d place far)

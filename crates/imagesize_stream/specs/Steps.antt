@@ -1,16 +1,21 @@
 -- What a stream awaits of an image whose size is behind records: the record that is next, as one chain for all formats.
-use Rattle.std.specs.Prelude.{◌≡◌, ℕ, ◌+◌, ◌<◌, ◌≤◌, ◌==◌, Bool, true, false, List, [], ◌∷◌, Option, None, Some, Result, Ok, Err, ok_or, unwrap_or, if◌then◌else◌}
+use Rattle.std.specs.Prelude.{◌≡◌, ℕ, ◌+◌, ◌<◌, ◌≤◌, ◌==◌, Bool, true, false, List, [], ◌∷◌, Option, None, Some, Result, Ok, Err, codes, ok_or, unwrap_or, if◌then◌else◌}
 use Rattle.std.specs.Coded.{Unit-prop, le_prop, ×_prop}
 use Rattle.std.specs.List.{last_or}
 use Rattle.imagesize_source.specs.Chain.{Said, Decided, Next, Chain}
-use Rattle.imagesize_source.specs.Layout.{Layout, bind}
+use Rattle.imagesize_source.specs.Layout.{Layout, accept, bind, bytes}
 use Rattle.imagesize_source.specs.Layout.Layout.{field, «done»}
 use Rattle.imagesize_source.specs.declared.halt.Halt.{Halt}
 use Rattle.imagesize_source.specs.declared.halt.Halt.TheVariants.{Corrupted, Ended, NoDimensionsInIfd}
 use Rattle.imagesize_source.specs.Walk.{chain_of}
 use Rattle.imagesize_stream.specs.declared.awaited.Awaited.{Awaited}
-use Rattle.imagesize_stream.specs.declared.awaited.Awaited.TheVariants.{Attribute, Chunk, Directory, Entry, Icon, Line, Segment, Word}
+use Rattle.imagesize_stream.specs.declared.awaited.Awaited.TheVariants.{Attribute, Chunk, Directory, Entry, Icon, Ipco, Iprp, Line, Meta, Property, Segment, Word}
 use Rattle.imagesize_stream.specs.declared.awaited.Listed.{Listed}
+use Rattle.imagesize_boxes.specs.Heif.{property_at, property_bytes, searched_box}
+use Rattle.imagesize_boxes.specs.Walks.{gathered_answer, gathered_with}
+use Rattle.imagesize_boxes.specs.declared.container.heif.FoundBox.{FoundBox}
+use Rattle.imagesize_boxes.specs.declared.container.heif.Gathered.{Gathered}
+use Rattle.imagesize_boxes.specs.declared.container.heif.Property as heif
 use Rattle.imagesize_texts.specs.Exr.{exr_attribute}
 use Rattle.imagesize_texts.specs.Hdr.{hdr_line}
 use Rattle.imagesize_texts.specs.Pnm.{pnm_word}
@@ -40,6 +45,24 @@ names_of long = if long then 256 else 32
 abbrev pub listed_with : Listed → tiff.Entry → Listed
 listed_with l entry = record l { seen = l.seen + 1; width = side_with 0x100 l.width entry; height = side_with 0x101 l.height entry }
 
+-- what goes on from the boxes of a HEIF that are found
+abbrev pub meta_leads : ℕ → FoundBox → Layout (Said Awaited ImageSize)
+meta_leads place meta = bytes (place + 8) 4 (λ version. done (Next Iprp (place + 12)))
+
+abbrev pub iprp_leads : ℕ → FoundBox → Layout (Said Awaited ImageSize)
+iprp_leads place iprp = done (Next Ipco (place + 8))
+
+abbrev pub gathered_first : ℕ → Gathered
+gathered_first all = record { left = all; best = None; turn = None }
+
+abbrev pub ipco_leads : ℕ → FoundBox → Layout (Said Awaited ImageSize)
+ipco_leads place ipco = done (Next (Property (gathered_first ipco.size)) (place + 8))
+
+-- a property of a HEIF, behind those that amount to this
+abbrev pub property_step : Gathered → ℕ → Option heif.Property → Layout (Said Awaited ImageSize)
+property_step g place None = accept (gathered_answer g) decides
+property_step g place (Some property) = done (Next (Property (gathered_with g property)) (place + property_bytes property))
+
 -- the layout of the record that is awaited at a place
 abbrev pub step : Awaited → ℕ → Layout (Said Awaited ImageSize)
 step (Segment depth) place = bind (jpeg_segment depth place) (after (λ marker. Segment (depth_behind depth marker)) decides)
@@ -53,6 +76,11 @@ step (Icon count seen largest) place =
 step (Directory header) place = field header.order place (count_bytes header.version)
     (λ count. done (Next (Entry (record { header = header; count = count; seen = 0; width = None; height = None })) (place + count_bytes header.version)))
 step (Entry l) place = bind (entry_behind l.header l.count l.seen l.width l.height place) (after (λ entry. Entry (listed_with l entry)) decides)
+
+step Meta place = bind (searched_box (codes "meta") place) (after (λ _. Meta) (meta_leads place))
+step Iprp place = bind (searched_box (codes "iprp") place) (after (λ _. Iprp) (iprp_leads place))
+step Ipco place = bind (searched_box (codes "ipco") place) (after (λ _. Ipco) (ipco_leads place))
+step (Property g) place = bind (property_at g.left place) (property_step g place)
 
 -- a record holds what is awaited behind it
 abbrev pub last_awaited : List Awaited → Awaited
@@ -73,6 +101,10 @@ ends_with Line = Err Ended
 ends_with Word = Err Ended
 ends_with (Icon count seen largest) = ok_or largest Corrupted
 ends_with (Directory header) = Err Ended
+ends_with Meta = Err Ended
+ends_with Iprp = Err Ended
+ends_with Ipco = Err Ended
+ends_with (Property g) = gathered_answer g
 ends_with (Entry l) = if l.seen == l.count then Err NoDimensionsInIfd else Err Ended
 
 -- no side of the largest icon is above 256 pixels
@@ -94,6 +126,10 @@ IsSteady Word place = Unit {0}
 IsSteady (Icon count seen largest) place = (seen ≤ count) × IsSmall largest
 IsSteady (Directory header) place = Unit {0}
 IsSteady (Entry l) place = l.seen ≤ l.count
+IsSteady Meta place = Unit {0}
+IsSteady Iprp place = Unit {0}
+IsSteady Ipco place = Unit {0}
+IsSteady (Property g) place = Unit {0}
 
 pub steady_prop : (next : Awaited) (place : ℕ) → IsProp (IsSteady next place)
 steady_prop (Segment depth) place = le_prop
@@ -104,6 +140,10 @@ steady_prop Word place = Unit-prop
 steady_prop (Icon count seen largest) place = ×_prop le_prop (small_prop largest)
 steady_prop (Directory header) place = Unit-prop
 steady_prop (Entry l) place = le_prop
+steady_prop Meta place = Unit-prop
+steady_prop Iprp place = Unit-prop
+steady_prop Ipco place = Unit-prop
+steady_prop (Property g) place = Unit-prop
 
 -- and of the one behind
 abbrev pub StaysSteady : Said Awaited ImageSize → Type 0

@@ -22,10 +22,10 @@ use Rattle.imagesize_fixed.specs.Webp.{webp}
 use Rattle.imagesize_source.specs.Layout.{Layout, bind, bytes, layout_reads}
 use Rattle.imagesize_source.specs.Layout.Layout.{field, refuse, «done»}
 use Rattle.imagesize_source.specs.Reading.{Reads, gives}
-use Rattle.imagesize_source.specs.declared.endian.Endian.TheVariants.{Little}
+use Rattle.imagesize_source.specs.declared.endian.Endian.TheVariants.{Big, Little}
 use Rattle.imagesize_source.specs.declared.halt.Halt.TheVariants.{Corrupted, NotSupported}
 use Rattle.imagesize_stream.specs.declared.awaited.Awaited.{Awaited}
-use Rattle.imagesize_stream.specs.declared.awaited.Awaited.TheVariants.{Attribute, Chunk, Directory, Icon, Line, Segment, Word}
+use Rattle.imagesize_stream.specs.declared.awaited.Awaited.TheVariants.{Attribute, Chunk, Directory, Icon, Line, Meta, Segment, Word}
 use Rattle.imagesize_stream.specs.declared.front.First.{First}
 use Rattle.imagesize_stream.specs.declared.front.First.TheVariants as first
 use Rattle.imagesize_stream.specs.declared.front.Opening.{Opening}
@@ -63,6 +63,10 @@ open_exr = field Little 4 4 (λ version. opens (Attribute (nat_lt 32 (name_room 
 abbrev pub open_hdr : Layout Opening
 open_hdr = bind hdr_identifier (λ first. opens Line first)
 
+-- the size of the first box
+abbrev pub open_heif : Layout Opening
+open_heif = field Big 0 4 (λ first. opens Meta first)
+
 -- the count of the icons
 abbrev pub open_ico : Layout Opening
 open_ico = field Little 4 2 (λ count. opens (Icon count 0 None) 6)
@@ -84,7 +88,7 @@ opening Exr = open_exr
 opening Farbfeld = sized farbfeld
 opening Gif = sized gif
 opening Hdr = open_hdr
-opening (Heif _) = refuse Corrupted
+opening (Heif _) = open_heif
 opening Ico = open_ico
 opening Ilbm = opens Chunk 12
 opening Jpeg = opens (Segment 0) 2

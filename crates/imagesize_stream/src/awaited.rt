@@ -9,6 +9,7 @@ ghost use Rattle.imagesize_stream.specs.Steps.{IsSmall, IsSteady, StaysSteady, a
 ghost use Rattle.imagesize_walked.specs.Tiff.{head_bytes, value_bytes};
 ghost use Rattle.imagesize_stream.specs.declared.awaited.Awaited.TheVariants as awaited;
 
+use imagesize_boxes::container::heif::{self, Gathered, read_box};
 use imagesize_source::readings::read_bytes;
 use imagesize_source::source::Source;
 use imagesize_source::walk::{Found, Records};
@@ -46,6 +47,14 @@ pub(crate) enum Awaited {
     Directory { header: Header },
     /// An entry of a TIFF.
     Entry(Listed),
+    /// A box of a HEIF, among which `meta` is searched for.
+    Meta,
+    /// A box in `meta`, among which `iprp` is searched for.
+    Iprp,
+    /// A box in `iprp`, among which `ipco` is searched for.
+    Ipco,
+    /// A property of a HEIF, behind those that amount to this.
+    Property(Gathered),
 }
 
 /// How many entries a TIFF has, how many were read, and the sides that these give.
@@ -84,6 +93,10 @@ impl Awaited {
             } => read_icon(source, place, count, seen, largest),
             Awaited::Directory { header } => read_directory(source, place, header),
             Awaited::Entry(listed) => read_entry(source, place, listed),
+            Awaited::Meta => read_meta(source, place),
+            Awaited::Iprp => read_iprp(source, place),
+            Awaited::Ipco => read_ipco(source, place),
+            Awaited::Property(gathered) => read_listed(source, place, gathered),
         }
     }
 
@@ -94,6 +107,7 @@ impl Awaited {
     {
         match self {
             Awaited::Icon { largest, .. } => largest.ok_or(Halt::Corrupted),
+            Awaited::Property(gathered) => heif::answer(gathered),
             Awaited::Entry(listed) if listed.seen == listed.count => Err(Halt::NoDimensionsInIfd),
             _ => Err(Halt::Ended),
         }
@@ -321,4 +335,87 @@ fn read_entry_of<S: Source, const HEAD: usize, const VALUE: usize>(
             Ok(Found::Other { held, length })
         }
     }
+}
+
+#[tactic(auto, using(imagesize_source::proofs::Runs::steps, imagesize_source::proofs::Runs::missed_before, imagesize_source::proofs::Layouts::binding))]
+fn read_meta<S: Source>(source: &mut S, place: u64) -> Result<Found<Awaited, ImageSize>, Halt>
+    ensures nears { IfOk result (λ found. Nears (S.state source.old) (S.state source.new) place (said_at place found)) }
+    ensures steady { IfOk result (λ found. StaysSteady (said_at place found)) }
+    ensures runs { Follows (S.state source.old) (S.state source.new) (map_answer (said_at place) result) (step awaited.Meta place) }
+{
+    match read_box(source, place, b"meta")? {
+        Found::Answer(_) => {
+            heif::read_content::<S, 4>(source, place)?;
+            Ok(Found::Other {
+                held: Awaited::Iprp,
+                length: 12,
+            })
+        }
+        Found::Other { length, .. } => Ok(Found::Other {
+            held: Awaited::Meta,
+            length,
+        }),
+    }
+}
+
+#[tactic(auto, using(imagesize_source::proofs::Runs::steps, imagesize_source::proofs::Runs::missed_before, imagesize_source::proofs::Layouts::binding))]
+fn read_iprp<S: Source>(source: &mut S, place: u64) -> Result<Found<Awaited, ImageSize>, Halt>
+    ensures nears { IfOk result (λ found. Nears (S.state source.old) (S.state source.new) place (said_at place found)) }
+    ensures steady { IfOk result (λ found. StaysSteady (said_at place found)) }
+    ensures runs { Follows (S.state source.old) (S.state source.new) (map_answer (said_at place) result) (step awaited.Iprp place) }
+{
+    match read_box(source, place, b"iprp")? {
+        Found::Answer(_) => Ok(Found::Other {
+            held: Awaited::Ipco,
+            length: 8,
+        }),
+        Found::Other { length, .. } => Ok(Found::Other {
+            held: Awaited::Iprp,
+            length,
+        }),
+    }
+}
+
+#[tactic(auto, using(imagesize_source::proofs::Runs::steps, imagesize_source::proofs::Runs::missed_before, imagesize_source::proofs::Layouts::binding))]
+fn read_ipco<S: Source>(source: &mut S, place: u64) -> Result<Found<Awaited, ImageSize>, Halt>
+    ensures nears { IfOk result (λ found. Nears (S.state source.old) (S.state source.new) place (said_at place found)) }
+    ensures steady { IfOk result (λ found. StaysSteady (said_at place found)) }
+    ensures runs { Follows (S.state source.old) (S.state source.new) (map_answer (said_at place) result) (step awaited.Ipco place) }
+{
+    match read_box(source, place, b"ipco")? {
+        Found::Answer(ipco) => {
+            let gathered = Gathered {
+                left: ipco.size,
+                best: None,
+                turn: None,
+            };
+            Ok(Found::Other {
+                held: Awaited::Property(gathered),
+                length: 8,
+            })
+        }
+        Found::Other { length, .. } => Ok(Found::Other {
+            held: Awaited::Ipco,
+            length,
+        }),
+    }
+}
+
+#[tactic(auto, using(imagesize_source::proofs::Runs::steps, imagesize_source::proofs::Layouts::binding))]
+fn read_listed<S: Source>(
+    source: &mut S,
+    place: u64,
+    gathered: Gathered,
+) -> Result<Found<Awaited, ImageSize>, Halt>
+    ensures nears { IfOk result (λ found. Nears (S.state source.old) (S.state source.new) place (said_at place found)) }
+    ensures steady { IfOk result (λ found. StaysSteady (said_at place found)) }
+    ensures runs { Follows (S.state source.old) (S.state source.new) (map_answer (said_at place) result) (step (awaited.Property gathered) place) }
+{
+    let Some(property) = heif::read_property(source, place, gathered.left)? else {
+        return Ok(Found::Answer(heif::answer(gathered)?));
+    };
+    Ok(Found::Other {
+        held: Awaited::Property(heif::gather(gathered, property)),
+        length: heif::property_bytes(property),
+    })
 }

@@ -3,7 +3,7 @@ ghost use Rattle.std.specs.Prelude.{◌≡◌};
 ghost use Rattle.imagesize_source.specs.Layout.Layout.{refuse};
 ghost use Rattle.imagesize_fixed.specs.Tga.{tga, tga_by_header};
 ghost use Rattle.imagesize_source.specs.State.{Follows};
-ghost use Rattle.imagesize_stream.specs.Streamed.{first_layout, open_exr, open_hdr, open_ico, open_tiff, opening, opens};
+ghost use Rattle.imagesize_stream.specs.Streamed.{first_layout, open_exr, open_hdr, open_heif, open_ico, open_tiff, opening, opens};
 
 use crate::awaited::Awaited;
 use imagesize::ImageType;
@@ -88,7 +88,7 @@ impl Fixed for FirstSize {
             ImageType::Farbfeld => Ok(Opening::Size(farbfeld::size(source)?)),
             ImageType::Gif => Ok(Opening::Size(gif::size(source)?)),
             ImageType::Hdr => open_hdr(source),
-            ImageType::Heif(_) => refused(source),
+            ImageType::Heif(_) => open_heif(source),
             ImageType::Ico => open_ico(source),
             ImageType::Ilbm => open_at(source, Awaited::Chunk, 12),
             ImageType::Jpeg => open_at(source, Awaited::Segment { depth: 0 }, 2),
@@ -193,6 +193,17 @@ fn open_tiff<S: Source>(source: &mut S) -> Result<Opening, Halt>
     Ok(Opening::Records {
         next: Awaited::Directory { header },
         place: header.directory,
+    })
+}
+
+#[tactic(auto, using(imagesize_source::proofs::Runs::steps))]
+fn open_heif<S: Source>(source: &mut S) -> Result<Opening, Halt>
+    ensures { Follows (S.state source.old) (S.state source.new) result open_heif }
+{
+    let first = read_u32(source, 0, Endian::Big)?;
+    Ok(Opening::Records {
+        next: Awaited::Meta,
+        place: first as u64,
     })
 }
 
