@@ -4,14 +4,17 @@ use Rattle.std.proofs.lemmas.Bool.Decides.{nat_tests}
 use Rattle.std.specs.Option.{ForSome}
 use Rattle.imagesize_source.specs.declared.endian.Endian.{Endian}
 use Rattle.imagesize_source.specs.declared.halt.Halt.TheVariants.{Ended}
+use Rattle.imagesize_boxes.proofs.JxlBoxes.{Plainly, plain_size}
+use Rattle.imagesize_boxes.specs.Jxl.{jxl_size}
+use Rattle.imagesize_source.proofs.Reached.{reads_nothing}
 use Rattle.imagesize_source.proofs.Layouts.{no_span}
 use Rattle.imagesize_stream.specs.Steps.{IsSmall}
 use Rattle.imagesize_types.specs.declared.size.ImageSize.{ImageSize}
 use Rattle.imagesize_walked.specs.Walks.{IsIcon}
 use Rattle.imagesize_source.specs.Chain.{Said, Decided, Next}
-use Rattle.imagesize_source.specs.Layout.{Layout, bind, layout_reads}
+use Rattle.imagesize_source.specs.Layout.{Layout, accept, bind, layout_reads}
 use Rattle.imagesize_source.specs.Layout.Layout.{field, «done»}
-use Rattle.imagesize_source.specs.Reading.{bytes_at, gives, number_at, refuses}
+use Rattle.imagesize_source.specs.Reading.{bytes_at, gives, map_answer, number_at, refuses}
 use Rattle.imagesize_source.specs.State.{State, Runs, IsSound}
 use Rattle.imagesize_source.specs.declared.halt.Halt.{Halt}
 use Rattle.imagesize_walked.specs.Walks.{LeadsTo, depth_behind}
@@ -39,6 +42,13 @@ runs_on {X} {Y} {a} {b} t g x y is first =
     runs_as (layout_reads a.held.input (bind t g))
     (runs_then (layout_reads a.held.input t) (λ v held. layout_reads held.input (g v)) first
     (subst (λ u. Runs b b (Ok y) (layout_reads b.held.input u)) (sym is) (runs_done y first.sound_after)))
+    (λ _. sym (over-bind a.held.input t g))
+
+-- behind an answer, and what was read behind it
+pub runs_next : {X Y : Type 0} {a m b : State} (t : Layout X) (g : X → Layout Y) (x : X) (r : Result Y Halt)
+    → Runs a m (Ok x) (layout_reads a.held.input t) → Runs m b r (layout_reads m.held.input (g x)) → Runs a b r (layout_reads a.held.input (bind t g))
+runs_next {X} {Y} {a} {m} {b} t g x r first second =
+    runs_as (layout_reads a.held.input (bind t g)) (runs_then (layout_reads a.held.input t) (λ v held. layout_reads held.input (g v)) first second)
     (λ _. sym (over-bind a.held.input t g))
 
 -- behind a refusal
@@ -72,3 +82,18 @@ small_icon (Some size) small = λ other is. let same : size ≡ other = cc in su
 pub icon_small : (largest : Option ImageSize) → ForSome largest IsIcon → IsSmall largest
 icon_small None icon = tt
 icon_small (Some size) icon = let is = icon size refl in (is.wide, is.high)
+
+-- what a verdict by a codestream says
+judged : {X : Type 0} {a : State} (f : ImageSize → X) (r : Result ImageSize Halt) → Plainly r → IsSound a
+    → Runs a a (map_answer f r) (layout_reads a.held.input (accept r (λ size. done (f size))))
+judged {a = a} f (Ok size) plain sound = runs_done (f size) sound
+judged {a = a} f (Err e) plain sound = reads_nothing a (Err e) sound plain.0 (plain.1 a)
+
+pub runs_sized : {X Y : Type 0} {a b : State} (t : Layout Y) (g : Y → Layout X) (y : Y) (front : List ℕ) (f : ImageSize → X)
+    → g y ≡ accept (jxl_size front) (λ size. done (f size)) → (r : Result ImageSize Halt) → r ≡ jxl_size front
+    → Runs a b (Ok y) (layout_reads a.held.input t) → Runs a b (map_answer f r) (layout_reads a.held.input (bind t g))
+runs_sized {X} {Y} {a} {b} t g y front f leads r is first =
+    runs_next t g y (map_answer f r) first
+    (subst (λ q. Runs b b (map_answer f q) (layout_reads b.held.input (g y))) (sym is)
+    (subst (λ u. Runs b b (map_answer f (jxl_size front)) (layout_reads b.held.input u)) (sym leads)
+    (judged f (jxl_size front) (plain_size front) first.sound_after)))

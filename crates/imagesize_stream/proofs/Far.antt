@@ -1,5 +1,5 @@
 -- How far the record that is awaited is read.
-use Rattle.std.proofs.Common.{◌≡◌, ℕ, ◌+◌, ◌≤◌, Bool, true, false, ◌&&◌, cond, eqb, List, length, slice_index, take, Option, None, Some, Result, Ok, Err, refl, arith}
+use Rattle.std.proofs.Common.{◌≡◌, ℕ, ◌+◌, ◌-◌, ◌≤◌, min, ◌++◌, drop, Bool, true, false, ◌&&◌, cond, eqb, List, length, slice_index, take, Option, None, Some, Result, Ok, Err, refl, arith}
 use Rattle.std.specs.Str.{trim}
 use Rattle.imagesize_pieces.proofs.Reaching.{reach_accept, reach_bind, reach_if}
 use Rattle.imagesize_pieces.specs.Stream.{Reach}
@@ -7,9 +7,9 @@ use Rattle.imagesize_source.specs.Chain.{Said, Decided, Next}
 use Rattle.imagesize_source.specs.Layout.{Layout, accept, bind, bytes, if_there, whole}
 use Rattle.imagesize_source.specs.Layout.Layout.{refuse, «done»}
 use Rattle.imagesize_source.specs.declared.halt.Halt.TheVariants.{Corrupted, DataWindowNotFound, NoDimensionsInIfd}
-use Rattle.imagesize_stream.specs.Steps.{after, decides, ipco_leads, iprp_leads, listed_with, meta_leads, names_of, property_step, step}
+use Rattle.imagesize_stream.specs.Steps.{after, decides, ipco_leads, iprp_leads, jxl_verdict, kept_front, kept_of, listed_with, meta_leads, names_of, property_step, step}
 use Rattle.imagesize_stream.specs.declared.awaited.Awaited.{Awaited}
-use Rattle.imagesize_stream.specs.declared.awaited.Awaited.TheVariants.{Attribute, Chunk, Directory, Entry, Icon, Ipco, Iprp, Line, Meta, Property, Segment, Word}
+use Rattle.imagesize_stream.specs.declared.awaited.Awaited.TheVariants.{Attribute, Box, Chunk, Directory, Entry, Icon, Ipco, Iprp, Line, Meta, Property, Segment, Word}
 use Rattle.imagesize_texts.proofs.Texts.{length_ok, line_ok, word_ok}
 use Rattle.imagesize_texts.specs.Contents.{WordRead, line_length, line_text, number_text, word_text}
 use Rattle.imagesize_texts.specs.Exr.{exr_attribute, exr_named, exr_typed, exr_value, exr_window, is_box, is_data_window, window_size}
@@ -20,6 +20,11 @@ use Rattle.imagesize_types.specs.declared.size.ImageSize.{ImageSize}
 use Rattle.imagesize_walked.specs.Ilbm.{bitmap_header, chunk_bytes, chunk_length, ilbm_chunk, ilbm_named, is_bitmap_header, is_body}
 use Rattle.imagesize_walked.specs.Jpeg.{is_own_end, is_own_frame, jpeg_frame, jpeg_marked, jpeg_other, jpeg_segment}
 use Rattle.imagesize_boxes.proofs.Heif.{by_found, by_searched}
+use Rattle.imagesize_boxes.proofs.JxlBoxes.{by_checked, by_content, by_head, by_piece}
+use Rattle.imagesize_boxes.specs.Jxl.{box_content, box_head, box_room, jxl_box, jxl_size, partial_said}
+use Rattle.imagesize_boxes.specs.declared.formats.jxl.boxes.BoxHead.{BoxHead}
+use Rattle.imagesize_source.specs.Numbers.{number}
+use Rattle.imagesize_source.specs.declared.endian.Endian.TheVariants.{Big}
 use Rattle.imagesize_boxes.specs.Heif.{property_at, searched_box}
 use Rattle.imagesize_boxes.specs.Walks.{gathered_answer}
 use Rattle.imagesize_boxes.specs.declared.container.heif.FoundBox.{FoundBox}
@@ -188,6 +193,41 @@ property_far g place = (
       (omega arith, omega arith, λ content short. tt) (omega arith, omega arith, λ content short. tt) (λ size big. tt),
 )
 
+-- what a box of a JPEG XL says is no reading
+said_far : (place : ℕ) (said : Said (List ℕ) (List ℕ)) → Reach place (place + 2048) (done said)
+said_far place said = tt
+
+content_far : (held : List ℕ) (place : ℕ) (head : BoxHead) → head.length ≤ 16 → Reach place (place + 2048) (box_content held place head)
+content_far held place head short =
+    by_content (Reach place (place + 2048)) held place head
+    (by_piece (Reach place (place + 2048)) (place + head.length) (min 16 (box_room head)) (λ front. done (Decided front)) (λ _. tt)
+    (λ _. (omega arith, omega (arith, short), λ front few. tt)))
+    tt
+    (λ _. (
+      omega arith,
+      omega (arith, short),
+      λ index few. by_piece (Reach place (place + 2048)) (place + (head.length + 4)) (min (box_room head - 4) (16 - length held))
+          (λ piece. done (partial_said held place head index piece)) (λ _. tt) (λ _. (omega arith, omega (arith, short), λ piece less. tt)),
+    ))
+    tt
+
+jxl_far : (held : List ℕ) (place : ℕ) → Reach place (place + 2048) (jxl_box held place)
+unfolding box_head
+jxl_far held place = (
+  omega arith,
+  omega arith,
+  λ front few. by_head (Reach place (place + 2048)) place front (box_content held place)
+      (omega arith, omega arith, λ size. by_checked (Reach place (place + 2048)) place (record { tag = drop 4 front; size = size; length = 16 })
+      (box_content held place) (λ e. tt) (λ _ _. content_far held place (record { tag = drop 4 front; size = size; length = 16 }) (omega arith)))
+      (by_checked (Reach place (place + 2048)) place (record { tag = drop 4 front; size = number Big (take 4 front); length = 8 })
+      (box_content held place) (λ e. tt)
+      (λ _ _. content_far held place (record { tag = drop 4 front; size = number Big (take 4 front); length = 8 }) (omega arith))),
+)
+
+after_piece : (place : ℕ) (on : List ℕ → Awaited) (said : Said (List ℕ) (List ℕ)) → Reach place (place + 2048) (after on jxl_verdict said)
+after_piece place on (Decided front) = accepted_far place (jxl_size front)
+after_piece place on (Next piece q) = tt
+
 pub step_far : (next : Awaited) (place : ℕ) → Reach place (place + 2048) (step next place)
 step_far (Segment depth) place = reach_bind place (place + 2048) (jpeg_segment depth place) _ (segment_far depth place)
     (after_size place (place + 2048) (λ marker. Segment (depth_behind depth marker)))
@@ -207,4 +247,6 @@ step_far Iprp place = reach_bind place (place + 2048) (searched_box (codes "iprp
 step_far Ipco place = reach_bind place (place + 2048) (searched_box (codes "ipco") place) _ (box_far (codes "ipco") place)
     (after_box place Ipco (ipco_leads place) (λ found. tt))
 step_far (Property g) place = property_far g place
+step_far (Box kept) place = reach_bind place (place + 2048) (jxl_box (kept_front kept) place) _ (jxl_far (kept_front kept) place)
+    (after_piece place (λ piece. Box (kept_of (kept_front kept ++ piece))))
 step_far Word place = reach_bind place (place + 2048) (word place (pnm_word place)) _ (pnm_far place) (after_size place (place + 2048) (λ _. Word))

@@ -1,8 +1,10 @@
 -- The size of an image by its first bytes, and by the records behind them.
-use Rattle.std.proofs.Common.{◌≡◌, ℕ, ◌+◌, ◌<◌, Bool, true, false, ltb, cond, eqb, List, [], ◌∷◌, ◌++◌, length, Option, None, Some, slice_index, Result, Ok, Err, refl, sym, ap, ◌∙◌, subst, arith}
+use Rattle.std.proofs.Common.{◌≡◌, ℕ, ◌+◌, ◌-◌, ◌<◌, ◌≤◌, take, Bool, true, false, ltb, cond, eqb, List, [], ◌∷◌, ◌++◌, length, Option, None, Some, slice_index, Result, Ok, Err, refl, sym, ap, ◌∙◌, subst, arith}
 use Rattle.std.proofs.lemmas.Bool.Decides.{nat_tests}
 use Rattle.std.proofs.lemmas.List.{length_push}
-use Rattle.std.specs.Prelude.{bit_and, codes}
+use Rattle.std.proofs.lemmas.List.{take-append-le, take_all}
+use Rattle.std.specs.List.{concat}
+use Rattle.std.specs.Prelude.{bit_and, codes, replicate}
 use Rattle.imagesize.specs.Meaning.{size_reads}
 use Rattle.imagesize.specs.declared.types.ImageType.{ImageType}
 use Rattle.imagesize.specs.declared.types.ImageType.TheVariants.{Aseprite, Astc, Atc, Bmp, Dds, Eac, Etc2, Exr, Farbfeld, Gif, Hdr, Heif, Ico, Ilbm, Jpeg, Jxl, Ktx2, Pnm, Pvrtc, Psd, Qoi, Tga, Tiff, Vtf, Webp}
@@ -32,10 +34,10 @@ use Rattle.imagesize_source.specs.declared.halt.Halt.TheVariants.{Corrupted}
 use Rattle.imagesize_source.specs.declared.span.Span.{Span}
 use Rattle.imagesize_source.proofs.Layouts.{onward-and_then, over-bind}
 use Rattle.imagesize_source.proofs.Tests.{on_test}
-use Rattle.imagesize_stream.specs.Steps.{after, decides, gathered_first, ipco_leads, iprp_leads, listed_with, meta_leads, names_of, property_step, step}
-use Rattle.imagesize_stream.specs.Streamed.{open_exr, open_hdr, open_heif, open_ico, open_tiff, opening, opens, sized}
+use Rattle.imagesize_stream.specs.Steps.{after, decides, gathered_first, ipco_leads, iprp_leads, jxl_verdict, kept_front, kept_of, listed_with, meta_leads, names_of, property_step, step}
+use Rattle.imagesize_stream.specs.Streamed.{jxl_opened, open_exr, open_hdr, open_heif, open_ico, open_jxl, open_tiff, opening, opens, sized}
 use Rattle.imagesize_stream.specs.declared.awaited.Awaited.{Awaited}
-use Rattle.imagesize_stream.specs.declared.awaited.Awaited.TheVariants.{Attribute, Chunk, Directory, Entry, Icon, Ipco, Iprp, Line, Meta, Property, Segment, Word}
+use Rattle.imagesize_stream.specs.declared.awaited.Awaited.TheVariants.{Attribute, Box, Chunk, Directory, Entry, Icon, Ipco, Iprp, Line, Meta, Property, Segment, Word}
 use Rattle.imagesize_stream.specs.declared.awaited.Listed.{Listed}
 use Rattle.imagesize_stream.specs.declared.front.Opening.{Opening}
 use Rattle.imagesize_stream.specs.declared.front.Opening.TheVariants as opened
@@ -55,6 +57,8 @@ use Rattle.imagesize_walked.proofs.Jpeg.{jpeg_advances, nested_on}
 use Rattle.imagesize_walked.specs.Ilbm.{ilbm, ilbm_chunk, ilbm_chunks}
 use Rattle.imagesize_walked.specs.Jpeg.{depth, is_own_end, is_own_frame, jpeg, jpeg_frame, jpeg_marked, jpeg_other, jpeg_segment, jpeg_segments}
 use Rattle.imagesize_boxes.proofs.Heif.{amounts_on, answer_read, answers, by_searched, properties_advance, search_advances}
+use Rattle.imagesize_boxes.proofs.JxlBoxes.{joined, jxl_advances}
+use Rattle.imagesize_boxes.specs.Jxl.{codestream, jxl, jxl_box, jxl_chain, jxl_size, jxl_start}
 use Rattle.imagesize_boxes.specs.Heif.{heif as heif_reads, heif_in_iprp, heif_in_meta, properties, property_at, property_bytes, property_or_answer, search_for, searched_box}
 use Rattle.imagesize_boxes.specs.Walks.{Amounts, gathered_answer, gathered_with}
 use Rattle.imagesize_boxes.specs.declared.container.heif.FoundBox.{FoundBox}
@@ -279,6 +283,45 @@ heif_as : (d : List ℕ) → heif_reads d ≡ and_then (layout_reads d open_heif
 heif_as d = onward-and_then (span_of d 0 4) (number_at d Big 0 4) (λ first. gives (opened.Records Meta first)) (opened_rest d)
     (λ first. and_then (chain_at (search_for (codes "meta") first) d) (λ meta. heif_in_meta meta d)) (λ first. sym (meta_as first d))
 
+-- what is kept of a codestream's first bytes has them
+kept_is : (front : List ℕ) → kept_front (kept_of front) ≡ front
+kept_is front = take-append-le (length front) front (replicate (16 - length front) 0) (omega arith) ∙ take_all (length front) front (omega arith)
+
+boxes_as : (d : List ℕ) → run (Box (kept_of [])) 12 d ≡ and_then (chain_at jxl_chain d) (λ front. record { answer = jxl_size front; marks = [] })
+boxes_as d =
+    as_awaited jxl_chain (λ (front : List ℕ). Box (kept_of front)) (λ front piece. front ++ piece) jxl_verdict (λ pieces front. concat pieces ≡ front)
+    (λ e pieces front place known.
+    ap (λ held. layout_reads e (bind (jxl_box held place) (after (λ piece. Box (kept_of (held ++ piece))) jxl_verdict))) (kept_is front)
+    ∙ over-bind e (jxl_box front place) (after (λ piece. Box (kept_of (front ++ piece))) jxl_verdict)
+    ∙ ap (λ held. and_then (layout_reads e (jxl_box held place)) (λ said. layout_reads e (after (λ piece. Box (kept_of (front ++ piece))) jxl_verdict said))) (sym known))
+    (λ e pieces front place v q known got. joined pieces front v known) d (jxl_advances d) (start jxl_chain) [] refl
+    ∙ on_answer (chain_at jxl_chain d).marks (chain_at jxl_chain d).answer (λ front. and_then (layout_reads d (jxl_verdict front)) (goes d))
+    (λ front. record { answer = jxl_size front; marks = [] }) (λ front _. by_verdict (jxl_size front))
+  where
+    by_verdict : (r : Result ImageSize Halt) → and_then (layout_reads d (accept r decides)) (goes d) ≡ record { answer = r; marks = [] }
+    by_verdict (Ok size) = refl
+    by_verdict (Err e) = refl
+
+jxl_as : (d : List ℕ) → jxl d ≡ and_then (layout_reads d open_jxl) (opened_rest d)
+jxl_as d =
+    sym (onward-and_then (layout_reads d jxl_start).marks (layout_reads d jxl_start).answer (codestream d) (λ front. record { answer = jxl_size front; marks = [] })
+    (λ found. and_then (codestream d found) (λ front. record { answer = jxl_size front; marks = [] })) (λ found. refl))
+    ∙ on_answer (layout_reads d jxl_start).marks (layout_reads d jxl_start).answer
+    (λ found. and_then (codestream d found) (λ front. record { answer = jxl_size front; marks = [] }))
+    (λ found. and_then (layout_reads d (jxl_opened found)) (opened_rest d)) (λ found _. each found)
+    ∙ onward-and_then (layout_reads d jxl_start).marks (layout_reads d jxl_start).answer (λ found. layout_reads d (jxl_opened found)) (opened_rest d)
+    (λ found. and_then (layout_reads d (jxl_opened found)) (opened_rest d)) (λ found. refl)
+    ∙ ap (λ r. and_then r (opened_rest d)) (sym (over-bind d jxl_start jxl_opened))
+  where
+    by_size_of : (r : Result ImageSize Halt) → record { answer = r; marks = [] } ≡ and_then (layout_reads d (accept r (λ size. done (opened.Size size)))) (opened_rest d)
+    by_size_of (Ok size) = refl
+    by_size_of (Err e) = refl
+
+    each : (found : Option (List ℕ)) → and_then (codestream d found) (λ front. record { answer = jxl_size front; marks = [] })
+        ≡ and_then (layout_reads d (jxl_opened found)) (opened_rest d)
+    each (Some front) = by_size_of (jxl_size front)
+    each None = sym (boxes_as d)
+
 pub opened_as : (type : ImageType) (d : List ℕ) → size_reads type d ≡ and_then (layout_reads d (opening type)) (opened_rest d)
 opened_as Aseprite d = sized_as d aseprite
 opened_as Astc d = sized_as d astc
@@ -295,7 +338,7 @@ opened_as (Heif _) d = heif_as d
 opened_as Ico d = ico_as d
 opened_as Ilbm d = sym (ilbm_as d)
 opened_as Jpeg d = sym (jpeg_as d)
-opened_as Jxl d = ?
+opened_as Jxl d = jxl_as d
 opened_as Ktx2 d = sized_as d ktx2
 opened_as Pnm d = sym (pnm_as d)
 opened_as (Pvrtc _) d = sized_as d pvrtc

@@ -1,9 +1,10 @@
 -- How far the readings of a type, and of a size at fixed offsets, go.
-use Rattle.std.proofs.Common.{ℕ, ◌+◌, length, Bool, true, false, cond, eqb, List, [], ◌∷◌, Option, None, Some, slice_index, arith}
+use Rattle.std.proofs.Common.{ℕ, ◌+◌, ◌++◌, length, Bool, true, false, cond, eqb, List, [], ◌∷◌, Option, None, Some, slice_index, arith}
 use Rattle.std.specs.Prelude.{codes}
 use Rattle.std.specs.Str.{bytes_eq}
 use Rattle.imagesize.specs.Kind.{first_row, with_compression}
-use Rattle.imagesize_stream.specs.Streamed.{first_by, first_layout, opening, opens, sized}
+use Rattle.imagesize_stream.specs.Streamed.{first_by, first_layout, jxl_opened, opening, opens, sized}
+use Rattle.imagesize_boxes.specs.Jxl.{has_signature, jxl_size, jxl_start}
 use Rattle.imagesize.specs.Types.{rows}
 use Rattle.imagesize_stream.specs.declared.front.First.TheVariants as first
 use Rattle.imagesize.specs.declared.types.ImageType.{ImageType}
@@ -20,7 +21,7 @@ use Rattle.imagesize_types.specs.Table.{look_up_text}
 use Rattle.imagesize_types.specs.declared.compression.DdsCompression.TheVariants.{Unknown as unknown_dds}
 use Rattle.imagesize_types.specs.declared.compression.PvrtcCompression.TheVariants.{Unknown as unknown_pvrtc}
 use Rattle.imagesize_source.specs.declared.halt.Halt.TheVariants.{BigTiffOffsetSize, InvalidBigTiffHeader, InvalidHdrIdentifier, InvalidVp8Tag, NotSupported}
-use Rattle.imagesize_source.specs.Layout.{Layout, bind, bytes, if_there, whole}
+use Rattle.imagesize_source.specs.Layout.{Layout, bind, bytes, bytes_there, if_there, whole}
 use Rattle.imagesize_source.specs.Layout.Layout.{field, reading, refuse, «done»}
 use Rattle.imagesize_pieces.specs.Stream.{Reach}
 use Rattle.imagesize_pieces.proofs.Reaching.{reach_accept, reach_bind, reach_if}
@@ -105,6 +106,18 @@ header_reaches = (
   )),
 )
 
+start_reaches : Reach 0 132 jxl_start
+start_reaches = (
+  omega arith,
+  omega arith,
+  λ start few. reach_if (has_signature start) 0 132 (bytes_there 2 14 (λ more. done (Some (start ++ more)))) (done None)
+      (omega arith, omega arith, λ more short. tt) tt,
+)
+
+jxl_reaches : (found : Option (List ℕ)) → Reach 0 132 (jxl_opened found)
+jxl_reaches (Some front) = reach_accept 0 132 (jxl_size front) (λ size. done (opened.Size size)) (λ size _. tt)
+jxl_reaches None = tt
+
 pub opening_reaches : (type : ImageType) → Reach 0 132 (opening type)
 opening_reaches Aseprite = reach_sized aseprite (omega arith, omega arith, λ v. (omega arith, omega arith, λ w. tt))
 opening_reaches Astc = reach_sized astc (omega arith, omega arith, λ v. (omega arith, omega arith, λ w. tt))
@@ -126,7 +139,7 @@ opening_reaches (Heif _) = (omega arith, omega arith, λ first. tt)
 opening_reaches Ico = (omega arith, omega arith, λ count. tt)
 opening_reaches Ilbm = tt
 opening_reaches Jpeg = tt
-opening_reaches Jxl = tt
+opening_reaches Jxl = reach_bind 0 132 jxl_start jxl_opened start_reaches jxl_reaches
 opening_reaches Ktx2 = reach_sized ktx2 (omega arith, omega arith, λ v. (omega arith, omega arith, λ w. tt))
 opening_reaches Pnm = tt
 opening_reaches (Pvrtc _) = reach_sized pvrtc (omega arith, omega arith, λ tag few. reach_if (is_pvr3 tag) 0 132 pvr3 pvr2 pvr3_size pvr2_size)

@@ -1,5 +1,5 @@
 -- What a layout says, whatever its readings answer.
-use Rattle.std.proofs.Common.{◌≡◌, ℕ, ◌<◌, List, Result, Ok, Err, subst, arith}
+use Rattle.std.proofs.Common.{◌≡◌, ℕ, ◌<◌, ◌≤◌, List, Option, Some, None, Result, Ok, Err, subst, arith}
 use Rattle.imagesize.specs.declared.types.ImageType.{ImageType}
 use Rattle.imagesize.specs.declared.types.ImageType.TheVariants.{Aseprite, Astc, Atc, Bmp, Dds, Eac, Etc2, Exr, Farbfeld, Gif, Hdr, Heif, Ico, Ilbm, Jpeg, Jxl, Ktx2, Pnm, Pvrtc, Psd, Qoi, Tga, Tiff, Vtf, Webp}
 use Rattle.imagesize_fixed.specs.Aseprite.{aseprite}
@@ -18,13 +18,14 @@ use Rattle.imagesize_fixed.specs.Tga.{tga}
 use Rattle.imagesize_fixed.specs.Vtf.{vtf}
 use Rattle.imagesize_fixed.specs.Webp.{webp}
 use Rattle.imagesize_source.specs.Input.{span_of}
-use Rattle.imagesize_source.specs.Layout.{Layout, bind, layout_reads}
+use Rattle.imagesize_source.specs.Layout.{Layout, accept, bind, layout_reads}
 use Rattle.imagesize_source.specs.Layout.Layout.{field, reading, refuse, «done»}
 use Rattle.imagesize_source.specs.Reading.{Reads, go_on, number_at, read_of}
 use Rattle.imagesize_source.specs.declared.halt.Halt.{Halt}
 use Rattle.imagesize_source.specs.declared.span.Span.{Span}
 use Rattle.imagesize_stream.specs.Steps.{IsSteady}
-use Rattle.imagesize_stream.specs.Streamed.{opening, opens, sized}
+use Rattle.imagesize_stream.specs.Streamed.{jxl_opened, opening, opens, sized}
+use Rattle.imagesize_boxes.specs.Jxl.{jxl_size, jxl_start}
 use Rattle.imagesize_stream.specs.declared.awaited.Awaited.TheVariants.{Directory, Line}
 use Rattle.imagesize_stream.specs.declared.front.Opening.{Opening}
 use Rattle.imagesize_stream.specs.declared.front.Opening.TheVariants as opened
@@ -67,6 +68,14 @@ OpensSteady (opened.Records next place) = IsSteady next place
 steady_sized : (t : Layout ImageSize) → Saying OpensSteady (sized t)
 steady_sized t = saying_bind OpensSteady t (λ size. done (opened.Size size)) (λ size. tt)
 
+jxl_sized : (r : Result ImageSize Halt) → Saying OpensSteady (accept r (λ size. done (opened.Size size)))
+jxl_sized (Ok size) = tt
+jxl_sized (Err e) = tt
+
+jxl_steady : (found : Option (List ℕ)) → Saying OpensSteady (jxl_opened found)
+jxl_steady (Some front) = jxl_sized (jxl_size front)
+jxl_steady None = omega arith
+
 pub opening_steady : (type : ImageType) → Saying OpensSteady (opening type)
 opening_steady Aseprite = steady_sized aseprite
 opening_steady Astc = steady_sized astc
@@ -83,7 +92,7 @@ opening_steady (Heif _) = λ first. tt
 opening_steady Ico = λ count. (omega arith, tt)
 opening_steady Ilbm = tt
 opening_steady Jpeg = omega arith
-opening_steady Jxl = tt
+opening_steady Jxl = saying_bind OpensSteady jxl_start jxl_opened jxl_steady
 opening_steady Ktx2 = steady_sized ktx2
 opening_steady Pnm = tt
 opening_steady (Pvrtc _) = steady_sized pvrtc

@@ -1,7 +1,9 @@
 -- The chain of what is awaited: it advances, how far its records reach, and how it ends.
-use Rattle.std.proofs.Common.{◌≡◌, ℕ, ◌+◌, ◌<◌, ◌≤◌, Bool, true, false, cond, eqb, List, [], length, None, Result, Ok, Err, refl, sym, ap, ◌∙◌, arith}
+use Rattle.std.proofs.Common.{◌≡◌, ℕ, ◌+◌, ◌<◌, ◌≤◌, Bool, true, false, cond, eqb, List, [], ◌++◌, length, None, Result, Ok, Err, refl, sym, ap, ◌∙◌, arith}
 use Rattle.std.specs.Prelude.{codes, ok_or}
 use Rattle.imagesize_boxes.proofs.Heif.{by_found, by_searched, search_ends}
+use Rattle.imagesize_boxes.proofs.JxlBoxes.{box_begins as jxl_begins, box_tells as jxl_tells, boxes_end}
+use Rattle.imagesize_boxes.specs.Jxl.{jxl_box, jxl_size}
 use Rattle.imagesize_boxes.specs.Heif.{property_at, searched_box}
 use Rattle.imagesize_boxes.specs.Walks.{gathered_answer}
 use Rattle.imagesize_boxes.specs.declared.container.heif.Gathered.{Gathered}
@@ -12,9 +14,9 @@ use Rattle.imagesize_source.specs.declared.halt.Halt.TheVariants.{Corrupted, End
 use Rattle.imagesize_source.specs.declared.halt.Halt.{Halt}
 use Rattle.imagesize_source.proofs.Advances.{Begins, OrSome, Tells, advances}
 use Rattle.imagesize_source.proofs.Layouts.{no_part, no_span, over-bind}
-use Rattle.imagesize_stream.specs.Steps.{after, awaited_chain, decides, ends_with, ipco_leads, iprp_leads, last_awaited, listed_with, meta_leads, names_of, property_step, step}
+use Rattle.imagesize_stream.specs.Steps.{after, awaited_chain, decides, ends_with, ipco_leads, iprp_leads, jxl_verdict, kept_front, kept_of, last_awaited, listed_with, meta_leads, names_of, property_step, step}
 use Rattle.imagesize_stream.specs.declared.awaited.Awaited.{Awaited}
-use Rattle.imagesize_stream.specs.declared.awaited.Awaited.TheVariants.{Attribute, Chunk, Directory, Entry, Icon, Ipco, Iprp, Line, Meta, Property, Segment, Word}
+use Rattle.imagesize_stream.specs.declared.awaited.Awaited.TheVariants.{Attribute, Box, Chunk, Directory, Entry, Icon, Ipco, Iprp, Line, Meta, Property, Segment, Word}
 use Rattle.imagesize_stream.specs.declared.awaited.Listed.{Listed}
 use Rattle.imagesize_texts.specs.Exr.{exr_attribute}
 use Rattle.imagesize_texts.proofs.Exr.{attribute_begins, attribute_tells, exr_ends}
@@ -71,6 +73,10 @@ accepted_tells : (P : ℕ → Type 0) (r : Result ImageSize Halt) → Tells P (a
 accepted_tells P (Ok size) = tt
 accepted_tells P (Err e) = tt
 
+accepted_begins : (place : ℕ) (r : Result ImageSize Halt) → Begins place (accept r decides)
+accepted_begins place (Ok size) = tt
+accepted_begins place (Err e) = tt
+
 count_some : (version : Version) → 0 < count_bytes version
 count_some Tiff = omega arith
 count_some BigTiff = omega arith
@@ -90,6 +96,8 @@ step_tells Iprp place = tells_behind (λ _. Iprp) (iprp_leads place) (λ p. plac
 step_tells Ipco place = tells_behind (λ _. Ipco) (ipco_leads place) (λ p. place < p) (λ found. omega arith) (searched_box (codes "ipco") place) (box_tells (codes "ipco") place)
 step_tells (Property g) place = λ bs. by_found (λ t. Tells (λ p. place < p) (bind t (property_step g place))) g.left place (whole 8 bs)
     (accepted_tells (λ p. place < p) (gathered_answer g)) tt (λ content. omega arith) (λ content. omega arith) (λ size big. omega arith)
+step_tells (Box kept) place = tells_behind (λ piece. Box (kept_of (kept_front kept ++ piece))) jxl_verdict (λ p. place < p)
+    (λ front. accepted_tells (λ p. place < p) (jxl_size front)) (jxl_box (kept_front kept) place) (jxl_tells (kept_front kept) place)
 step_tells Word place = tells_behind (λ _. Word) decides _ (λ _. tt) (word place (pnm_word place)) (pnm_tells place)
 
 step_begins : (next : Awaited) (place : ℕ) → Begins place (step next place)
@@ -106,6 +114,9 @@ step_begins Meta place = (omega arith, omega arith)
 step_begins Iprp place = (omega arith, omega arith)
 step_begins Ipco place = (omega arith, omega arith)
 step_begins (Property g) place = (omega arith, accepted_tells (λ _. ⊥) (gathered_answer g))
+step_begins (Box kept) place = begins_behind (λ piece. Box (kept_of (kept_front kept ++ piece))) jxl_verdict place
+    (λ front P. accepted_tells P (jxl_size front)) (jxl_box (kept_front kept) place) (jxl_begins (kept_front kept) place)
+    (λ front. accepted_begins place (jxl_size front))
 step_begins Word place = begins_behind (λ _. Word) decides place (λ _ P. tt) (word place (pnm_word place)) (pnm_begins place) (λ _. tt)
 
 pub awaited_advances : (d : List ℕ) → Advances awaited_chain d
@@ -156,4 +167,5 @@ step_ends Meta d place far = refused_behind d (searched_box (codes "meta") place
 step_ends Iprp d place far = refused_behind d (searched_box (codes "iprp") place) _ (search_ends (codes "iprp") d place far)
 step_ends Ipco d place far = refused_behind d (searched_box (codes "ipco") place) _ (search_ends (codes "ipco") d place far)
 step_ends (Property g) d place far = property_ends g d place far ∙ accepted_ends d (gathered_answer g)
+step_ends (Box kept) d place far = refused_behind d (jxl_box (kept_front kept) place) _ (boxes_end (kept_front kept) d place far)
 step_ends Word d place far = refused_behind d (word place (pnm_word place)) _ (pnm_ends d place far)

@@ -1,5 +1,5 @@
 -- What a stream awaits of an image whose size is behind records: the record that is next, as one chain for all formats.
-use Rattle.std.specs.Prelude.{◌≡◌, ℕ, ◌+◌, ◌<◌, ◌≤◌, ◌==◌, Bool, true, false, List, [], ◌∷◌, Option, None, Some, Result, Ok, Err, codes, ok_or, unwrap_or, if◌then◌else◌}
+use Rattle.std.specs.Prelude.{◌≡◌, ℕ, ◌+◌, ◌-◌, ◌++◌, length, take, replicate, ◌<◌, ◌≤◌, ◌==◌, Bool, true, false, List, [], ◌∷◌, Option, None, Some, Result, Ok, Err, codes, ok_or, unwrap_or, if◌then◌else◌}
 use Rattle.std.specs.Coded.{Unit-prop, le_prop, ×_prop}
 use Rattle.std.specs.List.{last_or}
 use Rattle.imagesize_source.specs.Chain.{Said, Decided, Next, Chain}
@@ -9,8 +9,10 @@ use Rattle.imagesize_source.specs.declared.halt.Halt.{Halt}
 use Rattle.imagesize_source.specs.declared.halt.Halt.TheVariants.{Corrupted, Ended, NoDimensionsInIfd}
 use Rattle.imagesize_source.specs.Walk.{chain_of}
 use Rattle.imagesize_stream.specs.declared.awaited.Awaited.{Awaited}
-use Rattle.imagesize_stream.specs.declared.awaited.Awaited.TheVariants.{Attribute, Chunk, Directory, Entry, Icon, Ipco, Iprp, Line, Meta, Property, Segment, Word}
+use Rattle.imagesize_stream.specs.declared.awaited.Awaited.TheVariants.{Attribute, Box, Chunk, Directory, Entry, Icon, Ipco, Iprp, Line, Meta, Property, Segment, Word}
+use Rattle.imagesize_stream.specs.declared.awaited.Kept.{Kept}
 use Rattle.imagesize_stream.specs.declared.awaited.Listed.{Listed}
+use Rattle.imagesize_boxes.specs.Jxl.{jxl_box, jxl_size}
 use Rattle.imagesize_boxes.specs.Heif.{property_at, property_bytes, searched_box}
 use Rattle.imagesize_boxes.specs.Walks.{gathered_answer, gathered_with}
 use Rattle.imagesize_boxes.specs.declared.container.heif.FoundBox.{FoundBox}
@@ -44,6 +46,17 @@ names_of long = if long then 256 else 32
 -- with one entry of a TIFF more
 abbrev pub listed_with : Listed → tiff.Entry → Listed
 listed_with l entry = record l { seen = l.seen + 1; width = side_with 0x100 l.width entry; height = side_with 0x101 l.height entry }
+
+-- the first bytes of a codestream, with zeros behind them
+abbrev pub kept_of : List ℕ → Kept
+kept_of front = record { bytes = front ++ replicate (16 - length front) 0; len = length front }
+
+abbrev pub kept_front : Kept → List ℕ
+kept_front kept = take kept.len kept.bytes
+
+-- by them the size
+abbrev pub jxl_verdict : List ℕ → Layout (Said Awaited ImageSize)
+jxl_verdict front = accept (jxl_size front) decides
 
 -- what goes on from the boxes of a HEIF that are found
 abbrev pub meta_leads : ℕ → FoundBox → Layout (Said Awaited ImageSize)
@@ -82,6 +95,9 @@ step Iprp place = bind (searched_box (codes "iprp") place) (after (λ _. Iprp) (
 step Ipco place = bind (searched_box (codes "ipco") place) (after (λ _. Ipco) (ipco_leads place))
 step (Property g) place = bind (property_at g.left place) (property_step g place)
 
+step (Box kept) place =
+    bind (jxl_box (kept_front kept) place) (after (λ piece. Box (kept_of (kept_front kept ++ piece))) jxl_verdict)
+
 -- a record holds what is awaited behind it
 abbrev pub last_awaited : List Awaited → Awaited
 last_awaited held = unwrap_or (last_or None held) Chunk
@@ -105,6 +121,7 @@ ends_with Meta = Err Ended
 ends_with Iprp = Err Ended
 ends_with Ipco = Err Ended
 ends_with (Property g) = gathered_answer g
+ends_with (Box kept) = Err Ended
 ends_with (Entry l) = if l.seen == l.count then Err NoDimensionsInIfd else Err Ended
 
 -- no side of the largest icon is above 256 pixels
@@ -130,6 +147,7 @@ IsSteady Meta place = Unit {0}
 IsSteady Iprp place = Unit {0}
 IsSteady Ipco place = Unit {0}
 IsSteady (Property g) place = Unit {0}
+IsSteady (Box kept) place = kept.len ≤ 16
 
 pub steady_prop : (next : Awaited) (place : ℕ) → IsProp (IsSteady next place)
 steady_prop (Segment depth) place = le_prop
@@ -144,6 +162,7 @@ steady_prop Meta place = Unit-prop
 steady_prop Iprp place = Unit-prop
 steady_prop Ipco place = Unit-prop
 steady_prop (Property g) place = Unit-prop
+steady_prop (Box kept) place = le_prop
 
 -- and of the one behind
 abbrev pub StaysSteady : Said Awaited ImageSize → Type 0

@@ -1,5 +1,5 @@
 -- What the first bytes of an image tell: its type, and its size or the records that it is behind.
-use Rattle.std.specs.Prelude.{ℕ, List, length, nat_lt, if◌then◌else◌, Option, None, Some}
+use Rattle.std.specs.Prelude.{ℕ, List, [], length, nat_lt, if◌then◌else◌, Option, None, Some}
 use Rattle.imagesize.specs.Kind.{first_row, tga_or_none, with_compression}
 use Rattle.imagesize.specs.Types.{rows}
 use Rattle.imagesize.specs.declared.types.ImageType.{ImageType}
@@ -19,13 +19,15 @@ use Rattle.imagesize_fixed.specs.Qoi.{qoi}
 use Rattle.imagesize_fixed.specs.Tga.{is_tga, may_be_tga, tga}
 use Rattle.imagesize_fixed.specs.Vtf.{vtf}
 use Rattle.imagesize_fixed.specs.Webp.{webp}
-use Rattle.imagesize_source.specs.Layout.{Layout, bind, bytes, layout_reads}
+use Rattle.imagesize_source.specs.Layout.{Layout, accept, bind, bytes, layout_reads}
 use Rattle.imagesize_source.specs.Layout.Layout.{field, refuse, «done»}
 use Rattle.imagesize_source.specs.Reading.{Reads, gives}
 use Rattle.imagesize_source.specs.declared.endian.Endian.TheVariants.{Big, Little}
-use Rattle.imagesize_source.specs.declared.halt.Halt.TheVariants.{Corrupted, NotSupported}
+use Rattle.imagesize_source.specs.declared.halt.Halt.TheVariants.{NotSupported}
+use Rattle.imagesize_boxes.specs.Jxl.{jxl_size, jxl_start}
+use Rattle.imagesize_stream.specs.Steps.{kept_of}
 use Rattle.imagesize_stream.specs.declared.awaited.Awaited.{Awaited}
-use Rattle.imagesize_stream.specs.declared.awaited.Awaited.TheVariants.{Attribute, Chunk, Directory, Icon, Line, Meta, Segment, Word}
+use Rattle.imagesize_stream.specs.declared.awaited.Awaited.TheVariants.{Attribute, Box, Chunk, Directory, Icon, Line, Meta, Segment, Word}
 use Rattle.imagesize_stream.specs.declared.front.First.{First}
 use Rattle.imagesize_stream.specs.declared.front.First.TheVariants as first
 use Rattle.imagesize_stream.specs.declared.front.Opening.{Opening}
@@ -67,6 +69,14 @@ open_hdr = bind hdr_identifier (λ first. opens Line first)
 abbrev pub open_heif : Layout Opening
 open_heif = field Big 0 4 (λ first. opens Meta first)
 
+-- the first bytes of a JPEG XL that stands alone, or its boxes
+abbrev pub jxl_opened : Option (List ℕ) → Layout Opening
+jxl_opened (Some front) = accept (jxl_size front) (λ size. done (opened.Size size))
+jxl_opened None = opens (Box (kept_of [])) 12
+
+abbrev pub open_jxl : Layout Opening
+open_jxl = bind jxl_start jxl_opened
+
 -- the count of the icons
 abbrev pub open_ico : Layout Opening
 open_ico = field Little 4 2 (λ count. opens (Icon count 0 None) 6)
@@ -92,7 +102,7 @@ opening (Heif _) = open_heif
 opening Ico = open_ico
 opening Ilbm = opens Chunk 12
 opening Jpeg = opens (Segment 0) 2
-opening Jxl = refuse Corrupted
+opening Jxl = open_jxl
 opening Ktx2 = sized ktx2
 opening Pnm = opens Word 2
 opening (Pvrtc _) = sized pvrtc

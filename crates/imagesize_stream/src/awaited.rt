@@ -1,15 +1,17 @@
 //! The record that a stream awaits next, of each format whose size is behind records.
-ghost use Rattle.std.specs.Prelude.{◌≡◌, ℕ, ◌<◌, ◌≤◌, [], false, IfOk};
+ghost use Rattle.std.specs.Prelude.{◌≡◌, ℕ, ◌<◌, ◌≤◌, ◌++◌, length, [], false, IfOk};
 ghost use Rattle.imagesize_source.specs.Layout.{bind, layout_reads};
 ghost use Rattle.imagesize_source.specs.Paying.{Nears, Paid};
 ghost use Rattle.imagesize_source.specs.Reading.{is_stopped, map_answer, number_read};
 ghost use Rattle.imagesize_source.specs.State.{Follows, Runs};
 ghost use Rattle.imagesize_source.specs.Walk.{said_at};
-ghost use Rattle.imagesize_stream.specs.Steps.{IsSmall, IsSteady, StaysSteady, after, decides, ends_with, names_of, step};
+ghost use Rattle.imagesize_stream.specs.Steps.{IsSmall, IsSteady, StaysSteady, after, decides, ends_with, kept_of, names_of, step};
 ghost use Rattle.imagesize_walked.specs.Tiff.{head_bytes, value_bytes};
 ghost use Rattle.imagesize_stream.specs.declared.awaited.Awaited.TheVariants as awaited;
 
 use imagesize_boxes::container::heif::{self, Gathered, read_box};
+use imagesize_boxes::formats::jxl;
+use imagesize_boxes::formats::jxl::front::Front;
 use imagesize_source::readings::read_bytes;
 use imagesize_source::source::Source;
 use imagesize_source::walk::{Found, Records};
@@ -55,6 +57,15 @@ pub(crate) enum Awaited {
     Ipco,
     /// A property of a HEIF, behind those that amount to this.
     Property(Gathered),
+    /// A box of a JPEG XL, behind those with these first bytes of the codestream.
+    Box(Kept),
+}
+
+/// The first bytes of a codestream, so many, with zeros behind them.
+#[derive(Clone, Copy)]
+pub(crate) struct Kept {
+    pub(crate) bytes: [u8; 16],
+    pub(crate) len: usize,
 }
 
 /// How many entries a TIFF has, how many were read, and the sides that these give.
@@ -97,6 +108,7 @@ impl Awaited {
             Awaited::Iprp => read_iprp(source, place),
             Awaited::Ipco => read_ipco(source, place),
             Awaited::Property(gathered) => read_listed(source, place, gathered),
+            Awaited::Box(kept) => read_jxl_box(source, place, kept),
         }
     }
 
@@ -418,4 +430,39 @@ fn read_listed<S: Source>(
         held: Awaited::Property(heif::gather(gathered, property)),
         length: heif::property_bytes(property),
     })
+}
+
+/// Keeps these first bytes of a codestream.
+pub(crate) fn keep(front: &Front) -> Kept
+    ensures is { result ≡ kept_of front.now }
+    ensures few { result.len ≤ 16 }
+{
+    let mut bytes = [0u8; 16];
+    let len = front.len();
+    bytes[..len].copy_from_slice(front.as_slice());
+    Kept { bytes, len }
+}
+
+fn read_jxl_box<S: Source>(
+    source: &mut S,
+    place: u64,
+    kept: Kept,
+) -> Result<Found<Awaited, ImageSize>, Halt>
+    requires { kept.len ≤ 16 }
+    ensures nears { IfOk result (λ found. Nears (S.state source.old) (S.state source.new) place (said_at place found)) }
+    ensures steady { IfOk result (λ found. StaysSteady (said_at place found)) }
+    ensures runs { Follows (S.state source.old) (S.state source.new) (map_answer (said_at place) result) (step (awaited.Box kept) place) }
+{
+    let mut front = Front::of(kept.bytes, kept.len);
+    match jxl::boxes::read_box(source, place, &front)? {
+        Found::Answer(whole) => {
+            let size = whole.size()?;
+            Ok(Found::Answer(size))
+        }
+        Found::Other { held, length } => {
+            front.extend(held.as_slice());
+            let held = Awaited::Box(keep(&front));
+            Ok(Found::Other { held, length })
+        }
+    }
 }

@@ -1,13 +1,14 @@
 //! What the first bytes of an image tell: its type, and its size where that stands among them.
 ghost use Rattle.std.specs.Prelude.{◌≡◌};
-ghost use Rattle.imagesize_source.specs.Layout.Layout.{refuse};
 ghost use Rattle.imagesize_fixed.specs.Tga.{tga, tga_by_header};
 ghost use Rattle.imagesize_source.specs.State.{Follows};
-ghost use Rattle.imagesize_stream.specs.Streamed.{first_layout, open_exr, open_hdr, open_heif, open_ico, open_tiff, opening, opens};
+ghost use Rattle.imagesize_stream.specs.Streamed.{first_layout, open_exr, open_hdr, open_heif, open_ico, open_jxl, open_tiff, opening, opens};
 
-use crate::awaited::Awaited;
+use crate::awaited::{Awaited, keep};
 use imagesize::ImageType;
 use imagesize::formats::{first_row, with_compression};
+use imagesize_boxes::formats::jxl::front::Front;
+use imagesize_boxes::formats::jxl::read_start;
 use imagesize_fixed::container::{atc, dds, pkm, pvrtc};
 use imagesize_fixed::formats::tga::{has_sound_header, may_be_tga};
 use imagesize_fixed::formats::{
@@ -92,7 +93,7 @@ impl Fixed for FirstSize {
             ImageType::Ico => open_ico(source),
             ImageType::Ilbm => open_at(source, Awaited::Chunk, 12),
             ImageType::Jpeg => open_at(source, Awaited::Segment { depth: 0 }, 2),
-            ImageType::Jxl => refused(source),
+            ImageType::Jxl => open_jxl(source),
             ImageType::Ktx2 => Ok(Opening::Size(ktx2::size(source)?)),
             ImageType::Pnm => open_at(source, Awaited::Word, 2),
             ImageType::Pvrtc(_) => Ok(Opening::Size(pvrtc::size(source)?)),
@@ -207,12 +208,18 @@ fn open_heif<S: Source>(source: &mut S) -> Result<Opening, Halt>
     })
 }
 
-#[inline(always)]
-#[tactic(auto, using(imagesize_source::proofs::Runs::steps))]
-fn refused<S: Source>(source: &mut S) -> Result<Opening, Halt>
-    ensures { Follows (S.state source.old) (S.state source.new) result (refuse Halt.Corrupted) }
+#[tactic(auto, using(imagesize_source::proofs::Runs::steps, imagesize_source::proofs::Layouts::binding))]
+fn open_jxl<S: Source>(source: &mut S) -> Result<Opening, Halt>
+    ensures { Follows (S.state source.old) (S.state source.new) result open_jxl }
 {
-    // The proof needs that the input is not so long.
-    let _told = source.told();
-    Err(Halt::Corrupted)
+    match read_start(source)? {
+        Some(front) => {
+            let size = front.size()?;
+            Ok(Opening::Size(size))
+        }
+        None => Ok(Opening::Records {
+            next: Awaited::Box(keep(&Front::new())),
+            place: 12,
+        }),
+    }
 }

@@ -68,19 +68,20 @@ impl Records for Boxes {
     }
 }
 
-// The head of a box.
+/// The head of a box.
 #[derive(Clone, Copy)]
-struct BoxHead {
-    tag: [u8; 4],
-    // How many bytes the box has, with its head. An open box, which goes on to the end, has 0.
-    size: u64,
-    // How many of them are the head.
-    length: u64,
+pub struct BoxHead {
+    /// Its tag.
+    pub tag: [u8; 4],
+    /// How many bytes the box has, with its head. An open box, which goes on to the end, has 0.
+    pub size: u64,
+    /// How many of them are the head.
+    pub length: u64,
 }
 
-// The box at a place, behind boxes with these bytes of the codestream.
+/// Reads the box at an offset, behind boxes with these bytes of the codestream.
 #[tactic(auto, using(imagesize_source::proofs::Runs::steps, imagesize_source::proofs::Layouts::binding))]
-fn read_box<S: Source>(
+pub fn read_box<S: Source>(
     source: &mut S,
     place: u64,
     front: &Front,
