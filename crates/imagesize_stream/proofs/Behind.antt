@@ -1,5 +1,5 @@
 -- What goes on from the record that a format reads.
-use Rattle.std.proofs.Common.{◌≡◌, ℕ, ◌+◌, ◌-◌, ◌<◌, ◌≤◌, false, leb, List, length, Option, None, Some, Result, Ok, Err, refl, sym, ap, ◌∙◌, subst, arith}
+use Rattle.std.proofs.Common.{◌≡◌, ℕ, ◌-◌, ◌<◌, ◌≤◌, false, leb, List, length, Option, None, Some, Result, Ok, Err, refl, sym, subst, arith}
 use Rattle.std.proofs.lemmas.Bool.Decides.{nat_tests}
 use Rattle.std.specs.Option.{ForSome}
 use Rattle.imagesize_source.specs.declared.endian.Endian.{Endian}
@@ -11,7 +11,6 @@ use Rattle.imagesize_source.proofs.Layouts.{no_span}
 use Rattle.imagesize_stream.specs.Steps.{IsSmall}
 use Rattle.imagesize_types.specs.declared.size.ImageSize.{ImageSize}
 use Rattle.imagesize_walked.specs.Walks.{IsIcon}
-use Rattle.imagesize_source.specs.Chain.{Said, Decided, Next}
 use Rattle.imagesize_source.specs.Layout.{Layout, accept, bind, layout_reads}
 use Rattle.imagesize_source.specs.Layout.Layout.{field, «done»}
 use Rattle.imagesize_source.specs.Reading.{bytes_at, gives, map_answer, number_at, refuses}

@@ -1,5 +1,5 @@
 -- How a probe ends: what it tells where all bytes came.
-use Rattle.std.proofs.Common.{◌≡◌, ℕ, ◌+◌, ◌-◌, ◌<◌, ◌≤◌, List, [], ◌∷◌, ◌++◌, length, min, take, Option, None, Some, Result, Ok, Err, IfSome, refl, sym, ap, ◌∙◌, subst, arith}
+use Rattle.std.proofs.Common.{◌≡◌, ℕ, ◌+◌, ◌-◌, ◌≤◌, List, [], ◌∷◌, ◌++◌, length, take, Option, None, Some, Result, Ok, Err, IfSome, refl, sym, ap, ◌∙◌, subst, arith}
 use Rattle.std.proofs.lemmas.List.{append-nil, length-append, length-take, take_all}
 use Rattle.std.specs.Result.{result_ok}
 use Rattle.imagesize.specs.Meaning.{kind_reads, meaning_reads}
@@ -8,7 +8,7 @@ use Rattle.imagesize_pieces.specs.Stream.{AllBelow, Begins}
 use Rattle.imagesize_source.specs.Outcome.{stated}
 use Rattle.imagesize_source.specs.declared.error.ImageError.{ImageError}
 use Rattle.imagesize_source.specs.declared.halt.Halt.{Halt}
-use Rattle.imagesize_stream.specs.Heard.{RestsOnMore, SizeIs, TypeIs}
+use Rattle.imagesize_stream.specs.Heard.{RestsOnMore}
 use Rattle.imagesize_stream.specs.Probe.{CameBy, HoldsBy, IfAwaiting, TypeSays}
 use Rattle.imagesize_stream.specs.Pushed.{stage_answer}
 use Rattle.imagesize_stream.specs.declared.stage.Stage.{Stage}

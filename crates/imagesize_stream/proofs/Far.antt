@@ -1,5 +1,5 @@
 -- How far the record that is awaited is read.
-use Rattle.std.proofs.Common.{◌≡◌, ℕ, ◌+◌, ◌-◌, ◌≤◌, min, ◌++◌, drop, Bool, true, false, ◌&&◌, cond, eqb, List, length, slice_index, take, Option, None, Some, Result, Ok, Err, refl, arith}
+use Rattle.std.proofs.Common.{◌≡◌, ℕ, ◌+◌, ◌-◌, ◌≤◌, min, ◌++◌, drop, Bool, true, false, ◌&&◌, eqb, List, length, slice_index, take, Option, None, Some, Result, Ok, Err, arith}
 use Rattle.std.specs.Str.{trim}
 use Rattle.imagesize_pieces.proofs.Reaching.{reach_accept, reach_bind, reach_if}
 use Rattle.imagesize_pieces.specs.Stream.{Reach}
@@ -10,14 +10,14 @@ use Rattle.imagesize_source.specs.declared.halt.Halt.TheVariants.{Corrupted, Dat
 use Rattle.imagesize_stream.specs.Steps.{after, decides, ipco_leads, iprp_leads, jxl_verdict, kept_front, kept_of, listed_with, meta_leads, names_of, property_step, step}
 use Rattle.imagesize_stream.specs.declared.awaited.Awaited.{Awaited}
 use Rattle.imagesize_stream.specs.declared.awaited.Awaited.TheVariants.{Attribute, Box, Chunk, Directory, Entry, Icon, Ipco, Iprp, Line, Meta, Property, Segment, Word}
-use Rattle.imagesize_texts.proofs.Texts.{length_ok, line_ok, word_ok}
+use Rattle.imagesize_texts.proofs.Texts.{line_ok, word_ok}
 use Rattle.imagesize_texts.specs.Contents.{WordRead, line_length, line_text, number_text, word_text}
 use Rattle.imagesize_texts.specs.Exr.{exr_attribute, exr_named, exr_typed, exr_value, exr_window, is_box, is_data_window, window_size}
 use Rattle.imagesize_texts.specs.Hdr.{hdr_line, is_resolution, resolution}
 use Rattle.imagesize_texts.specs.Pnm.{is_blank, is_comment, pnm_comment, pnm_height, pnm_passed, pnm_size, pnm_word}
 use Rattle.imagesize_texts.specs.Texts.{line_at, passed_line, word}
 use Rattle.imagesize_types.specs.declared.size.ImageSize.{ImageSize}
-use Rattle.imagesize_walked.specs.Ilbm.{bitmap_header, chunk_bytes, chunk_length, ilbm_chunk, ilbm_named, is_bitmap_header, is_body}
+use Rattle.imagesize_walked.specs.Ilbm.{bitmap_header, chunk_bytes, chunk_length, ilbm_chunk, is_bitmap_header, is_body}
 use Rattle.imagesize_walked.specs.Jpeg.{is_own_end, is_own_frame, jpeg_frame, jpeg_marked, jpeg_other, jpeg_segment}
 use Rattle.imagesize_boxes.proofs.Heif.{by_found, by_searched}
 use Rattle.imagesize_boxes.proofs.JxlBoxes.{by_checked, by_content, by_head, by_piece}

@@ -1,5 +1,5 @@
 -- What may be a TGA: its header and its footer.
-use Rattle.std.proofs.Common.{◌≡◌, ℕ, ◌+◌, ◌-◌, ◌<◌, ◌≤◌, min, Bool, true, false, ◌&&◌, not, cond, leb, List, [], ◌++◌, length, slice_index, take, drop, Option, Some, None, Result, Ok, Err, refl, sym, ap, ◌∙◌, subst, arith}
+use Rattle.std.proofs.Common.{◌≡◌, ℕ, ◌+◌, ◌-◌, ◌<◌, ◌≤◌, min, Bool, true, false, ◌&&◌, not, cond, leb, List, ◌++◌, length, slice_index, take, drop, Option, Some, None, Result, Ok, Err, refl, sym, ap, ◌∙◌, subst, arith}
 use Rattle.std.proofs.lemmas.Bool.Decides.{nat_tests}
 use Rattle.std.proofs.lemmas.List.{drop-append-le, drop-drop, length-append, length-drop, length-take, take_all}
 use Rattle.std.specs.Result.{result_ok}
@@ -10,12 +10,12 @@ use Rattle.imagesize.specs.declared.types.ImageType.{ImageType}
 use Rattle.imagesize.specs.declared.types.ImageType.TheVariants.{Tga}
 use Rattle.imagesize_fixed.specs.Tga.{is_map_sound, is_pixel_sound, is_tga, is_tga_footer, lacks_its_map, may_be_tga, tga, tga_by_header}
 use Rattle.imagesize_pieces.proofs.Beginning.{begins_all, begins_left}
-use Rattle.imagesize_pieces.specs.Stream.{AllBelow, Begins, Reach, Says}
+use Rattle.imagesize_pieces.specs.Stream.{Begins, Reach, Says}
 use Rattle.imagesize_source.specs.Agreement.{is_covered}
 use Rattle.imagesize_source.specs.Input.{part, span_at, span_of}
 use Rattle.imagesize_source.specs.Layout.{Layout, bind, layout_reads}
 use Rattle.imagesize_source.specs.Layout.Layout.{field, reading, refuse, «done»}
-use Rattle.imagesize_source.specs.Reading.{Reads, Reading, AllOf, PartOf, TextOf, and_then, bytes_at, gives, go_on, is_faulted, number_at, put_behind, refuses}
+use Rattle.imagesize_source.specs.Reading.{Reads, AllOf, PartOf, TextOf, and_then, bytes_at, go_on, is_faulted, number_at, put_behind, refuses}
 use Rattle.imagesize_source.specs.declared.endian.Endian.{Endian}
 use Rattle.imagesize_source.specs.declared.endian.Endian.TheVariants.{Little}
 use Rattle.imagesize_source.specs.declared.halt.Halt.{Halt}

@@ -1,12 +1,12 @@
 -- What the first bytes say of every image that begins with them.
-use Rattle.std.proofs.Common.{◌≡◌, ℕ, ◌≤◌, List, [], ◌++◌, length, true, Result, Ok, Err, sym, ap, ◌∙◌, subst, arith}
+use Rattle.std.proofs.Common.{◌≡◌, ℕ, ◌≤◌, List, [], ◌++◌, length, true, Result, Ok, Err, sym, ap, ◌∙◌, subst}
 use Rattle.std.specs.Result.{result_ok}
 use Rattle.imagesize.specs.Meaning.{kind_reads, meaning_reads, size_reads}
 use Rattle.imagesize.specs.declared.types.ImageType.{ImageType}
 use Rattle.imagesize_pieces.specs.Stream.{AllBelow, Begins, Says}
 use Rattle.imagesize_pieces.proofs.Beginning.{begins_all}
 use Rattle.imagesize_source.specs.Agreement.{is_covered}
-use Rattle.imagesize_source.specs.Layout.{Layout, layout_reads}
+use Rattle.imagesize_source.specs.Layout.{layout_reads}
 use Rattle.imagesize_source.specs.Reading.{Reads, and_then, go_on, put_behind}
 use Rattle.imagesize_source.specs.declared.halt.Halt.{Halt}
 use Rattle.imagesize_source.specs.declared.span.Span.{Span}
@@ -14,13 +14,11 @@ use Rattle.imagesize_source.proofs.Agreement.{covered-left, covered-right}
 use Rattle.imagesize_source.proofs.Marks.{behind-behind}
 use Rattle.imagesize_stream.proofs.Firsts.{type_by_first}
 use Rattle.imagesize_stream.proofs.Opened.{opened_as, opened_rest}
-use Rattle.imagesize_stream.proofs.Running.{run}
 use Rattle.imagesize_stream.proofs.Saying.{OpensSteady, opening_steady, saying}
 use Rattle.imagesize_stream.specs.Heard.{RestsOnMore, SizeIs, TypeIs}
 use Rattle.imagesize_stream.specs.Steps.{IsSteady}
 use Rattle.imagesize_stream.specs.Streamed.{first_layout, opening, type_behind}
 use Rattle.imagesize_stream.specs.declared.awaited.Awaited.{Awaited}
-use Rattle.imagesize_stream.specs.declared.front.First.{First}
 use Rattle.imagesize_stream.specs.declared.front.First.TheVariants as first
 use Rattle.imagesize_stream.specs.declared.front.Opening.{Opening}
 use Rattle.imagesize_stream.specs.declared.front.Opening.TheVariants as opened

@@ -1,5 +1,5 @@
 -- The size of an image by its first bytes, and by the records behind them.
-use Rattle.std.proofs.Common.{◌≡◌, ℕ, ◌+◌, ◌-◌, ◌<◌, ◌≤◌, take, Bool, true, false, ltb, cond, eqb, List, [], ◌∷◌, ◌++◌, length, Option, None, Some, slice_index, Result, Ok, Err, refl, sym, ap, ◌∙◌, subst, arith}
+use Rattle.std.proofs.Common.{◌≡◌, ℕ, ◌+◌, ◌-◌, ◌<◌, Bool, ltb, eqb, List, [], ◌++◌, length, Option, None, Some, slice_index, Result, Ok, Err, refl, sym, ap, ◌∙◌, subst, arith}
 use Rattle.std.proofs.lemmas.Bool.Decides.{nat_tests}
 use Rattle.std.proofs.lemmas.List.{length_push}
 use Rattle.std.proofs.lemmas.List.{take-append-le, take_all}
@@ -26,12 +26,11 @@ use Rattle.imagesize_fixed.specs.Webp.{webp}
 use Rattle.imagesize_source.specs.Chain.{Said, Decided, Next, Chain, Advances, chain_at, start}
 use Rattle.imagesize_source.specs.Input.{span_of}
 use Rattle.imagesize_source.specs.Layout.{Layout, accept, bind, layout_reads}
-use Rattle.imagesize_source.specs.Layout.Layout.{field, reading, refuse, «done»}
-use Rattle.imagesize_source.specs.Reading.{Reads, and_then, bytes_at, gives, go_on, map_answer, number_at, read_of}
+use Rattle.imagesize_source.specs.Layout.Layout.{refuse, «done»}
+use Rattle.imagesize_source.specs.Reading.{Reads, and_then, bytes_at, gives, map_answer, number_at}
 use Rattle.imagesize_source.specs.declared.endian.Endian.TheVariants.{Big, Little}
 use Rattle.imagesize_source.specs.declared.halt.Halt.{Halt}
 use Rattle.imagesize_source.specs.declared.halt.Halt.TheVariants.{Corrupted}
-use Rattle.imagesize_source.specs.declared.span.Span.{Span}
 use Rattle.imagesize_source.proofs.Layouts.{onward-and_then, over-bind}
 use Rattle.imagesize_source.proofs.Tests.{on_test}
 use Rattle.imagesize_stream.specs.Steps.{after, decides, gathered_first, ipco_leads, iprp_leads, jxl_verdict, kept_front, kept_of, listed_with, meta_leads, names_of, property_step, step}
@@ -55,11 +54,11 @@ use Rattle.imagesize_types.specs.declared.size.ImageSize.{ImageSize}
 use Rattle.imagesize_walked.proofs.Ilbm.{ilbm_advances}
 use Rattle.imagesize_walked.proofs.Jpeg.{jpeg_advances, nested_on}
 use Rattle.imagesize_walked.specs.Ilbm.{ilbm, ilbm_chunk, ilbm_chunks}
-use Rattle.imagesize_walked.specs.Jpeg.{depth, is_own_end, is_own_frame, jpeg, jpeg_frame, jpeg_marked, jpeg_other, jpeg_segment, jpeg_segments}
+use Rattle.imagesize_walked.specs.Jpeg.{is_own_end, is_own_frame, jpeg, jpeg_frame, jpeg_marked, jpeg_other, jpeg_segment, jpeg_segments}
 use Rattle.imagesize_boxes.proofs.Heif.{amounts_on, answer_read, answers, by_searched, properties_advance, search_advances}
 use Rattle.imagesize_boxes.proofs.JxlBoxes.{joined, jxl_advances}
 use Rattle.imagesize_boxes.specs.Jxl.{codestream, jxl, jxl_box, jxl_chain, jxl_size, jxl_start}
-use Rattle.imagesize_boxes.specs.Heif.{heif as heif_reads, heif_in_iprp, heif_in_meta, properties, property_at, property_bytes, property_or_answer, search_for, searched_box}
+use Rattle.imagesize_boxes.specs.Heif.{heif as heif_reads, heif_in_iprp, heif_in_meta, properties, property_at, property_or_answer, search_for, searched_box}
 use Rattle.imagesize_boxes.specs.Walks.{Amounts, gathered_answer, gathered_with}
 use Rattle.imagesize_boxes.specs.declared.container.heif.FoundBox.{FoundBox}
 use Rattle.imagesize_boxes.specs.declared.container.heif.Gathered.{Gathered}

@@ -1,5 +1,5 @@
 -- How far the readings of a type, and of a size at fixed offsets, go.
-use Rattle.std.proofs.Common.{ℕ, ◌+◌, ◌++◌, length, Bool, true, false, cond, eqb, List, [], ◌∷◌, Option, None, Some, slice_index, arith}
+use Rattle.std.proofs.Common.{ℕ, ◌+◌, ◌++◌, length, cond, eqb, List, [], ◌∷◌, Option, None, Some, slice_index, arith}
 use Rattle.std.specs.Prelude.{codes}
 use Rattle.std.specs.Str.{bytes_eq}
 use Rattle.imagesize.specs.Kind.{first_row, with_compression}
@@ -21,8 +21,8 @@ use Rattle.imagesize_types.specs.Table.{look_up_text}
 use Rattle.imagesize_types.specs.declared.compression.DdsCompression.TheVariants.{Unknown as unknown_dds}
 use Rattle.imagesize_types.specs.declared.compression.PvrtcCompression.TheVariants.{Unknown as unknown_pvrtc}
 use Rattle.imagesize_source.specs.declared.halt.Halt.TheVariants.{BigTiffOffsetSize, InvalidBigTiffHeader, InvalidHdrIdentifier, InvalidVp8Tag, NotSupported}
-use Rattle.imagesize_source.specs.Layout.{Layout, bind, bytes, bytes_there, if_there, whole}
-use Rattle.imagesize_source.specs.Layout.Layout.{field, reading, refuse, «done»}
+use Rattle.imagesize_source.specs.Layout.{Layout, bytes, bytes_there, if_there, whole}
+use Rattle.imagesize_source.specs.Layout.Layout.{field, refuse, «done»}
 use Rattle.imagesize_pieces.specs.Stream.{Reach}
 use Rattle.imagesize_pieces.proofs.Reaching.{reach_accept, reach_bind, reach_if}
 use Rattle.imagesize_stream.specs.declared.awaited.Awaited.TheVariants.{Directory, Line}

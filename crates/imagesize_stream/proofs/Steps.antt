@@ -1,5 +1,5 @@
 -- The chain of what is awaited: it advances, how far its records reach, and how it ends.
-use Rattle.std.proofs.Common.{◌≡◌, ℕ, ◌+◌, ◌<◌, ◌≤◌, Bool, true, false, cond, eqb, List, [], ◌++◌, length, None, Result, Ok, Err, refl, sym, ap, ◌∙◌, arith}
+use Rattle.std.proofs.Common.{◌≡◌, ℕ, ◌+◌, ◌<◌, ◌≤◌, Bool, true, false, cond, eqb, List, [], ◌++◌, length, None, Result, Ok, Err, refl, ap, ◌∙◌, arith}
 use Rattle.std.specs.Prelude.{codes, ok_or}
 use Rattle.imagesize_boxes.proofs.Heif.{by_found, by_searched, search_ends}
 use Rattle.imagesize_boxes.proofs.JxlBoxes.{box_begins as jxl_begins, box_tells as jxl_tells, boxes_end}
@@ -9,7 +9,7 @@ use Rattle.imagesize_boxes.specs.Walks.{gathered_answer}
 use Rattle.imagesize_boxes.specs.declared.container.heif.Gathered.{Gathered}
 use Rattle.imagesize_source.specs.Chain.{Said, Decided, Next, Advances}
 use Rattle.imagesize_source.specs.Layout.{Layout, accept, done, refuse, field, reading, bind, layout_reads, whole}
-use Rattle.imagesize_source.specs.Reading.{Reading, AllOf, PartOf, TextOf, Reads, and_then, map_answer, refuses}
+use Rattle.imagesize_source.specs.Reading.{Reading, AllOf, PartOf, TextOf, and_then, map_answer, refuses}
 use Rattle.imagesize_source.specs.declared.halt.Halt.TheVariants.{Corrupted, Ended, NoDimensionsInIfd}
 use Rattle.imagesize_source.specs.declared.halt.Halt.{Halt}
 use Rattle.imagesize_source.proofs.Advances.{Begins, OrSome, Tells, advances}

@@ -1,16 +1,14 @@
 -- A probe whose bytes come in pieces: which bytes came, and what they tell.
-use Rattle.std.specs.Prelude.{◌≡◌, ℕ, ◌+◌, ◌-◌, ◌<◌, ◌≤◌, List, length, drop, take, Option, None, Some, Result, IfSome}
+use Rattle.std.specs.Prelude.{◌≡◌, ℕ, ◌-◌, ◌<◌, ◌≤◌, List, length, drop, take, Option, Some, IfSome}
 use Rattle.std.specs.Coded.{Unit-prop, le_prop, ×_prop}
 use Rattle.imagesize.specs.Meaning.{meaning_reads}
 use Rattle.imagesize.specs.declared.types.ImageType.{ImageType}
 use Rattle.imagesize_pieces.specs.Stream.{Begins, Streams}
 use Rattle.imagesize_pieces.specs.declared.stand.Stand.{Stand}
-use Rattle.imagesize_source.specs.declared.halt.Halt.{Halt}
 use Rattle.imagesize_stream.specs.Heard.{IsByFooter, SizeIs, TypeIs}
 use Rattle.imagesize_stream.specs.Steps.{Awaits, IsSteady, awaited_said, steady_prop}
 use Rattle.imagesize_stream.specs.declared.stage.Stage.{Stage}
 use Rattle.imagesize_stream.specs.declared.stage.Stage.TheVariants.{Done, First, Footer, Records}
-use Rattle.imagesize_types.specs.declared.size.ImageSize.{ImageSize}
 
 -- what is known of the type
 abbrev pub TypeSays : List ℕ → ℕ → Option ImageType → Type 0

@@ -1,5 +1,5 @@
 -- What a stream awaits of an image whose size is behind records: the record that is next, as one chain for all formats.
-use Rattle.std.specs.Prelude.{◌≡◌, ℕ, ◌+◌, ◌-◌, ◌++◌, length, take, replicate, ◌<◌, ◌≤◌, ◌==◌, Bool, true, false, List, [], ◌∷◌, Option, None, Some, Result, Ok, Err, codes, ok_or, unwrap_or, if◌then◌else◌}
+use Rattle.std.specs.Prelude.{◌≡◌, ℕ, ◌+◌, ◌-◌, ◌++◌, length, take, replicate, ◌<◌, ◌≤◌, ◌==◌, Bool, List, Option, None, Some, Result, Err, codes, ok_or, unwrap_or, if◌then◌else◌}
 use Rattle.std.specs.Coded.{Unit-prop, le_prop, ×_prop}
 use Rattle.std.specs.List.{last_or}
 use Rattle.imagesize_source.specs.Chain.{Said, Decided, Next, Chain}

@@ -1,4 +1,4 @@
-use Rattle.std.proofs.Common.{◌≡◌, ◌+◌, rules, refl, ap, sym, ◌∙◌}
+use Rattle.std.proofs.Common.{◌+◌, rules, refl, ap, sym, ◌∙◌}
 use Rattle.imagesize_source.specs.Chain.{Decided, Next}
 use Rattle.imagesize_source.specs.Layout.Layout.{«done»}
 use Rattle.imagesize_stream.proofs.Behind.{runs_off, runs_on}

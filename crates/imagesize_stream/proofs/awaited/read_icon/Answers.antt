@@ -1,4 +1,4 @@
-use Rattle.std.proofs.Common.{◌≡◌, ◌+◌, rules, ap, sym, ◌∙◌}
+use Rattle.std.proofs.Common.{◌+◌, rules, ap, sym, ◌∙◌}
 use Rattle.imagesize_source.specs.Chain.{Next}
 use Rattle.imagesize_source.specs.Layout.Layout.{«done»}
 use Rattle.imagesize_stream.proofs.Behind.{icon_small, runs_off, runs_on, small_icon}

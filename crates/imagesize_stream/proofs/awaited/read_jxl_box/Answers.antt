@@ -1,4 +1,4 @@
-use Rattle.std.proofs.Common.{◌≡◌, ◌+◌, ◌++◌, List, ℕ, rules, refl, sym, ap, ◌∙◌}
+use Rattle.std.proofs.Common.{◌≡◌, ◌+◌, ◌++◌, rules, refl, sym, ap, ◌∙◌}
 use Rattle.imagesize_boxes.specs.Jxl.{jxl_box}
 use Rattle.imagesize_source.specs.Chain.{Decided, Next}
 use Rattle.imagesize_source.specs.Layout.Layout.{«done»}

@@ -1,4 +1,4 @@
-use Rattle.std.proofs.Common.{◌≡◌, ◌≤◌, true, false, refl, sym, ◌∙◌}
+use Rattle.std.proofs.Common.{refl, sym, ◌∙◌}
 use Rattle.imagesize_fixed.specs.Tga.{tga, tga_by_header}
 use Rattle.imagesize_stream.proofs.Footers.{footer_decides, header_reach, header_size, header_sure, header_type, never_refused, rests_on_more, short_size, short_type, size_reach, size_sure}
 use Rattle.imagesize_stream.proofs.hear.hear_tga.Goals as goal

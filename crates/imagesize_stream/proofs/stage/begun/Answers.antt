@@ -1,4 +1,4 @@
-use Rattle.std.proofs.Common.{◌≡◌, ◌≤◌, ◌++◌, Some, length, take, arith}
+use Rattle.std.proofs.Common.{Some, take, arith}
 use Rattle.imagesize_stream.proofs.Coming.{awaiting_map, opened_came}
 use Rattle.imagesize_stream.proofs.Hearing.{type_is}
 use Rattle.imagesize_stream.proofs.stage.begun.Goals as goal

@@ -1,4 +1,4 @@
-use Rattle.std.proofs.Common.{◌≡◌, ◌-◌, ◌++◌, length, take, sym, ◌∙◌}
+use Rattle.std.proofs.Common.{◌-◌, ◌++◌, length, take, sym, ◌∙◌}
 use Rattle.imagesize_stream.proofs.Ending.{awaiting_none, rests_below, tells_all}
 use Rattle.imagesize_stream.proofs.probe.StreamProbe.push.Goals as goal
 

@@ -1,4 +1,4 @@
-use Rattle.std.proofs.Common.{◌≡◌, ℕ, ◌-◌, ◌++◌, ◌≤◌, List, length, take, refl, sym, ap, ◌∙◌, subst, arith}
+use Rattle.std.proofs.Common.{ℕ, ◌-◌, ◌++◌, List, length, take, refl, arith}
 use Rattle.imagesize_stream.proofs.Coming.{awaiting_map}
 use Rattle.imagesize_stream.proofs.Ending.{as_many, awaiting_as, rests_cut}
 use Rattle.imagesize_stream.specs.Heard.{RestsOnMore}

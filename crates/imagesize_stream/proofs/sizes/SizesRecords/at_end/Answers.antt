@@ -1,6 +1,6 @@
-use Rattle.std.proofs.Common.{◌≡◌, [], ap, ◌∙◌}
+use Rattle.std.proofs.Common.{[], ap, ◌∙◌}
 use Rattle.imagesize_source.specs.Chain.{Said, Decided}
-use Rattle.imagesize_source.specs.Reading.{Reads, map_answer}
+use Rattle.imagesize_source.specs.Reading.{map_answer}
 use Rattle.imagesize_stream.proofs.Steps.{step_ends}
 use Rattle.imagesize_stream.specs.Steps.{ends_with, last_awaited}
 use Rattle.imagesize_stream.specs.declared.awaited.Awaited.{Awaited}

@@ -1,4 +1,4 @@
-use Rattle.std.proofs.Common.{◌∷◌, None, ap}
+use Rattle.std.proofs.Common.{None, ap}
 use Rattle.std.specs.Prelude.{unwrap_or}
 use Rattle.imagesize_source.proofs.Lists.{last_push}
 use Rattle.imagesize_stream.specs.declared.awaited.Awaited.TheVariants.{Chunk}
