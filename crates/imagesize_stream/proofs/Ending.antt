@@ -1,5 +1,5 @@
 -- How a probe ends: what it tells where all bytes came.
-use Rattle.std.proofs.Common.{◌≡◌, ℕ, ◌+◌, ◌-◌, ◌≤◌, List, [], ◌∷◌, ◌++◌, length, take, Option, None, Some, Result, Ok, Err, IfSome, refl, sym, ap, ◌∙◌, subst, arith}
+use Rattle.std.proofs.Common.{◌≡◌, ℕ, zero, suc, ◌+◌, ◌-◌, ◌≤◌, List, [], ◌∷◌, ◌++◌, length, take, Option, None, Some, Result, Ok, Err, IfSome, refl, sym, ap, ◌∙◌, subst, arith}
 use Rattle.std.proofs.lemmas.List.{append-nil, length-append, length-take, take_all}
 use Rattle.std.specs.Result.{result_ok}
 use Rattle.imagesize.specs.Meaning.{kind_reads, meaning_reads}
@@ -112,3 +112,16 @@ pub finished : (kind : Option ImageType) (stage : Stage) (start place passed tol
     → (answer.0 ≡ result_ok (stated (kind_reads front 0).answer)) × (answer.1 ≡ stated (meaning_reads front 0).answer)
 finished kind stage start place passed told room front none answer is came empty fits =
     tells kind stage start place passed told room (front ++ none) front answer is came (begins_whole front none told empty fits)
+
+take_both : (n : ℕ) (xs ys : List ℕ) → take n (xs ++ ys) ≡ take n xs ++ take (n - length xs) ys
+take_both zero xs ys = let e : 0 - length xs ≡ 0 = omega arith in rw e refl
+take_both (suc n) [] ys = let e : suc n - 0 ≡ suc n = omega arith in rw e refl
+take_both (suc n) (x ∷ xs) ys = let e : suc n - suc (length xs) ≡ n - length xs = omega arith in rw e (ap (λ zs. x ∷ zs) (take_both n xs ys))
+
+-- the first bytes of two pieces, of which so many are told
+pub both_pieces : (told was then : ℕ) (first second : List ℕ) → was ≡ told → then ≡ told
+    → ([] ++ take (was - length {A = ℕ} []) first) ++ take (then - length ([] ++ take (was - length {A = ℕ} []) first)) second ≡ take told (first ++ second)
+both_pieces told was then first second is also =
+    let all : was - length {A = ℕ} [] ≡ told = omega (arith, is) in
+    let rest : then - length (take told first) ≡ told - length first = omega (arith, also, length-take told first) in
+    rw all (ap (λ k. take told first ++ take k second) rest ∙ sym (take_both told first second))

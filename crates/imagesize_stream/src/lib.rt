@@ -4,8 +4,10 @@
 mod awaited;
 mod front;
 mod hear;
+mod laws;
 mod probe;
 mod sizes;
 mod stage;
 
+pub use laws::probe_two;
 pub use probe::StreamProbe;
