@@ -1,7 +1,7 @@
 -- What may be a TGA: its header and its footer.
-use Rattle.std.proofs.Common.{◌≡◌, ℕ, ◌+◌, ◌-◌, ◌<◌, ◌≤◌, min, Bool, true, false, ◌&&◌, not, cond, leb, List, ◌++◌, length, slice_index, take, drop, Option, Some, None, Result, Ok, Err, refl, sym, ap, ◌∙◌, subst, arith}
+use Rattle.std.proofs.Common.{◌≡◌, ℕ, ◌+◌, ◌-◌, ◌<◌, ◌≤◌, min, Bool, true, false, ◌&&◌, not, cond, leb, List, [], ◌++◌, length, slice_index, take, drop, Option, Some, None, Result, Ok, Err, refl, sym, ap, ◌∙◌, subst, arith}
 use Rattle.std.proofs.lemmas.Bool.Decides.{nat_tests}
-use Rattle.std.proofs.lemmas.List.{drop-append-le, drop-drop, length-append, length-drop, length-take, take_all}
+use Rattle.std.proofs.lemmas.List.{append-nil, drop-append-le, drop-drop, length-append, length-drop, length-take, take_all}
 use Rattle.std.specs.Result.{result_ok}
 use Rattle.imagesize.specs.Kind.{first_row, tga_or_none, with_compression}
 use Rattle.imagesize.specs.Meaning.{kind_reads, meaning_reads, size_reads}
@@ -62,9 +62,11 @@ sure d n (field order place k f) enough h =
     let rest = sure d n (f v.0) enough (h.1 v.0) in
     (rest.0, sure_on (span_of d place k) (number_at d order place k) (λ n. layout_reads d (f n)) v.0 rest.0 v.1 rest.1)
 sure d n (reading (AllOf k) place f) enough h =
-    let rest = sure d n (f (part d place k)) enough (h.1 (part d place k)) in
-    (rest.0, sure_on (span_of d place k) (bytes_at d place k) (λ bs. layout_reads d (f bs)) (part d place k) rest.0
-    (bytes_sure d place k (omega (arith, h.0, enough))) rest.1)
+    let rest = sure d n (f (part d place k)) enough (h.1 (part d place k)) in (
+      rest.0,
+      sure_on (span_of d place k) (bytes_at d place k) (λ bs. layout_reads d (f bs)) (part d place k) rest.0
+          (bytes_sure d place k (omega (arith, h.0, enough))) rest.1,
+    )
 sure d n (reading (PartOf k) place f) enough h = absurd h
 sure d n (reading (TextOf t k) place f) enough h = absurd h
 
@@ -195,9 +197,9 @@ module _ (front : List ℕ) (told : ℕ) (head : List ℕ)
         ap (λ (r : Reads ImageType). r.answer) (over-bind d (tga_by_header head) tga_or_none
         ∙ ap (λ r. and_then r (λ is. layout_reads d (tga_or_none is))) (header.is d begins))
         ∙ by_sound sound where
-      by_sound : (s : Bool) → (layout_reads d (tga_or_none s)).answer ≡ weighed false (s && true) Tga
-      by_sound true = refl
-      by_sound false = refl
+          by_sound : (s : Bool) → (layout_reads d (tga_or_none s)).answer ≡ weighed false (s && true) Tga
+          by_sound true = refl
+          by_sound false = refl
 
     type_weighed : (d : List ℕ) → Begins front told d → 18 ≤ length d → (kind_reads d 0).answer ≡ weighed (is_tga_footer (footer_of d)) by_header Tga
     type_weighed d begins long =
@@ -281,3 +283,15 @@ footer_tells front chunk last told size b long all is by_footer decides within =
   kind_by : (b : Bool) → result_ok (cond {A = Result ImageType Halt} b (Ok Tga) (Err NotSupported)) ≡ cond b (Some Tga) None
   kind_by true = refl
   kind_by false = refl
+
+-- the last of the first bytes
+pub last_kept : (room new : List ℕ) (passed skip : ℕ) → passed ≤ length room → 18 ≤ length (take passed room) → skip ≡ passed - 18
+    → take (passed + length {A = ℕ} [] - skip) new ≡ drop skip (take passed room ++ [])
+    → (passed ≡ length (take passed room)) × (take 18 new ≡ drop (length (take passed room) - 18) (take passed room))
+last_kept room new passed skip within some is kept =
+    let many : passed ≡ length (take passed room) = omega (arith, length-take passed room, within) in
+    let all : passed + length {A = ℕ} [] - skip ≡ 18 = omega (arith, is, some, many) in
+    let at : skip ≡ length (take passed room) - 18 = omega (arith, is, many) in (
+      many,
+      ap (λ k. take k new) (sym all) ∙ kept ∙ ap (drop skip) (append-nil (take passed room)) ∙ ap (λ k. drop k (take passed room)) at,
+    )

@@ -10,3 +10,4 @@ pub mod Saying
 pub mod Coming
 pub mod Footers
 pub mod Ending
+pub mod Words

@@ -41,15 +41,16 @@ use Rattle.imagesize_stream.specs.declared.awaited.Listed.{Listed}
 use Rattle.imagesize_stream.specs.declared.front.Opening.{Opening}
 use Rattle.imagesize_stream.specs.declared.front.Opening.TheVariants as opened
 use Rattle.imagesize_stream.proofs.Firsts.{seen_from}
+use Rattle.imagesize_stream.proofs.Words.{word_unrolls}
 use Rattle.imagesize_stream.proofs.Saying.{Saying, saying}
-use Rattle.imagesize_stream.proofs.Running.{as_awaited, by_size, goes, on_answer, run, run_unfolds}
+use Rattle.imagesize_stream.proofs.Running.{as_awaited, as_unrolled, by_size, goes, on_answer, run, run_unfolds}
 use Rattle.imagesize_texts.proofs.Exr.{attribute_advances}
 use Rattle.imagesize_texts.proofs.Hdr.{hdr_advances}
 use Rattle.imagesize_texts.proofs.Pnm.{pnm_advances}
 use Rattle.imagesize_texts.specs.Exr.{exr, exr_attribute, exr_attributes, name_room}
 use Rattle.imagesize_texts.specs.Hdr.{hdr, hdr_identifier, hdr_line, hdr_lines}
-use Rattle.imagesize_texts.specs.Pnm.{pnm, pnm_word, pnm_words}
-use Rattle.imagesize_texts.specs.Texts.{line_at, word}
+use Rattle.imagesize_texts.specs.Pnm.{pnm, pnm_words}
+use Rattle.imagesize_texts.specs.Texts.{line_at}
 use Rattle.imagesize_types.specs.declared.size.ImageSize.{ImageSize}
 use Rattle.imagesize_walked.proofs.Ilbm.{ilbm_advances}
 use Rattle.imagesize_walked.proofs.Jpeg.{jpeg_advances, nested_on}
@@ -120,7 +121,10 @@ ilbm_as : (d : List ℕ) → run Chunk 12 d ≡ ilbm d
 ilbm_as = alike_as ilbm_chunks Chunk ilbm_chunk (λ held place. refl) (λ place. refl) ilbm_advances
 
 pnm_as : (d : List ℕ) → run Word 2 d ≡ pnm d
-pnm_as = alike_as pnm_words Word (λ place. word place (pnm_word place)) (λ held place. refl) (λ place. refl) pnm_advances
+pnm_as d =
+    as_unrolled {T = Unit {0}} pnm_words (λ _. Word) (λ _ _. tt) decides (λ _ _. Unit {0}) d (pnm_advances d) (λ t x known. word_unrolls d t.place)
+    (λ t x v q known got. tt) (start pnm_words) tt tt
+    ∙ by_size d (pnm d)
 
 lines_as : (first : ℕ) (d : List ℕ) → run Line first d ≡ chain_at (hdr_lines first) d
 lines_as first = alike_as (hdr_lines first) Line (λ place. line_at 0x0A place 256 (hdr_line place)) (λ held place. refl) (λ place. refl) (hdr_advances first)

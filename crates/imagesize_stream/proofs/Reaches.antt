@@ -79,8 +79,12 @@ reach_sized : (t : Layout ImageSize) → Reach 0 132 t → Reach 0 132 (sized t)
 reach_sized t reach = reach_bind 0 132 t (λ size. done (opened.Size size)) reach (λ size. tt)
 
 identifier_reaches : Reach 0 132 hdr_identifier
-identifier_reaches = (omega arith, omega arith, λ bs few. reach_accept 0 132 (line_text 0x0A 11 bs) check_identifier
-    (λ text _. reach_if (is_identifier text) 0 132 (done (length text + 1)) (refuse InvalidHdrIdentifier) tt tt))
+identifier_reaches = (
+  omega arith,
+  omega arith,
+  λ bs few. reach_accept 0 132 (line_text 0x0A 11 bs) check_identifier
+      (λ text _. reach_if (is_identifier text) 0 132 (done (length text + 1)) (refuse InvalidHdrIdentifier) tt tt),
+)
 
 place_reaches : (order : Endian) (version : Version) → Reach 0 132 (stated_place order version)
 unfolding stated_place
@@ -88,9 +92,12 @@ place_reaches order Tiff_version = (omega arith, omega arith, λ place. tt)
 place_reaches order BigTiff = (
   omega arith,
   omega arith,
-  λ size. reach_if (eqb size 8) 0 132 (field order 6 2 (λ zeros. cond (eqb zeros 0) (field order 8 8 done) (refuse InvalidBigTiffHeader))) (refuse BigTiffOffsetSize)
-      (omega arith, omega arith, λ zeros. reach_if (eqb zeros 0) 0 132 (field order 8 8 done) (refuse InvalidBigTiffHeader)
-      (omega arith, omega arith, λ place. tt) tt) tt,
+  λ size. reach_if (eqb size 8) 0 132 (field order 6 2 (λ zeros. cond (eqb zeros 0) (field order 8 8 done) (refuse InvalidBigTiffHeader))) (refuse BigTiffOffsetSize) (
+    omega arith,
+    omega arith,
+    λ zeros. reach_if (eqb zeros 0) 0 132 (field order 8 8 done) (refuse InvalidBigTiffHeader)
+        (omega arith, omega arith, λ place. tt) tt,
+  ) tt,
 )
 
 header_reaches : Reach 0 132 tiff_header

@@ -73,13 +73,13 @@ run_unfolds d next place =
     ∙ on_answer (layout_reads d (step next place)).marks (layout_reads d (step next place)).answer (follows awaited_chain d (next ∷ [])) (goes d)
     (λ said _. follows_goes d next said)
 
--- A format whose chain is c. Behind some of its records x is kept, by which the record that is next is awaited.
+-- A format whose chain is c. Behind some of its records x is kept, by which the record that is next is awaited. The readings of
+-- what is awaited are those of the chain's record, and of what is behind it.
 module _ {C Y T : Type 0} (c : Chain C Y) (awaits : T → Awaited) (on : T → C → T) (verdict_of : Y → Layout (Said Awaited ImageSize))
-    (R : List C → T → Type 0)
-    (same : (d : List ℕ) (held : List C) (x : T) (place : ℕ) → R held x
-    → layout_reads d (step (awaits x) place) ≡ and_then (layout_reads d (c.said held place)) (λ said. layout_reads d (after (λ v. awaits (on x v)) verdict_of said)))
-    (keeps : (d : List ℕ) (held : List C) (x : T) (place : ℕ) (v : C) (q : ℕ) → R held x → (layout_reads d (c.said held place)).answer ≡ Ok (Next v q)
-    → R (held ++ v ∷ []) (on x v)) (d : List ℕ) (adv : Advances c d) where
+    (R : List C → T → Type 0) (d : List ℕ) (adv : Advances c d)
+    (unrolls : (t : Along C) (x : T) → R t.held x → run (awaits x) t.place d
+    ≡ and_then (next_record c d t) (λ said. and_then (layout_reads d (after (λ v. awaits (on x v)) verdict_of said)) (goes d)))
+    (keeps : (t : Along C) (x : T) (v : C) (q : ℕ) → R t.held x → (next_record c d t).answer ≡ Ok (Next v q) → R (t.held ++ v ∷ []) (on x v)) where
   abbrev behind : Y → Reads ImageSize
   behind y = and_then (layout_reads d (verdict_of y)) (goes d)
 
@@ -89,12 +89,6 @@ module _ {C Y T : Type 0} (c : Chain C Y) (awaits : T → Awaited) (on : T → C
   abbrev its : List C → Said C Y → Reads ImageSize
   its held said = and_then (follows c d held said) behind
 
-  unrolled : (t : Along C) (x : T) → R t.held x → run (awaits x) t.place d ≡ and_then (next_record c d t) (mine x)
-  unrolled t x known =
-      run_unfolds d (awaits x) t.place ∙ ap (λ r. and_then r (goes d)) (same d t.held x t.place known)
-      ∙ sym (onward-and_then (next_record c d t).marks (next_record c d t).answer (λ said. layout_reads d (after (λ v. awaits (on x v)) verdict_of said)) (goes d)
-      (mine x) (λ said. refl))
-
   chained : (t : Along C) → and_then (next_record c d t) (its t.held) ≡ and_then (chain_from c d t) behind
   chained t =
       onward-and_then (next_record c d t).marks (next_record c d t).answer (follows c d t.held) behind (its t.held) (λ said. refl)
@@ -103,19 +97,37 @@ module _ {C Y T : Type 0} (c : Chain C Y) (awaits : T → Awaited) (on : T → C
   alike : (t : Along C) (x : T) → R t.held x → ((said : Said C Y) → (next_record c d t).answer ≡ Ok said → mine x said ≡ its t.held said)
       → run (awaits x) t.place d ≡ and_then (chain_from c d t) behind
   alike t x known at =
-      unrolled t x known ∙ on_answer (next_record c d t).marks (next_record c d t).answer (mine x) (its t.held) at ∙ chained t
+      unrolls t x known ∙ on_answer (next_record c d t).marks (next_record c d t).answer (mine x) (its t.held) at ∙ chained t
 
-  -- the readings of what is awaited are those of the chain, and what goes on from its verdict
-  pub as_awaited : (t : Along C) (x : T) → R t.held x → run (awaits x) t.place d ≡ and_then (chain_from c d t) behind
-  as_awaited = chain_induction c d (λ t. (x : T) → R t.held x → run (awaits x) t.place d ≡ and_then (chain_from c d t) behind) adv
+  pub as_unrolled : (t : Along C) (x : T) → R t.held x → run (awaits x) t.place d ≡ and_then (chain_from c d t) behind
+  as_unrolled = chain_induction c d (λ t. (x : T) → R t.held x → run (awaits x) t.place d ≡ and_then (chain_from c d t) behind) adv
       (λ t v q is later x known. alike t x known (λ said got.
       let one : Next v q ≡ said = cc in
-      subst (λ s. mine x s ≡ its t.held s) one (later (on x v) (keeps d t.held x t.place v q known is))))
+      subst (λ s. mine x s ≡ its t.held s) one (later (on x v) (keeps t x v q known is))))
       (λ t r is x known. alike t x known (by_verdict t x r is)) where
-    by_verdict : (t : Along C) (x : T) (r : Result Y Halt) → verdict (next_record c d t).answer ≡ Some r → (said : Said C Y)
-        → (next_record c d t).answer ≡ Ok said → mine x said ≡ its t.held said
-    by_verdict t x r is (Decided y) got = refl
-    by_verdict t x r is (Next v q) got = absurd (let no : ◌≡◌ {A = Option (Result Y Halt)} None (Some r) = sym (ap verdict got) ∙ is in cc)
+        by_verdict : (t : Along C) (x : T) (r : Result Y Halt) → verdict (next_record c d t).answer ≡ Some r → (said : Said C Y)
+            → (next_record c d t).answer ≡ Ok said → mine x said ≡ its t.held said
+        by_verdict t x r is (Decided y) got = refl
+        by_verdict t x r is (Next v q) got = absurd (let no : ◌≡◌ {A = Option (Result Y Halt)} None (Some r) = sym (ap verdict got) ∙ is in cc)
+
+-- the same where each record that is awaited is one of the chain
+module _ {C Y T : Type 0} (c : Chain C Y) (awaits : T → Awaited) (on : T → C → T) (verdict_of : Y → Layout (Said Awaited ImageSize))
+    (R : List C → T → Type 0)
+    (same : (d : List ℕ) (held : List C) (x : T) (place : ℕ) → R held x
+    → layout_reads d (step (awaits x) place) ≡ and_then (layout_reads d (c.said held place)) (λ said. layout_reads d (after (λ v. awaits (on x v)) verdict_of said)))
+    (keeps : (d : List ℕ) (held : List C) (x : T) (place : ℕ) (v : C) (q : ℕ) → R held x → (layout_reads d (c.said held place)).answer ≡ Ok (Next v q)
+    → R (held ++ v ∷ []) (on x v)) (d : List ℕ) (adv : Advances c d) where
+  unrolled : (t : Along C) (x : T) → R t.held x → run (awaits x) t.place d
+      ≡ and_then (next_record c d t) (λ said. and_then (layout_reads d (after (λ v. awaits (on x v)) verdict_of said)) (goes d))
+  unrolled t x known =
+      run_unfolds d (awaits x) t.place ∙ ap (λ r. and_then r (goes d)) (same d t.held x t.place known)
+      ∙ sym (onward-and_then (next_record c d t).marks (next_record c d t).answer (λ said. layout_reads d (after (λ v. awaits (on x v)) verdict_of said)) (goes d)
+      (λ said. and_then (layout_reads d (after (λ v. awaits (on x v)) verdict_of said)) (goes d)) (λ said. refl))
+
+  -- the readings of what is awaited are those of the chain, and what goes on from its verdict
+  pub as_awaited : (t : Along C) (x : T) → R t.held x
+      → run (awaits x) t.place d ≡ and_then (chain_from c d t) (λ y. and_then (layout_reads d (verdict_of y)) (goes d))
+  as_awaited = as_unrolled c awaits on verdict_of R d adv unrolled (λ t x v q. keeps d t.held x t.place v q)
 
 -- where a verdict is the size
 pub by_size : (d : List ℕ) (r : Reads ImageSize) → and_then r (λ size. and_then (layout_reads d (decides size)) (goes d)) ≡ r

@@ -14,17 +14,19 @@ use Rattle.imagesize_source.specs.declared.halt.Halt.TheVariants.{Corrupted, End
 use Rattle.imagesize_source.specs.declared.halt.Halt.{Halt}
 use Rattle.imagesize_source.proofs.Advances.{Begins, OrSome, Tells, advances}
 use Rattle.imagesize_source.proofs.Layouts.{no_part, no_span, over-bind}
-use Rattle.imagesize_stream.specs.Steps.{after, awaited_chain, decides, ends_with, ipco_leads, iprp_leads, jxl_verdict, kept_front, kept_of, last_awaited, listed_with, meta_leads, names_of, property_step, step}
+use Rattle.imagesize_stream.specs.Steps.{after, awaited_chain, decides, ends_with, ipco_leads, iprp_leads, height_step, jxl_verdict, kept_front, kept_of, last_awaited, listed_with, meta_leads, names_of, property_step, step, word_step}
 use Rattle.imagesize_stream.specs.declared.awaited.Awaited.{Awaited}
-use Rattle.imagesize_stream.specs.declared.awaited.Awaited.TheVariants.{Attribute, Box, Chunk, Directory, Entry, Icon, Ipco, Iprp, Line, Meta, Property, Segment, Word}
+use Rattle.imagesize_stream.specs.declared.awaited.Awaited.TheVariants.{Attribute, Box, Chunk, Comment, Directory, Entry, Height, Icon, Ipco, Iprp, Line, Meta, Property, Segment, Word}
 use Rattle.imagesize_stream.specs.declared.awaited.Listed.{Listed}
 use Rattle.imagesize_texts.specs.Exr.{exr_attribute}
 use Rattle.imagesize_texts.proofs.Exr.{attribute_begins, attribute_tells, exr_ends}
 use Rattle.imagesize_texts.proofs.Hdr.{hdr_begins, hdr_ends, hdr_tells}
-use Rattle.imagesize_texts.proofs.Pnm.{pnm_begins, pnm_ends, pnm_tells}
+use Rattle.imagesize_texts.proofs.Texts.{passed_begins, passed_beyond, passed_tells_on, word_begins, word_beyond, word_tells}
+use Rattle.imagesize_texts.specs.Contents.{number_text}
+use Rattle.std.specs.Str.{trim}
 use Rattle.imagesize_texts.specs.Hdr.{hdr_line}
-use Rattle.imagesize_texts.specs.Pnm.{pnm_word}
-use Rattle.imagesize_texts.specs.Texts.{line_at, word}
+use Rattle.imagesize_texts.specs.Pnm.{pnm_size}
+use Rattle.imagesize_texts.specs.Texts.{line_at}
 use Rattle.imagesize_types.specs.declared.size.ImageSize.{ImageSize}
 use Rattle.imagesize_walked.proofs.Ilbm.{chunk_begins, chunk_tells, ilbm_ends}
 use Rattle.imagesize_walked.proofs.Jpeg.{jpeg_ends, segment_begins, segment_tells}
@@ -98,7 +100,10 @@ step_tells (Property g) place = λ bs. by_found (λ t. Tells (λ p. place < p) (
     (accepted_tells (λ p. place < p) (gathered_answer g)) tt (λ content. omega arith) (λ content. omega arith) (λ size big. omega arith)
 step_tells (Box kept) place = tells_behind (λ piece. Box (kept_of (kept_front kept ++ piece))) jxl_verdict (λ p. place < p)
     (λ front. accepted_tells (λ p. place < p) (jxl_size front)) (jxl_box (kept_front kept) place) (jxl_tells (kept_front kept) place)
-step_tells Word place = tells_behind (λ _. Word) decides _ (λ _. tt) (word place (pnm_word place)) (pnm_tells place)
+step_tells Word place = word_tells place (word_step place) (λ p. place < p) (λ w some. omega arith)
+step_tells Comment place = passed_tells_on 0x0A place 1024 (λ taken. done (Next Word (place + taken))) (λ p. place < p) (λ taken some. omega arith)
+step_tells (Height width) place = word_tells place (height_step width) (λ p. place < p)
+    (λ w _. accepted_tells (λ p. place < p) (pnm_size width (number_text (trim w.text))))
 
 step_begins : (next : Awaited) (place : ℕ) → Begins place (step next place)
 step_begins (Segment depth) place = begins_behind (λ marker. Segment (depth_behind depth marker)) decides place (λ _ P. tt) (jpeg_segment depth place) (segment_begins depth place) (λ _. tt)
@@ -117,7 +122,9 @@ step_begins (Property g) place = (omega arith, accepted_tells (λ _. ⊥) (gathe
 step_begins (Box kept) place = begins_behind (λ piece. Box (kept_of (kept_front kept ++ piece))) jxl_verdict place
     (λ front P. accepted_tells P (jxl_size front)) (jxl_box (kept_front kept) place) (jxl_begins (kept_front kept) place)
     (λ front. accepted_begins place (jxl_size front))
-step_begins Word place = begins_behind (λ _. Word) decides place (λ _ P. tt) (word place (pnm_word place)) (pnm_begins place) (λ _. tt)
+step_begins Word place = word_begins place (word_step place) place (omega arith)
+step_begins Comment place = passed_begins 0x0A place 1024 (λ taken. done (Next Word (place + taken)))
+step_begins (Height width) place = word_begins place (height_step width) place (omega arith)
 
 pub awaited_advances : (d : List ℕ) → Advances awaited_chain d
 awaited_advances = advances awaited_chain (λ held place. step_tells (last_awaited held) place) (λ held place. step_begins (last_awaited held) place)
@@ -168,4 +175,6 @@ step_ends Iprp d place far = refused_behind d (searched_box (codes "iprp") place
 step_ends Ipco d place far = refused_behind d (searched_box (codes "ipco") place) _ (search_ends (codes "ipco") d place far)
 step_ends (Property g) d place far = property_ends g d place far ∙ accepted_ends d (gathered_answer g)
 step_ends (Box kept) d place far = refused_behind d (jxl_box (kept_front kept) place) _ (boxes_end (kept_front kept) d place far)
-step_ends Word d place far = refused_behind d (word place (pnm_word place)) _ (pnm_ends d place far)
+step_ends Word d place far = word_beyond d place (word_step place) far
+step_ends Comment d place far = passed_beyond d 0x0A place 1024 (λ taken. done (Next Word (place + taken))) far (omega arith)
+step_ends (Height width) d place far = word_beyond d place (height_step width) far

@@ -31,7 +31,7 @@ CameTo stage kind stand room front = CameBy stage kind stand.start stand.place s
 -- what always holds at a stage
 abbrev pub HoldsBy : Stage → ℕ → ℕ → ℕ → Type 0
 HoldsBy First start place passed = (start ≤ 0) × (passed < 132)
-HoldsBy (Records next) start place passed = IsSteady next place × (passed - start ≤ 2047)
+HoldsBy (Records next) start place passed = IsSteady next place × (passed - start ≤ 1023)
 HoldsBy (Footer size) start place passed = 18 ≤ passed
 HoldsBy (Done size) start place passed = Unit {0}
 

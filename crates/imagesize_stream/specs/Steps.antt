@@ -2,6 +2,7 @@
 use Rattle.std.specs.Prelude.{◌≡◌, ℕ, ◌+◌, ◌-◌, ◌++◌, length, take, replicate, ◌<◌, ◌≤◌, ◌==◌, Bool, List, Option, None, Some, Result, Err, codes, ok_or, unwrap_or, if◌then◌else◌}
 use Rattle.std.specs.Coded.{Unit-prop, le_prop, ×_prop}
 use Rattle.std.specs.List.{last_or}
+use Rattle.std.specs.Str.{trim}
 use Rattle.imagesize_source.specs.Chain.{Said, Decided, Next, Chain}
 use Rattle.imagesize_source.specs.Layout.{Layout, accept, bind, bytes}
 use Rattle.imagesize_source.specs.Layout.Layout.{field, «done»}
@@ -9,7 +10,7 @@ use Rattle.imagesize_source.specs.declared.halt.Halt.{Halt}
 use Rattle.imagesize_source.specs.declared.halt.Halt.TheVariants.{Corrupted, Ended, NoDimensionsInIfd}
 use Rattle.imagesize_source.specs.Walk.{chain_of}
 use Rattle.imagesize_stream.specs.declared.awaited.Awaited.{Awaited}
-use Rattle.imagesize_stream.specs.declared.awaited.Awaited.TheVariants.{Attribute, Box, Chunk, Directory, Entry, Icon, Ipco, Iprp, Line, Meta, Property, Segment, Word}
+use Rattle.imagesize_stream.specs.declared.awaited.Awaited.TheVariants.{Attribute, Box, Chunk, Comment, Directory, Entry, Height, Icon, Ipco, Iprp, Line, Meta, Property, Segment, Word}
 use Rattle.imagesize_stream.specs.declared.awaited.Kept.{Kept}
 use Rattle.imagesize_stream.specs.declared.awaited.Listed.{Listed}
 use Rattle.imagesize_boxes.specs.Jxl.{jxl_box, jxl_size}
@@ -20,8 +21,9 @@ use Rattle.imagesize_boxes.specs.declared.container.heif.Gathered.{Gathered}
 use Rattle.imagesize_boxes.specs.declared.container.heif.Property as heif
 use Rattle.imagesize_texts.specs.Exr.{exr_attribute}
 use Rattle.imagesize_texts.specs.Hdr.{hdr_line}
-use Rattle.imagesize_texts.specs.Pnm.{pnm_word}
-use Rattle.imagesize_texts.specs.Texts.{line_at, word}
+use Rattle.imagesize_texts.specs.Contents.{WordRead, number_text}
+use Rattle.imagesize_texts.specs.Pnm.{is_blank, is_comment, pnm_size}
+use Rattle.imagesize_texts.specs.Texts.{line_at, passed_line, word}
 use Rattle.imagesize_types.specs.Largest.{later_largest}
 use Rattle.imagesize_types.specs.declared.size.ImageSize.{ImageSize}
 use Rattle.imagesize_walked.specs.Ico.{icon_in}
@@ -42,6 +44,17 @@ decides size = done (Decided size)
 -- how many bytes a name of an EXR may have, with the zero that ends it
 abbrev pub names_of : Bool → ℕ
 names_of long = if long then 256 else 32
+
+-- what is awaited behind a word of a portable bitmap: a comment may end with its first word, and the first other word is the width
+abbrev pub word_leads : WordRead → Awaited
+word_leads w = if is_comment w.text then (if w.ended_by == 0x0A then Word else Comment) else if is_blank w.text then Word else Height (number_text w.text)
+
+abbrev pub word_step : ℕ → WordRead → Layout (Said Awaited ImageSize)
+word_step place w = done (Next (word_leads w) (place + w.taken))
+
+-- the word behind the width is the height
+abbrev pub height_step : Option ℕ → WordRead → Layout (Said Awaited ImageSize)
+height_step width w = accept (pnm_size width (number_text (trim w.text))) decides
 
 -- with one entry of a TIFF more
 abbrev pub listed_with : Listed → tiff.Entry → Listed
@@ -82,19 +95,18 @@ step (Segment depth) place = bind (jpeg_segment depth place) (after (λ marker. 
 step Chunk place = bind (ilbm_chunk place) (after (λ _. Chunk) decides)
 step (Attribute long) place = bind (exr_attribute (names_of long) place) (after (λ _. Attribute long) decides)
 step Line place = bind (line_at 0x0A place 256 (hdr_line place)) (after (λ _. Line) decides)
-step Word place = bind (word place (pnm_word place)) (after (λ _. Word) decides)
-
+step Word place = word place (word_step place)
+step Comment place = passed_line 0x0A place 1024 (λ taken. done (Next Word (place + taken)))
+step (Height width) place = word place (height_step width)
 step (Icon count seen largest) place =
     bind (icon_in count seen largest place) (after (λ size. Icon count (seen + 1) (later_largest largest size)) decides)
 step (Directory header) place = field header.order place (count_bytes header.version)
     (λ count. done (Next (Entry (record { header = header; count = count; seen = 0; width = None; height = None })) (place + count_bytes header.version)))
 step (Entry l) place = bind (entry_behind l.header l.count l.seen l.width l.height place) (after (λ entry. Entry (listed_with l entry)) decides)
-
 step Meta place = bind (searched_box (codes "meta") place) (after (λ _. Meta) (meta_leads place))
 step Iprp place = bind (searched_box (codes "iprp") place) (after (λ _. Iprp) (iprp_leads place))
 step Ipco place = bind (searched_box (codes "ipco") place) (after (λ _. Ipco) (ipco_leads place))
 step (Property g) place = bind (property_at g.left place) (property_step g place)
-
 step (Box kept) place =
     bind (jxl_box (kept_front kept) place) (after (λ piece. Box (kept_of (kept_front kept ++ piece))) jxl_verdict)
 
@@ -115,6 +127,8 @@ ends_with Chunk = Err Ended
 ends_with (Attribute long) = Err Ended
 ends_with Line = Err Ended
 ends_with Word = Err Ended
+ends_with Comment = Err Ended
+ends_with (Height width) = Err Ended
 ends_with (Icon count seen largest) = ok_or largest Corrupted
 ends_with (Directory header) = Err Ended
 ends_with Meta = Err Ended
@@ -140,6 +154,8 @@ IsSteady Chunk place = Unit {0}
 IsSteady (Attribute long) place = Unit {0}
 IsSteady Line place = Unit {0}
 IsSteady Word place = Unit {0}
+IsSteady Comment place = Unit {0}
+IsSteady (Height width) place = Unit {0}
 IsSteady (Icon count seen largest) place = (seen ≤ count) × IsSmall largest
 IsSteady (Directory header) place = Unit {0}
 IsSteady (Entry l) place = l.seen ≤ l.count
@@ -155,6 +171,8 @@ steady_prop Chunk place = Unit-prop
 steady_prop (Attribute long) place = Unit-prop
 steady_prop Line place = Unit-prop
 steady_prop Word place = Unit-prop
+steady_prop Comment place = Unit-prop
+steady_prop (Height width) place = Unit-prop
 steady_prop (Icon count seen largest) place = ×_prop le_prop (small_prop largest)
 steady_prop (Directory header) place = Unit-prop
 steady_prop (Entry l) place = le_prop

@@ -5,7 +5,8 @@ ghost use Rattle.imagesize_source.specs.Paying.{Nears, Paid};
 ghost use Rattle.imagesize_source.specs.Reading.{is_stopped, map_answer, number_read};
 ghost use Rattle.imagesize_source.specs.State.{Follows, Runs};
 ghost use Rattle.imagesize_source.specs.Walk.{said_at};
-ghost use Rattle.imagesize_stream.specs.Steps.{IsSmall, IsSteady, StaysSteady, after, decides, ends_with, kept_of, names_of, step};
+ghost use Rattle.imagesize_stream.specs.Steps.{IsSmall, IsSteady, StaysSteady, after, decides, ends_with, kept_of, names_of, step, word_leads};
+ghost use Rattle.imagesize_texts.specs.Texts.{read_word_of};
 ghost use Rattle.imagesize_walked.specs.Tiff.{head_bytes, value_bytes};
 ghost use Rattle.imagesize_stream.specs.declared.awaited.Awaited.TheVariants as awaited;
 
@@ -18,11 +19,11 @@ use imagesize_source::walk::{Found, Records};
 use imagesize_source::{Endian, Halt};
 use imagesize_texts::formats::exr::Attributes;
 use imagesize_texts::formats::hdr::{LINE_ROOM, Lines};
-use imagesize_texts::formats::pnm::Words;
-use imagesize_texts::util::WORD_ROOM;
+use imagesize_texts::formats::pnm;
+use imagesize_texts::util::{self, WORD_ROOM, Word};
 use imagesize_types::size::ImageSize;
-use imagesize_walked::formats::ilbm::Chunks;
 use imagesize_walked::formats::ico::Entries as Icons;
+use imagesize_walked::formats::ilbm::Chunks;
 use imagesize_walked::formats::jpeg::Segments;
 use imagesize_walked::formats::tiff::{self, Entries, Header, Version};
 
@@ -30,15 +31,25 @@ use imagesize_walked::formats::tiff::{self, Entries, Header, Version};
 #[derive(Clone, Copy)]
 pub(crate) enum Awaited {
     /// A segment of a JPEG, so many images deep within the image.
-    Segment { depth: u64 },
+    Segment {
+        depth: u64,
+    },
     /// A chunk of an interleaved bitmap.
     Chunk,
     /// An attribute of an EXR, whose names may be long.
-    Attribute { long: bool },
+    Attribute {
+        long: bool,
+    },
     /// A line of a Radiance picture.
     Line,
-    /// A word of a portable bitmap.
+    /// A word of a portable bitmap, before its width.
     Word,
+    /// The rest of a comment of a portable bitmap.
+    Comment,
+    /// The height of a portable bitmap, behind this width.
+    Height {
+        width: Option<usize>,
+    },
     /// An entry of an icon, of so many, behind so many with this largest size.
     Icon {
         count: u16,
@@ -46,7 +57,9 @@ pub(crate) enum Awaited {
         largest: Option<ImageSize>,
     },
     /// The count of a TIFF's entries.
-    Directory { header: Header },
+    Directory {
+        header: Header,
+    },
     /// An entry of a TIFF.
     Entry(Listed),
     /// A box of a HEIF, among which `meta` is searched for.
@@ -97,6 +110,8 @@ impl Awaited {
             Awaited::Attribute { long } => read_attribute(source, place, long),
             Awaited::Line => read_line(source, place),
             Awaited::Word => read_word(source, place),
+            Awaited::Comment => read_comment(source, place),
+            Awaited::Height { width } => read_height(source, place, width),
             Awaited::Icon {
                 count,
                 seen,
@@ -202,15 +217,68 @@ fn read_line<S: Source>(source: &mut S, place: u64) -> Result<Found<Awaited, Ima
     read_same(&mut lines, source, place, Awaited::Line)
 }
 
+#[tactic(auto, using(imagesize_source::proofs::Runs::steps))]
 fn read_word<S: Source>(source: &mut S, place: u64) -> Result<Found<Awaited, ImageSize>, Halt>
     ensures nears { IfOk result (λ found. Nears (S.state source.old) (S.state source.new) place (said_at place found)) }
     ensures steady { IfOk result (λ found. StaysSteady (said_at place found)) }
     ensures runs { Follows (S.state source.old) (S.state source.new) (map_answer (said_at place) result) (step awaited.Word place) }
 {
-    let mut words = Words {
-        room: [0; WORD_ROOM],
-    };
-    read_same(&mut words, source, place, Awaited::Word)
+    let mut room = [0u8; WORD_ROOM];
+    let word = util::read_word(source, place, &mut room)?;
+    Ok(Found::Other {
+        held: behind_word(&word),
+        length: word.taken as u64,
+    })
+}
+
+// What is awaited behind a word of a portable bitmap.
+fn behind_word(word: &Word<'_>) -> Awaited
+    ensures is { result ≡ word_leads (read_word_of word.now) }
+    ensures steady { (q : ℕ) → IsSteady result q }
+{
+    if pnm::is_comment(word.text) {
+        return if word.ended_by == b'\n' {
+            Awaited::Word
+        } else {
+            Awaited::Comment
+        };
+    }
+    if pnm::is_blank(word.text) {
+        return Awaited::Word;
+    }
+    Awaited::Height {
+        width: util::number(word.text),
+    }
+}
+
+#[tactic(auto, using(imagesize_source::proofs::Runs::steps))]
+fn read_comment<S: Source>(source: &mut S, place: u64) -> Result<Found<Awaited, ImageSize>, Halt>
+    ensures nears { IfOk result (λ found. Nears (S.state source.old) (S.state source.new) place (said_at place found)) }
+    ensures steady { IfOk result (λ found. StaysSteady (said_at place found)) }
+    ensures runs { Follows (S.state source.old) (S.state source.new) (map_answer (said_at place) result) (step awaited.Comment place) }
+{
+    let mut room = [0u8; WORD_ROOM];
+    let taken = util::pass_line_capped(source, place, b'\n', &mut room)?;
+    Ok(Found::Other {
+        held: Awaited::Word,
+        length: taken as u64,
+    })
+}
+
+#[tactic(auto, using(imagesize_source::proofs::Runs::steps))]
+fn read_height<S: Source>(
+    source: &mut S,
+    place: u64,
+    width: Option<usize>,
+) -> Result<Found<Awaited, ImageSize>, Halt>
+    ensures nears { IfOk result (λ found. Nears (S.state source.old) (S.state source.new) place (said_at place found)) }
+    ensures steady { IfOk result (λ found. StaysSteady (said_at place found)) }
+    ensures runs { Follows (S.state source.old) (S.state source.new) (map_answer (said_at place) result) (step (awaited.Height width) place) }
+{
+    let mut room = [0u8; WORD_ROOM];
+    let word = util::read_word(source, place, &mut room)?;
+    let size = pnm::pnm_size(width, util::number(word.text.trim()))?;
+    Ok(Found::Answer(size))
 }
 
 fn read_icon<S: Source>(

@@ -111,7 +111,13 @@ impl StreamProbe {
         self.stage = match self.stage {
             Stage::First => begin(&mut self.kind, &mut self.stand, &mut self.room, chunk),
             Stage::Records { next } => walk(next, &mut self.stand, &mut self.room, chunk),
-            Stage::Footer { size } => wait(size, &mut self.kind, &mut self.stand, &mut self.room, chunk),
+            Stage::Footer { size } => wait(
+                size,
+                &mut self.kind,
+                &mut self.stand,
+                &mut self.room,
+                chunk,
+            ),
             Stage::Done { .. } => self.stage,
         };
     }

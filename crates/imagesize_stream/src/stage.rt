@@ -18,7 +18,7 @@ use imagesize_source::Halt;
 use imagesize_types::size::ImageSize;
 
 /// The most bytes that are kept.
-pub(crate) const ROOM: usize = 2047;
+pub(crate) const ROOM: usize = 1023;
 
 // The most first bytes that tell the type, and the size or where the records are.
 const FIRST: u64 = 132;
@@ -39,7 +39,7 @@ pub(crate) enum Stage {
 /// Goes on along the records with more bytes.
 pub(crate) fn walk(next: Awaited, stand: &mut Stand, room: &mut [u8; ROOM], chunk: &[u8]) -> Stage
     requires steady { IsSteady next stand.old.place }
-    requires few { stand.old.passed - stand.old.start ≤ 2047 }
+    requires few { stand.old.passed - stand.old.start ≤ 1023 }
     requires fits { stand.old.passed + length chunk.now ≤ stand.old.told }
     ensures told { stand.new.told ≡ stand.old.told }
     ensures holds { HoldsAt result stand.new }

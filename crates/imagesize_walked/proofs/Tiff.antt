@@ -241,19 +241,19 @@ pub entry_as : (d : List ℕ) (header : Header) (count seen : ℕ) (width height
     → layout_reads d ((tiff_entries header count).said entries place) ≡ layout_reads d (entry_behind header count seen width height place)
 entry_as d header count seen width height place entries h =
     ap (λ n. layout_reads d (cond (eqb n count) (refuse NoDimensionsInIfd) (record_behind header entries place))) h.many ∙ by_test (eqb seen count) where
-  one : (entry : Entry) → layout_reads d (says header entries place entry) ≡ layout_reads d (entry_says header width height place entry)
-  one entry = ap (λ size. layout_reads d (done (size_or_next size entry (place + entry_bytes header.version))))
-      (size_known (seen + 1) (side_with 0x100 width entry) (side_with 0x101 height entry) (entries ++ entry ∷ [])
-      (known_on seen width height (side_with 0x100 width entry) (side_with 0x101 height entry) entries entry refl refl h))
+      one : (entry : Entry) → layout_reads d (says header entries place entry) ≡ layout_reads d (entry_says header width height place entry)
+      one entry = ap (λ size. layout_reads d (done (size_or_next size entry (place + entry_bytes header.version))))
+          (size_known (seen + 1) (side_with 0x100 width entry) (side_with 0x101 height entry) (entries ++ entry ∷ [])
+          (known_on seen width height (side_with 0x100 width entry) (side_with 0x101 height entry) entries entry refl refl h))
 
-  by_test : (all : Bool) → layout_reads d (cond all (refuse NoDimensionsInIfd) (record_behind header entries place))
-      ≡ layout_reads d (cond all (refuse NoDimensionsInIfd) (bind (tiff_entry header place) (entry_says header width height place)))
-  by_test true = refl
-  by_test false =
-      over-bind d (tiff_entry header place) (says header entries place)
-      ∙ same_on (layout_reads d (tiff_entry header place)).marks (layout_reads d (tiff_entry header place)).answer
-      (λ entry. layout_reads d (says header entries place entry)) (λ entry. layout_reads d (entry_says header width height place entry)) one
-      ∙ sym (over-bind d (tiff_entry header place) (entry_says header width height place))
+      by_test : (all : Bool) → layout_reads d (cond all (refuse NoDimensionsInIfd) (record_behind header entries place))
+          ≡ layout_reads d (cond all (refuse NoDimensionsInIfd) (bind (tiff_entry header place) (entry_says header width height place)))
+      by_test true = refl
+      by_test false =
+          over-bind d (tiff_entry header place) (says header entries place)
+          ∙ same_on (layout_reads d (tiff_entry header place)).marks (layout_reads d (tiff_entry header place)).answer
+          (λ entry. layout_reads d (says header entries place entry)) (λ entry. layout_reads d (entry_says header width height place entry)) one
+          ∙ sym (over-bind d (tiff_entry header place) (entry_says header width height place))
 
 pub entry_runs : {a b : State} {r : Result (Said Entry ImageSize) Halt} (header : Header) (count seen : ℕ) (width height : Option ℕ) (place : ℕ)
     → Runs a b r (layout_reads a.held.input (entry_behind header count seen width height place)) → (entries : List Entry) → Known seen width height entries

@@ -324,7 +324,11 @@ impl Records for Properties {
 /// The property at an offset, or none where the list ends: so many bytes are left for the boxes that are passed.
 #[inline(always)]
 #[tactic(auto, using(imagesize_source::proofs::Runs::steps, imagesize_source::proofs::Runs::missed_before))]
-pub fn read_property<S: Source>(source: &mut S, place: u64, left: u32) -> Result<Option<Property>, Halt>
+pub fn read_property<S: Source>(
+    source: &mut S,
+    place: u64,
+    left: u32,
+) -> Result<Option<Property>, Halt>
     ensures nears { IfOk result (λ found. Nears (S.state source.old) (S.state source.new) place (property_said place found)) }
     ensures fits { IfOk result (λ found. IsLeftFor left found) }
     ensures runs { Follows (S.state source.old) (S.state source.new) result (property_at left place) }

@@ -100,27 +100,27 @@ fn pass(taken: u64) -> Found<(), ImageSize>
     }
 }
 
-// Whether a word begins a comment.
+/// Whether a word begins a comment.
 #[inline]
 #[tactic(auto, unfolding(crate::specs::Pnm::is_comment))]
-fn is_comment(text: &str) -> bool
+pub fn is_comment(text: &str) -> bool
     ensures { result ≡ is_comment text.now }
 {
     // The most common case needs no trimming.
     is_hash(text.as_bytes()) || matches!(text.trim().as_bytes(), [b'#', ..])
 }
 
-// Whether a word is white space only.
+/// Whether a word is white space only.
 #[inline]
 #[tactic(auto, unfolding(crate::specs::Pnm::is_blank))]
-fn is_blank(text: &str) -> bool
+pub fn is_blank(text: &str) -> bool
     ensures { result ≡ is_blank text.now }
 {
     text.trim().is_empty()
 }
 
-// The size with these sides, or `PnmDimensionsNotFound` if one of them is missing.
-fn pnm_size(width: Option<usize>, height: Option<usize>) -> Result<ImageSize, Halt>
+/// The size with these sides, or `PnmDimensionsNotFound` if one of them is missing.
+pub fn pnm_size(width: Option<usize>, height: Option<usize>) -> Result<ImageSize, Halt>
     ensures { result ≡ pnm_size width height }
 {
     match (width, height) {

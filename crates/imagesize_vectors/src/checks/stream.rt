@@ -70,7 +70,10 @@ fn check_fronts(alloc: Global, row: &Row<'_>) -> Result<(), Wrong> {
     for end in 0..=row.bytes.len() {
         let front = &row.bytes[..end];
         let (kind, answer) = probe(front, 5, None);
-        holds(kind == image_type(front).ok(), "the type from a stream that ends")?;
+        holds(
+            kind == image_type(front).ok(),
+            "the type from a stream that ends",
+        )?;
         holds(
             is_same(alloc, &answer, &blob_size(front))?,
             "the size from a stream that ends",

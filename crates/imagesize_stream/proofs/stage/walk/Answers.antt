@@ -16,7 +16,7 @@ read_on-requires-clause-keeps c = (c.args.next ∷ [], (refl, c.requires.steady)
 
 pub read_on-requires-clause-reaches : goal.read_on-requires-clause-reaches
 read_on-requires-clause-reaches c = λ held place.
-    reach_more place (place + 2048) (place + (length c.args.room.now + 1)) (step (last_awaited held) place) (omega arith) (step_far (last_awaited held) place)
+    reach_more place (place + 1024) (place + (length c.args.room.now + 1)) (step (last_awaited held) place) (omega arith) (step_far (last_awaited held) place)
 
 pub returns-in-Some-clause-goes_on : goal.returns-in-Some-clause-goes_on
 returns-in-Some-clause-goes_on c = λ kind front came. (
