@@ -1,0 +1,40 @@
+//! What stands at fixed places near the beginning of an input that comes in pieces.
+ghost use Rattle.std.specs.Prelude.{◌≡◌, ℕ, ◌<◌, ◌≤◌, ◌^◌, List, length, true, false};
+ghost use Rattle.imagesize_source.specs.Layout.{Layout, layout_reads};
+ghost use Rattle.imagesize_source.specs.Reading.{is_faulted, is_stopped};
+ghost use Rattle.imagesize_source.specs.State.{Follows};
+ghost use Rattle.imagesize_pieces.specs.Stream.{AllBelow, Begins, Reach, Says};
+
+use crate::source::StreamSource;
+use imagesize_source::Halt;
+use imagesize_source::source::Source;
+
+/// What stands at fixed places.
+pub trait Fixed {
+    /// What it tells.
+    type Answer: Drop;
+
+    /// Where it stands.
+    ghost layout: { Self → Layout Self.Answer };
+
+    /// Reads it.
+    fn read<S: Source>(&self, source: &mut S) -> Result<Self::Answer, Halt>
+        ensures { Follows (S.state source.old) (S.state source.new) result (layout self.now) };
+}
+
+/// Reads it from the first bytes of an input of at most `told` bytes. If they do not tell it, the reading fails.
+pub fn read_front<F: Fixed>(fixed: &F, bytes: &[u8], told: u64) -> Result<F::Answer, Halt>
+    requires fits { length bytes.now ≤ told }
+    requires short { told < 2 ^ 63 }
+    ensures says { is_faulted result ≡ false → Says bytes.now told (λ d. layout_reads d (F.layout fixed.now)) result }
+    ensures unstopped { is_faulted result ≡ false → is_stopped result ≡ false }
+    ensures few { is_faulted result ≡ true → (high : ℕ) → Reach 0 high (F.layout fixed.now) → length bytes.now < high }
+    ensures complete { is_faulted result ≡ true → (d : List ℕ) → Begins bytes.now told d → length d ≡ told
+        → AllBelow (length bytes.now) (layout_reads d (F.layout fixed.now)).marks → ⊥ }
+
+    // Nothing is missed where all came.
+    ensures whole { told ≤ length bytes.now → is_faulted result ≡ false }
+{
+    let mut source = StreamSource::new(0, bytes, &[], told);
+    fixed.read(&mut source)
+}

@@ -1,0 +1,39 @@
+use Rattle.std.proofs.Common.{ℕ, ◌-◌, ◌++◌, List, length, take, refl, arith}
+use Rattle.imagesize_stream.proofs.Coming.{awaiting_map}
+use Rattle.imagesize_stream.proofs.Ending.{as_many, awaiting_as, rests_cut}
+use Rattle.imagesize_stream.specs.Heard.{RestsOnMore}
+use Rattle.imagesize_stream.specs.Pushed.{Came, told_of}
+use Rattle.imagesize_stream.specs.declared.stage.Stage.TheVariants.{Done}
+use Rattle.imagesize_stream.proofs.probe.StreamProbe.take_in.Goals as goal
+use Rattle.imagesize_stream.proofs.probe.StreamProbe.take_in.Goals.{in-First, in-Records, in-Footer, in-Done}
+
+pub returns-clause-complete : goal.returns-clause-complete
+returns-clause-complete c =
+    let s = c.args.self.now in
+    let Rests : Type 0 = (front : List ℕ) → Came s front
+    → RestsOnMore (front ++ take (told_of s - length front) c.args.chunk.now) (told_of s) in
+    elim c.match-self.branch [
+      | in-First w ↦ awaiting_as Rests c.match-self.self2 w.begin-self.result w.self2-is
+          (awaiting_map w.begin-self.result (λ rests front came.
+          let here = rw w.in-First.is at came in
+          rests_cut front c.args.chunk.now c.front_of-chunk.result.now s.stand.passed s.stand.told
+          (as_many s.kind s.stage s.stand.start s.stand.place s.stand.passed s.stand.told s.room front
+          (rw w.in-First.is refl) (omega arith) s.holds came)
+          c.front_of-chunk.ensures (rests front here)) w.begin-self.ensures.complete)
+      | in-Records w ↦ awaiting_as Rests c.match-self.self2 w.walk-self.result w.self2-is
+          (awaiting_map w.walk-self.result (λ rests front came.
+          let here = rw w.in-Records.is at came in
+          rests_cut front c.args.chunk.now c.front_of-chunk.result.now s.stand.passed s.stand.told
+          (as_many s.kind s.stage s.stand.start s.stand.place s.stand.passed s.stand.told s.room front
+          (rw w.in-Records.is refl) (omega arith) s.holds came)
+          c.front_of-chunk.ensures (rests s.kind front here)) w.walk-self.ensures.complete)
+      | in-Footer w ↦ awaiting_as Rests c.match-self.self2 w.wait-self.result w.self2-is
+          (awaiting_map w.wait-self.result (λ rests front came.
+          let here = rw w.in-Footer.is at came in
+          rests_cut front c.args.chunk.now c.front_of-chunk.result.now s.stand.passed s.stand.told
+          (as_many s.kind s.stage s.stand.start s.stand.place s.stand.passed s.stand.told s.room front
+          (rw w.in-Footer.is refl) (omega arith) s.holds came)
+          c.front_of-chunk.ensures (rests front here)) w.wait-self.ensures.complete)
+      | in-Done w ↦ awaiting_as Rests c.match-self.self2 s.stage w.self2-is
+      (awaiting_as Rests s.stage (Done w.in-Done.size) w.in-Done.is tt)
+    ]

@@ -1,0 +1,140 @@
+//! What the bytes so far say of an image, from its first byte on.
+ghost use Rattle.std.specs.Prelude.{◌≡◌, ◌<◌, ◌≤◌, ◌^◌, ◌&&◌, not, Ok, length};
+ghost use Rattle.imagesize_fixed.specs.Tga.{lacks_its_map};
+ghost use Rattle.imagesize.specs.Meaning.{kind_reads};
+ghost use Rattle.imagesize_pieces.specs.Stream.{Says};
+ghost use Rattle.imagesize_source.specs.Layout.{layout_reads};
+ghost use Rattle.imagesize_stream.specs.declared.front.First.TheVariants as first;
+ghost use Rattle.imagesize_stream.specs.Streamed.{first_layout};
+ghost use Rattle.imagesize_stream.specs.Heard.{Hears, IfMissing};
+
+use crate::awaited::Awaited;
+use crate::front::{First, FirstBytes, FirstSize, Opening, TgaHeader, TgaSize};
+use imagesize::ImageType;
+use imagesize_fixed::formats::tga::lacks_its_map;
+use imagesize_pieces::front::read_front;
+use imagesize_pieces::walk::is_faulted;
+use imagesize_source::Halt;
+use imagesize_types::size::ImageSize;
+
+/// What the bytes so far say.
+#[derive(Drop)]
+pub(crate) enum Heard {
+    /// Bytes are missing that tell the type, or the size of this type.
+    Missing {
+        image: Option<ImageType>,
+    },
+    /// The type, if there is one, and the size.
+    Answer {
+        image: Option<ImageType>,
+        size: Result<ImageSize, Halt>,
+    },
+    /// The type, whose size is behind records, and the one that is next.
+    Records {
+        image: ImageType,
+        next: Awaited,
+        place: u64,
+    },
+    /// The last bytes tell whether it is a TGA, of this size.
+    Footer {
+        size: ImageSize,
+    },
+}
+
+/// What the first bytes of an input of at most `told` bytes say.
+pub(crate) fn hear(bytes: &[u8], told: u64) -> Heard
+    requires fits { length bytes.now ≤ told }
+    requires short { told < 2 ^ 63 }
+    ensures hears { Hears bytes.now told result }
+    ensures few { IfMissing result (length bytes.now < 132) }
+    ensures whole { told ≤ length bytes.now → IfMissing result ⊥ }
+{
+    let found = read_front(&FirstBytes, bytes, told);
+    if is_faulted(&found) {
+        return Heard::Missing { image: None };
+    }
+    let first = match found {
+        Ok(first) => first,
+        Err(halt) => {
+            return Heard::Answer {
+                image: None,
+                size: Err(halt),
+            };
+        }
+    };
+    match first {
+        First::MaybeTga { head } => hear_tga(&head, bytes, told),
+        First::Type(image) => hear_size(image, bytes, told),
+    }
+}
+
+// The same of the size, by the type that they say.
+fn hear_size(image: ImageType, bytes: &[u8], told: u64) -> Heard
+    requires image { Says bytes.now told (λ d. kind_reads d 0) (Ok image) }
+    requires fits { length bytes.now ≤ told }
+    requires short { told < 2 ^ 63 }
+    ensures hears { Hears bytes.now told result }
+    ensures few { IfMissing result (length bytes.now < 132) }
+    ensures whole { told ≤ length bytes.now → IfMissing result ⊥ }
+{
+    let found = read_front(&FirstSize { image }, bytes, told);
+    if is_faulted(&found) {
+        return Heard::Missing { image: Some(image) };
+    }
+    let opening = match found {
+        Ok(opening) => opening,
+        Err(halt) => {
+            return Heard::Answer {
+                image: Some(image),
+                size: Err(halt),
+            };
+        }
+    };
+    match opening {
+        Opening::Size(size) => Heard::Answer {
+            image: Some(image),
+            size: Ok(size),
+        },
+        Opening::Records { next, place } => Heard::Records { image, next, place },
+    }
+}
+
+// The same of what may be a TGA, by its first twelve bytes. Where its header does not tell it, its footer does.
+fn hear_tga(head: &[u8; 12], bytes: &[u8], told: u64) -> Heard
+    requires first { Says bytes.now told (λ d. layout_reads d first_layout) (Ok (first.MaybeTga head.now)) }
+    requires fits { length bytes.now ≤ told }
+    requires short { told < 2 ^ 63 }
+    ensures hears { Hears bytes.now told result }
+    ensures few { IfMissing result (length bytes.now < 132) }
+    ensures whole { told ≤ length bytes.now → IfMissing result ⊥ }
+{
+    if told < 18 {
+        return Heard::Answer {
+            image: None,
+            size: Err(Halt::NotSupported),
+        };
+    }
+    if bytes.len() < 18 {
+        return Heard::Missing { image: None };
+    }
+    let Ok(sound) = read_front(&TgaHeader { head: *head }, bytes, told) else {
+        return Heard::Missing { image: None };
+    };
+    let Ok(size) = read_front(&TgaSize, bytes, told) else {
+        return Heard::Missing { image: None };
+    };
+    if is_by_header(sound, head) {
+        return Heard::Answer {
+            image: Some(ImageType::Tga),
+            size: Ok(size),
+        };
+    }
+    Heard::Footer { size }
+}
+
+// Whether it is a TGA whatever its last bytes are.
+fn is_by_header(sound: bool, head: &[u8; 12]) -> bool
+    ensures { result ≡ (sound && not (lacks_its_map head.now)) }
+{
+    sound && !lacks_its_map(head)
+}

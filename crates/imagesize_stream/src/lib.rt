@@ -1,0 +1,13 @@
+//! The type of an image and its size in pixels, from bytes that come in pieces.
+#![tactic(auto)]
+
+mod awaited;
+mod front;
+mod hear;
+mod laws;
+mod probe;
+mod sizes;
+mod stage;
+
+pub use laws::probe_two;
+pub use probe::StreamProbe;

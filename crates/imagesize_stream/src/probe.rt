@@ -1,0 +1,144 @@
+//! A push parser: it is given the bytes of an image as they come, and returns type and size as soon as these tell them.
+ghost use Rattle.std.specs.Prelude.{◌≡◌, ℕ, ◌+◌, ◌-◌, ◌<◌, ◌≤◌, ◌^◌, ◌++◌, [], List, length, take, min, Option, None, Some, IfSome, unwrap_or};
+ghost use Rattle.std.specs.Result.{result_ok};
+ghost use Rattle.imagesize.specs.Meaning.{kind_of, meaning};
+ghost use Rattle.imagesize_pieces.specs.Stream.{AllBelow, Begins};
+ghost use Rattle.imagesize_source.specs.Outcome.{stated};
+ghost use Rattle.imagesize_stream.specs.Heard.{RestsOnMore};
+ghost use Rattle.imagesize_stream.specs.Probe.{HoldsAt, IfAwaiting, holds_prop};
+
+use crate::stage::{ROOM, Stage, begin, wait, walk};
+use imagesize::{ImageResult, ImageType};
+use imagesize_pieces::room::front_of;
+use imagesize_pieces::stand::Stand;
+use imagesize_source::{Halt, Reason};
+use imagesize_types::size::ImageSize;
+
+// The length of an input of which no length is told: no input is longer.
+const MOST: u64 = (1 << 63) - 1;
+
+/// The type of an image and its size in pixels, from bytes that come in pieces.
+#[derive(Drop)]
+pub struct StreamProbe {
+    stand: Stand,
+    room: [u8; ROOM],
+    kind: Option<ImageType>,
+    stage: Stage,
+    ghost holds: { HoldsAt stage stand } by { holds_prop stage stand.start stand.place stand.passed },
+}
+
+impl StreamProbe {
+    ghost use Rattle.imagesize_stream.specs.Pushed.{Came, answer_of, told_of};
+
+    /// A probe of an input with this many bytes, if that is known.
+    pub fn new(total: Option<u64>) -> StreamProbe
+        ensures told { told_of result ≡ min (unwrap_or total (2 ^ 63 - 1)) (2 ^ 63 - 1) }
+        ensures begins { Came result [] }
+    {
+        StreamProbe {
+            stand: Stand {
+                start: 0,
+                place: 0,
+                passed: 0,
+                told: total.unwrap_or(MOST).min(MOST),
+            },
+            room: [0; ROOM],
+            kind: None,
+            stage: Stage::First,
+        }
+    }
+
+    /// Takes more bytes, and returns type and size as soon as the bytes so far tell them.
+    pub fn push(&mut self, chunk: &[u8]) -> Option<(Option<ImageType>, ImageResult<ImageSize>)>
+        ensures told { told_of self.new ≡ told_of self.old }
+
+        // A probe that has answered keeps its answer.
+        ensures is { result ≡ answer_of self.new }
+        ensures keeps { IfSome (answer_of self.old) (λ answer. answer_of self.new ≡ Some answer) }
+
+        // Of each list of bytes that came before:
+        ensures goes_on { (front : List ℕ) → Came self.old front → Came self.new (front ++ take (told_of self.old - length front) chunk.now) }
+
+        // An answer is that of every input that begins so and is no longer than was told.
+        ensures says { (front : List ℕ) → Came self.old front → IfSome result (λ answer. (d : List ℕ)
+            → Begins (front ++ take (told_of self.old - length front) chunk.now) (told_of self.old) d
+            → (answer.0 ≡ result_ok (kind_of d 0).answer) × (answer.1 ≡ (meaning d 0).answer)) }
+
+        // There is an answer where an input of the told length that begins so rests on these bytes alone, and where all came.
+        ensures complete { result ≡ None → (front : List ℕ) → Came self.old front → (d : List ℕ)
+            → Begins (front ++ take (told_of self.old - length front) chunk.now) (told_of self.old) d → length d ≡ told_of self.old
+            → AllBelow (length front + length (take (told_of self.old - length front) chunk.now)) (meaning d 0).marks → ⊥ }
+        ensures whole { result ≡ None → (front : List ℕ) → Came self.old front → told_of self.old ≤ length front + length chunk.now → ⊥ }
+    {
+        self.take_in(chunk);
+        self.answer()
+    }
+
+    /// The type, as soon as it is known.
+    pub fn kind(&self) -> Option<ImageType>
+        ensures { (front : List ℕ) → Came self.now front → IfSome result (λ kind. (d : List ℕ) → Begins front (told_of self.now) d
+            → result_ok (kind_of d 0).answer ≡ Some kind) }
+    {
+        self.kind
+    }
+
+    /// The type and the size of the image that has no more bytes than those that came.
+    pub fn finish(mut self) -> (Option<ImageType>, ImageResult<ImageSize>)
+        ensures kind { (front : List ℕ) → Came self front → result.0 ≡ result_ok (kind_of front 0).answer }
+        ensures size { (front : List ℕ) → Came self front → result.1 ≡ (meaning front 0).answer }
+    {
+        if let Some(answer) = self.answer() {
+            return answer;
+        }
+        self.stand.told = self.stand.passed;
+        self.take_in(&[]);
+        match self.answer() {
+            Some(answer) => answer,
+            None => (None, stated(Err(Halt::NotSupported))),
+        }
+    }
+
+    // Takes more bytes. Those beyond the told length are not looked at.
+    fn take_in(&mut self, chunk: &[u8])
+        ensures told { told_of self.new ≡ told_of self.old }
+        ensures keeps { IfSome (answer_of self.old) (λ answer. answer_of self.new ≡ Some answer) }
+        ensures goes_on { (front : List ℕ) → Came self.old front → Came self.new (front ++ take (told_of self.old - length front) chunk.now) }
+        ensures complete { IfAwaiting self.new.stage ((front : List ℕ) → Came self.old front
+            → RestsOnMore (front ++ take (told_of self.old - length front) chunk.now) (told_of self.old)) }
+        ensures whole { IfAwaiting self.new.stage ((front : List ℕ) → Came self.old front → told_of self.old ≤ length front + length chunk.now → ⊥) }
+    {
+        let chunk = front_of(chunk, self.stand.told - self.stand.passed);
+        self.stage = match self.stage {
+            Stage::First => begin(&mut self.kind, &mut self.stand, &mut self.room, chunk),
+            Stage::Records { next } => walk(next, &mut self.stand, &mut self.room, chunk),
+            Stage::Footer { size } => wait(
+                size,
+                &mut self.kind,
+                &mut self.stand,
+                &mut self.room,
+                chunk,
+            ),
+            Stage::Done { .. } => self.stage,
+        };
+    }
+
+    // Type and size, where they are known.
+    fn answer(&self) -> Option<(Option<ImageType>, ImageResult<ImageSize>)>
+        ensures { result ≡ answer_of self.now }
+    {
+        match self.stage {
+            Stage::Done { size } => Some((self.kind, stated(size))),
+            _ => None,
+        }
+    }
+}
+
+// A result of readings, with the error of its refusal.
+fn stated(size: Result<ImageSize, Halt>) -> ImageResult<ImageSize>
+    ensures { result ≡ stated size }
+{
+    match size {
+        Ok(size) => Ok(size),
+        Err(halt) => Err(halt.error(Reason::EndOfInput, 0)),
+    }
+}

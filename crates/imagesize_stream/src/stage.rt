@@ -1,0 +1,161 @@
+//! How far a stream has come, and how it goes on.
+ghost use Rattle.std.specs.Prelude.{◌≡◌, ℕ, ◌+◌, ◌-◌, ◌<◌, ◌≤◌, ◌++◌, List, Option, length, take};
+ghost use Rattle.imagesize.specs.declared.types.ImageType.{ImageType};
+ghost use Rattle.imagesize_stream.specs.Heard.{RestsOnMore};
+ghost use Rattle.imagesize_stream.specs.Probe.{CameTo, HoldsAt, IfAwaiting};
+ghost use Rattle.imagesize_stream.specs.Steps.{IsSteady};
+ghost use Rattle.imagesize_stream.specs.declared.stage.Stage.TheVariants as stage;
+
+use crate::awaited::Awaited;
+use crate::hear::{Heard, hear};
+use crate::sizes::Sizes;
+use imagesize::ImageType;
+use imagesize_fixed::formats::tga::is_footer;
+use imagesize_pieces::room::{bytes_behind, front_of, keep_behind};
+use imagesize_pieces::stand::Stand;
+use imagesize_pieces::walk::read_on;
+use imagesize_source::Halt;
+use imagesize_types::size::ImageSize;
+
+/// The most bytes that are kept.
+pub(crate) const ROOM: usize = 1023;
+
+// The most first bytes that tell the type, and the size or where the records are.
+const FIRST: u64 = 132;
+
+/// How far a stream has come.
+#[derive(Clone, Copy)]
+pub(crate) enum Stage {
+    /// The first bytes do not tell the type yet, or not the size of this type. All of them are kept.
+    First,
+    /// The size is behind records, of which this one is next.
+    Records { next: Awaited },
+    /// The last bytes tell whether it is a TGA, of this size. The last of those that came are kept.
+    Footer { size: ImageSize },
+    /// The size, or why there is none.
+    Done { size: Result<ImageSize, Halt> },
+}
+
+/// Goes on along the records with more bytes.
+pub(crate) fn walk(next: Awaited, stand: &mut Stand, room: &mut [u8; ROOM], chunk: &[u8]) -> Stage
+    requires steady { IsSteady next stand.old.place }
+    requires few { stand.old.passed - stand.old.start ≤ 1023 }
+    requires fits { stand.old.passed + length chunk.now ≤ stand.old.told }
+    ensures told { stand.new.told ≡ stand.old.told }
+    ensures holds { HoldsAt result stand.new }
+
+    // Of each list of bytes that came before:
+    ensures goes_on { (kind : Option ImageType) (front : List ℕ) → CameTo (stage.Records next) kind stand.old room.old front
+        → CameTo result kind stand.new room.new (front ++ chunk.now) }
+    ensures complete { IfAwaiting result ((kind : Option ImageType) (front : List ℕ) → CameTo (stage.Records next) kind stand.old room.old front
+        → RestsOnMore (front ++ chunk.now) stand.old.told) }
+    ensures whole { IfAwaiting result (stand.old.told ≤ stand.old.passed + length chunk.now → ⊥) }
+{
+    let mut sizes = Sizes { next };
+    match read_on(&mut sizes, stand, room, chunk) {
+        Some(size) => Stage::Done { size },
+        None => Stage::Records { next: sizes.next },
+    }
+}
+
+/// Waits for the last bytes, and returns what they tell once all came.
+pub(crate) fn wait(
+    size: ImageSize,
+    kind: &mut Option<ImageType>,
+    stand: &mut Stand,
+    room: &mut [u8; ROOM],
+    chunk: &[u8],
+) -> Stage
+    requires some { 18 ≤ stand.old.passed }
+    requires fits { stand.old.passed + length chunk.now ≤ stand.old.told }
+    ensures told { stand.new.told ≡ stand.old.told }
+    ensures holds { HoldsAt result stand.new }
+    ensures goes_on { (front : List ℕ) → CameTo (stage.Footer size) kind.old stand.old room.old front
+        → CameTo result kind.new stand.new room.new (front ++ chunk.now) }
+    ensures complete { IfAwaiting result ((front : List ℕ) → CameTo (stage.Footer size) kind.old stand.old room.old front
+        → RestsOnMore (front ++ chunk.now) stand.old.told) }
+    ensures whole { IfAwaiting result (stand.old.told ≤ stand.old.passed + length chunk.now → ⊥) }
+{
+    let count = chunk.len() as u64;
+    keep_behind(room, 18, chunk, count);
+    stand.passed += count;
+    if stand.passed < stand.told {
+        return Stage::Footer { size };
+    }
+    let mut last = [0u8; 18];
+    last.copy_from_slice(&room[..18]);
+    if is_footer(&last) {
+        *kind = Some(ImageType::Tga);
+        return Stage::Done { size: Ok(size) };
+    }
+    *kind = None;
+    Stage::Done {
+        size: Err(Halt::NotSupported),
+    }
+}
+
+/// Begins with more bytes, of which the room has the first.
+pub(crate) fn begin(
+    kind: &mut Option<ImageType>,
+    stand: &mut Stand,
+    room: &mut [u8; ROOM],
+    chunk: &[u8],
+) -> Stage
+    requires first { stand.old.start ≡ 0 }
+    requires few { stand.old.passed < 132 }
+    requires fits { stand.old.passed + length chunk.now ≤ stand.old.told }
+    ensures told { stand.new.told ≡ stand.old.told }
+    ensures holds { HoldsAt result stand.new }
+    ensures goes_on { (front : List ℕ) → CameTo stage.First kind.old stand.old room.old front
+        → CameTo result kind.new stand.new room.new (front ++ chunk.now) }
+    ensures complete { IfAwaiting result ((front : List ℕ) → CameTo stage.First kind.old stand.old room.old front
+        → RestsOnMore (front ++ chunk.now) stand.old.told) }
+    ensures whole { IfAwaiting result (stand.old.told ≤ stand.old.passed + length chunk.now → ⊥) }
+{
+    let left = FIRST - stand.passed;
+    let more = front_of(chunk, left);
+    let rest = bytes_behind(chunk, left);
+    keep_behind(room, stand.passed as usize, more, 0);
+    stand.passed += more.len() as u64;
+    begun(kind, stand, room, rest)
+}
+
+// Goes on from the first bytes, all of which are kept, with more behind them.
+fn begun(
+    kind: &mut Option<ImageType>,
+    stand: &mut Stand,
+    room: &mut [u8; ROOM],
+    chunk: &[u8],
+) -> Stage
+    requires first { stand.old.start ≡ 0 }
+    requires few { stand.old.passed ≤ 132 }
+    requires all { stand.old.passed < 132 → length chunk.now ≡ 0 }
+    requires fits { stand.old.passed + length chunk.now ≤ stand.old.told }
+    ensures told { stand.new.told ≡ stand.old.told }
+    ensures holds { HoldsAt result stand.new }
+    ensures goes_on { CameTo result kind.new stand.new room.new (take stand.old.passed room.old ++ chunk.now) }
+    ensures complete { IfAwaiting result (RestsOnMore (take stand.old.passed room.old ++ chunk.now) stand.old.told) }
+    ensures whole { IfAwaiting result (stand.old.told ≤ stand.old.passed + length chunk.now → ⊥) }
+{
+    let passed = stand.passed as usize;
+    match hear(&room[..passed], stand.told) {
+        Heard::Missing { image } => {
+            *kind = image;
+            Stage::First
+        }
+        Heard::Answer { image, size } => {
+            *kind = image;
+            Stage::Done { size }
+        }
+        Heard::Records { image, next, place } => {
+            *kind = Some(image);
+            stand.place = place;
+            walk(next, stand, room, chunk)
+        }
+        Heard::Footer { size } => {
+            *kind = None;
+            keep_behind(room, passed, &[], stand.passed - 18);
+            wait(size, kind, stand, room, chunk)
+        }
+    }
+}
