@@ -9,10 +9,9 @@ use imagesize::ImageType;
 use imagesize::formats::{first_row, with_compression};
 use imagesize_boxes::formats::jxl::front::Front;
 use imagesize_boxes::formats::jxl::read_start;
-use imagesize_fixed::formats::{atc, dds, pkm, pvrtc};
 use imagesize_fixed::formats::tga::{has_sound_header, may_be_tga};
 use imagesize_fixed::formats::{
-    aseprite, astc, bmp, farbfeld, gif, ktx2, psd, qoi, tga, vtf, webp,
+    aseprite, astc, atc, bmp, dds, farbfeld, gif, ktx2, pkm, psd, pvrtc, qoi, tga, vtf, webp,
 };
 use imagesize_pieces::front::Fixed;
 use imagesize_source::readings::{read_exact_at, read_u16, read_u32};

@@ -335,7 +335,7 @@ pub none_left : {a : State} (header : Header) (count seen : ℕ) (width height :
 none_left {a} header count seen width height place sound many =
     let all : eqb seen count ≡ true = grind (arith, nat_tests) in
     rw all (reads_nothing a (Err NoDimensionsInIfd) sound refl
-    (record { budget = λ e. absurd cc; memory = λ e. absurd cc; fault = λ e. absurd cc }))
+    (record { budget = λ e. absurd cc; fault = λ e. absurd cc }))
 
 module _ {a b : State} (header : Header) (count seen : ℕ) (width height : Option ℕ) (place : ℕ) where
   -- one is left, that is read or refused
