@@ -69,9 +69,10 @@ module _ {X : Type 0} (f : List ℕ → Reads X) (same : IsShared f) (told start
     pub what_behind : start ≤ what.0.start → (length front ≤ what.0.start) × (what.0.start < told)
     what_behind above =
         let none = call.lacks what.0 what.1 in
-        let some = none.0 in let few = none.1 in let within = none.2 in
-        (unknown_behind told start kept unread front run fits what.0.start none.3 above,
-        omega (arith, some, few, within))
+        let some = none.0 in let few = none.1 in let within = none.2 in (
+          unknown_behind told start kept unread front run fits what.0.start none.3 above,
+          omega (arith, some, few, within),
+        )
 
     -- An input of the told length whose marks all lie in the bytes so far would have missed nothing.
     pub complete_begun : (d : List ℕ) → Begins front told d → length d ≡ told

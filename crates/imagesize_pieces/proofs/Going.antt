@@ -37,7 +37,7 @@ chain_above {C} {X} c k reaches d adv =
     elim (covered_either (next_record c d t).marks (chain_from c d u).marks place
     (subst (λ w. is_covered w.marks place ≡ true) (chain_next c d t v next adv is) here)) [
       | inl first ↦ (reach_covered d t.place (t.place + k) (c.said t.held t.place)
-      (reaches t.held t.place) place first).0
+          (reaches t.held t.place) place first).0
       | inr rest ↦ (let after = later place rest in omega (arith, on, after))
     ])
     (λ t r is place here.

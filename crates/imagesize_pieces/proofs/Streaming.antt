@@ -108,8 +108,8 @@ pub whole_part : (n start : ℕ) (kept chunk found : List ℕ) (place count : �
 whole_part n start kept chunk found place zero long known =
     (omega arith, sym (part_none (stream_input n start kept chunk) place))
 whole_part n start kept chunk found place (suc k) long known =
-    let last = known_below n (came start kept chunk) (kept ++ chunk) (place + k) (ap is_some (known k (omega arith))) in
-    (
+    let last = known_below n (came start kept chunk) (kept ++ chunk) (place + k)
+    (ap is_some (known k (omega arith))) in (
       omega (arith, last),
       run_part n (came start kept chunk) (kept ++ chunk) found place (suc k) (omega (arith, long)) (omega (arith, last))
           (λ i below. known i (omega (arith, below, long))),

@@ -61,9 +61,13 @@ came_last kind (Records next) start place passed told room front within none cam
     resumes = λ d begins. came.1.resumes d (begins_last front d passed told within begins);
   },
 )
-came_last kind (Footer size) start place passed told room front within none came =
-    (came.0, came.1, type_last front passed told kind within came.2, λ d begins. came.3 d
-    (begins_last front d passed told within begins))
+came_last kind (Footer size) start place passed told room front within none came = (
+  came.0,
+  came.1,
+  type_last front passed told kind within came.2,
+  λ d begins. came.3 d
+      (begins_last front d passed told within begins),
+)
 came_last kind (Done size) start place passed told room front within none came = absurd cc
 
 ok_stated : (r : Result ImageType Halt) → result_ok r ≡ result_ok (stated r)
@@ -82,7 +86,7 @@ tells kind (Footer size) start place passed told room front d answer is came beg
 tells kind (Done size) start place passed told room front d answer is came begins =
     let same : answer ≡ (kind, stated size) = cc in (
       ap (λ (a : Option ImageType × Result ImageSize ImageError). a.0) same ∙ sym (came.0 d begins)
-      ∙ ok_stated (kind_reads d 0).answer,
+          ∙ ok_stated (kind_reads d 0).answer,
       ap (λ (a : Option ImageType × Result ImageSize ImageError). a.1) same ∙ ap stated (sym (came.1 d begins)),
     )
 

@@ -58,7 +58,7 @@ segment_far k place = (
   omega arith,
   omega arith,
   λ head few. reach_if (eqb (slice_index head 0) 0xFF) place (place + 1024) (jpeg_marked k place (slice_index head 1))
-  (refuse Corrupted)
+      (refuse Corrupted)
       (reach_if (is_own_frame k (slice_index head 1)) place (place + 1024) (jpeg_frame place) _ (frame_far place)
       (reach_if (is_own_end k (slice_index head 1)) place (place + 1024) (refuse Corrupted)
       (jpeg_other place (slice_index head 1)) tt
@@ -92,7 +92,7 @@ typed_far place name type_name few also = (
   omega arith,
   omega arith,
   λ size. value_far place (length name + 1 + (length type_name + 1) + 4) size (is_data_window name && is_box type_name)
-  (omega arith),
+      (omega arith),
 )
 
 -- a line has fewer bytes than were read of it
@@ -142,7 +142,7 @@ height_far place width = (
   omega arith,
   omega arith,
   λ bs most. reach_accept place (place + 1024) (word_text bs) (height_step width)
-  (λ w _. accepted_far place (pnm_size width (number_text (trim w.text)))),
+      (λ w _. accepted_far place (pnm_size width (number_text (trim w.text)))),
 )
 
 answer_far : (place : ℕ) (best : Option ImageSize) → Reach place (place + 1024) (icon_answer best)
@@ -174,13 +174,13 @@ listed_far header count seen width height place =
       omega arith,
       omega (arith, few.0),
       λ head most. reach_accept place (place + 1024)
-      (field_type_of header.version (field_type_in header.order (take 4 head))) _
+          (field_type_of header.version (field_type_in header.order (take 4 head))) _
           (λ field_type _. reach_bind place (place + 1024)
           (tiff_value header.version (place + head_bytes header.version)) _ (
             omega arith,
             omega (arith, few.0, few.1),
             λ bs short. reach_accept place (place + 1024) (whole_value (whole (value_bytes header.version) bs)) done
-            (λ value _. tt),
+                (λ value _. tt),
           ) (λ value. tt)),
     ) (λ entry. says_far (size_if_known (side_with 0x100 width entry) (side_with 0x101 height entry)) entry)) where
       says_far : (size : Option ImageSize) (entry : tiff.Entry)
@@ -189,8 +189,12 @@ listed_far header count seen width height place =
       says_far (Some size) entry = tt
 
 box_far : (tag : List ℕ) (place : ℕ) → Reach place (place + 1024) (searched_box tag place)
-box_far tag place = (omega arith, omega arith, λ head few. by_searched (Reach place (place + 1024)) tag place head tt tt
-    (λ big. tt))
+box_far tag place = (
+  omega arith,
+  omega arith,
+  λ head few. by_searched (Reach place (place + 1024)) tag place head tt tt
+      (λ big. tt),
+)
 
 after_box : (place : ℕ) (next : Awaited) (leads : FoundBox → Layout (Said Awaited ImageSize))
     → ((found : FoundBox) → Reach place (place + 1024) (leads found))
@@ -204,7 +208,7 @@ property_far g place = (
   omega arith,
   omega arith,
   λ bs few. by_found (λ t. Reach place (place + 1024) (bind t (property_step g place))) g.left place (whole 8 bs)
-  (accepted_far place (gathered_answer g)) tt
+      (accepted_far place (gathered_answer g)) tt
       (omega arith, omega arith, λ content short. tt) (omega arith, omega arith, λ content short. tt) (λ size big. tt),
 )
 
@@ -224,7 +228,7 @@ content_far held place head short =
       omega arith,
       omega (arith, short),
       λ index few. by_piece (Reach place (place + 1024)) (place + (head.length + 4))
-      (min (box_room head - 4) (16 - length held))
+          (min (box_room head - 4) (16 - length held))
           (λ piece. done (partial_said held place head index piece)) (λ _. tt)
           (λ _. (omega arith, omega (arith, short), λ piece less. tt)),
     ))
@@ -287,13 +291,16 @@ step_far (Property g) place = property_far g place
 step_far (Box kept) place =
     reach_bind place (place + 1024) (jxl_box (kept_front kept) place) _ (jxl_far (kept_front kept) place)
     (after_piece place (λ piece. Box (kept_of (kept_front kept ++ piece))))
-step_far Word place =
-    (omega arith, omega arith, λ bs most. reach_accept place (place + 1024) (word_text bs) (word_step place)
-    (λ w _. tt))
+step_far Word place = (
+  omega arith,
+  omega arith,
+  λ bs most. reach_accept place (place + 1024) (word_text bs) (word_step place)
+      (λ w _. tt),
+)
 step_far Comment place = (
   omega arith,
   omega arith,
   λ bs most. reach_accept place (place + 1024) (line_length 0x0A 1024 bs) (λ taken. done (Next Word (place + taken)))
-  (λ taken _. tt),
+      (λ taken _. tt),
 )
 step_far (Height width) place = height_far place width

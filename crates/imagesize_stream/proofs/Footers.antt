@@ -102,8 +102,12 @@ pixels_reach true = (omega arith, omega arith, λ bits. (omega arith, omega arit
 pixels_reach false = tt
 
 pub header_reach : (head : List ℕ) → Reach 0 18 (tga_by_header head)
-header_reach head = (omega arith, omega arith, λ map few.
-    (omega arith, omega arith, λ bits. pixels_reach (is_map_sound (slice_index head 1) map bits)))
+header_reach head = (
+  omega arith,
+  omega arith,
+  λ map few.
+      (omega arith, omega arith, λ bits. pixels_reach (is_map_sound (slice_index head 1) map bits)),
+)
 
 pub size_sure : Sure 18 tga
 size_sure = (omega arith, λ width. (omega arith, λ height. tt))
@@ -311,10 +315,10 @@ pub footer_tells : (front chunk last : List ℕ) (told : ℕ) (size : ImageSize)
     (cond b (Ok size) (Err NotSupported)) × (length (front ++ chunk) ≤ told)
 footer_tells front chunk last told size b long all is by_footer decides within = (
   (λ d begins. ap result_ok
-  ((by_footer d (begins_left front chunk told d begins)).type
-  ∙ ap (λ t. cond t (Ok Tga) (Err NotSupported)) (test d begins)) ∙ kind_by b),
+      ((by_footer d (begins_left front chunk told d begins)).type
+      ∙ ap (λ t. cond t (Ok Tga) (Err NotSupported)) (test d begins)) ∙ kind_by b),
   λ d begins. (by_footer d (begins_left front chunk told d begins)).size_is
-  ∙ ap (λ t. cond t (Ok size) (Err NotSupported)) (test d begins),
+      ∙ ap (λ t. cond t (Ok size) (Err NotSupported)) (test d begins),
   within,
 ) where
   test : (d : List ℕ) → Begins (front ++ chunk) told d → is_tga_footer (part d (length d - 18) 18) ≡ b
@@ -338,5 +342,5 @@ last_kept room new passed skip within some is kept =
     let at : skip ≡ length (take passed room) - 18 = omega (arith, is, many) in (
       many,
       ap (λ k. take k new) (sym all) ∙ kept ∙ ap (drop skip) (append-nil (take passed room))
-      ∙ ap (λ k. drop k (take passed room)) at,
+          ∙ ap (λ k. drop k (take passed room)) at,
     )

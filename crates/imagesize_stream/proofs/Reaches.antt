@@ -48,8 +48,12 @@ dds_size : Reach 0 132 dds
 dds_size = (omega arith, omega arith, λ height. (omega arith, omega arith, λ width. tt))
 
 pkm_size : Reach 0 132 pkm
-pkm_size = (omega arith, omega arith, λ a.
-    (omega arith, omega arith, λ b. (omega arith, omega arith, λ width. (omega arith, omega arith, λ height. tt))))
+pkm_size = (
+  omega arith,
+  omega arith,
+  λ a.
+      (omega arith, omega arith, λ b. (omega arith, omega arith, λ width. (omega arith, omega arith, λ height. tt))),
+)
 
 pvr2_size : Reach 0 132 pvr2
 pvr2_size = (omega arith, omega arith, λ height. (omega arith, omega arith, λ width. tt))
@@ -95,13 +99,13 @@ place_reaches order BigTiff = (
   omega arith,
   omega arith,
   λ size. reach_if (eqb size 8) 0 132
-  (field order 6 2 (λ zeros. cond (eqb zeros 0) (field order 8 8 done) (refuse InvalidBigTiffHeader)))
-  (refuse BigTiffOffsetSize) (
-    omega arith,
-    omega arith,
-    λ zeros. reach_if (eqb zeros 0) 0 132 (field order 8 8 done) (refuse InvalidBigTiffHeader)
-        (omega arith, omega arith, λ place. tt) tt,
-  ) tt,
+      (field order 6 2 (λ zeros. cond (eqb zeros 0) (field order 8 8 done) (refuse InvalidBigTiffHeader)))
+      (refuse BigTiffOffsetSize) (
+        omega arith,
+        omega arith,
+        λ zeros. reach_if (eqb zeros 0) 0 132 (field order 8 8 done) (refuse InvalidBigTiffHeader)
+            (omega arith, omega arith, λ place. tt) tt,
+      ) tt,
 )
 
 header_reaches : Reach 0 132 tiff_header
@@ -113,7 +117,7 @@ header_reaches = (
     omega arith,
     omega arith,
     λ number. reach_accept 0 132 (version_of number) _
-    (λ version _. reach_bind 0 132 (stated_place order version) _ (place_reaches order version)
+        (λ version _. reach_bind 0 132 (stated_place order version) _ (place_reaches order version)
         (λ place. reach_accept 0 132 (directory_at order version place) done (λ header _. tt))),
   )),
 )

@@ -132,7 +132,7 @@ entries_within count d =
     (by_answer (Ahead place) (last_largest sizes) tt (λ size. tt)) (
       omega arith,
       λ bs. by_entry (Ahead (place + 2)) (last_largest sizes) place (whole 2 bs)
-      (by_answer (Ahead (place + 2)) (last_largest sizes) tt
+          (by_answer (Ahead (place + 2)) (last_largest sizes) tt
           (λ size. tt)) (λ size. omega arith),
     )) in
     omega arith
@@ -152,9 +152,9 @@ pub largest_on : (best : Option ImageSize) (sizes : List ImageSize) (size : Imag
     (greatest_area (sizes ++ size ∷ []) ≡ area_if_some (later_largest best size))
 largest_on best sizes size is area = (
   last_by best sizes size (greatest_area (sizes ++ size ∷ [])) (leb (area_if_some best) (area_of size)) refl area is
-  (greatest_push sizes size),
+      (greatest_push sizes size),
   greatest_push sizes size ∙ ap (λ n. max n (area_of size)) area
-  ∙ area_by best size (leb (area_if_some best) (area_of size)) refl,
+      ∙ area_by best size (leb (area_if_some best) (area_of size)) refl,
 )
 
 -- an entry that was read leads on
@@ -254,10 +254,10 @@ records_few count d =
 entry_at_most : (count : ℕ) (sizes : List ImageSize) (place : ℕ) → AtMost 2 ((icon_entries count).said sizes place)
 entry_at_most count sizes place =
     by_count (AtMost 2) count sizes place (by_answer (AtMost 2) (last_largest sizes) tt (λ size. tt)) (
-  omega arith,
-  λ bs. by_entry (AtMost 0) (last_largest sizes) place (whole 2 bs)
-  (by_answer (AtMost 0) (last_largest sizes) tt (λ size. tt)) (λ size. tt),
-)
+      omega arith,
+      λ bs. by_entry (AtMost 0) (last_largest sizes) place (whole 2 bs)
+          (by_answer (AtMost 0) (last_largest sizes) tt (λ size. tt)) (λ size. tt),
+    )
 
 -- what is seen of an input
 pub ico_local : IsLocal false ico

@@ -59,8 +59,10 @@ keep_behind-requires-clause-fits g c =
     let same = same_frame _ _ _ _ _ _ [] [] None None runs.frame in
     let stood = stood_as (chain_of 0 (g.R.Records.said c.args.records.now))
     (λ behind. g.R.Records.keeps c.walk_on-found.new.records behind c.walk_on-found.new.place)
-    (record { held = c.requires.keeps.0; place =
-    c.args.stand.now.place }) c.walk_on-found.new.place _ _ _ _ _ _ _ _ _ _ _ new.seen new.missed same
+    (record {
+      held = c.requires.keeps.0;
+      place = c.args.stand.now.place;
+    }) c.walk_on-found.new.place _ _ _ _ _ _ _ _ _ _ _ new.seen new.missed same
     (c.walk_on-found.ensures.stands 0 c.requires.keeps.0 c.requires.keeps.1 faults) in
     let start_is : a.start ≡ min c.args.stand.now.start (c.args.stand.now.passed + length c.args.chunk.now) = new.start
     ∙ c.min-start.ensures in
@@ -115,8 +117,10 @@ returns-then-is_faulted-clause-room g c = λ none.
     let same = same_frame _ _ _ _ _ _ [] [] None None runs.frame in
     let stood = stood_as (chain_of 0 (g.R.Records.said c.args.records.now))
     (λ behind. g.R.Records.keeps c.walk_on-found.new.records behind c.walk_on-found.new.place)
-    (record { held = c.requires.keeps.0; place =
-    c.args.stand.now.place }) c.walk_on-found.new.place _ _ _ _ _ _ _ _ _ _ _ new.seen new.missed same
+    (record {
+      held = c.requires.keeps.0;
+      place = c.args.stand.now.place;
+    }) c.walk_on-found.new.place _ _ _ _ _ _ _ _ _ _ _ new.seen new.missed same
     (c.walk_on-found.ensures.stands 0 c.requires.keeps.0 c.requires.keeps.1 faults) in
     let start_is : a.start ≡ min c.args.stand.now.start (c.args.stand.now.passed + length c.args.chunk.now) = new.start
     ∙ c.min-start.ensures in
@@ -152,8 +156,10 @@ returns-then-is_faulted-clause-goes_on g c = λ none first whole front s.
     let same = same_frame _ _ _ _ _ _ [] [] None None runs.frame in
     let stood = stood_as (chain_of first (g.R.Records.said c.args.records.now))
     (λ behind. g.R.Records.keeps c.walk_on-found.new.records behind c.walk_on-found.new.place)
-    (record { held = s.held; place =
-    c.args.stand.now.place }) c.walk_on-found.new.place _ _ _ _ _ _ _ _ _ _ _ new.seen new.missed same
+    (record {
+      held = s.held;
+      place = c.args.stand.now.place;
+    }) c.walk_on-found.new.place _ _ _ _ _ _ _ _ _ _ _ new.seen new.missed same
     (c.walk_on-found.ensures.stands first s.held s.known faults) in
     let start_is : a.start ≡ min c.args.stand.now.start (c.args.stand.now.passed + length c.args.chunk.now) = new.start
     ∙ c.min-start.ensures in
@@ -237,7 +243,7 @@ returns-then-is_faulted-clause-complete g c = λ none first whole front s d begi
       arith,
       length-append front c.args.chunk.now,
       below p (subst (λ (w : Reads _). is_covered w.marks p ≡ true)
-      (sym (s.resumes d (begins_left front c.args.chunk.now c.args.stand.now.told d begins)))
+          (sym (s.resumes d (begins_left front c.args.chunk.now c.args.stand.now.told d begins)))
           (covered-right s.before _ p here)),
     ))
 

@@ -8,9 +8,11 @@ use Rattle.imagesize_stream.specs.declared.front.First.{First}
 use Rattle.imagesize_stream.proofs.hear.hear.Goals as goal
 
 pub returns-then-is_faulted-clause-hears : goal.returns-then-is_faulted-clause-hears
-returns-then-is_faulted-clause-hears c =
-    (first_missing c.args.bytes.now c.args.told
-    (c.read_front-found.ensures.complete (sym c.is_faulted.ensures ∙ c.if-is_faulted.true)), tt)
+returns-then-is_faulted-clause-hears c = (
+  first_missing c.args.bytes.now c.args.told
+      (c.read_front-found.ensures.complete (sym c.is_faulted.ensures ∙ c.if-is_faulted.true)),
+  tt,
+)
 
 pub returns-then-is_faulted-clause-few : goal.returns-then-is_faulted-clause-few
 returns-then-is_faulted-clause-few c =

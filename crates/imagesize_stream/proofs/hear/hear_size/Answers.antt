@@ -23,7 +23,8 @@ returns-in-Err-clause-hears c =
     let says = c.read_front-found.ensures.says (sym c.is_faulted.ensures ∙ c.if-is_faulted.false) in (
       type_is c.args.bytes.now c.args.told _ c.requires.image,
       size_of_said c.args.bytes.now c.args.told _
-      (size_refused c.args.bytes.now c.args.told c.args.image c.requires.image c.in-Err.halt (rw c.in-Err.is at says)),
+          (size_refused c.args.bytes.now c.args.told c.args.image c.requires.image c.in-Err.halt
+          (rw c.in-Err.is at says)),
     )
 
 pub returns-in-Size-clause-hears : goal.returns-in-Size-clause-hears
@@ -32,7 +33,7 @@ returns-in-Size-clause-hears c =
     let said = rw c.in-Ok.is at says in (
       type_is c.args.bytes.now c.args.told _ c.requires.image,
       size_of_said c.args.bytes.now c.args.told _
-      (size_said c.args.bytes.now c.args.told c.args.image c.requires.image c.in-Size.size
+          (size_said c.args.bytes.now c.args.told c.args.image c.requires.image c.in-Size.size
           (subst (λ (x : Opening). Says c.args.bytes.now c.args.told (λ d. layout_reads d (opening c.args.image))
           (Ok x)) c.in-Size.is said)),
     )
@@ -44,7 +45,7 @@ returns-in-Records-clause-hears c =
     let is = subst (λ (x : Opening). Says c.args.bytes.now c.args.told (λ d. layout_reads d (opening c.args.image))
     (Ok x)) c.in-Records.is said in (
       steady_said c.args.bytes.now c.args.told c.args.image c.requires.image c.requires.fits c.in-Records.next
-      c.in-Records.place is,
+          c.in-Records.place is,
       c.requires.image,
       is,
     )

@@ -10,9 +10,11 @@ returns-then-told-lt18-clause-hears c = (
 )
 
 pub returns-then-bytes-lt18-clause-hears : goal.returns-then-bytes-lt18-clause-hears
-returns-then-bytes-lt18-clause-hears c =
-    (rests_on_more c.args.bytes.now c.args.told c.args.head.now c.requires.first c.requires.fits c.if-told-lt18.false
-    c.if-bytes-lt18.true, tt)
+returns-then-bytes-lt18-clause-hears c = (
+  rests_on_more c.args.bytes.now c.args.told c.args.head.now c.requires.first c.requires.fits c.if-told-lt18.false
+      c.if-bytes-lt18.true,
+  tt,
+)
 
 pub returns-in_default-clause-hears : goal.returns-in_default-clause-hears
 returns-in_default-clause-hears c = absurd (
@@ -54,10 +56,10 @@ pub returns-then-is_by_header-clause-hears : goal.returns-then-is_by_header-clau
 returns-then-is_by_header-clause-hears c =
     let is = sym c.is_by_header.ensures ∙ c.if-is_by_header.true in (
       header_type c.args.bytes.now c.args.told c.args.head.now c.requires.first c.requires.fits c.in-Ok.sound
-      c.in-Ok-read_front.size
+          c.in-Ok-read_front.size
           (c.in-Ok.ensures.says refl) (c.in-Ok-read_front.ensures.says refl) c.if-bytes-lt18.false is,
       header_size c.args.bytes.now c.args.told c.args.head.now c.requires.first c.requires.fits c.in-Ok.sound
-      c.in-Ok-read_front.size
+          c.in-Ok-read_front.size
           (c.in-Ok.ensures.says refl) (c.in-Ok-read_front.ensures.says refl) c.if-bytes-lt18.false is,
     )
 
@@ -66,6 +68,6 @@ returns-clause-hears c =
     let is = sym c.is_by_header.ensures ∙ c.if-is_by_header.false in (
       c.if-bytes-lt18.false,
       footer_decides c.args.bytes.now c.args.told c.args.head.now c.requires.first c.requires.fits c.in-Ok.sound
-      c.in-Ok-read_front.size
+          c.in-Ok-read_front.size
           (c.in-Ok.ensures.says refl) (c.in-Ok-read_front.ensures.says refl) c.if-bytes-lt18.false is,
     )

@@ -10,7 +10,7 @@ returns-in-Records-clause-goes_on c =
     c.walk.ensures.goes_on (Some c.in-Records.image) (take c.args.stand.now.passed c.args.room.now) (
       type_is (take c.args.stand.now.passed c.args.room.now) c.args.stand.now.told _ hears.1,
       opened_came c.args.room.now c.args.stand.now.passed c.args.stand.now.start c.args.stand.now.told
-      c.in-Records.place c.in-Records.next c.in-Records.image
+          c.in-Records.place c.in-Records.next c.in-Records.image
           c.requires.first (omega (arith, c.requires.few)) hears.0 hears.1 hears.2,
     )
 
@@ -21,7 +21,7 @@ returns-in-Records-clause-complete c =
     (λ rests. rests (Some c.in-Records.image) (take c.args.stand.now.passed c.args.room.now) (
       type_is (take c.args.stand.now.passed c.args.room.now) c.args.stand.now.told _ hears.1,
       opened_came c.args.room.now c.args.stand.now.passed c.args.stand.now.start c.args.stand.now.told
-      c.in-Records.place c.in-Records.next c.in-Records.image
+          c.in-Records.place c.in-Records.next c.in-Records.image
           c.requires.first (omega (arith, c.requires.few)) hears.0 hears.1 hears.2,
     )) c.walk.ensures.complete
 

@@ -12,7 +12,7 @@ returns-then-stand-clause-goes_on c = λ front came.
     let some : 18 ≤ length front = omega (arith, as_many, c.requires.some) in (
       omega (arith, as_many, length-append front c.args.chunk.now),
       last_on front c.args.chunk.now (take 18 c.args.room.now) c.keep_behind.new.room
-      (length c.args.chunk.now) some came.1 refl c.keep_behind.ensures,
+          (length c.args.chunk.now) some came.1 refl c.keep_behind.ensures,
       says_on front c.args.chunk.now c.args.stand.now.told c.args.stand.now.told c.args.kind.now refl came.2,
       λ d begins. came.3 d (begins_left front c.args.chunk.now c.args.stand.now.told d begins),
     )

@@ -23,7 +23,7 @@ pub returns-in-Some-clause-goes_on : goal.returns-in-Some-clause-goes_on
 returns-in-Some-clause-goes_on c = λ kind front came. (
   type_on front c.args.chunk.now c.args.stand.now.told c.read_on.new.stand.told kind c.read_on.ensures.told came.0,
   size_by (front ++ c.args.chunk.now) c.args.stand.now.told c.read_on.new.stand.told c.in-Some.size
-  c.read_on.ensures.told
+      c.read_on.ensures.told
       (c.in-Some.ensures.says 0 (λ d. meaning_reads d 0) front came.1),
   omega (arith, came.1.as_many, length-append front c.args.chunk.now, c.requires.fits, c.read_on.ensures.told),
 )

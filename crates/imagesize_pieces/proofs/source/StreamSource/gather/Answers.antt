@@ -23,12 +23,12 @@ loop-count-preserved c =
     omega (arith, c.put-count.ensures.count, c.loop-count-test.true, c.requires, so_far.0) in (
       long ∙ so_far.0,
       gathered_run s.told (came s.start s.kept.now s.chunk.now)
-      (s.kept.now ++ s.chunk.now) c.known_from-run.result.now c.loop-count.room
+          (s.kept.now ++ s.chunk.now) c.known_from-run.result.now c.loop-count.room
           c.put-count.new.room c.args.place c.loop-count.count c.put-count.result so_far.1 so_far.3 few fits
           c.put-count.ensures.copied
           c.known_from-run.ensures.known,
       known_run s.told (came s.start s.kept.now s.chunk.now)
-      (s.kept.now ++ s.chunk.now) c.known_from-run.result.now c.args.place
+          (s.kept.now ++ s.chunk.now) c.known_from-run.result.now c.args.place
           c.loop-count.count c.put-count.result so_far.2 few c.known_from-run.ensures.known,
       omega (arith, long, c.put-count.ensures.count, so_far.3),
     )

@@ -35,5 +35,5 @@ returns-clause-complete c =
           (rw w.in-Footer.is refl) (omega arith) s.holds came)
           c.front_of-chunk.ensures (rests front here)) w.wait-self.ensures.complete)
       | in-Done w ↦ awaiting_as Rests c.match-self.self2 s.stage w.self2-is
-      (awaiting_as Rests s.stage (Done w.in-Done.size) w.in-Done.is tt)
+          (awaiting_as Rests s.stage (Done w.in-Done.size) w.in-Done.is tt)
     ]
