@@ -140,7 +140,8 @@ def collected(program, function, *arguments):
 
 
 def check_instructions(folder, probe):
-    """The bytes after the size are not read. Each segment and each byte of a text is read once, by a call and by the program."""
+    """The bytes after the size are not read. Each segment and each byte of a text is read once, by a call and by the program.
+    Spans are counted before they are written, so these are read twice."""
     program = f"{folder}/image_counted"
     sources = [f"-I{HERE.parent}/include", f"{HERE}/image.c", f"{folder}/libimagesize.a"]
     subprocess.run([os.environ.get("CC", "cc"), "-O1", "-o", program, *sources], check=True)
@@ -149,8 +150,8 @@ def check_instructions(folder, probe):
         ("tiny.gif", 300, 1000, 20_000, 20_000),
         ("long.gif", 300, 1000, 20_000, 8_000_000),
         ("long.jpeg", 45 * SEGMENTS, 300 * SEGMENTS, 450 * SEGMENTS, 2_600 * SEGMENTS),
-        ("long.hdr", 11 * len(LONG_HDR), 33 * len(LONG_HDR), 20 * len(LONG_HDR), 16 * len(LONG_HDR)),
-        ("long.pnm", 10 * len(LONG_PNM), 31 * len(LONG_PNM), 37 * len(LONG_PNM), 15 * len(LONG_PNM)),
+        ("long.hdr", 11 * len(LONG_HDR), 33 * len(LONG_HDR), 20 * len(LONG_HDR), 21 * len(LONG_HDR)),
+        ("long.pnm", 10 * len(LONG_PNM), 31 * len(LONG_PNM), 37 * len(LONG_PNM), 20 * len(LONG_PNM)),
     ]:
         for what, count, most in [
             ("imagesize_probe", collected(program, "imagesize_probe", name), of_probe),

@@ -3,6 +3,7 @@
 import array
 import asyncio
 import errno
+import gc
 import inspect
 import io
 import os
@@ -380,6 +381,7 @@ class Failing(unittest.TestCase):
         with tempfile.NamedTemporaryFile() as file:
             file.write(GIF)
             file.flush()
+            gc.collect()  # what earlier tests left is closed now, and not while this one counts
             before, interrupted = os.listdir("/proc/self/fd"), 0
             try:
                 for number in range(20000):

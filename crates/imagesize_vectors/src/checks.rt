@@ -32,7 +32,7 @@ pub fn check(alloc: Global, row: &Row<'_>) -> Result<(), Wrong> {
     if let Some(spans) = &row.spans {
         check_trace(alloc, row, spans)?;
         check_free_bytes(alloc, row, spans)?;
-        check_growths(alloc, row, spans)?;
+        check_allocations(alloc, row, spans)?;
         parts::check_wanted(alloc, row, spans)?;
     }
     match image_type(&row.bytes) {
@@ -180,24 +180,15 @@ fn check_free_bytes(alloc: Global, row: &Row<'_>, spans: &[Span]) -> Result<(), 
     Ok(())
 }
 
-// How many times the memory of so many spans grows: for four at first, and then for twice as many.
-fn growths(spans: usize) -> u64 {
-    let mut room = 4usize;
-    let mut growths = if spans == 0 { 0 } else { 1u64 };
-    for _ in 0..64 {
-        if room >= spans {
-            break;
-        }
-        room = room.saturating_mul(2);
-        growths = growths.saturating_add(1);
-    }
-    growths
+// How often memory is allocated for so many spans.
+fn allocations(spans: usize) -> u64 {
+    if spans == 0 { 0 } else { 1 }
 }
 
-// Each growth of the spans fails in turn. Then nothing stays allocated, and the next call has the trace.
-fn check_growths(alloc: Global, row: &Row<'_>, spans: &[Span]) -> Result<(), Wrong> {
-    let growths = growths(spans.len());
-    for turn in 0..growths {
+// The allocation for the spans fails. Then nothing stays allocated, and the next call has the trace.
+fn check_allocations(alloc: Global, row: &Row<'_>, spans: &[Span]) -> Result<(), Wrong> {
+    let allocations = allocations(spans.len());
+    for turn in 0..allocations {
         let memory = Refusing::new(alloc, turn);
         let refused = blob_trace(&memory, &row.bytes).is_err();
         let left = memory.out();
@@ -209,11 +200,11 @@ fn check_growths(alloc: Global, row: &Row<'_>, spans: &[Span]) -> Result<(), Wro
         let same = is_traced(alloc, row, spans, &trace)?;
         holds(same && memory.out() == 1, "the trace behind a refusal")?;
     }
-    let memory = Refusing::new(alloc, growths);
+    let memory = Refusing::new(alloc, allocations);
     let trace = blob_trace(&memory, &row.bytes)?;
     let same = is_traced(alloc, row, spans, &trace)?;
     holds(
         same && !memory.has_refused(),
-        "memory that grows more often",
+        "memory that is allocated more often",
     )
 }
