@@ -1,4 +1,4 @@
-//! A push parser: it is given the bytes of an image as they come, and returns type and size as soon as these tell them.
+//! A push parser: the caller passes the bytes of an image as they come, in pieces of any length.
 ghost use Rattle.std.specs.Prelude.{◌≡◌, ℕ, ◌+◌, ◌-◌, ◌<◌, ◌≤◌, ◌^◌, ◌++◌, [], List, length, take, min, Option, None, Some, IfSome, unwrap_or};
 ghost use Rattle.std.specs.Result.{result_ok};
 ghost use Rattle.imagesize.specs.Meaning.{kind_of, meaning};
@@ -17,7 +17,9 @@ use imagesize_types::size::ImageSize;
 // The length of an input of which no length is told: no input is longer.
 const MOST: u64 = (1 << 63) - 1;
 
-/// The type of an image and its size in pixels, from bytes that come in pieces.
+/// The type of an image and its size in pixels, from bytes that come in pieces of any length.
+///
+/// It keeps at most 1,023 bytes of the input, and allocates nothing.
 #[derive(Drop)]
 pub struct StreamProbe {
     stand: Stand,
@@ -30,7 +32,7 @@ pub struct StreamProbe {
 impl StreamProbe {
     ghost use Rattle.imagesize_stream.specs.Pushed.{Came, answer_of, told_of};
 
-    /// A probe of an input with this many bytes, if that is known.
+    /// A probe of an input of `total` bytes, if its length is known. Bytes past that length do not count.
     pub fn new(total: Option<u64>) -> StreamProbe
         ensures told { told_of result ≡ min (unwrap_or total (2 ^ 63 - 1)) (2 ^ 63 - 1) }
         ensures begins { Came result [] }
@@ -48,7 +50,8 @@ impl StreamProbe {
         }
     }
 
-    /// Takes more bytes, and returns type and size as soon as the bytes so far tell them.
+    /// Passes the next bytes. Returns the type, if one was found, and the size or the error, as soon as no further byte can
+    /// change them. From then on each call returns the same.
     pub fn push(&mut self, chunk: &[u8]) -> Option<(Option<ImageType>, ImageResult<ImageSize>)>
         ensures told { told_of self.new ≡ told_of self.old }
 
@@ -74,15 +77,16 @@ impl StreamProbe {
         self.answer()
     }
 
-    /// The type, as soon as it is known.
+    /// The type, once it is known.
     pub fn kind(&self) -> Option<ImageType>
-        ensures { (front : List ℕ) → Came self.now front → IfSome result (λ kind. (d : List ℕ) → Begins front (told_of self.now) d
+        ensures answered { IfSome (answer_of self.now) (λ answer. result ≡ answer.0) }
+        ensures says { (front : List ℕ) → Came self.now front → IfSome result (λ kind. (d : List ℕ) → Begins front (told_of self.now) d
             → result_ok (kind_of d 0).answer ≡ Some kind) }
     {
         self.kind
     }
 
-    /// The type and the size of the image that has no more bytes than those that came.
+    /// Ends the input. Returns the type, if one was found, and the size or the error: those of the bytes that were passed.
     pub fn finish(mut self) -> (Option<ImageType>, ImageResult<ImageSize>)
         ensures kind { (front : List ℕ) → Came self front → result.0 ≡ result_ok (kind_of front 0).answer }
         ensures size { (front : List ℕ) → Came self front → result.1 ≡ (meaning front 0).answer }
