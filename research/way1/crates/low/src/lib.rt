@@ -1,0 +1,5 @@
+#![tactic(auto)]
+
+pub mod held;
+pub mod next;
+pub mod probe;
