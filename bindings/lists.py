@@ -77,9 +77,14 @@ def python_media():
     return lines
 
 
+def own_name(constant):
+    """The library's own name of a type: `Gif` of GIF, `SunRaster` of SUN_RASTER."""
+    return "".join(word.capitalize() for word in constant.split("_"))
+
+
 def names(enum):
     """The library's own names of the types."""
-    return [name.capitalize() for name in constants(enum)]
+    return [own_name(constant) for constant in constants(enum)]
 
 
 def union(words):
@@ -120,7 +125,7 @@ def rust_types():
     for name, (number, comment) in found.items():
         compression = f"({COMPRESSED[name]})" if name in COMPRESSED else ""
         lines += RUST_PNG if name == "PNM" else []
-        lines += [f"        /// {sentence(comment.removesuffix(HAS_COMPRESSION))}", f"        {name.capitalize()}{compression} = {number},"]
+        lines += [f"        /// {sentence(comment.removesuffix(HAS_COMPRESSION))}", f"        {own_name(name)}{compression} = {number},"]
     return lines
 
 
