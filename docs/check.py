@@ -425,7 +425,7 @@ PLANTED = [
     (clauses, "docs/PROVED.md", "`value` and `stopped` of `blob_size`"),
     (calling, "CALLING.md", None),
     (formats, "README.md", None),
-    (numbers, "README.md", "26 formats"),
+    (numbers, "README.md", "1000 formats"),
     (length, "README.md", "\n" * 81),
     (diffs, "CONTRIBUTING.md", "```diff\n+++ docs/check.py\n+no such line\n```"),
     (long_sentences, "README.md", "It is " + "very " * 40 + "long."),
