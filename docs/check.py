@@ -295,7 +295,7 @@ def quoted():
 
 # The formats whose usual name is not the name of their constant.
 CALLED = {"ASEPRITE": "Aseprite", "EXR": "OpenEXR", "FARBFELD": "Farbfeld", "HEIF": "HEIF (HEIC, AVIF)", "JXL": "JPEG XL", "KTX2": "KTX 2",
-          "PVRTC": "PVR", "TIFF": "TIFF (BigTIFF)", "WEBP": "WebP"}
+          "PVRTC": "PVR", "SUN_RASTER": "Sun raster", "TIFF": "TIFF (BigTIFF)", "WEBP": "WebP"}
 LISTED = re.compile(r"^\*\*\d+ formats:\*\* [^.]*\.", re.M)
 
 

@@ -92,7 +92,8 @@ enum imagesize_type_number {
     IMAGESIZE_TGA = 22, /* Truevision TGA; image/x-tga, .tga */
     IMAGESIZE_TIFF = 23, /* TIFF, with BigTIFF; image/tiff, .tif */
     IMAGESIZE_VTF = 24, /* Valve texture; image/vnd.valve.source.texture, .vtf */
-    IMAGESIZE_WEBP = 25 /* WebP; image/webp, .webp */
+    IMAGESIZE_WEBP = 25, /* WebP; image/webp, .webp */
+    IMAGESIZE_SUN_RASTER = 26 /* Sun raster file; image/x-sun-raster, .ras */
 };
 
 /* The compressions of the types that have one. */

@@ -2,7 +2,7 @@
 export type Kind =
   // by bindings/lists.py: types
   | 'Aseprite' | 'Astc' | 'Atc' | 'Bmp' | 'Dds' | 'Eac' | 'Etc2' | 'Exr' | 'Farbfeld' | 'Gif' | 'Hdr' | 'Heif' | 'Ico'
-  | 'Ilbm' | 'Jpeg' | 'Jxl' | 'Ktx2' | 'Pnm' | 'Pvrtc' | 'Psd' | 'Qoi' | 'Tga' | 'Tiff' | 'Vtf' | 'Webp'
+  | 'Ilbm' | 'Jpeg' | 'Jxl' | 'Ktx2' | 'Pnm' | 'Pvrtc' | 'Psd' | 'Qoi' | 'Tga' | 'Tiff' | 'Vtf' | 'Webp' | 'SunRaster'
   // end of the list
   | 'Png';
 

@@ -2,7 +2,7 @@
 
 const TYPES = { Jpeg: 'JPEG', Gif: 'GIF', Tiff: 'TIFF', Webp: 'WebP', Jxl: 'JPEG XL', Bmp: 'BMP', Psd: 'PSD', Ico: 'ICO', Astc: 'ASTC',
   Atc: 'ATC', Pvrtc: 'PVR', Eac: 'EAC', Etc2: 'ETC2', Exr: 'OpenEXR', Hdr: 'Radiance HDR', Dds: 'DDS', Ktx2: 'KTX 2', Qoi: 'QOI',
-  Farbfeld: 'farbfeld', Pnm: 'PNM', Vtf: 'VTF', Ilbm: 'ILBM', Tga: 'TGA', Heif: 'HEIF', Png: 'PNG' };
+  Farbfeld: 'farbfeld', Pnm: 'PNM', Vtf: 'VTF', Ilbm: 'ILBM', Tga: 'TGA', Heif: 'HEIF', Png: 'PNG', SunRaster: 'Sun raster' };
 const BRANDS = { Av1: 'AVIF', Hevc: 'HEIC' };
 
 /** Why an image has no size, by the code of the error. */

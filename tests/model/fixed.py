@@ -17,6 +17,7 @@ TABLE = {
     "Ktx2": ("little", 4, ((20, WIDTH), (24, HEIGHT))),
     "Psd": ("big", 4, ((14, HEIGHT), (18, WIDTH))),
     "Qoi": ("big", 4, ((4, WIDTH), (8, HEIGHT))),
+    "SunRaster": ("big", 4, ((4, WIDTH), (8, HEIGHT))),
     "Tga": ("little", 2, ((12, WIDTH), (14, HEIGHT))),
     "Vtf": ("little", 2, ((16, WIDTH), (18, HEIGHT))),
     "newer PVR": ("little", 4, ((24, HEIGHT), (28, WIDTH))),

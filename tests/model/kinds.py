@@ -40,6 +40,7 @@ ROWS = (
     ("Pnm", lambda h: h[:1] == b"P" and h[1] in b"123456"),
     ("Vtf", lambda h: h[:4] == b"VTF\0"),
     ("Ilbm", lambda h: h[:4] == b"FORM" and h[8:12] in (b"ILBM", b"PBM ")),
+    ("SunRaster", lambda h: h[:4] == b"\x59\xa6\x6a\x95"),
 )
 
 

@@ -110,6 +110,7 @@ class Kind(IntEnum):
     TIFF = 23
     VTF = 24
     WEBP = 25
+    SUN_RASTER = 26
     # end of the list
     PNG = _PNG  # which has no number in the library
 
@@ -199,6 +200,7 @@ _MEDIA: Dict[Kind, Tuple[Optional[str], str]] = {
     Kind.TIFF: ("image/tiff", ".tif"),
     Kind.VTF: ("image/vnd.valve.source.texture", ".vtf"),
     Kind.WEBP: ("image/webp", ".webp"),
+    Kind.SUN_RASTER: ("image/x-sun-raster", ".ras"),
     # end of the list
     Kind.PNG: ("image/png", ".png"),
 }

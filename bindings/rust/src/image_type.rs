@@ -126,6 +126,8 @@ types! {
         Vtf = 24,
         /// WebP.
         Webp = 25,
+        /// Sun raster file.
+        SunRaster = 26,
         // end of the list
     }
 }

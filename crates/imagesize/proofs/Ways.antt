@@ -18,7 +18,7 @@ use Rattle.imagesize.proofs.Detection.{kind_cost}
 use Rattle.imagesize.specs.Parted.{has_texts}
 use Rattle.imagesize.specs.declared.types.ImageType.{ImageType}
 use Rattle.imagesize.specs.Types.{in_record, lasts, outside_records, way_of}
-use Rattle.imagesize.specs.declared.types.ImageType.TheVariants.{Aseprite, Astc, Atc, Bmp, Dds, Eac, Etc2, Exr, Farbfeld, Gif, Hdr, Heif, Ico, Ilbm, Jpeg, Jxl, Ktx2, Pnm, Pvrtc, Psd, Qoi, Tga, Tiff, Vtf, Webp}
+use Rattle.imagesize.specs.declared.types.ImageType.TheVariants.{Aseprite, Astc, Atc, Bmp, Dds, Eac, Etc2, Exr, Farbfeld, Gif, Hdr, Heif, Ico, Ilbm, Jpeg, Jxl, Ktx2, Pnm, Pvrtc, Psd, Qoi, Tga, Tiff, Vtf, Webp, SunRaster}
 use Rattle.imagesize_source.proofs.Way.{Laws}
 
 pub laws_of : (type : ImageType)
@@ -48,3 +48,4 @@ laws_of Tga = sides_laws (omega arith)
 laws_of Tiff = tiff_laws
 laws_of Vtf = sides_laws (omega arith)
 laws_of Webp = webp_laws
+laws_of SunRaster = sides_laws (omega arith)

@@ -20,13 +20,14 @@ use Rattle.imagesize_texts.specs.Pnm.{is_pnm, pnm}
 use Rattle.imagesize_fixed.specs.Psd.{is_psd, psd}
 use Rattle.imagesize_fixed.specs.Pvrtc.{is_pvrtc, pvrtc}
 use Rattle.imagesize_fixed.specs.Qoi.{is_qoi, qoi}
+use Rattle.imagesize_fixed.specs.SunRaster.{is_sun_raster, sun_raster}
 use Rattle.imagesize_fixed.specs.Tga.{tga}
 use Rattle.imagesize_walked.specs.Tiff.{is_tiff, tiff_begun, tiff}
 use Rattle.imagesize_fixed.specs.Vtf.{is_vtf, vtf}
 use Rattle.imagesize_fixed.specs.Webp.{is_webp, webp}
 use Rattle.imagesize.specs.Compressions.{atc_ways, dds_ways, heif_ways, pkm_ways, pvrtc_ways}
 use Rattle.imagesize.specs.declared.types.ImageType.{ImageType}
-use Rattle.imagesize.specs.declared.types.ImageType.TheVariants.{Aseprite, Astc, Atc, Bmp, Dds, Eac, Etc2, Exr, Farbfeld, Gif, Hdr, Heif, Ico, Ilbm, Jpeg, Jxl, Ktx2, Pnm, Pvrtc, Psd, Qoi, Tga, Tiff, Vtf, Webp}
+use Rattle.imagesize.specs.declared.types.ImageType.TheVariants.{Aseprite, Astc, Atc, Bmp, Dds, Eac, Etc2, Exr, Farbfeld, Gif, Hdr, Heif, Ico, Ilbm, Jpeg, Jxl, Ktx2, Pnm, Pvrtc, Psd, Qoi, Tga, Tiff, Vtf, Webp, SunRaster}
 use Rattle.imagesize_source.specs.Chain.{records}
 use Rattle.imagesize_source.specs.Way.{Way, Fixed, Recorded, Texts}
 use Rattle.imagesize_types.specs.declared.compression.AtcCompression.TheVariants.{Unknown as atc_unknown}
@@ -85,13 +86,14 @@ facts_of Tga = facts 21 (codes "Tga") (Fixed tga) 41 20 false
 facts_of Tiff = facts 22 (codes "Tiff") (Recorded 20 tiff tiff_begun) 36 20 true
 facts_of Vtf = facts 23 (codes "Vtf") (Fixed vtf) 41 20 true
 facts_of Webp = facts 24 (codes "Webp") (Fixed webp) 41 20 true
+facts_of SunRaster = facts 25 (codes "SunRaster") (Fixed sun_raster) 41 20 true
 
 -- the types in their order, each with each of its compressions
 abbrev pub types : List ImageType
 types =
     Aseprite ∷ Astc ∷ (map Atc atc_ways ++ (Bmp ∷ (map Dds dds_ways ++ (map Eac pkm_ways ++ (map Etc2 pkm_ways
     ++ (Exr ∷ Farbfeld ∷ Gif ∷ Hdr ∷ (map Heif heif_ways ++ (Ico ∷ Ilbm ∷ Jpeg ∷ Jxl ∷ Ktx2 ∷ Pnm ∷ (map Pvrtc pvrtc_ways
-    ++ (Psd ∷ Qoi ∷ Tga ∷ Tiff ∷ Vtf ∷ Webp ∷ []))))))))))
+    ++ (Psd ∷ Qoi ∷ Tga ∷ Tiff ∷ Vtf ∷ Webp ∷ SunRaster ∷ []))))))))))
 
 -- A test of the first twelve bytes, and the type if it holds, with its compression still unknown.
 pub record Row : Type 0 where
@@ -125,6 +127,7 @@ rows =
     ∷ record { holds = is_pnm; found = Pnm }
     ∷ record { holds = is_vtf; found = Vtf }
     ∷ record { holds = is_ilbm; found = Ilbm }
+    ∷ record { holds = is_sun_raster; found = SunRaster }
     ∷ []
 
 -- the position of a type in its list

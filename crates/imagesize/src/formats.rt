@@ -10,7 +10,8 @@ ghost use Rattle.imagesize_source.specs.State.{Follows, Runs, IsSound};
 use crate::types::ImageType;
 use imagesize_boxes::formats::{heif, jxl};
 use imagesize_fixed::formats::{
-    aseprite, astc, atc, bmp, dds, farbfeld, gif, ktx2, pkm, psd, pvrtc, qoi, tga, vtf, webp,
+    aseprite, astc, atc, bmp, dds, farbfeld, gif, ktx2, pkm, psd, pvrtc, qoi, sun_raster, tga, vtf,
+    webp,
 };
 use imagesize_source::Halt;
 use imagesize_source::readings::read_exact_at;
@@ -90,6 +91,7 @@ fn first_row(head: &[u8; 12]) -> Option<ImageType>
         head if pnm::matches(head) => ImageType::Pnm,
         head if vtf::matches(head) => ImageType::Vtf,
         head if ilbm::matches(head) => ImageType::Ilbm,
+        head if sun_raster::matches(head) => ImageType::SunRaster,
         _ => return None,
     })
 }
@@ -185,5 +187,6 @@ pub(crate) fn size<S: Source>(source: &mut S, kind: ImageType) -> Result<ImageSi
         ImageType::Tiff => tiff::size(source),
         ImageType::Vtf => vtf::size(source),
         ImageType::Webp => webp::size(source),
+        ImageType::SunRaster => sun_raster::size(source),
     }
 }

@@ -61,10 +61,12 @@ pub enum ImageType {
     Vtf,
     /// WebP.
     Webp,
+    /// Sun raster file.
+    SunRaster,
 }
 
 // The types in order, each with its compressions in order.
-static TYPES: [ImageType; 65] = [
+static TYPES: [ImageType; 66] = [
     ImageType::Aseprite,
     ImageType::Astc,
     ImageType::Atc(AtcCompression::Rgb),
@@ -130,6 +132,7 @@ static TYPES: [ImageType; 65] = [
     ImageType::Tiff,
     ImageType::Vtf,
     ImageType::Webp,
+    ImageType::SunRaster,
 ];
 
 impl ImageType {
@@ -203,6 +206,7 @@ impl ImageType {
             ImageType::Tiff => (22, "Tiff"),
             ImageType::Vtf => (23, "Vtf"),
             ImageType::Webp => (24, "Webp"),
+            ImageType::SunRaster => (25, "SunRaster"),
         }
     }
 }

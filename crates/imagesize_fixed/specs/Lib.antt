@@ -11,6 +11,7 @@ pub mod Psd
 pub mod Pvrtc
 pub mod Qoi
 pub mod Sides
+pub mod SunRaster
 pub mod Tga
 pub mod Vtf
 pub mod Webp

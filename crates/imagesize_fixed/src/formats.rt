@@ -12,6 +12,7 @@ pub mod pkm;
 pub mod psd;
 pub mod pvrtc;
 pub mod qoi;
+pub mod sun_raster;
 pub mod tga;
 pub mod vtf;
 pub mod webp;
