@@ -49,6 +49,7 @@ TEXTS = {
     "UNKNOWN_TYPE": "No type has these numbers",
     "UNKNOWN_STATUS": "No status has this number",
     "BYTES_WANTED": "More bytes are wanted",
+    "INVALID_SUN_RASTER_TYPE": "Invalid Sun raster type",
 }
 
 # An image type and a compression of each family.

@@ -63,7 +63,8 @@ enum imagesize_status {
     IMAGESIZE_BUFFER_TOO_SMALL = 27, /* the result has more items than the buffer */
     IMAGESIZE_UNKNOWN_TYPE = 28, /* no type has these numbers */
     IMAGESIZE_UNKNOWN_STATUS = 29, /* no status has this number */
-    IMAGESIZE_BYTES_WANTED = 30 /* a call over parts needs another part of the input; no other call returns it */
+    IMAGESIZE_BYTES_WANTED = 30, /* a call over parts needs another part of the input; no other call returns it */
+    IMAGESIZE_INVALID_SUN_RASTER_TYPE = 31 /* the encoding of a Sun raster file is unknown */
 };
 
 /* The types of images, with the MIME type and the extension of their files. */

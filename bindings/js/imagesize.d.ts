@@ -169,6 +169,8 @@ export type RefusalCode =
   | 'HDR_DIMENSIONS_NOT_FOUND'
   /** The width or the height of a PNM is not a number. */
   | 'PNM_DIMENSIONS_NOT_FOUND'
+  /** The encoding of a Sun raster file is unknown. */
+  | 'INVALID_SUN_RASTER_TYPE'
   // end of the list
   /** A side has 2^53 pixels or more, which a number cannot hold exactly. */
   | 'SIDE_TOO_LARGE';

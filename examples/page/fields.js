@@ -14,7 +14,7 @@ const FIXED = {
   Psd: { 14: 'height', 18: 'width' },
   Pvrtc: { 0: 'version', 4: 'height', 8: 'width', 24: 'height', 28: 'width' },
   Qoi: { 4: 'width', 8: 'height' },
-  SunRaster: { 4: 'width', 8: 'height' },
+  SunRaster: { 4: 'width', 8: 'height', 20: 'type of the encoding' },
   Tga: { 0: 'header', 3: 'colour map', 7: 'bits of a map entry', 12: 'width', 14: 'height', 16: 'bits of a pixel', 17: 'descriptor' },
   Vtf: { 16: 'width', 18: 'height' },
   Webp: { 12: 'chunk tag', 21: 'width and height', 24: 'width', 26: 'width', 27: 'height', 28: 'height' },

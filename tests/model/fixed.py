@@ -17,7 +17,7 @@ TABLE = {
     "Ktx2": ("little", 4, ((20, WIDTH), (24, HEIGHT))),
     "Psd": ("big", 4, ((14, HEIGHT), (18, WIDTH))),
     "Qoi": ("big", 4, ((4, WIDTH), (8, HEIGHT))),
-    "SunRaster": ("big", 4, ((4, WIDTH), (8, HEIGHT))),
+    "Sun raster": ("big", 4, ((4, WIDTH), (8, HEIGHT))),
     "Tga": ("little", 2, ((12, WIDTH), (14, HEIGHT))),
     "Vtf": ("little", 2, ((16, WIDTH), (18, HEIGHT))),
     "newer PVR": ("little", 4, ((24, HEIGHT), (28, WIDTH))),
@@ -56,6 +56,13 @@ def is_pkm_header(head):
 def is_atc_header(head):
     """A PKM header whose data type is one of the three of ATC."""
     return is_pkm_header(head) and int.from_bytes(head[6:8], "big") in (0x8C92, 0x8C93, 0x87EE)
+
+
+def sun_raster_size(image):
+    """The type of the encoding is 0 to 5."""
+    if image.big(20, 4, "type of the encoding") > 5:
+        raise Refused("InvalidSunRasterType")
+    return size("Sun raster", image)
 
 
 def webp_size(image):

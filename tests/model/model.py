@@ -26,6 +26,7 @@ SIZES = {
     "Jxl": jxl.size,
     "Pnm": pnm.size,
     "Pvrtc": fixed.pvr_size,
+    "SunRaster": fixed.sun_raster_size,
     "Tiff": tiff.size,
     "Webp": fixed.webp_size,
 }

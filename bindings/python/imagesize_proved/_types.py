@@ -45,6 +45,7 @@ class Status(IntEnum):
     UNKNOWN_TYPE = 28
     UNKNOWN_STATUS = 29
     BYTES_WANTED = 30
+    INVALID_SUN_RASTER_TYPE = 31
     # end of the list
 
 
@@ -77,6 +78,7 @@ _MESSAGES: Dict[Status, str] = {
     Status.HDR_DIMENSIONS_NOT_FOUND: "one of the sizes in an HDR's line is not a number",
     Status.PNM_DIMENSIONS_NOT_FOUND: "the width or the height of a PNM is not a number",
     Status.BUFFER_TOO_SMALL: "there are more spans than the limit",
+    Status.INVALID_SUN_RASTER_TYPE: "the encoding of a Sun raster file is unknown",
     # end of the list
 }
 

@@ -6,6 +6,7 @@ use Rattle.imagesize_fixed.proofs.Atc.{atc_laws}
 use Rattle.imagesize_fixed.proofs.Pkm.{pkm_laws}
 use Rattle.imagesize_fixed.proofs.Pvrtc.{pvrtc_laws}
 use Rattle.imagesize_fixed.proofs.Sides.{height_first_laws, sides_laws}
+use Rattle.imagesize_fixed.proofs.SunRaster.{sun_raster_laws}
 use Rattle.imagesize_fixed.proofs.Webp.{webp_laws}
 use Rattle.imagesize_texts.proofs.Exr.{exr_laws}
 use Rattle.imagesize_texts.proofs.Hdr.{hdr_laws}
@@ -48,4 +49,4 @@ laws_of Tga = sides_laws (omega arith)
 laws_of Tiff = tiff_laws
 laws_of Vtf = sides_laws (omega arith)
 laws_of Webp = webp_laws
-laws_of SunRaster = sides_laws (omega arith)
+laws_of SunRaster = sun_raster_laws

@@ -4,7 +4,7 @@ use Rattle.imagesize_c.specs.Status.{is_stop_status, is_wanted, refusal_status, 
 use Rattle.imagesize_source.specs.Errors.{is_stop, is_stopped}
 use Rattle.imagesize_source.specs.declared.error.ImageError.{ImageError}
 use Rattle.imagesize_source.specs.declared.error.ImageError.TheVariants.{NotSupported, CorruptedImage, IoError}
-use Rattle.imagesize_source.specs.declared.error.Reason.TheVariants.{Fault, EndOfInput, NotEnoughData, BudgetSpent, Memory, NoDelimiter, NotUtf8, InvalidHeifBoxSize, InvalidJxlBoxSize, InvalidJxlSignature, InvalidTiffHeader, BigTiffOffsetSize, InvalidBigTiffHeader, InvalidIfdOffset, IfdTypeForStandardTiff, InvalidIfdType, InvalidIfdValueLength, NoDimensionsInIfd, InvalidVp8Tag, DataWindowNotFound, InvalidHdrIdentifier, InvalidHdrDimensionsLine, HdrDimensionsNotFound, PnmDimensionsNotFound}
+use Rattle.imagesize_source.specs.declared.error.Reason.TheVariants.{Fault, EndOfInput, NotEnoughData, BudgetSpent, Memory, NoDelimiter, NotUtf8, InvalidHeifBoxSize, InvalidJxlBoxSize, InvalidJxlSignature, InvalidTiffHeader, BigTiffOffsetSize, InvalidBigTiffHeader, InvalidIfdOffset, IfdTypeForStandardTiff, InvalidIfdType, InvalidIfdValueLength, NoDimensionsInIfd, InvalidVp8Tag, DataWindowNotFound, InvalidHdrIdentifier, InvalidHdrDimensionsLine, HdrDimensionsNotFound, PnmDimensionsNotFound, InvalidSunRasterType}
 
 -- a refusal's status says whether it is a stop, and is not that of a part that is wanted
 refused : (e : ImageError) → (is_stop_status (refusal_status e) ≡ is_stop e) × (is_wanted (refusal_status e) ≡ false)
@@ -34,6 +34,7 @@ refused (IoError InvalidHdrIdentifier) = (refl, refl)
 refused (IoError InvalidHdrDimensionsLine) = (refl, refl)
 refused (IoError HdrDimensionsNotFound) = (refl, refl)
 refused (IoError PnmDimensionsNotFound) = (refl, refl)
+refused (IoError InvalidSunRasterType) = (refl, refl)
 
 -- an answer that nothing stopped has none of them
 pub unstopped : {X : Type 0} (r : Result X ImageError) → is_stopped r ≡ false → is_stop_status (status_of r) ≡ false

@@ -9,7 +9,7 @@ use Rattle.imagesize_c.specs.Numbers.{compression_number, type_number, type_numb
 use Rattle.imagesize_source.specs.Reason.{error_text, reason_text}
 use Rattle.imagesize_source.specs.declared.error.ImageError.{ImageError}
 use Rattle.imagesize_source.specs.declared.error.ImageError.TheVariants.{NotSupported, CorruptedImage}
-use Rattle.imagesize_source.specs.declared.error.Reason.TheVariants.{EndOfInput, NotEnoughData, Memory, NotUtf8, InvalidJxlSignature, InvalidTiffHeader, BigTiffOffsetSize, InvalidBigTiffHeader, InvalidIfdOffset, IfdTypeForStandardTiff, InvalidIfdType, InvalidIfdValueLength, NoDimensionsInIfd, InvalidVp8Tag, DataWindowNotFound, InvalidHdrIdentifier, InvalidHdrDimensionsLine, HdrDimensionsNotFound, PnmDimensionsNotFound}
+use Rattle.imagesize_source.specs.declared.error.Reason.TheVariants.{EndOfInput, NotEnoughData, Memory, NotUtf8, InvalidJxlSignature, InvalidTiffHeader, BigTiffOffsetSize, InvalidBigTiffHeader, InvalidIfdOffset, IfdTypeForStandardTiff, InvalidIfdType, InvalidIfdValueLength, NoDimensionsInIfd, InvalidVp8Tag, DataWindowNotFound, InvalidHdrIdentifier, InvalidHdrDimensionsLine, HdrDimensionsNotFound, PnmDimensionsNotFound, InvalidSunRasterType}
 use Rattle.imagesize_types.specs.Table.{look_up}
 use Rattle.imagesize_types.specs.declared.size.ImageSize.{ImageSize}
 
@@ -58,6 +58,7 @@ status_text status = look_up (
     ∷ (28, Some (codes "No type has these numbers"))
     ∷ (29, Some (codes "No status has this number"))
     ∷ (30, Some (codes "More bytes are wanted"))
+    ∷ (31, reason_text InvalidSunRasterType)
     ∷ []) None status
 
 -- the text, or an empty one if there is none

@@ -61,6 +61,7 @@ fn reason_status(reason: &Reason) -> u32
         Reason::InvalidHdrDimensionsLine => 24,
         Reason::HdrDimensionsNotFound => 25,
         Reason::PnmDimensionsNotFound => 26,
+        Reason::InvalidSunRasterType => 31,
     }
 }
 
@@ -100,6 +101,7 @@ pub fn status_text(status: u32) -> Option<&'static str>
         28 => "No type has these numbers",
         29 => "No status has this number",
         30 => "More bytes are wanted",
+        31 => "Invalid Sun raster type",
         _ => return None,
     })
 }

@@ -3,5 +3,6 @@ pub mod Dds
 pub mod Pkm
 pub mod Pvrtc
 pub mod Sides
+pub mod SunRaster
 pub mod Tga
 pub mod Webp

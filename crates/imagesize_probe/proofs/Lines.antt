@@ -21,7 +21,7 @@ use Rattle.imagesize_io.specs.Telling.{Telling}
 use Rattle.imagesize_source.specs.declared.span.Span.{Span}
 use Rattle.imagesize_source.specs.declared.error.ImageError.{ImageError}
 use Rattle.imagesize_source.specs.declared.error.ImageError.TheVariants.{NotSupported, CorruptedImage, IoError}
-use Rattle.imagesize_source.specs.declared.error.Reason.TheVariants.{Fault, EndOfInput, NotEnoughData, BudgetSpent, Memory, NoDelimiter, NotUtf8, InvalidHeifBoxSize, InvalidJxlBoxSize, InvalidJxlSignature, InvalidTiffHeader, BigTiffOffsetSize, InvalidBigTiffHeader, InvalidIfdOffset, IfdTypeForStandardTiff, InvalidIfdType, InvalidIfdValueLength, NoDimensionsInIfd, InvalidVp8Tag, DataWindowNotFound, InvalidHdrIdentifier, InvalidHdrDimensionsLine, HdrDimensionsNotFound, PnmDimensionsNotFound}
+use Rattle.imagesize_source.specs.declared.error.Reason.TheVariants.{Fault, EndOfInput, NotEnoughData, BudgetSpent, Memory, NoDelimiter, NotUtf8, InvalidHeifBoxSize, InvalidJxlBoxSize, InvalidJxlSignature, InvalidTiffHeader, BigTiffOffsetSize, InvalidBigTiffHeader, InvalidIfdOffset, IfdTypeForStandardTiff, InvalidIfdType, InvalidIfdValueLength, NoDimensionsInIfd, InvalidVp8Tag, DataWindowNotFound, InvalidHdrIdentifier, InvalidHdrDimensionsLine, HdrDimensionsNotFound, PnmDimensionsNotFound, InvalidSunRasterType}
 
 -- a refusal that is no failure has a text
 pub has_text : (e : ImageError) → is_stop e ≡ false → IsSome (error_text e)
@@ -51,6 +51,7 @@ has_text (IoError InvalidHdrIdentifier) _ = refl
 has_text (IoError InvalidHdrDimensionsLine) _ = refl
 has_text (IoError HdrDimensionsNotFound) _ = refl
 has_text (IoError PnmDimensionsNotFound) _ = refl
+has_text (IoError InvalidSunRasterType) _ = refl
 
 -- a text that is stated was written as the reason behind a name
 pub some_line : (name : List ℕ) (text : Option (List ℕ)) (old new : Option (List ℕ)) → IsSome text →

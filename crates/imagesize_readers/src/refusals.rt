@@ -40,6 +40,7 @@ fn reasons_without_values_print_their_texts(rt: HostRuntime) -> Result<(), Fail>
         ),
         (Reason::HdrDimensionsNotFound, "HDR dimensions not found"),
         (Reason::PnmDimensionsNotFound, "PNM dimensions not found"),
+        (Reason::InvalidSunRasterType, "Invalid Sun raster type"),
     ] {
         assert_eq!(rt; reason.to_string(alloc)?.as_str(), text);
         let refusal = ImageError::IoError(reason);

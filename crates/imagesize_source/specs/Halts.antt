@@ -36,6 +36,7 @@ error_by failure budget halt.InvalidHdrIdentifier = IoError reason.InvalidHdrIde
 error_by failure budget halt.InvalidHdrDimensionsLine = IoError reason.InvalidHdrDimensionsLine
 error_by failure budget halt.HdrDimensionsNotFound = IoError reason.HdrDimensionsNotFound
 error_by failure budget halt.PnmDimensionsNotFound = IoError reason.PnmDimensionsNotFound
+error_by failure budget halt.InvalidSunRasterType = IoError reason.InvalidSunRasterType
 
 -- the error of a `Halt` that a layout states; it is never a failed call or a spent budget
 abbrev pub error_of : Halt → ImageError

@@ -3,7 +3,7 @@ use Rattle.std.specs.Prelude.{ℕ, List, ◌++◌, Bool, ◌&&◌, nat_le, if◌
 use Rattle.imagesize_source.specs.declared.error.ImageError.{ImageError}
 use Rattle.imagesize_source.specs.declared.error.ImageError.TheVariants.{NotSupported, CorruptedImage, IoError}
 use Rattle.imagesize_source.specs.declared.error.Reason.{Reason}
-use Rattle.imagesize_source.specs.declared.error.Reason.TheVariants.{Fault, EndOfInput, NotEnoughData, BudgetSpent, Memory, NoDelimiter, NotUtf8, InvalidHeifBoxSize, InvalidJxlBoxSize, InvalidJxlSignature, InvalidTiffHeader, BigTiffOffsetSize, InvalidBigTiffHeader, InvalidIfdOffset, IfdTypeForStandardTiff, InvalidIfdType, InvalidIfdValueLength, NoDimensionsInIfd, InvalidVp8Tag, DataWindowNotFound, InvalidHdrIdentifier, InvalidHdrDimensionsLine, HdrDimensionsNotFound, PnmDimensionsNotFound}
+use Rattle.imagesize_source.specs.declared.error.Reason.TheVariants.{Fault, EndOfInput, NotEnoughData, BudgetSpent, Memory, NoDelimiter, NotUtf8, InvalidHeifBoxSize, InvalidJxlBoxSize, InvalidJxlSignature, InvalidTiffHeader, BigTiffOffsetSize, InvalidBigTiffHeader, InvalidIfdOffset, IfdTypeForStandardTiff, InvalidIfdType, InvalidIfdValueLength, NoDimensionsInIfd, InvalidVp8Tag, DataWindowNotFound, InvalidHdrIdentifier, InvalidHdrDimensionsLine, HdrDimensionsNotFound, PnmDimensionsNotFound, InvalidSunRasterType}
 
 -- whether the byte is a visible ASCII character or a space
 abbrev pub is_printable : ℕ → Bool
@@ -43,6 +43,7 @@ reason_text InvalidHdrIdentifier = Some (codes "Invalid HDR format identifier")
 reason_text InvalidHdrDimensionsLine = Some (codes "Invalid HDR dimensions line")
 reason_text HdrDimensionsNotFound = Some (codes "HDR dimensions not found")
 reason_text PnmDimensionsNotFound = Some (codes "PNM dimensions not found")
+reason_text InvalidSunRasterType = Some (codes "Invalid Sun raster type")
 
 -- the text of an error
 abbrev pub error_text : ImageError → Option (List ℕ)

@@ -56,6 +56,8 @@ pub enum Reason {
     HdrDimensionsNotFound,
     /// The width or the height of a PNM is not a number.
     PnmDimensionsNotFound,
+    /// The encoding of a Sun raster file is none of the types 0 to 5.
+    InvalidSunRasterType,
 }
 
 /// Why a call has no result.
@@ -108,6 +110,7 @@ impl fmt::Display for Reason {
             Reason::InvalidHdrDimensionsLine => f.write_str("Invalid HDR dimensions line"),
             Reason::HdrDimensionsNotFound => f.write_str("HDR dimensions not found"),
             Reason::PnmDimensionsNotFound => f.write_str("PNM dimensions not found"),
+            Reason::InvalidSunRasterType => f.write_str("Invalid Sun raster type"),
         }
     }
 }

@@ -42,6 +42,7 @@ pub enum Halt {
     InvalidHdrDimensionsLine,
     HdrDimensionsNotFound,
     PnmDimensionsNotFound,
+    InvalidSunRasterType,
 }
 
 impl Halt {
@@ -83,6 +84,7 @@ impl Halt {
             Halt::InvalidHdrDimensionsLine => Reason::InvalidHdrDimensionsLine,
             Halt::HdrDimensionsNotFound => Reason::HdrDimensionsNotFound,
             Halt::PnmDimensionsNotFound => Reason::PnmDimensionsNotFound,
+            Halt::InvalidSunRasterType => Reason::InvalidSunRasterType,
         })
     }
 }
