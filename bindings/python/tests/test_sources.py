@@ -3,7 +3,6 @@
 import array
 import asyncio
 import errno
-import gc
 import inspect
 import io
 import os
@@ -24,6 +23,17 @@ from . import GIF
 
 FRAME = b"\xff\xc0\0\x11\x08\0\x05\0\x07" + bytes(8)
 """The frame of a JPEG of 7x5."""
+
+
+def descriptors(path: str) -> int:
+    """How many descriptors this process has of a file."""
+    count = 0
+    for number in os.listdir("/proc/self/fd"):
+        try:
+            count += os.readlink(f"/proc/self/fd/{number}") == path
+        except FileNotFoundError:  # the descriptor of the list itself
+            pass
+    return count
 
 
 def jpeg(segments: int, length: int = 65535) -> bytes:
@@ -381,8 +391,7 @@ class Failing(unittest.TestCase):
         with tempfile.NamedTemporaryFile() as file:
             file.write(GIF)
             file.flush()
-            gc.collect()  # what earlier tests left is closed now, and not while this one counts
-            before, interrupted = os.listdir("/proc/self/fd"), 0
+            interrupted = 0
             try:
                 for number in range(20000):
                     try:
@@ -395,5 +404,5 @@ class Failing(unittest.TestCase):
             finally:
                 signal.setitimer(signal.ITIMER_REAL, 0)
                 signal.signal(signal.SIGALRM, handler)
-            self.assertEqual(os.listdir("/proc/self/fd"), before)
+            self.assertEqual(descriptors(file.name), 1)
             self.assertGreater(interrupted, 100)
