@@ -1,4 +1,4 @@
-//! What stands at fixed places near the beginning of an input that comes in pieces.
+//! Values at fixed offsets, read from the first bytes of an input that arrives in chunks.
 ghost use Rattle.std.specs.Prelude.{◌≡◌, ℕ, ◌<◌, ◌≤◌, ◌^◌, List, length, true, false};
 ghost use Rattle.imagesize_source.specs.Layout.{Layout, layout_reads};
 ghost use Rattle.imagesize_source.specs.Reading.{is_faulted, is_stopped};
@@ -9,20 +9,20 @@ use crate::source::StreamSource;
 use imagesize_source::Halt;
 use imagesize_source::source::Source;
 
-/// What stands at fixed places.
+/// A value at fixed offsets.
 pub trait Fixed {
-    /// What it tells.
+    /// The value.
     type Answer: Drop;
 
-    /// Where it stands.
+    /// The layout of its bytes.
     ghost layout: { Self → Layout Self.Answer };
 
-    /// Reads it.
+    /// Reads the value.
     fn read<S: Source>(&self, source: &mut S) -> Result<Self::Answer, Halt>
         ensures { Follows (S.state source.old) (S.state source.new) result (layout self.now) };
 }
 
-/// Reads it from the first bytes of an input of at most `told` bytes. If they do not tell it, the reading fails.
+/// Reads the value from the first bytes of an input of at most `told` bytes. The read fails if a byte that it needs is missing.
 pub fn read_front<F: Fixed>(fixed: &F, bytes: &[u8], told: u64) -> Result<F::Answer, Halt>
     requires fits { length bytes.now ≤ told }
     requires short { told < 2 ^ 63 }
@@ -32,7 +32,7 @@ pub fn read_front<F: Fixed>(fixed: &F, bytes: &[u8], told: u64) -> Result<F::Ans
     ensures complete { is_faulted result ≡ true → (d : List ℕ) → Begins bytes.now told d → length d ≡ told
         → AllBelow (length bytes.now) (layout_reads d (F.layout fixed.now)).marks → ⊥ }
 
-    // Nothing is missed where all came.
+    // If all bytes of the input are here, the read does not fail.
     ensures whole { told ≤ length bytes.now → is_faulted result ≡ false }
 {
     let mut source = StreamSource::new(0, bytes, &[], told);

@@ -1,4 +1,4 @@
-//! What the bytes so far say of an image, from its first byte on.
+//! What the first bytes of an image say about its type and its size.
 ghost use Rattle.std.specs.Prelude.{◌≡◌, ◌<◌, ◌≤◌, ◌^◌, ◌&&◌, not, Ok, length};
 ghost use Rattle.imagesize_fixed.specs.Tga.{lacks_its_map};
 ghost use Rattle.imagesize.specs.Meaning.{kind_reads};
@@ -17,25 +17,25 @@ use imagesize_pieces::walk::is_faulted;
 use imagesize_source::Halt;
 use imagesize_types::size::ImageSize;
 
-/// What the bytes so far say.
+/// What the first bytes say.
 #[derive(Drop)]
 pub(crate) enum Heard {
-    /// Bytes are missing that tell the type, or the size of this type.
+    /// The type needs more bytes or, if there is a type, its size does.
     Missing {
         image: Option<ImageType>,
     },
-    /// The type, if there is one, and the size.
+    /// The type, if one was found, and the size or the error.
     Answer {
         image: Option<ImageType>,
         size: Result<ImageSize, Halt>,
     },
-    /// The type, whose size is behind records, and the one that is next.
+    /// The type, and the first record on the way to its size.
     Records {
         image: ImageType,
         next: Awaited,
         place: u64,
     },
-    /// The last bytes tell whether it is a TGA, of this size.
+    /// The last bytes of the input decide whether it is a TGA of this size.
     Footer {
         size: ImageSize,
     },
@@ -68,7 +68,7 @@ pub(crate) fn hear(bytes: &[u8], told: u64) -> Heard
     }
 }
 
-// The same of the size, by the type that they say.
+// What the first bytes say about the size, after they decided the type.
 fn hear_size(image: ImageType, bytes: &[u8], told: u64) -> Heard
     requires image { Says bytes.now told (λ d. kind_reads d 0) (Ok image) }
     requires fits { length bytes.now ≤ told }
@@ -99,7 +99,7 @@ fn hear_size(image: ImageType, bytes: &[u8], told: u64) -> Heard
     }
 }
 
-// The same of what may be a TGA, by its first twelve bytes. Where its header does not tell it, its footer does.
+// What the first bytes say about what may be a TGA. If the header does not decide, the footer does.
 fn hear_tga(head: &[u8; 12], bytes: &[u8], told: u64) -> Heard
     requires first { Says bytes.now told (λ d. layout_reads d first_layout) (Ok (first.MaybeTga head.now)) }
     requires fits { length bytes.now ≤ told }

@@ -1,4 +1,4 @@
-//! The type of an image and its size in pixels, from bytes that come in pieces.
+//! The type of an image and its size in pixels, from bytes that arrive in chunks.
 #![tactic(auto)]
 
 mod awaited;

@@ -1,4 +1,4 @@
-//! A push parser: the caller passes the bytes of an image as they come, in pieces of any length.
+//! A push parser: the caller passes the bytes of an image as they arrive, in chunks of any length.
 ghost use Rattle.std.specs.Prelude.{◌≡◌, ℕ, ◌+◌, ◌-◌, ◌<◌, ◌≤◌, ◌^◌, ◌++◌, [], List, length, take, min, Option, None, Some, IfSome, unwrap_or};
 ghost use Rattle.std.specs.Result.{result_ok};
 ghost use Rattle.imagesize.specs.Meaning.{kind_of, meaning};
@@ -14,10 +14,10 @@ use imagesize_pieces::stand::Stand;
 use imagesize_source::{Halt, Reason};
 use imagesize_types::size::ImageSize;
 
-// The length of an input of which no length is told: no input is longer.
+// The length of an input whose length is unknown. No input is longer.
 const MOST: u64 = (1 << 63) - 1;
 
-/// The type of an image and its size in pixels, from bytes that come in pieces of any length.
+/// The type of an image and its size in pixels, from bytes that arrive in chunks of any length.
 ///
 /// It keeps at most 1,023 bytes of the input, and allocates nothing.
 #[derive(Drop)]
@@ -32,7 +32,7 @@ pub struct StreamProbe {
 impl StreamProbe {
     ghost use Rattle.imagesize_stream.specs.Pushed.{Came, answer_of, told_of};
 
-    /// A probe of an input of `total` bytes, if its length is known. Bytes past that length do not count.
+    /// Begins an input of `total` bytes, or of unknown length. Bytes past that length do not count.
     pub fn new(total: Option<u64>) -> StreamProbe
         ensures told { told_of result ≡ min (unwrap_or total (2 ^ 63 - 1)) (2 ^ 63 - 1) }
         ensures begins { Came result [] }
@@ -55,19 +55,20 @@ impl StreamProbe {
     pub fn push(&mut self, chunk: &[u8]) -> Option<(Option<ImageType>, ImageResult<ImageSize>)>
         ensures told { told_of self.new ≡ told_of self.old }
 
-        // A probe that has answered keeps its answer.
+        // Once there is a result, it stays.
         ensures is { result ≡ answer_of self.new }
         ensures keeps { IfSome (answer_of self.old) (λ answer. answer_of self.new ≡ Some answer) }
 
-        // Of each list of bytes that came before:
+        // For each list of bytes that may have arrived before:
         ensures goes_on { (front : List ℕ) → Came self.old front → Came self.new (front ++ take (told_of self.old - length front) chunk.now) }
 
-        // An answer is that of every input that begins so and is no longer than was told.
+        // The result holds for every input that begins with these bytes and is no longer than the reported length.
         ensures says { (front : List ℕ) → Came self.old front → IfSome result (λ answer. (d : List ℕ)
             → Begins (front ++ take (told_of self.old - length front) chunk.now) (told_of self.old) d
             → (answer.0 ≡ result_ok (kind_of d 0).answer) × (answer.1 ≡ (meaning d 0).answer)) }
 
-        // There is an answer where an input of the told length that begins so rests on these bytes alone, and where all came.
+        // There is a result once an input of the reported length that begins with these bytes depends on them alone, and once all
+        // bytes have arrived.
         ensures complete { result ≡ None → (front : List ℕ) → Came self.old front → (d : List ℕ)
             → Begins (front ++ take (told_of self.old - length front) chunk.now) (told_of self.old) d → length d ≡ told_of self.old
             → AllBelow (length front + length (take (told_of self.old - length front) chunk.now)) (meaning d 0).marks → ⊥ }
@@ -86,7 +87,7 @@ impl StreamProbe {
         self.kind
     }
 
-    /// Ends the input. Returns the type, if one was found, and the size or the error: those of the bytes that were passed.
+    /// Ends the input. Returns the type, if one was found, and the size or the error, as for a slice of the bytes that were passed.
     pub fn finish(mut self) -> (Option<ImageType>, ImageResult<ImageSize>)
         ensures kind { (front : List ℕ) → Came self front → result.0 ≡ result_ok (kind_of front 0).answer }
         ensures size { (front : List ℕ) → Came self front → result.1 ≡ (meaning front 0).answer }
@@ -102,7 +103,7 @@ impl StreamProbe {
         }
     }
 
-    // Takes more bytes. Those beyond the told length are not looked at.
+    // Reads the next chunk. Bytes past the reported length are not looked at.
     fn take_in(&mut self, chunk: &[u8])
         ensures told { told_of self.new ≡ told_of self.old }
         ensures keeps { IfSome (answer_of self.old) (λ answer. answer_of self.new ≡ Some answer) }
@@ -126,7 +127,7 @@ impl StreamProbe {
         };
     }
 
-    // Type and size, where they are known.
+    // The type and the size, once they are known.
     fn answer(&self) -> Option<(Option<ImageType>, ImageResult<ImageSize>)>
         ensures { result ≡ answer_of self.now }
     {
@@ -137,7 +138,7 @@ impl StreamProbe {
     }
 }
 
-// A result of readings, with the error of its refusal.
+// A result of reads, with the error of its `Halt`.
 fn stated(size: Result<ImageSize, Halt>) -> ImageResult<ImageSize>
     ensures { result ≡ stated size }
 {

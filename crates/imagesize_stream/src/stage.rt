@@ -1,4 +1,4 @@
-//! How far a stream has come, and how it goes on.
+//! The stages of a push parser, and how each chunk continues them.
 ghost use Rattle.std.specs.Prelude.{◌≡◌, ℕ, ◌+◌, ◌-◌, ◌<◌, ◌≤◌, ◌++◌, List, Option, length, take};
 ghost use Rattle.imagesize.specs.declared.types.ImageType.{ImageType};
 ghost use Rattle.imagesize_stream.specs.Heard.{RestsOnMore};
@@ -20,23 +20,23 @@ use imagesize_types::size::ImageSize;
 /// The most bytes that are kept.
 pub(crate) const ROOM: usize = 1023;
 
-// The most first bytes that tell the type, and the size or where the records are.
+// How many first bytes always suffice for the type, and for the size or the offset of the first record.
 const FIRST: u64 = 132;
 
-/// How far a stream has come.
+/// The stage of a push parser.
 #[derive(Clone, Copy)]
 pub(crate) enum Stage {
-    /// The first bytes do not tell the type yet, or not the size of this type. All of them are kept.
+    /// The type or its size needs more of the first bytes. All bytes so far are kept.
     First,
-    /// The size is behind records, of which this one is next.
+    /// The size is in records. This record is next.
     Records { next: Awaited },
-    /// The last bytes tell whether it is a TGA, of this size. The last of those that came are kept.
+    /// The last bytes of the input decide whether it is a TGA of this size. The last 18 bytes so far are kept.
     Footer { size: ImageSize },
-    /// The size, or why there is none.
+    /// The size or the error is known.
     Done { size: Result<ImageSize, Halt> },
 }
 
-/// Goes on along the records with more bytes.
+/// Continues the walk along the records with the next chunk.
 pub(crate) fn walk(next: Awaited, stand: &mut Stand, room: &mut [u8; ROOM], chunk: &[u8]) -> Stage
     requires steady { IsSteady next stand.old.place }
     requires few { stand.old.passed - stand.old.start ≤ 1023 }
@@ -44,7 +44,7 @@ pub(crate) fn walk(next: Awaited, stand: &mut Stand, room: &mut [u8; ROOM], chun
     ensures told { stand.new.told ≡ stand.old.told }
     ensures holds { HoldsAt result stand.new }
 
-    // Of each list of bytes that came before:
+    // For each list of bytes that may have arrived before:
     ensures goes_on { (kind : Option ImageType) (front : List ℕ) → CameTo (stage.Records next) kind stand.old room.old front
         → CameTo result kind stand.new room.new (front ++ chunk.now) }
     ensures complete { IfAwaiting result ((kind : Option ImageType) (front : List ℕ) → CameTo (stage.Records next) kind stand.old room.old front
@@ -58,7 +58,7 @@ pub(crate) fn walk(next: Awaited, stand: &mut Stand, room: &mut [u8; ROOM], chun
     }
 }
 
-/// Waits for the last bytes, and returns what they tell once all came.
+/// Waits for the last bytes. Once all bytes arrived, these decide whether it is a TGA.
 pub(crate) fn wait(
     size: ImageSize,
     kind: &mut Option<ImageType>,
@@ -94,7 +94,7 @@ pub(crate) fn wait(
     }
 }
 
-/// Begins with more bytes, of which the room has the first.
+/// Continues with the next chunk while the first bytes do not suffice. The buffer holds all bytes so far.
 pub(crate) fn begin(
     kind: &mut Option<ImageType>,
     stand: &mut Stand,
@@ -120,7 +120,7 @@ pub(crate) fn begin(
     begun(kind, stand, room, rest)
 }
 
-// Goes on from the first bytes, all of which are kept, with more behind them.
+// Continues from the first bytes, which are all in the buffer, with the rest of the chunk.
 fn begun(
     kind: &mut Option<ImageType>,
     stand: &mut Stand,
