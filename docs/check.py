@@ -17,6 +17,9 @@ import subprocess
 import sys
 
 TOP = pathlib.Path(__file__).resolve().parent.parent
+sys.path.insert(0, str(TOP / "bindings"))
+from lists import usual_names  # noqa: E402
+
 LINK = re.compile(r"\[[^\]]*\]\(([^)#\s]+)(?:#[^)]*)?\)")
 CODE = re.compile(r"`([^`\n]+)`")
 FENCE = re.compile(r"^( *)```.*?^ *```$", re.M | re.S)
@@ -293,16 +296,12 @@ def quoted():
     return "\n".join(lines)
 
 
-# The formats whose usual name is not the name of their constant.
-CALLED = {"ASEPRITE": "Aseprite", "EXR": "OpenEXR", "FARBFELD": "Farbfeld", "HEIF": "HEIF (HEIC, AVIF)", "JXL": "JPEG XL", "KTX2": "KTX 2",
-          "PVRTC": "PVR", "TIFF": "TIFF (BigTIFF)", "WEBP": "WebP"}
 LISTED = re.compile(r"^\*\*\d+ formats:\*\* [^.]*\.", re.M)
 
 
 def list_of_formats():
-    """The formats as README lists them, from the header's constants."""
-    body = re.search(r"enum imagesize_type_number \{(.*?)\n\};", (TOP / "include/imagesize.h").read_text(), re.S)[1]
-    found = [CALLED.get(name, name) for name in re.findall(r"^    IMAGESIZE_(\w+)", body, re.M)]
+    """The formats as README lists them, from the comments of the header."""
+    found = usual_names().values()
     return f"**{len(found)} formats:** {', '.join(sorted(found, key=str.casefold))}."
 
 

@@ -66,32 +66,32 @@ enum imagesize_status {
     IMAGESIZE_BYTES_WANTED = 30 /* a call over parts needs another part of the input; no other call returns it */
 };
 
-/* The types of images, with the MIME type and the extension of their files. */
+/* The types of images. Each comment begins with the usual name, and ends with the MIME type, if there is one, and the extension. */
 enum imagesize_type_number {
-    IMAGESIZE_ASEPRITE = 1, /* animated sprites of the editor Aseprite; .aseprite */
-    IMAGESIZE_ASTC = 2, /* adaptive scalable texture compression; image/astc, .astc */
-    IMAGESIZE_ATC = 3, /* a texture in ATC, in a PKM file; it has a compression; .pkm */
-    IMAGESIZE_BMP = 4, /* Windows bitmap; image/bmp, .bmp */
-    IMAGESIZE_DDS = 5, /* DirectDraw surface; it has a compression; image/x-dds, .dds */
-    IMAGESIZE_EAC = 6, /* a texture in EAC, in a PKM file; it has a compression; .pkm */
-    IMAGESIZE_ETC2 = 7, /* a texture in ETC1 or ETC2, in a PKM file; it has a compression; .pkm */
+    IMAGESIZE_ASEPRITE = 1, /* Aseprite: animated sprites of the editor; .aseprite */
+    IMAGESIZE_ASTC = 2, /* ASTC: adaptive scalable texture compression; image/astc, .astc */
+    IMAGESIZE_ATC = 3, /* ATC: a texture, in a PKM file; it has a compression; .pkm */
+    IMAGESIZE_BMP = 4, /* BMP: Windows bitmap; image/bmp, .bmp */
+    IMAGESIZE_DDS = 5, /* DDS: DirectDraw surface; it has a compression; image/x-dds, .dds */
+    IMAGESIZE_EAC = 6, /* EAC: a texture, in a PKM file; it has a compression; .pkm */
+    IMAGESIZE_ETC2 = 7, /* ETC2: a texture in ETC1 or ETC2, in a PKM file; it has a compression; .pkm */
     IMAGESIZE_EXR = 8, /* OpenEXR; image/x-exr, .exr */
-    IMAGESIZE_FARBFELD = 9, /* farbfeld; .ff */
-    IMAGESIZE_GIF = 10, /* graphics interchange format; image/gif, .gif */
-    IMAGESIZE_HDR = 11, /* Radiance RGBE; image/vnd.radiance, .hdr */
-    IMAGESIZE_HEIF = 12, /* HEIC and AVIF; it has a compression; image/heif, .heif */
-    IMAGESIZE_ICO = 13, /* Windows icon; image/vnd.microsoft.icon, .ico */
-    IMAGESIZE_ILBM = 14, /* interleaved bitmap, in an IFF file; image/x-ilbm, .iff */
+    IMAGESIZE_FARBFELD = 9, /* Farbfeld; .ff */
+    IMAGESIZE_GIF = 10, /* GIF: graphics interchange format; image/gif, .gif */
+    IMAGESIZE_HDR = 11, /* HDR: Radiance RGBE; image/vnd.radiance, .hdr */
+    IMAGESIZE_HEIF = 12, /* HEIF (HEIC, AVIF); it has a compression; image/heif, .heif */
+    IMAGESIZE_ICO = 13, /* ICO: Windows icon; image/vnd.microsoft.icon, .ico */
+    IMAGESIZE_ILBM = 14, /* ILBM: interleaved bitmap, in an IFF file; image/x-ilbm, .iff */
     IMAGESIZE_JPEG = 15, /* JPEG; image/jpeg, .jpg */
     IMAGESIZE_JXL = 16, /* JPEG XL; image/jxl, .jxl */
-    IMAGESIZE_KTX2 = 17, /* Khronos texture, version 2; image/ktx2, .ktx2 */
-    IMAGESIZE_PNM = 18, /* PBM, PGM and PPM; image/x-portable-anymap, .pnm */
-    IMAGESIZE_PVRTC = 19, /* PowerVR texture; it has a compression; .pvr */
-    IMAGESIZE_PSD = 20, /* Photoshop document; image/vnd.adobe.photoshop, .psd */
-    IMAGESIZE_QOI = 21, /* quite OK image; image/qoi, .qoi */
-    IMAGESIZE_TGA = 22, /* Truevision TGA; image/x-tga, .tga */
-    IMAGESIZE_TIFF = 23, /* TIFF, with BigTIFF; image/tiff, .tif */
-    IMAGESIZE_VTF = 24, /* Valve texture; image/vnd.valve.source.texture, .vtf */
+    IMAGESIZE_KTX2 = 17, /* KTX 2: Khronos texture, version 2; image/ktx2, .ktx2 */
+    IMAGESIZE_PNM = 18, /* PNM: PBM, PGM and PPM; image/x-portable-anymap, .pnm */
+    IMAGESIZE_PVRTC = 19, /* PVR: PowerVR texture; it has a compression; .pvr */
+    IMAGESIZE_PSD = 20, /* PSD: Photoshop document; image/vnd.adobe.photoshop, .psd */
+    IMAGESIZE_QOI = 21, /* QOI: quite OK image; image/qoi, .qoi */
+    IMAGESIZE_TGA = 22, /* TGA: Truevision; image/x-tga, .tga */
+    IMAGESIZE_TIFF = 23, /* TIFF (BigTIFF); image/tiff, .tif */
+    IMAGESIZE_VTF = 24, /* VTF: Valve texture; image/vnd.valve.source.texture, .vtf */
     IMAGESIZE_WEBP = 25 /* WebP; image/webp, .webp */
 };
 
