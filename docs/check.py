@@ -38,8 +38,8 @@ OLD = (r"places?|rooms?|lent|lends?|lending|hand(?:s|ed)? over|told|taken|answer
 REWRITTEN = {"README.md", "CALLING.md", "CONTRIBUTING.md", "SECURITY.md", "include/imagesize.h", "bindings/c/README.md",
              "bindings/js/README.md", "bindings/python/README.md", "bindings/rust/README.md", "docs/ARCHITECTURE.md",
              "docs/CHAINS.md", "docs/COMPARISON.md", "docs/DECISIONS.md", "docs/DIFFERENCES.md", "docs/LAYOUTS.md", "docs/PARTS.md",
-             "docs/PROMISES.md", "docs/PROVED.md", "docs/RELEASING.md", "docs/REMOTE.md", "docs/TESTED.md",
-             "docs/VERSIONS.md"}
+             "docs/PROMISES.md", "docs/PROVED.md", "docs/RELEASING.md", "docs/REMOTE.md", "docs/STREAMS.md",
+             "docs/TESTED.md", "docs/VERSIONS.md"}
 # Commands of the kit, by `rt`; commands of a shell are not checked.
 RT = set("ci must-fail selftest doc version new check verdict lib run test try fmt tidy plant all expand lemma seed names".split())
 
@@ -271,6 +271,8 @@ QUOTED = [
     ("imagesize/src/file.rt", ["size"]),
     ("imagesize/src/calls.rt", ["reader_type", "reader_size", "reader_probe", "ImageType::reader_size"]),
     ("imagesize/src/parts.rt", ["parts_probe", "parts_type", "ImageType::parts_size"]),
+    ("imagesize_stream/src/probe.rt", ["StreamProbe::new", "StreamProbe::push", "StreamProbe::kind", "StreamProbe::finish"]),
+    ("imagesize_stream/src/laws.rt", ["probe_two"]),
     ("imagesize/src/types.rt", ["ImageType::all", "ImageType::name", "ImageType::place"]),
     ("imagesize/src/names.rt", ["ImageType::compression_name"]),
     ("imagesize/src/queries.rt", ["ImageType::compression_family", "ImageType::is_block_compressed", "ImageType::container_format",

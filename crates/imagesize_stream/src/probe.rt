@@ -20,6 +20,26 @@ const MOST: u64 = (1 << 63) - 1;
 /// The type of an image and its size in pixels, from bytes that arrive in chunks of any length.
 ///
 /// It keeps at most 1,023 bytes of the input, and allocates nothing.
+///
+/// ```
+/// use imagesize::ImageType;
+/// use imagesize_stream::StreamProbe;
+///
+/// let mut probe = StreamProbe::new(None);
+/// let mut chunks = b"GIF89a\x80\x02\xe0\x01\0\0 and what else there is".chunks(5);
+/// let (kind, size) = loop {
+///     match chunks.next() {
+///         Some(chunk) => {
+///             if let Some(result) = probe.push(chunk) {
+///                 break result;
+///             }
+///         }
+///         None => break probe.finish(),
+///     }
+/// };
+/// assert_eq!(kind, Some(ImageType::Gif));
+/// assert_eq!(size?.width, 640);
+/// ```
 #[derive(Drop)]
 pub struct StreamProbe {
     stand: Stand,
@@ -50,8 +70,8 @@ impl StreamProbe {
         }
     }
 
-    /// Passes the next bytes. Returns the type, if one was found, and the size or the error, as soon as no further byte can
-    /// change them. From then on each call returns the same.
+    /// Passes the next bytes. Returns the type, if one was found, and the size or the error, as soon as they depend on no byte
+    /// that has not arrived. From then on each call returns the same. `None` means that more bytes are needed.
     pub fn push(&mut self, chunk: &[u8]) -> Option<(Option<ImageType>, ImageResult<ImageSize>)>
         ensures told { told_of self.new ≡ told_of self.old }
 
