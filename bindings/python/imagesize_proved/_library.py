@@ -25,6 +25,9 @@ PNG = 1000
 _WANTED = 30
 
 _SIGNATURE = b"\x89PNG\r\n\x1a\n"
+_PNG_FRONT = 24  # the size of a PNG depends on no byte after these
+
+_STREAM_SIZE = 1280  # IMAGESIZE_STREAM_SIZE of imagesize.h
 
 _CALLS = (
     "imagesize_type",
@@ -32,6 +35,9 @@ _CALLS = (
     "imagesize_probe_parts",
     "imagesize_spans",
     "imagesize_png_parts_size",
+    "imagesize_stream_new",
+    "imagesize_stream_push",
+    "imagesize_stream_finish",
     "imagesize_type_name",
     "imagesize_compression_name",
     "imagesize_container_format",
@@ -59,7 +65,11 @@ _probe = _LIBRARY.imagesize_probe
 _probe_parts = _LIBRARY.imagesize_probe_parts
 _spans = _LIBRARY.imagesize_spans
 _png = _LIBRARY.imagesize_png_parts_size
-_probe_few = ctypes.PyDLL(_LIBRARY._name).imagesize_probe_parts  # over two blocks it is over before another thread would run
+_stream_new = _LIBRARY.imagesize_stream_new
+_QUICK = ctypes.PyDLL(_LIBRARY._name)  # for calls over few bytes, which are over before another thread would run
+_probe_few = _QUICK.imagesize_probe_parts
+_stream_push = _QUICK.imagesize_stream_push
+_stream_finish = _QUICK.imagesize_stream_finish
 
 
 class _Room:
@@ -78,6 +88,8 @@ class _Room:
         self.of_two = (self.length_of_two, self.two, ctypes.c_size_t(2), self.total, *self.told)
         self.of_parts = (self.length, self.spans, self.count, self.total, *self.told)
         self.of_png = (self.length, self.spans, self.count, self.total, *self.told[2:])
+        self.stream = ctypes.create_string_buffer(_STREAM_SIZE)
+        self.of_stream = (self.length, *self.told[:4])
 
 
 _ROOMS: List[_Room] = []
@@ -184,6 +196,48 @@ def png_spans(front: bytes, total: int) -> List[int]:
         spans.extend((start, length))
         status, told = _probe_png(known, spans, total)
     return list(spans)
+
+
+class Stream:
+    """A push parser for an input of `total` bytes. It looks for a PNG in the first bytes, which it keeps.
+
+    Its state is copied for each call, so that calls of two threads never share it.
+    """
+
+    __slots__ = ("total", "front", "state")
+
+    def __init__(self, total: int) -> None:
+        self.total = total
+        self.front = b""
+        state = ctypes.create_string_buffer(_STREAM_SIZE)
+        _stream_new(state, ctypes.c_uint64(total))
+        self.state = state.raw
+
+    def push(self, data: bytes) -> Told:
+        """Passes the next bytes. The status is `BYTES_WANTED` if more are needed."""
+        room = _room(len(data), 0)
+        room.stream.raw = self.state
+        told = _stream_push(room.stream, data, *room.of_stream), room.read()
+        self.state = room.stream.raw
+        _ROOMS.append(room)
+        if len(self.front) < _PNG_FRONT:
+            self.front += data[: min(_PNG_FRONT, self.total) - len(self.front)]
+            if self.front.startswith(_SIGNATURE):
+                return self._png(self.total)
+        return told
+
+    def finish(self) -> Told:
+        """Type and size of the image in the bytes that were passed. No call before has returned them."""
+        if self.front.startswith(_SIGNATURE):
+            return self._png(len(self.front))
+        room = _room(0, 0)
+        room.stream.raw = self.state
+        told = _stream_finish(room.stream, *room.told[:4]), room.read()
+        _ROOMS.append(room)
+        return told
+
+    def _png(self, total: int) -> Told:
+        return _probe_png(self.front, array("Q", (0, len(self.front))), total)
 
 
 def spans_of(data: Union[bytes, ctypes.c_char], length: int, limit: int) -> Tuple[int, List[int]]:
