@@ -27,7 +27,7 @@ _WANTED = 30
 _SIGNATURE = b"\x89PNG\r\n\x1a\n"
 _PNG_FRONT = 24  # the size of a PNG depends on no byte after these
 
-_STREAM_SIZE = 1280  # IMAGESIZE_STREAM_SIZE of imagesize.h
+_State = ctypes.c_uint64 * (1280 // 8)  # imagesize_stream of imagesize.h
 
 _CALLS = (
     "imagesize_type",
@@ -88,8 +88,6 @@ class _Room:
         self.of_two = (self.length_of_two, self.two, ctypes.c_size_t(2), self.total, *self.told)
         self.of_parts = (self.length, self.spans, self.count, self.total, *self.told)
         self.of_png = (self.length, self.spans, self.count, self.total, *self.told[2:])
-        self.stream = ctypes.create_string_buffer(_STREAM_SIZE)
-        self.of_stream = (self.length, *self.told[:4])
 
 
 _ROOMS: List[_Room] = []
@@ -201,7 +199,7 @@ def png_spans(front: bytes, total: int) -> List[int]:
 class Stream:
     """A push parser for an input of `total` bytes. It looks for a PNG in the first bytes, which it keeps.
 
-    Its state is copied for each call, so that calls of two threads never share it.
+    Each call copies the state and changes the copy, so that calls of two threads share none.
     """
 
     __slots__ = ("total", "front", "state")
@@ -209,16 +207,14 @@ class Stream:
     def __init__(self, total: int) -> None:
         self.total = total
         self.front = b""
-        state = ctypes.create_string_buffer(_STREAM_SIZE)
-        _stream_new(state, ctypes.c_uint64(total))
-        self.state = state.raw
+        self.state = _State()
+        _stream_new(self.state, ctypes.c_uint64(total))
 
     def push(self, data: bytes) -> Told:
         """Passes the next bytes. The status is `BYTES_WANTED` if more are needed."""
-        room = _room(len(data), 0)
-        room.stream.raw = self.state
-        told = _stream_push(room.stream, data, *room.of_stream), room.read()
-        self.state = room.stream.raw
+        state, room = _State.from_buffer_copy(self.state), _room(len(data), 0)
+        told = _stream_push(state, data, room.length, *room.told[:4]), room.read()
+        self.state = state
         _ROOMS.append(room)
         if len(self.front) < _PNG_FRONT:
             self.front += data[: min(_PNG_FRONT, self.total) - len(self.front)]
@@ -230,9 +226,8 @@ class Stream:
         """Type and size of the image in the bytes that were passed. No call before has returned them."""
         if self.front.startswith(_SIGNATURE):
             return self._png(len(self.front))
-        room = _room(0, 0)
-        room.stream.raw = self.state
-        told = _stream_finish(room.stream, *room.told[:4]), room.read()
+        state, room = _State.from_buffer_copy(self.state), _room(0, 0)
+        told = _stream_finish(state, *room.told[:4]), room.read()
         _ROOMS.append(room)
         return told
 
