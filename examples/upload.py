@@ -12,6 +12,7 @@ what has no size, 411 for a body without a length, and 400 for one that is cut. 
 from __future__ import annotations
 
 import argparse
+import contextlib
 import io
 import pathlib
 import socket
@@ -48,8 +49,9 @@ class Upload(BaseHTTPRequestHandler):
             self.respond(201, self.image())
         except Refused as refused:
             self.close_connection = True
-            self.respond(*refused.args)
-            self.discard()
+            with contextlib.suppress(OSError):  # the client may be gone
+                self.respond(*refused.args)
+                self.discard()
 
     def image(self) -> str:
         """Reads the body, and returns the type and the size of its image. Raises `Refused` as soon as it is certain."""
@@ -97,10 +99,7 @@ class Upload(BaseHTTPRequestHandler):
         self.connection.shutdown(socket.SHUT_WR)
         self.connection.settimeout(1)
         end = time.monotonic() + 1
-        try:
-            while self.rfile.read1(CHUNK) and time.monotonic() < end:
-                pass
-        except OSError:
+        while self.rfile.read1(CHUNK) and time.monotonic() < end:
             pass
 
     def log_message(self, *_: Any) -> None:

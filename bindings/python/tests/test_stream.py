@@ -432,17 +432,15 @@ class Awaited(unittest.TestCase):
     def test_stream_reader(self) -> None:
         """The front of an image is enough, while the other end sends nothing more."""
 
-        async def serve(_: Any, writer: asyncio.StreamWriter) -> None:
-            writer.write(jpeg(1))
-
         async def probe() -> Probed:
-            server = await asyncio.start_server(serve, "127.0.0.1", 0)
-            reader, writer = await asyncio.open_connection(*server.sockets[0].getsockname())
-            try:
-                return await asyncio.wait_for(imagesize.probe_async(reader), 10)
-            finally:
+            ours, theirs = socket.socketpair()
+            theirs.sendall(jpeg(1))
+            reader, writer = await asyncio.open_connection(sock=ours)
+            with theirs:
+                found = await asyncio.wait_for(imagesize.probe_async(reader), 10)
                 writer.close()
-                server.close()
+                await writer.wait_closed()
+            return found
 
         self.assertEqual(asyncio.run(probe()).size, (7, 5))
 
