@@ -149,7 +149,7 @@ export function probeStream(stream: Chunks, options?: Options & StreamLength): P
  *
  * @example
  * const probe = new StreamProbe();
- * for await (const chunk of request) {
+ * for await (const chunk of chunks) {
  *   const image = probe.feed(chunk); // null until the size is known
  *   if (image && image.width * image.height > 50_000_000) return refuse(image);
  *   file.write(chunk);

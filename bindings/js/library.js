@@ -27,11 +27,14 @@ const TEXT_ROOM = 256;
 const STREAM_SIZE = 1280;
 const LENGTH_UNKNOWN = 2n ** 64n - 1n;
 
+/** How many bytes a push parser is passed at once, at most. */
+export const PIECE = 65536;
+
 const NO_NAMES = { kind: null, compression: null };
 
 // PNG among the numbers of types. The library has calls of its own for PNG, and no number.
 const PNG = 1000;
-const PNG_SIGNATURE = [0x89, 0x50, 0x4e, 0x47, 0x0d, 0x0a, 0x1a, 0x0a];
+export const PNG_SIGNATURE = [0x89, 0x50, 0x4e, 0x47, 0x0d, 0x0a, 0x1a, 0x0a];
 
 /** The library in a memory of its own, whose addresses have 32 or 64 bits. */
 export class Library {
@@ -51,7 +54,7 @@ export class Library {
     this.#memory = exports.memory;
     this.#base = Math.ceil(Number(exports.__heap_base.value) / SPAN) * SPAN;
     this.#answers = Object.fromEntries(Object.entries(AT).map(([name, at]) => [name, this.#pointer(at)]));
-    this.#lend(AT.lent + TEXT_ROOM);
+    this.#lend(AT.lent + STREAM_SIZE + PIECE);
   }
 
   /**
@@ -77,24 +80,24 @@ export class Library {
 
   /** The state of a push parser at the beginning of an input of `total` bytes, or of `Infinity` if that is not known. */
   streamOf(total) {
-    this.#lend(AT.lent + STREAM_SIZE);
     this.#calls.imagesize_stream_new(this.#pointer(AT.lent), total < Infinity ? BigInt(total) : LENGTH_UNKNOWN);
     return this.#state.slice();
   }
 
-  /** Passes the next bytes to a push parser, whose state changes: `{ image }` or `{ error }`, or null if more bytes are needed. */
+  /**
+   * Passes the next bytes, at most `PIECE`, to a push parser, whose state changes. Returns `{ image }` or `{ error }`, or null if more
+   * bytes are needed.
+   */
   push(state, bytes) {
-    const at = AT.lent + STREAM_SIZE;
-    this.#lend(at + bytes.length);
     this.#putPieces(AT.lent, [{ bytes: state }, { bytes }]);
-    const status = this.#parse(this.#calls.imagesize_stream_push, this.#pointer(at), BigInt(bytes.length));
+    const passed = [this.#pointer(AT.lent + STREAM_SIZE), BigInt(bytes.length)];
+    const status = this.#parse(this.#calls.imagesize_stream_push, ...passed);
     state.set(this.#state);
     return status === BYTES_WANTED ? null : this.#told(status);
   }
 
   /** Ends the input of a push parser, whose state is then of no more use. */
   finish(state) {
-    this.#lend(AT.lent + STREAM_SIZE);
     this.#putPieces(AT.lent, [{ bytes: state }]);
     return this.#told(this.#parse(this.#calls.imagesize_stream_finish));
   }

@@ -1,15 +1,11 @@
 // A push parser: it is passed the bytes of an input as they come.
 
 import { bytesIn } from './bytes.js';
-import { beginsPng } from './library.js';
+import { PIECE, PNG_SIGNATURE, beginsPng } from './library.js';
 import { library } from './load.js';
 
-// A PNG shows its signature in its first bytes, and then its size.
-const PNG_SIGNATURE = 8;
-const PNG_SIZE = 24;
-
-// So many bytes are copied into the library's memory at once.
-const PIECE = 65536;
+// A PNG has its size in its first bytes.
+const PNG_FRONT = 24;
 
 /** An input of `total` bytes, or of `Infinity` if that is not known, whose bytes come in chunks. */
 export class Stream {
@@ -43,12 +39,12 @@ export class Stream {
   }
 
   #pushed(bytes) {
-    const missing = Math.min(PNG_SIZE, this.#total) - this.#front.length;
+    const missing = Math.min(PNG_FRONT, this.#total) - this.#front.length;
     if (missing > 0) this.#front = Uint8Array.of(...this.#front, ...bytes.subarray(0, missing));
     if (beginsPng(this.#front)) return this.#png(this.#total);
     const result = library().push(this.#state, bytes);
     // With fewer bytes it may yet be a PNG.
-    return this.#front.length < Math.min(PNG_SIGNATURE, this.#total) ? null : result;
+    return this.#front.length < Math.min(PNG_SIGNATURE.length, this.#total) ? null : result;
   }
 
   #png(total) {
@@ -79,5 +75,5 @@ export class StreamProbe {
 
 function imageOf(result) {
   if (result?.error) throw result.error;
-  return result && result.image;
+  return result?.image ?? null;
 }
