@@ -189,7 +189,7 @@ def contracts():
 
 def clauses_of(head):
     """The clauses of a head, as label and text, and the signature before them."""
-    signature, *rest = re.split(r"\n?\s*ensures\b", head)
+    signature, *rest = re.split(r"\n?\s*ensures\b\*?", head)
     clauses = []
     for clause in rest:
         match = re.match(r"\s*(\w*)\s*\{(.*)\}", clause, re.S)
@@ -241,7 +241,7 @@ def declarations():
     code = "\n".join(source((".rt",)).values())
     specs = "\n".join(source((".antt",)).values())
     found = {path.name for path in TOP.glob("crates/*")}
-    found.update(re.findall(r"\b(?:fn|ensures|struct|enum|trait|mod|const|ghost) (\w+)", code))
+    found.update(re.findall(r"\b(?:fn|ensures\*?|struct|enum|trait|mod|const|ghost) (\w+)", code))
     found.update(re.findall(r"^ *(?:(?:abbrev|unfoldable|pub|record|data) )*(\w+)\b[^\n]*?(?: :|:$)", specs, re.M))
     return found
 
@@ -268,6 +268,7 @@ QUOTED = [
     ("imagesize/src/file.rt", ["size"]),
     ("imagesize/src/calls.rt", ["reader_type", "reader_size", "reader_probe", "ImageType::reader_size"]),
     ("imagesize/src/parts.rt", ["parts_probe", "parts_type", "ImageType::parts_size"]),
+    ("imagesize_stream/src/probe.rt", ["StreamProbe::new", "StreamProbe::push", "StreamProbe::kind", "StreamProbe::finish"]),
     ("imagesize/src/types.rt", ["ImageType::all", "ImageType::name", "ImageType::place"]),
     ("imagesize/src/names.rt", ["ImageType::compression_name"]),
     ("imagesize/src/queries.rt", ["ImageType::compression_family", "ImageType::is_block_compressed", "ImageType::container_format",

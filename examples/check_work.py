@@ -37,6 +37,19 @@ FILES = {
 }
 
 
+# Hostile inputs of a million bytes: records without end, each of which a push parser may meet at the end of a chunk.
+HOSTILE = {
+    "segments.jpeg": b"\xff\xd8" + b"\xff\xe0\0\x02" * 250_000,
+    "chunks.iff": b"FORM\0\x0f\x42\x40ILBM" + b"NAME\0\0\0\0" * 125_000,
+    "comments.pnm": b"P5\n" + b"#\n" * 500_000,
+    "lines.hdr": b"#?RADIANCE\n" + b"a\n" * 500_000,
+    "entries.tif": b"II*\0\x08\0\0\0\xff\xff" + b"\x01\x02\x03\0\x01\0\0\0\x01\0\0\0" * 65_535,
+    "attributes.exr": b"\x76\x2f\x31\x01\x02\0\0\0" + b"a\0b\0\0\0\0\0" * 125_000,
+    "boxes.heif": b"\0\0\0\x18ftypheic\0\0\0\0heicmif1" + b"\0\0\0\x08free" * 125_000,
+    "boxes.jxl": b"\0\0\0\x0cJXL \r\n\x87\n" + b"\0\0\0\x08free" * 125_000,
+}
+
+
 def run(*command, **settings):
     """The standard output, the standard error and the status of a command."""
     told = subprocess.run(command, capture_output="stdout" not in settings, text=True, **settings)
