@@ -6,7 +6,7 @@ use std::fs::File;
 use std::io::{Read, Seek, SeekFrom};
 
 /// Blocks begin and end at multiples of this, or where the input ends.
-const BLOCK: u64 = 4096;
+pub(crate) const BLOCK: u64 = 4096;
 
 /// With a requested byte so many after it are fetched, since the fields of one record are close together.
 const AHEAD: u64 = 64;
