@@ -44,8 +44,8 @@ impl fmt::Debug for Probed {
 
 /// Finds the type and the size of an image from bytes that arrive in pieces of any length.
 ///
-/// The probe keeps the few bytes that it needs again. It has some 1,300 bytes, and allocates nothing. No size has to be known
-/// before, and no byte is requested.
+/// The probe copies the few bytes that it needs again. It has some 1,300 bytes, and allocates nothing. A clone of it goes on by
+/// itself.
 ///
 /// ```
 /// use imagesize::{ImageType, StreamProbe};
