@@ -2,8 +2,9 @@
  * The type of an image, and its width and height in pixels, from a few bytes. No pixel is decoded.
  *
  * Each call is proved. It returns, and its result is the one that docs/LAYOUTS.md defines. It reads only the buffers that the
- * caller passes, and writes only what is said here. It allocates nothing, and keeps nothing between two calls. Calls may run
- * at the same time on several threads, if none writes what another reads. docs/PROMISES.md lists the promises.
+ * caller passes, and writes only what is said here. It allocates nothing, and keeps nothing between two calls: a push parser is
+ * in memory of the caller. Calls may run at the same time on several threads, if none writes what another reads.
+ * docs/PROMISES.md lists the promises.
  *
  * The caller must keep these rules, which the library cannot check:
  *  - A pointer must be aligned for its type and must not be NULL, even if the length is 0 or the result is not needed. No call
@@ -63,7 +64,8 @@ enum imagesize_status {
     IMAGESIZE_BUFFER_TOO_SMALL = 27, /* the result has more items than the buffer */
     IMAGESIZE_UNKNOWN_TYPE = 28, /* no type has these numbers */
     IMAGESIZE_UNKNOWN_STATUS = 29, /* no status has this number */
-    IMAGESIZE_BYTES_WANTED = 30 /* a call over parts needs another part of the input; no other call returns it */
+    IMAGESIZE_BYTES_WANTED = 30 /* a call over parts needs another part of the input, or imagesize_stream_push needs more bytes;
+                                   no other call returns it */
 };
 
 /* The types of images, with the MIME type and the extension of their files. */
@@ -246,6 +248,68 @@ uint32_t imagesize_parts_type(const uint8_t *bytes, size_t length, const imagesi
  */
 uint32_t imagesize_parts_size(uint32_t type, uint32_t compression, const uint8_t *bytes, size_t length, const imagesize_span *spans,
                               size_t count, uint64_t total, uint64_t *width, uint64_t *height, imagesize_span *wanted);
+
+/*
+ * A push parser: type and size of an input whose bytes come one after another, as from a socket or a pipe. The caller passes each
+ * chunk as it comes, of any length, and keeps none of them.
+ *
+ *     imagesize_stream stream;
+ *     uint8_t chunk[4096];
+ *     ssize_t got;
+ *     uint32_t status = IMAGESIZE_BYTES_WANTED;
+ *     imagesize_stream_new(&stream, IMAGESIZE_LENGTH_UNKNOWN);
+ *     while (status == IMAGESIZE_BYTES_WANTED && (got = read(0, chunk, sizeof chunk)) > 0) {
+ *         status = imagesize_stream_push(&stream, chunk, (size_t)got, &type, &compression, &width, &height);
+ *     }
+ *     if (status == IMAGESIZE_BYTES_WANTED) {
+ *         status = imagesize_stream_finish(&stream, &type, &compression, &width, &height);
+ *     }
+ *
+ * The state is in memory of the caller, on the stack or wherever there are IMAGESIZE_STREAM_SIZE bytes. It holds at most 1,023
+ * bytes of the input, and no pointer. It needs no release.
+ *
+ * The caller must keep these rules too, which the library cannot check:
+ *  - imagesize_stream_new comes before any other call with the same memory, and again after imagesize_stream_finish.
+ *  - One call at a time uses the same memory.
+ *  - The caller does not write into the memory. Between two calls it may copy all of it by memcpy or assignment. The copy and the
+ *    original then go on independently, each with its own bytes.
+ */
+
+/* The size of the memory in bytes, and the length to pass if the length of the input is not known. */
+#define IMAGESIZE_STREAM_SIZE 1280
+#define IMAGESIZE_LENGTH_UNKNOWN UINT64_MAX
+
+/* The memory of a push parser. Its content is the library's own. */
+typedef struct imagesize_stream {
+    uint64_t opaque[IMAGESIZE_STREAM_SIZE / 8];
+} imagesize_stream;
+
+/*
+ * Begins an input of `total` bytes, whatever the memory holds. Bytes past that length do not count. For an unknown length pass
+ * IMAGESIZE_LENGTH_UNKNOWN; every number above 2^63 - 1 means the same.
+ *
+ * A known length lets some results come earlier. No result is lost without it.
+ */
+void imagesize_stream_new(imagesize_stream *stream, uint64_t total);
+
+/*
+ * Passes the next `length` bytes of the input. There may be none.
+ *
+ * If the result depends on more bytes, the status is IMAGESIZE_BYTES_WANTED and nothing is written. Otherwise status, type,
+ * compression, width and height are those of imagesize_probe over the whole input, whatever bytes follow. Every later call returns and
+ * writes the same.
+ *
+ * If the length is known, the result comes with the last byte that it depends on, or with the last byte of the input. If it is
+ * not, a TGA comes from imagesize_stream_finish, since its footer is at the end of the file.
+ */
+uint32_t imagesize_stream_push(imagesize_stream *stream, const uint8_t *bytes, size_t length, uint32_t *type, uint32_t *compression,
+                               uint64_t *width, uint64_t *height);
+
+/*
+ * Ends the input. Status, type, compression, width and height are those of imagesize_probe over the bytes that were passed. The
+ * status is never IMAGESIZE_BYTES_WANTED. The memory is free then.
+ */
+uint32_t imagesize_stream_finish(imagesize_stream *stream, uint32_t *type, uint32_t *compression, uint64_t *width, uint64_t *height);
 
 /*
  * Lists the bytes that type and size depend on: a span for each read, in order, with repeats. Every other input of this length
