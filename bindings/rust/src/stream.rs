@@ -70,7 +70,8 @@ pub struct StreamProbe {
 impl StreamProbe {
     /// Begins an input of `total` bytes, or of unknown length.
     ///
-    /// If the length is known, bytes past it do not count, and there is a result at the latest with the last byte.
+    /// If the length is known, bytes past it do not count, and there is a result with the last byte at the latest. If it is not,
+    /// the result of a TGA comes from [`finish`](StreamProbe::finish), since its footer is at the end.
     pub fn new(total: Option<u64>) -> StreamProbe {
         let total = total.map_or(sys::LONGEST, |total| total.min(sys::LONGEST));
         StreamProbe {
@@ -148,9 +149,9 @@ pub fn stream_size<R: Read>(reader: R) -> ImageResult<ImageSize> {
 
 /// Finds the type and the size of the image in a reader that need not seek. Also returns how many bytes were read.
 ///
-/// The call reads blocks of up to 4096 bytes, and no block after the one that has the result. For most types that is the first.
-/// A TIFF may have its size at the end, and then all of it is read. [`Read::take`] sets a limit. A read that is interrupted is
-/// tried again.
+/// The call reads blocks of up to 4096 bytes, and no block after the one that has the result. For most images that is the first.
+/// A TGA is read to its end, and so is a TIFF whose directory is there. [`Read::take`] sets a limit. A read that is interrupted
+/// is tried again.
 ///
 /// The bytes that were read are gone from the reader, which can be passed as `&mut reader`. To keep them, pass them to a
 /// [`StreamProbe`].

@@ -1,6 +1,7 @@
 //! The calls of the C library, as `include/imagesize.h` declares them, each with a safe function around it.
 
 use crate::{ImageError, ImageResult, ImageSize, ImageType};
+use std::mem::MaybeUninit;
 
 pub(crate) const ANSWERED: u32 = 0;
 pub(crate) const NOT_SUPPORTED: u32 = 1;
@@ -13,7 +14,7 @@ pub(crate) const BYTES_WANTED: u32 = 30;
 /// The longest text of the library has fewer bytes.
 const TEXT_ROOM: usize = 128;
 
-/// The bytes of a push parser's state, by the header.
+/// The size of a push parser's memory in bytes, as the header has it.
 pub(crate) const STREAM_SIZE: usize = 1280;
 
 /// No input has more bytes. It is also the length of an input whose length is not known.
@@ -33,11 +34,11 @@ pub(crate) struct Span {
     pub(crate) len: u64,
 }
 
-/// The state of a push parser, which the library alone reads and writes.
+/// The memory of a push parser, which the library alone reads and writes. It may be copied.
 #[repr(C)]
 #[derive(Clone)]
 pub(crate) struct Stream {
-    opaque: [u64; STREAM_SIZE / 8],
+    opaque: MaybeUninit<[u64; STREAM_SIZE / 8]>,
 }
 
 extern "C" {
@@ -199,9 +200,9 @@ impl Stream {
     /// Begins an input of `total` bytes. Bytes past that length do not count.
     pub(crate) fn new(total: u64) -> Stream {
         let mut stream = Stream {
-            opaque: [0; STREAM_SIZE / 8],
+            opaque: MaybeUninit::uninit(),
         };
-        // SAFETY: the pointer comes from a state of the header's size, which nothing else holds.
+        // SAFETY: the pointer comes from memory of the header's size, which nothing else holds. It may hold anything.
         unsafe { imagesize_stream_new(&mut stream, total) };
         stream
     }
@@ -209,7 +210,7 @@ impl Stream {
     /// Passes the next bytes. Returns the result of the input, as soon as no further byte can change it.
     pub(crate) fn push(&mut self, bytes: &[u8]) -> Option<Told> {
         let mut told = Told::default();
-        // SAFETY: the pointers come from a state that `new` began, from a slice of this length, and from numbers that nothing
+        // SAFETY: the pointers come from memory that `new` wrote, from a slice of this length, and from numbers that nothing
         // else holds.
         told.status = unsafe {
             imagesize_stream_push(
@@ -228,7 +229,7 @@ impl Stream {
     /// Ends the input. Returns the result of the bytes that were passed.
     pub(crate) fn finish(mut self) -> Told {
         let mut told = Told::default();
-        // SAFETY: the pointers come from a state that `new` began, and from numbers that nothing else holds.
+        // SAFETY: the pointers come from memory that `new` wrote, and from numbers that nothing else holds. It is not used again.
         told.status = unsafe {
             imagesize_stream_finish(
                 &mut self,

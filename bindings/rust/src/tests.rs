@@ -104,8 +104,8 @@ fn statuses_are_those_of_the_header() {
 
 #[test]
 fn a_stream_has_the_size_of_the_header() {
-    let define = format!("#define IMAGESIZE_STREAM_SIZE {} ", sys::STREAM_SIZE);
-    assert!(header_text().contains(&define), "{define}");
+    let define = format!("#define IMAGESIZE_STREAM_SIZE {}", sys::STREAM_SIZE);
+    assert!(header_text().lines().any(|line| line == define), "{define}");
     assert_eq!(std::mem::size_of::<sys::Stream>(), sys::STREAM_SIZE);
     assert_eq!(
         std::mem::align_of::<sys::Stream>(),
