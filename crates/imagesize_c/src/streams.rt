@@ -151,7 +151,7 @@ fn finish(
     ensures ends { is_wanted result ≡ false }
     ensures sides { is_answered result ≡ false → (width.new ≡ width.old) × (height.new ≡ height.old) }
 {
-    let (kind, size) = stream.finish();
+    let (kind, answer) = stream.finish();
     tell_type(kind, number, compression);
-    tell_size(size, width, height)
+    tell_size(answer, width, height)
 }
