@@ -15,7 +15,7 @@ const AHEAD: u64 = 64;
 const FEW_SPANS: usize = 64;
 
 /// A call that has fetched so many bytes fetches no more.
-const MOST_BYTES: usize = 64 << 20;
+pub(crate) const MOST_BYTES: usize = 64 << 20;
 
 /// The first bytes of each image, which are fetched first.
 const FIRST: Span = Span { start: 0, len: 12 };

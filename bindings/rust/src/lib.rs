@@ -18,9 +18,9 @@
 //! | a reader that cannot, such as a pipe | [`stream_size`], [`stream_probe`] |
 //! | pieces that arrive one after another | [`StreamProbe`] |
 //!
-//! [`size`] and the calls over a reader fetch blocks of 4096 bytes around the bytes that the result depends on. They never read
+//! [`size`] and the calls over a reader that can seek fetch blocks of 4096 bytes around the bytes that the result depends on. They never read
 //! the whole of a large file. For very many records the blocks become larger. If more is needed after 64 MiB, the call returns
-//! an error.
+//! an error. [`stream_size`] and [`stream_probe`] read from the first byte on, up to the result, and at most 64 MiB.
 
 #![warn(missing_docs)]
 

@@ -1,8 +1,8 @@
 //! An image whose bytes arrive in order, and cannot be fetched at an offset.
 
-use crate::input::BLOCK;
+use crate::input::{BLOCK, MOST_BYTES};
 use crate::sys::{self, Parts, Stream, Told};
-use crate::{ImageResult, ImageSize, ImageType};
+use crate::{ImageError, ImageResult, ImageSize, ImageType};
 use std::fmt;
 use std::io::{self, ErrorKind, Read};
 
@@ -134,8 +134,7 @@ impl fmt::Debug for StreamProbe {
 ///
 /// # Errors
 ///
-/// The errors of [`blob_size`](crate::blob_size), and [`ImageError::IoError`](crate::ImageError::IoError) with the reader's own
-/// error if a read fails.
+/// The errors of [`blob_size`](crate::blob_size) and of [`stream_probe`].
 ///
 /// ```
 /// let pipe: &[u8] = b"GIF89a\x80\x02\xe0\x01\0\0";
@@ -150,15 +149,16 @@ pub fn stream_size<R: Read>(reader: R) -> ImageResult<ImageSize> {
 /// Finds the type and the size of the image in a reader that need not seek. Also returns how many bytes were read.
 ///
 /// The call reads blocks of up to 4096 bytes, and no block after the one that has the result. For most images that is the first.
-/// A TGA is read to its end, and so is a TIFF whose directory is there. [`Read::take`] sets a limit. A read that is interrupted
-/// is tried again.
+/// A TGA is read to its end, and so is a TIFF whose directory is there. [`Read::take`] sets a lower limit than 64 MiB. A read
+/// that is interrupted is tried again.
 ///
 /// The bytes that were read are gone from the reader, which can be passed as `&mut reader`. To keep them, pass them to a
 /// [`StreamProbe`].
 ///
 /// # Errors
 ///
-/// [`ImageError::IoError`](crate::ImageError::IoError) with the reader's own error if a read fails.
+/// [`ImageError::IoError`] with the reader's own error if a read fails. The kind is `InvalidData` if there is no result after
+/// 64 MiB.
 ///
 /// ```
 /// use imagesize::{stream_probe, ImageType};
@@ -171,20 +171,20 @@ pub fn stream_size<R: Read>(reader: R) -> ImageResult<ImageSize> {
 /// assert!(read <= 4096);
 /// # Ok::<(), imagesize::ImageError>(())
 /// ```
-pub fn stream_probe<R: Read>(mut reader: R) -> ImageResult<(Probed, u64)> {
+pub fn stream_probe<R: Read>(reader: R) -> ImageResult<(Probed, u64)> {
+    let mut reader = reader.take(MOST_BYTES as u64);
     let mut probe = StreamProbe::new(None);
     let mut block = [0; BLOCK as usize];
-    let mut read = 0;
-    loop {
+    let found = loop {
         let count = read_some(&mut reader, &mut block)?;
-        if count == 0 {
-            return Ok((probe.finish(), read));
+        match probe.push(&block[..count]) {
+            Some(found) => break found,
+            None if count > 0 => {}
+            None if reader.limit() == 0 => return Err(ImageError::of_status(sys::BUDGET_SPENT)),
+            None => break probe.finish(),
         }
-        read += count as u64;
-        if let Some(found) = probe.push(&block[..count]) {
-            return Ok((found, read));
-        }
-    }
+    };
+    Ok((found, MOST_BYTES as u64 - reader.limit()))
 }
 
 /// Reads some bytes, or none at the end of the reader.

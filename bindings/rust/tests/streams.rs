@@ -149,6 +149,30 @@ fn what_is_no_image_is_known_after_its_first_block() -> ImageResult<()> {
 }
 
 #[test]
+fn a_stream_without_end_is_refused() {
+    // A TIFF whose directory is 4 GiB away.
+    let mut endless = (&b"II*\0\xff\xff\xff\xff"[..]).chain(io::repeat(0));
+    match stream_size(&mut endless) {
+        Err(ImageError::IoError(error)) => {
+            assert_eq!(error.to_string(), "Read budget is spent");
+            assert_eq!(error.kind(), ErrorKind::InvalidData);
+        }
+        found => panic!("{found:?}"),
+    }
+    // A directory that ends with byte 64 MiB.
+    let directory = b"\x02\0\0\x01\x03\0\x01\0\0\0\x05\0\0\0\x01\x01\x04\0\x01\0\0\0\x07\0\0\0";
+    let place = (64 << 20) - directory.len() as u32;
+    let head = [b"II*\0", &place.to_le_bytes()[..]].concat();
+    let pixels_before = io::repeat(0).take(u64::from(place) - 8);
+    let tiff = head
+        .chain(pixels_before)
+        .chain(&directory[..])
+        .chain(io::repeat(0));
+    let (found, read) = stream_probe(tiff).expect("64 MiB");
+    assert_eq!((found.size().ok(), read), (Some(pixels(5, 7)), 64 << 20));
+}
+
+#[test]
 fn a_limit_of_the_reader_ends_a_walk() -> ImageResult<()> {
     // Segments of 16 bytes of the same bytes: a JPEG without end.
     let segments = b"\xff\xe1\0\x0e\0\0\0\0\0\0\0\0\0\0\0\0".repeat(70_000);
