@@ -189,7 +189,7 @@ def contracts():
 
 def clauses_of(head):
     """The clauses of a head, as label and text, and the signature before them."""
-    signature, *rest = re.split(r"\n?\s*ensures\b", head)
+    signature, *rest = re.split(r"\n?\s*ensures\b\*?", head)
     clauses = []
     for clause in rest:
         match = re.match(r"\s*(\w*)\s*\{(.*)\}", clause, re.S)
@@ -241,7 +241,7 @@ def declarations():
     code = "\n".join(source((".rt",)).values())
     specs = "\n".join(source((".antt",)).values())
     found = {path.name for path in TOP.glob("crates/*")}
-    found.update(re.findall(r"\b(?:fn|ensures|struct|enum|trait|mod|const|ghost) (\w+)", code))
+    found.update(re.findall(r"\b(?:fn|ensures\*?|struct|enum|trait|mod|const|ghost) (\w+)", code))
     found.update(re.findall(r"^ *(?:(?:abbrev|unfoldable|pub|record|data) )*(\w+)\b[^\n]*?(?: :|:$)", specs, re.M))
     return found
 

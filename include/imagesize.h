@@ -12,8 +12,8 @@
  *  - A buffer of bytes, text or spans must have as many items as its length says, and fewer than 2^63 bytes.
  *  - A buffer that is written must overlap no other buffer of the call. Text and spans must be initialised.
  *
- * Each call returns a status: IMAGESIZE_ANSWERED, or a number for each error. A call changes only what it says that it writes,
- * also when it returns an error.
+ * Each call but imagesize_stream_new returns a status: IMAGESIZE_ANSWERED, or a number for each error. A call changes only what it
+ * says that it writes, also when it returns an error.
  *
  * A text is ASCII, without a zero at its end. It is written if the buffer is long enough for all of it. Its length is written
  * in either case. If the buffer is too small, the status is IMAGESIZE_BUFFER_TOO_SMALL and the buffer does not change. The same
@@ -300,7 +300,7 @@ void imagesize_stream_new(imagesize_stream *stream, uint64_t total);
  * writes the same.
  *
  * If the length is known, the result comes with the last byte that it depends on, or with the last byte of the input. If it is
- * not, a TGA comes from imagesize_stream_finish, since its footer is at the end of the file.
+ * not, the result of a TGA may come from imagesize_stream_finish alone, since its footer is at the end of the file.
  */
 uint32_t imagesize_stream_push(imagesize_stream *stream, const uint8_t *bytes, size_t length, uint32_t *type, uint32_t *compression,
                                uint64_t *width, uint64_t *height);
