@@ -22,15 +22,15 @@ impl fmt::Display for Broken {
 impl Error for Broken {}
 
 /// A reader that gives at most so many bytes a read, and fails at some of its reads.
-struct Pipe<'a> {
+struct Pipe<'a, F> {
     bytes: &'a [u8],
     most: usize,
-    fails: fn(usize) -> Option<ErrorKind>,
+    fails: F,
     reads: usize,
 }
 
-impl<'a> Pipe<'a> {
-    fn new(bytes: &'a [u8], most: usize, fails: fn(usize) -> Option<ErrorKind>) -> Pipe<'a> {
+impl<'a, F: Fn(usize) -> Option<ErrorKind>> Pipe<'a, F> {
+    fn new(bytes: &'a [u8], most: usize, fails: F) -> Pipe<'a, F> {
         Pipe {
             bytes,
             most,
@@ -40,7 +40,7 @@ impl<'a> Pipe<'a> {
     }
 }
 
-impl Read for Pipe<'_> {
+impl<F: Fn(usize) -> Option<ErrorKind>> Read for Pipe<'_, F> {
     fn read(&mut self, block: &mut [u8]) -> io::Result<usize> {
         let number = self.reads;
         self.reads += 1;
@@ -113,11 +113,7 @@ fn a_read_that_fails_gives_its_own_error() {
         ErrorKind::UnexpectedEof,
         ErrorKind::WouldBlock,
     ] {
-        let fails = match kind {
-            ErrorKind::Other => |number| (number == 3).then_some(ErrorKind::Other),
-            ErrorKind::UnexpectedEof => |number| (number == 3).then_some(ErrorKind::UnexpectedEof),
-            _ => |number| (number == 3).then_some(ErrorKind::WouldBlock),
-        };
+        let fails = |number| (number == 3).then_some(kind);
         let mut pipe = Pipe::new(&bytes, 4096, fails);
         assert_eq!(broken_read(stream_size(&mut pipe)), Some(3));
         assert_eq!(pipe.reads, 4, "no read behind the one that fails");
