@@ -772,10 +772,10 @@ static bool streamed(const struct input *of, size_t length, uint64_t total, size
     return same(result, finished(&stream));
 }
 
-/* The most bytes of a piece. */
+/* The most bytes of a piece: all, one, or any number. */
 static size_t some_piece(size_t length)
 {
-    return once_in(16) || length == 0 ? 1 : 1 + below(length);
+    return length == 0 || once_in(32) ? 1 : once_in(4) ? 1 + below(length) : length;
 }
 
 /* A whole input in pieces, with its length known or not. */
