@@ -21,8 +21,9 @@
  *     parts     if each requested span is fetched, with bytes around it or in pieces, the result is that of the whole input, and
  *               the call writes nothing else
  *     missing   if one byte of the spans is missing, that byte is requested; if any other byte is missing, the result is the same
- *     stream    in chunks of any length, with its length or without, a push parser gives the result of the whole input, and writes
- *               nothing else
+ *     stream    pushed in pieces, with the length known or not, an input has the result of the whole: if the length is known, as soon
+ *               as the spans have come. From then on each call returns it. Until then a call writes nothing
+ *     ended     a stream that ends after some bytes, or whose length is that of these, has the result of these bytes
  *     typed     the size as the input's own type is its size; as another type, the whole input and its parts give the same size
  *     read      imagesize_file.h over a file, in blocks of 16 bytes, finds the result of the whole input, and reads within it
  *     cut       with each read cut short, and some interrupted, it finds the same
@@ -62,11 +63,11 @@ struct answer {
 /* The counts. */
 enum counter {
     INPUTS, PROBES, VECTORS, FRONTS_OF_SAMPLES, CHANGES_OF_ONE, CHANGES_OF_TWO, CALLS, LOCAL, APPENDED, FRONT, BY_PARTS, MISSING, STREAM,
-    TYPED, READ, CUT, FAILING, COUNTERS
+    ENDED, TYPED, READ, CUT, FAILING, COUNTERS
 };
 static const char *const counter_names[COUNTERS] = {
     "inputs", "probes", "samples", "fronts of samples", "changes of one byte", "changes of two bytes", "calls", "local",
-    "appended", "front", "parts", "missing", "stream", "typed", "read", "cut", "failing",
+    "appended", "front", "parts", "missing", "stream", "ended", "typed", "read", "cut", "failing",
 };
 static unsigned long long counted[COUNTERS], results[TYPES][STATUSES];
 
@@ -639,22 +640,32 @@ static bool add_part(const struct input *of, imagesize_span part)
     return true;
 }
 
-/* The result over the known parts. Numbers that the call does not write are 0. If it wrote too much, the status is STATUSES. */
-static struct answer probe_known(uint64_t total, imagesize_span *wanted)
+/* Each number before a call that may write it. */
+#define UNWRITTEN UINT32_C(0xFEFEFEFE)
+static const struct answer unwritten = {0, UNWRITTEN, UNWRITTEN, UNWRITTEN, UNWRITTEN};
+
+/* The result of a call. Numbers that it did not write are 0. If it wrote too much, the status is STATUSES. */
+static struct answer as_written(struct answer found)
 {
-    const uint32_t unwritten = 0xFEFEFEFE;
-    struct answer found = {0, unwritten, unwritten, unwritten, unwritten};
-    const imagesize_span before = *wanted;
-    counted[PROBES]++;
-    found.status = imagesize_probe_parts(known.bytes, known.length, known.spans, known.count, total, &found.type, &found.compression,
-                                         &found.width, &found.height, wanted);
-    bool is_wanted = found.status == IMAGESIZE_BYTES_WANTED, is_typed = found.type != unwritten, is_sized = found.status == IMAGESIZE_ANSWERED;
-    if ((is_wanted && is_typed) || (!is_wanted && (wanted->start != before.start || wanted->len != before.len))
-        || (found.compression != unwritten) != is_typed || (found.width != unwritten) != is_sized || (found.height != unwritten) != is_sized) {
+    bool is_wanted = found.status == IMAGESIZE_BYTES_WANTED, is_typed = found.type != UNWRITTEN, is_sized = found.status == IMAGESIZE_ANSWERED;
+    if ((is_wanted && is_typed) || (found.compression != UNWRITTEN) != is_typed || (found.width != UNWRITTEN) != is_sized
+        || (found.height != UNWRITTEN) != is_sized) {
         return (struct answer){.status = STATUSES};
     }
     return (struct answer){found.status, is_typed ? found.type : 0, is_typed ? found.compression : 0, is_sized ? found.width : 0,
                            is_sized ? found.height : 0};
+}
+
+/* The result over the known parts. If the call wrote a span that is not needed, the status is STATUSES. */
+static struct answer probe_known(uint64_t total, imagesize_span *wanted)
+{
+    struct answer found = unwritten;
+    const imagesize_span before = *wanted;
+    counted[PROBES]++;
+    found.status = imagesize_probe_parts(known.bytes, known.length, known.spans, known.count, total, &found.type, &found.compression,
+                                         &found.width, &found.height, wanted);
+    bool is_kept = wanted->start == before.start && wanted->len == before.len;
+    return found.status == IMAGESIZE_BYTES_WANTED || is_kept ? as_written(found) : (struct answer){.status = STATUSES};
 }
 
 /* Fetching each requested span gives the result of the whole input: with up to `around` bytes on each side, or at most `most` bytes
@@ -725,30 +736,92 @@ static bool without_any(const struct input *of, struct answer whole, const image
     return without(of, whole, place, rests_on(spans, count, place));
 }
 
-/* An input in chunks of at most `most` bytes gives the result of the whole input: before its end, by its last byte if the length is
- * known, and at its end. */
-static bool by_chunks(const struct input *of, struct answer whole, uint64_t most)
+static struct answer pushed(imagesize_stream *stream, const uint8_t *bytes, size_t length)
 {
-    const struct answer nothing = {.status = IMAGESIZE_BYTES_WANTED};
-    struct answer found = nothing;
+    struct answer found = unwritten;
+    counted[PROBES]++;
+    found.status = imagesize_stream_push(stream, bytes, length, &found.type, &found.compression, &found.width, &found.height);
+    return as_written(found);
+}
+
+static struct answer finished(imagesize_stream *stream)
+{
+    struct answer found = unwritten;
+    counted[PROBES]++;
+    found.status = imagesize_stream_finish(stream, &found.type, &found.compression, &found.width, &found.height);
+    return as_written(found);
+}
+
+/* Pushes the first bytes of an input in pieces of at most `most` bytes; some are empty. Each result is `result`, and one comes as soon as
+ * `last` bytes were pushed. */
+static bool streamed(const struct input *of, size_t length, uint64_t total, size_t most, struct answer result, uint64_t last)
+{
     imagesize_stream stream;
-    uint64_t total = once_in(2) ? IMAGESIZE_LENGTH_UNKNOWN : once_in(4) ? of->length + below(100) : of->length;
-    counted[STREAM]++;
-    memset(&stream, 0xA5, sizeof stream);
+    size_t at = 0;
+    bool is_known = false;
     imagesize_stream_new(&stream, total);
-    for (size_t at = 0, length; at <= of->length; at += length + (length == 0)) {
-        length = 1 + below(most);
-        length = length < of->length - at ? length : of->length - at;
-        found.status = imagesize_stream_push(&stream, of->bytes + at, length, &found.type, &found.compression, &found.width, &found.height);
-        if (!same(whole, found) && !same(nothing, found)) {
+    do {
+        size_t left = length - at < most ? length - at : most, piece = left == 0 || once_in(16) ? 0 : 1 + below(left);
+        struct answer found = pushed(&stream, of->bytes + at, piece);
+        at += piece;
+        if (found.status == IMAGESIZE_BYTES_WANTED ? is_known || at >= last : !same(result, found)) {
             return false;
         }
+        is_known = found.status != IMAGESIZE_BYTES_WANTED;
+    } while (at < length);
+    return same(result, finished(&stream));
+}
+
+/* The most bytes of a piece: all, one, or any number. */
+static size_t some_piece(size_t length)
+{
+    return length == 0 || once_in(32) ? 1 : once_in(4) ? 1 + below(length) : length;
+}
+
+/* A whole input in pieces, with its length known or not. */
+static bool by_stream(const struct input *of, struct answer whole, const imagesize_span *spans, size_t count)
+{
+    size_t most = some_piece(of->length);
+    uint64_t last = 0;
+    counted[STREAM]++;
+    if (once_in(2)) {
+        uint64_t unknown = once_in(2) ? IMAGESIZE_LENGTH_UNKNOWN : (UINT64_C(1) << 63) + of->length;
+        return streamed(of, of->length, unknown, most, whole, UINT64_MAX);
     }
-    if (total == of->length && !same(whole, found)) {
-        return false;
+    for (size_t at = 0; at < count; at++) {
+        uint64_t end = spans[at].start + spans[at].len;
+        last = end > last ? end : last;
     }
-    found.status = imagesize_stream_finish(&stream, &found.type, &found.compression, &found.width, &found.height);
-    return same(whole, found);
+    return streamed(of, of->length, of->length, most, whole, last);
+}
+
+/* A stream that ends after some bytes, or whose length is so many. */
+static bool stream_ends(const struct input *of, size_t length)
+{
+    size_t most = some_piece(length);
+    struct answer front = probe(of->bytes, length);
+    counted[ENDED]++;
+    if (once_in(3)) {
+        return streamed(of, of->length, length, most, front, length);
+    }
+    return streamed(of, length, once_in(2) ? of->length : IMAGESIZE_LENGTH_UNKNOWN, most, front, UINT64_MAX);
+}
+
+/* A stream that ends after each byte, up to the one that has the result. Each time a copy of the state ends, and the stream goes on. */
+static bool stream_ends_anywhere(const struct input *of, uint64_t total)
+{
+    imagesize_stream stream;
+    struct answer found = {.status = IMAGESIZE_BYTES_WANTED};
+    imagesize_stream_new(&stream, total);
+    for (size_t length = 0; length < of->length && found.status == IMAGESIZE_BYTES_WANTED; length++) {
+        imagesize_stream copy = stream;
+        counted[ENDED]++;
+        if (!same(probe(of->bytes, length), finished(&copy))) {
+            return false;
+        }
+        found = pushed(&stream, of->bytes + length, 1);
+    }
+    return true;
 }
 
 /* The size as this type over the known parts. The compression does not matter. */
@@ -913,7 +986,8 @@ static const char *broken(const struct input *of, bool sample)
         : !front_lasts(of, whole, of->length ? below(of->length) : 0)                           ? "front"
         : !(once_in(3) ? by_parts(of, whole, 0, 1 + below(9)) : by_parts(of, whole, below(40), ROOM)) ? "parts"
         : !without_any(of, whole, spans, count)                                                 ? "missing"
-        : !by_chunks(of, whole, once_in(2) ? 3 : of->length + 1)                                ? "stream"
+        : !by_stream(of, whole, spans, count)                                                   ? "stream"
+        : !stream_ends(of, of->length ? below(of->length) : 0)                                  ? "ended"
                                                                                                 : NULL;
 }
 
@@ -929,7 +1003,8 @@ static const char *broken_file(const struct input *of)
         law = front_lasts(of, whole, length) ? NULL : "front";
     }
     law = law ? law : by_parts(of, whole, 0, 1) ? NULL : "parts";
-    law = law ? law : by_chunks(of, whole, 1) ? NULL : "stream";
+    bool ends = law || (stream_ends_anywhere(of, of->length) && stream_ends_anywhere(of, IMAGESIZE_LENGTH_UNKNOWN));
+    law = law ? law : ends ? NULL : "ended";
     law = law ? law : broken_reads(of, whole, true);
     for (size_t at = 0; at < count; at++) {
         for (uint64_t place = spans[at].start ? spans[at].start - 1 : 0; !law && place <= spans[at].start + spans[at].len; place++) {
