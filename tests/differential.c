@@ -807,13 +807,15 @@ static bool stream_ends(const struct input *of, size_t length)
     return streamed(of, length, once_in(2) ? of->length : IMAGESIZE_LENGTH_UNKNOWN, most, front, UINT64_MAX);
 }
 
-/* A stream that ends after each byte, up to the one that has the result. Each time a copy of the state ends, and the stream goes on. */
+/* A stream that ends after each of the first bytes, up to the one that has the result. Each time a copy of the state ends, and the
+ * stream goes on. */
 static bool stream_ends_anywhere(const struct input *of, uint64_t total)
 {
     imagesize_stream stream;
     struct answer found = {.status = IMAGESIZE_BYTES_WANTED};
+    size_t most = of->length < MOST ? of->length : MOST;
     imagesize_stream_new(&stream, total);
-    for (size_t length = 0; length < of->length && found.status == IMAGESIZE_BYTES_WANTED; length++) {
+    for (size_t length = 0; length < most && found.status == IMAGESIZE_BYTES_WANTED; length++) {
         imagesize_stream copy = stream;
         counted[ENDED]++;
         if (!same(probe(of->bytes, length), finished(&copy))) {
