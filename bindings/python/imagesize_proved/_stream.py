@@ -4,7 +4,7 @@ from __future__ import annotations
 
 import mmap
 import sys
-from collections.abc import AsyncGenerator, Generator
+from collections import abc
 from typing import AsyncIterable, AsyncIterator, Awaitable, Callable, Iterable, Iterator, NoReturn, Optional, Protocol, Union
 
 from ._library import Stream, Told
@@ -106,7 +106,7 @@ def is_read_once(image: object) -> bool:
     try:
         memoryview(image)  # type: ignore[arg-type]
     except TypeError:
-        return isinstance(image, Iterable)
+        return isinstance(image, abc.Iterable)
     return False
 
 
@@ -127,13 +127,13 @@ def read_once(image: Chunks, budget: int) -> Told:
             if stream._add(chunk):
                 break
     finally:
-        if isinstance(chunks, Generator):
+        if isinstance(chunks, abc.Generator):
             chunks.close()
     return stream._end()
 
 
 def _chunks(image: Chunks, stream: StreamProbe) -> Iterable[BytesLike]:
-    if isinstance(image, Iterable) and not hasattr(image, "read"):
+    if isinstance(image, abc.Iterable) and not hasattr(image, "read"):
         return image
     read = getattr(image, "read1", None) or image.read  # read1 does not wait for a whole block
     return iter(lambda: read(min(BLOCK, stream._left)), b"")
@@ -148,7 +148,7 @@ async def read_once_async(image: AsyncChunks, total: Optional[int], budget: int)
             if stream._add(chunk):
                 break
     finally:
-        if isinstance(chunks, AsyncGenerator):
+        if isinstance(chunks, abc.AsyncGenerator):
             await chunks.aclose()
     return stream._end()
 
@@ -156,7 +156,7 @@ async def read_once_async(image: AsyncChunks, total: Optional[int], budget: int)
 def _awaited_chunks(image: AsyncChunks, stream: StreamProbe) -> AsyncIterator[BytesLike]:
     if hasattr(image, "read"):
         return _blocks(image.read, stream)
-    if isinstance(image, AsyncIterable):
+    if isinstance(image, abc.AsyncIterable):
         return image.__aiter__()
     raise TypeError(f"an asynchronous image is a function, a file or chunks of bytes, and not {type(image).__name__}")
 

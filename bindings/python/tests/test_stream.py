@@ -161,6 +161,7 @@ class Feeding(unittest.TestCase):
         for length in range(24):
             self.assertEqual(line(ended, PNG[:length]), line(imagesize.probe, PNG[:length]))
             self.assertEqual(line(StreamProbe(length).feed, PNG), line(imagesize.probe, PNG[:length]))
+            self.assertEqual(line(fed, pieces(PNG, 10), length), line(imagesize.probe, PNG[:length]))
         with self.assertRaises(ImageError) as raised:
             ended(PNG[:23])
         self.assertIs(getattr(raised.exception.image_type, "kind", None), Kind.PNG)
