@@ -305,8 +305,8 @@ uint32_t imagesize_stream_push(imagesize_stream *stream, const uint8_t *bytes, s
                                uint64_t *width, uint64_t *height);
 
 /*
- * Ends the input. Status, type, compression, width and height are those of imagesize_probe over the bytes that were passed. The
- * status is never IMAGESIZE_BYTES_WANTED. The memory is free then.
+ * Ends the input. Status, type, compression, width and height are those of imagesize_probe over the bytes that were passed, without
+ * those past the length. The status is never IMAGESIZE_BYTES_WANTED. Then the memory is free, or may be begun again.
  */
 uint32_t imagesize_stream_finish(imagesize_stream *stream, uint32_t *type, uint32_t *compression, uint64_t *width, uint64_t *height);
 
