@@ -24,11 +24,7 @@ pub trait Fixed {
 
 /// Reads it from the first bytes of an input of at most `told` bytes. If they do not tell it, the reading fails.
 /// Also returns the offset after the last byte that the failed read requests.
-pub fn read_front<F: Fixed>(
-    fixed: &F,
-    bytes: &[u8],
-    told: u64,
-) -> (Result<F::Answer, Halt>, u64)
+pub fn read_front<F: Fixed>(fixed: &F, bytes: &[u8], told: u64) -> (Result<F::Answer, Halt>, u64)
     requires fits { length bytes.now ≤ told }
     requires short { told < 2 ^ 63 }
     ensures says { is_faulted result.0 ≡ false → Says bytes.now told (λ d. layout_reads d (F.layout fixed.now)) result.0 }
