@@ -146,7 +146,8 @@ module _ {C X : Type 0} (c : Chain C X) (P : List C → Type 0) (t : Along C) (t
   pub rests_left : (k : ℕ) → Reaches c k → ((e : List ℕ) → Advances c e) → (d : List ℕ) → Begins front told d
       → length d ≡ told
       → AllBelow place (chain_from c d t).marks → ⊥
-  rests_left k reaches adv d begins as_long below = none what.0.start (subst (λ w. is_covered w.marks what.0.start ≡ true) same first) where
+  rests_left k reaches adv d begins as_long below =
+      none what.0.start (subst (λ w. is_covered w.marks what.0.start ≡ true) same first) where
     none : (p : ℕ) → is_covered (chain_from c d u).marks p ≡ true → ⊥
     none p here =
         let early = below p (subst (λ w. is_covered w.marks p ≡ true) (sym (leads_begun d begins))

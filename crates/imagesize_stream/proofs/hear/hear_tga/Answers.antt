@@ -73,14 +73,14 @@ returns-then-is_by_header-clause-hears c =
     let is = sym c.is_by_header.ensures ∙ c.if-is_by_header.true in (
       header_type c.args.bytes.now c.args.told c.args.head.now c.requires.first c.requires.fits c.in-Ok.sound
           c.in-Ok-size.size
-          (said_ok c.args.bytes.now c.args.told (tga_by_header c.args.head.now) c.read_front-sound.result.0 c.in-Ok.sound
-          c.in-Ok.is c.read_front-sound.ensures.says)
+          (said_ok c.args.bytes.now c.args.told (tga_by_header c.args.head.now) c.read_front-sound.result.0
+          c.in-Ok.sound c.in-Ok.is c.read_front-sound.ensures.says)
           (said_ok c.args.bytes.now c.args.told tga c.read_front-size.result.0 c.in-Ok-size.size
           c.in-Ok-size.is c.read_front-size.ensures.says) c.if-bytes-lt18.false is,
       header_size c.args.bytes.now c.args.told c.args.head.now c.requires.first c.requires.fits c.in-Ok.sound
           c.in-Ok-size.size
-          (said_ok c.args.bytes.now c.args.told (tga_by_header c.args.head.now) c.read_front-sound.result.0 c.in-Ok.sound
-          c.in-Ok.is c.read_front-sound.ensures.says)
+          (said_ok c.args.bytes.now c.args.told (tga_by_header c.args.head.now) c.read_front-sound.result.0
+          c.in-Ok.sound c.in-Ok.is c.read_front-sound.ensures.says)
           (said_ok c.args.bytes.now c.args.told tga c.read_front-size.result.0 c.in-Ok-size.size
           c.in-Ok-size.is c.read_front-size.ensures.says) c.if-bytes-lt18.false is,
     )
@@ -91,8 +91,8 @@ returns-clause-hears c =
       c.if-bytes-lt18.false,
       footer_decides c.args.bytes.now c.args.told c.args.head.now c.requires.first c.requires.fits c.in-Ok.sound
           c.in-Ok-size.size
-          (said_ok c.args.bytes.now c.args.told (tga_by_header c.args.head.now) c.read_front-sound.result.0 c.in-Ok.sound
-          c.in-Ok.is c.read_front-sound.ensures.says)
+          (said_ok c.args.bytes.now c.args.told (tga_by_header c.args.head.now) c.read_front-sound.result.0
+          c.in-Ok.sound c.in-Ok.is c.read_front-sound.ensures.says)
           (said_ok c.args.bytes.now c.args.told tga c.read_front-size.result.0 c.in-Ok-size.size
           c.in-Ok-size.is c.read_front-size.ensures.says) c.if-bytes-lt18.false is,
     )

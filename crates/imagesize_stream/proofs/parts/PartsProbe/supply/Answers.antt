@@ -24,7 +24,8 @@ pub returns-clause-further : goal.returns-clause-further
 returns-clause-further c =
     let s = c.args.self.now.probe in let t = c.take_in.new.self in let u = c.skip.new.self in
     gets_further (answer_of s) (answer_of u) s.stand u.stand c.args.offset (length c.args.bytes.now) (λ none later some.
-    let ahead = ahead_none s.kind s.stage s.stand.start s.stand.passed s.stand.end s.stand.told none c.args.self.now.ahead in
+    let ahead = ahead_none s.kind s.stage s.stand.start s.stand.passed s.stand.end s.stand.told none
+    c.args.self.now.ahead in
     let many = awaiting_none t.kind t.stage (sym c.skip.ensures.keeps ∙ later) c.take_in.ensures.passed in
     let behind = c.skip.ensures.later in
     omega (
