@@ -292,11 +292,11 @@ given_on stage kind stand room d cut passed was as_long is same holds many came 
 pub ahead_behind : (stage : Stage) (start passed next end told : ℕ) → next ≡ max passed start
     → AheadBy stage start passed end told → AheadBy stage start next end told
 ahead_behind First start passed next end told is ahead =
-    (omega (arith, is, ahead.0, ahead.1.0), ahead.1.0, ahead.1.1)
+    (omega (arith, is, ahead.0, ahead.1.0), ahead.1)
 ahead_behind (Records awaited) start passed next end told is ahead =
-    (omega (arith, is, ahead.0, ahead.1.0), ahead.1.0, ahead.1.1)
+    (omega (arith, is, ahead.0, ahead.1.0), ahead.1)
 ahead_behind (Footer size) start passed next end told is ahead =
-    (omega (arith, is, ahead.0, ahead.1.0), ahead.1.0, ahead.1.1)
+    (omega (arith, is, ahead.0, ahead.1.0), ahead.1)
 ahead_behind (Done size) start passed next end told is ahead = tt
 
 pub ahead_none : (kind : Option ImageType) (stage : Stage) (start passed end told : ℕ)

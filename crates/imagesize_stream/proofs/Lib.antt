@@ -12,4 +12,4 @@ pub mod Footers
 pub mod Ending
 pub mod Words
 pub mod Given
-pub mod Parts
+pub mod Requests

@@ -2,7 +2,7 @@ use Rattle.std.proofs.Common.{◌-◌, drop, length, min, sym, ap, ◌∙◌, su
 use Rattle.std.proofs.lemmas.List.{length-drop, length-take}
 use Rattle.imagesize_stream.proofs.Ending.{awaiting_none}
 use Rattle.imagesize_stream.proofs.Given.{ahead_none, given_later}
-use Rattle.imagesize_stream.proofs.Parts.{gets_further, no_gap}
+use Rattle.imagesize_stream.proofs.Requests.{gets_further, no_gap}
 use Rattle.imagesize_stream.specs.Given.{HasPart}
 use Rattle.imagesize_stream.specs.Pushed.{answer_of}
 use Rattle.imagesize_stream.proofs.parts.PartsProbe.supply.Goals as goal
