@@ -1,4 +1,4 @@
-use Rattle.std.proofs.Common.{◌-◌, drop, length, min, sym, ap, ◌∙◌, subst, arith}
+use Rattle.std.proofs.Common.{◌-◌, length, sym, ap, ◌∙◌, subst, arith}
 use Rattle.std.proofs.lemmas.List.{length-drop, length-take}
 use Rattle.imagesize_stream.proofs.Ending.{awaiting_none}
 use Rattle.imagesize_stream.proofs.Given.{ahead_none, given_later}
