@@ -1,5 +1,5 @@
 -- An input that arrives in chunks: what the bytes so far say about every input that begins with them.
-use Rattle.std.specs.Prelude.{◌≡◌, ℕ, ◌+◌, ◌≤◌, ◌<◌, true, List, [], ◌∷◌, ◌++◌, length, take, drop, Option, Result}
+use Rattle.std.specs.Prelude.{◌≡◌, ℕ, ◌+◌, ◌≤◌, ◌<◌, true, List, [], ◌∷◌, ◌++◌, length, take, drop, Option, None, Some, Result}
 use Rattle.imagesize_source.specs.Agreement.{is_covered}
 use Rattle.imagesize_source.specs.Known.{byte_in_parts, filled_input, parts_state}
 use Rattle.imagesize_source.specs.Layout.{Layout, done, refuse, field, reading}
@@ -51,6 +51,11 @@ stream_input told start kept chunk = filled_input told (came start kept chunk) (
 -- these bytes as a source
 abbrev pub stream_state : ℕ → ℕ → List ℕ → List ℕ → List Span → Option Missing → State
 stream_state told start kept chunk seen missed = parts_state told (came start kept chunk) (kept ++ chunk) seen missed
+
+-- the offset after the last byte that a read requests that missed bytes
+abbrev pub end_of : Option Missing → ℕ
+end_of None = 0
+end_of (Some m) = m.start + m.most
 
 -- The first `passed` bytes of an input of at most `told` bytes arrived. Those from `start` on are kept. The next record
 -- of the walk is at `place`. For every input that begins so, the reads are some spans, then those from that record on.

@@ -23,18 +23,23 @@ pub trait Fixed {
 }
 
 /// Reads the value from the first bytes of an input of at most `told` bytes. The read fails if a byte that it needs is missing.
-pub fn read_front<F: Fixed>(fixed: &F, bytes: &[u8], told: u64) -> Result<F::Answer, Halt>
+/// Also returns the offset after the last byte that a failed read requests.
+pub fn read_front<F: Fixed>(fixed: &F, bytes: &[u8], told: u64) -> (Result<F::Answer, Halt>, u64)
     requires fits { length bytes.now ≤ told }
     requires short { told < 2 ^ 63 }
-    ensures says { is_faulted result ≡ false → Says bytes.now told (λ d. layout_reads d (F.layout fixed.now)) result }
-    ensures unstopped { is_faulted result ≡ false → is_stopped result ≡ false }
-    ensures few { is_faulted result ≡ true → (high : ℕ) → Reach 0 high (F.layout fixed.now) → length bytes.now < high }
-    ensures complete { is_faulted result ≡ true → (d : List ℕ) → Begins bytes.now told d → length d ≡ told
+    ensures says { is_faulted result.0 ≡ false → Says bytes.now told (λ d. layout_reads d (F.layout fixed.now)) result.0 }
+    ensures unstopped { is_faulted result.0 ≡ false → is_stopped result.0 ≡ false }
+    ensures few { is_faulted result.0 ≡ true → (high : ℕ) → Reach 0 high (F.layout fixed.now) → length bytes.now < high }
+    ensures complete { is_faulted result.0 ≡ true → (d : List ℕ) → Begins bytes.now told d → length d ≡ told
         → AllBelow (length bytes.now) (layout_reads d (F.layout fixed.now)).marks → ⊥ }
 
     // If all bytes of the input are here, the read does not fail.
-    ensures whole { told ≤ length bytes.now → is_faulted result ≡ false }
+    ensures whole { told ≤ length bytes.now → is_faulted result.0 ≡ false }
+
+    // A failed read requests more than these bytes.
+    ensures ends { is_faulted result.0 ≡ true → (length bytes.now < result.1) × (result.1 ≤ told) }
 {
     let mut source = StreamSource::new(0, bytes, &[], told);
-    fixed.read(&mut source)
+    let found = fixed.read(&mut source);
+    (found, source.end())
 }

@@ -6,7 +6,7 @@ ghost use Rattle.imagesize_source.specs.Input.{part, span_at};
 ghost use Rattle.imagesize_source.specs.Known.{AllKnown, Lacks};
 ghost use Rattle.imagesize_source.specs.Reading.{part_read, map_answer};
 ghost use Rattle.imagesize_source.specs.State.{Runs};
-ghost use Rattle.imagesize_pieces.specs.Stream.{byte_at, came, stream_input, stream_state};
+ghost use Rattle.imagesize_pieces.specs.Stream.{byte_at, came, end_of, stream_input, stream_state};
 
 use crate::room::bytes_behind;
 use imagesize_source::source::Source;
@@ -53,6 +53,16 @@ impl<'a> StreamSource<'a> {
             told,
             missed: None,
             log: SpanLog::new(),
+        }
+    }
+
+    /// The offset after the last byte that the last failed read requests.
+    pub fn end(&self) -> u64
+        ensures { result ≡ end_of self.now.missed }
+    {
+        match self.missed {
+            Some(missing) => missing.start + missing.most,
+            None => 0,
         }
     }
 

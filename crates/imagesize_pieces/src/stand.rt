@@ -10,6 +10,8 @@ pub struct Stand {
     pub place: u64,
     /// How many bytes arrived.
     pub passed: u64,
+    /// The offset after the last byte that the read that missed a byte requests.
+    pub end: u64,
     /// How many bytes the input has at most.
     pub told: u64,
     ghost ahead: { start ≤ place },

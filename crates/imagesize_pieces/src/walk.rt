@@ -32,6 +32,9 @@ pub fn read_on<R: Records>(
     ensures stays { IfSome result (λ _. (stand.new ≡ stand.old) × (room.new ≡ room.old)) }
     ensures unstopped { IfSome result (λ answer. is_stopped answer ≡ false) }
 
+    // The read that a byte is missing for requests more than the bytes that arrived, and more than the records before it.
+    ensures ends { result ≡ None → (stand.new.passed < stand.new.end) × (stand.new.start < stand.new.end) × (stand.new.end ≤ stand.new.told) }
+
     // If all bytes of the input arrived, there is a result.
     ensures whole { stand.old.told ≤ stand.old.passed + length chunk.now → result ≡ None → ⊥ }
 
@@ -46,6 +49,10 @@ pub fn read_on<R: Records>(
         → Stands first (R.said records.old) (R.keeps records.old) stand.old room.old whole front
         → (d : List ℕ) → Begins (front ++ chunk.now) stand.old.told d → length d ≡ stand.old.told
         → AllBelow (length front + length chunk.now) (whole d).marks → ⊥ }
+    ensures starts { result ≡ None → (first : ℕ) (whole : List ℕ → Reads R.Answer) (front : List ℕ)
+        → Stands first (R.said records.old) (R.keeps records.old) stand.old room.old whole front
+        → (d : List ℕ) → Begins (front ++ chunk.now) stand.old.told d → length d ≡ stand.old.told
+        → AllBelow stand.new.start (whole d).marks → ⊥ }
 {
     let passed = stand.passed + chunk.len() as u64;
     let start = stand.start.min(passed);
@@ -55,6 +62,7 @@ pub fn read_on<R: Records>(
     let mut place = stand.place;
     let found = walk_on(records, &mut place, &mut source);
     if is_faulted(&found) {
+        stand.end = source.end();
         keep_behind(room, count, unread, place.saturating_sub(start));
         stand.start = place;
         stand.place = place;

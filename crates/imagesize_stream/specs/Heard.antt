@@ -1,5 +1,5 @@
 -- What the first bytes say about every image that begins with them.
-use Rattle.std.specs.Prelude.{◌≡◌, ℕ, ◌-◌, ◌≤◌, true, List, length, if◌then◌else◌, Option, Result, Ok, Err, IfSome}
+use Rattle.std.specs.Prelude.{◌≡◌, ℕ, ◌-◌, ◌<◌, ◌≤◌, true, List, length, if◌then◌else◌, Option, Result, Ok, Err, IfSome}
 use Rattle.std.specs.Result.{result_ok}
 use Rattle.imagesize.specs.Meaning.{kind_reads, meaning_reads}
 use Rattle.imagesize.specs.declared.types.ImageType.{ImageType}
@@ -26,9 +26,13 @@ TypeIs front told image = (d : List ℕ) → Begins front told d → result_ok (
 abbrev pub SizeIs : List ℕ → ℕ → Result ImageSize Halt → Type 0
 SizeIs front told size = (d : List ℕ) → Begins front told d → (meaning_reads d 0).answer ≡ size
 
+-- each input of the reported length that begins so depends on a byte at this offset or after it
+abbrev pub RestsFrom : ℕ → List ℕ → ℕ → Type 0
+RestsFrom offset front told = (d : List ℕ) → Begins front told d → length d ≡ told → AllBelow offset (meaning_reads d 0).marks → ⊥
+
 -- no input of the reported length that begins so depends on these bytes alone
 abbrev pub RestsOnMore : List ℕ → ℕ → Type 0
-RestsOnMore front told = (d : List ℕ) → Begins front told d → length d ≡ told → AllBelow (length front) (meaning_reads d 0).marks → ⊥
+RestsOnMore front told = RestsFrom (length front) front told
 
 -- the input is a TGA of this size if its footer says so, and the result depends on its last byte
 pub record IsByFooter (size : ImageSize) (d : List ℕ) : Type 0 where
@@ -38,7 +42,7 @@ pub record IsByFooter (size : ImageSize) (d : List ℕ) : Type 0 where
 
 -- what the first bytes say is true of every input that begins so
 abbrev pub Hears : List ℕ → ℕ → Heard → Type 0
-Hears front told (Missing image) = RestsOnMore front told × IfSome image (λ type. Says front told (λ d. kind_reads d 0) (Ok type))
+Hears front told (Missing image end) = RestsOnMore front told × IfSome image (λ type. Says front told (λ d. kind_reads d 0) (Ok type))
 Hears front told (Answer image size) = TypeIs front told image × SizeIs front told size
 Hears front told (Records image next place) =
     IsSteady next place × Says front told (λ d. kind_reads d 0) (Ok image)
@@ -47,7 +51,14 @@ Hears front told (Footer size) = (18 ≤ length front) × ((d : List ℕ) → Be
 
 -- P, if bytes are missing
 abbrev pub IfMissing : Heard → Type 0 → Type 0
-IfMissing (Missing image) P = P
+IfMissing (Missing image end) P = P
 IfMissing (Answer image size) P = Unit {0}
 IfMissing (Records image next place) P = Unit {0}
 IfMissing (Footer size) P = Unit {0}
+
+-- the read that missed a byte requests more than these bytes, and none past the end
+abbrev pub EndsBehind : List ℕ → ℕ → Heard → Type 0
+EndsBehind front told (Missing image end) = (length front < end) × (end ≤ told)
+EndsBehind front told (Answer image size) = Unit {0}
+EndsBehind front told (Records image next place) = Unit {0}
+EndsBehind front told (Footer size) = Unit {0}

@@ -1,5 +1,5 @@
 -- A probe whose bytes arrive in chunks: which bytes arrived, and what they say.
-use Rattle.std.specs.Prelude.{◌≡◌, ℕ, ◌-◌, ◌<◌, ◌≤◌, List, length, drop, take, Option, Some, IfSome}
+use Rattle.std.specs.Prelude.{◌≡◌, ℕ, ◌+◌, ◌-◌, ◌<◌, ◌≤◌, List, length, drop, take, Option, Some, IfSome}
 use Rattle.std.specs.Coded.{Unit-prop, le_prop, ×_prop}
 use Rattle.imagesize.specs.Meaning.{meaning_reads}
 use Rattle.imagesize.specs.declared.types.ImageType.{ImageType}
@@ -51,3 +51,19 @@ IfAwaiting First P = P
 IfAwaiting (Records next) P = P
 IfAwaiting (Footer size) P = P
 IfAwaiting (Done size) P = Unit {0}
+
+-- While there is no answer, bytes are missing up to this end, behind those that came and behind the start. A footer has 18 bytes.
+abbrev pub AheadBy : Stage → ℕ → ℕ → ℕ → ℕ → Type 0
+AheadBy First start passed end told = (passed < end) × ((start < end) × (end ≤ told))
+AheadBy (Records next) start passed end told = (passed < end) × ((start < end) × (end ≤ told))
+AheadBy (Footer size) start passed end told = (passed < end) × ((start + 18 ≤ end) × (end ≤ told))
+AheadBy (Done size) start passed end told = Unit {0}
+
+pub ahead_prop : (stage : Stage) (start passed end told : ℕ) → IsProp (AheadBy stage start passed end told)
+ahead_prop First start passed end told = ×_prop le_prop (×_prop le_prop le_prop)
+ahead_prop (Records next) start passed end told = ×_prop le_prop (×_prop le_prop le_prop)
+ahead_prop (Footer size) start passed end told = ×_prop le_prop (×_prop le_prop le_prop)
+ahead_prop (Done size) start passed end told = Unit-prop
+
+abbrev pub IsAhead : Stage → Stand → Type 0
+IsAhead stage stand = AheadBy stage stand.start stand.passed stand.end stand.told

@@ -6,7 +6,7 @@ ghost use Rattle.imagesize_pieces.specs.Stream.{Says};
 ghost use Rattle.imagesize_source.specs.Layout.{layout_reads};
 ghost use Rattle.imagesize_stream.specs.declared.front.First.TheVariants as first;
 ghost use Rattle.imagesize_stream.specs.Streamed.{first_layout};
-ghost use Rattle.imagesize_stream.specs.Heard.{Hears, IfMissing};
+ghost use Rattle.imagesize_stream.specs.Heard.{EndsBehind, Hears, IfMissing};
 
 use crate::awaited::Awaited;
 use crate::front::{First, FirstBytes, FirstSize, Opening, TgaHeader, TgaSize};
@@ -23,6 +23,8 @@ pub(crate) enum Heard {
     /// The type needs more bytes or, if there is a type, its size does.
     Missing {
         image: Option<ImageType>,
+        /// The offset after the last byte that the read that missed a byte requests.
+        end: u64,
     },
     /// The type, if one was found, and the size or the error.
     Answer {
@@ -47,11 +49,12 @@ pub(crate) fn hear(bytes: &[u8], told: u64) -> Heard
     requires short { told < 2 ^ 63 }
     ensures hears { Hears bytes.now told result }
     ensures few { IfMissing result (length bytes.now < 132) }
+    ensures ends { EndsBehind bytes.now told result }
     ensures whole { told ≤ length bytes.now → IfMissing result ⊥ }
 {
-    let found = read_front(&FirstBytes, bytes, told);
+    let (found, end) = read_front(&FirstBytes, bytes, told);
     if is_faulted(&found) {
-        return Heard::Missing { image: None };
+        return Heard::Missing { image: None, end };
     }
     let first = match found {
         Ok(first) => first,
@@ -75,11 +78,15 @@ fn hear_size(image: ImageType, bytes: &[u8], told: u64) -> Heard
     requires short { told < 2 ^ 63 }
     ensures hears { Hears bytes.now told result }
     ensures few { IfMissing result (length bytes.now < 132) }
+    ensures ends { EndsBehind bytes.now told result }
     ensures whole { told ≤ length bytes.now → IfMissing result ⊥ }
 {
-    let found = read_front(&FirstSize { image }, bytes, told);
+    let (found, end) = read_front(&FirstSize { image }, bytes, told);
     if is_faulted(&found) {
-        return Heard::Missing { image: Some(image) };
+        return Heard::Missing {
+            image: Some(image),
+            end,
+        };
     }
     let opening = match found {
         Ok(opening) => opening,
@@ -106,6 +113,7 @@ fn hear_tga(head: &[u8; 12], bytes: &[u8], told: u64) -> Heard
     requires short { told < 2 ^ 63 }
     ensures hears { Hears bytes.now told result }
     ensures few { IfMissing result (length bytes.now < 132) }
+    ensures ends { EndsBehind bytes.now told result }
     ensures whole { told ≤ length bytes.now → IfMissing result ⊥ }
 {
     if told < 18 {
@@ -115,13 +123,18 @@ fn hear_tga(head: &[u8; 12], bytes: &[u8], told: u64) -> Heard
         };
     }
     if bytes.len() < 18 {
-        return Heard::Missing { image: None };
+        return Heard::Missing {
+            image: None,
+            end: 18,
+        };
     }
-    let Ok(sound) = read_front(&TgaHeader { head: *head }, bytes, told) else {
-        return Heard::Missing { image: None };
+    let (sound, end) = read_front(&TgaHeader { head: *head }, bytes, told);
+    let Ok(sound) = sound else {
+        return Heard::Missing { image: None, end };
     };
-    let Ok(size) = read_front(&TgaSize, bytes, told) else {
-        return Heard::Missing { image: None };
+    let (size, end) = read_front(&TgaSize, bytes, told);
+    let Ok(size) = size else {
+        return Heard::Missing { image: None, end };
     };
     if is_by_header(sound, head) {
         return Heard::Answer {

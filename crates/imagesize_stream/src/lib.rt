@@ -5,9 +5,11 @@ mod awaited;
 mod front;
 mod hear;
 mod laws;
+mod parts;
 mod probe;
 mod sizes;
 mod stage;
 
 pub use laws::probe_two;
+pub use parts::PartsProbe;
 pub use probe::StreamProbe;

@@ -4,8 +4,9 @@ ghost use Rattle.std.specs.Result.{result_ok};
 ghost use Rattle.imagesize.specs.Meaning.{kind_of, meaning};
 ghost use Rattle.imagesize_pieces.specs.Stream.{AllBelow, Begins};
 ghost use Rattle.imagesize_source.specs.Outcome.{stated};
+ghost use Rattle.imagesize_stream.specs.Given.{HasPart, IsGiven, MayBeAt};
 ghost use Rattle.imagesize_stream.specs.Heard.{RestsOnMore};
-ghost use Rattle.imagesize_stream.specs.Probe.{HoldsAt, IfAwaiting, holds_prop};
+ghost use Rattle.imagesize_stream.specs.Probe.{HoldsAt, IfAwaiting, IsAhead, holds_prop};
 
 use crate::stage::{ROOM, Stage, begin, wait, walk};
 use imagesize::{ImageResult, ImageType};
@@ -42,7 +43,7 @@ const MOST: u64 = (1 << 63) - 1;
 /// ```
 #[derive(Drop)]
 pub struct StreamProbe {
-    stand: Stand,
+    pub(crate) stand: Stand,
     room: [u8; ROOM],
     kind: Option<ImageType>,
     stage: Stage,
@@ -62,6 +63,7 @@ impl StreamProbe {
                 start: 0,
                 place: 0,
                 passed: 0,
+                end: 0,
                 told: total.unwrap_or(MOST).min(MOST),
             },
             room: [0; ROOM],
@@ -124,13 +126,20 @@ impl StreamProbe {
     }
 
     // Reads the next chunk. Bytes past the reported length are not looked at.
-    fn take_in(&mut self, chunk: &[u8])
+    pub(crate) fn take_in(&mut self, chunk: &[u8])
         ensures told { told_of self.new ≡ told_of self.old }
+        ensures ahead { IsAhead self.new.stage self.new.stand }
+        ensures passed { IfAwaiting self.new.stage (self.new.stand.passed
+            ≡ self.old.stand.passed + length (take (self.old.stand.told - self.old.stand.passed) chunk.now)) }
         ensures keeps { IfSome (answer_of self.old) (λ answer. answer_of self.new ≡ Some answer) }
         ensures goes_on { (front : List ℕ) → Came self.old front → Came self.new (front ++ take (told_of self.old - length front) chunk.now) }
         ensures complete { IfAwaiting self.new.stage ((front : List ℕ) → Came self.old front
             → RestsOnMore (front ++ take (told_of self.old - length front) chunk.now) (told_of self.old)) }
         ensures whole { IfAwaiting self.new.stage ((front : List ℕ) → Came self.old front → told_of self.old ≤ length front + length chunk.now → ⊥) }
+
+        // Of each input with these parts:
+        ensures parts { (d : List ℕ) → IsGiven self.old.stage self.old.kind self.old.stand self.old.room d
+            → HasPart d self.old.stand.passed chunk.now → MayBeAt self.new.stage self.new.kind self.new.stand self.new.room d }
     {
         let chunk = front_of(chunk, self.stand.told - self.stand.passed);
         self.stage = match self.stage {
@@ -147,8 +156,24 @@ impl StreamProbe {
         };
     }
 
+    // Skips the bytes that are not needed, up to the first one that is.
+    pub(crate) fn skip(&mut self)
+        requires { IsAhead self.old.stage self.old.stand }
+        ensures told { told_of self.new ≡ told_of self.old }
+        ensures keeps { answer_of self.new ≡ answer_of self.old }
+        ensures ahead { IsAhead self.new.stage self.new.stand }
+        ensures later { self.old.stand.passed ≤ self.new.stand.passed }
+        ensures parts { (d : List ℕ) → MayBeAt self.old.stage self.old.kind self.old.stand self.old.room d
+            → MayBeAt self.new.stage self.new.kind self.new.stand self.new.room d }
+    {
+        if let Stage::Done { .. } = self.stage {
+            return;
+        }
+        self.stand.passed = self.stand.passed.max(self.stand.start);
+    }
+
     // The type and the size, once they are known.
-    fn answer(&self) -> Option<(Option<ImageType>, ImageResult<ImageSize>)>
+    pub(crate) fn answer(&self) -> Option<(Option<ImageType>, ImageResult<ImageSize>)>
         ensures { result ≡ answer_of self.now }
     {
         match self.stage {

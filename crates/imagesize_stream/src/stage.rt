@@ -1,8 +1,10 @@
 //! The stages of a push parser, and how each chunk continues them.
 ghost use Rattle.std.specs.Prelude.{◌≡◌, ℕ, ◌+◌, ◌-◌, ◌<◌, ◌≤◌, ◌++◌, List, Option, length, take};
 ghost use Rattle.imagesize.specs.declared.types.ImageType.{ImageType};
-ghost use Rattle.imagesize_stream.specs.Heard.{RestsOnMore};
-ghost use Rattle.imagesize_stream.specs.Probe.{CameTo, HoldsAt, IfAwaiting};
+ghost use Rattle.imagesize_source.specs.Input.{part};
+ghost use Rattle.imagesize_stream.specs.Given.{IsGiven, MayBeAt};
+ghost use Rattle.imagesize_stream.specs.Heard.{RestsFrom, RestsOnMore};
+ghost use Rattle.imagesize_stream.specs.Probe.{CameTo, HoldsAt, IfAwaiting, IsAhead};
 ghost use Rattle.imagesize_stream.specs.Steps.{IsSteady};
 ghost use Rattle.imagesize_stream.specs.declared.stage.Stage.TheVariants as stage;
 
@@ -43,12 +45,16 @@ pub(crate) fn walk(next: Awaited, stand: &mut Stand, room: &mut [u8; ROOM], chun
     requires fits { stand.old.passed + length chunk.now ≤ stand.old.told }
     ensures told { stand.new.told ≡ stand.old.told }
     ensures holds { HoldsAt result stand.new }
+    ensures ahead { IsAhead result stand.new }
+    ensures passed { IfAwaiting result (stand.new.passed ≡ stand.old.passed + length chunk.now) }
 
     // For each list of bytes that may have arrived before:
     ensures goes_on { (kind : Option ImageType) (front : List ℕ) → CameTo (stage.Records next) kind stand.old room.old front
         → CameTo result kind stand.new room.new (front ++ chunk.now) }
     ensures complete { IfAwaiting result ((kind : Option ImageType) (front : List ℕ) → CameTo (stage.Records next) kind stand.old room.old front
         → RestsOnMore (front ++ chunk.now) stand.old.told) }
+    ensures starts { IfAwaiting result ((kind : Option ImageType) (front : List ℕ) → CameTo (stage.Records next) kind stand.old room.old front
+        → RestsFrom stand.new.start (front ++ chunk.now) stand.old.told) }
     ensures whole { IfAwaiting result (stand.old.told ≤ stand.old.passed + length chunk.now → ⊥) }
 {
     let mut sizes = Sizes { next };
@@ -70,16 +76,27 @@ pub(crate) fn wait(
     requires fits { stand.old.passed + length chunk.now ≤ stand.old.told }
     ensures told { stand.new.told ≡ stand.old.told }
     ensures holds { HoldsAt result stand.new }
+    ensures ahead { IsAhead result stand.new }
+    ensures passed { IfAwaiting result (stand.new.passed ≡ stand.old.passed + length chunk.now) }
     ensures goes_on { (front : List ℕ) → CameTo (stage.Footer size) kind.old stand.old room.old front
         → CameTo result kind.new stand.new room.new (front ++ chunk.now) }
     ensures complete { IfAwaiting result ((front : List ℕ) → CameTo (stage.Footer size) kind.old stand.old room.old front
         → RestsOnMore (front ++ chunk.now) stand.old.told) }
+    ensures starts { IfAwaiting result ((front : List ℕ) → CameTo (stage.Footer size) kind.old stand.old room.old front
+        → RestsFrom stand.new.start (front ++ chunk.now) stand.old.told) }
     ensures whole { IfAwaiting result (stand.old.told ≤ stand.old.passed + length chunk.now → ⊥) }
+
+    // Of each input with these parts:
+    ensures parts { (d : List ℕ) → IsGiven (stage.Footer size) kind.old stand.old room.old d
+        → chunk.now ≡ part d stand.old.passed (length chunk.now) → MayBeAt result kind.new stand.new room.new d }
 {
     let count = chunk.len() as u64;
     keep_behind(room, 18, chunk, count);
     stand.passed += count;
     if stand.passed < stand.told {
+        stand.start = stand.told - 18;
+        stand.place = stand.start;
+        stand.end = stand.told;
         return Stage::Footer { size };
     }
     let mut last = [0u8; 18];
@@ -106,10 +123,14 @@ pub(crate) fn begin(
     requires fits { stand.old.passed + length chunk.now ≤ stand.old.told }
     ensures told { stand.new.told ≡ stand.old.told }
     ensures holds { HoldsAt result stand.new }
+    ensures ahead { IsAhead result stand.new }
+    ensures passed { IfAwaiting result (stand.new.passed ≡ stand.old.passed + length chunk.now) }
     ensures goes_on { (front : List ℕ) → CameTo stage.First kind.old stand.old room.old front
         → CameTo result kind.new stand.new room.new (front ++ chunk.now) }
     ensures complete { IfAwaiting result ((front : List ℕ) → CameTo stage.First kind.old stand.old room.old front
         → RestsOnMore (front ++ chunk.now) stand.old.told) }
+    ensures starts { IfAwaiting result ((front : List ℕ) → CameTo stage.First kind.old stand.old room.old front
+        → RestsFrom stand.new.start (front ++ chunk.now) stand.old.told) }
     ensures whole { IfAwaiting result (stand.old.told ≤ stand.old.passed + length chunk.now → ⊥) }
 {
     let left = FIRST - stand.passed;
@@ -133,14 +154,18 @@ fn begun(
     requires fits { stand.old.passed + length chunk.now ≤ stand.old.told }
     ensures told { stand.new.told ≡ stand.old.told }
     ensures holds { HoldsAt result stand.new }
+    ensures ahead { IsAhead result stand.new }
+    ensures passed { IfAwaiting result (stand.new.passed ≡ stand.old.passed + length chunk.now) }
     ensures goes_on { CameTo result kind.new stand.new room.new (take stand.old.passed room.old ++ chunk.now) }
     ensures complete { IfAwaiting result (RestsOnMore (take stand.old.passed room.old ++ chunk.now) stand.old.told) }
+    ensures starts { IfAwaiting result (RestsFrom stand.new.start (take stand.old.passed room.old ++ chunk.now) stand.old.told) }
     ensures whole { IfAwaiting result (stand.old.told ≤ stand.old.passed + length chunk.now → ⊥) }
 {
     let passed = stand.passed as usize;
     match hear(&room[..passed], stand.told) {
-        Heard::Missing { image } => {
+        Heard::Missing { image, end } => {
             *kind = image;
+            stand.end = end;
             Stage::First
         }
         Heard::Answer { image, size } => {
