@@ -71,7 +71,7 @@ impl StreamProbe {
     /// Begins an input of `total` bytes, or of unknown length.
     ///
     /// If the length is known, bytes past it do not count, and there is a result with the last byte at the latest. If it is not,
-    /// the result of a TGA comes from [`finish`](StreamProbe::finish), since its footer is at the end.
+    /// the result of a TGA that only its footer decides comes from [`finish`](StreamProbe::finish).
     pub fn new(total: Option<u64>) -> StreamProbe {
         let total = total.map_or(sys::LONGEST, |total| total.min(sys::LONGEST));
         StreamProbe {
