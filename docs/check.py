@@ -268,6 +268,7 @@ QUOTED = [
     ("imagesize/src/file.rt", ["size"]),
     ("imagesize/src/calls.rt", ["reader_type", "reader_size", "reader_probe", "ImageType::reader_size"]),
     ("imagesize/src/parts.rt", ["parts_probe", "parts_type", "ImageType::parts_size"]),
+    ("imagesize_stream/src/probe.rt", ["StreamProbe::new", "StreamProbe::push", "StreamProbe::kind", "StreamProbe::finish"]),
     ("imagesize/src/types.rt", ["ImageType::all", "ImageType::name", "ImageType::place"]),
     ("imagesize/src/names.rt", ["ImageType::compression_name"]),
     ("imagesize/src/queries.rt", ["ImageType::compression_family", "ImageType::is_block_compressed", "ImageType::container_format",

@@ -64,8 +64,7 @@ enum imagesize_status {
     IMAGESIZE_BUFFER_TOO_SMALL = 27, /* the result has more items than the buffer */
     IMAGESIZE_UNKNOWN_TYPE = 28, /* no type has these numbers */
     IMAGESIZE_UNKNOWN_STATUS = 29, /* no status has this number */
-    IMAGESIZE_BYTES_WANTED = 30 /* a call over parts needs another part of the input, or imagesize_stream_push needs more bytes;
-                                   no other call returns it */
+    IMAGESIZE_BYTES_WANTED = 30 /* more bytes of the input are needed; only calls over parts and imagesize_stream_push return it */
 };
 
 /* The types of images, with the MIME type and the extension of their files. */
@@ -306,8 +305,8 @@ uint32_t imagesize_stream_push(imagesize_stream *stream, const uint8_t *bytes, s
                                uint64_t *width, uint64_t *height);
 
 /*
- * Ends the input. Status, type, compression, width and height are those of imagesize_probe over the bytes that were passed. The
- * status is never IMAGESIZE_BYTES_WANTED. The memory is free then.
+ * Ends the input. Status, type, compression, width and height are those of imagesize_probe over the bytes that were passed, without
+ * those past the length. The status is never IMAGESIZE_BYTES_WANTED. Then the memory is free, or may be begun again.
  */
 uint32_t imagesize_stream_finish(imagesize_stream *stream, uint32_t *type, uint32_t *compression, uint64_t *width, uint64_t *height);
 

@@ -21,6 +21,8 @@
  *     parts     if each requested span is fetched, with bytes around it or in pieces, the result is that of the whole input, and
  *               the call writes nothing else
  *     missing   if one byte of the spans is missing, that byte is requested; if any other byte is missing, the result is the same
+ *     stream    in chunks of any length, with its length or without, a push parser gives the result of the whole input, and writes
+ *               nothing else
  *     typed     the size as the input's own type is its size; as another type, the whole input and its parts give the same size
  *     read      imagesize_file.h over a file, in blocks of 16 bytes, finds the result of the whole input, and reads within it
  *     cut       with each read cut short, and some interrupted, it finds the same
@@ -59,12 +61,12 @@ struct answer {
 
 /* The counts. */
 enum counter {
-    INPUTS, PROBES, VECTORS, FRONTS_OF_SAMPLES, CHANGES_OF_ONE, CHANGES_OF_TWO, CALLS, LOCAL, APPENDED, FRONT, BY_PARTS, MISSING, TYPED,
-    READ, CUT, FAILING, COUNTERS
+    INPUTS, PROBES, VECTORS, FRONTS_OF_SAMPLES, CHANGES_OF_ONE, CHANGES_OF_TWO, CALLS, LOCAL, APPENDED, FRONT, BY_PARTS, MISSING, STREAM,
+    TYPED, READ, CUT, FAILING, COUNTERS
 };
 static const char *const counter_names[COUNTERS] = {
     "inputs", "probes", "samples", "fronts of samples", "changes of one byte", "changes of two bytes", "calls", "local",
-    "appended", "front", "parts", "missing", "typed", "read", "cut", "failing",
+    "appended", "front", "parts", "missing", "stream", "typed", "read", "cut", "failing",
 };
 static unsigned long long counted[COUNTERS], results[TYPES][STATUSES];
 
@@ -723,6 +725,32 @@ static bool without_any(const struct input *of, struct answer whole, const image
     return without(of, whole, place, rests_on(spans, count, place));
 }
 
+/* An input in chunks of at most `most` bytes gives the result of the whole input: before its end, by its last byte if the length is
+ * known, and at its end. */
+static bool by_chunks(const struct input *of, struct answer whole, uint64_t most)
+{
+    const struct answer nothing = {.status = IMAGESIZE_BYTES_WANTED};
+    struct answer found = nothing;
+    imagesize_stream stream;
+    uint64_t total = once_in(2) ? IMAGESIZE_LENGTH_UNKNOWN : once_in(4) ? of->length + below(100) : of->length;
+    counted[STREAM]++;
+    memset(&stream, 0xA5, sizeof stream);
+    imagesize_stream_new(&stream, total);
+    for (size_t at = 0, length; at <= of->length; at += length + (length == 0)) {
+        length = 1 + below(most);
+        length = length < of->length - at ? length : of->length - at;
+        found.status = imagesize_stream_push(&stream, of->bytes + at, length, &found.type, &found.compression, &found.width, &found.height);
+        if (!same(whole, found) && !same(nothing, found)) {
+            return false;
+        }
+    }
+    if (total == of->length && !same(whole, found)) {
+        return false;
+    }
+    found.status = imagesize_stream_finish(&stream, &found.type, &found.compression, &found.width, &found.height);
+    return same(whole, found);
+}
+
 /* The size as this type over the known parts. The compression does not matter. */
 static struct answer size_known(uint32_t type, uint64_t total, imagesize_span *wanted)
 {
@@ -885,6 +913,7 @@ static const char *broken(const struct input *of, bool sample)
         : !front_lasts(of, whole, of->length ? below(of->length) : 0)                           ? "front"
         : !(once_in(3) ? by_parts(of, whole, 0, 1 + below(9)) : by_parts(of, whole, below(40), ROOM)) ? "parts"
         : !without_any(of, whole, spans, count)                                                 ? "missing"
+        : !by_chunks(of, whole, once_in(2) ? 3 : of->length + 1)                                ? "stream"
                                                                                                 : NULL;
 }
 
@@ -900,6 +929,7 @@ static const char *broken_file(const struct input *of)
         law = front_lasts(of, whole, length) ? NULL : "front";
     }
     law = law ? law : by_parts(of, whole, 0, 1) ? NULL : "parts";
+    law = law ? law : by_chunks(of, whole, 1) ? NULL : "stream";
     law = law ? law : broken_reads(of, whole, true);
     for (size_t at = 0; at < count; at++) {
         for (uint64_t place = spans[at].start ? spans[at].start - 1 : 0; !law && place <= spans[at].start + spans[at].len; place++) {

@@ -1,11 +1,11 @@
--- `imagesize_stream_finish` meets its contract: the stream is moved out from behind the pointer, which leaves room there.
-use Rattle.imagesize_c.proofs.Walks.{◌≡◌, ℕ, true, false, List, [], ◌∷◌, refl, w32, proved, full_share, id⊢, fat, froom, named, Val, vptr, fact, tables, WpFn, ‵, raw, ◌⊛◌, some, later, prop, ◌$◌, ◌∵◌, !, qed, done, move, keep, drop, use1, use2, split, join, fsplit, pick, await, regoal, suffices, frame, group, enter, of_opd, addr, stop, load, look, no_more, and_then, returns, alloc_all, pass_all, free_all, look_at, get, through, sets, lands_as, u32, u64, yes, Is, shows, lone, part_out, uint_Lawful, Ptr, ptr_val, RawPtr, block_ptr, lies_at, in_a_block, rawptr_vals, rawptr_Tells, MutRef, mut_vals, mut_Tells, plain, nothing, peeks, calls_at, lasts, triple_of, framed, Stays, walk_of, stay_dropped, Goes-dropped, gave_ref, Goes-gave_ref, ends_at, RattleType, owns, alive}
+-- `imagesize_stream_finish` meets its contract: the stream is moved out from behind the pointer, which leaves room
+-- there.
+use Rattle.imagesize_c.proofs.Walks.{◌≡◌, ℕ, false, List, [], ◌∷◌, refl, w32, proved, full_share, id⊢, fat, froom, named, Val, vptr, fact, tables, WpFn, ‵, raw, ◌⊛◌, some, later, prop, ◌$◌, ◌∵◌, !, qed, done, move, keep, drop, use1, use2, split, join, fsplit, pick, await, regoal, suffices, frame, group, enter, of_opd, addr, stop, load, look, no_more, and_then, returns, alloc_all, pass_all, free_all, look_at, get, through, sets, lands_as, u32, u64, yes, Is, shows, lone, part_out, uint_Lawful, Ptr, ptr_val, RawPtr, block_ptr, lies_at, in_a_block, rawptr_vals, rawptr_Tells, MutRef, mut_vals, mut_Tells, plain, nothing, peeks, calls_at, lasts, triple_of, framed, Stays, walk_of, stay_dropped, Goes-dropped, gave_ref, Goes-gave_ref, ends_at, RattleType, owns, alive}
 use Rattle.imagesize_stream.specs.contracts.probe.StreamProbe.{the_row as R}
 use Rattle.imagesize_stream.proofs.probe.StreamProbe.TheLaws.{the_row_laws}
 use Rattle.imagesize_stream.specs.Pushed.{Came}
 use Rattle.std.specs.Result.{result_ok}
 use Rattle.imagesize.specs.Meaning.{kind_of, meaning}
-use Rattle.imagesize_stream.specs.declared.probe.StreamProbe.{StreamProbe}
 use Rattle.imagesize_c.specs.Status.{is_answered, is_wanted, status_of}
 use Rattle.imagesize_c.specs.Told.{TellsSize, TellsType}
 use Rattle.imagesize_c.specs.contracts.streams.imagesize_stream_finish as f
@@ -15,20 +15,45 @@ use Rattle.imagesize_c.specs.contracts.streams.finish as g
 use Rattle.imagesize_c.proofs.streams.finish.Met.{met}
 
 abbrev stayed : Stays f.ended.signature.params f.ended.kept
-stayed = (stay_dropped _ yes, (gave_ref (0 ∷ []) tt (plain (λ _. u32)), (gave_ref (1 ∷ []) tt (plain (λ _. u32)),
-    (gave_ref (2 ∷ []) tt (plain (λ _. u64)), (gave_ref (3 ∷ []) tt (plain (λ _. u64)), tt)))))
+stayed = (
+  stay_dropped _ yes,
+  (
+    gave_ref (0 ∷ []) tt (plain (λ _. u32)),
+    (
+      gave_ref (1 ∷ []) tt (plain (λ _. u32)),
+      (gave_ref (2 ∷ []) tt (plain (λ _. u64)), (gave_ref (3 ∷ []) tt (plain (λ _. u64)), tt)),
+    ),
+  ),
+)
 
 pub imagesize_stream_finish_spec : {M : Type 1} → statement M
 imagesize_stream_finish_spec 𝓤 𝓛 𝓜 𝓡 wired =
     let c = f.clauses 𝓛 𝓜.mem 𝓡.returns in let W = walk_of 𝓛 f.ended stayed c in let 𝓣 = tables 𝓤 𝓛.H 𝓜 𝓡 𝓡.env in
-    proved 𝓛 f.ended stayed c 𝓜 𝓡
-    (Goes-dropped 𝓛 4 (plain (λ _. RawPtr)) yes (λ κs x w. refl), (Goes-gave_ref 𝓛 4 0 tt (plain (λ _. u32)),
-    (Goes-gave_ref 𝓛 4 1 tt (plain (λ _. u32)), (Goes-gave_ref 𝓛 4 2 tt (plain (λ _. u64)),
-    (Goes-gave_ref 𝓛 4 3 tt (plain (λ _. u64)), tt)))))
+    proved 𝓛 f.ended stayed c 𝓜 𝓡 (
+      Goes-dropped 𝓛 4 (plain (λ _. RawPtr)) yes (λ κs x w. refl),
+      (
+        Goes-gave_ref 𝓛 4 0 tt (plain (λ _. u32)),
+        (
+          Goes-gave_ref 𝓛 4 1 tt (plain (λ _. u32)),
+          (
+            Goes-gave_ref 𝓛 4 2 tt (plain (λ _. u64)),
+            (Goes-gave_ref 𝓛 4 3 tt (plain (λ _. u64)), tt),
+          ),
+        ),
+      ),
+    )
     f.Key.name code.function (code.unfolded 𝓤 𝓛.H 𝓜 𝓡 wired)
     (λ κs. (rawptr_vals, (mut_vals, (mut_vals, (mut_vals, (mut_vals, tt))))))
-    (λ κs. (rawptr_Tells, (mut_Tells (named 0) κs.0 u32, (mut_Tells (named 1) κs.1.0 u32,
-    (mut_Tells (named 2) κs.1.1.0 u64, (mut_Tells (named 3) κs.1.1.1.0 u64, tt)))))) (λ κs qs bounds a held are.
+    (λ κs. (
+      rawptr_Tells,
+      (
+        mut_Tells (named 0) κs.0 u32,
+        (
+          mut_Tells (named 1) κs.1.0 u32,
+          (mut_Tells (named 2) κs.1.1.0 u64, (mut_Tells (named 3) κs.1.1.1.0 u64, tt)),
+        ),
+      ),
+    )) (λ κs qs bounds a held are.
     let number = a.1.0 in let compression = a.1.1.0 in let width = a.1.1.1.0 in let height = a.1.1.1.1.0 in
     let vss : List Val × (List Val × (List Val × (List Val × Unit {0}))) =
     (mut_vals number, (mut_vals compression, (mut_vals width, (mut_vals height, tt)))) in
@@ -43,7 +68,8 @@ imagesize_stream_finish_spec 𝓤 𝓛 𝓜 𝓡 wired =
     raw (fact 𝓤 ((front : List ℕ) → Came held front → TellsSize (meaning front 0).answer width.now w height.now h)) ⊛
     raw (fact 𝓤 (is_wanted r ≡ false)) ⊛
     raw (fact 𝓤 (is_answered r ≡ false → (w ≡ width.now) × (h ≡ height.now))) in
-    qed 𝓛 ((Tokens ⊛ ‵ (RawPtr.own_val a.0 (rawptr_vals a.0)) ⊛ ‵ (owns Rs a.1 vss)) ∷ ‵ (lies_at R full_share a.0 held) ∷ []) ∵
+    qed 𝓛 ((Tokens ⊛ ‵ (RawPtr.own_val a.0 (rawptr_vals a.0)) ⊛ ‵ (owns Rs a.1 vss))
+    ∷ ‵ (lies_at R full_share a.0 held) ∷ []) ∵
     split ! $ move ! (1 ∷ []) $ split ! $ keep ! (3 ∷ 2 ∷ 1 ∷ []) $
     -- [what lies there; the tokens; what the other parameters own]
     in_a_block ! a.0 (λ p. lies_at R full_share p held) (id⊢ 𝓤 _) (λ b o e.
@@ -56,7 +82,8 @@ imagesize_stream_finish_spec 𝓤 𝓛 𝓜 𝓡 wired =
     enter ! _ _ _ _ _ $ alloc_all ! (λ l.
     pass_all ! refl ((tt, tt), ((tt, tt), ((tt, tt), ((tt, tt), ((tt, tt), tt))))) $
     -- [what the stream owns; its cell; the tokens; what the others own; the locals]
-    sets ! (of_opd ! (load ! (through ! refl (stop !)) (look ! 1 refl))) refl ((the_row_laws.lawful 𝓛).typed held (v ∷ []) is).0 $
+    sets ! (of_opd ! (load ! (through ! refl (stop !)) (look ! 1 refl))) refl
+    ((the_row_laws.lawful 𝓛).typed held (v ∷ []) is).0 $
     sets ! (addr ! (through ! refl (stop !))) refl (tt, tt) $
     sets ! (addr ! (through ! refl (stop !))) refl (tt, tt) $
     sets ! (addr ! (through ! refl (stop !))) refl (tt, tt) $

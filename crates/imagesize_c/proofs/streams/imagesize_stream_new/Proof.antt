@@ -16,8 +16,10 @@ stayed = (stay_dropped _ yes, (stay_dropped _ yes, tt))
 pub imagesize_stream_new_spec : {M : Type 1} → statement M
 imagesize_stream_new_spec 𝓤 𝓛 𝓜 𝓡 wired =
     let c = f.clauses 𝓛 𝓜.mem 𝓡.returns in let W = walk_of 𝓛 f.ended stayed c in let 𝓣 = tables 𝓤 𝓛.H 𝓜 𝓡 𝓡.env in
-    proved 𝓛 f.ended stayed c 𝓜 𝓡
-    (Goes-dropped 𝓛 0 (plain (λ _. RawPtr)) yes (λ κs x w. refl), (Goes-dropped 𝓛 0 (plain (λ _. u64)) yes (λ κs x w. refl), tt))
+    proved 𝓛 f.ended stayed c 𝓜 𝓡 (
+      Goes-dropped 𝓛 0 (plain (λ _. RawPtr)) yes (λ κs x w. refl),
+      (Goes-dropped 𝓛 0 (plain (λ _. u64)) yes (λ κs x w. refl), tt),
+    )
     f.Key.name code.function (code.unfolded 𝓤 𝓛.H 𝓜 𝓡 wired)
     (λ κs. (rawptr_vals, (uint_vals w64, tt))) (λ κs. (rawptr_Tells, (uint_Tells w64, tt))) (λ κs qs bounds a _ are.
     let total = a.1.0 in let ts = uint_vals w64 total in
@@ -33,10 +35,13 @@ imagesize_stream_new_spec 𝓤 𝓛 𝓜 𝓡 wired =
     let z : G.Ghost = ((tt, tt, tt, (total, tt), (ts, tt)), tt) in
     move ! (2 ∷ 1 ∷ []) $ join ! $ nothing ! $ move ! (1 ∷ 0 ∷ []) $ use2 𝓛 (raw (G.pre z)) (id⊢ 𝓤 _) $
     enter ! _ _ _ _ _ $ alloc_all ! (λ l. pass_all ! refl ((tt, tt), ((tt, record { fits = are.1.0.1 }), tt)) $
-    calls_at ! (framed 𝓤 𝓛.H 𝓜 𝓣) G (met 𝓤 𝓛 𝓜 𝓡 (code.calls-imagesize_c::streams::begin 𝓡.env wired)) z (and_then ! (get ! refl) (no_more !)) (λ v.
+    calls_at ! (framed 𝓤 𝓛.H 𝓜 𝓣) G (met 𝓤 𝓛 𝓜 𝓡 (code.calls-imagesize_c::streams::begin 𝓡.env wired)) z
+    (and_then ! (get ! refl) (no_more !)) (λ v.
     use1 𝓛 (later (some (λ (r : StreamProbe). (‵ ftrue ⊛ ‵ (R.own_val r (v ∷ []))) ⊛
-    some (λ (ws : Unit {0} × Unit {0}). ‵ (lasts g.ended z.0.0 z.0.3 ws) ⊛ raw (fact 𝓤 (Begun r total)))))) (id⊢ 𝓤 _) $
-    await ! tt $ pick ! (λ r. split ! $ split ! $ drop ! $ move ! (1 ∷ []) $ pick ! (λ ws. split ! $ drop ! $ heard ! _ (λ begun.
+    some (λ (ws : Unit {0} × Unit {0}). ‵ (lasts g.ended z.0.0 z.0.3 ws)
+    ⊛ raw (fact 𝓤 (Begun r total)))))) (id⊢ 𝓤 _) $
+    await ! tt $ pick ! (λ r. split ! $ split ! $ drop ! $ move ! (1 ∷ []) $ pick ! (λ ws. split ! $ drop ! $
+    heard ! _ (λ begun.
     -- [the value; the room; the locals]
     peeks ! R (Is R) (shows 𝓛 R) r (v ∷ []) (λ is. let good = ((the_row_laws.lawful 𝓛).typed r (v ∷ []) is).0 in
     lands_as ! refl refl good $
@@ -44,6 +49,8 @@ imagesize_stream_new_spec 𝓤 𝓛 𝓜 𝓡 wired =
     sets ! (of_opd ! (unit_lit !)) refl (tt, tt) $ returns ! (look_at ! 0 refl) $ free_all ! refl $
     move ! (1 ∷ 0 ∷ []) $ use2 𝓛 (‵ (part_at R full_share r b o)) (part_in 𝓛 R refl full_share r b o v) $
     suffices ! _ (ends_at 𝓛 f.ended stayed c (y (block_ptr b o)) vunit tt (tt, (tt, tt)) (tt, (tt, tt))) $
-    feq_i ! _ (vunit ∷ []) _ refl $ nothing ! $ nothing ! $ join ! $ nothing ! $ join ! $ nothing ! $ group ! 3 $ frame ! $
-    show ! (λ (after : StreamProbe). sep 𝓤 (sem 𝓛 (lies_at R full_share (block_ptr b o) after)) (fact 𝓤 (Begun after total))) r $
+    feq_i ! _ (vunit ∷ []) _ refl $ nothing ! $ nothing ! $ join ! $ nothing ! $ join ! $ nothing ! $ group ! 3 $
+    frame ! $
+    show ! (λ (after : StreamProbe). sep 𝓤 (sem 𝓛 (lies_at R full_share (block_ptr b o) after))
+    (fact 𝓤 (Begun after total))) r $
     says ! begun $ done !))))))))
