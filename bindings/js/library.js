@@ -261,7 +261,7 @@ function grow(memory, pages) {
   try {
     memory.grow(BigInt(pages));
   } catch (error) {
-    if (!(error instanceof TypeError)) throw error;
+    if (error.name !== 'TypeError') throw error; // Another realm has a TypeError of its own.
     memory.grow(Math.min(pages, 2 ** 32 - 1));
   }
 }
