@@ -58,9 +58,10 @@ function readerOf(source) {
 
 // What a promise gives, or the reason of a signal that is aborted first.
 function unlessAborted(promise, signal) {
+  if (!signal) return promise;
   return new Promise((resolve, reject) => {
     const abort = () => reject(signal.reason);
-    signal?.addEventListener('abort', abort, { once: true });
-    promise.then(resolve, reject).finally(() => signal?.removeEventListener('abort', abort));
+    signal.addEventListener('abort', abort, { once: true });
+    promise.then(resolve, reject).finally(() => signal.removeEventListener('abort', abort));
   });
 }

@@ -25,7 +25,7 @@ const TEXT_ROOM = 256;
 
 // How many bytes the state of a push parser has, and the length of an input if it is not known.
 const STREAM_SIZE = 1280;
-const LENGTH_UNKNOWN = 2n ** 64n - 1n;
+const LENGTH_UNKNOWN = 0xffff_ffff_ffff_ffffn;
 
 /** How many bytes a push parser is passed at once, at most. */
 export const PIECE = 65536;
@@ -261,7 +261,7 @@ function grow(memory, pages) {
   try {
     memory.grow(BigInt(pages));
   } catch (error) {
-    if (!(error instanceof TypeError)) throw error;
+    if (error.name !== 'TypeError') throw error; // Another realm has a TypeError of its own.
     memory.grow(Math.min(pages, 2 ** 32 - 1));
   }
 }
