@@ -164,10 +164,10 @@ export class StreamProbe {
   constructor(options?: StreamLength);
 
   /**
-   * Passes the next bytes. Returns null as long as more bytes are needed, and type and size as soon as no further byte can change
-   * them. From then on each call returns the same, or throws the same.
+   * Passes the next bytes. Returns null as long as more bytes are needed, and type and size as soon as they depend on no later
+   * byte. From then on each call returns the same, or throws the same.
    *
-   * @throws {ImageError} as `probe`, as soon as no further byte can change that
+   * @throws {ImageError} as `probe`, as soon as the error depends on no later byte
    * @throws {TypeError} if the argument is not bytes; then nothing was passed
    */
   feed(chunk: ArrayBufferLike | ArrayBufferView): Image | null;

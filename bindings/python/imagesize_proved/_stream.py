@@ -54,7 +54,7 @@ class StreamProbe:
         self._told: Optional[Told] = None
 
     def feed(self, chunk: BytesLike) -> Optional[Probed]:
-        """Passes the next bytes. Returns type and size as soon as no further byte can change them, and None until then.
+        """Passes the next bytes. Returns type and size as soon as they depend on no later byte, and None until then.
 
         Raises `ImageError` as soon as it is certain that there is no type or no size: its `status` says why. It is `BUDGET_SPENT`
         if `budget` bytes came and more are needed. After a result or an error, each call returns or raises the same.

@@ -82,7 +82,7 @@ impl StreamProbe {
         }
     }
 
-    /// Passes the next bytes. Returns the result as soon as no further byte can change it, and `None` before.
+    /// Passes the next bytes. Returns the result as soon as it depends on no later byte, and `None` before.
     ///
     /// The result is that of the whole input, and each later call returns the same.
     pub fn push(&mut self, bytes: &[u8]) -> Option<Probed> {

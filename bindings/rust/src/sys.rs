@@ -207,7 +207,7 @@ impl Stream {
         stream
     }
 
-    /// Passes the next bytes. Returns the result of the input, as soon as no further byte can change it.
+    /// Passes the next bytes. Returns the result of the input as soon as it depends on no later byte.
     pub(crate) fn push(&mut self, bytes: &[u8]) -> Option<Told> {
         let mut told = Told::default();
         // SAFETY: the pointers come from memory that `new` wrote, from a slice of this length, and from numbers that nothing
