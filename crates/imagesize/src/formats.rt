@@ -62,7 +62,7 @@ fn tga_or_none<S: Source>(source: &mut S, head: &[u8; 12]) -> Result<ImageType, 
 
 // The type of the first row that matches. Its compression is still unknown.
 #[inline(always)]
-fn first_row(head: &[u8; 12]) -> Option<ImageType>
+pub fn first_row(head: &[u8; 12]) -> Option<ImageType>
     ensures { result ≡ first_row rows head.now }
 {
     Some(match head {
@@ -97,7 +97,7 @@ fn first_row(head: &[u8; 12]) -> Option<ImageType>
 // The same type, with its compression read if the type has several.
 #[inline(always)]
 #[tactic(auto, using(imagesize_source::proofs::Runs::steps), unfolding(crate::specs::Kind::with_compression))]
-fn with_compression<S: Source>(
+pub fn with_compression<S: Source>(
     source: &mut S,
     place: u64,
     head: &[u8; 12],

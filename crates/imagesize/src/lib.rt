@@ -3,7 +3,8 @@
 
 mod calls;
 mod file;
-mod formats;
+#[doc(hidden)]
+pub mod formats;
 mod laws;
 mod names;
 mod parts;

@@ -60,7 +60,7 @@ big_four bs i h =
     (first_four (drop i bs) (omega (arith, length-drop i bs)))
 
 -- what holds of each box of a search
-by_searched : (P : Layout (Said (Unit {0}) FoundBox) → Type 0) (tag : List ℕ) (place : ℕ) (head : List ℕ)
+pub by_searched : (P : Layout (Said (Unit {0}) FoundBox) → Type 0) (tag : List ℕ) (place : ℕ) (head : List ℕ)
     → P (done (Decided (record { place = place; size = box_size head })))
     → P (refuse (InvalidHeifBoxSize (box_size head)))
     → (8 ≤ box_size head → P (done (Next tt (place + box_size head)))) → P (box_searched tag place head)
@@ -110,7 +110,7 @@ by_named P left place head end bad extents rotation skipped =
     (λ _. on_test P (nat_le left (box_size head)) (done None) (done (Some (Skipped (box_size head)))) (λ _. end)
     (λ _. skipped (grind (arith, nat_tests))))))
 
-by_found : (P : Layout (Option Property) → Type 0) (left place : ℕ) (found : Option (List ℕ)) → P (done None)
+pub by_found : (P : Layout (Option Property) → Type 0) (left place : ℕ) (found : Option (List ℕ)) → P (done None)
     → P (refuse Corrupted)
     → P (bytes (place + 8) 12 (λ content. done (Some (Extents (extents_size content)))))
     → P (bytes (place + 8) 1 (λ content. done (Some (Rotation (slice_index content 0)))))
@@ -272,7 +272,7 @@ amounts_on all g held (Skipped size) h = record {
 }
 
 -- what is answered by what the properties amount to
-answers : (all : ℕ) (g : Gathered) (held : List Property) (place : ℕ) (d : List ℕ) → Amounts all g held
+pub answers : (all : ℕ) (g : Gathered) (held : List Property) (place : ℕ) (d : List ℕ) → Amounts all g held
     → layout_reads d (property_or_answer held place None)
     ≡ layout_reads d (heif_answer g.best g.turn)
 answers all g held place d h =
@@ -285,7 +285,7 @@ none_listed : (d : List ℕ) (held : List Property) (left place : ℕ) → lengt
     ≡ layout_reads d (property_or_answer held place None)
 none_listed d held left place far = rw (no_part d place 8 far, no_span d place 8 far) refl
 
-answer_read : (d : List ℕ) (best : Option ImageSize) (turn : Option ℕ) → layout_reads d (heif_answer best turn)
+pub answer_read : (d : List ℕ) (best : Option ImageSize) (turn : Option ℕ) → layout_reads d (heif_answer best turn)
     ≡ record { answer = map_answer Decided (ok_or (option_map (turn_by turn) best) NotEnoughData); marks = [] }
 answer_read d None turn = refl
 answer_read d (Some size) turn = refl

@@ -18,7 +18,7 @@ use Rattle.imagesize_source.specs.Layout.{Layout, layout_reads, bind, bytes, byt
 use Rattle.imagesize_source.specs.Layout.Layout.{field, refuse, done}
 use Rattle.imagesize_source.specs.Reading.{is_failure, refuses}
 use Rattle.imagesize_source.specs.State.{State, Runs, EndedBy, IsSound}
-use Rattle.imagesize_source.proofs.Advances.{Tells, advances}
+use Rattle.imagesize_source.proofs.Advances.{Begins, Tells, advances}
 use Rattle.imagesize_source.proofs.Reached.{reads_nothing}
 use Rattle.imagesize_source.proofs.PastTheEnd.{bytes_beyond}
 use Rattle.imagesize_source.proofs.Runs.{runs_then}
@@ -147,18 +147,25 @@ content_tells held place head =
     (λ _ piece. by_partial End held place head index piece tt (λ some. omega arith)))
     (by_end End held place head [] tt (λ some. omega arith))
 
-pub jxl_advances : (d : List ℕ) → Advances jxl_chain d
+-- a box tells a place behind its own
+pub box_tells : (held : List ℕ) (place : ℕ) → Tells (λ p. place < p) (jxl_box held place)
 unfolding box_head
-jxl_advances = advances jxl_chain
-    (λ pieces place front. by_head (Tells (λ p. place < p)) place front (box_content (concat pieces) place)
+box_tells held place front = by_head (Tells (λ p. place < p)) place front (box_content held place)
     (λ size. by_checked (Tells (λ p. place < p)) place (record { tag = drop 4 front; size = size; length = 16 })
-    (box_content (concat pieces) place) (λ e. tt) (λ _ _. content_tells (concat pieces) place
-    (record { tag = drop 4 front; size = size; length = 16 })))
+    (box_content held place) (λ e. tt)
+    (λ _ _. content_tells held place (record { tag = drop 4 front; size = size; length = 16 })))
     (by_checked (Tells (λ p. place < p)) place
     (record { tag = drop 4 front; size = number Big (take 4 front); length = 8 })
-    (box_content (concat pieces) place) (λ e. tt) (λ _ _. content_tells (concat pieces) place
-    (record { tag = drop 4 front; size = number Big (take 4 front); length = 8 }))))
-    (λ pieces place. (omega arith, omega arith))
+    (box_content held place) (λ e. tt) (λ _ _. content_tells held place
+    (record { tag = drop 4 front; size = number Big (take 4 front); length = 8 })))
+
+pub box_begins : (held : List ℕ) (place : ℕ) → Begins place (jxl_box held place)
+unfolding box_head
+box_begins held place = (omega arith, omega arith)
+
+pub jxl_advances : (d : List ℕ) → Advances jxl_chain d
+jxl_advances = advances jxl_chain (λ pieces place. box_tells (concat pieces) place)
+    (λ pieces place. box_begins (concat pieces) place)
 
 -- from the end of the input on no box begins
 pub boxes_end : (front : List ℕ) (d : List ℕ) (place : ℕ) → length d ≤ place
@@ -180,7 +187,7 @@ joined pieces front piece is = concat-append pieces (piece ∷ []) ∙ ap (λ re
 -- The size by a codestream.
 
 -- a refusal that ends no call by itself
-abbrev Plainly : {X : Type 0} → Result X Halt → Type 0
+abbrev pub Plainly : {X : Type 0} → Result X Halt → Type 0
 Plainly (Ok x) = Unit {0}
 Plainly (Err e) = (is_failure e ≡ false) × ((b : State) → EndedBy b e)
 
@@ -195,7 +202,7 @@ plain_found list (bits from count f) =
     (Ok (binary (take count (drop from list)))) (Err Corrupted)
     (λ _. plain_found list (f (binary (take count (drop from list))))) (λ _. plain_corrupted)
 
-plain_size : (front : List ℕ) → Plainly (jxl_size front)
+pub plain_size : (front : List ℕ) → Plainly (jxl_size front)
 unfolding jxl_size
 plain_size front =
     on_test Plainly (ltb (length front) 2) (Err Corrupted) _ (λ _. plain_corrupted)

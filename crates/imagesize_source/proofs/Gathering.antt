@@ -25,7 +25,8 @@ known_byte n spans bytes place b is =
     filled_at n spans bytes place (known_below n spans bytes place (ap is_some is)) ∙ ap (λ o. unwrap_or o 0) is
 
 -- known bytes are a part of the filled input
-pub run_part : (n : ℕ) (spans : List Span) (bytes run : List ℕ) (place count : ℕ) → count ≤ length run → place + count ≤ n
+pub run_part : (n : ℕ) (spans : List Span) (bytes run : List ℕ) (place count : ℕ) → count ≤ length run
+    → place + count ≤ n
     → ((i : ℕ) → i < length run → byte_in_parts n spans bytes (place + i) ≡ Some (get_or run i 0))
     → take count run ≡ part (filled_input n spans bytes) place count
 run_part n spans bytes run place count few fits is =

@@ -18,7 +18,7 @@ use Rattle.imagesize_source.specs.Layout.{Layout, layout_reads, bytes, done, ref
 use Rattle.imagesize_source.specs.Numbers.{number}
 use Rattle.imagesize_source.specs.Reading.{number_at, number_read, refuses}
 use Rattle.imagesize_source.specs.State.{total}
-use Rattle.imagesize_source.proofs.Advances.{Tells, advances}
+use Rattle.imagesize_source.proofs.Advances.{Begins, Tells, advances}
 use Rattle.imagesize_source.proofs.Ahead.{Ahead, chain_ahead}
 use Rattle.imagesize_source.proofs.ChainLaws.{local_chain, lasts_chain, chain_cost_from}
 use Rattle.imagesize_source.proofs.Counts.{begun_cost, at_most, at_most_more, then_within, total-span_of}
@@ -91,17 +91,24 @@ by_name P room place name none typed =
 abbrev value_behind : List ℕ → List ℕ → ℕ
 value_behind name type_name = length name + 1 + (length type_name + 1) + 4
 
-pub attribute_advances : (room : ℕ) (d : List ℕ) → Advances (exr_attributes room) d
-attribute_advances room = advances (exr_attributes room)
-    (λ passed place. line_tells 0 place room (exr_named room place) (λ p. place < p)
+-- an attribute tells a place behind its own
+pub attribute_tells : (room place : ℕ) → Tells (λ p. place < p) (exr_attribute room place)
+attribute_tells room place = line_tells 0 place room (exr_named room place) (λ p. place < p)
     (λ name. by_name (Tells (λ p. place < p)) room place name tt
     (line_tells 0 (place + (length name + 1)) room (exr_typed place name) (λ p. place < p)
     (λ type_name size. by_value (Tells (λ p. place < p)) place (value_behind name type_name)
     (is_data_window name && is_box type_name) size
     (λ bs. by_window (Tells (λ p. place < p)) place (value_behind name type_name) (window_size bs) (λ size. tt)
     (omega arith))
-    (omega arith)))))
-    (λ passed place. line_begins 0 place room (exr_named room place) place (omega arith))
+    (omega arith))))
+
+pub attribute_begins : (room place : ℕ) → Begins place (exr_attribute room place)
+attribute_begins room place = line_begins 0 place room (exr_named room place) place (omega arith)
+
+pub attribute_advances : (room : ℕ) (d : List ℕ) → Advances (exr_attributes room) d
+attribute_advances room =
+    advances (exr_attributes room) (λ passed place. attribute_tells room place)
+    (λ passed place. attribute_begins room place)
 
 pub exr_local : IsLocal true exr
 exr_local = local_then (λ d. number_read d Little 4 4) (λ version d. chain_at (exr_attributes (name_room version)) d)

@@ -10,7 +10,7 @@ use Rattle.imagesize_source.specs.Chain.{Said, Decided, Next, Advances, chain_at
 use Rattle.imagesize_source.specs.Extension.{Plain, Lasts}
 use Rattle.imagesize_source.specs.Layout.{Layout, layout_reads, done, refuse, accept}
 use Rattle.imagesize_source.specs.State.{total}
-use Rattle.imagesize_source.proofs.Advances.{Tells, advances}
+use Rattle.imagesize_source.proofs.Advances.{Begins, Tells, advances}
 use Rattle.imagesize_source.proofs.Ahead.{Ahead}
 use Rattle.imagesize_source.proofs.ChainLaws.{local_chain, lasts_chain}
 use Rattle.imagesize_source.proofs.Agreement.{local_then, local_layout, with_texts}
@@ -39,12 +39,17 @@ by_identifier P text is none =
     on_test P (is_identifier text) (done (length text + 1)) (refuse InvalidHdrIdentifier) (λ _. is)
     (λ _. none)
 
-pub hdr_advances : (first : ℕ) (d : List ℕ) → Advances (hdr_lines first) d
-hdr_advances first = advances (hdr_lines first)
-    (λ passed place. line_tells 0x0A place 256 (hdr_line place) (λ p. place < p)
+-- a line tells a place behind its own
+pub hdr_tells : (place : ℕ) → Tells (λ p. place < p) (line_at 0x0A place 256 (hdr_line place))
+hdr_tells place = line_tells 0x0A place 256 (hdr_line place) (λ p. place < p)
     (λ text. by_line (Tells (λ p. place < p)) place text
-    (λ size. tt) (λ e. tt) (omega arith)))
-    (λ passed place. line_begins 0x0A place 256 (hdr_line place) place (omega arith))
+    (λ size. tt) (λ e. tt) (omega arith))
+
+pub hdr_begins : (place : ℕ) → Begins place (line_at 0x0A place 256 (hdr_line place))
+hdr_begins place = line_begins 0x0A place 256 (hdr_line place) place (omega arith)
+
+pub hdr_advances : (first : ℕ) (d : List ℕ) → Advances (hdr_lines first) d
+hdr_advances first = advances (hdr_lines first) (λ passed place. hdr_tells place) (λ passed place. hdr_begins place)
 
 pub hdr_local : IsLocal true hdr
 hdr_local = local_then (λ d. layout_reads d hdr_identifier) (λ first d. chain_at (hdr_lines first) d)

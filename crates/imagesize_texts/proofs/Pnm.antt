@@ -10,7 +10,7 @@ use Rattle.imagesize_source.specs.declared.halt.Halt.TheVariants.{Ended}
 use Rattle.imagesize_source.specs.Layout.{Layout, done, accept, layout_reads}
 use Rattle.imagesize_source.specs.Reading.{refuses}
 use Rattle.imagesize_source.specs.State.{total}
-use Rattle.imagesize_source.proofs.Advances.{Tells, advances}
+use Rattle.imagesize_source.proofs.Advances.{Begins, Tells, advances}
 use Rattle.imagesize_source.proofs.Ahead.{Ahead, chain_ahead}
 use Rattle.imagesize_source.proofs.Agreement.{with_texts}
 use Rattle.imagesize_source.proofs.ChainLaws.{local_chain, lasts_chain}
@@ -40,17 +40,22 @@ by_size : (P : Layout (Said (Unit {0}) ImageSize) → Type 0) (width height : Op
 by_size P width height decided refused =
     found_by P (pnm_size width height) (λ size. done (Decided size)) (λ size _. decided size) refused
 
-pub pnm_advances : (d : List ℕ) → Advances pnm_words d
-pnm_advances = advances pnm_words
-    (λ passed place. word_tells place (pnm_word place) (λ p. place < p)
+-- a word tells a place behind its own
+pub pnm_tells : (place : ℕ) → Tells (λ p. place < p) (word place (pnm_word place))
+pnm_tells place = word_tells place (pnm_word place) (λ p. place < p)
     (λ w some. by_word (Tells (λ p. place < p)) place w (omega arith)
     (passed_tells 0x0A (place + w.taken) 1024 (λ rest. pnm_passed place (w.taken + rest)) (λ p. place < p)
     (λ n. omega arith))
     (word_tells (place + w.taken) (λ next. accept (pnm_size (number_text w.text) (number_text (trim next.text)))
     (λ size. done (Decided size))) (λ p. place < p)
     (λ next _. by_size (Tells (λ p. place < p)) (number_text w.text) (number_text (trim next.text)) (λ size. tt)
-    (λ e. tt)))))
-    (λ passed place. word_begins place (pnm_word place) place (omega arith))
+    (λ e. tt))))
+
+pub pnm_begins : (place : ℕ) → Begins place (word place (pnm_word place))
+pnm_begins place = word_begins place (pnm_word place) place (omega arith)
+
+pub pnm_advances : (d : List ℕ) → Advances pnm_words d
+pnm_advances = advances pnm_words (λ passed place. pnm_tells place) (λ passed place. pnm_begins place)
 
 pub pnm_local : IsLocal true pnm
 pnm_local = local_chain pnm_words pnm_advances (λ passed place. with_texts (pnm_words.said passed place))

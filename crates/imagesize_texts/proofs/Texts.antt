@@ -243,6 +243,22 @@ length_bound delimiter most room n (Ok count) long is = omega (
 )
 length_bound delimiter most room n (Err why) long is = tt
 
+pub length_some : (delimiter most : ℕ) (room : List ℕ) (n : ℕ) (r : Result ℕ Halt)
+    → (r ≡ line_length delimiter most (take n room))
+    → IfOk r (λ count. 0 < count)
+length_some delimiter most room n (Ok count) is =
+    let ok = length_ok delimiter most (take n room) count (sym is) in
+    omega (arith, ok.0, passes_some (λ b. eqb b delimiter) (take n room) ok.1)
+length_some delimiter most room n (Err why) is = tt
+
+pub length_pays : {P : Type 0} (delimiter most : ℕ) (room : List ℕ) (n : ℕ) (r : Result ℕ Halt)
+    → (r ≡ line_length delimiter most (take n room))
+    → (0 < n → P) → IfOk r (λ _. P)
+length_pays delimiter most room n (Ok count) is pays =
+    let ok = length_ok delimiter most (take n room) count (sym is) in
+    pays (omega (arith, passes_some (λ b. eqb b delimiter) (take n room) ok.1, length-take n room))
+length_pays delimiter most room n (Err why) is pays = tt
+
 pub line_bound : {A : Type 0} (v : A → List ℕ) (delimiter most : ℕ) (room : List ℕ) (n : ℕ) (r : Result A Halt)
     → length room ≡ most
     → (map_answer v r ≡ line_text delimiter most (take n room))
@@ -382,6 +398,23 @@ pub passed_tells : {C X : Type 0} (delimiter place most : ℕ) (f : ℕ → Layo
 passed_tells delimiter place most f P rest =
     λ bs. found_by (Tells P) (line_length delimiter most bs) f (λ n _. rest n) (λ e. tt)
 
+-- such a line takes a byte
+pub passed_tells_on : {C X : Type 0} (delimiter place most : ℕ) (f : ℕ → Layout (Said C X)) (P : ℕ → Type 0)
+    → ((n : ℕ) → 0 < n → Tells P (f n))
+    → Tells P (passed_line delimiter place most f)
+passed_tells_on delimiter place most f P rest = λ bs. found_by (Tells P) (line_length delimiter most bs) f
+    (λ n is. let ok = length_ok delimiter most bs n is in
+    rest n (omega (arith, ok.0, passes_some (λ b. eqb b delimiter) bs ok.1))) (λ e. tt)
+
+pub passed_begins : {C X : Type 0} (delimiter place most : ℕ) (f : ℕ → Layout (Said C X))
+    → Begins place (passed_line delimiter place most f)
+passed_begins delimiter place most f = (
+  omega arith,
+  found_by (Tells (λ _. ⊥)) (line_length delimiter most []) f
+      (λ n is. let ok = length_ok delimiter most [] n is in
+      absurd (omega (arith, passes_some (λ b. eqb b delimiter) [] ok.1))) (λ e. tt),
+)
+
 -- words
 module _ {X : Type 0} (place : ℕ) (f : WordRead → Layout X) where
   pub word_onto : (to : X → Option ℕ) (q : ℕ) → q ≤ place → ((w : WordRead) → Onto to (place + w.taken) (f w))
@@ -439,6 +472,20 @@ unfolding span_at over_text
 line_beyond d delimiter place most f h some =
     ap (λ bs. over_text d place bs (accept (line_text delimiter most bs) f)) (text_none d (Line delimiter) place most h)
     ∙ ap (λ r. layout_reads d (accept r f)) (line_none delimiter most some)
+
+length_none : (delimiter most : ℕ) → 0 < most → line_length delimiter most [] ≡ Err Ended
+unfolding line_length
+length_none delimiter most some = let test : eqb 0 most ≡ false = grind (arith, nat_tests) in
+    ap (λ b. Err (cond b (NoDelimiter most) Ended)) test
+
+pub passed_beyond : {X : Type 0} (d : List ℕ) (delimiter place most : ℕ) (f : ℕ → Layout X) → length d ≤ place
+    → 0 < most
+    → layout_reads d (passed_line delimiter place most f) ≡ refuses Ended
+unfolding span_at over_text
+passed_beyond d delimiter place most f h some =
+    ap (λ bs. over_text d place bs (accept (line_length delimiter most bs) f))
+    (text_none d (Line delimiter) place most h)
+    ∙ ap (λ r. layout_reads d (accept r f)) (length_none delimiter most some)
 
 pub word_beyond : {X : Type 0} (d : List ℕ) (place : ℕ) (f : WordRead → Layout X) → length d ≤ place
     → layout_reads d (word place f)

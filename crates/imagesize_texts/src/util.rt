@@ -60,6 +60,8 @@ pub fn pass_line_capped<S: Source>(
 ) -> Result<usize, Halt>
     requires { length room.old < 2 ^ 32 }
     ensures bound { IfOk result (λ n. n ≤ length room.old) }
+    ensures some { IfOk result (λ n. 0 < n) }
+    ensures pays { IfOk result (λ n. Paid (S.state source.old) (S.state source.new) place) }
     ensures runs { Runs (S.state source.old) (S.state source.new) result
         (length_read (S.state source.old).held.input delimiter place (length room.old)) }
 {

@@ -1,12 +1,12 @@
 -- ICO: how a walk along its entries goes, how many bytes they are read from, and what it sees of an input.
-use Rattle.std.proofs.Common.{◌≡◌, ◌≢◌, ℕ, ◌+◌, ◌*◌, ◌<◌, ◌≤◌, max, Bool, true, false, cond, eqb, leb, List, [], ◌∷◌, ◌++◌, length, Option, Some, None, Ok, refl, sym, ap, ◌∙◌, subst, arith, min}
+use Rattle.std.proofs.Common.{◌≡◌, ◌≢◌, ℕ, ◌+◌, ◌*◌, ◌<◌, ◌≤◌, max, Bool, true, false, cond, eqb, leb, List, [], ◌∷◌, ◌++◌, length, Option, Some, None, Result, Ok, Err, IfOk, IfErr, refl, sym, ap, ◌∙◌, subst, arith, min}
 use Rattle.std.proofs.lemmas.Bool.Decides.{nat_tests}
 use Rattle.std.proofs.lemmas.List.{append-nil, length_push}
 use Rattle.std.proofs.lemmas.List.Elements.{filter-append}
 use Rattle.std.specs.Prelude.{filter, ok_or}
 use Rattle.std.specs.List.{last_or}
-use Rattle.imagesize_walked.specs.Walks.{IsIcon, Seen}
-use Rattle.imagesize_walked.specs.Ico.{ico, icon_entries, icon_entry, icon_answer, icon_size, icons_begun}
+use Rattle.imagesize_walked.specs.Walks.{IconsOn, IsIcon, Seen}
+use Rattle.imagesize_walked.specs.Ico.{ico, icon_entries, icon_entry, icon_in, icon_answer, icon_size, icons_begun}
 use Rattle.imagesize_types.specs.Largest.{greatest_area, last_largest, area_if_some, later_largest}
 use Rattle.imagesize_types.specs.Order.{area_of}
 use Rattle.imagesize_types.specs.declared.size.ImageSize.{ImageSize}
@@ -20,7 +20,11 @@ use Rattle.imagesize_source.specs.Layout.{Layout, layout_reads, if_there, refuse
 use Rattle.std.specs.Option.{ForSome}
 use Rattle.imagesize_source.proofs.PastTheEnd.{there_beyond}
 use Rattle.imagesize_source.specs.Reading.{map_answer, number_at, number_read}
-use Rattle.imagesize_source.specs.State.{total}
+use Rattle.imagesize_source.specs.State.{State, Runs, total}
+use Rattle.imagesize_source.specs.Walk.{KeepsOn, said_at}
+use Rattle.imagesize_source.specs.declared.halt.Halt.{Halt}
+use Rattle.imagesize_source.specs.declared.walk.Found.{Found}
+use Rattle.imagesize_source.specs.declared.walk.Found.TheVariants as found
 use Rattle.imagesize_source.proofs.Advances.{Tells, Begins, advances, tells}
 use Rattle.imagesize_source.proofs.Ahead.{Ahead, chain_ahead}
 use Rattle.imagesize_source.proofs.ChainLaws.{local_chain, chain_cost, chain_induction}
@@ -82,25 +86,39 @@ by_answer P None none some = none
 by_answer P (Some size) none some = some size
 
 -- and of each entry
-by_entry : (P : Layout (Said ImageSize ImageSize) → Type 0) (sizes : List ImageSize) (place : ℕ)
+by_entry : (P : Layout (Said ImageSize ImageSize) → Type 0) (best : Option ImageSize) (place : ℕ)
     (found : Option (List ℕ))
-    → P (icon_answer (last_largest sizes)) → ((size : ImageSize) → P (done (Next size (place + 16))))
-    → P (icon_entry sizes place found)
-by_entry P sizes place None end next = end
-by_entry P sizes place (Some bytes) end next = next (icon_size bytes)
+    → P (icon_answer best) → ((size : ImageSize) → P (done (Next size (place + 16)))) → P (icon_entry best place found)
+by_entry P best place None end next = end
+by_entry P best place (Some bytes) end next = next (icon_size bytes)
 
 -- and of a record
 by_count : (P : Layout (Said ImageSize ImageSize) → Type 0) (count : ℕ) (sizes : List ImageSize) (place : ℕ)
-    → P (icon_answer (last_largest sizes)) → P (if_there place 2 (icon_entry sizes place))
+    → P (icon_answer (last_largest sizes)) → P (if_there place 2 (icon_entry (last_largest sizes) place))
     → P ((icon_entries count).said sizes place)
 by_count P count sizes place end entry = on_test P (eqb (length sizes) count) (icon_answer (last_largest sizes))
-    (if_there place 2 (icon_entry sizes place)) (λ _. end) (λ _. entry)
+    (if_there place 2 (icon_entry (last_largest sizes) place)) (λ _. end) (λ _. entry)
+
+-- a record by how many entries were read
+pub icon_tells : (count seen : ℕ) (best : Option ImageSize) (place : ℕ)
+    → Tells (λ p. place < p) (icon_in count seen best place)
+icon_tells count seen best place =
+    on_test (Tells (λ p. place < p)) (eqb seen count) (icon_answer best) (if_there place 2 (icon_entry best place))
+    (λ _. by_answer (Tells (λ p. place < p)) best tt (λ size. tt))
+    (λ _ bs. by_entry (Tells (λ p. place < p)) best place (whole 2 bs)
+    (by_answer (Tells (λ p. place < p)) best tt (λ size. tt)) (λ size. omega arith))
+
+pub icon_begins : (count seen : ℕ) (best : Option ImageSize) (place : ℕ) → Begins place (icon_in count seen best place)
+icon_begins count seen best place =
+    on_test (Begins place) (eqb seen count) (icon_answer best) (if_there place 2 (icon_entry best place))
+    (λ _. by_answer (Begins place) best tt (λ size. tt))
+    (λ _. (omega arith, by_answer (Tells (λ _. ⊥)) best tt (λ size. tt)))
 
 pub icon_advances : (count : ℕ) (d : List ℕ) → Advances (icon_entries count) d
 icon_advances count = advances (icon_entries count)
     (λ sizes place. by_count (Tells (λ p. place < p)) count sizes place
     (by_answer (Tells (λ p. place < p)) (last_largest sizes) tt (λ size. tt))
-    (λ bs. by_entry (Tells (λ p. place < p)) sizes place (whole 2 bs)
+    (λ bs. by_entry (Tells (λ p. place < p)) (last_largest sizes) place (whole 2 bs)
     (by_answer (Tells (λ p. place < p)) (last_largest sizes) tt
     (λ size. tt)) (λ size. omega arith)))
     (λ sizes place. by_count (Begins place) count sizes place
@@ -113,7 +131,8 @@ entries_within count d =
     (λ sizes place. by_count (Ahead place) count sizes place
     (by_answer (Ahead place) (last_largest sizes) tt (λ size. tt)) (
       omega arith,
-      λ bs. by_entry (Ahead (place + 2)) sizes place (whole 2 bs) (by_answer (Ahead (place + 2)) (last_largest sizes) tt
+      λ bs. by_entry (Ahead (place + 2)) (last_largest sizes) place (whole 2 bs)
+          (by_answer (Ahead (place + 2)) (last_largest sizes) tt
           (λ size. tt)) (λ size. omega arith),
     )) in
     omega arith
@@ -126,7 +145,62 @@ ico_within d = omega (
       (total-span_of d 4 2) (λ count _. entries_within count d),
 )
 
+-- with one entry more, whatever its sides are
+pub largest_on : (best : Option ImageSize) (sizes : List ImageSize) (size : ImageSize) → last_largest sizes ≡ best
+    → greatest_area sizes ≡ area_if_some best
+    → (last_largest (sizes ++ size ∷ []) ≡ later_largest best size) ×
+    (greatest_area (sizes ++ size ∷ []) ≡ area_if_some (later_largest best size))
+largest_on best sizes size is area = (
+  last_by best sizes size (greatest_area (sizes ++ size ∷ [])) (leb (area_if_some best) (area_of size)) refl area is
+      (greatest_push sizes size),
+  greatest_push sizes size ∙ ap (λ n. max n (area_of size)) area
+      ∙ area_by best size (leb (area_if_some best) (area_of size)) refl,
+)
+
+-- an entry that was read leads on
+pub icons_on : (seen after : ℕ) (best largest : Option ImageSize) (sizes : List ImageSize) (place : ℕ)
+    (r : Result (Found ImageSize ImageSize) Halt)
+    → Seen seen best sizes → IfOk r (λ found. IconsOn seen best after largest (said_at place found))
+    → IfOk r (λ found. KeepsOn (λ held q. Seen after largest held) sizes (said_at place found))
+icons_on seen after best largest sizes place (Ok (found.Answer x)) h on = tt
+icons_on seen after best largest sizes place (Ok (found.Other size length)) h on =
+    subst (λ n. Seen n largest (sizes ++ size ∷ [])) (sym on.0)
+    (subst (λ b. Seen (seen + 1) b (sizes ++ size ∷ [])) (sym on.1)
+    (seen_on seen best sizes size h (subst (λ b. ForSome b IsIcon) on.1 on.2)))
+icons_on seen after best largest sizes place (Err e) h on = tt
+
+pub icons_stay : (seen after : ℕ) (best largest : Option ImageSize) (sizes : List ImageSize)
+    (r : Result (Found ImageSize ImageSize) Halt)
+    → Seen seen best sizes → IfErr r (λ _. (after ≡ seen) × (largest ≡ best)) → IfErr r (λ _. Seen after largest sizes)
+icons_stay seen after best largest sizes (Ok found) h same = tt
+icons_stay seen after best largest sizes (Err e) h same =
+    subst (λ n. Seen n largest sizes) (sym same.0) (subst (λ b. Seen seen b sizes) (sym same.1) h)
+
+-- it is the record behind these entries
+pub icon_as : {a b : State} {r : Result (Said ImageSize ImageSize) Halt} (count seen : ℕ) (best : Option ImageSize)
+    (place : ℕ)
+    → Runs a b r (layout_reads a.held.input (icon_in count seen best place)) → (sizes : List ImageSize)
+    → Seen seen best sizes
+    → Runs a b r (layout_reads a.held.input ((icon_entries count).said sizes place))
+icon_as {a} {b} {r} count seen best place run sizes h =
+    subst (λ n. Runs a b r (layout_reads a.held.input (icon_in count n (last_largest sizes) place))) (sym h.many)
+    (subst (λ o. Runs a b r (layout_reads a.held.input (icon_in count seen o place))) (sym h.is) run)
+
 -- from the end of the input on there is no entry
+pub icon_in_ends : (count seen : ℕ) (best : Option ImageSize) (d : List ℕ) (place : ℕ) → length d ≤ place
+    → layout_reads d (icon_in count seen best place)
+    ≡ record { answer = map_answer Decided (ok_or best Corrupted); marks = [] }
+icon_in_ends count seen best d place far = by_test (eqb seen count) where
+  ends : (best : Option ImageSize)
+      → layout_reads d (icon_answer best) ≡ record { answer = map_answer Decided (ok_or best Corrupted); marks = [] }
+  ends None = refl
+  ends (Some size) = refl
+
+  by_test : (all : Bool) → layout_reads d (cond all (icon_answer best) (if_there place 2 (icon_entry best place)))
+      ≡ record { answer = map_answer Decided (ok_or best Corrupted); marks = [] }
+  by_test true = ends best
+  by_test false = there_beyond d place 2 (icon_entry best place) far ∙ ends best
+
 pub icon_ends : (count seen : ℕ) (best : Option ImageSize) (sizes : List ImageSize) → Seen seen best sizes
     → (d : List ℕ) (place : ℕ)
     → length d ≤ place → layout_reads d ((icon_entries count).said sizes place)
@@ -141,10 +215,11 @@ icon_ends count seen best sizes h d place far = by_count (eqb (length sizes) cou
     by_best (Some size) = refl
 
   by_count : (all : Bool)
-      → layout_reads d (cond all (icon_answer (last_largest sizes)) (if_there place 2 (icon_entry sizes place)))
+      → layout_reads d (cond all (icon_answer (last_largest sizes))
+      (if_there place 2 (icon_entry (last_largest sizes) place)))
       ≡ record { answer = map_answer Decided (ok_or best Corrupted); marks = [] }
   by_count true = ends
-  by_count false = there_beyond d place 2 (icon_entry sizes place) far ∙ ends
+  by_count false = there_beyond d place 2 (icon_entry (last_largest sizes) place) far ∙ ends
 
 -- at the count of entries the list ends
 ends_at : (count : ℕ) (d : List ℕ) (t : Along ImageSize) (size : ImageSize) (place : ℕ)
@@ -155,7 +230,8 @@ ends_at count d t size place is at =
     tells (λ _. ⊥) d (icon_answer (last_largest t.held)) size place
     (by_answer (Tells (λ _. ⊥)) (last_largest t.held) tt (λ size. tt))
     (sym (ap (λ test. (layout_reads d
-    (cond test (icon_answer (last_largest t.held)) (if_there t.place 2 (icon_entry t.held t.place)))).answer)
+    (cond test (icon_answer (last_largest t.held))
+    (if_there t.place 2 (icon_entry (last_largest t.held) t.place)))).answer)
     all) ∙ is)
 
 records_few : (count : ℕ) (d : List ℕ) → records (icon_entries count) d ≤ count + 1
@@ -179,8 +255,8 @@ entry_at_most : (count : ℕ) (sizes : List ImageSize) (place : ℕ) → AtMost 
 entry_at_most count sizes place =
     by_count (AtMost 2) count sizes place (by_answer (AtMost 2) (last_largest sizes) tt (λ size. tt)) (
       omega arith,
-      λ bs. by_entry (AtMost 0) sizes place (whole 2 bs) (by_answer (AtMost 0) (last_largest sizes) tt (λ size. tt))
-          (λ size. tt),
+      λ bs. by_entry (AtMost 0) (last_largest sizes) place (whole 2 bs)
+          (by_answer (AtMost 0) (last_largest sizes) tt (λ size. tt)) (λ size. tt),
     )
 
 -- what is seen of an input

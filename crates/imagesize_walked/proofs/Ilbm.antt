@@ -10,7 +10,7 @@ use Rattle.imagesize_source.specs.Counts.{AtMost}
 use Rattle.imagesize_source.specs.Extension.{Plain, Lasts}
 use Rattle.imagesize_source.specs.Layout.{Layout, refuse, done, layout_reads}
 use Rattle.imagesize_source.specs.State.{total}
-use Rattle.imagesize_source.proofs.Advances.{Tells, advances}
+use Rattle.imagesize_source.proofs.Advances.{Begins, Tells, advances}
 use Rattle.imagesize_source.proofs.Ahead.{Ahead, chain_ahead}
 use Rattle.imagesize_source.proofs.PastTheEnd.{bytes_beyond}
 use Rattle.imagesize_source.proofs.Agreement.{without_texts}
@@ -27,10 +27,15 @@ by_name P place head body header other =
     (λ _. body)
     (λ _. other))
 
+-- a chunk tells a place behind its own
+pub chunk_tells : (place : ℕ) → Tells (λ p. place < p) (ilbm_chunk place)
+chunk_tells place head = by_name (Tells (λ p. place < p)) place head tt (λ width height. tt) (omega arith)
+
+pub chunk_begins : (place : ℕ) → Begins place (ilbm_chunk place)
+chunk_begins place = (omega arith, omega arith)
+
 pub ilbm_advances : (d : List ℕ) → Advances ilbm_chunks d
-ilbm_advances = advances ilbm_chunks
-    (λ passed place head. by_name (Tells (λ p. place < p)) place head tt (λ width height. tt) (omega arith))
-    (λ passed place. (omega arith, omega arith))
+ilbm_advances = advances ilbm_chunks (λ passed place. chunk_tells place) (λ passed place. chunk_begins place)
 
 pub ilbm_lasts : Lasts ilbm
 ilbm_lasts = lasts_chain ilbm_chunks ilbm_advances

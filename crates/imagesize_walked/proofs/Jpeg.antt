@@ -20,7 +20,7 @@ use Rattle.imagesize_source.specs.Paying.{Nears}
 use Rattle.imagesize_source.specs.State.{State, Runs, total}
 use Rattle.imagesize_source.specs.Walk.{KeepsOn, said_at}
 use Rattle.imagesize_source.specs.declared.walk.Found.{Found}
-use Rattle.imagesize_source.proofs.Advances.{Tells, advances, tells}
+use Rattle.imagesize_source.proofs.Advances.{Begins, Tells, advances, tells}
 use Rattle.imagesize_source.proofs.PastTheEnd.{bytes_beyond}
 use Rattle.imagesize_source.proofs.Agreement.{without_texts}
 use Rattle.imagesize_source.proofs.ChainLaws.{local_chain, lasts_chain, chain_cost, chain_within}
@@ -45,11 +45,17 @@ by_head P k place head none frame other =
     (λ _. other (slice_index head 1))))
     (λ _. none)
 
+-- a segment tells a place behind its own
+pub segment_tells : (k place : ℕ) → Tells (λ p. place < p) (jpeg_segment k place)
+segment_tells k place head =
+    by_head (Tells (λ p. place < p)) k place head tt (λ height width. tt) (λ marker length. omega arith)
+
+pub segment_begins : (k place : ℕ) → Begins place (jpeg_segment k place)
+segment_begins k place = (omega arith, omega arith)
+
 pub jpeg_advances : (d : List ℕ) → Advances jpeg_segments d
-jpeg_advances = advances jpeg_segments
-    (λ markers place head. by_head (Tells (λ p. place < p)) (depth markers) place head tt (λ height width. tt)
-    (λ marker length. omega arith))
-    (λ markers place. (omega arith, omega arith))
+jpeg_advances = advances jpeg_segments (λ markers place. segment_tells (depth markers) place)
+    (λ markers place. segment_begins (depth markers) place)
 
 pub jpeg_lasts : Lasts jpeg
 jpeg_lasts = lasts_chain jpeg_segments jpeg_advances
@@ -90,7 +96,7 @@ counts_on p markers marker = sum_by-append (λ m. cond (p m) 1 0) markers (marke
     ∙ ap (λ n. count_by p markers + n)
     (zero-add (cond (p marker) 1 0))
 
-nested_on : (k marker : ℕ) (markers : List ℕ) → (marker ≡ 0xD9 → 0 < k) → Nested k markers
+pub nested_on : (k marker : ℕ) (markers : List ℕ) → (marker ≡ 0xD9 → 0 < k) → Nested k markers
     → Nested (depth_behind k marker)
     (markers ++ marker ∷ [])
 nested_on k marker markers inner h =

@@ -1,13 +1,13 @@
 -- TIFF: how a walk along the entries goes, how many bytes they are read from, and what it sees of an input.
-use Rattle.std.proofs.Common.{◌≡◌, ◌≢◌, ℕ, ◌+◌, ◌-◌, ◌*◌, ◌^◌, ◌<◌, ◌≤◌, min, Bool, true, false, cond, eqb, List, [], ◌∷◌, ◌++◌, length, take, Option, Some, None, Result, Ok, Err, refl, sym, ap, ◌∙◌, subst, arith}
+use Rattle.std.proofs.Common.{◌≡◌, ◌≢◌, ℕ, ◌+◌, ◌-◌, ◌*◌, ◌^◌, ◌<◌, ◌≤◌, min, Bool, true, false, cond, eqb, List, [], ◌∷◌, ◌++◌, length, take, Option, Some, None, Result, Ok, Err, IfOk, IfErr, refl, sym, ap, ◌∙◌, subst, arith}
 use Rattle.std.proofs.lemmas.Bool.Decides.{nat_tests}
 use Rattle.std.proofs.lemmas.List.{append-nil, length_push}
 use Rattle.std.proofs.lemmas.List.Elements.{filter-append}
 use Rattle.std.specs.Prelude.{filter, option_and_then}
 use Rattle.std.specs.List.{last_or}
-use Rattle.imagesize_walked.specs.Walks.{Known}
+use Rattle.imagesize_walked.specs.Walks.{EntriesOn, Known}
 use Rattle.imagesize_types.specs.Sides.{size_if_known}
-use Rattle.imagesize_walked.specs.Tiff.{byte_order, size_or_next, count_bytes, directory_at, tiff_begun, entry_bytes, head_bytes, field_type_in, field_type_of, last_value, size_in, stated_place, tag_in, tiff, tiff_directory, tiff_entries, tiff_entry, tiff_head, tiff_header, tiff_value, value_bytes, value_of, version_of, whole_value, directory_begun}
+use Rattle.imagesize_walked.specs.Tiff.{byte_order, entry_behind, entry_says, side_with, size_or_next, count_bytes, directory_at, tiff_begun, entry_bytes, head_bytes, field_type_in, field_type_of, last_value, size_in, stated_place, tag_in, tiff, tiff_directory, tiff_entries, tiff_entry, tiff_head, tiff_header, tiff_value, value_bytes, value_of, version_of, whole_value, directory_begun}
 use Rattle.imagesize_walked.specs.declared.formats.tiff.Entry.{Entry}
 use Rattle.imagesize_walked.specs.declared.formats.tiff.Header.{Header}
 use Rattle.imagesize_walked.specs.declared.formats.tiff.FieldType.{FieldType}
@@ -25,7 +25,12 @@ use Rattle.imagesize_source.specs.Input.{span_of}
 use Rattle.imagesize_source.specs.Layout.{Layout, layout_reads, bind, whole, accept}
 use Rattle.imagesize_source.specs.Layout.Layout.{field, refuse, «done»}
 use Rattle.imagesize_source.specs.Numbers.{number}
-use Rattle.imagesize_source.specs.Reading.{and_then, go_on, number_at, number_read, refuses, map_answer}
+use Rattle.imagesize_source.specs.Reading.{Reads, and_then, go_on, put_behind, number_at, number_read, refuses, map_answer}
+use Rattle.imagesize_source.specs.Walk.{KeepsOn, said_at}
+use Rattle.imagesize_source.specs.declared.span.Span.{Span}
+use Rattle.imagesize_source.specs.declared.walk.Found.{Found}
+use Rattle.imagesize_source.specs.declared.walk.Found.TheVariants as found
+use Rattle.imagesize_source.proofs.Layouts.{over-bind}
 use Rattle.imagesize_source.specs.State.{State, Runs, IsSound, total}
 use Rattle.imagesize_source.proofs.Advances.{Tells, Begins, advances}
 use Rattle.imagesize_source.proofs.Ahead.{Ahead, chain_ahead}
@@ -139,6 +144,34 @@ entries_advance header count = advances (tiff_entries header count)
     (record_tells header entries place))
     (λ entries place. by_count (Begins place) header count entries place tt (record_begins header entries place))
 
+-- the same by the sides that the entries before give
+pub behind_tells : (header : Header) (count seen : ℕ) (width height : Option ℕ) (place : ℕ)
+    → Tells (λ p. place < p) (entry_behind header count seen width height place)
+unfolding tiff_entry tiff_head tiff_value
+behind_tells header count seen width height place =
+    on_test (Tells (λ p. place < p)) (eqb seen count) (refuse NoDimensionsInIfd)
+    (bind (tiff_entry header place) (entry_says header width height place)) (λ _. tt)
+    (λ _ head. by_accepted (Tells (λ p. place < p))
+    (field_type_of header.version (field_type_in header.order (take 4 head)))
+    (λ field_type. bind (tiff_value header.version (place + head_bytes header.version))
+    (λ value. done (entry_of header (take 4 head) field_type value)))
+    (entry_says header width height place) (λ e. tt)
+    (λ field_type value. by_whole (Tells (λ p. place < p)) (whole (value_bytes header.version) value)
+    (λ value. done (entry_of header (take 4 head) field_type value))
+    (entry_says header width height place) tt
+    (λ value. let entry : Entry = entry_of header (take 4 head) field_type value in
+    by_completed (Tells (λ p. place < p))
+    (size_if_known (side_with 0x100 width entry) (side_with 0x101 height entry)) entry
+    (place + entry_bytes header.version) (λ size. tt) (omega (arith, head_some header.version)))))
+
+pub behind_begins : (header : Header) (count seen : ℕ) (width height : Option ℕ) (place : ℕ)
+    → Begins place (entry_behind header count seen width height place)
+unfolding tiff_entry tiff_head
+behind_begins header count seen width height place =
+    on_test (Begins place) (eqb seen count) (refuse NoDimensionsInIfd)
+    (bind (tiff_entry header place) (entry_says header width height place)) (λ _. tt)
+    (λ _. (omega arith, head_some header.version))
+
 last_by : (tag : ℕ) (entries : List Entry) (entry : Entry) (b : Bool) → eqb entry.tag tag ≡ b
     → last_or None (filter (λ e. eqb e.tag tag) (entries ++ entry ∷ [])) ≡ cond b (Some entry)
     (last_or None (filter (λ e. eqb e.tag tag) entries))
@@ -232,6 +265,120 @@ module _ {a b : State} (header : Header) (count i : ℕ) (width height : Option 
   entry_refused e run = subst (λ t. Runs {X = Said Entry ImageSize} a b (Err e) (layout_reads a.held.input t))
       (sym (more_said header count i width height entries place h more))
       (refused_bind (tiff_entry header place) (says header entries place) run)
+
+-- the record behind entries is that behind the sides which they give
+same_on : {X Y : Type 0} (marks : List Span) (r : Result X Halt) (f g : X → Reads Y) → ((x : X) → f x ≡ g x)
+    → go_on marks r f ≡ go_on marks r g
+same_on marks (Ok x) f g same = ap (put_behind marks) (same x)
+same_on marks (Err e) f g same = refl
+
+pub entry_as : (d : List ℕ) (header : Header) (count seen : ℕ) (width height : Option ℕ) (place : ℕ)
+    (entries : List Entry) → Known seen width height entries
+    → layout_reads d ((tiff_entries header count).said entries place)
+    ≡ layout_reads d (entry_behind header count seen width height place)
+entry_as d header count seen width height place entries h =
+    ap (λ n. layout_reads d (cond (eqb n count) (refuse NoDimensionsInIfd) (record_behind header entries place))) h.many
+    ∙ by_test (eqb seen count) where
+      one : (entry : Entry)
+          → layout_reads d (says header entries place entry)
+          ≡ layout_reads d (entry_says header width height place entry)
+      one entry = ap (λ size. layout_reads d (done (size_or_next size entry (place + entry_bytes header.version))))
+          (size_known (seen + 1) (side_with 0x100 width entry) (side_with 0x101 height entry) (entries ++ entry ∷ [])
+          (known_on seen width height (side_with 0x100 width entry)
+          (side_with 0x101 height entry) entries entry refl refl h))
+
+      by_test : (all : Bool) → layout_reads d (cond all (refuse NoDimensionsInIfd) (record_behind header entries place))
+          ≡ layout_reads d (cond all (refuse NoDimensionsInIfd)
+          (bind (tiff_entry header place) (entry_says header width height place)))
+      by_test true = refl
+      by_test false =
+          over-bind d (tiff_entry header place) (says header entries place)
+          ∙ same_on (layout_reads d (tiff_entry header place)).marks (layout_reads d (tiff_entry header place)).answer
+          (λ entry. layout_reads d (says header entries place entry))
+          (λ entry. layout_reads d (entry_says header width height place entry)) one
+          ∙ sym (over-bind d (tiff_entry header place) (entry_says header width height place))
+
+pub entry_runs : {a b : State} {r : Result (Said Entry ImageSize) Halt} (header : Header) (count seen : ℕ)
+    (width height : Option ℕ) (place : ℕ)
+    → Runs a b r (layout_reads a.held.input (entry_behind header count seen width height place))
+    → (entries : List Entry) → Known seen width height entries
+    → Runs a b r (layout_reads a.held.input ((tiff_entries header count).said entries place))
+entry_runs {a} {b} {r} header count seen width height place run entries h =
+    subst (λ w. Runs a b r w) (sym (entry_as a.held.input header count seen width height place entries h)) run
+
+-- an entry that was read leads on
+pub entries_on : (header : Header) (seen after : ℕ) (width height wide high : Option ℕ) (entries : List Entry)
+    (place : ℕ) (r : Result (Found Entry ImageSize) Halt)
+    → Known seen width height entries
+    → IfOk r (λ found. EntriesOn seen width height after wide high (said_at place found))
+    → IfOk r (λ found. KeepsOn (λ held q. Known after wide high held) entries (said_at place found))
+entries_on header seen after width height wide high entries place (Ok (found.Answer x)) h on = tt
+entries_on header seen after width height wide high entries place (Ok (found.Other entry length)) h on =
+    subst (λ n. Known n wide high (entries ++ entry ∷ [])) (sym on.0)
+    (known_on seen width height wide high entries entry on.1 on.2 h)
+entries_on header seen after width height wide high entries place (Err e) h on = tt
+
+pub entries_stay : (seen after : ℕ) (width height wide high : Option ℕ) (entries : List Entry)
+    (r : Result (Found Entry ImageSize) Halt)
+    → Known seen width height entries → IfErr r (λ _. (after ≡ seen) × (wide ≡ width) × (high ≡ height))
+    → IfErr r (λ _. Known after wide high entries)
+entries_stay seen after width height wide high entries (Ok found) h same = tt
+entries_stay seen after width height wide high entries (Err e) h same =
+    subst (λ n. Known n wide high entries) (sym same.0)
+    (subst (λ w. Known seen w high entries) (sym same.1) (subst (λ o. Known seen width o entries) (sym same.2) h))
+
+-- no entry is left
+pub none_left : {a : State} (header : Header) (count seen : ℕ) (width height : Option ℕ) (place : ℕ) → IsSound a
+    → seen ≡ count
+    → Runs {X = Said Entry ImageSize} a a (Err NoDimensionsInIfd)
+    (layout_reads a.held.input (entry_behind header count seen width height place))
+none_left {a} header count seen width height place sound many =
+    let all : eqb seen count ≡ true = grind (arith, nat_tests) in
+    rw all (reads_nothing a (Err NoDimensionsInIfd) sound refl
+    (record { budget = λ e. absurd cc; fault = λ e. absurd cc }))
+
+module _ {a b : State} (header : Header) (count seen : ℕ) (width height : Option ℕ) (place : ℕ) where
+  -- one is left, that is read or refused
+  pub next_said : seen ≢ count → (entry : Entry) (wide high : Option ℕ) (size : Option ImageSize)
+      → wide ≡ side_with 0x100 width entry
+      → high ≡ side_with 0x101 height entry → size_if_known wide high ≡ size
+      → Runs a b (Ok entry) (layout_reads a.held.input (tiff_entry header place))
+      → Runs a b (Ok (size_or_next size entry (place + entry_bytes header.version)))
+      (layout_reads a.held.input (entry_behind header count seen width height place))
+  next_said more entry wide high size is_wide is_high is run =
+      let no : eqb seen count ≡ false = grind (arith, nat_tests) in
+      let known : size_if_known (side_with 0x100 width entry) (side_with 0x101 height entry) ≡ size =
+      ap (λ w. size_if_known w (side_with 0x101 height entry)) (sym is_wide) ∙ ap (size_if_known wide) (sym is_high)
+      ∙ is in
+      rw no (runs_bind (Ok (size_or_next size entry (place + entry_bytes header.version))) (tiff_entry header place)
+      (entry_says header width height place) run
+      (λ d. ap (λ o. layout_reads d (done (size_or_next o entry (place + entry_bytes header.version)))) known) refl tt)
+
+  pub next_refused : seen ≢ count → (e : Halt)
+      → Runs {X = Entry} a b (Err e) (layout_reads a.held.input (tiff_entry header place))
+      → Runs {X = Said Entry ImageSize} a b (Err e)
+      (layout_reads a.held.input (entry_behind header count seen width height place))
+  next_refused more e run =
+      let no : eqb seen count ≡ false = grind (arith, nat_tests) in
+      rw no (refused_bind (tiff_entry header place) (entry_says header width height place) run)
+
+-- from the end of the input on there is no entry
+pub behind_ends : (header : Header) (count seen : ℕ) (width height : Option ℕ) (d : List ℕ) (place : ℕ)
+    → length d ≤ place
+    → layout_reads d (entry_behind header count seen width height place)
+    ≡ record { answer = cond (eqb seen count) (Err NoDimensionsInIfd) (Err Ended); marks = [] }
+unfolding tiff_entry tiff_head
+behind_ends header count seen width height d place far = by_test (eqb seen count) where
+  by_test : (all : Bool)
+      → layout_reads d (cond all (refuse NoDimensionsInIfd)
+      (bind (tiff_entry header place) (entry_says header width height place)))
+      ≡ record { answer = cond all (Err NoDimensionsInIfd) (Err Ended); marks = [] }
+  by_test true = refl
+  by_test false = bytes_beyond d place (head_bytes header.version)
+      (λ head. bind (accept (field_type_of header.version (field_type_in header.order (take 4 head)))
+      (λ field_type. bind (tiff_value header.version (place + head_bytes header.version))
+      (λ value. done (entry_of header (take 4 head) field_type value)))) (entry_says header width height place)) far
+      (head_some header.version)
 
 -- from the end of the input on there is no entry
 pub entries_end : (header : Header) (count i : ℕ) (width height : Option ℕ) (entries : List Entry)

@@ -27,16 +27,21 @@ abbrev pub icon_answer : Option ImageSize → Layout (Said ImageSize ImageSize)
 icon_answer None = refuse Corrupted
 icon_answer (Some size) = done (Decided size)
 
--- an entry of 16 bytes, after entries of these sizes; the list ends if the input does
-abbrev pub icon_entry : List ImageSize → ℕ → Option (List ℕ) → Layout (Said ImageSize ImageSize)
-icon_entry sizes place None = icon_answer (last_largest sizes)
-icon_entry sizes place (Some bytes) = done (Next (icon_size bytes) (place + 16))
+-- an entry of 16 bytes, after entries of which this size is the result; the list ends if the input does
+abbrev pub icon_entry : Option ImageSize → ℕ → Option (List ℕ) → Layout (Said ImageSize ImageSize)
+icon_entry largest place None = icon_answer largest
+icon_entry largest place (Some bytes) = done (Next (icon_size bytes) (place + 16))
+
+-- the record after `seen` entries, of which this size is the result
+abbrev pub icon_in : ℕ → ℕ → Option ImageSize → ℕ → Layout (Said ImageSize ImageSize)
+icon_in count seen largest place =
+    if seen == count then icon_answer largest else if_there place 2 (icon_entry largest place)
 
 -- as many entries as the count says (idCount), from the end of the count on
 abbrev pub icon_entries : ℕ → Chain ImageSize ImageSize
 icon_entries count = record {
   first = 6;
-  said = λ sizes place. if length sizes == count then icon_answer (last_largest sizes) else if_there place 2 (icon_entry sizes place);
+  said = λ sizes place. icon_in count (length sizes) (last_largest sizes) place;
 }
 
 abbrev pub ico : List ℕ → Reads ImageSize

@@ -134,6 +134,20 @@ abbrev pub size_or_next : Option ImageSize → Entry → ℕ → Said Entry Imag
 size_or_next (Some size) entry next = Decided size
 size_or_next None entry next = Next entry next
 
+-- the width or the height after one more entry; an entry with that tag replaces it by its own value, or by `None`
+abbrev pub side_with : ℕ → Option ℕ → Entry → Option ℕ
+side_with tag side entry = if entry.tag == tag then entry.value else side
+
+-- what an entry says after entries that give this width and this height
+abbrev pub entry_says : Header → Option ℕ → Option ℕ → ℕ → Entry → Layout (Said Entry ImageSize)
+entry_says header width height place entry =
+    done (size_or_next (size_if_known (side_with 0x100 width entry) (side_with 0x101 height entry)) entry (place + entry_bytes header.version))
+
+-- the record after `seen` entries, which give this width and this height
+abbrev pub entry_behind : Header → ℕ → ℕ → Option ℕ → Option ℕ → ℕ → Layout (Said Entry ImageSize)
+entry_behind header count seen width height place =
+    if seen == count then refuse NoDimensionsInIfd else bind (tiff_entry header place) (entry_says header width height place)
+
 -- the entries of a directory, as many as the count says, without gaps after it
 abbrev pub tiff_entries : Header → ℕ → Chain Entry ImageSize
 tiff_entries header count = record {

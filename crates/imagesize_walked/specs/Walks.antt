@@ -3,10 +3,10 @@ use Rattle.std.specs.Prelude.{◌≡◌, ℕ, ◌+◌, ◌-◌, ◌<◌, ◌≤�
 use Rattle.std.specs.Option.{ForSome}
 use Rattle.imagesize_source.specs.Layout.{Layout, if_there}
 use Rattle.imagesize_source.specs.Layout.Layout.{done}
-use Rattle.imagesize_types.specs.Largest.{area_if_some, greatest_area, last_largest}
+use Rattle.imagesize_types.specs.Largest.{area_if_some, greatest_area, last_largest, later_largest}
 use Rattle.imagesize_source.specs.Chain.{Said, Decided, Next}
 use Rattle.imagesize_types.specs.declared.size.ImageSize.{ImageSize}
-use Rattle.imagesize_walked.specs.Tiff.{last_value}
+use Rattle.imagesize_walked.specs.Tiff.{last_value, side_with}
 use Rattle.imagesize_walked.specs.declared.formats.tiff.Entry.{Entry}
 use Rattle.imagesize_walked.specs.Jpeg.{depth, count_starts, count_ends}
 use Rattle.imagesize_walked.specs.declared.formats.jpeg.Role.{Role}
@@ -53,9 +53,20 @@ pub record Seen (count : ℕ) (largest : Option ImageSize) (sizes : List ImageSi
   pub area : greatest_area sizes ≡ area_if_some largest
   pub icon : ForSome largest IsIcon
 
+-- one more entry of an icon was read; `after` is how many were read, and `largest` the largest of them
+abbrev pub IconsOn : ℕ → Option ImageSize → ℕ → Option ImageSize → Said ImageSize ImageSize → Type 0
+IconsOn seen best after largest (Decided size) = Unit {0}
+IconsOn seen best after largest (Next size place) = (after ≡ seen + 1) × (largest ≡ later_largest best size) × ForSome largest IsIcon
+
 -- the first bytes of the entry at an offset, or `None` after the last entry
 abbrev pub entry_in : ℕ → ℕ → ℕ → Layout (Option (List ℕ))
 entry_in count seen place = if seen == count then done None else if_there place 2 done
+
+-- one more entry of a TIFF was read; `after` is how many were read, and these are the width and the height from them
+abbrev pub EntriesOn : ℕ → Option ℕ → Option ℕ → ℕ → Option ℕ → Option ℕ → Said Entry ImageSize → Type 0
+EntriesOn seen width height after wide high (Decided size) = Unit {0}
+EntriesOn seen width height after wide high (Next entry place) =
+    (after ≡ seen + 1) × (wide ≡ side_with 0x100 width entry) × (high ≡ side_with 0x101 height entry)
 
 -- `count` entries of a TIFF were read, and these are the width and the height from them.
 pub record Known (count : ℕ) (width height : Option ℕ) (entries : List Entry) : Type 0 where

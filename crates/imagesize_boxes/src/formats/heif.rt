@@ -4,7 +4,8 @@ ghost use Rattle.std.specs.Prelude.{◌≡◌, ◌+◌, ◌<◌, ◌≤◌, Some
 ghost use Rattle.imagesize_boxes.specs.Heif.{box_size, brand_compression, compatible_compression, extents_size, heif, heif_compression, heif_in_iprp, heif_in_meta, is_general, is_heif, is_named, properties, property_at, property_bytes, search_for, searched_box, skipped_bytes, turn_by};
 ghost use Rattle.imagesize_boxes.specs.Walks.{Amounts, property_said, earlier_largest, gathered_with, gathered_answer, IsLeftFor};
 ghost use Rattle.imagesize_source.specs.Chain.{chain_at};
-ghost use Rattle.imagesize_source.specs.Paying.{Nears};
+ghost use Rattle.imagesize_source.specs.Paying.{Nears, Paid};
+ghost use Rattle.imagesize_source.specs.Walk.{said_at};
 ghost use Rattle.imagesize_source.specs.Reading.{bytes_read, map_answer};
 ghost use Rattle.imagesize_source.specs.State.{Follows, Runs, IsSound};
 
@@ -114,11 +115,13 @@ fn size_in_iprp<S: Source>(source: &mut S, iprp: FoundBox) -> Result<ImageSize, 
     largest(source, ipco)
 }
 
-// A box that a search found.
+/// A box that a search found.
 #[derive(Clone, Copy)]
-struct FoundBox {
-    place: u64,
-    size: u32,
+pub struct FoundBox {
+    /// Its offset.
+    pub place: u64,
+    /// How many bytes it has.
+    pub size: u32,
 }
 
 // Finds the first box with a name, from `place + distance` on. An offset above 2^64 - 1 is past the end of every input.
@@ -168,18 +171,7 @@ impl Records for Boxes {
         source: &mut S,
         place: u64,
     ) -> Result<Found<(), FoundBox>, Halt> {
-        let head = read_bytes::<S, 8>(source, place)?;
-        let size = box_size(&head);
-        if is_named(&head, &self.name) {
-            return Ok(Found::Answer(FoundBox { place, size }));
-        }
-        if size < 8 {
-            return Err(Halt::InvalidHeifBoxSize { size: size as u8 });
-        }
-        Ok(Found::Other {
-            held: (),
-            length: size as u64,
-        })
+        read_box(source, place, &self.name)
     }
 
     // The input ends before a box of this name.
@@ -188,6 +180,32 @@ impl Records for Boxes {
     fn at_end(&self) -> Result<FoundBox, Halt> {
         Err(Halt::Ended)
     }
+}
+
+/// Reads the box at an offset, and whether it has this name.
+#[inline(always)]
+#[tactic(auto, using(imagesize_source::proofs::Runs::steps))]
+pub fn read_box<S: Source>(
+    source: &mut S,
+    place: u64,
+    name: &[u8; 4],
+) -> Result<Found<(), FoundBox>, Halt>
+    ensures pays { IfOk result (λ _. Paid (S.state source.old) (S.state source.new) place) }
+    ensures nears { IfOk result (λ found. Nears (S.state source.old) (S.state source.new) place (said_at place found)) }
+    ensures runs { Follows (S.state source.old) (S.state source.new) (map_answer (said_at place) result) (searched_box name.now place) }
+{
+    let head = read_bytes::<S, 8>(source, place)?;
+    let size = box_size(&head);
+    if is_named(&head, name) {
+        return Ok(Found::Answer(FoundBox { place, size }));
+    }
+    if size < 8 {
+        return Err(Halt::InvalidHeifBoxSize { size: size as u8 });
+    }
+    Ok(Found::Other {
+        held: (),
+        length: size as u64,
+    })
 }
 
 // The size of a box in bytes, from its first four bytes.
@@ -208,9 +226,9 @@ fn is_named(head: &[u8; 8], name: &[u8; 4]) -> bool
     head[4] == name[0] && head[5] == name[1] && head[6] == name[2] && head[7] == name[3]
 }
 
-// The first `N` bytes of a box's content, after its size and its name.
+/// The first `N` bytes of a box's content, after its size and its name.
 #[inline(always)]
-fn read_content<S: Source, const N: usize>(source: &mut S, place: u64) -> Result<[u8; N], Halt>
+pub fn read_content<S: Source, const N: usize>(source: &mut S, place: u64) -> Result<[u8; N], Halt>
     requires { 0 < N }
     ensures { Runs (S.state source.old) (S.state source.new) result
         (bytes_read (S.state source.old).held.input (place + 8) N) }
@@ -218,26 +236,26 @@ fn read_content<S: Source, const N: usize>(source: &mut S, place: u64) -> Result
     read_bytes_behind::<S, N>(source, place, 8)
 }
 
-// What a property says.
+/// What a property says.
 #[derive(Clone, Copy)]
-enum Property {
-    // The size of an image in pixels.
+pub enum Property {
+    /// The size of an image in pixels.
     Extents(ImageSize),
-    // A rotation, in quarter turns.
+    /// A rotation, in quarter turns.
     Rotation(u8),
-    // Another box, of this size in bytes.
+    /// Another box, of this size in bytes.
     Skipped(u32),
 }
 
-// What the properties so far add up to.
+/// What the properties so far add up to.
 #[derive(Clone, Copy)]
-struct Gathered {
-    // The size of the list's box in bytes, less the sizes of the skipped boxes.
-    left: u32,
-    // The greatest image size so far.
-    best: Option<ImageSize>,
-    // The last rotation, in quarter turns.
-    turn: Option<u8>,
+pub struct Gathered {
+    /// The size of the list's box in bytes, less the sizes of the skipped boxes.
+    pub left: u32,
+    /// The greatest image size so far.
+    pub best: Option<ImageSize>,
+    /// The last rotation, in quarter turns.
+    pub turn: Option<u8>,
 }
 
 // The size from the properties in this box.
@@ -303,11 +321,15 @@ impl Records for Properties {
     }
 }
 
-// Reads the property at an offset, or returns `None` at the end of the list. A box is skipped only if it is smaller than `left`
-// bytes.
+/// Reads the property at an offset, or returns `None` at the end of the list. A box is skipped only if it is smaller than `left`
+/// bytes.
 #[inline(always)]
 #[tactic(auto, using(imagesize_source::proofs::Runs::steps, imagesize_source::proofs::Runs::missed_before))]
-fn read_property<S: Source>(source: &mut S, place: u64, left: u32) -> Result<Option<Property>, Halt>
+pub fn read_property<S: Source>(
+    source: &mut S,
+    place: u64,
+    left: u32,
+) -> Result<Option<Property>, Halt>
     ensures nears { IfOk result (λ found. Nears (S.state source.old) (S.state source.new) place (property_said place found)) }
     ensures fits { IfOk result (λ found. IsLeftFor left found) }
     ensures runs { Follows (S.state source.old) (S.state source.new) result (property_at left place) }
@@ -337,9 +359,9 @@ fn read_property<S: Source>(source: &mut S, place: u64, left: u32) -> Result<Opt
     Ok(Some(Property::Skipped(size)))
 }
 
-// How many bytes after a property the next one begins.
+/// How many bytes after a property the next one begins.
 #[inline(always)]
-fn property_bytes(property: Property) -> u64
+pub fn property_bytes(property: Property) -> u64
     ensures { result ≡ property_bytes property }
 {
     match property {
@@ -349,9 +371,9 @@ fn property_bytes(property: Property) -> u64
     }
 }
 
-// Adds one more property.
+/// Adds one more property.
 #[inline(always)]
-fn gather(gathered: Gathered, property: Property) -> Gathered
+pub fn gather(gathered: Gathered, property: Property) -> Gathered
     requires { skipped_bytes property ≤ gathered.left }
     ensures { result ≡ gathered_with gathered property }
 {
@@ -399,9 +421,9 @@ fn larger(best: Option<ImageSize>, size: ImageSize) -> ImageSize
     }
 }
 
-// The result at the end of the list.
+/// The result at the end of the list.
 #[inline(always)]
-fn answer(gathered: Gathered) -> Result<ImageSize, Halt>
+pub fn answer(gathered: Gathered) -> Result<ImageSize, Halt>
     ensures { result ≡ gathered_answer gathered }
 {
     match gathered.best {

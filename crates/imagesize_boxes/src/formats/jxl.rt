@@ -4,8 +4,8 @@ ghost use Rattle.imagesize_boxes.specs.Jxl.{is_jxl, jxl, jxl_codestream, jxl_sta
 ghost use Rattle.imagesize_source.specs.State.{Follows, Runs};
 
 mod bits;
-mod boxes;
-mod front;
+pub mod boxes;
+pub mod front;
 mod header;
 
 use front::Front;
@@ -58,9 +58,9 @@ fn read_codestream<S: Source>(source: &mut S) -> Result<Front, Halt>
     }
 }
 
-// The first bytes of an input that is a codestream, or `None` if it has boxes.
+/// The first bytes of an input that is a codestream, or `None` if it has boxes.
 #[tactic(auto, using(imagesize_source::proofs::Runs::steps))]
-fn read_start<S: Source>(source: &mut S) -> Result<Option<Front>, Halt>
+pub fn read_start<S: Source>(source: &mut S) -> Result<Option<Front>, Halt>
     ensures { Follows (S.state source.old) (S.state source.new) result jxl_start }
 {
     let start = read_bytes::<S, 2>(source, 0)?;

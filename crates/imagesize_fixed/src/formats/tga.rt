@@ -37,9 +37,9 @@ fn matches_by_length<S: Source>(source: &mut S, head: &[u8; 12], length: u64) ->
     has_sound_header(source, head)
 }
 
-// Whether the fields of the colour map and of the pixels agree with each other.
+/// Whether the fields of the colour map and of the pixels agree with each other.
 #[tactic(auto, using(imagesize_source::proofs::Runs::steps))]
-fn has_sound_header<S: Source>(source: &mut S, head: &[u8; 12]) -> Result<bool, Halt>
+pub fn has_sound_header<S: Source>(source: &mut S, head: &[u8; 12]) -> Result<bool, Halt>
     ensures { Follows (S.state source.old) (S.state source.new) result (tga_by_header head.now) }
 {
     let map = read_bytes::<S, 4>(source, 3)?;
@@ -52,25 +52,25 @@ fn has_sound_header<S: Source>(source: &mut S, head: &[u8; 12]) -> Result<bool, 
     Ok(is_pixel_sound(bits, descriptor))
 }
 
-// Whether the image type and the type of the colour map are known.
+/// Whether the image type and the type of the colour map are known.
 #[tactic(auto, unfolding(crate::specs::Tga::may_be_tga))]
-fn may_be_tga(head: &[u8; 12]) -> bool
+pub fn may_be_tga(head: &[u8; 12]) -> bool
     ensures { result ≡ may_be_tga head.now }
 {
     matches!(head[2], 1 | 2 | 3 | 9 | 10 | 11) && head[1] <= 1
 }
 
-// Whether the footer ends with the signature.
+/// Whether the footer ends with the signature.
 #[tactic(auto, unfolding(crate::specs::Tga::is_tga_footer))]
-fn is_footer(footer: &[u8; 18]) -> bool
+pub fn is_footer(footer: &[u8; 18]) -> bool
     ensures { result ≡ is_tga_footer footer.now }
 {
     *footer == *b"TRUEVISION-XFILE.\0"
 }
 
-// Whether the pixels are indices into a colour map that the file does not have.
+/// Whether the pixels are indices into a colour map that the file does not have.
 #[tactic(auto, unfolding(crate::specs::Tga::lacks_its_map))]
-fn lacks_its_map(head: &[u8; 12]) -> bool
+pub fn lacks_its_map(head: &[u8; 12]) -> bool
     ensures { result ≡ lacks_its_map head.now }
 {
     (head[2] == 1 || head[2] == 9) && head[1] == 0

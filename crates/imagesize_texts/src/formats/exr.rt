@@ -40,10 +40,10 @@ pub fn size<S: Source>(source: &mut S) -> Result<ImageSize, Halt>
     find_window(source, name_room(version))
 }
 
-// The greatest length of a name in bytes, with the zero that ends it.
+/// The greatest length of a name in bytes, with the zero that ends it.
 #[inline]
 #[tactic(auto, unfolding(crate::specs::Exr::name_room))]
-fn name_room(version: u32) -> usize
+pub fn name_room(version: u32) -> usize
     ensures value { result ≡ name_room version }
     ensures some { 0 < result }
     ensures few { result ≤ 256 }
@@ -65,11 +65,13 @@ fn find_window<S: Source>(source: &mut S, names: usize) -> Result<ImageSize, Hal
     walk(attributes, source, 8)
 }
 
-// The attributes. Their names have at most `names` bytes, and are read into `room`.
+/// The attributes.
 #[derive(Drop)]
-struct Attributes {
-    names: usize,
-    room: [u8; 256],
+pub struct Attributes {
+    /// Their names have at most this many bytes.
+    pub names: usize,
+    /// The names are read into this buffer.
+    pub room: [u8; 256],
 }
 
 impl Records for Attributes {

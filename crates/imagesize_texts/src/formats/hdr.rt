@@ -11,8 +11,8 @@ use imagesize_source::source::Source;
 use imagesize_source::walk::{Found, Records, walk};
 use imagesize_types::size::{ImageSize, size_if_known};
 
-// A line after the first has at most this many bytes, including its line feed.
-const LINE_ROOM: usize = 256;
+/// A line after the first has at most this many bytes, including its line feed.
+pub const LINE_ROOM: usize = 256;
 
 /// Whether the input begins with a line that is one of the two identifiers.
 #[inline(always)]
@@ -61,9 +61,9 @@ pub fn size<S: Source>(source: &mut S) -> Result<ImageSize, Halt>
     walk(lines, source, first)
 }
 
-// Reads the first line, which must begin with an identifier, and returns its length in bytes with the line feed.
+/// Reads the first line, which must begin with an identifier, and returns its length in bytes with the line feed.
 #[tactic(auto, using(imagesize_source::proofs::Runs::steps))]
-fn read_identifier<S: Source>(source: &mut S) -> Result<u64, Halt>
+pub fn read_identifier<S: Source>(source: &mut S) -> Result<u64, Halt>
     ensures { Follows (S.state source.old) (S.state source.new) result hdr_identifier }
 {
     let mut room = [0u8; 11];
@@ -74,10 +74,11 @@ fn read_identifier<S: Source>(source: &mut S) -> Result<u64, Halt>
     Ok(line.len() as u64 + 1)
 }
 
-// The lines after the first, which are read into `room`.
+/// The lines after the first.
 #[derive(Drop)]
-struct Lines {
-    room: [u8; LINE_ROOM],
+pub struct Lines {
+    /// A line is read into this buffer.
+    pub room: [u8; LINE_ROOM],
 }
 
 impl Records for Lines {

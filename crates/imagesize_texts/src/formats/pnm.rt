@@ -39,10 +39,11 @@ pub fn size<S: Source>(source: &mut S) -> Result<ImageSize, Halt>
     walk(words, source, 2)
 }
 
-// The words after the magic number, which are read into `room`.
+/// The words after the magic number.
 #[derive(Drop)]
-struct Words {
-    room: [u8; WORD_ROOM],
+pub struct Words {
+    /// A word is read into this buffer.
+    pub room: [u8; WORD_ROOM],
 }
 
 impl Records for Words {
@@ -100,20 +101,20 @@ fn pass(taken: u64) -> Found<(), ImageSize>
     }
 }
 
-// Whether a word begins a comment.
+/// Whether a word begins a comment.
 #[inline]
 #[tactic(auto, unfolding(crate::specs::Pnm::is_comment))]
-fn is_comment(text: &str) -> bool
+pub fn is_comment(text: &str) -> bool
     ensures { result ≡ is_comment text.now }
 {
     // The most common case needs no trimming.
     is_hash(text.as_bytes()) || matches!(text.trim().as_bytes(), [b'#', ..])
 }
 
-// Whether a word is white space only.
+/// Whether a word is white space only.
 #[inline]
 #[tactic(auto, unfolding(crate::specs::Pnm::is_blank))]
-fn is_blank(text: &str) -> bool
+pub fn is_blank(text: &str) -> bool
     ensures { result ≡ is_blank text.now }
 {
     text.trim().is_empty()

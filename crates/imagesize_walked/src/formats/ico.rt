@@ -1,13 +1,15 @@
 //! Windows icons, by `ICONDIR` and `ICONDIRENTRY` of "Icons" (Win32).
-ghost use Rattle.std.specs.Prelude.{◌≡◌, ◌<◌, ◌≤◌, ◌*◌, IfOk, IfSome, Some, ok_or};
+ghost use Rattle.std.specs.Prelude.{◌≡◌, ◌+◌, ◌<◌, ◌≤◌, ◌*◌, IfErr, IfOk, IfSome, Some, ok_or};
 ghost use Rattle.std.specs.Option.{ForSome};
-ghost use Rattle.imagesize_walked.specs.Ico.{ico, icon_entries, icon_side, icon_size, is_ico};
-ghost use Rattle.imagesize_walked.specs.Walks.{IsIcon, Seen, entry_in};
+ghost use Rattle.imagesize_walked.specs.Ico.{ico, icon_entries, icon_in, icon_side, icon_size, is_ico};
+ghost use Rattle.imagesize_walked.specs.Walks.{IconsOn, IsIcon, Seen, entry_in};
 ghost use Rattle.imagesize_types.specs.Largest.{later_largest};
 ghost use Rattle.imagesize_types.specs.Order.{area_of};
 ghost use Rattle.imagesize_source.specs.declared.halt.Halt.TheVariants as halt;
 ghost use Rattle.imagesize_source.specs.Chain.{chain_at};
-ghost use Rattle.imagesize_source.specs.Paying.{Paid};
+ghost use Rattle.imagesize_source.specs.Paying.{Nears, Paid};
+ghost use Rattle.imagesize_source.specs.Reading.{map_answer};
+ghost use Rattle.imagesize_source.specs.Walk.{said_at};
 ghost use Rattle.imagesize_source.specs.State.{Runs, Follows, IsSound};
 
 use imagesize_source::readings::{read_if_there, read_u16};
@@ -48,12 +50,15 @@ fn largest<S: Source>(source: &mut S, count: u16) -> Result<ImageSize, Halt>
     walk(entries, source, 6)
 }
 
-// The entries of the directory: their stated number, how many were read, and the largest size among these.
+/// The entries of the directory: their stated number, how many were read, and the largest size among these.
 #[derive(Drop)]
-struct Entries {
-    count: u16,
-    seen: u16,
-    largest: Option<ImageSize>,
+pub struct Entries {
+    /// How many there are.
+    pub count: u16,
+    /// How many were read.
+    pub seen: u16,
+    /// The largest size of those that were read.
+    pub largest: Option<ImageSize>,
     ghost few: { seen ≤ count },
 }
 
@@ -68,11 +73,39 @@ impl Records for Entries {
 
     // Reads the entry at an offset.
     #[inline]
+    #[tactic(auto, using(crate::proofs::Ico::icons_on, crate::proofs::Ico::icons_stay, crate::proofs::Ico::icon_as))]
     fn read_record<S: Source>(
         &mut self,
         source: &mut S,
         place: u64,
     ) -> Result<Found<ImageSize, ImageSize>, Halt> {
+        self.read_icon(source, place)
+    }
+
+    // The largest size so far.
+    #[inline(always)]
+    fn at_end(&self) -> Result<ImageSize, Halt> {
+        answer(self.largest)
+    }
+}
+
+impl Entries {
+    /// Reads the entry at an offset.
+    #[inline]
+    #[tactic(auto, using(imagesize_source::proofs::Runs::steps))]
+    pub fn read_icon<S: Source>(
+        &mut self,
+        source: &mut S,
+        place: u64,
+    ) -> Result<Found<ImageSize, ImageSize>, Halt>
+        requires { ForSome self.now.largest IsIcon }
+        ensures count { self.new.count ≡ self.old.count }
+        ensures nears { IfOk result (λ found. Nears (S.state source.old) (S.state source.new) place (said_at place found)) }
+        ensures on { IfOk result (λ found. IconsOn self.old.seen self.old.largest self.new.seen self.new.largest (said_at place found)) }
+        ensures stays { IfErr result (λ _. (self.new.seen ≡ self.old.seen) × (self.new.largest ≡ self.old.largest)) }
+        ensures runs { Follows (S.state source.old) (S.state source.new) (map_answer (said_at place) result)
+            (icon_in self.old.count self.old.seen self.old.largest place) }
+    {
         let Some(bytes) = self.read_entry(source, place)? else {
             return Ok(Found::Answer(answer(self.largest)?));
         };
@@ -85,14 +118,6 @@ impl Records for Entries {
         })
     }
 
-    // The largest size so far.
-    #[inline(always)]
-    fn at_end(&self) -> Result<ImageSize, Halt> {
-        answer(self.largest)
-    }
-}
-
-impl Entries {
     // The first two bytes of the next entry. `None` if all are read, or if the input ends before the second byte.
     #[inline(always)]
     #[tactic(auto, using(imagesize_source::proofs::Runs::steps))]

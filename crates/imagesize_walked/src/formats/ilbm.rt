@@ -29,9 +29,9 @@ pub fn size<S: Source>(source: &mut S) -> Result<ImageSize, Halt>
     walk(Chunks, source, 12)
 }
 
-// The chunks after the form's type.
+/// The chunks after the form's type.
 #[derive(Clone, Copy)]
-struct Chunks;
+pub struct Chunks;
 
 impl Records for Chunks {
     type Held = ();

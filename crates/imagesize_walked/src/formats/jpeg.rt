@@ -31,10 +31,11 @@ pub fn size<S: Source>(source: &mut S) -> Result<ImageSize, Halt>
     walk(Segments { depth: 0 }, source, 2)
 }
 
-// The segments after the start of the image. `depth` says how many images within the image the next segment is in.
+/// The segments after the start of the image. `depth` says how many images within the image the next segment is in.
 #[derive(Clone, Copy)]
-struct Segments {
-    depth: u64,
+pub struct Segments {
+    /// How many images within the image the next segment is in.
+    pub depth: u64,
 }
 
 impl Records for Segments {
@@ -99,10 +100,10 @@ fn role_of(depth: u64, marker: u8) -> Role
 }
 
 impl Segments {
-    // Reads the segment at an offset.
+    /// Reads the segment at an offset.
     #[inline]
     #[tactic(auto, using(imagesize_source::proofs::Runs::steps))]
-    fn read_segment<S: Source>(
+    pub fn read_segment<S: Source>(
         &mut self,
         source: &mut S,
         place: u64,

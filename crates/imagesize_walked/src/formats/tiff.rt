@@ -1,11 +1,12 @@
 //! TIFF, by "TIFF Revision 6.0" (section 2), and BigTIFF, by "The BigTIFF File Format".
-ghost use Rattle.std.specs.Prelude.{◌≡◌, ◌+◌, ◌<◌, ◌≤◌, IfOk, ◌==◌, if◌then◌else◌, false, take, length};
-ghost use Rattle.imagesize_walked.specs.Tiff.{byte_order, count_bytes, directory_at, head_bytes, is_tiff, field_type_in, field_type_of, stated_place, tag_in, tiff, tiff_entries, tiff_entry, tiff_head, tiff_header, tiff_value, value_bytes, value_of, version_of};
+ghost use Rattle.std.specs.Prelude.{◌≡◌, ◌+◌, ◌<◌, ◌≤◌, IfErr, IfOk, ◌==◌, if◌then◌else◌, false, take, length};
+ghost use Rattle.imagesize_walked.specs.Tiff.{byte_order, count_bytes, directory_at, entry_behind, head_bytes, is_tiff, field_type_in, field_type_of, stated_place, tag_in, tiff, tiff_entries, tiff_entry, tiff_head, tiff_header, tiff_value, value_bytes, value_of, version_of};
 ghost use Rattle.imagesize_types.specs.Sides.{size_if_known};
 ghost use Rattle.imagesize_source.specs.Chain.{chain_at};
-ghost use Rattle.imagesize_source.specs.Paying.{ahead_of};
-ghost use Rattle.imagesize_walked.specs.Walks.{Known};
-ghost use Rattle.imagesize_source.specs.Reading.{is_stopped, number_read};
+ghost use Rattle.imagesize_source.specs.Paying.{Nears, ahead_of};
+ghost use Rattle.imagesize_source.specs.Walk.{said_at};
+ghost use Rattle.imagesize_walked.specs.Walks.{EntriesOn, Known};
+ghost use Rattle.imagesize_source.specs.Reading.{is_stopped, map_answer, number_read};
 ghost use Rattle.imagesize_source.specs.State.{Runs, Follows, IsSound};
 
 use imagesize_source::readings::{
@@ -38,24 +39,29 @@ pub fn size<S: Source>(source: &mut S) -> Result<ImageSize, Halt>
     find_size(source, &header, count)
 }
 
-// Which of the two formats the file has.
+/// Which of the two formats the file has.
 #[derive(Clone, Copy)]
-enum Version {
+pub enum Version {
+    /// TIFF.
     Tiff,
+    /// BigTIFF.
     BigTiff,
 }
 
-// The byte order of all numbers, the version, and the offset of the first directory.
+/// The byte order of all numbers, the version, and the offset of the first directory.
 #[derive(Clone, Copy)]
-struct Header {
-    order: Endian,
-    version: Version,
-    directory: u64,
+pub struct Header {
+    /// The order of all numbers.
+    pub order: Endian,
+    /// Which format it is.
+    pub version: Version,
+    /// Where the first directory is.
+    pub directory: u64,
 }
 
-// Reads the header.
+/// Reads the header.
 #[tactic(auto, using(imagesize_source::proofs::Runs::steps, imagesize_source::proofs::Layouts::binding), unfolding(crate::specs::Tiff::tiff_header))]
-fn read_header<S: Source>(source: &mut S) -> Result<Header, Halt>
+pub fn read_header<S: Source>(source: &mut S) -> Result<Header, Halt>
     ensures { Follows (S.state source.old) (S.state source.new) result tiff_header }
 {
     let mark = read_bytes::<S, 2>(source, 0)?;
@@ -134,9 +140,9 @@ fn read_big_place<S: Source>(source: &mut S, order: Endian) -> Result<u64, Halt>
     Ok(place)
 }
 
-// Reads how many entries the directory states that it has.
+/// Reads how many entries the directory states that it has.
 #[tactic(auto, using(imagesize_source::proofs::Runs::steps))]
-fn read_count<S: Source>(source: &mut S, header: &Header) -> Result<u64, Halt>
+pub fn read_count<S: Source>(source: &mut S, header: &Header) -> Result<u64, Halt>
     ensures { Runs (S.state source.old) (S.state source.new) result
         (number_read (S.state source.old).held.input header.now.order header.now.directory (count_bytes header.now.version)) }
 {
@@ -186,14 +192,19 @@ fn find_size_of<S: Source, const HEAD: usize, const VALUE: usize>(
     walk(entries, source, first)
 }
 
-// The entries of the directory: their stated number, how many were read, and the width and the height from these.
+/// The entries of the directory: their stated number, how many were read, and the width and the height from these.
 #[derive(Drop)]
-struct Entries<const HEAD: usize, const VALUE: usize> {
-    header: Header,
-    count: u64,
-    seen: u64,
-    width: Option<u32>,
-    height: Option<u32>,
+pub struct Entries<const HEAD: usize, const VALUE: usize> {
+    /// The header.
+    pub header: Header,
+    /// How many there are.
+    pub count: u64,
+    /// How many were read.
+    pub seen: u64,
+    /// The width that those tell.
+    pub width: Option<u32>,
+    /// The height that those tell.
+    pub height: Option<u32>,
     ghost few: { seen ≤ count },
     ghost head: { HEAD ≡ head_bytes header.version },
     ghost value: { VALUE ≡ value_bytes header.version },
@@ -210,11 +221,41 @@ impl<const HEAD: usize, const VALUE: usize> Records for Entries<HEAD, VALUE> {
 
     // Reads the entry at an offset.
     #[inline(always)]
+    #[tactic(auto, using(crate::proofs::Tiff::entries_on, crate::proofs::Tiff::entries_stay, crate::proofs::Tiff::entry_runs))]
     fn read_record<S: Source>(
         &mut self,
         source: &mut S,
         place: u64,
     ) -> Result<Found<Entry, ImageSize>, Halt> {
+        self.read_next(source, place)
+    }
+
+    // No entry is left, or the input ends before the next one.
+    #[inline(always)]
+    fn at_end(&self) -> Result<ImageSize, Halt> {
+        if self.seen == self.count {
+            return Err(Halt::NoDimensionsInIfd);
+        }
+        Err(Halt::Ended)
+    }
+}
+
+impl<const HEAD: usize, const VALUE: usize> Entries<HEAD, VALUE> {
+    /// Reads the entry at an offset.
+    #[inline(always)]
+    pub fn read_next<S: Source>(
+        &mut self,
+        source: &mut S,
+        place: u64,
+    ) -> Result<Found<Entry, ImageSize>, Halt>
+        ensures header { self.new.header ≡ self.old.header }
+        ensures count { self.new.count ≡ self.old.count }
+        ensures nears { IfOk result (λ found. Nears (S.state source.old) (S.state source.new) place (said_at place found)) }
+        ensures on { IfOk result (λ found. EntriesOn self.old.seen self.old.width self.old.height self.new.seen self.new.width self.new.height (said_at place found)) }
+        ensures stays { IfErr result (λ _. (self.new.seen ≡ self.old.seen) × (self.new.width ≡ self.old.width) × (self.new.height ≡ self.old.height)) }
+        ensures runs { Follows (S.state source.old) (S.state source.new) (map_answer (said_at place) result)
+            (entry_behind self.old.header self.old.count self.old.seen self.old.width self.old.height place) }
+    {
         if self.seen == self.count {
             // The proof needs that the length is below 2^63.
             let _told = source.told();
@@ -231,15 +272,6 @@ impl<const HEAD: usize, const VALUE: usize> Records for Entries<HEAD, VALUE> {
                 length: (HEAD + VALUE) as u64,
             }),
         }
-    }
-
-    // No entry is left, or the input ends before the next one.
-    #[inline(always)]
-    fn at_end(&self) -> Result<ImageSize, Halt> {
-        if self.seen == self.count {
-            return Err(Halt::NoDimensionsInIfd);
-        }
-        Err(Halt::Ended)
     }
 }
 
@@ -262,8 +294,9 @@ fn in_pixels(side: Option<u32>) -> Option<usize>
     }
 }
 
+/// The size of a directory's entry count in bytes.
 #[inline(always)]
-fn count_bytes(version: Version) -> u64
+pub fn count_bytes(version: Version) -> u64
     ensures { result ≡ count_bytes version }
 {
     match version {
@@ -272,11 +305,13 @@ fn count_bytes(version: Version) -> u64
     }
 }
 
-// What an entry says: its tag, and its value if its field type can hold a width or a height.
+/// What an entry says: its tag, and its value if its field type can hold a width or a height.
 #[derive(Clone, Copy)]
-struct Entry {
-    tag: u16,
-    value: Option<u32>,
+pub struct Entry {
+    /// Its tag.
+    pub tag: u16,
+    /// Its value, where its field type has one that a side can be.
+    pub value: Option<u32>,
 }
 
 // The width or the height after one more entry. An entry with that tag replaces it by its own value, or by `None`.

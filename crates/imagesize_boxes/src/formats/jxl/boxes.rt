@@ -68,19 +68,20 @@ impl Records for Boxes {
     }
 }
 
-// The header of a box.
+/// The header of a box.
 #[derive(Clone, Copy)]
-struct BoxHead {
-    tag: [u8; 4],
-    // The length of the box in bytes, including its header. 0 means that the box extends to the end of the input.
-    size: u64,
-    // The length of the header in bytes.
-    length: u64,
+pub struct BoxHead {
+    /// The name of the box.
+    pub tag: [u8; 4],
+    /// The length of the box in bytes, including its header. 0 means that the box extends to the end of the input.
+    pub size: u64,
+    /// The length of the header in bytes.
+    pub length: u64,
 }
 
-// Reads the box at an offset. `front` has the bytes of the codestream from the boxes before it.
+/// Reads the box at an offset. `front` has the bytes of the codestream from the boxes before it.
 #[tactic(auto, using(imagesize_source::proofs::Runs::steps, imagesize_source::proofs::Layouts::binding))]
-fn read_box<S: Source>(
+pub fn read_box<S: Source>(
     source: &mut S,
     place: u64,
     front: &Front,

@@ -7,12 +7,12 @@ use imagesize_source::Halt;
 use imagesize_types::size::ImageSize;
 use std::marker::Model;
 
-// No more bytes of a codestream are needed.
-pub(super) const MOST: usize = 16;
+/// No more bytes of a codestream are needed.
+pub const MOST: usize = 16;
 
-// At most sixteen bytes: the first bytes of a codestream, or a part of them.
+/// At most sixteen bytes: the first bytes of a codestream, or a part of them.
 #[derive(Drop)]
-pub(super) struct Front {
+pub struct Front {
     bytes: [u8; MOST],
     len: usize,
 }
@@ -26,8 +26,8 @@ impl Model for Front {
 }
 
 impl Front {
-    // No bytes.
-    pub(super) fn new() -> Front
+    /// No bytes.
+    pub fn new() -> Front
         ensures { result ≡ [] }
     {
         Front {
@@ -36,9 +36,17 @@ impl Front {
         }
     }
 
-    // The two bytes, followed by the first `there` bytes of the others.
+    /// The first `len` of these bytes.
+    pub fn of(bytes: [u8; MOST], len: usize) -> Front
+        requires { len ≤ 16 }
+        ensures { result ≡ take len bytes }
+    {
+        Front { bytes, len }
+    }
+
+    /// The two bytes, followed by the first `there` bytes of the others.
     #[inline]
-    pub(super) fn of_start(start: [u8; 2], behind: [u8; 14], there: usize) -> Front
+    pub fn of_start(start: [u8; 2], behind: [u8; 14], there: usize) -> Front
         requires { there ≤ 14 }
         ensures { result ≡ start ++ take there behind }
     {
@@ -50,29 +58,31 @@ impl Front {
         }
     }
 
-    // The number of bytes.
-    pub(super) fn len(&self) -> usize
-        ensures { result ≡ length self.now }
+    /// The number of bytes.
+    pub fn len(&self) -> usize
+        ensures is { result ≡ length self.now }
+        ensures few { result ≤ 16 }
     {
         self.len
     }
 
-    // How many more bytes fit.
-    pub(super) fn room(&self) -> usize
+    /// How many more bytes fit.
+    pub fn room(&self) -> usize
         ensures is { result ≡ 16 - length self.now }
         ensures few { length self.now ≤ 16 }
     {
         MOST - self.len
     }
 
-    pub(super) fn as_slice(&self) -> &[u8]
+    /// The bytes.
+    pub fn as_slice(&self) -> &[u8]
         ensures { result.now ≡ self.now }
     {
         &self.bytes[..self.len]
     }
 
-    // Appends bytes, which must fit.
-    pub(super) fn extend(&mut self, more: &[u8])
+    /// Appends bytes, which must fit.
+    pub fn extend(&mut self, more: &[u8])
         requires { length self.old + length more.now ≤ 16 }
         ensures { self.new ≡ self.old ++ more.now }
     {
@@ -81,9 +91,9 @@ impl Front {
         self.len = end;
     }
 
-    // The size in the header of the codestream.
+    /// The size in the header of the codestream.
     #[inline(always)]
-    pub(super) fn size(&self) -> Result<ImageSize, Halt>
+    pub fn size(&self) -> Result<ImageSize, Halt>
         ensures { result ≡ jxl_size self.now }
     {
         header::codestream_size(&self.bytes, self.len)

@@ -1,39 +1,13 @@
-use Rattle.std.proofs.Common.{◌≡◌, ◌+◌, arith, rules, sym, ◌∙◌, None, Some}
-use Rattle.imagesize_walked.proofs.Tiff.{entries_done, entry_refused, entry_said, known_on}
-use Rattle.imagesize_walked.specs.Tiff.{entry_bytes}
+use Rattle.imagesize_walked.proofs.Tiff.{entries_on, entry_runs}
 use Rattle.imagesize_walked.proofs.formats.tiff.EntriesRecords.read_record.Goals as goal
 
-pub returns-then-self-clause-runs : goal.returns-then-self-clause-runs
-returns-then-self-clause-runs g c = λ entries known.
-    entries_done c.args.self.now.header c.args.self.now.count entries c.args.place c.told-told.ensures.sound
-    (known.many ∙ c.if-self.true)
+pub returns-clause-keeps : goal.returns-clause-keeps
+returns-clause-keeps g c = λ entries known.
+    let s = c.args.self.now in let new = c.read_next.new.self in
+    entries_on s.header s.seen new.seen s.width s.height new.width new.height entries c.args.place c.read_next.result
+    known c.read_next.ensures.on
 
-pub returns-in_err-entry-clause-runs : goal.returns-in_err-entry-clause-runs
-returns-in_err-entry-clause-runs g c = λ entries known.
+pub returns-clause-runs : goal.returns-clause-runs
+returns-clause-runs g c = λ entries known.
     let s = c.args.self.now in
-    let h = entry_refused s.header s.count s.seen s.width s.height c.if-self.false c.args.place entries known _
-    c.in_err-entry.ensures.runs in
-    search (rules, h)
-
-pub returns-in-Some-clause-runs : goal.returns-in-Some-clause-runs
-returns-in-Some-clause-runs g c = λ entries known.
-    let s = c.args.self.now in
-    entry_said s.header s.count s.seen s.width s.height c.if-self.false c.args.place entries known c.in_ok-entry.entry
-    c.side_behind-self.result c.side_behind-self-2.result
-    (Some c.in-Some.size) c.side_behind-self.ensures c.side_behind-self-2.ensures
-    (sym c.size_of_sides.ensures ∙ c.in-Some.is) c.in_ok-entry.ensures.runs
-
-pub returns-in-None-clause-keeps : goal.returns-in-None-clause-keeps
-returns-in-None-clause-keeps g c = λ entries known.
-    let s = c.args.self.now in
-    known_on s.seen s.width s.height c.side_behind-self.result c.side_behind-self-2.result entries c.in_ok-entry.entry
-    c.side_behind-self.ensures c.side_behind-self-2.ensures known
-
-pub returns-in-None-clause-runs : goal.returns-in-None-clause-runs
-returns-in-None-clause-runs g c = λ entries known.
-    let s = c.args.self.now in
-    let length : g.row.HEAD + g.row.VALUE ≡ entry_bytes s.header.version = omega (arith, s.head, s.value) in
-    rw length (entry_said s.header s.count s.seen s.width s.height c.if-self.false c.args.place entries known
-    c.in_ok-entry.entry
-    c.side_behind-self.result c.side_behind-self-2.result None c.side_behind-self.ensures c.side_behind-self-2.ensures
-    (sym c.size_of_sides.ensures ∙ c.in-None.is) c.in_ok-entry.ensures.runs)
+    entry_runs s.header s.count s.seen s.width s.height c.args.place c.read_next.ensures.runs entries known

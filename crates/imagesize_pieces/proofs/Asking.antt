@@ -1,0 +1,127 @@
+-- What readings of the bytes so far tell of every input that begins with them.
+use Rattle.std.proofs.Common.{◌≡◌, ℕ, ◌+◌, ◌^◌, ◌<◌, ◌≤◌, Bool, true, false, List, [], ◌++◌, length, Option, None, Some, Result, IfSome, IsSomeAnd, refl, sym, ap, ◌∙◌, subst, arith}
+use Rattle.std.specs.Prelude.{option_map}
+use Rattle.std.proofs.lemmas.Bool.Decides.{nat_tests}
+use Rattle.imagesize_source.specs.declared.halt.Halt.{Halt}
+use Rattle.imagesize_source.specs.declared.source.parts.Missing.{Missing}
+use Rattle.imagesize_source.specs.declared.span.Span.{Span}
+use Rattle.imagesize_source.specs.Agreement.{is_covered, has_place}
+use Rattle.imagesize_source.specs.Known.{sure_of}
+use Rattle.imagesize_source.specs.Reading.{Reads, is_faulted, put_behind}
+use Rattle.imagesize_source.specs.State.{State, Misses}
+use Rattle.imagesize_source.proofs.Agreement.{covered_one_of}
+use Rattle.imagesize_source.specs.Sharing.{Shares}
+use Rattle.imagesize_pieces.specs.Stream.{AllBelow, Begins, Says, came, end_of, stream_input, stream_state}
+use Rattle.imagesize_pieces.proofs.Beginning.{Run, begins_left, begins_shares, shares_begun, unknown_behind}
+use Rattle.imagesize_pieces.proofs.Called.{Called, all_seen, answered, is_short}
+
+-- readings that see an input by their marks alone, however long it is
+abbrev pub IsShared : {X : Type 0} → (List ℕ → Reads X) → Type 0
+IsShared f = (d e : List ℕ) → Shares d e (f e).marks → f d ≡ f e
+
+pub missed_is : (missed : Option Missing) (P : Span → Type 0)
+    → IfSome (Some (option_map sure_of missed)) (λ m. IsSomeAnd m P)
+    → (m : Missing) × (missed ≡ Some m) × P (sure_of m)
+missed_is None P told = absurd told
+missed_is (Some m) P told = (m, refl, told)
+
+-- what is missed lies in one of the marks
+pub missed_covered : {a b : State} (marks : List Span) (m : Missing) → Misses a b marks (sure_of m) → 0 < m.sure
+    → is_covered marks m.start ≡ true
+missed_covered marks m is some =
+    let begins = is.behind in let ends = is.within in
+    let in_mark : has_place is.mark m.start ≡ true = grind (arith, nat_tests) in
+    subst (λ s. is_covered s m.start ≡ true) (sym is.all) (covered_one_of is.made is.mark is.rest m.start in_mark)
+
+module _ {X : Type 0} (f : List ℕ → Reads X) (same : IsShared f) (told start : ℕ) (kept unread front : List ℕ)
+    (run : Run front kept unread start)
+    (fits : start + (length kept + length unread) ≤ told) (short : told < 2 ^ 63) (log : List Span)
+    (missed : Option Missing) (r : Result X Halt)
+    (call : Called f told (came start kept unread) (kept ++ unread) log missed r) where
+  abbrev fill : List ℕ
+  fill = stream_input told start kept unread
+
+  -- what is answered is the answer of each input that begins with the bytes so far, and rests on the same marks
+  pub same_begun : is_faulted r ≡ false → (d : List ℕ) → Begins front told d → f d ≡ f fill
+  same_begun faultless d begins =
+      same d fill (begins_shares told start kept unread front run fits d (f fill).marks begins
+      (all_seen f told (came start kept unread) (kept ++ unread) short log missed r call faultless))
+
+  pub says_begun : is_faulted r ≡ false → Says front told f r
+  says_begun faultless = record {
+    marks = (f fill).marks;
+    is = λ d begins.
+        same_begun faultless d begins
+        ∙ ap (λ a. record { answer = a; marks = (f fill).marks })
+        (answered f told (came start kept unread) (kept ++ unread) short log missed r call faultless);
+  }
+
+  module _ (faults : is_faulted r ≡ true) where
+    pub what : (m : Missing) × (missed ≡ Some m)
+        × Misses (stream_state told start kept unread [] None) (stream_state told start kept unread log missed)
+        (f fill).marks (sure_of m)
+    what = missed_is missed _ (call.runs.misses (is_short told short) faults).told
+
+    pub what_covered : is_covered (f fill).marks what.0.start ≡ true
+    what_covered = missed_covered (f fill).marks what.0 what.2 (call.lacks what.0 what.1).0
+
+    -- it lies behind the bytes so far, and before the end
+    pub what_behind : start ≤ what.0.start → (length front ≤ what.0.start) × (what.0.start < told)
+    what_behind above =
+        let none = call.lacks what.0 what.1 in
+        let some = none.0 in let few = none.1 in let within = none.2 in (
+          unknown_behind told start kept unread front run fits what.0.start none.3 above,
+          omega (arith, some, few, within),
+        )
+
+    -- The read that failed requests bytes behind those so far, and none from the end on.
+    pub ends_begun : start ≤ what.0.start → (length front < end_of missed) × (end_of missed ≤ told)
+    ends_begun above =
+        let none = call.lacks what.0 what.1 in
+        let some = none.0 in let few = none.1 in let within = none.2 in
+        let late = (what_behind above).0 in
+        let ends : end_of missed ≡ what.0.start + what.0.most = ap end_of what.1 in
+        (omega (arith, late, ends, some, few), omega (arith, ends, within))
+
+    -- An input of the told length whose marks all lie in the bytes so far would have missed nothing.
+    pub complete_begun : (d : List ℕ) → Begins front told d → length d ≡ told
+        → ((place : ℕ) → is_covered (f d).marks place ≡ true → start ≤ place) → AllBelow (length front) (f d).marks → ⊥
+    complete_begun d begins as_long above below =
+        let shares = shares_begun told start kept unread front run fits d (f d).marks begins as_long above below in
+        let here : is_covered (f d).marks what.0.start ≡ true =
+        subst (λ w. is_covered w.marks what.0.start ≡ true) (same fill d shares) what_covered in
+        let late = (what_behind (above what.0.start here)).0 in
+        let early = below what.0.start here in
+        omega (arith, late, early)
+
+    -- so where no mark is before the start there are fewer than the farthest mark needs
+    pub few_begun : (high : ℕ)
+        → ((place : ℕ) → is_covered (f fill).marks place ≡ true → (start ≤ place) × (place < high))
+        → length front < high
+    few_begun high within =
+        let here = within what.0.start what_covered in
+        omega (arith, here.1, (what_behind here.0).0)
+
+    -- where all came, nothing is missed
+    pub none_missed : told ≤ length front → ((place : ℕ) → is_covered (f fill).marks place ≡ true → start ≤ place) → ⊥
+    none_missed all within =
+        let behind = what_behind (within what.0.start what_covered) in
+        omega (arith, all, behind.0, behind.1)
+
+-- an answer that no reading failed
+pub by_fault : {X : Type 0} (r other : Result X Halt) → (is_faulted r ≡ false → r ≡ other) → (is_faulted r ≡ true → ⊥)
+    → r ≡ other
+by_fault {X} r other right never = by_test (is_faulted r) refl where
+  by_test : (b : Bool) → is_faulted r ≡ b → r ≡ other
+  by_test true is = absurd (never is)
+  by_test false is = right is
+
+-- behind other spans
+pub says_behind : {X : Type 0} (front chunk : List ℕ) (told : ℕ) (whole reads : List ℕ → Reads X) (before : List Span)
+    (r : Result X Halt)
+    → ((d : List ℕ) → Begins front told d → whole d ≡ put_behind before (reads d)) → Says (front ++ chunk) told reads r
+    → Says (front ++ chunk) told whole r
+says_behind front chunk told whole reads before r resumes says = record {
+  marks = before ++ says.marks;
+  is = λ d begins. resumes d (begins_left front chunk told d begins) ∙ ap (put_behind before) (says.is d begins);
+}

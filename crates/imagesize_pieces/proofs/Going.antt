@@ -1,0 +1,167 @@
+-- Where a walk over the bytes so far stands, for every input that begins with them.
+use Rattle.std.proofs.Common.{◌≡◌, ℕ, ◌+◌, ◌-◌, ◌^◌, ◌<◌, ◌≤◌, true, List, [], ◌∷◌, ◌++◌, length, Option, None, Some, Result, Ok, Err, inl, inr, sym, ap, ◌∙◌, subst, arith}
+use Rattle.std.specs.Prelude.{option_map}
+use Rattle.std.specs.Option.{ForSome}
+use Rattle.imagesize_source.specs.declared.source.parts.Missing.{Missing}
+use Rattle.imagesize_source.specs.declared.span.Span.{Span}
+use Rattle.imagesize_source.specs.Agreement.{is_covered}
+use Rattle.imagesize_source.specs.Chain.{Chain, Along, next_record, chain_from, Advances}
+use Rattle.imagesize_source.specs.Input.{span_at}
+use Rattle.imagesize_source.specs.Known.{AllKnown, Lacks, parts_state, sure_of}
+use Rattle.imagesize_source.specs.Reading.{Reads, go_on, put_behind}
+use Rattle.imagesize_source.specs.declared.halt.Halt.{Halt}
+use Rattle.imagesize_source.specs.State.{State, Misses, state_after}
+use Rattle.imagesize_source.proofs.Agreement.{covered-left, covered-right}
+use Rattle.imagesize_source.proofs.ChainLaws.{chain_induction}
+use Rattle.imagesize_source.proofs.Chains.{chain_next, chain_stop, chain_unfolds, follows}
+use Rattle.imagesize_source.proofs.Runs.{past-recorded}
+use Rattle.imagesize_source.specs.Sharing.{Shares, Stood}
+use Rattle.imagesize_source.proofs.Known.{length-filled_input}
+use Rattle.imagesize_source.proofs.Sharing.{chain_shared}
+use Rattle.imagesize_pieces.specs.Stream.{AllBelow, Begins, Reach, came, end_of, stream_input, stream_state}
+use Rattle.imagesize_pieces.proofs.Asking.{missed_is, missed_covered}
+use Rattle.imagesize_pieces.proofs.Beginning.{Run, begins_shares, unknown_behind}
+use Rattle.imagesize_pieces.proofs.Called.{is_short, moved, some_is}
+use Rattle.imagesize_pieces.proofs.Reaching.{covered_either, reach_covered}
+
+-- each record reads so many bytes from its place on at most
+abbrev pub Reaches : {C X : Type 0} → Chain C X → ℕ → Type 0
+Reaches {C} c k = (held : List C) (place : ℕ) → Reach place (place + k) (c.said held place)
+
+-- no chain reads before its place
+pub chain_above : {C X : Type 0} (c : Chain C X) (k : ℕ) → Reaches c k → (d : List ℕ) → Advances c d
+    → (t : Along C) (place : ℕ)
+    → is_covered (chain_from c d t).marks place ≡ true → t.place ≤ place
+chain_above {C} {X} c k reaches d adv =
+    chain_induction c d (λ t. (place : ℕ) → is_covered (chain_from c d t).marks place ≡ true → t.place ≤ place) adv
+    (λ t v next is later place here.
+    let u : Along C = record { held = t.held ++ v ∷ []; place = next } in
+    let on = (adv t v next is).0 in
+    elim (covered_either (next_record c d t).marks (chain_from c d u).marks place
+    (subst (λ w. is_covered w.marks place ≡ true) (chain_next c d t v next adv is) here)) [
+      | inl first ↦ (reach_covered d t.place (t.place + k) (c.said t.held t.place)
+          (reaches t.held t.place) place first).0
+      | inr rest ↦ (let after = later place rest in omega (arith, on, after))
+    ])
+    (λ t r is place here.
+    (reach_covered d t.place (t.place + k) (c.said t.held t.place) (reaches t.held t.place) place
+    (subst (λ w. is_covered w.marks place ≡ true) (chain_stop c d t r is) here)).0)
+
+pub stood_as : {C X : Type 0} (c : Chain C X) (P : List C → Type 0) (t : Along C) (place told m start : ℕ)
+    (kept unread : List ℕ)
+    (others : List Span) (content : List ℕ) (first log : List Span) (before missed : Option Missing) → first ≡ []
+    → before ≡ None
+    → (m ≡ told) × (others ≡ came start kept unread) × (content ≡ kept ++ unread)
+    → Stood c P (stream_state told start kept unread first before) (parts_state m others content log missed) t place
+    → Stood c P (stream_state told start kept unread [] None) (stream_state told start kept unread log missed) t place
+stood_as c P t place told m start kept unread others content first log before missed none unmissed same stood =
+    subst (λ l. Stood c P (stream_state told start kept unread l None)
+    (stream_state told start kept unread log missed) t place) none
+    (subst (λ x. Stood c P (stream_state told start kept unread first x)
+    (stream_state told start kept unread log missed) t place) unmissed
+    (moved (λ x y z. Stood c P (stream_state told start kept unread first before)
+    (parts_state x y z log missed) t place) told m
+    (came start kept unread) others (kept ++ unread) content same.0 same.1 same.2 stood))
+
+-- a mark of the first readings is one of all
+onward_covered : {X Y : Type 0} (marks : List Span) (r : Result X Halt) (f : X → Reads Y) (place : ℕ)
+    → is_covered marks place ≡ true
+    → is_covered (go_on marks r f).marks place ≡ true
+onward_covered marks (Ok x) f place here = covered-left marks (f x).marks place here
+onward_covered marks (Err e) f place here = here
+
+module _ {C X : Type 0} (c : Chain C X) (P : List C → Type 0) (t : Along C) (told start : ℕ)
+    (kept unread front : List ℕ)
+    (run : Run front kept unread start) (fits : start + (length kept + length unread) ≤ told) (short : told < 2 ^ 63)
+    (log : List Span)
+    (missed : Option Missing) (place : ℕ)
+    (stood : Stood c P (stream_state told start kept unread [] None)
+    (stream_state told start kept unread log missed) t place)
+    (seen : AllKnown told (came start kept unread) (kept ++ unread) log)
+    (lacks : ForSome missed (Lacks told (came start kept unread) (kept ++ unread))) where
+  abbrev fill : List ℕ
+  fill = stream_input told start kept unread
+
+  abbrev before : State
+  before = stream_state told start kept unread [] None
+
+  abbrev u : Along C
+  u = record { held = stood.held; place = place }
+
+  honest : before.held.honest ≡ true
+  honest = is_short told short
+
+  pub what : (m : Missing) × (missed ≡ Some m)
+      × Misses (state_after before stood.made) (stream_state told start kept unread log missed)
+      (next_record c fill u).marks (sure_of m)
+  what = missed_is missed _ (stood.missed honest).told
+
+  -- what was read before the record is known
+  made_known : AllKnown told (came start kept unread) (kept ++ unread) stood.made
+  made_known =
+      let is = what.2 in
+      let part : List Span = is.made ++ span_at is.mark.start ((sure_of what.0).start - is.mark.start) in
+      let all : ◌≡◌ {A = Option (List Span)} (Some log)
+      (option_map (λ spans. spans ++ part) (option_map (λ spans. spans ++ stood.made) (Some []))) =
+      is.recorded ∙ ap (option_map (λ spans. spans ++ part)) (past-recorded before stood.made) in
+      λ p here. seen p (subst (λ s. is_covered s p ≡ true) (sym (some_is all)) (covered-left stood.made part p here))
+
+  -- each input that begins with the bytes so far comes to it
+  pub leads_begun : (d : List ℕ) → Begins front told d → chain_from c d t ≡ put_behind stood.made (chain_from c d u)
+  leads_begun d begins =
+      stood.leads honest d (begins_shares told start kept unread front run fits d stood.made begins made_known)
+
+  pub ahead_begun : t.place ≤ place
+  ahead_begun = stood.ahead honest
+
+  -- what is missed lies in the record, and behind the bytes so far, so that few of them are kept
+  pub few_left : (k : ℕ) → Reaches c k → start ≤ t.place → length front < place + k
+  few_left k reaches from =
+      let is = what.2 in let none = lacks what.0 what.1 in
+      let between = reach_covered fill place (place + k) (c.said stood.held place)
+      (reaches stood.held place) what.0.start
+      (missed_covered (next_record c fill u).marks what.0 is none.0) in
+      let behind = unknown_behind told start kept unread front run fits what.0.start none.3
+      (omega (arith, ahead_begun, from, between.0)) in
+      omega (arith, behind, between.1)
+
+  -- the read that failed requests bytes behind the record's place, and behind the bytes so far
+  pub ends_left : (k : ℕ) → Reaches c k → start ≤ t.place
+      → (length front < end_of missed) × (place < end_of missed) × (end_of missed ≤ told)
+  ends_left k reaches from =
+      let is = what.2 in let none = lacks what.0 what.1 in
+      let some = none.0 in let few = none.1 in let within = none.2 in
+      let between = reach_covered fill place (place + k) (c.said stood.held place)
+      (reaches stood.held place) what.0.start
+      (missed_covered (next_record c fill u).marks what.0 is none.0) in
+      let behind = unknown_behind told start kept unread front run fits what.0.start none.3
+      (omega (arith, ahead_begun, from, between.0)) in
+      let ends : end_of missed ≡ what.0.start + what.0.most = ap end_of what.1 in (
+        omega (arith, behind, ends, some, few),
+        omega (arith, between.0, ends, some, few),
+        omega (arith, ends, within),
+      )
+
+  -- An input of the told length has a mark from the record's place on.
+  pub rests_left : (k : ℕ) → Reaches c k → ((e : List ℕ) → Advances c e) → (d : List ℕ) → Begins front told d
+      → length d ≡ told
+      → AllBelow place (chain_from c d t).marks → ⊥
+  rests_left k reaches adv d begins as_long below =
+      none what.0.start (subst (λ w. is_covered w.marks what.0.start ≡ true) same first) where
+        none : (p : ℕ) → is_covered (chain_from c d u).marks p ≡ true → ⊥
+        none p here =
+            let early = below p (subst (λ w. is_covered w.marks p ≡ true) (sym (leads_begun d begins))
+            (covered-right stood.made (chain_from c d u).marks p here)) in
+            let late = chain_above c k reaches d (adv d) u p here in
+            omega (arith, early, late)
+
+        same : chain_from c fill u ≡ chain_from c d u
+        same = chain_shared c fill d (adv fill) (adv d) u (record {
+          no_longer = omega (arith, as_long, length-filled_input told (came start kept unread) (kept ++ unread));
+          there = λ p here. absurd (none p here);
+        })
+
+        first : is_covered (chain_from c fill u).marks what.0.start ≡ true
+        first = subst (λ w. is_covered w.marks what.0.start ≡ true) (sym (chain_unfolds c fill u (adv fill)))
+            (onward_covered (next_record c fill u).marks (next_record c fill u).answer (follows c fill u.held) what.0.start
+            (missed_covered (next_record c fill u).marks what.0 what.2 (lacks what.0 what.1).0))

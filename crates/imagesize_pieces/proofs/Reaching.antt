@@ -1,0 +1,112 @@
+-- A layout that reads between two places has its marks there.
+use Rattle.std.proofs.Common.{◌≡◌, ℕ, zero, suc, ◌+◌, ◌-◌, ◌<◌, ◌≤◌, min, Bool, true, false, cond, ◌||◌, ◌⊎◌, inl, inr, List, [], ◌∷◌, ◌++◌, length, Result, Ok, Err, refl, ap, arith}
+use Rattle.std.proofs.lemmas.Bool.Decides.{nat_tests}
+use Rattle.imagesize_source.specs.declared.halt.Halt.{Halt}
+use Rattle.imagesize_source.specs.declared.span.Span.{Span}
+use Rattle.imagesize_source.specs.Agreement.{is_covered, has_place}
+use Rattle.imagesize_source.specs.Input.{part, span_at, span_of}
+use Rattle.imagesize_source.specs.Layout.{Layout, done, refuse, field, reading, layout_reads, bind, accept}
+use Rattle.imagesize_source.specs.Reading.{Reads, Reading, AllOf, PartOf, TextOf, go_on, read_of, most, number_at, text_part}
+use Rattle.imagesize_source.specs.Text.{text_front}
+use Rattle.imagesize_source.proofs.Answered.{bytes_is}
+use Rattle.imagesize_source.proofs.Parts.{part_length}
+use Rattle.imagesize_source.proofs.Runs.{part_is}
+use Rattle.imagesize_source.proofs.Texts.{front_length}
+use Rattle.imagesize_pieces.specs.Stream.{Reach}
+
+-- a place of two lists of spans is one of either
+pub covered_either : (s t : List Span) (place : ℕ) → is_covered (s ++ t) place ≡ true
+    → (is_covered s place ≡ true) ⊎ (is_covered t place ≡ true)
+covered_either [] t place is = inr is
+covered_either (x ∷ s) t place is = by_test (has_place x place) (covered_either s t place) is where
+  by_test : (b : Bool) → (is_covered (s ++ t) place ≡ true → (is_covered s place ≡ true) ⊎ (is_covered t place ≡ true))
+      → b || is_covered (s ++ t) place ≡ true → (b || is_covered s place ≡ true) ⊎ (is_covered t place ≡ true)
+  by_test true rest is = inl refl
+  by_test false rest is = rest is
+
+covered_span : (start n place : ℕ) → is_covered (span_at start n) place ≡ true → (start ≤ place) × (place < start + n)
+unfolding span_at
+covered_span start zero place is = absurd cc
+covered_span start (suc n) place is = (grind (arith, nat_tests), grind (arith, nat_tests))
+
+covered_part : (d : List ℕ) (start k place : ℕ) → is_covered (span_of d start k) place ≡ true
+    → (start ≤ place) × (place < start + k)
+unfolding span_of
+covered_part d start k place is = let h = covered_span start (min k (length d - start)) place is in
+    (h.0, omega (arith, h.1))
+
+covered_reading : (d : List ℕ) (r : Reading) (start place : ℕ) → is_covered (read_of d r start).marks place ≡ true
+    → (start ≤ place) × (place < start + most r)
+unfolding text_part
+covered_reading d (AllOf k) start place is = covered_part d start k place is
+covered_reading d (PartOf k) start place is = covered_part d start k place is
+covered_reading d (TextOf t k) start place is =
+    let h = covered_span start (length (text_front t (part d start k))) place is in
+    (h.0, omega (arith, h.1, front_length t (part d start k), part_length d start k))
+
+-- a place of readings and of what goes on from them
+covered_onward : {X Y : Type 0} (spans : List Span) (r : Result X Halt) (f : X → Reads Y) (place : ℕ) (P : Type 0)
+    → is_covered (go_on spans r f).marks place ≡ true → (is_covered spans place ≡ true → P)
+    → ((x : X) → r ≡ Ok x → is_covered (f x).marks place ≡ true → P) → P
+covered_onward spans (Ok x) f place P is first rest = elim (covered_either spans (f x).marks place is) [
+  | inl here ↦ first here
+  | inr later ↦ rest x refl later
+]
+covered_onward spans (Err e) f place P is first rest = first is
+
+-- a reading gives no more bytes than it asks for
+read_most : (d : List ℕ) (r : Reading) (start : ℕ) (bs : List ℕ) → (read_of d r start).answer ≡ Ok bs
+    → length bs ≤ most r
+unfolding text_part
+read_most d (AllOf k) start bs is = omega (arith, ap length (bytes_is d bs start k is), part_length d start k)
+read_most d (PartOf k) start bs is = omega (arith, ap length (part_is is), part_length d start k)
+read_most d (TextOf t k) start bs is =
+    omega (arith, ap length (part_is is), front_length t (part d start k), part_length d start k)
+
+pub reach_covered : {X : Type 0} (d : List ℕ) (low high : ℕ) (t : Layout X) → Reach low high t → (place : ℕ)
+    → is_covered (layout_reads d t).marks place ≡ true → (low ≤ place) × (place < high)
+reach_covered d low high (done x) reach place is = absurd cc
+reach_covered d low high (refuse e) reach place is = absurd cc
+reach_covered d low high (field order start n f) reach place is =
+    covered_onward (span_of d start n) (number_at d order start n) (λ v. layout_reads d (f v)) place
+    ((low ≤ place) × (place < high)) is
+    (λ here. let h = covered_part d start n place here in (omega (arith, h.0, reach.0), omega (arith, h.1, reach.1)))
+    (λ v _ later. reach_covered d low high (f v) (reach.2 v) place later)
+reach_covered d low high (reading r start f) reach place is =
+    covered_onward (read_of d r start).marks (read_of d r start).answer (λ bs. layout_reads d (f bs)) place
+    ((low ≤ place) × (place < high)) is
+    (λ here. let h = covered_reading d r start place here in (omega (arith, h.0, reach.0), omega (arith, h.1, reach.1)))
+    (λ bs got later. reach_covered d low high (f bs) (reach.2 bs (read_most d r start bs got)) place later)
+
+-- what reads so far reads no farther
+pub reach_more : {X : Type 0} (low high more : ℕ) (t : Layout X) → high ≤ more → Reach low high t → Reach low more t
+reach_more low high more (done x) far reach = tt
+reach_more low high more (refuse e) far reach = tt
+reach_more low high more (field order start n f) far reach =
+    (reach.0, omega (arith, far, reach.1), λ v. reach_more low high more (f v) far (reach.2 v))
+reach_more low high more (reading r start f) far reach =
+    (reach.0, omega (arith, far, reach.1), λ bs few. reach_more low high more (f bs) far (reach.2 bs few))
+
+-- both sides of a test
+pub reach_if : {X : Type 0} (b : Bool) (low high : ℕ) (t u : Layout X) → Reach low high t → Reach low high u
+    → Reach low high (cond b t u)
+reach_if true low high t u first second = first
+reach_if false low high t u first second = second
+
+-- what is accepted, and what goes on from it
+pub reach_accept : {X Y : Type 0} (low high : ℕ) (r : Result X Halt) (f : X → Layout Y)
+    → ((x : X) → r ≡ Ok x → Reach low high (f x))
+    → Reach low high (accept r f)
+reach_accept low high (Ok x) f rest = rest x refl
+reach_accept low high (Err e) f rest = tt
+
+-- a layout, and what goes on from its answer
+pub reach_bind : {X Y : Type 0} (low high : ℕ) (t : Layout X) (g : X → Layout Y) → Reach low high t
+    → ((x : X) → Reach low high (g x))
+    → Reach low high (bind t g)
+reach_bind low high (done x) g reach rest = rest x
+reach_bind low high (refuse e) g reach rest = tt
+reach_bind low high (field order place n f) g reach rest =
+    (reach.0, reach.1, λ v. reach_bind low high (f v) g (reach.2 v) rest)
+reach_bind low high (reading r place f) g reach rest =
+    (reach.0, reach.1, λ bs few. reach_bind low high (f bs) g (reach.2 bs few) rest)

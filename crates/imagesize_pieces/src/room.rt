@@ -1,0 +1,43 @@
+//! The buffer of an input that arrives in chunks. It holds the bytes that arrived, from an offset on.
+ghost use Rattle.std.specs.Prelude.{◌≡◌, ◌+◌, ◌-◌, ◌≤◌, ◌++◌, take, drop, length};
+
+use imagesize_source::source::parts::put;
+
+/// The first `count` bytes, or all of them if there are fewer.
+#[inline(always)]
+pub fn front_of(bytes: &[u8], count: u64) -> &[u8]
+    ensures { result.now ≡ take count bytes.now }
+{
+    if count < bytes.len() as u64 {
+        &bytes[..count as usize]
+    } else {
+        bytes
+    }
+}
+
+/// The bytes after the first `count`.
+#[inline(always)]
+#[tactic(auto, using(imagesize_source::proofs::Known::slice_behind))]
+pub fn bytes_behind(bytes: &[u8], count: u64) -> &[u8]
+    ensures { result.now ≡ drop count bytes.now }
+{
+    &bytes[(count as usize).min(bytes.len())..]
+}
+
+/// Appends `more` to the first `count` bytes of the buffer, and drops the first `skip` of these bytes. The rest is at the front of
+/// the buffer.
+#[tactic(auto, using(crate::proofs::Keeping::more_kept, crate::proofs::Keeping::moved_kept))]
+pub fn keep_behind(room: &mut [u8], count: usize, more: &[u8], skip: u64)
+    requires within { count ≤ length room.old }
+    requires fits { count + length more.now - skip ≤ length room.old }
+    ensures { take (count + length more.now - skip) room.new ≡ drop skip (take count room.old ++ more.now) }
+{
+    let kept = count as u64;
+    if skip >= kept {
+        put(bytes_behind(more, skip - kept), room, 0);
+        return;
+    }
+    let first = skip as usize;
+    room.copy_within(first..count, 0);
+    put(more, room, count - first);
+}

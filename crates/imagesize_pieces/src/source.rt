@@ -1,0 +1,246 @@
+//! The bytes of an input that arrived so far, from an offset on, as a source. A read of a missing byte fails.
+ghost use Rattle.std.specs.Prelude.{◌≡◌, ℕ, ◌+◌, ◌-◌, ◌<◌, ◌≤◌, ◌++◌, [], ◌∷◌, min, take, length, slice_index, is_some, true, false, None, Some, IfOk, IfSome};
+ghost use Rattle.std.specs.Option.{ForSome};
+ghost use Rattle.imagesize_source.specs.Agreement.{has_place};
+ghost use Rattle.imagesize_source.specs.Input.{part, span_at};
+ghost use Rattle.imagesize_source.specs.Known.{AllKnown, Lacks};
+ghost use Rattle.imagesize_source.specs.Reading.{part_read, map_answer};
+ghost use Rattle.imagesize_source.specs.State.{Runs};
+ghost use Rattle.imagesize_pieces.specs.Stream.{byte_at, came, end_of, stream_input, stream_state};
+
+use crate::room::bytes_behind;
+use imagesize_source::source::Source;
+use imagesize_source::source::log::SpanLog;
+use imagesize_source::source::parts::{Missing, count_there, is_cut, put};
+use imagesize_source::text::text_length;
+use imagesize_source::{Halt, ImageError, Reason, Span, Text};
+
+/// The bytes from an offset on: the kept ones, and those of the next chunk after them. The input may have more.
+#[derive(Drop)]
+pub struct StreamSource<'a> {
+    /// The offset of the first byte.
+    pub start: u64,
+    /// The bytes that were kept.
+    pub kept: &'a [u8],
+    /// The bytes after the kept ones.
+    pub chunk: &'a [u8],
+    /// The length of the input in bytes.
+    pub told: u64,
+    /// What the last failed read misses.
+    pub missed: Option<Missing>,
+    /// The spans of the reads.
+    pub log: SpanLog,
+    ghost within: { start + length kept.now + length chunk.now ≤ told },
+    ghost seen: { AllKnown told (came start kept.now chunk.now) (kept.now ++ chunk.now) log.spans },
+    ghost lacks: { ForSome missed (Lacks told (came start kept.now chunk.now) (kept.now ++ chunk.now)) },
+}
+
+impl<'a> StreamSource<'a> {
+    /// A source of these bytes.
+    pub fn new(start: u64, kept: &'a [u8], chunk: &'a [u8], told: u64) -> Self
+        requires { start + length kept.now + length chunk.now ≤ told }
+        ensures start { result.start ≡ start }
+        ensures kept { result.kept.now ≡ kept.now }
+        ensures chunk { result.chunk.now ≡ chunk.now }
+        ensures told { result.told ≡ told }
+        ensures seen { result.log.spans ≡ [] }
+        ensures missed { result.missed ≡ None }
+    {
+        StreamSource {
+            start,
+            kept,
+            chunk,
+            told,
+            missed: None,
+            log: SpanLog::new(),
+        }
+    }
+
+    /// The offset after the last byte that the last failed read requests.
+    pub fn end(&self) -> u64
+        ensures { result ≡ end_of self.now.missed }
+    {
+        match self.missed {
+            Some(missing) => missing.start + missing.most,
+            None => 0,
+        }
+    }
+
+    // Records `count` bytes from an offset on. Without bytes it records no span.
+    #[inline(always)]
+    #[tactic(auto, unfolding(imagesize_source::specs::Input::span_at))]
+    fn see(&mut self, start: u64, count: usize)
+        requires { (i : ℕ) → i < count → is_some (byte_at self.old.told self.old.start self.old.kept.now self.old.chunk.now (start + i)) ≡ true }
+        ensures start { self.new.start ≡ self.old.start }
+        ensures kept { self.new.kept.now ≡ self.old.kept.now }
+        ensures chunk { self.new.chunk.now ≡ self.old.chunk.now }
+        ensures told { self.new.told ≡ self.old.told }
+        ensures seen { self.new.log.spans ≡ self.old.log.spans ++ span_at start count }
+        ensures missed { self.new.missed ≡ self.old.missed }
+    {
+        if count > 0 {
+            let len = count as u64;
+            self.push(Span { start, len });
+        }
+    }
+
+    // Records a span.
+    #[inline(always)]
+    fn push(&mut self, span: Span)
+        requires { (place : ℕ) → has_place span place ≡ true → is_some (byte_at self.old.told self.old.start self.old.kept.now self.old.chunk.now place) ≡ true }
+        ensures start { self.new.start ≡ self.old.start }
+        ensures kept { self.new.kept.now ≡ self.old.kept.now }
+        ensures chunk { self.new.chunk.now ≡ self.old.chunk.now }
+        ensures told { self.new.told ≡ self.old.told }
+        ensures pushed { self.new.log.spans ≡ self.old.log.spans ++ span ∷ [] }
+        ensures missed { self.new.missed ≡ self.old.missed }
+    {
+        self.log = SpanLog::with(&self.log, &span);
+    }
+
+    // Records a read whose first `count` bytes are known and whose next byte is missing.
+    fn miss(&mut self, start: u64, count: usize, sure: usize, most: usize) -> Halt
+        requires known { (i : ℕ) → i < count → is_some (byte_at self.old.told self.old.start self.old.kept.now self.old.chunk.now (start + i)) ≡ true }
+        requires some { 0 < sure }
+        requires among { sure ≤ most }
+        requires fits { start + count + most ≤ self.old.told }
+        requires unknown { is_some (byte_at self.old.told self.old.start self.old.kept.now self.old.chunk.now (start + count)) ≡ false }
+        ensures start { self.new.start ≡ self.old.start }
+        ensures kept { self.new.kept.now ≡ self.old.kept.now }
+        ensures chunk { self.new.chunk.now ≡ self.old.chunk.now }
+        ensures told { self.new.told ≡ self.old.told }
+        ensures seen { self.new.log.spans ≡ self.old.log.spans ++ span_at start count }
+        ensures missed { self.new.missed ≡ Some (record { start = start + count; sure = sure; most = most }) }
+        ensures halts { result ≡ Halt.Failed }
+    {
+        self.see(start, count);
+        self.missed = Some(Missing {
+            start: start + count as u64,
+            sure: sure as u64,
+            most: most as u64,
+        });
+        Halt::Failed
+    }
+
+    // Copies the known bytes of a read into the buffer, up to the first missing byte. Returns how many it copied, and how many
+    // bytes of the buffer lie within the input.
+    #[inline(always)]
+    fn fill_known(&self, place: u64, room: &mut [u8]) -> (usize, usize)
+        ensures wanted { result.1 ≡ min (length room.new) (self.now.told - place) }
+        ensures within { result.0 ≤ result.1 }
+        ensures copied { take result.0 room.new ≡ part (stream_input self.now.told self.now.start self.now.kept.now self.now.chunk.now) place result.0 }
+        ensures known { (i : ℕ) → i < result.0 → is_some (byte_at self.now.told self.now.start self.now.kept.now self.now.chunk.now (place + i)) ≡ true }
+        ensures missing { result.0 < result.1 → is_some (byte_at self.now.told self.now.start self.now.kept.now self.now.chunk.now (place + result.0)) ≡ false }
+    {
+        let wanted = count_there(self.told, place, room.len());
+        let found = self.gather(place, &mut room[..wanted]);
+        (found, wanted)
+    }
+
+    // Copies the known bytes of a read into the buffer, up to the first missing byte, and returns how many it copied.
+    fn gather(&self, place: u64, room: &mut [u8]) -> usize
+        requires { length room.old ≤ self.now.told - place }
+        ensures within { result ≤ length room.old }
+        ensures copied { take result room.new ≡ part (stream_input self.now.told self.now.start self.now.kept.now self.now.chunk.now) place result }
+        ensures known { (i : ℕ) → i < result → is_some (byte_at self.now.told self.now.start self.now.kept.now self.now.chunk.now (place + i)) ≡ true }
+        ensures missing { result < length room.old → is_some (byte_at self.now.told self.now.start self.now.kept.now self.now.chunk.now (place + result)) ≡ false }
+    {
+        let mut count = 0;
+        while count < room.len() {
+            let run = self.known_from(place + count as u64);
+            if run.is_empty() {
+                return count;
+            }
+            count += put(run, room, count);
+        }
+        count
+    }
+
+    // The known bytes from an offset on, up to the end of the slice that contains it.
+    #[inline(always)]
+    #[tactic(auto, using(crate::proofs::Streaming::kept_known, crate::proofs::Streaming::chunk_known, crate::proofs::Streaming::before_none, crate::proofs::Streaming::behind_none))]
+    fn known_from(&self, place: u64) -> &'a [u8]
+        ensures known { (i : ℕ) → i < length result.now → byte_at self.now.told self.now.start self.now.kept.now self.now.chunk.now (place + i) ≡ Some (slice_index result.now i) }
+        ensures none { length result.now ≡ 0 → is_some (byte_at self.now.told self.now.start self.now.kept.now self.now.chunk.now place) ≡ false }
+    {
+        if place < self.start {
+            return &self.kept[..0];
+        }
+        let offset = place - self.start;
+        let kept = self.kept.len() as u64;
+        if offset < kept {
+            return &self.kept[offset as usize..];
+        }
+        bytes_behind(self.chunk, offset - kept)
+    }
+
+    // The `count` bytes from an offset on, or `None` if no slice contains all of them.
+    #[inline(always)]
+    #[tactic(auto, using(crate::proofs::Streaming::first_known))]
+    fn whole_from(&self, place: u64, count: usize) -> Option<&'a [u8]>
+        ensures long { IfSome result (λ found. length found.now ≡ count) }
+        ensures known { IfSome result (λ found. (i : ℕ) → i < count → byte_at self.now.told self.now.start self.now.kept.now self.now.chunk.now (place + i) ≡ Some (slice_index found.now i)) }
+    {
+        let run = self.known_from(place);
+        if run.len() < count {
+            return None;
+        }
+        Some(&run[..count])
+    }
+
+    // A read that no slice contains as a whole.
+    #[cold]
+    #[inline(never)]
+    fn gather_at(&mut self, place: u64, room: &mut [u8]) -> Result<usize, Halt>
+        ensures bound { IfOk result (λ n. n ≤ length room.new) }
+        ensures there { IfOk result (λ n. n ≤ self.old.told - place) }
+        ensures runs { Runs (stream_state self.old.told self.old.start self.old.kept.now self.old.chunk.now self.old.log.spans self.old.missed)
+            (stream_state self.new.told self.new.start self.new.kept.now self.new.chunk.now self.new.log.spans self.new.missed)
+            (map_answer (λ n. take n room.new) result)
+            (part_read (stream_input self.old.told self.old.start self.old.kept.now self.old.chunk.now) place (length room.new)) }
+    {
+        let (found, wanted) = self.fill_known(place, room);
+        if found < wanted {
+            let missing = wanted - found;
+            return Err(self.miss(place, found, missing, missing));
+        }
+        self.see(place, found);
+        Ok(found)
+    }
+}
+
+impl Source for StreamSource<'_> {
+    ghost state = { λ s. stream_state s.told s.start s.kept.now s.chunk.now s.log.spans s.missed };
+
+    fn told(&self) -> u64 {
+        self.told
+    }
+
+    fn taken(&self) -> u64 {
+        0
+    }
+
+    fn refusal(&self, halt: Halt) -> ImageError {
+        halt.error(Reason::EndOfInput, 0)
+    }
+
+    #[inline(always)]
+    fn read_at(&mut self, place: u64, room: &mut [u8]) -> Result<usize, Halt> {
+        let Some(found) = self.whole_from(place, room.len()) else {
+            return self.gather_at(place, room);
+        };
+        room.copy_from_slice(found);
+        self.see(place, found.len());
+        Ok(found.len())
+    }
+
+    fn read_text(&mut self, place: u64, text: Text, room: &mut [u8]) -> Result<usize, Halt> {
+        let (found, wanted) = self.fill_known(place, room);
+        if is_cut(text, &room[..found], wanted) {
+            return Err(self.miss(place, found, 1, wanted - found));
+        }
+        let count = text_length(text, &room[..found]);
+        self.see(place, count);
+        Ok(count)
+    }
+}

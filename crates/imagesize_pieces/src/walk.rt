@@ -1,0 +1,81 @@
+//! A walk along the records of an input that arrives in chunks. Each chunk continues it, over the kept bytes and the new ones.
+ghost use Rattle.std.specs.Prelude.{◌≡◌, ℕ, ◌+◌, ◌-◌, ◌<◌, ◌≤◌, ◌++◌, List, length, false, None, IfSome};
+ghost use Rattle.imagesize_source.specs.Reading.{Reads, is_faulted, is_stopped};
+ghost use Rattle.imagesize_source.specs.Walk.{CanFollow, chain_of};
+ghost use Rattle.imagesize_pieces.specs.Standing.{Stands};
+ghost use Rattle.imagesize_pieces.specs.Stream.{AllBelow, Begins, Reach, Says};
+
+use crate::room::{bytes_behind, keep_behind};
+use crate::source::StreamSource;
+use crate::stand::Stand;
+use imagesize_source::Halt;
+use imagesize_source::walk::{Records, walk_on};
+
+/// Continues the walk with the next chunk, and returns the result as soon as the bytes decide it. The buffer holds the bytes
+/// from `stand.start` on.
+pub fn read_on<R: Records>(
+    records: &mut R,
+    stand: &mut Stand,
+    room: &mut [u8],
+    chunk: &[u8],
+) -> Option<Result<R::Answer, Halt>>
+    requires follows { CanFollow (chain_of 0 (R.said records.old)) }
+    requires keeps { (held : List R.Held) × R.keeps records.old held stand.old.place }
+    requires reaches { (held : List R.Held) (place : ℕ) → Reach place (place + (length room.old + 1)) (R.said records.old held place) }
+    requires room { stand.old.passed - stand.old.start ≤ length room.old }
+    requires fits { stand.old.passed + length chunk.now ≤ stand.old.told }
+    ensures same { R.said records.new ≡ R.said records.old }
+    ensures told { stand.new.told ≡ stand.old.told }
+    ensures passed { result ≡ None → stand.new.passed ≡ stand.old.passed + length chunk.now }
+    ensures keeps { result ≡ None → (held : List R.Held) × R.keeps records.new held stand.new.place }
+    ensures room { result ≡ None → stand.new.passed - stand.new.start ≤ length room.new }
+    ensures stays { IfSome result (λ _. (stand.new ≡ stand.old) × (room.new ≡ room.old)) }
+    ensures unstopped { IfSome result (λ answer. is_stopped answer ≡ false) }
+
+    // The read that a byte is missing for requests more than the bytes that arrived, and more than the records before it.
+    ensures ends { result ≡ None → (stand.new.passed < stand.new.end) × (stand.new.start < stand.new.end) × (stand.new.end ≤ stand.new.told) }
+
+    // If all bytes of the input arrived, there is a result.
+    ensures whole { stand.old.told ≤ stand.old.passed + length chunk.now → result ≡ None → ⊥ }
+
+    // For each list of bytes that may have arrived before:
+    ensures goes_on { result ≡ None → (first : ℕ) (whole : List ℕ → Reads R.Answer) (front : List ℕ)
+        → Stands first (R.said records.old) (R.keeps records.old) stand.old room.old whole front
+        → Stands first (R.said records.old) (R.keeps records.new) stand.new room.new whole (front ++ chunk.now) }
+    ensures says { (first : ℕ) (whole : List ℕ → Reads R.Answer) (front : List ℕ)
+        → Stands first (R.said records.old) (R.keeps records.old) stand.old room.old whole front
+        → IfSome result (Says (front ++ chunk.now) stand.old.told whole) }
+    ensures complete { result ≡ None → (first : ℕ) (whole : List ℕ → Reads R.Answer) (front : List ℕ)
+        → Stands first (R.said records.old) (R.keeps records.old) stand.old room.old whole front
+        → (d : List ℕ) → Begins (front ++ chunk.now) stand.old.told d → length d ≡ stand.old.told
+        → AllBelow (length front + length chunk.now) (whole d).marks → ⊥ }
+    ensures starts { result ≡ None → (first : ℕ) (whole : List ℕ → Reads R.Answer) (front : List ℕ)
+        → Stands first (R.said records.old) (R.keeps records.old) stand.old room.old whole front
+        → (d : List ℕ) → Begins (front ++ chunk.now) stand.old.told d → length d ≡ stand.old.told
+        → AllBelow stand.new.start (whole d).marks → ⊥ }
+{
+    let passed = stand.passed + chunk.len() as u64;
+    let start = stand.start.min(passed);
+    let count = stand.passed.saturating_sub(stand.start) as usize;
+    let unread = bytes_behind(chunk, stand.start.saturating_sub(stand.passed));
+    let mut source = StreamSource::new(start, &room[..count], unread, stand.told);
+    let mut place = stand.place;
+    let found = walk_on(records, &mut place, &mut source);
+    if is_faulted(&found) {
+        stand.end = source.end();
+        keep_behind(room, count, unread, place.saturating_sub(start));
+        stand.start = place;
+        stand.place = place;
+        stand.passed = passed;
+        return None;
+    }
+    Some(found)
+}
+
+/// Whether a read failed because a byte has not arrived yet.
+#[inline(always)]
+pub fn is_faulted<X>(answer: &Result<X, Halt>) -> bool
+    ensures { result ≡ is_faulted answer.now }
+{
+    matches!(answer, Err(Halt::Failed))
+}

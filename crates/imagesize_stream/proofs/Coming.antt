@@ -1,0 +1,66 @@
+-- What more bytes leave of what the bytes so far tell.
+use Rattle.std.proofs.Common.{◌≡◌, ℕ, ◌-◌, ◌≤◌, List, [], ◌∷◌, ◌++◌, length, take, drop, Option, Some, None, Result, Ok, refl, sym, ap, ◌∙◌, subst, arith}
+use Rattle.std.proofs.lemmas.List.{length-take}
+use Rattle.imagesize.specs.Meaning.{meaning_reads}
+use Rattle.imagesize.specs.declared.types.ImageType.{ImageType}
+use Rattle.imagesize_pieces.proofs.Beginning.{begins_left}
+use Rattle.imagesize_pieces.specs.Stream.{Begins, Says, Streams}
+use Rattle.imagesize.specs.Meaning.{kind_reads}
+use Rattle.imagesize_source.specs.Layout.{layout_reads}
+use Rattle.imagesize_stream.proofs.Hearing.{opened_behind}
+use Rattle.imagesize_stream.specs.Probe.{IfAwaiting}
+use Rattle.imagesize_stream.specs.Steps.{Awaits, IsSteady, awaited_said}
+use Rattle.imagesize_stream.specs.Streamed.{opening}
+use Rattle.imagesize_stream.specs.declared.awaited.Awaited.{Awaited}
+use Rattle.imagesize_stream.specs.declared.front.Opening.TheVariants as opened
+use Rattle.imagesize_stream.specs.declared.stage.Stage.{Stage}
+use Rattle.imagesize_stream.specs.declared.stage.Stage.TheVariants.{Done, First, Footer, Records}
+use Rattle.imagesize_source.specs.Reading.{Reads}
+use Rattle.imagesize_source.specs.declared.halt.Halt.{Halt}
+use Rattle.imagesize_stream.specs.Heard.{SizeIs, TypeIs}
+use Rattle.imagesize_stream.specs.Probe.{TypeSays}
+use Rattle.imagesize_types.specs.declared.size.ImageSize.{ImageSize}
+
+pub type_on : (front chunk : List ℕ) (told now : ℕ) (kind : Option ImageType) → now ≡ told → TypeIs front told kind
+    → TypeIs (front ++ chunk) now kind
+type_on front chunk told now kind same is d begins =
+    is d (begins_left front chunk told d (subst (λ k. Begins (front ++ chunk) k d) same begins))
+
+pub size_on : (front chunk : List ℕ) (told now : ℕ) (size : Result ImageSize Halt) → now ≡ told → SizeIs front told size
+    → SizeIs (front ++ chunk) now size
+size_on front chunk told now size same is d begins =
+    is d (begins_left front chunk told d (subst (λ k. Begins (front ++ chunk) k d) same begins))
+
+pub says_on : (front chunk : List ℕ) (told now : ℕ) (kind : Option ImageType) → now ≡ told → TypeSays front told kind
+    → TypeSays (front ++ chunk) now kind
+says_on front chunk told now None same says = tt
+says_on front chunk told now (Some type) same says = type_on front chunk told now (Some type) same says
+
+pub size_by : (front : List ℕ) (told now : ℕ) (size : Result ImageSize Halt) → now ≡ told
+    → Says front told (λ d. meaning_reads d 0) size → SizeIs front now size
+size_by front told now size same says d begins =
+    ap (λ (r : Reads ImageSize). r.answer) (says.is d (subst (λ k. Begins front k d) same begins))
+
+-- a walk that begins where the first bytes say
+pub opened_came : (room : List ℕ) (passed start told place : ℕ) (next : Awaited) (type : ImageType) → start ≡ 0
+    → passed ≤ length room → IsSteady next place
+    → Says (take passed room) told (λ d. kind_reads d 0) (Ok type)
+    → Says (take passed room) told (λ d. layout_reads d (opening type)) (Ok (opened.Records next place))
+    → Streams 0 awaited_said (λ held. Awaits next held place) start place told passed (take (passed - start) room)
+    (λ d. meaning_reads d 0) (take passed room)
+opened_came room passed start told place next type first within steady says size = record {
+  held = next ∷ [];
+  known = (refl, steady);
+  as_many = omega (arith, length-take passed room, within);
+  rest =
+      let all : passed - start ≡ passed = omega (arith, first) in
+      ap (λ k. take k room) all ∙ ap (λ k. drop k (take passed room)) (sym first);
+  before = says.marks ++ size.marks;
+  resumes = λ d begins. opened_behind (take passed room) told type says (opened.Records next place) size d begins;
+}
+
+pub awaiting_map : {P Q : Type 0} (stage : Stage) → (P → Q) → IfAwaiting stage P → IfAwaiting stage Q
+awaiting_map First f p = f p
+awaiting_map (Records next) f p = f p
+awaiting_map (Footer size) f p = f p
+awaiting_map (Done size) f p = tt

@@ -1,0 +1,55 @@
+-- What the first bytes of an image tell of it.
+use Rattle.std.proofs.Common.{◌≡◌, ℕ, Bool, true, false, List, [], ◌++◌, length, Option, None, Some, Result, Ok, Err, refl, sym, ap, ◌∙◌}
+use Rattle.std.proofs.lemmas.List.{append-nil}
+use Rattle.imagesize.specs.Kind.{first_row, kind_by, tga_or_none, with_compression}
+use Rattle.imagesize.specs.Meaning.{kind_reads}
+use Rattle.imagesize_stream.specs.Streamed.{first_by, first_layout, type_behind}
+use Rattle.imagesize.specs.Types.{rows}
+use Rattle.imagesize_stream.specs.declared.front.First.TheVariants as first
+use Rattle.imagesize.specs.declared.types.ImageType.{ImageType}
+use Rattle.imagesize_fixed.specs.Tga.{is_tga, may_be_tga}
+use Rattle.imagesize_source.specs.Input.{span_of}
+use Rattle.imagesize_source.specs.Layout.{bind, layout_reads}
+use Rattle.imagesize_source.specs.Layout.Layout.{«done»}
+use Rattle.imagesize_source.specs.Reading.{Reads, and_then, bytes_at, gives, go_on, put_behind}
+use Rattle.imagesize_source.specs.declared.halt.Halt.{Halt}
+use Rattle.imagesize_source.specs.declared.span.Span.{Span}
+use Rattle.imagesize_source.proofs.Layouts.{onward-and_then, over-bind}
+
+-- an answer that is looked at from outside
+seen_by : {X Y : Type 0} (f : X → Y) (rest : Y → Reads X) → ((x : X) → rest (f x) ≡ gives x)
+    → (marks : List Span) (answer : Result X Halt)
+    → record { answer = answer; marks = marks } ≡ and_then (go_on marks answer (λ x. gives (f x))) rest
+seen_by f rest back marks (Ok x) =
+    ap (λ m. record { answer = Ok x; marks = m }) (sym (append-nil marks) ∙ sym (append-nil (marks ++ [])))
+    ∙ ap (put_behind (marks ++ [])) (sym (back x))
+seen_by f rest back marks (Err e) = refl
+
+pub seen_from : {X Y : Type 0} (r : Reads X) (f : X → Y) (rest : Y → Reads X) → ((x : X) → rest (f x) ≡ gives x)
+    → r ≡ and_then (and_then r (λ x. gives (f x))) rest
+seen_from r f rest back = seen_by f rest back r.marks r.answer
+
+no_tga : (n : ℕ) (head : List ℕ) (d : List ℕ) → may_be_tga head ≡ false
+    → layout_reads d (bind (is_tga n head) tga_or_none) ≡ layout_reads d (tga_or_none false)
+unfolding is_tga
+no_tga n head d is = rw is refl
+
+by_row : (d head : List ℕ) (row : Option ImageType)
+    → layout_reads d (kind_by (length d) 0 head row) ≡ and_then (layout_reads d (first_by head row)) (type_behind d)
+by_row d head (Some found) =
+    seen_from (layout_reads d (with_compression 0 head found)) (λ type. first.Type type) (type_behind d) (λ type. refl)
+    ∙ ap (λ r. and_then r (type_behind d))
+    (sym (over-bind d (with_compression 0 head found) (λ type. done (first.Type type))))
+by_row d head None = by_test (may_be_tga head) refl where
+  by_test : (test : Bool) → may_be_tga head ≡ test
+      → layout_reads d (bind (is_tga (length d) head) tga_or_none)
+      ≡ and_then (layout_reads d (first_by head None)) (type_behind d)
+  by_test true is = rw is refl
+  by_test false is = rw is (no_tga (length d) head d is)
+
+-- the type of an input is what its first bytes say, and what goes on from there
+pub type_by_first : (d : List ℕ) → kind_reads d 0 ≡ and_then (layout_reads d first_layout) (type_behind d)
+type_by_first d = onward-and_then (span_of d 0 12) (bytes_at d 0 12)
+    (λ head. layout_reads d (first_by head (first_row rows head))) (type_behind d)
+    (λ head. layout_reads d (kind_by (length d) 0 head (first_row rows head)))
+    (λ head. by_row d head (first_row rows head))

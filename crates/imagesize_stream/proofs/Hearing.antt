@@ -1,0 +1,137 @@
+-- What the first bytes say of every image that begins with them.
+use Rattle.std.proofs.Common.{◌≡◌, ℕ, ◌≤◌, List, [], ◌++◌, length, true, Result, Ok, Err, sym, ap, ◌∙◌, subst}
+use Rattle.std.specs.Result.{result_ok}
+use Rattle.imagesize.specs.Meaning.{kind_reads, meaning_reads, size_reads}
+use Rattle.imagesize.specs.declared.types.ImageType.{ImageType}
+use Rattle.imagesize_pieces.specs.Stream.{AllBelow, Begins, Says}
+use Rattle.imagesize_pieces.proofs.Beginning.{begins_all}
+use Rattle.imagesize_source.specs.Agreement.{is_covered}
+use Rattle.imagesize_source.specs.Layout.{layout_reads}
+use Rattle.imagesize_source.specs.Reading.{Reads, and_then, go_on, put_behind}
+use Rattle.imagesize_source.specs.declared.halt.Halt.{Halt}
+use Rattle.imagesize_source.specs.declared.span.Span.{Span}
+use Rattle.imagesize_source.proofs.Agreement.{covered-left, covered-right}
+use Rattle.imagesize_source.proofs.Marks.{behind-behind}
+use Rattle.imagesize_stream.proofs.Firsts.{type_by_first}
+use Rattle.imagesize_stream.proofs.Opened.{opened_as, opened_rest}
+use Rattle.imagesize_stream.proofs.Saying.{OpensSteady, opening_steady, saying}
+use Rattle.imagesize_stream.specs.Heard.{RestsOnMore, SizeIs, TypeIs}
+use Rattle.imagesize_stream.specs.Steps.{IsSteady}
+use Rattle.imagesize_stream.specs.Streamed.{first_layout, opening, type_behind}
+use Rattle.imagesize_stream.specs.declared.awaited.Awaited.{Awaited}
+use Rattle.imagesize_stream.specs.declared.front.First.TheVariants as first
+use Rattle.imagesize_stream.specs.declared.front.Opening.{Opening}
+use Rattle.imagesize_stream.specs.declared.front.Opening.TheVariants as opened
+use Rattle.imagesize_types.specs.declared.size.ImageSize.{ImageSize}
+
+module _ (front : List ℕ) (told : ℕ) where
+  -- the type
+  pub type_said : (type : ImageType) → Says front told (λ d. layout_reads d first_layout) (Ok (first.Type type))
+      → Says front told (λ d. kind_reads d 0) (Ok type)
+  type_said type says = record {
+    marks = says.marks ++ [];
+    is = λ d begins. type_by_first d ∙ ap (λ r. and_then r (type_behind d)) (says.is d begins);
+  }
+
+  -- no type is found
+  pub type_refused : (e : Halt) → Says front told (λ d. layout_reads d first_layout) (Err e)
+      → Says front told (λ d. kind_reads d 0) (Err e)
+  type_refused e says = record {
+    marks = says.marks;
+    is = λ d begins. type_by_first d ∙ ap (λ r. and_then r (type_behind d)) (says.is d begins);
+  }
+
+  pub type_is : (r : Result ImageType Halt) → Says front told (λ d. kind_reads d 0) r → TypeIs front told (result_ok r)
+  type_is r says = λ d begins. ap (λ (w : Reads ImageType). result_ok w.answer) (says.is d begins)
+
+  pub meaning_refused : (e : Halt) → Says front told (λ d. kind_reads d 0) (Err e)
+      → Says front told (λ d. meaning_reads d 0) (Err e)
+  unfolding meaning_reads
+  meaning_refused e says = record {
+    marks = says.marks;
+    is = λ d begins. ap (λ r. and_then r (λ found. size_reads found d)) (says.is d begins);
+  }
+
+  -- the size by the type
+  pub meaning_behind : (type : ImageType) (says : Says front told (λ d. kind_reads d 0) (Ok type)) (d : List ℕ)
+      → Begins front told d
+      → meaning_reads d 0 ≡ put_behind says.marks (size_reads type d)
+  unfolding meaning_reads
+  meaning_behind type says d begins = ap (λ r. and_then r (λ found. size_reads found d)) (says.is d begins)
+
+  module _ (type : ImageType) (says : Says front told (λ d. kind_reads d 0) (Ok type)) where
+    -- by what the first bytes say of it
+    pub opened_behind : (x : Opening) (size : Says front told (λ d. layout_reads d (opening type)) (Ok x)) (d : List ℕ)
+        → Begins front told d
+        → meaning_reads d 0 ≡ put_behind (says.marks ++ size.marks) (opened_rest d x)
+    opened_behind x size d begins =
+        meaning_behind type says d begins
+        ∙ ap (put_behind says.marks) (opened_as type d ∙ ap (λ r. and_then r (opened_rest d)) (size.is d begins))
+        ∙ behind-behind says.marks size.marks (opened_rest d x)
+
+    pub size_said : (size : ImageSize) → Says front told (λ d. layout_reads d (opening type)) (Ok (opened.Size size))
+        → Says front told (λ d. meaning_reads d 0) (Ok size)
+    size_said size is = record {
+      marks = (says.marks ++ is.marks) ++ [];
+      is = λ d begins. opened_behind (opened.Size size) is d begins;
+    }
+
+    pub size_refused : (e : Halt) → Says front told (λ d. layout_reads d (opening type)) (Err e)
+        → Says front told (λ d. meaning_reads d 0) (Err e)
+    size_refused e is = record {
+      marks = says.marks ++ is.marks;
+      is = λ d begins. meaning_behind type says d begins
+          ∙ ap (put_behind says.marks) (opened_as type d ∙ ap (λ r. and_then r (opened_rest d)) (is.is d begins));
+    }
+
+    pub steady_said : length front ≤ told → (next : Awaited) (place : ℕ)
+        → Says front told (λ d. layout_reads d (opening type)) (Ok (opened.Records next place)) → IsSteady next place
+    steady_said fits next place is =
+        saying OpensSteady front (opening type) (opened.Records next place) (opening_steady type)
+        (ap (λ (r : Reads Opening). r.answer) (is.is front (begins_all front told fits)))
+
+  -- a mark of the first readings is one of all
+  pub first_covered : {X Y : Type 0} (marks : List Span) (r : Result X Halt) (f : X → Reads Y) (place : ℕ)
+      → is_covered marks place ≡ true
+      → is_covered (go_on marks r f).marks place ≡ true
+  first_covered marks (Ok x) f place here = covered-left marks (f x).marks place here
+  first_covered marks (Err e) f place here = here
+
+  type_covered : (d : List ℕ) (place : ℕ) → is_covered (layout_reads d first_layout).marks place ≡ true
+      → is_covered (meaning_reads d 0).marks place ≡ true
+  unfolding meaning_reads
+  type_covered d place here =
+      first_covered (kind_reads d 0).marks (kind_reads d 0).answer (λ found. size_reads found d) place
+      (subst (λ (r : Reads ImageType). is_covered r.marks place ≡ true) (sym (type_by_first d))
+      (first_covered (layout_reads d first_layout).marks (layout_reads d first_layout).answer
+      (type_behind d) place here))
+
+  pub first_missing : ((d : List ℕ) → Begins front told d → length d ≡ told
+      → AllBelow (length front) (layout_reads d first_layout).marks → ⊥)
+      → RestsOnMore front told
+  first_missing none =
+      λ d begins as_long below. none d begins as_long (λ place here. below place (type_covered d place here))
+
+  size_covered : (type : ImageType) (says : Says front told (λ d. kind_reads d 0) (Ok type)) (d : List ℕ)
+      → Begins front told d → (place : ℕ)
+      → is_covered (layout_reads d (opening type)).marks place ≡ true
+      → is_covered (meaning_reads d 0).marks place ≡ true
+  size_covered type says d begins place here =
+      subst (λ (r : Reads ImageSize). is_covered r.marks place ≡ true) (sym (meaning_behind type says d begins))
+      (covered-right says.marks (size_reads type d).marks place
+      (subst (λ (r : Reads ImageSize). is_covered r.marks place ≡ true) (sym (opened_as type d))
+      (first_covered (layout_reads d (opening type)).marks (layout_reads d (opening type)).answer
+      (opened_rest d) place here)))
+
+  pub size_missing : (type : ImageType) → Says front told (λ d. kind_reads d 0) (Ok type)
+      → ((d : List ℕ) → Begins front told d → length d ≡ told
+      → AllBelow (length front) (layout_reads d (opening type)).marks → ⊥)
+      → RestsOnMore front told
+  size_missing type says none =
+      λ d begins as_long below. none d begins as_long
+      (λ place here. below place (size_covered type says d begins place here))
+
+-- the answer of the readings
+pub size_of_said : (front : List ℕ) (told : ℕ) (size : Result ImageSize Halt)
+    → Says front told (λ d. meaning_reads d 0) size → SizeIs front told size
+size_of_said front told size says d begins = ap (λ (r : Reads ImageSize). r.answer) (says.is d begins)

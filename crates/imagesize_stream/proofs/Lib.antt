@@ -1,0 +1,15 @@
+pub mod Behind
+pub mod Steps
+pub mod Running
+pub mod Firsts
+pub mod Reaches
+pub mod Far
+pub mod Opened
+pub mod Hearing
+pub mod Saying
+pub mod Coming
+pub mod Footers
+pub mod Ending
+pub mod Words
+pub mod Given
+pub mod Requests

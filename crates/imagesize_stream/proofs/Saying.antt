@@ -1,0 +1,110 @@
+-- What a layout says, whatever its readings answer.
+use Rattle.std.proofs.Common.{◌≡◌, ℕ, List, Option, Some, None, Result, Ok, Err, subst, arith}
+use Rattle.imagesize.specs.declared.types.ImageType.{ImageType}
+use Rattle.imagesize.specs.declared.types.ImageType.TheVariants.{Aseprite, Astc, Atc, Bmp, Dds, Eac, Etc2, Exr, Farbfeld, Gif, Hdr, Heif, Ico, Ilbm, Jpeg, Jxl, Ktx2, Pnm, Pvrtc, Psd, Qoi, Tga, Tiff, Vtf, Webp}
+use Rattle.imagesize_fixed.specs.Aseprite.{aseprite}
+use Rattle.imagesize_fixed.specs.Astc.{astc}
+use Rattle.imagesize_fixed.specs.Atc.{atc}
+use Rattle.imagesize_fixed.specs.Bmp.{bmp}
+use Rattle.imagesize_fixed.specs.Dds.{dds}
+use Rattle.imagesize_fixed.specs.Farbfeld.{farbfeld}
+use Rattle.imagesize_fixed.specs.Gif.{gif}
+use Rattle.imagesize_fixed.specs.Ktx2.{ktx2}
+use Rattle.imagesize_fixed.specs.Pkm.{pkm}
+use Rattle.imagesize_fixed.specs.Psd.{psd}
+use Rattle.imagesize_fixed.specs.Pvrtc.{pvrtc}
+use Rattle.imagesize_fixed.specs.Qoi.{qoi}
+use Rattle.imagesize_fixed.specs.Tga.{tga}
+use Rattle.imagesize_fixed.specs.Vtf.{vtf}
+use Rattle.imagesize_fixed.specs.Webp.{webp}
+use Rattle.imagesize_source.specs.Input.{span_of}
+use Rattle.imagesize_source.specs.Layout.{Layout, accept, bind, layout_reads}
+use Rattle.imagesize_source.specs.Layout.Layout.{field, reading, refuse, «done»}
+use Rattle.imagesize_source.specs.Reading.{Reads, go_on, number_at, read_of}
+use Rattle.imagesize_source.specs.declared.halt.Halt.{Halt}
+use Rattle.imagesize_source.specs.declared.span.Span.{Span}
+use Rattle.imagesize_stream.specs.Steps.{IsSteady}
+use Rattle.imagesize_stream.specs.Streamed.{jxl_opened, opening, opens, sized}
+use Rattle.imagesize_boxes.specs.Jxl.{jxl_size, jxl_start}
+use Rattle.imagesize_stream.specs.declared.awaited.Awaited.TheVariants.{Directory, Line}
+use Rattle.imagesize_stream.specs.declared.front.Opening.{Opening}
+use Rattle.imagesize_stream.specs.declared.front.Opening.TheVariants as opened
+use Rattle.imagesize_texts.specs.Hdr.{hdr_identifier}
+use Rattle.imagesize_types.specs.declared.size.ImageSize.{ImageSize}
+use Rattle.imagesize_walked.specs.Tiff.{tiff_header}
+
+-- whatever its readings answer, each thing that a layout says has the property
+abbrev pub Saying : {X : Type 0} → (X → Type 0) → Layout X → Type 0
+Saying P (done x) = P x
+Saying P (refuse e) = Unit {0}
+Saying P (field order place k f) = (v : ℕ) → Saying P (f v)
+Saying P (reading r place f) = (bs : List ℕ) → Saying P (f bs)
+
+saying_on : {X Y : Type 0} (P : X → Type 0) (marks : List Span) (r : Result Y Halt) (f : Y → Reads X) (x : X)
+    → (go_on marks r f).answer ≡ Ok x
+    → ((y : Y) → (f y).answer ≡ Ok x → P x) → P x
+saying_on P marks (Ok y) f x is each = each y is
+saying_on P marks (Err e) f x is each = absurd cc
+
+pub saying : {X : Type 0} (P : X → Type 0) (d : List ℕ) (t : Layout X) (x : X) → Saying P t
+    → (layout_reads d t).answer ≡ Ok x → P x
+saying P d (done y) x h is = let same : y ≡ x = cc in subst P same h
+saying P d (refuse e) x h is = absurd cc
+saying P d (field order place k f) x h is =
+    saying_on P (span_of d place k) (number_at d order place k) (λ n. layout_reads d (f n)) x is
+    (λ n got. saying P d (f n) x (h n) got)
+saying P d (reading r place f) x h is =
+    saying_on P (read_of d r place).marks (read_of d r place).answer (λ bs. layout_reads d (f bs)) x is
+    (λ bs got. saying P d (f bs) x (h bs) got)
+
+-- what goes on from a layout says what it says of each thing
+pub saying_bind : {X Y : Type 0} (P : Y → Type 0) (t : Layout X) (g : X → Layout Y) → ((x : X) → Saying P (g x))
+    → Saying P (bind t g)
+saying_bind P (done x) g each = each x
+saying_bind P (refuse e) g each = tt
+saying_bind P (field order place k f) g each = λ v. saying_bind P (f v) g each
+saying_bind P (reading r place f) g each = λ bs. saying_bind P (f bs) g each
+
+-- the record that the first bytes tell stands well
+abbrev pub OpensSteady : Opening → Type 0
+OpensSteady (opened.Size size) = Unit {0}
+OpensSteady (opened.Records next place) = IsSteady next place
+
+steady_sized : (t : Layout ImageSize) → Saying OpensSteady (sized t)
+steady_sized t = saying_bind OpensSteady t (λ size. done (opened.Size size)) (λ size. tt)
+
+jxl_sized : (r : Result ImageSize Halt) → Saying OpensSteady (accept r (λ size. done (opened.Size size)))
+jxl_sized (Ok size) = tt
+jxl_sized (Err e) = tt
+
+jxl_steady : (found : Option (List ℕ)) → Saying OpensSteady (jxl_opened found)
+jxl_steady (Some front) = jxl_sized (jxl_size front)
+jxl_steady None = omega arith
+
+pub opening_steady : (type : ImageType) → Saying OpensSteady (opening type)
+opening_steady Aseprite = steady_sized aseprite
+opening_steady Astc = steady_sized astc
+opening_steady (Atc _) = steady_sized atc
+opening_steady Bmp = steady_sized bmp
+opening_steady (Dds _) = steady_sized dds
+opening_steady (Eac _) = steady_sized pkm
+opening_steady (Etc2 _) = steady_sized pkm
+opening_steady Exr = λ version. tt
+opening_steady Farbfeld = steady_sized farbfeld
+opening_steady Gif = steady_sized gif
+opening_steady Hdr = saying_bind OpensSteady hdr_identifier (λ first. opens Line first) (λ first. tt)
+opening_steady (Heif _) = λ first. tt
+opening_steady Ico = λ count. (omega arith, tt)
+opening_steady Ilbm = tt
+opening_steady Jpeg = omega arith
+opening_steady Jxl = saying_bind OpensSteady jxl_start jxl_opened jxl_steady
+opening_steady Ktx2 = steady_sized ktx2
+opening_steady Pnm = tt
+opening_steady (Pvrtc _) = steady_sized pvrtc
+opening_steady Psd = steady_sized psd
+opening_steady Qoi = steady_sized qoi
+opening_steady Tga = steady_sized tga
+opening_steady Tiff =
+    saying_bind OpensSteady tiff_header (λ header. opens (Directory header) header.directory) (λ header. tt)
+opening_steady Vtf = steady_sized vtf
+opening_steady Webp = steady_sized webp

@@ -1,0 +1,112 @@
+-- The words of a portable bitmap: a record of its chain is one or two of what is awaited.
+use Rattle.std.proofs.Common.{◌≡◌, ℕ, ◌+◌, Bool, true, false, cond, eqb, List, ◌++◌, length, Result, Ok, Err, refl, sym, ap, ◌∙◌, arith}
+use Rattle.std.specs.Str.{trim}
+use Rattle.imagesize_source.proofs.Marks.{behind-behind}
+use Rattle.imagesize_source.specs.Chain.{Said, Decided, Next}
+use Rattle.imagesize_source.specs.Input.{span_at}
+use Rattle.imagesize_source.specs.Layout.{accept, layout_reads}
+use Rattle.imagesize_source.specs.Layout.Layout.{«done»}
+use Rattle.imagesize_source.specs.Reading.{Reads, and_then, go_on, put_behind, text_part}
+use Rattle.imagesize_source.specs.declared.halt.Halt.{Halt}
+use Rattle.imagesize_source.specs.declared.span.Span.{Span}
+use Rattle.imagesize_source.specs.declared.text.Text.TheVariants.{Line, Word as word_text_of}
+use Rattle.imagesize_stream.proofs.Running.{goes, run, run_unfolds}
+use Rattle.imagesize_stream.specs.Steps.{after, decides, height_step, word_step}
+use Rattle.imagesize_stream.specs.declared.awaited.Awaited.TheVariants.{Comment, Height, Word}
+use Rattle.imagesize_texts.specs.Contents.{WordRead, line_length, number_text, word_room, word_text}
+use Rattle.imagesize_texts.specs.Pnm.{is_blank, is_comment, pnm_height, pnm_passed, pnm_size, pnm_word}
+use Rattle.imagesize_texts.specs.Texts.{passed_line, word}
+use Rattle.imagesize_types.specs.declared.size.ImageSize.{ImageSize}
+
+-- what goes on behind spans
+behind_onward : {X Y : Type 0} (first marks : List Span) (answer : Result X Halt) (f : X → Reads Y)
+    → go_on (first ++ marks) answer f ≡ put_behind first (go_on marks answer f)
+behind_onward first marks (Ok x) f = sym (behind-behind first marks (f x))
+behind_onward first marks (Err e) f = refl
+
+behind_text : {X Y : Type 0} (first : List Span) (r : Reads X) (f : X → Reads Y)
+    → and_then (put_behind first r) f ≡ put_behind first (and_then r f)
+behind_text first r f = behind_onward first r.marks r.answer f
+
+module _ (d : List ℕ) where
+  -- what is behind a record of the chain
+  abbrev mine : Said (Unit {0}) ImageSize → Reads ImageSize
+  mine said = and_then (layout_reads d (after (λ _. Word) decides said)) (goes d)
+
+  -- the rest of a comment
+  comment_as : (place taken : ℕ) → run Comment (place + taken) d
+      ≡ and_then (layout_reads d (passed_line 0x0A (place + taken) 1024 (λ rest. pnm_passed place (taken + rest)))) mine
+  comment_as place taken =
+      let bs : List ℕ = text_part d (Line 0x0A) (place + taken) 1024 in
+      let marks : List Span = span_at (place + taken) (length bs) in
+      run_unfolds d Comment (place + taken)
+      ∙ behind_text marks (layout_reads d
+      (accept (line_length 0x0A 1024 bs) (λ rest. done (Next Word (place + taken + rest))))) (goes d)
+      ∙ ap (put_behind marks) (by_length (line_length 0x0A 1024 bs))
+      ∙ sym (behind_text marks
+      (layout_reads d (accept (line_length 0x0A 1024 bs) (λ rest. pnm_passed place (taken + rest)))) mine)
+    where
+      by_length : (r : Result ℕ Halt)
+          → and_then (layout_reads d (accept r (λ rest. done (Next Word (place + taken + rest))))) (goes d)
+          ≡ and_then (layout_reads d (accept r (λ rest. pnm_passed place (taken + rest)))) mine
+      by_length (Ok rest) =
+          ap (λ q. run Word q d) (let e : place + taken + rest ≡ place + (taken + rest) = omega arith in e)
+      by_length (Err e) = refl
+
+  -- the height behind the width
+  height_as : (place : ℕ) (w : WordRead)
+      → run (Height (number_text w.text)) (place + w.taken) d ≡ and_then (layout_reads d (pnm_height place w)) mine
+  height_as place w =
+      let bs : List ℕ = text_part d word_text_of (place + w.taken) word_room in
+      let marks : List Span = span_at (place + w.taken) (length bs) in
+      run_unfolds d (Height (number_text w.text)) (place + w.taken)
+      ∙ behind_text marks (layout_reads d (accept (word_text bs) (height_step (number_text w.text)))) (goes d)
+      ∙ ap (put_behind marks) (by_word (word_text bs))
+      ∙ sym (behind_text marks (layout_reads d (accept (word_text bs)
+      (λ next. accept (pnm_size (number_text w.text) (number_text (trim next.text)))
+      (λ size. done (Decided size))))) mine)
+    where
+      by_sides : (r : Result ImageSize Halt) → and_then (layout_reads d (accept r decides)) (goes d)
+          ≡ and_then (layout_reads d (accept r (λ size. done (Decided size)))) mine
+      by_sides (Ok size) = refl
+      by_sides (Err e) = refl
+
+      by_word : (r : Result WordRead Halt)
+          → and_then (layout_reads d (accept r (height_step (number_text w.text)))) (goes d)
+          ≡ and_then (layout_reads d
+          (accept r (λ next. accept (pnm_size (number_text w.text) (number_text (trim next.text)))
+          (λ size. done (Decided size))))) mine
+      by_word (Ok next) = by_sides (pnm_size (number_text w.text) (number_text (trim next.text)))
+      by_word (Err e) = refl
+
+  -- a word
+  word_as : (place : ℕ) (w : WordRead)
+      → and_then (layout_reads d (word_step place w)) (goes d) ≡ and_then (layout_reads d (pnm_word place w)) mine
+  word_as place w = by_tests (is_comment w.text) (eqb w.ended_by 0x0A) (is_blank w.text) where
+    by_tests : (comment line blank : Bool)
+        → run (cond comment (cond line Word Comment) (cond blank Word (Height (number_text w.text))))
+        (place + w.taken) d
+        ≡ and_then (layout_reads d
+        (cond comment (cond line (pnm_passed place w.taken) (passed_line 0x0A (place + w.taken) 1024
+        (λ rest. pnm_passed place (w.taken + rest))))
+        (cond blank (pnm_passed place w.taken) (pnm_height place w)))) mine
+    by_tests true true blank = refl
+    by_tests true false blank = comment_as place w.taken
+    by_tests false line true = refl
+    by_tests false line false = height_as place w
+
+  -- what is awaited reads as the record of the chain, and what is behind it
+  pub word_unrolls : (place : ℕ) → run Word place d ≡ and_then (layout_reads d (word place (pnm_word place))) mine
+  word_unrolls place =
+      let bs : List ℕ = text_part d word_text_of place word_room in
+      let marks : List Span = span_at place (length bs) in
+      run_unfolds d Word place
+      ∙ behind_text marks (layout_reads d (accept (word_text bs) (word_step place))) (goes d)
+      ∙ ap (put_behind marks) (by_word (word_text bs))
+      ∙ sym (behind_text marks (layout_reads d (accept (word_text bs) (pnm_word place))) mine)
+    where
+      by_word : (r : Result WordRead Halt)
+          → and_then (layout_reads d (accept r (word_step place))) (goes d)
+          ≡ and_then (layout_reads d (accept r (pnm_word place))) mine
+      by_word (Ok w) = word_as place w
+      by_word (Err e) = refl

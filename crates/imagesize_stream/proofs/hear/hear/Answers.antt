@@ -1,0 +1,35 @@
+use Rattle.std.proofs.Common.{Ok, sym, ◌∙◌, subst}
+use Rattle.imagesize_pieces.specs.Stream.{Says}
+use Rattle.imagesize_source.specs.Layout.{layout_reads}
+use Rattle.imagesize_stream.proofs.Hearing.{first_missing, meaning_refused, size_of_said, type_is, type_refused, type_said}
+use Rattle.imagesize_stream.proofs.Reaches.{first_reaches}
+use Rattle.imagesize_stream.specs.Streamed.{first_layout}
+use Rattle.imagesize_stream.specs.declared.front.First.{First}
+use Rattle.imagesize_stream.proofs.hear.hear.Goals as goal
+
+pub returns-then-is_faulted-clause-hears : goal.returns-then-is_faulted-clause-hears
+returns-then-is_faulted-clause-hears c = (
+  first_missing c.args.bytes.now c.args.told
+      (c.read_front-found.ensures.complete (sym c.is_faulted.ensures ∙ c.if-is_faulted.true)),
+  tt,
+)
+
+pub returns-then-is_faulted-clause-few : goal.returns-then-is_faulted-clause-few
+returns-then-is_faulted-clause-few c =
+    c.read_front-found.ensures.few (sym c.is_faulted.ensures ∙ c.if-is_faulted.true) 132 first_reaches
+
+pub hear_size-requires-clause-image : goal.hear_size-requires-clause-image
+hear_size-requires-clause-image c =
+    let says = c.read_front-found.ensures.says (sym c.is_faulted.ensures ∙ c.if-is_faulted.false) in
+    let said = rw c.in-Ok.is at says in
+    type_said c.args.bytes.now c.args.told c.in-Type.image
+    (subst (λ (x : First). Says c.args.bytes.now c.args.told (λ d. layout_reads d first_layout)
+    (Ok x)) c.in-Type.is said)
+
+pub returns-in-Err-clause-hears : goal.returns-in-Err-clause-hears
+returns-in-Err-clause-hears c =
+    let says = c.read_front-found.ensures.says (sym c.is_faulted.ensures ∙ c.if-is_faulted.false) in
+    let refused = type_refused c.args.bytes.now c.args.told c.in-Err.halt (rw c.in-Err.is at says) in (
+      type_is c.args.bytes.now c.args.told _ refused,
+      size_of_said c.args.bytes.now c.args.told _ (meaning_refused c.args.bytes.now c.args.told c.in-Err.halt refused),
+    )

@@ -1,0 +1,51 @@
+use Rattle.std.proofs.Common.{Ok, sym, ◌∙◌, subst}
+use Rattle.imagesize_pieces.specs.Stream.{Says}
+use Rattle.imagesize_source.specs.Layout.{layout_reads}
+use Rattle.imagesize_stream.proofs.Hearing.{size_missing, size_of_said, size_refused, size_said, steady_said, type_is}
+use Rattle.imagesize_stream.proofs.Reaches.{opening_reaches}
+use Rattle.imagesize_stream.specs.Streamed.{opening}
+use Rattle.imagesize_stream.specs.declared.front.Opening.{Opening}
+use Rattle.imagesize_stream.proofs.hear.hear_size.Goals as goal
+
+pub returns-then-is_faulted-clause-hears : goal.returns-then-is_faulted-clause-hears
+returns-then-is_faulted-clause-hears c = (
+  size_missing c.args.bytes.now c.args.told c.args.image c.requires.image
+      (c.read_front-found.ensures.complete (sym c.is_faulted.ensures ∙ c.if-is_faulted.true)),
+  c.requires.image,
+)
+
+pub returns-then-is_faulted-clause-few : goal.returns-then-is_faulted-clause-few
+returns-then-is_faulted-clause-few c =
+    c.read_front-found.ensures.few (sym c.is_faulted.ensures ∙ c.if-is_faulted.true) 132 (opening_reaches c.args.image)
+
+pub returns-in-Err-clause-hears : goal.returns-in-Err-clause-hears
+returns-in-Err-clause-hears c =
+    let says = c.read_front-found.ensures.says (sym c.is_faulted.ensures ∙ c.if-is_faulted.false) in (
+      type_is c.args.bytes.now c.args.told _ c.requires.image,
+      size_of_said c.args.bytes.now c.args.told _
+          (size_refused c.args.bytes.now c.args.told c.args.image c.requires.image c.in-Err.halt
+          (rw c.in-Err.is at says)),
+    )
+
+pub returns-in-Size-clause-hears : goal.returns-in-Size-clause-hears
+returns-in-Size-clause-hears c =
+    let says = c.read_front-found.ensures.says (sym c.is_faulted.ensures ∙ c.if-is_faulted.false) in
+    let said = rw c.in-Ok.is at says in (
+      type_is c.args.bytes.now c.args.told _ c.requires.image,
+      size_of_said c.args.bytes.now c.args.told _
+          (size_said c.args.bytes.now c.args.told c.args.image c.requires.image c.in-Size.size
+          (subst (λ (x : Opening). Says c.args.bytes.now c.args.told (λ d. layout_reads d (opening c.args.image))
+          (Ok x)) c.in-Size.is said)),
+    )
+
+pub returns-in-Records-clause-hears : goal.returns-in-Records-clause-hears
+returns-in-Records-clause-hears c =
+    let says = c.read_front-found.ensures.says (sym c.is_faulted.ensures ∙ c.if-is_faulted.false) in
+    let said = rw c.in-Ok.is at says in
+    let is = subst (λ (x : Opening). Says c.args.bytes.now c.args.told (λ d. layout_reads d (opening c.args.image))
+    (Ok x)) c.in-Records.is said in (
+      steady_said c.args.bytes.now c.args.told c.args.image c.requires.image c.requires.fits c.in-Records.next
+          c.in-Records.place is,
+      c.requires.image,
+      is,
+    )

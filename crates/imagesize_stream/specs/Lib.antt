@@ -1,0 +1,7 @@
+pub mod Given
+pub mod Heard
+pub mod Parts
+pub mod Probe
+pub mod Pushed
+pub mod Steps
+pub mod Streamed

@@ -1,0 +1,193 @@
+-- The record that a stream waits for, as one sequence for all formats whose size is in records.
+use Rattle.std.specs.Prelude.{◌≡◌, ℕ, ◌+◌, ◌-◌, ◌++◌, length, take, replicate, ◌<◌, ◌≤◌, ◌==◌, Bool, List, Option, None, Some, Result, Err, codes, ok_or, unwrap_or, if◌then◌else◌}
+use Rattle.std.specs.Coded.{Unit-prop, le_prop, ×_prop}
+use Rattle.std.specs.List.{last_or}
+use Rattle.std.specs.Str.{trim}
+use Rattle.imagesize_source.specs.Chain.{Said, Decided, Next, Chain}
+use Rattle.imagesize_source.specs.Layout.{Layout, accept, bind, bytes}
+use Rattle.imagesize_source.specs.Layout.Layout.{field, «done»}
+use Rattle.imagesize_source.specs.declared.halt.Halt.{Halt}
+use Rattle.imagesize_source.specs.declared.halt.Halt.TheVariants.{Corrupted, Ended, NoDimensionsInIfd}
+use Rattle.imagesize_source.specs.Walk.{chain_of}
+use Rattle.imagesize_stream.specs.declared.awaited.Awaited.{Awaited}
+use Rattle.imagesize_stream.specs.declared.awaited.Awaited.TheVariants.{Attribute, Box, Chunk, Comment, Directory, Entry, Height, Icon, Ipco, Iprp, Line, Meta, Property, Segment, Word}
+use Rattle.imagesize_stream.specs.declared.awaited.Kept.{Kept}
+use Rattle.imagesize_stream.specs.declared.awaited.Listed.{Listed}
+use Rattle.imagesize_boxes.specs.Jxl.{jxl_box, jxl_size}
+use Rattle.imagesize_boxes.specs.Heif.{property_at, property_bytes, searched_box}
+use Rattle.imagesize_boxes.specs.Walks.{gathered_answer, gathered_with}
+use Rattle.imagesize_boxes.specs.declared.formats.heif.FoundBox.{FoundBox}
+use Rattle.imagesize_boxes.specs.declared.formats.heif.Gathered.{Gathered}
+use Rattle.imagesize_boxes.specs.declared.formats.heif.Property as heif
+use Rattle.imagesize_texts.specs.Exr.{exr_attribute}
+use Rattle.imagesize_texts.specs.Hdr.{hdr_line}
+use Rattle.imagesize_texts.specs.Contents.{WordRead, number_text}
+use Rattle.imagesize_texts.specs.Pnm.{is_blank, is_comment, pnm_size}
+use Rattle.imagesize_texts.specs.Texts.{line_at, passed_line, word}
+use Rattle.imagesize_types.specs.Largest.{later_largest}
+use Rattle.imagesize_types.specs.declared.size.ImageSize.{ImageSize}
+use Rattle.imagesize_walked.specs.Ico.{icon_in}
+use Rattle.imagesize_walked.specs.Tiff.{count_bytes, entry_behind, side_with}
+use Rattle.imagesize_walked.specs.declared.formats.tiff.Entry as tiff
+use Rattle.imagesize_walked.specs.Ilbm.{ilbm_chunk}
+use Rattle.imagesize_walked.specs.Jpeg.{jpeg_segment}
+use Rattle.imagesize_walked.specs.Walks.{depth_behind}
+
+-- what follows from what a format's record says: its verdict, or the next record
+abbrev pub after : {C Y : Type 0} → (C → Awaited) → (Y → Layout (Said Awaited ImageSize)) → Said C Y → Layout (Said Awaited ImageSize)
+after on verdict (Decided y) = verdict y
+after on verdict (Next v place) = done (Next (on v) place)
+
+abbrev pub decides : ImageSize → Layout (Said Awaited ImageSize)
+decides size = done (Decided size)
+
+-- how many bytes a name of an EXR may have, with the zero that ends it
+abbrev pub names_of : Bool → ℕ
+names_of long = if long then 256 else 32
+
+-- The record after a word of a portable bitmap. A comment may end with its first word. The first other word is the
+-- width.
+abbrev pub word_leads : WordRead → Awaited
+word_leads w = if is_comment w.text then (if w.ended_by == 0x0A then Word else Comment) else if is_blank w.text then Word else Height (number_text w.text)
+
+abbrev pub word_step : ℕ → WordRead → Layout (Said Awaited ImageSize)
+word_step place w = done (Next (word_leads w) (place + w.taken))
+
+-- the word after the width is the height
+abbrev pub height_step : Option ℕ → WordRead → Layout (Said Awaited ImageSize)
+height_step width w = accept (pnm_size width (number_text (trim w.text))) decides
+
+-- after one more entry of a TIFF
+abbrev pub listed_with : Listed → tiff.Entry → Listed
+listed_with l entry = record l { seen = l.seen + 1; width = side_with 0x100 l.width entry; height = side_with 0x101 l.height entry }
+
+-- the first bytes of a codestream, followed by zeros
+abbrev pub kept_of : List ℕ → Kept
+kept_of front = record { bytes = front ++ replicate (16 - length front) 0; len = length front }
+
+abbrev pub kept_front : Kept → List ℕ
+kept_front kept = take kept.len kept.bytes
+
+-- the size from the first bytes of a codestream
+abbrev pub jxl_verdict : List ℕ → Layout (Said Awaited ImageSize)
+jxl_verdict front = accept (jxl_size front) decides
+
+-- what follows the boxes of a HEIF that were found
+abbrev pub meta_leads : ℕ → FoundBox → Layout (Said Awaited ImageSize)
+meta_leads place meta = bytes (place + 8) 4 (λ version. done (Next Iprp (place + 12)))
+
+abbrev pub iprp_leads : ℕ → FoundBox → Layout (Said Awaited ImageSize)
+iprp_leads place iprp = done (Next Ipco (place + 8))
+
+abbrev pub gathered_first : ℕ → Gathered
+gathered_first all = record { left = all; best = None; turn = None }
+
+abbrev pub ipco_leads : ℕ → FoundBox → Layout (Said Awaited ImageSize)
+ipco_leads place ipco = done (Next (Property (gathered_first ipco.size)) (place + 8))
+
+-- what follows a property of a HEIF, after those that add up to g
+abbrev pub property_step : Gathered → ℕ → Option heif.Property → Layout (Said Awaited ImageSize)
+property_step g place None = accept (gathered_answer g) decides
+property_step g place (Some property) = done (Next (Property (gathered_with g property)) (place + property_bytes property))
+
+-- the layout of the next record, at an offset
+abbrev pub step : Awaited → ℕ → Layout (Said Awaited ImageSize)
+step (Segment depth) place = bind (jpeg_segment depth place) (after (λ marker. Segment (depth_behind depth marker)) decides)
+step Chunk place = bind (ilbm_chunk place) (after (λ _. Chunk) decides)
+step (Attribute long) place = bind (exr_attribute (names_of long) place) (after (λ _. Attribute long) decides)
+step Line place = bind (line_at 0x0A place 256 (hdr_line place)) (after (λ _. Line) decides)
+step Word place = word place (word_step place)
+step Comment place = passed_line 0x0A place 1024 (λ taken. done (Next Word (place + taken)))
+step (Height width) place = word place (height_step width)
+step (Icon count seen largest) place =
+    bind (icon_in count seen largest place) (after (λ size. Icon count (seen + 1) (later_largest largest size)) decides)
+step (Directory header) place = field header.order place (count_bytes header.version)
+    (λ count. done (Next (Entry (record { header = header; count = count; seen = 0; width = None; height = None })) (place + count_bytes header.version)))
+step (Entry l) place = bind (entry_behind l.header l.count l.seen l.width l.height place) (after (λ entry. Entry (listed_with l entry)) decides)
+step Meta place = bind (searched_box (codes "meta") place) (after (λ _. Meta) (meta_leads place))
+step Iprp place = bind (searched_box (codes "iprp") place) (after (λ _. Iprp) (iprp_leads place))
+step Ipco place = bind (searched_box (codes "ipco") place) (after (λ _. Ipco) (ipco_leads place))
+step (Property g) place = bind (property_at g.left place) (property_step g place)
+step (Box kept) place =
+    bind (jxl_box (kept_front kept) place) (after (λ piece. Box (kept_of (kept_front kept ++ piece))) jxl_verdict)
+
+-- a record holds the record after it
+abbrev pub last_awaited : List Awaited → Awaited
+last_awaited held = unwrap_or (last_or None held) Chunk
+
+abbrev pub awaited_said : List Awaited → ℕ → Layout (Said Awaited ImageSize)
+awaited_said held place = step (last_awaited held) place
+
+abbrev pub awaited_chain : Chain Awaited ImageSize
+awaited_chain = chain_of 0 awaited_said
+
+-- the verdict at the end of the input
+abbrev pub ends_with : Awaited → Result ImageSize Halt
+ends_with (Segment depth) = Err Ended
+ends_with Chunk = Err Ended
+ends_with (Attribute long) = Err Ended
+ends_with Line = Err Ended
+ends_with Word = Err Ended
+ends_with Comment = Err Ended
+ends_with (Height width) = Err Ended
+ends_with (Icon count seen largest) = ok_or largest Corrupted
+ends_with (Directory header) = Err Ended
+ends_with Meta = Err Ended
+ends_with Iprp = Err Ended
+ends_with Ipco = Err Ended
+ends_with (Property g) = gathered_answer g
+ends_with (Box kept) = Err Ended
+ends_with (Entry l) = if l.seen == l.count then Err NoDimensionsInIfd else Err Ended
+
+-- no side of the largest icon is above 256 pixels
+abbrev pub IsSmall : Option ImageSize → Type 0
+IsSmall None = Unit {0}
+IsSmall (Some size) = (size.width ≤ 256) × (size.height ≤ 256)
+
+pub small_prop : (largest : Option ImageSize) → IsProp (IsSmall largest)
+small_prop None = Unit-prop
+small_prop (Some size) = ×_prop le_prop le_prop
+
+-- what always holds of the next record at an offset
+abbrev pub IsSteady : Awaited → ℕ → Type 0
+IsSteady (Segment depth) place = depth < place
+IsSteady Chunk place = Unit {0}
+IsSteady (Attribute long) place = Unit {0}
+IsSteady Line place = Unit {0}
+IsSteady Word place = Unit {0}
+IsSteady Comment place = Unit {0}
+IsSteady (Height width) place = Unit {0}
+IsSteady (Icon count seen largest) place = (seen ≤ count) × IsSmall largest
+IsSteady (Directory header) place = Unit {0}
+IsSteady (Entry l) place = l.seen ≤ l.count
+IsSteady Meta place = Unit {0}
+IsSteady Iprp place = Unit {0}
+IsSteady Ipco place = Unit {0}
+IsSteady (Property g) place = Unit {0}
+IsSteady (Box kept) place = kept.len ≤ 16
+
+pub steady_prop : (next : Awaited) (place : ℕ) → IsProp (IsSteady next place)
+steady_prop (Segment depth) place = le_prop
+steady_prop Chunk place = Unit-prop
+steady_prop (Attribute long) place = Unit-prop
+steady_prop Line place = Unit-prop
+steady_prop Word place = Unit-prop
+steady_prop Comment place = Unit-prop
+steady_prop (Height width) place = Unit-prop
+steady_prop (Icon count seen largest) place = ×_prop le_prop (small_prop largest)
+steady_prop (Directory header) place = Unit-prop
+steady_prop (Entry l) place = le_prop
+steady_prop Meta place = Unit-prop
+steady_prop Iprp place = Unit-prop
+steady_prop Ipco place = Unit-prop
+steady_prop (Property g) place = Unit-prop
+steady_prop (Box kept) place = le_prop
+
+-- what then holds of the record after it
+abbrev pub StaysSteady : Said Awaited ImageSize → Type 0
+StaysSteady (Decided size) = Unit {0}
+StaysSteady (Next next place) = IsSteady next place
+
+-- `next` is the record after those that hold these
+abbrev pub Awaits : Awaited → List Awaited → ℕ → Type 0
+Awaits next held place = (last_awaited held ≡ next) × IsSteady next place

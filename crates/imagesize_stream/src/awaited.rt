@@ -1,0 +1,537 @@
+//! The record that a stream waits for, in each format whose size is in records.
+ghost use Rattle.std.specs.Prelude.{◌≡◌, ℕ, ◌<◌, ◌≤◌, length, [], false, IfOk};
+ghost use Rattle.imagesize_source.specs.Layout.{bind};
+ghost use Rattle.imagesize_source.specs.Paying.{Nears, Paid};
+ghost use Rattle.imagesize_source.specs.Reading.{is_stopped, map_answer, number_read};
+ghost use Rattle.imagesize_source.specs.State.{Follows, Runs};
+ghost use Rattle.imagesize_source.specs.Walk.{said_at};
+ghost use Rattle.imagesize_stream.specs.Steps.{IsSmall, IsSteady, StaysSteady, after, decides, ends_with, kept_of, names_of, step, word_leads};
+ghost use Rattle.imagesize_texts.specs.Texts.{read_word_of};
+ghost use Rattle.imagesize_walked.specs.Tiff.{head_bytes, value_bytes};
+ghost use Rattle.imagesize_stream.specs.declared.awaited.Awaited.TheVariants as awaited;
+
+use imagesize_boxes::formats::heif::{self, Gathered, read_box};
+use imagesize_boxes::formats::jxl;
+use imagesize_boxes::formats::jxl::front::Front;
+use imagesize_source::readings::read_bytes;
+use imagesize_source::source::Source;
+use imagesize_source::walk::{Found, Records};
+use imagesize_source::{Endian, Halt};
+use imagesize_texts::formats::exr::Attributes;
+use imagesize_texts::formats::hdr::{LINE_ROOM, Lines};
+use imagesize_texts::formats::pnm;
+use imagesize_texts::util::{self, WORD_ROOM, Word};
+use imagesize_types::size::{ImageSize, size_if_known};
+use imagesize_walked::formats::ico::Entries as Icons;
+use imagesize_walked::formats::ilbm::Chunks;
+use imagesize_walked::formats::jpeg::Segments;
+use imagesize_walked::formats::tiff::{self, Entries, Header, Version};
+
+/// The next record.
+#[derive(Clone, Copy)]
+pub(crate) enum Awaited {
+    /// A segment of a JPEG. `depth` says how many images within the image it is in.
+    Segment {
+        depth: u64,
+    },
+    /// A chunk of an interleaved bitmap.
+    Chunk,
+    /// An attribute of an EXR. `long` says whether its names may be long.
+    Attribute {
+        long: bool,
+    },
+    /// A line of a Radiance picture.
+    Line,
+    /// A word of a portable bitmap, which may be its width.
+    Word,
+    /// The rest of a comment of a portable bitmap.
+    Comment,
+    /// The height of a portable bitmap, after this width.
+    Height {
+        width: Option<usize>,
+    },
+    /// An entry of an icon's directory of `count` entries. `seen` were read, and `largest` is the largest size of those.
+    Icon {
+        count: u16,
+        seen: u16,
+        largest: Option<ImageSize>,
+    },
+    /// The number of entries in a TIFF's first directory.
+    Directory {
+        header: Header,
+    },
+    /// An entry of a TIFF's first directory.
+    Entry(Listed),
+    /// A box of a HEIF, in the search for `meta`.
+    Meta,
+    /// A box in `meta`, in the search for `iprp`.
+    Iprp,
+    /// A box in `iprp`, in the search for `ipco`.
+    Ipco,
+    /// A property of a HEIF, and what those before it add up to.
+    Property(Gathered),
+    /// A box of a JPEG XL, and the first bytes of the codestream from the boxes before it.
+    Box(Kept),
+}
+
+/// The first `len` bytes of a codestream, followed by zeros.
+#[derive(Clone, Copy)]
+pub(crate) struct Kept {
+    pub(crate) bytes: [u8; 16],
+    pub(crate) len: usize,
+}
+
+/// The header of a TIFF, how many entries its directory has, how many were read, and the width and the height from these.
+#[derive(Clone, Copy)]
+pub(crate) struct Listed {
+    pub(crate) header: Header,
+    pub(crate) count: u64,
+    pub(crate) seen: u64,
+    pub(crate) width: Option<u32>,
+    pub(crate) height: Option<u32>,
+}
+
+impl Awaited {
+    // Reads the record at an offset. It holds the record after it.
+    #[inline]
+    pub(crate) fn read<S: Source>(
+        self,
+        source: &mut S,
+        place: u64,
+    ) -> Result<Found<Awaited, ImageSize>, Halt>
+        requires { IsSteady self place }
+        ensures nears { IfOk result (λ found. Nears (S.state source.old) (S.state source.new) place (said_at place found)) }
+        ensures steady { IfOk result (λ found. StaysSteady (said_at place found)) }
+        ensures runs { Follows (S.state source.old) (S.state source.new) (map_answer (said_at place) result) (step self place) }
+    {
+        match self {
+            Awaited::Segment { depth } => read_segment(source, place, depth),
+            Awaited::Chunk => read_same(&mut Chunks, source, place, Awaited::Chunk),
+            Awaited::Attribute { long } => read_attribute(source, place, long),
+            Awaited::Line => read_line(source, place),
+            Awaited::Word => read_word(source, place),
+            Awaited::Comment => read_comment(source, place),
+            Awaited::Height { width } => read_height(source, place, width),
+            Awaited::Icon {
+                count,
+                seen,
+                largest,
+            } => read_icon(source, place, count, seen, largest),
+            Awaited::Directory { header } => read_directory(source, place, header),
+            Awaited::Entry(listed) => read_entry(source, place, listed),
+            Awaited::Meta => read_meta(source, place),
+            Awaited::Iprp => read_iprp(source, place),
+            Awaited::Ipco => read_ipco(source, place),
+            Awaited::Property(gathered) => read_listed(source, place, gathered),
+            Awaited::Box(kept) => read_jxl_box(source, place, kept),
+        }
+    }
+
+    // The result at the end of the input.
+    pub(crate) fn at_end(self) -> Result<ImageSize, Halt>
+        ensures goes_on { is_stopped result ≡ false }
+        ensures is { result ≡ ends_with self }
+    {
+        match self {
+            Awaited::Icon { largest, .. } => largest.ok_or(Halt::Corrupted),
+            Awaited::Property(gathered) => heif::answer(gathered),
+            Awaited::Entry(listed) if listed.seen == listed.count => Err(Halt::NoDimensionsInIfd),
+            _ => Err(Halt::Ended),
+        }
+    }
+}
+
+// Reads a record of a format in which `next` follows each record.
+#[inline(always)]
+fn read_same<R: Records<Held = (), Answer = ImageSize>, S: Source>(
+    records: &mut R,
+    source: &mut S,
+    place: u64,
+    next: Awaited,
+) -> Result<Found<Awaited, ImageSize>, Halt>
+    requires keeps { R.keeps records.old [] place }
+    requires steady { (q : ℕ) → IsSteady next q }
+    ensures nears { IfOk result (λ found. Nears (S.state source.old) (S.state source.new) place (said_at place found)) }
+    ensures steady { IfOk result (λ found. StaysSteady (said_at place found)) }
+    ensures runs { Follows (S.state source.old) (S.state source.new) (map_answer (said_at place) result)
+        (bind (R.said records.old [] place) (after (λ _. next) decides)) }
+{
+    match records.read_record(source, place)? {
+        Found::Answer(size) => Ok(Found::Answer(size)),
+        Found::Other { length, .. } => Ok(Found::Other { held: next, length }),
+    }
+}
+
+fn read_segment<S: Source>(
+    source: &mut S,
+    place: u64,
+    depth: u64,
+) -> Result<Found<Awaited, ImageSize>, Halt>
+    requires { depth < place }
+    ensures nears { IfOk result (λ found. Nears (S.state source.old) (S.state source.new) place (said_at place found)) }
+    ensures steady { IfOk result (λ found. StaysSteady (said_at place found)) }
+    ensures runs { Follows (S.state source.old) (S.state source.new) (map_answer (said_at place) result) (step (awaited.Segment depth) place) }
+{
+    let mut segments = Segments { depth };
+    match segments.read_segment(source, place)? {
+        Found::Answer(size) => Ok(Found::Answer(size)),
+        Found::Other { length, .. } => {
+            let held = Awaited::Segment {
+                depth: segments.depth,
+            };
+            Ok(Found::Other { held, length })
+        }
+    }
+}
+
+fn read_attribute<S: Source>(
+    source: &mut S,
+    place: u64,
+    long: bool,
+) -> Result<Found<Awaited, ImageSize>, Halt>
+    ensures nears { IfOk result (λ found. Nears (S.state source.old) (S.state source.new) place (said_at place found)) }
+    ensures steady { IfOk result (λ found. StaysSteady (said_at place found)) }
+    ensures runs { Follows (S.state source.old) (S.state source.new) (map_answer (said_at place) result) (step (awaited.Attribute long) place) }
+{
+    let mut attributes = Attributes {
+        names: names_of(long),
+        room: [0; 256],
+    };
+    read_same(&mut attributes, source, place, Awaited::Attribute { long })
+}
+
+fn names_of(long: bool) -> usize
+    ensures { result ≡ names_of long }
+{
+    if long { 256 } else { 32 }
+}
+
+fn read_line<S: Source>(source: &mut S, place: u64) -> Result<Found<Awaited, ImageSize>, Halt>
+    ensures nears { IfOk result (λ found. Nears (S.state source.old) (S.state source.new) place (said_at place found)) }
+    ensures steady { IfOk result (λ found. StaysSteady (said_at place found)) }
+    ensures runs { Follows (S.state source.old) (S.state source.new) (map_answer (said_at place) result) (step awaited.Line place) }
+{
+    let mut lines = Lines {
+        room: [0; LINE_ROOM],
+    };
+    read_same(&mut lines, source, place, Awaited::Line)
+}
+
+#[tactic(auto, using(imagesize_source::proofs::Runs::steps))]
+fn read_word<S: Source>(source: &mut S, place: u64) -> Result<Found<Awaited, ImageSize>, Halt>
+    ensures nears { IfOk result (λ found. Nears (S.state source.old) (S.state source.new) place (said_at place found)) }
+    ensures steady { IfOk result (λ found. StaysSteady (said_at place found)) }
+    ensures runs { Follows (S.state source.old) (S.state source.new) (map_answer (said_at place) result) (step awaited.Word place) }
+{
+    let mut room = [0u8; WORD_ROOM];
+    let word = util::read_word(source, place, &mut room)?;
+    Ok(Found::Other {
+        held: behind_word(&word),
+        length: word.taken as u64,
+    })
+}
+
+// The record after a word of a portable bitmap.
+fn behind_word(word: &Word<'_>) -> Awaited
+    ensures is { result ≡ word_leads (read_word_of word.now) }
+    ensures steady { (q : ℕ) → IsSteady result q }
+{
+    if pnm::is_comment(word.text) {
+        return if word.ended_by == b'\n' {
+            Awaited::Word
+        } else {
+            Awaited::Comment
+        };
+    }
+    if pnm::is_blank(word.text) {
+        return Awaited::Word;
+    }
+    Awaited::Height {
+        width: util::number(word.text),
+    }
+}
+
+#[tactic(auto, using(imagesize_source::proofs::Runs::steps))]
+fn read_comment<S: Source>(source: &mut S, place: u64) -> Result<Found<Awaited, ImageSize>, Halt>
+    ensures nears { IfOk result (λ found. Nears (S.state source.old) (S.state source.new) place (said_at place found)) }
+    ensures steady { IfOk result (λ found. StaysSteady (said_at place found)) }
+    ensures runs { Follows (S.state source.old) (S.state source.new) (map_answer (said_at place) result) (step awaited.Comment place) }
+{
+    let mut room = [0u8; WORD_ROOM];
+    let taken = util::pass_line_capped(source, place, b'\n', &mut room)?;
+    Ok(Found::Other {
+        held: Awaited::Word,
+        length: taken as u64,
+    })
+}
+
+#[tactic(auto, using(imagesize_source::proofs::Runs::steps))]
+fn read_height<S: Source>(
+    source: &mut S,
+    place: u64,
+    width: Option<usize>,
+) -> Result<Found<Awaited, ImageSize>, Halt>
+    ensures nears { IfOk result (λ found. Nears (S.state source.old) (S.state source.new) place (said_at place found)) }
+    ensures steady { IfOk result (λ found. StaysSteady (said_at place found)) }
+    ensures runs { Follows (S.state source.old) (S.state source.new) (map_answer (said_at place) result) (step (awaited.Height width) place) }
+{
+    let mut room = [0u8; WORD_ROOM];
+    let word = util::read_word(source, place, &mut room)?;
+    let size = size_if_known(width, util::number(word.text.trim()));
+    let size = size.ok_or(Halt::PnmDimensionsNotFound)?;
+    Ok(Found::Answer(size))
+}
+
+fn read_icon<S: Source>(
+    source: &mut S,
+    place: u64,
+    count: u16,
+    seen: u16,
+    largest: Option<ImageSize>,
+) -> Result<Found<Awaited, ImageSize>, Halt>
+    requires seen { seen ≤ count }
+    requires small { IsSmall largest }
+    ensures nears { IfOk result (λ found. Nears (S.state source.old) (S.state source.new) place (said_at place found)) }
+    ensures steady { IfOk result (λ found. StaysSteady (said_at place found)) }
+    ensures runs { Follows (S.state source.old) (S.state source.new) (map_answer (said_at place) result) (step (awaited.Icon count seen largest) place) }
+{
+    let mut icons = Icons {
+        count,
+        seen,
+        largest,
+    };
+    match icons.read_icon(source, place)? {
+        Found::Answer(size) => Ok(Found::Answer(size)),
+        Found::Other { length, .. } => {
+            let held = Awaited::Icon {
+                count,
+                seen: icons.seen,
+                largest: icons.largest,
+            };
+            Ok(Found::Other { held, length })
+        }
+    }
+}
+
+#[tactic(auto, using(imagesize_source::proofs::Runs::steps))]
+fn read_directory<S: Source>(
+    source: &mut S,
+    place: u64,
+    header: Header,
+) -> Result<Found<Awaited, ImageSize>, Halt>
+    ensures nears { IfOk result (λ found. Nears (S.state source.old) (S.state source.new) place (said_at place found)) }
+    ensures steady { IfOk result (λ found. StaysSteady (said_at place found)) }
+    ensures runs { Follows (S.state source.old) (S.state source.new) (map_answer (said_at place) result) (step (awaited.Directory header) place) }
+{
+    let count = match header.version {
+        Version::Tiff => read_short(source, place, header.order)?,
+        Version::BigTiff => read_long(source, place, header.order)?,
+    };
+    let held = Awaited::Entry(Listed {
+        header,
+        count,
+        seen: 0,
+        width: None,
+        height: None,
+    });
+    Ok(Found::Other {
+        held,
+        length: tiff::count_bytes(header.version),
+    })
+}
+
+// A number of two bytes.
+#[tactic(auto, using(imagesize_source::proofs::Runs::number_there, imagesize_source::proofs::Runs::number_missing))]
+fn read_short<S: Source>(source: &mut S, place: u64, order: Endian) -> Result<u64, Halt>
+    ensures pays { IfOk result (λ _. Paid (S.state source.old) (S.state source.new) place) }
+    ensures runs { Runs (S.state source.old) (S.state source.new) result (number_read (S.state source.old).held.input order place 2) }
+{
+    let bytes = read_bytes::<S, 2>(source, place)?;
+    Ok(order.u16(bytes) as u64)
+}
+
+// A number of eight bytes.
+#[tactic(auto, using(imagesize_source::proofs::Runs::number_there, imagesize_source::proofs::Runs::number_missing))]
+fn read_long<S: Source>(source: &mut S, place: u64, order: Endian) -> Result<u64, Halt>
+    ensures pays { IfOk result (λ _. Paid (S.state source.old) (S.state source.new) place) }
+    ensures runs { Runs (S.state source.old) (S.state source.new) result (number_read (S.state source.old).held.input order place 8) }
+{
+    let bytes = read_bytes::<S, 8>(source, place)?;
+    Ok(order.u64(bytes))
+}
+
+fn read_entry<S: Source>(
+    source: &mut S,
+    place: u64,
+    listed: Listed,
+) -> Result<Found<Awaited, ImageSize>, Halt>
+    requires { listed.seen ≤ listed.count }
+    ensures nears { IfOk result (λ found. Nears (S.state source.old) (S.state source.new) place (said_at place found)) }
+    ensures steady { IfOk result (λ found. StaysSteady (said_at place found)) }
+    ensures runs { Follows (S.state source.old) (S.state source.new) (map_answer (said_at place) result) (step (awaited.Entry listed) place) }
+{
+    match listed.header.version {
+        Version::Tiff => read_entry_of::<S, 8, 4>(source, place, listed),
+        Version::BigTiff => read_entry_of::<S, 12, 8>(source, place, listed),
+    }
+}
+
+// Reads an entry with a head of `HEAD` bytes and a value of `VALUE` bytes.
+fn read_entry_of<S: Source, const HEAD: usize, const VALUE: usize>(
+    source: &mut S,
+    place: u64,
+    listed: Listed,
+) -> Result<Found<Awaited, ImageSize>, Halt>
+    requires few { listed.seen ≤ listed.count }
+    requires head { HEAD ≡ head_bytes listed.header.version }
+    requires value { VALUE ≡ value_bytes listed.header.version }
+    ensures nears { IfOk result (λ found. Nears (S.state source.old) (S.state source.new) place (said_at place found)) }
+    ensures steady { IfOk result (λ found. StaysSteady (said_at place found)) }
+    ensures runs { Follows (S.state source.old) (S.state source.new) (map_answer (said_at place) result) (step (awaited.Entry listed) place) }
+{
+    let Listed {
+        header,
+        count,
+        seen,
+        width,
+        height,
+    } = listed;
+    let mut entries = Entries::<HEAD, VALUE> {
+        header,
+        count,
+        seen,
+        width,
+        height,
+    };
+    match entries.read_next(source, place)? {
+        Found::Answer(size) => Ok(Found::Answer(size)),
+        Found::Other { length, .. } => {
+            let held = Awaited::Entry(Listed {
+                header,
+                count,
+                seen: entries.seen,
+                width: entries.width,
+                height: entries.height,
+            });
+            Ok(Found::Other { held, length })
+        }
+    }
+}
+
+#[tactic(auto, using(imagesize_source::proofs::Runs::steps, imagesize_source::proofs::Runs::missed_before, imagesize_source::proofs::Layouts::binding))]
+fn read_meta<S: Source>(source: &mut S, place: u64) -> Result<Found<Awaited, ImageSize>, Halt>
+    ensures nears { IfOk result (λ found. Nears (S.state source.old) (S.state source.new) place (said_at place found)) }
+    ensures steady { IfOk result (λ found. StaysSteady (said_at place found)) }
+    ensures runs { Follows (S.state source.old) (S.state source.new) (map_answer (said_at place) result) (step awaited.Meta place) }
+{
+    match read_box(source, place, b"meta")? {
+        Found::Answer(_) => {
+            heif::read_content::<S, 4>(source, place)?;
+            Ok(Found::Other {
+                held: Awaited::Iprp,
+                length: 12,
+            })
+        }
+        Found::Other { length, .. } => Ok(Found::Other {
+            held: Awaited::Meta,
+            length,
+        }),
+    }
+}
+
+#[tactic(auto, using(imagesize_source::proofs::Runs::steps, imagesize_source::proofs::Runs::missed_before, imagesize_source::proofs::Layouts::binding))]
+fn read_iprp<S: Source>(source: &mut S, place: u64) -> Result<Found<Awaited, ImageSize>, Halt>
+    ensures nears { IfOk result (λ found. Nears (S.state source.old) (S.state source.new) place (said_at place found)) }
+    ensures steady { IfOk result (λ found. StaysSteady (said_at place found)) }
+    ensures runs { Follows (S.state source.old) (S.state source.new) (map_answer (said_at place) result) (step awaited.Iprp place) }
+{
+    match read_box(source, place, b"iprp")? {
+        Found::Answer(_) => Ok(Found::Other {
+            held: Awaited::Ipco,
+            length: 8,
+        }),
+        Found::Other { length, .. } => Ok(Found::Other {
+            held: Awaited::Iprp,
+            length,
+        }),
+    }
+}
+
+#[tactic(auto, using(imagesize_source::proofs::Runs::steps, imagesize_source::proofs::Runs::missed_before, imagesize_source::proofs::Layouts::binding))]
+fn read_ipco<S: Source>(source: &mut S, place: u64) -> Result<Found<Awaited, ImageSize>, Halt>
+    ensures nears { IfOk result (λ found. Nears (S.state source.old) (S.state source.new) place (said_at place found)) }
+    ensures steady { IfOk result (λ found. StaysSteady (said_at place found)) }
+    ensures runs { Follows (S.state source.old) (S.state source.new) (map_answer (said_at place) result) (step awaited.Ipco place) }
+{
+    match read_box(source, place, b"ipco")? {
+        Found::Answer(ipco) => {
+            let gathered = Gathered {
+                left: ipco.size,
+                best: None,
+                turn: None,
+            };
+            Ok(Found::Other {
+                held: Awaited::Property(gathered),
+                length: 8,
+            })
+        }
+        Found::Other { length, .. } => Ok(Found::Other {
+            held: Awaited::Ipco,
+            length,
+        }),
+    }
+}
+
+#[tactic(auto, using(imagesize_source::proofs::Runs::steps, imagesize_source::proofs::Layouts::binding))]
+fn read_listed<S: Source>(
+    source: &mut S,
+    place: u64,
+    gathered: Gathered,
+) -> Result<Found<Awaited, ImageSize>, Halt>
+    ensures nears { IfOk result (λ found. Nears (S.state source.old) (S.state source.new) place (said_at place found)) }
+    ensures steady { IfOk result (λ found. StaysSteady (said_at place found)) }
+    ensures runs { Follows (S.state source.old) (S.state source.new) (map_answer (said_at place) result) (step (awaited.Property gathered) place) }
+{
+    let Some(property) = heif::read_property(source, place, gathered.left)? else {
+        return Ok(Found::Answer(heif::answer(gathered)?));
+    };
+    Ok(Found::Other {
+        held: Awaited::Property(heif::gather(gathered, property)),
+        length: heif::property_bytes(property),
+    })
+}
+
+/// Keeps the first bytes of a codestream.
+pub(crate) fn keep(front: &Front) -> Kept
+    ensures is { result ≡ kept_of front.now }
+    ensures few { result.len ≤ 16 }
+{
+    let mut bytes = [0u8; 16];
+    let len = front.len();
+    bytes[..len].copy_from_slice(front.as_slice());
+    Kept { bytes, len }
+}
+
+fn read_jxl_box<S: Source>(
+    source: &mut S,
+    place: u64,
+    kept: Kept,
+) -> Result<Found<Awaited, ImageSize>, Halt>
+    requires { kept.len ≤ 16 }
+    ensures nears { IfOk result (λ found. Nears (S.state source.old) (S.state source.new) place (said_at place found)) }
+    ensures steady { IfOk result (λ found. StaysSteady (said_at place found)) }
+    ensures runs { Follows (S.state source.old) (S.state source.new) (map_answer (said_at place) result) (step (awaited.Box kept) place) }
+{
+    let mut front = Front::of(kept.bytes, kept.len);
+    match jxl::boxes::read_box(source, place, &front)? {
+        Found::Answer(whole) => {
+            let size = whole.size()?;
+            Ok(Found::Answer(size))
+        }
+        Found::Other { held, length } => {
+            front.extend(held.as_slice());
+            let held = Awaited::Box(keep(&front));
+            Ok(Found::Other { held, length })
+        }
+    }
+}

@@ -1,0 +1,44 @@
+//! The sequence of records that a stream waits for, for all formats.
+ghost use Rattle.imagesize_stream.specs.Steps.{Awaits, awaited_said};
+
+use crate::awaited::Awaited;
+use imagesize_source::Halt;
+use imagesize_source::source::Source;
+use imagesize_source::walk::{Found, Records};
+use imagesize_types::size::ImageSize;
+
+/// The records from the next one on.
+#[derive(Clone, Copy)]
+pub(crate) struct Sizes {
+    pub(crate) next: Awaited,
+}
+
+impl Records for Sizes {
+    type Held = Awaited;
+
+    type Answer = ImageSize;
+
+    ghost said = { λ _ held place. awaited_said held place };
+
+    ghost keeps = { λ sizes held place. Awaits sizes.next held place };
+
+    #[inline(always)]
+    fn read_record<S: Source>(
+        &mut self,
+        source: &mut S,
+        place: u64,
+    ) -> Result<Found<Awaited, ImageSize>, Halt> {
+        match self.next.read(source, place)? {
+            Found::Answer(size) => Ok(Found::Answer(size)),
+            Found::Other { held, length } => {
+                self.next = held;
+                Ok(Found::Other { held, length })
+            }
+        }
+    }
+
+    #[inline(always)]
+    fn at_end(&self) -> Result<ImageSize, Halt> {
+        self.next.at_end()
+    }
+}
