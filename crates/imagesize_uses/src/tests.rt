@@ -7,7 +7,8 @@ use crate::gate::{Limited, Rejection, admit, admit_within};
 use crate::joined::joined_size;
 use crate::remote::{Held, Interrupted, probe_remote};
 use crate::texture::{Flaw, check_texture};
-use imagesize::{CompressionFamily, ImageSize, ImageType};
+use crate::upload::{UploadGate, admit_chunks};
+use imagesize::{CompressionFamily, ImageError, ImageSize, ImageType, Reason};
 use std::io::{Cursor, ErrorKind};
 use std::test::Fail;
 
@@ -54,6 +55,61 @@ fn a_limited_gate_takes_no_more(rt: HostRuntime) {
     let admission = admit(&mut limited, 10_000);
     assert!(rt; matches!(admission.verdict, Err(Rejection::NoSize(_))));
     assert_eq!(rt; admission.taken, 11);
+}
+
+#[test]
+fn an_upload_gate_ends_once_the_size_is_known(rt: HostRuntime) {
+    let mut gate = UploadGate::new(None, 10_000);
+    assert!(rt; gate.feed(&GIF[..11]).is_none());
+    let verdict = gate.feed(&GIF[11..]);
+    assert!(rt; matches!(verdict, Some(Ok(size)) if size == square(100)));
+    let verdict = gate.feed(b"these bytes are not looked at");
+    assert!(rt; matches!(verdict, Some(Ok(size)) if size == square(100)));
+    assert!(rt; matches!(gate.finish(), Ok(size) if size == square(100)));
+}
+
+#[test]
+fn an_upload_gate_decides_at_the_end(rt: HostRuntime) {
+    let mut gate = UploadGate::new(None, 10_000);
+    assert!(rt; gate.feed(&GIF[..11]).is_none());
+    let cut = gate.finish();
+    assert!(rt;
+        matches!(
+            gate.finish(),
+            Err(Rejection::NoSize(ImageError::IoError(Reason::EndOfInput)))
+        )
+    );
+}
+
+#[test]
+fn an_upload_in_chunks_has_its_verdict(rt: HostRuntime) {
+    let (first, second) = LONG_JPEG.split_at(70);
+    let verdict = admit_chunks(&[first, second], None, 35);
+    assert!(rt;
+        matches!(
+            verdict,
+            Ok(ImageSize {
+                width: 7,
+                height: 5
+            })
+        )
+    );
+    let verdict = admit_chunks(&[first, b"", second], Some(LONG_JPEG.len() as u64), 34);
+    assert!(rt;
+        matches!(
+            verdict,
+            Err(Rejection::TooLarge(ImageSize {
+                width: 7,
+                height: 5
+            }))
+        )
+    );
+    assert!(rt;
+        matches!(
+            admit_chunks(&[first, second], Some(70), 35),
+            Err(Rejection::NoSize(_))
+        )
+    );
 }
 
 #[test]
