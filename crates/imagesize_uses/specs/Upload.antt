@@ -1,8 +1,10 @@
 -- What an upload gate was fed, and its verdict.
-use Rattle.std.specs.Prelude.{◌≡◌, ℕ, ◌-◌, ◌^◌, false, List, length, min, Option, Some, Result, option_map, unwrap_or, flat_map}
+use Rattle.std.specs.Prelude.{◌≡◌, ℕ, ◌-◌, ◌^◌, false, List, min, Option, Some, Result, option_map, unwrap_or, flat_map}
 use Rattle.std.specs.Borrow.{Bor}
 use Rattle.imagesize.specs.Meaning.{meaning}
+use Rattle.imagesize.specs.declared.types.ImageType.{ImageType}
 use Rattle.imagesize_io.specs.Telling.{IsHonest, Telling}
+use Rattle.imagesize_source.specs.declared.error.ImageError.{ImageError}
 use Rattle.imagesize_stream.specs.Pushed.{Came, answer_of, told_of}
 use Rattle.imagesize_types.specs.declared.size.ImageSize.{ImageSize}
 use Rattle.imagesize_uses.specs.Gate.{Admits, gate_verdict}
@@ -28,7 +30,8 @@ verdict_on most d = gate_verdict most (meaning d 0).answer
 
 -- the verdict, once it is known
 abbrev pub verdict_of : UploadGate → Option (Result ImageSize Rejection)
-verdict_of gate = option_map (λ answer. gate_verdict gate.most_pixels answer.1) (answer_of gate.probe)
+verdict_of gate =
+    option_map (λ (answer : Option ImageType × Result ImageSize ImageError). gate_verdict gate.most_pixels answer.1) (answer_of gate.probe)
 
 -- the bytes of the chunks, one chunk after another
 abbrev pub joined : List (Bor (List ℕ)) → List ℕ

@@ -21,7 +21,7 @@ use imagesize_stream::StreamProbe;
 /// let verdict = loop {
 ///     match body.next_chunk()? {
 ///         Some(chunk) => {
-///             if let Some(verdict) = gate.feed(chunk) {
+///             if let Some(verdict) = gate.feed(&chunk) {
 ///                 break verdict; // the rest of the upload need not come
 ///             }
 ///         }
