@@ -72,7 +72,6 @@ fn an_upload_gate_ends_once_the_size_is_known(rt: HostRuntime) {
 fn an_upload_gate_decides_at_the_end(rt: HostRuntime) {
     let mut gate = UploadGate::new(None, 10_000);
     assert!(rt; gate.feed(&GIF[..11]).is_none());
-    let cut = gate.finish();
     assert!(rt;
         matches!(
             gate.finish(),
