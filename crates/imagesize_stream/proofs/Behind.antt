@@ -1,5 +1,5 @@
 -- What goes on from the record that a format reads.
-use Rattle.std.proofs.Common.{◌≡◌, ℕ, ◌-◌, ◌<◌, ◌≤◌, false, leb, List, length, Option, None, Some, Result, Ok, Err, refl, sym, subst, arith}
+use Rattle.std.proofs.Common.{◌≡◌, ℕ, ◌-◌, ◌<◌, ◌≤◌, false, leb, List, length, Option, None, Some, Result, Ok, Err, refl, sym, ap, subst, arith}
 use Rattle.std.proofs.lemmas.Bool.Decides.{nat_tests}
 use Rattle.std.specs.Option.{ForSome}
 use Rattle.imagesize_source.specs.declared.endian.Endian.{Endian}
@@ -13,7 +13,7 @@ use Rattle.imagesize_types.specs.declared.size.ImageSize.{ImageSize}
 use Rattle.imagesize_walked.specs.Walks.{IsIcon}
 use Rattle.imagesize_source.specs.Layout.{Layout, accept, bind, layout_reads}
 use Rattle.imagesize_source.specs.Layout.Layout.{field, «done»}
-use Rattle.imagesize_source.specs.Reading.{bytes_at, gives, map_answer, number_at, refuses}
+use Rattle.imagesize_source.specs.Reading.{bytes_at, gives, map_answer, number_at, refuses, uncounted}
 use Rattle.imagesize_source.specs.State.{State, Runs, IsSound}
 use Rattle.imagesize_source.specs.declared.halt.Halt.{Halt}
 use Rattle.imagesize_walked.specs.Walks.{LeadsTo, depth_behind}
@@ -41,7 +41,7 @@ runs_on {X} {Y} {a} {b} t g x y is first =
     runs_as (layout_reads a.held.input (bind t g))
     (runs_then (layout_reads a.held.input t) (λ v held. layout_reads held.input (g v)) first
     (subst (λ u. Runs b b (Ok y) (layout_reads b.held.input u)) (sym is) (runs_done y first.sound_after)))
-    (λ _. sym (over-bind a.held.input t g))
+    (λ _. ap uncounted (sym (over-bind a.held.input t g)))
 
 -- behind an answer, and what was read behind it
 pub runs_next : {X Y : Type 0} {a m b : State} (t : Layout X) (g : X → Layout Y) (x : X) (r : Result Y Halt)
@@ -50,7 +50,7 @@ pub runs_next : {X Y : Type 0} {a m b : State} (t : Layout X) (g : X → Layout 
 runs_next {X} {Y} {a} {m} {b} t g x r first second =
     runs_as (layout_reads a.held.input (bind t g))
     (runs_then (layout_reads a.held.input t) (λ v held. layout_reads held.input (g v)) first second)
-    (λ _. sym (over-bind a.held.input t g))
+    (λ _. ap uncounted (sym (over-bind a.held.input t g)))
 
 -- behind a refusal
 pub runs_off : {X Y : Type 0} {a b : State} (t : Layout X) (g : X → Layout Y) (e : Halt)
@@ -59,7 +59,7 @@ pub runs_off : {X Y : Type 0} {a b : State} (t : Layout X) (g : X → Layout Y) 
 runs_off {X} {Y} {a} {b} t g e first =
     runs_as (layout_reads a.held.input (bind t g))
     (runs_refused (layout_reads a.held.input t) (λ v. layout_reads a.held.input (g v)) first)
-    (λ _. sym (over-bind a.held.input t g))
+    (λ _. ap uncounted (sym (over-bind a.held.input t g)))
 
 -- how deep the segment behind another stands
 pub leads_as : (depth behind marker : ℕ) → LeadsTo depth marker behind → behind ≡ depth_behind depth marker

@@ -19,7 +19,7 @@ use Rattle.imagesize_fixed.specs.Vtf.{vtf}
 use Rattle.imagesize_fixed.specs.Webp.{webp}
 use Rattle.imagesize_source.specs.Input.{span_of}
 use Rattle.imagesize_source.specs.Layout.{Layout, accept, bind, layout_reads}
-use Rattle.imagesize_source.specs.Layout.Layout.{field, reading, refuse, «done»}
+use Rattle.imagesize_source.specs.Layout.Layout.{begin_record, field, reading, refuse, «done»}
 use Rattle.imagesize_source.specs.Reading.{Reads, go_on, number_at, read_of}
 use Rattle.imagesize_source.specs.declared.halt.Halt.{Halt}
 use Rattle.imagesize_source.specs.declared.span.Span.{Span}
@@ -39,6 +39,7 @@ Saying P (done x) = P x
 Saying P (refuse e) = Unit {0}
 Saying P (field order place k f) = (v : ℕ) → Saying P (f v)
 Saying P (reading r place f) = (bs : List ℕ) → Saying P (f bs)
+Saying P (begin_record t) = Saying P t
 
 saying_on : {X Y : Type 0} (P : X → Type 0) (marks : List Span) (r : Result Y Halt) (f : Y → Reads X) (x : X)
     → (go_on marks r f).answer ≡ Ok x
@@ -56,6 +57,7 @@ saying P d (field order place k f) x h is =
 saying P d (reading r place f) x h is =
     saying_on P (read_of d r place).marks (read_of d r place).answer (λ bs. layout_reads d (f bs)) x is
     (λ bs got. saying P d (f bs) x (h bs) got)
+saying P d (begin_record t) x h is = saying P d t x h is
 
 -- what goes on from a layout says what it says of each thing
 pub saying_bind : {X Y : Type 0} (P : Y → Type 0) (t : Layout X) (g : X → Layout Y) → ((x : X) → Saying P (g x))
@@ -64,6 +66,7 @@ saying_bind P (done x) g each = each x
 saying_bind P (refuse e) g each = tt
 saying_bind P (field order place k f) g each = λ v. saying_bind P (f v) g each
 saying_bind P (reading r place f) g each = λ bs. saying_bind P (f bs) g each
+saying_bind P (begin_record t) g each = saying_bind P t g each
 
 -- the record that the first bytes tell stands well
 abbrev pub OpensSteady : Opening → Type 0
