@@ -14,7 +14,7 @@ use Rattle.imagesize_source.specs.declared.halt.Halt.TheVariants.{Corrupted}
 use Rattle.imagesize_source.specs.declared.endian.Endian.TheVariants.{Little}
 use Rattle.imagesize_source.specs.Agreement.{IsLocal}
 use Rattle.imagesize_source.specs.Chain.{Said, Decided, Next, Advances, chain_at}
-use Rattle.imagesize_source.specs.Counts.{AtMost}
+use Rattle.imagesize_source.specs.Counts.{AtMost, Each}
 use Rattle.imagesize_source.specs.Layout.{Layout, begin_record, layout_reads, if_there, refuse, done, whole}
 use Rattle.std.specs.Option.{ForSome}
 use Rattle.imagesize_source.proofs.PastTheEnd.{there_beyond}
@@ -27,8 +27,8 @@ use Rattle.imagesize_source.specs.declared.walk.Found.TheVariants as found
 use Rattle.imagesize_source.proofs.Advances.{Tells, Begins, advances}
 use Rattle.imagesize_source.proofs.Ahead.{Ahead, chain_ahead}
 use Rattle.imagesize_source.proofs.ChainLaws.{local_chain, chain_cost}
-use Rattle.imagesize_source.proofs.Counts.{Each, bounded_then, each_texts, then_within, total-span_of}
-use Rattle.imagesize_source.proofs.Agreement.{local_then, local_number}
+use Rattle.imagesize_source.proofs.Counts.{bounded_then, then_within, total-span_of}
+use Rattle.imagesize_source.proofs.Agreement.{each_texts, local_then, local_number}
 use Rattle.imagesize_source.proofs.Tests.{on_test}
 use Rattle.imagesize_source.proofs.Way.{RecordedLaws}
 use Rattle.imagesize_source.proofs.Lists.{last_push}
