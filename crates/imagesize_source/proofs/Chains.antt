@@ -9,7 +9,7 @@ use Rattle.std.specs.Option.{option_map_or}
 use Rattle.imagesize_source.specs.declared.halt.Halt.{Halt}
 use Rattle.imagesize_source.specs.declared.halt.Halt.TheVariants.{Ended}
 use Rattle.imagesize_source.specs.Chain.{Said, Decided, Next, Chain, Along, next_record, leads, verdict, trail, verdict_of, marks_of, begun_of, deciding_record, records_from, chain_from, Advances}
-use Rattle.imagesize_source.specs.Reading.{Reads, after_records, and_then, gives, go_on, plus, put_behind, with_answer}
+use Rattle.imagesize_source.specs.Reading.{Reads, after_records, and_then, gives, go_on, put_behind, with_answer}
 use Rattle.imagesize_source.proofs.Marks.{plus-is, plus-zero}
 
 -- a list of numbers one higher

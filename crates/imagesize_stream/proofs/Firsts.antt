@@ -1,5 +1,5 @@
 -- What the first bytes of an image tell of it.
-use Rattle.std.proofs.Common.{◌≡◌, ℕ, Bool, true, false, List, [], ◌++◌, length, Option, None, Some, Result, Ok, Err, refl, sym, ap, ◌∙◌}
+use Rattle.std.proofs.Common.{◌≡◌, ℕ, Bool, true, false, List, length, Option, None, Some, refl, sym, ap, ◌∙◌}
 use Rattle.imagesize.specs.Kind.{first_row, kind_by, tga_or_none, with_compression}
 use Rattle.imagesize.specs.Meaning.{kind_reads}
 use Rattle.imagesize_stream.specs.Streamed.{first_by, first_layout, type_behind}

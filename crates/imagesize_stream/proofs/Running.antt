@@ -1,5 +1,5 @@
 -- The chain of a format within the chain of what is awaited.
-use Rattle.std.proofs.Common.{◌≡◌, ℕ, List, [], ◌∷◌, ◌++◌, Option, None, Some, Result, Ok, Err, refl, sym, ap, ◌∙◌, subst}
+use Rattle.std.proofs.Common.{◌≡◌, ℕ, List, [], ◌∷◌, ◌++◌, Option, None, Some, Result, Ok, refl, sym, ap, ◌∙◌, subst}
 use Rattle.std.specs.Prelude.{unwrap_or}
 use Rattle.imagesize_source.specs.Chain.{Said, Decided, Next, Chain, Along, Advances, chain_from, next_record, verdict}
 use Rattle.imagesize_source.specs.Layout.{Layout, layout_reads}

@@ -17,7 +17,7 @@ use Rattle.imagesize_source.specs.Extension.{Plain, Never, Lasts}
 use Rattle.imagesize_source.specs.Input.{span_at}
 use Rattle.imagesize_source.specs.Layout.{Layout, layout_reads, accept}
 use Rattle.imagesize_source.specs.Layout.Layout.{refuse, «done», field}
-use Rattle.imagesize_source.specs.Reading.{Reads, gives, and_then, just, number_read, refuses, put_behind, text_part, text_read, is_stop, map_answer, is_failure, is_spent, is_stopped, is_faulted}
+use Rattle.imagesize_source.specs.Reading.{Reads, and_then, just, number_read, refuses, put_behind, text_part, text_read, is_stop, map_answer, is_failure, is_spent, is_stopped, is_faulted}
 use Rattle.imagesize_source.specs.State.{State, Runs, EndedBy, total}
 use Rattle.imagesize_source.specs.Text.{is_ended, space_before}
 use Rattle.imagesize_source.proofs.Advances.{Tells, Begins}

@@ -1,5 +1,5 @@
 -- TIFF, by "TIFF Revision 6.0" (section 2), and BigTIFF, by "The BigTIFF File Format".
-use Rattle.std.specs.Prelude.{ℕ, ◌+◌, ◌==◌, min, Bool, List, codes, [], ◌∷◌, ◌++◌, ◌||◌, length, take, drop, filter, if◌then◌else◌, Option, None, Some, option_and_then, Result, Ok, Err}
+use Rattle.std.specs.Prelude.{ℕ, ◌+◌, ◌==◌, Bool, List, codes, [], ◌∷◌, ◌++◌, ◌||◌, length, take, drop, filter, if◌then◌else◌, Option, None, Some, option_and_then, Result, Ok, Err}
 use Rattle.std.specs.List.{last_or}
 use Rattle.imagesize_types.specs.Head.{begins}
 use Rattle.imagesize_types.specs.Sides.{size_if_known}
@@ -19,7 +19,7 @@ use Rattle.imagesize_source.specs.Chain.{Said, Decided, Next, Chain, chain_at}
 use Rattle.imagesize_source.specs.Layout.{Layout, layout_reads, bind, bytes, if_there, accept}
 use Rattle.imagesize_source.specs.Layout.Layout.{begin_record, field, refuse, «done»}
 use Rattle.imagesize_source.specs.Numbers.{number}
-use Rattle.imagesize_source.specs.Reading.{Reads, and_then, number_at, number_read}
+use Rattle.imagesize_source.specs.Reading.{Reads, and_then, number_read}
 
 -- whether the input begins with a byte order, and 42 or 43 in that order
 unfoldable pub is_tiff : List ℕ → Bool
