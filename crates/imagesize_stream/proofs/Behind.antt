@@ -34,7 +34,7 @@ runs_done {a = a} x sound = record {
   ended = tt;
 }
 
--- behind an answer that leads to this value
+-- after an answer that leads to this value
 pub runs_on : {X Y : Type 0} {a b : State} (t : Layout X) (g : X → Layout Y) (x : X) (y : Y) → g x ≡ done y
     → Runs a b (Ok x) (layout_reads a.held.input t) → Runs a b (Ok y) (layout_reads a.held.input (bind t g))
 runs_on {X} {Y} {a} {b} t g x y is first =
@@ -43,7 +43,7 @@ runs_on {X} {Y} {a} {b} t g x y is first =
     (subst (λ u. Runs b b (Ok y) (layout_reads b.held.input u)) (sym is) (runs_done y first.sound_after)))
     (λ _. sym (over-bind a.held.input t g))
 
--- behind an answer, and what was read behind it
+-- after an answer, and what was read after it
 pub runs_next : {X Y : Type 0} {a m b : State} (t : Layout X) (g : X → Layout Y) (x : X) (r : Result Y Halt)
     → Runs a m (Ok x) (layout_reads a.held.input t) → Runs m b r (layout_reads m.held.input (g x))
     → Runs a b r (layout_reads a.held.input (bind t g))
@@ -52,7 +52,7 @@ runs_next {X} {Y} {a} {m} {b} t g x r first second =
     (runs_then (layout_reads a.held.input t) (λ v held. layout_reads held.input (g v)) first second)
     (λ _. sym (over-bind a.held.input t g))
 
--- behind a refusal
+-- after a refusal
 pub runs_off : {X Y : Type 0} {a b : State} (t : Layout X) (g : X → Layout Y) (e : Halt)
     → Runs {X = X} a b (Err e) (layout_reads a.held.input t)
     → Runs {X = Y} a b (Err e) (layout_reads a.held.input (bind t g))
@@ -61,7 +61,7 @@ runs_off {X} {Y} {a} {b} t g e first =
     (runs_refused (layout_reads a.held.input t) (λ v. layout_reads a.held.input (g v)) first)
     (λ _. sym (over-bind a.held.input t g))
 
--- how deep the segment behind another stands
+-- how deep the segment after another stands
 pub leads_as : (depth behind marker : ℕ) → LeadsTo depth marker behind → behind ≡ depth_behind depth marker
 unfolding LeadsTo
 leads_as depth behind marker leads = leads.0
