@@ -164,15 +164,16 @@ fn worked() -> Vec<Vec<u8>> {
         .collect()
 }
 
-/// The result of rounds that bring at most so many bytes of each requested span. Each span begins after the last one.
-fn by_rounds(bytes: &[u8], most: u64) -> sys::Told {
+/// The result of rounds that bring at most so many bytes of each requested span, and their number. Each span begins after the last one.
+fn by_rounds(bytes: &[u8], most: u64) -> (sys::Told, usize) {
     let mut rounds = sys::Rounds::new(bytes.len() as u64);
-    let mut next = 0;
+    let (mut next, mut count) = (0, 0);
     loop {
         let span = match rounds.answer() {
-            sys::Parts::Told(told) => return told,
+            sys::Parts::Told(told) => return (told, count),
             sys::Parts::Wanted(span) => span,
         };
+        count += 1;
         assert!(span.start >= next && span.len > 0 && span.start + span.len <= bytes.len() as u64);
         next = span.start + 1;
         let end = span.start + span.len.min(most);
@@ -192,7 +193,20 @@ fn rounds_lead_to_the_result_of_the_whole() {
         };
         let whole = sys::probe_parts(&bytes, &[all], total).told();
         for most in [1, 5, u64::MAX] {
-            assert!(Some(by_rounds(&bytes, most)) == whole, "{bytes:?}, {most}");
+            let (told, _) = by_rounds(&bytes, most);
+            assert!(Some(told) == whole, "{bytes:?}, {most}");
         }
+    }
+}
+
+#[test]
+fn a_record_takes_two_rounds_at_most() {
+    for segments in [10, 100] {
+        let segment = [&b"\xff\xe0\xff\xff"[..], &[0; 65533]].concat();
+        let frame = &b"\xff\xc0\0\x11\x08\0\x05\0\x07\x03\x01\x22\0\x02\x11\x01\x03\x11\x01"[..];
+        let bytes = [&b"\xff\xd8"[..], &segment.repeat(segments), frame].concat();
+        let (told, rounds) = by_rounds(&bytes, u64::MAX);
+        assert_eq!(told.size().expect("a size").width, 7);
+        assert!(rounds <= 2 * segments + 4, "{rounds}");
     }
 }
