@@ -150,7 +150,7 @@ def probe_two(front: bytes, more: bytes, start: int, total: int) -> Told:
     The input is no PNG.
     """
     room = _room(len(front) + len(more), total)
-    room.two[:] = (0, len(front), start, len(more))
+    room.two[:] = [0, len(front), start, len(more)]
     told = _probe_few(front + more, *room.of_two), room.read()
     _ROOMS.append(room)
     return told
