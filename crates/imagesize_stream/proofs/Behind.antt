@@ -14,7 +14,11 @@ use Rattle.imagesize_walked.specs.Walks.{IsIcon}
 use Rattle.imagesize_source.specs.Layout.{Layout, accept, bind, layout_reads}
 use Rattle.imagesize_source.specs.Layout.Layout.{field, «done»}
 use Rattle.imagesize_source.specs.Reading.{bytes_at, gives, map_answer, number_at, refuses}
-use Rattle.imagesize_source.specs.State.{State, Runs, IsSound}
+use Rattle.imagesize_source.specs.State.{State, Follows, Runs, IsSound}
+use Rattle.imagesize_source.specs.Way.{Way, Fixed, Recorded, Texts}
+use Rattle.imagesize_stream.specs.Streamed.{sized, IfFixed}
+use Rattle.imagesize_stream.specs.declared.front.Opening.{Opening}
+use Rattle.imagesize_stream.specs.declared.front.Opening.TheVariants as opened
 use Rattle.imagesize_source.specs.declared.halt.Halt.{Halt}
 use Rattle.imagesize_walked.specs.Walks.{LeadsTo, depth_behind}
 use Rattle.imagesize_source.proofs.Layouts.{over-bind, runs_as}
@@ -34,7 +38,7 @@ runs_done {a = a} x sound = record {
   ended = tt;
 }
 
--- behind an answer that leads to this value
+-- after an answer that leads to this value
 pub runs_on : {X Y : Type 0} {a b : State} (t : Layout X) (g : X → Layout Y) (x : X) (y : Y) → g x ≡ done y
     → Runs a b (Ok x) (layout_reads a.held.input t) → Runs a b (Ok y) (layout_reads a.held.input (bind t g))
 runs_on {X} {Y} {a} {b} t g x y is first =
@@ -43,7 +47,7 @@ runs_on {X} {Y} {a} {b} t g x y is first =
     (subst (λ u. Runs b b (Ok y) (layout_reads b.held.input u)) (sym is) (runs_done y first.sound_after)))
     (λ _. sym (over-bind a.held.input t g))
 
--- behind an answer, and what was read behind it
+-- after an answer, and what was read after it
 pub runs_next : {X Y : Type 0} {a m b : State} (t : Layout X) (g : X → Layout Y) (x : X) (r : Result Y Halt)
     → Runs a m (Ok x) (layout_reads a.held.input t) → Runs m b r (layout_reads m.held.input (g x))
     → Runs a b r (layout_reads a.held.input (bind t g))
@@ -52,7 +56,7 @@ runs_next {X} {Y} {a} {m} {b} t g x r first second =
     (runs_then (layout_reads a.held.input t) (λ v held. layout_reads held.input (g v)) first second)
     (λ _. sym (over-bind a.held.input t g))
 
--- behind a refusal
+-- after a refusal
 pub runs_off : {X Y : Type 0} {a b : State} (t : Layout X) (g : X → Layout Y) (e : Halt)
     → Runs {X = X} a b (Err e) (layout_reads a.held.input t)
     → Runs {X = Y} a b (Err e) (layout_reads a.held.input (bind t g))
@@ -61,7 +65,20 @@ runs_off {X} {Y} {a} {b} t g e first =
     (runs_refused (layout_reads a.held.input t) (λ v. layout_reads a.held.input (g v)) first)
     (λ _. sym (over-bind a.held.input t g))
 
--- how deep the segment behind another stands
+-- a size at fixed offsets is all that the first bytes say of it
+pub fixed_on : (a b : State) (w : Way ImageSize) (size : ImageSize) → IfFixed w (λ t. Follows a b (Ok size) t)
+    → IfFixed w (λ t. Follows {X = Opening} a b (Ok (opened.Size size)) (sized t))
+fixed_on a b (Fixed t) size first = runs_on t (λ s. done (opened.Size s)) size (opened.Size size) refl first
+fixed_on a b (Recorded stated reads begun) size first = tt
+fixed_on a b (Texts reads) size first = tt
+
+pub fixed_off : (a b : State) (w : Way ImageSize) (e : Halt) → IfFixed w (λ t. Follows {X = ImageSize} a b (Err e) t)
+    → IfFixed w (λ t. Follows {X = Opening} a b (Err e) (sized t))
+fixed_off a b (Fixed t) e first = runs_off t (λ s. done (opened.Size s)) e first
+fixed_off a b (Recorded stated reads begun) e first = tt
+fixed_off a b (Texts reads) e first = tt
+
+-- how deep the segment after another stands
 pub leads_as : (depth behind marker : ℕ) → LeadsTo depth marker behind → behind ≡ depth_behind depth marker
 unfolding LeadsTo
 leads_as depth behind marker leads = leads.0
