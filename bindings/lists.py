@@ -1,10 +1,10 @@
-"""Writes the lists of types and errors that the bindings have, from the constants and comments of include/imagesize.h.
+"""Writes the lists of types and errors of the bindings and of the page, from the constants and comments of include/imagesize.h.
 
     python3 bindings/lists.py                writes the lists
     python3 bindings/lists.py --check        changes nothing; the status is 1 if a list differs from the header
     python3 bindings/lists.py --self-test    plants a mistake in each list, and fails if one is not found
 
-The comment of a type ends with its MIME type, if it has one, and its extension. A list is the lines between the comments "by bindings/lists.py: NAME" and "end of the list". All other lines are written by hand.
+The comment of a type begins with its usual name. It ends with its MIME type, if it has one, and its extension. A list is the lines between the comments "by bindings/lists.py: NAME" and "end of the list". All other lines are written by hand.
 """
 
 import pathlib
@@ -77,6 +77,11 @@ def python_media():
     return lines
 
 
+def usual_names():
+    """The usual name of each type, by its constant: `OpenEXR` of EXR."""
+    return {constant: re.match("[^:;]+", comment)[0] for constant, (_, comment) in constants("type_number").items()}
+
+
 def own_name(constant):
     """The library's own name of a type: `Gif` of GIF, `SunRaster` of SUN_RASTER."""
     return "".join(word.capitalize() for word in constant.split("_"))
@@ -96,6 +101,14 @@ def union(words):
             line = "  |"
         line += f" '{word}' |"
     return [*lines, line.removesuffix(" |")]
+
+
+def page_names():
+    """The usual names of the types, by the library's own names."""
+    pairs = (f"{own_name(constant)}: '{name.split(' (')[0]}'," for constant, name in usual_names().items())
+    # A line does not break at a no-break space.
+    text = " ".join(pair.replace(" ", "\xa0") for pair in pairs)
+    return [line.replace("\xa0", " ") for line in textwrap.wrap(text, WIDTH, initial_indent="  ", subsequent_indent="  ")]
 
 
 def javascript_codes():
@@ -141,6 +154,7 @@ LISTS = [
     ("bindings/js/imagesize.d.ts", "errors", javascript_codes),
     ("bindings/js/library.js", "statuses", javascript_statuses),
     ("bindings/rust/src/image_type.rs", "types", rust_types),
+    ("examples/page/texts.js", "types", page_names),
 ]
 
 
@@ -165,7 +179,7 @@ def differences(path, name, lines, text):
 def check():
     """Prints the first difference of each list."""
     wrong = [line for path, name, lines in LISTS for line in differences(path, name, lines(), (TOP / path).read_text())]
-    print("\n".join([*wrong, f"lists of the bindings: {len(LISTS)}, and {len(wrong)} differ from the header"]))
+    print("\n".join([*wrong, f"lists of types and errors: {len(LISTS)}, and {len(wrong)} differ from the header"]))
     return 1 if wrong else 0
 
 

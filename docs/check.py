@@ -17,6 +17,9 @@ import subprocess
 import sys
 
 TOP = pathlib.Path(__file__).resolve().parent.parent
+sys.path.insert(0, str(TOP / "bindings"))
+from lists import usual_names  # noqa: E402
+
 LINK = re.compile(r"\[[^\]]*\]\(([^)#\s]+)(?:#[^)]*)?\)")
 CODE = re.compile(r"`([^`\n]+)`")
 FENCE = re.compile(r"^( *)```.*?^ *```$", re.M | re.S)
@@ -35,8 +38,8 @@ OLD = (r"places?|rooms?|lent|lends?|lending|hand(?:s|ed)? over|told|taken|answer
 REWRITTEN = {"README.md", "CALLING.md", "CONTRIBUTING.md", "SECURITY.md", "include/imagesize.h", "bindings/c/README.md",
              "bindings/js/README.md", "bindings/python/README.md", "bindings/rust/README.md", "docs/ARCHITECTURE.md",
              "docs/CHAINS.md", "docs/COMPARISON.md", "docs/DECISIONS.md", "docs/DIFFERENCES.md", "docs/LAYOUTS.md", "docs/PARTS.md",
-             "docs/PROMISES.md", "docs/PROVED.md", "docs/RELEASING.md", "docs/REMOTE.md", "docs/TESTED.md",
-             "docs/VERSIONS.md"}
+             "docs/PROMISES.md", "docs/PROVED.md", "docs/RELEASING.md", "docs/REMOTE.md", "docs/STREAMS.md",
+             "docs/TESTED.md", "docs/UPLOADS.md", "docs/VERSIONS.md"}
 # Commands of the kit, by `rt`; commands of a shell are not checked.
 RT = set("ci must-fail selftest doc version new check verdict lib run test try fmt tidy plant all expand lemma seed names".split())
 
@@ -189,7 +192,7 @@ def contracts():
 
 def clauses_of(head):
     """The clauses of a head, as label and text, and the signature before them."""
-    signature, *rest = re.split(r"\n?\s*ensures\b", head)
+    signature, *rest = re.split(r"\n?\s*ensures\b\*?", head)
     clauses = []
     for clause in rest:
         match = re.match(r"\s*(\w*)\s*\{(.*)\}", clause, re.S)
@@ -241,7 +244,7 @@ def declarations():
     code = "\n".join(source((".rt",)).values())
     specs = "\n".join(source((".antt",)).values())
     found = {path.name for path in TOP.glob("crates/*")}
-    found.update(re.findall(r"\b(?:fn|ensures|struct|enum|trait|mod|const|ghost) (\w+)", code))
+    found.update(re.findall(r"\b(?:fn|ensures\*?|struct|enum|trait|mod|const|ghost) (\w+)", code))
     found.update(re.findall(r"^ *(?:(?:abbrev|unfoldable|pub|record|data) )*(\w+)\b[^\n]*?(?: :|:$)", specs, re.M))
     return found
 
@@ -268,6 +271,9 @@ QUOTED = [
     ("imagesize/src/file.rt", ["size"]),
     ("imagesize/src/calls.rt", ["reader_type", "reader_size", "reader_probe", "ImageType::reader_size"]),
     ("imagesize/src/parts.rt", ["parts_probe", "parts_type", "ImageType::parts_size"]),
+    ("imagesize_stream/src/probe.rt", ["StreamProbe::new", "StreamProbe::push", "StreamProbe::kind", "StreamProbe::finish"]),
+    ("imagesize_stream/src/laws.rt", ["probe_two"]),
+    ("imagesize_stream/src/parts.rt", ["PartsProbe::new", "PartsProbe::answer", "PartsProbe::supply"]),
     ("imagesize/src/types.rt", ["ImageType::all", "ImageType::name", "ImageType::place"]),
     ("imagesize/src/names.rt", ["ImageType::compression_name"]),
     ("imagesize/src/queries.rt", ["ImageType::compression_family", "ImageType::is_block_compressed", "ImageType::container_format",
@@ -293,16 +299,12 @@ def quoted():
     return "\n".join(lines)
 
 
-# The formats whose usual name is not the name of their constant.
-CALLED = {"ASEPRITE": "Aseprite", "EXR": "OpenEXR", "FARBFELD": "Farbfeld", "HEIF": "HEIF (HEIC, AVIF)", "JXL": "JPEG XL", "KTX2": "KTX 2",
-          "PVRTC": "PVR", "TIFF": "TIFF (BigTIFF)", "WEBP": "WebP"}
 LISTED = re.compile(r"^\*\*\d+ formats:\*\* [^.]*\.", re.M)
 
 
 def list_of_formats():
-    """The formats as README lists them, from the header's constants."""
-    body = re.search(r"enum imagesize_type_number \{(.*?)\n\};", (TOP / "include/imagesize.h").read_text(), re.S)[1]
-    found = [CALLED.get(name, name) for name in re.findall(r"^    IMAGESIZE_(\w+)", body, re.M)]
+    """The formats as README lists them, from the comments of the header."""
+    found = usual_names().values()
     return f"**{len(found)} formats:** {', '.join(sorted(found, key=str.casefold))}."
 
 

@@ -3,8 +3,9 @@
     python3 check_declarations.py HEADER SOURCES [FILE.rs]..
 
 HEADER is imagesize.h, and SOURCES the folder of the library's source. Each exported function must be declared once, and
-nothing else may be. Its parameters must be in their order, with the names and the types that a caller in C sees. The blocks
-`extern "C"` of a Rust file may declare fewer functions, each as the header does. The two numbers of a span are compared too.
+nothing else may be. Its result must have the right type, and its parameters must be in their order, with the names and the types
+that a caller in C sees. The blocks `extern "C"` of a Rust file may declare fewer functions, each as the header does. The two
+numbers of a span are compared too, and the size of a push parser.
 """
 
 import pathlib
@@ -23,6 +24,7 @@ PASSED = {
     "&mut u64": ("uint64_t *",),
     "&mut usize": ("size_t *",),
     "&mut Span": ("imagesize_span *",),
+    "*mut StreamProbe": ("imagesize_stream *",),
 }
 # The types of a Rust binding.
 BOUND = {
@@ -36,7 +38,10 @@ BOUND = {
     "*mut u64": "uint64_t *",
     "*mut usize": "size_t *",
     "*mut Span": "imagesize_span *",
+    "*mut Stream": "imagesize_stream *",
 }
+# The C type of a result.
+RESULTS = {"": "void", " -> u32": "uint32_t"}
 # Parameters with another name in the header, by their name and their type in C.
 RENAMED = {"number": "type", "kind": "type", ("length", "size_t *"): "written"}
 
@@ -59,19 +64,20 @@ def plain(text):
 
 
 def declared(header):
-    """The functions that the header declares, with their parameters. A name that is a macro for another one is replaced by it."""
+    """The functions that the header declares, with result and parameters. A name that is a macro for another is replaced by it."""
     others = dict(re.findall(r"#define (imagesize_\w+) (imagesize_\w+)", header))
-    found = [(others.get(name, name), listed) for name, listed in re.findall(r"uint32_t (\w+)\(([^)]*)\);", header)]
-    assert len(found) == len(dict(found)) == header.count(");"), "a function is declared twice, or in a form that is not read"
-    return {name: [part.strip() for part in listed.split(",")] for name, listed in found}
+    found = re.findall(r"(uint32_t|void) (\w+)\(([^)]*)\);", header)
+    functions = {others.get(name, name): [result, *map(str.strip, listed.split(","))] for result, name, listed in found}
+    assert len(found) == len(functions) == header.count(");"), "a function is declared twice, or in a form that is not read"
+    return functions
 
 
 def exported(folder):
     """The functions that the library exports, as the header must declare them."""
     functions = {}
     for path in sorted(pathlib.Path(folder).rglob("*.rt")):
-        for name, listed in re.findall(r'extern "C" fn (\w+)\(([^)]*)\) -> u32', plain(path.read_text())):
-            functions[name] = list(as_declared(listed))
+        for name, listed, result in re.findall(r'extern "C" fn (\w+)\(([^)]*)\)( -> u32)?', plain(path.read_text())):
+            functions[name] = [RESULTS[result], *as_declared(listed)]
     return functions
 
 
@@ -87,17 +93,18 @@ def bound(path):
     """The functions that a Rust file declares, as the header must declare them."""
     functions = {}
     for block in re.findall(r'extern "C" \{(.*?)\}', plain(pathlib.Path(path).read_text())):
-        for name, listed in re.findall(r"fn (\w+)\(([^)]*)\) -> u32;", block):
-            functions[name] = [named(each, BOUND[kind]) for each, kind in parameters(listed)]
-        assert block.count("fn ") == block.count("-> u32;"), f"{path}: a declaration in a form that is not read"
+        found = re.findall(r"fn (\w+)\(([^)]*)\)( -> u32)?;", block)
+        for name, listed, result in found:
+            functions[name] = [RESULTS[result], *(named(each, BOUND[kind]) for each, kind in parameters(listed))]
+        assert block.count("fn ") == len(found), f"{path}: a declaration in a form that is not read"
     return functions
 
 
 def compare(title, functions, header):
-    """The header declares each of these functions with the same parameters."""
+    """The header declares each of these functions with the same result and the same parameters."""
     for name, wanted in functions.items():
         got = header.get(name)
-        assert got == wanted, f"{title}: {name} has the parameters {wanted}, and the header {got}"
+        assert got == wanted, f"{title}: {name} has the result and the parameters {wanted}, and the header {got}"
 
 
 def check_spans(header, folder):
@@ -109,12 +116,23 @@ def check_spans(header, folder):
     assert body == wanted, f"a span is `{wanted}`, and not `{body}`"
 
 
+def check_streams(header, folder):
+    """The memory of a push parser has the size that is proved to be enough, and its alignment."""
+    (size,) = re.findall(r"#define IMAGESIZE_STREAM_SIZE (\d+)", header)
+    assert "typedef struct imagesize_stream { uint64_t opaque[IMAGESIZE_STREAM_SIZE / 8]; } imagesize_stream;" in header
+    assert int(size) % 8 == 0, "the size of a push parser is no multiple of 8"
+    source = plain((pathlib.Path(folder) / "streams.rt").read_text())
+    for proved in (f"size_of::<StreamProbe>() <= {size}", "align_of::<StreamProbe>() <= 8"):
+        assert f"const _: () = prove!({proved});" in source, f"not proved: {proved}"
+
+
 def main(header, sources, *bindings):
     header = plain(pathlib.Path(header).read_text())
     calls, exports = declared(header), exported(sources)
     assert exports and calls.keys() == exports.keys(), f"declared and not exported, or the reverse: {calls.keys() ^ exports.keys()}"
     compare("the library", exports, calls)
     check_spans(header, sources)
+    check_streams(header, sources)
     counts = [len(calls)]
     for path in bindings:
         found = bound(path)

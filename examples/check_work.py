@@ -37,6 +37,19 @@ FILES = {
 }
 
 
+# Hostile inputs of about a million bytes: short records, so that many end where a chunk ends.
+HOSTILE = {
+    "segments.jpeg": b"\xff\xd8" + b"\xff\xe0\0\x02" * 250_000,
+    "chunks.iff": b"FORM\0\x0f\x42\x40ILBM" + b"NAME\0\0\0\0" * 125_000,
+    "comments.pnm": b"P5\n" + b"#\n" * 500_000,
+    "lines.hdr": b"#?RADIANCE\n" + b"a\n" * 500_000,
+    "entries.tif": b"II*\0\x08\0\0\0\xff\xff" + b"\x01\x02\x03\0\x01\0\0\0\x01\0\0\0" * 65_535,
+    "attributes.exr": b"\x76\x2f\x31\x01\x02\0\0\0" + b"a\0b\0\0\0\0\0" * 125_000,
+    "boxes.heif": b"\0\0\0\x18ftypheic\0\0\0\0heicmif1" + b"\0\0\0\x08free" * 125_000,
+    "boxes.jxl": b"\0\0\0\x0cJXL \r\n\x87\n" + b"\0\0\0\x08free" * 125_000,
+}
+
+
 def run(*command, **settings):
     """The standard output, the standard error and the status of a command."""
     told = subprocess.run(command, capture_output="stdout" not in settings, text=True, **settings)
@@ -139,12 +152,31 @@ def collected(program, function, *arguments):
     return int(re.search(r"Collected : (\d+)", told).group(1))
 
 
+def compiled(folder, name):
+    """A C program of this folder, built with the library."""
+    program = f"{folder}/{name}_counted"
+    sources = [f"-I{HERE.parent}/include", f"{HERE}/{name}.c", f"{folder}/libimagesize.a"]
+    subprocess.run([os.environ.get("CC", "cc"), "-O1", "-o", program, *sources], check=True)
+    return program
+
+
+def check_streams(folder):
+    """A push parser looks at each record once, in whatever chunks the bytes come. A small input in one chunk is one call's work."""
+    program = compiled(folder, "repeat")
+    once = collected(program, "imagesize_stream_push", "stream", "1", "tiny.gif")
+    assert once <= 1500, f"imagesize_stream_push of a GIF: {once} instructions, and at most 1500"
+    for name, data in HOSTILE.items():
+        pathlib.Path(name).write_bytes(data)
+        whole = collected(program, "imagesize_size", "size", "1", name)
+        count = collected(program, "imagesize_stream_push", "chunks", "1", name)
+        assert count <= 6 * whole, f"{name} in chunks: {count} instructions, and {whole} for the whole"
+    print("instructions: hostile inputs in chunks take at most six times those of the whole")
+
+
 def check_instructions(folder, probe):
     """The bytes after the size are not read. Each segment and each byte of a text is read once, by a call and by the program.
     Spans are counted before they are written, so these are read twice."""
-    program = f"{folder}/image_counted"
-    sources = [f"-I{HERE.parent}/include", f"{HERE}/image.c", f"{folder}/libimagesize.a"]
-    subprocess.run([os.environ.get("CC", "cc"), "-O1", "-o", program, *sources], check=True)
+    program = compiled(folder, "image")
     start = collected(probe, None, "tiny.gif")
     for name, of_probe, of_spans, of_program, of_program_with_spans in [
         ("tiny.gif", 300, 1000, 20_000, 20_000),
@@ -172,7 +204,8 @@ def main(folder, probe, sizes):
         check_program(probe)
         check_files(probe, sizes)
         check_memory(probe)
-        for tool, check in [("strace", lambda: check_calls(probe, sizes)), ("valgrind", lambda: check_instructions(folder, probe))]:
+        for tool, check in [("strace", lambda: check_calls(probe, sizes)), ("valgrind", lambda: check_instructions(folder, probe)),
+                            ("valgrind", lambda: check_streams(folder))]:
             if shutil.which(tool):
                 check()
             else:

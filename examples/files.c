@@ -224,35 +224,119 @@ static void many_blocks(uint8_t *bytes)
     expect(input.small == 65 && input.readings < 80, "blocks grow after 64 of them");
 }
 
-/* Inputs that are no regular file: errno says why. */
+/* Inputs that are no file: errno says why. */
 static void no_files(void)
 {
     const imagesize_image before = {1, 2, 3, 4};
     imagesize_image image;
-    char folder[] = "/tmp/imagesize-XXXXXX", pipe_name[64];
-    if (mkdtemp(folder) == NULL || snprintf(pipe_name, sizeof pipe_name, "%s/pipe", folder) < 0 || mkfifo(pipe_name, 0600) != 0) {
-        expect(0, "a pipe can be made");
-        return;
-    }
-    const struct { const char *path; int why; } wrong[] = {{folder, EISDIR}, {pipe_name, ESPIPE}, {"/none/of/this", ENOENT}};
-    for (size_t i = 0; i < 3; i++) {
+    const struct { const char *path; int why; } wrong[] = {{"/tmp", EISDIR}, {"/none/of/this", ENOENT}};
+    for (size_t i = 0; i < 2; i++) {
         errno = 0;
         image = before;
         expect(imagesize_path_probe(wrong[i].path, &image) == IMAGESIZE_FAULT && errno == wrong[i].why && is_none(&image), wrong[i].path);
     }
-    int ends[2];
-    FILE *stream = pipe(ends) == 0 ? fdopen(ends[0], "rb") : NULL;
-    image = before;
-    expect(stream != NULL && imagesize_stdio_probe(stream, &image) == IMAGESIZE_FAULT && errno == ESPIPE && is_none(&image),
-           "a stream of a pipe");
     image = before;
     expect(imagesize_fd_probe(-1, &image) == IMAGESIZE_FAULT && errno == EBADF && is_none(&image), "no descriptor");
+}
+
+/* A pipe with these bytes, which no one writes to any more. Its end to read from is returned, or -1. */
+static int pipe_of(const uint8_t *bytes, size_t length)
+{
+    int ends[2];
+    if (pipe(ends) != 0) {
+        return -1;
+    }
+    expect(write(ends[1], bytes, length) == (ssize_t)length, "a pipe can be written");
+    close(ends[1]);
+    return ends[0];
+}
+
+/* A pipe, by a descriptor and by a stream. What is after the image's first bytes stays there. */
+static void pipes(uint8_t *bytes)
+{
+    imagesize_image image;
+    size_t length = jpeg(bytes, 3, 9000);
+    int end = pipe_of(bytes, length), empty = pipe_of(bytes, 0);
+    expect(is_size(imagesize_fd_probe(end, &image), &image, 7, 5), "the size by a pipe");
+    expect(imagesize_fd_probe(empty, &image) == IMAGESIZE_END_OF_INPUT && is_none(&image), "an empty pipe");
+    close(end);
+    close(empty);
+    end = pipe_of(bytes, length);
+    FILE *stream = fdopen(end, "rb");
+    expect(stream != NULL && is_size(imagesize_stdio_probe(stream, &image), &image, 7, 5), "the size by a stream of a pipe");
     if (stream != NULL) {
         fclose(stream);
-        close(ends[1]);
     }
-    remove(pipe_name);
+    memset(bytes, 0, 60000);
+    memcpy(bytes, gif, 12);
+    end = pipe_of(bytes, 60000);
+    expect(is_size(imagesize_fd_probe(end, &image), &image, 640, 480) && read(end, bytes, 60000) == 60000 - 4096, "one block is read");
+    close(end);
+}
+
+/* A pipe that has a name: without a writer it has no bytes. */
+static void named_pipes(void)
+{
+    imagesize_image image;
+    char folder[] = "/tmp/imagesize-XXXXXX", name[64];
+    if (mkdtemp(folder) == NULL || snprintf(name, sizeof name, "%s/pipe", folder) < 0 || mkfifo(name, 0600) != 0) {
+        expect(0, "a pipe can be made");
+        return;
+    }
+    expect(imagesize_path_probe(name, &image) == IMAGESIZE_END_OF_INPUT && is_none(&image), "no writer is waited for");
+    int writer = open(name, O_RDWR);
+    expect(writer >= 0 && write(writer, gif, 12) == 12, "a pipe can be written");
+    expect(is_size(imagesize_path_probe(name, &image), &image, 640, 480), "the size by the path of a pipe");
+    close(writer);
+    remove(name);
     remove(folder);
+}
+
+/* An input that is read forward, in pieces of at most this length. It may fail at one of its reads, or be a JPEG of segments without
+ * end. */
+struct forward {
+    const uint8_t *bytes;
+    size_t length, piece, place, readings, failing;
+    int endless;
+};
+
+static long read_forward(void *reader, uint8_t *bytes, size_t length)
+{
+    struct forward *input = reader;
+    size_t got = length < input->piece ? length : input->piece;
+    if (++input->readings == input->failing) {
+        return -1;
+    }
+    if (input->endless) {
+        struct segments of = {4, 0};
+        read_segments(&of, bytes, got, input->place);
+        input->place += got;
+        return (long)got;
+    }
+    got = got < input->length - input->place ? got : input->length - input->place;
+    memcpy(bytes, input->bytes + input->place, got);
+    input->place += got;
+    return (long)got;
+}
+
+/* Inputs that are read forward: whole, cut, failing at each read in turn, and without end. */
+static void forward(uint8_t *bytes)
+{
+    imagesize_image image;
+    size_t length = jpeg(bytes, 3, 9000);
+    struct forward input = {bytes, length, 1000, 0, 0, 0, 0};
+    expect(is_size(imagesize_forward_probe(&input, read_forward, &image), &image, 7, 5), "the size by pieces of an input");
+    input = (struct forward){bytes, 100, 7, 0, 0, 0, 0};
+    expect(imagesize_forward_probe(&input, read_forward, &image) == IMAGESIZE_END_OF_INPUT && image.type == IMAGESIZE_JPEG
+               && image.width == 0, "a JPEG that is cut has a type");
+    for (size_t failing = 1; failing <= 28; failing++) {
+        image = (imagesize_image){1, 2, 3, 4};
+        input = (struct forward){bytes, length, 1000, 0, 0, failing, 0};
+        expect(imagesize_forward_probe(&input, read_forward, &image) == IMAGESIZE_FAULT && is_none(&image), "a failed read");
+    }
+    input = (struct forward){NULL, 0, 4096, 0, 0, 0, 1};
+    expect(imagesize_forward_probe(&input, read_forward, &image) == IMAGESIZE_BUDGET_SPENT, "segments without end");
+    expect(input.place == IMAGESIZE_FILE_MOST, "and 64 MiB of them are read, in one pass");
 }
 
 /* A stream that stands at its first byte, and one of an empty file. */
@@ -311,6 +395,9 @@ int main(void)
     refused_images();
     many_blocks(bytes);
     no_files();
+    pipes(bytes);
+    named_pipes();
+    forward(bytes);
     streams();
     shrunk_files();
     lowest_descriptor();

@@ -3,8 +3,9 @@
  *
  *     repeat CALL TIMES FILE
  *
- * CALL is size, probe, spans, parts, many or none: `parts` passes one part, which has all bytes; `many` passes 63 parts more,
- * which lie past the end and have no bytes.
+ * CALL is size, probe, spans, parts, many, stream, chunks or none: `parts` passes one part, which has all bytes; `many` passes 63
+ * parts more, which lie past the end and have no bytes. `stream` passes all bytes to a push parser at once, and `chunks` passes them
+ * in chunks of 4096 bytes.
  */
 #include "imagesize.h"
 
@@ -12,7 +13,7 @@
 #include <stdlib.h>
 #include <string.h>
 
-enum { ROOM = 1 << 20 };
+enum { ROOM = 1 << 20, CHUNK = 4096 };
 
 struct told {
     uint32_t type, compression;
@@ -65,12 +66,32 @@ static uint32_t spans(const uint8_t *bytes, size_t length, struct told *told)
     return status;
 }
 
+static uint32_t stream(const uint8_t *bytes, size_t length, struct told *told)
+{
+    imagesize_stream state;
+    imagesize_stream_new(&state, length);
+    return imagesize_stream_push(&state, bytes, length, &told->type, &told->compression, &told->width, &told->height);
+}
+
+static uint32_t chunks(const uint8_t *bytes, size_t length, struct told *told)
+{
+    imagesize_stream state;
+    uint32_t status = IMAGESIZE_BYTES_WANTED;
+    imagesize_stream_new(&state, length);
+    for (size_t at = 0; at < length && status == IMAGESIZE_BYTES_WANTED; at += CHUNK) {
+        status = imagesize_stream_push(&state, bytes + at, length - at < CHUNK ? length - at : CHUNK, &told->type, &told->compression,
+                                       &told->width, &told->height);
+    }
+    return status;
+}
+
 static call *called(const char *name)
 {
     static const struct {
         const char *name;
         call *called;
-    } calls[] = {{"size", size}, {"probe", probe}, {"spans", spans}, {"parts", parts}, {"many", many}};
+    } calls[] = {{"size", size}, {"probe", probe}, {"spans", spans}, {"parts", parts}, {"many", many}, {"stream", stream},
+                 {"chunks", chunks}};
     for (size_t i = 0; i < sizeof calls / sizeof *calls; i++) {
         if (strcmp(name, calls[i].name) == 0) {
             return calls[i].called;

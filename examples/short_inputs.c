@@ -221,6 +221,45 @@ static void parts_of_any_kind(struct worker *worker, enum asked asked, size_t le
     }
 }
 
+/* A push parser of an input of this length, or of unknown length, with numbers beside it that no call may change. */
+struct stream {
+    uint64_t before;
+    imagesize_stream state;
+    uint64_t after;
+};
+
+/* The next bytes of an input. They end at a page that cannot be read. */
+static struct answer push(struct worker *worker, struct stream *stream, const uint8_t *bytes, size_t length)
+{
+    struct answer a = nothing_told;
+    memcpy(worker->bytes_end - length, bytes, length);
+    a.status = imagesize_stream_push(&stream->state, worker->bytes_end - length, length, &a.type, &a.compression, &a.width, &a.height);
+    return a;
+}
+
+/* An input in pieces of random lengths has the right result, by its last byte if the length is known, and at its end. */
+static void pieces_lead_to(struct worker *worker, size_t length, const struct answer *right)
+{
+    const uint8_t *bytes = worker->input_end - length;
+    struct stream stream = {0xA5, {{0}}, 0xA5};
+    struct answer a = nothing_told, last = nothing_told;
+    uint64_t total = random_number(worker) % 2 == 0 ? length : IMAGESIZE_LENGTH_UNKNOWN;
+    memset(&stream.state, 0xA5, sizeof stream.state);
+    imagesize_stream_new(&stream.state, total);
+    for (size_t at = 0, piece; at <= length; at += piece) {
+        piece = 1 + random_number(worker) % 16;
+        a = push(worker, &stream, bytes + at, length - at < piece ? length - at : piece);
+        last = nothing_told;
+        last.status = IMAGESIZE_BYTES_WANTED;
+        expect(is_same(&a, right) || is_same(&a, &last), "a piece leads to the right result, or to nothing");
+    }
+    expect(total != length || is_same(&a, right), "the last byte of a known length leads to the result");
+    last = nothing_told;
+    last.status = imagesize_stream_finish(&stream.state, &last.type, &last.compression, &last.width, &last.height);
+    expect(is_same(&last, right), "the end leads to the result");
+    expect(stream.before == 0xA5 && stream.after == 0xA5, "and nothing beside the memory is written");
+}
+
 static void text_of(struct worker *worker, uint32_t status)
 {
     size_t written = 0;
@@ -240,6 +279,7 @@ static void *work(void *its)
         spans_lie_within(worker, length);
         parts_lead_to_each(worker, length, &whole);
         parts_of_any_kind(worker, (enum asked)(i % 3), length);
+        pieces_lead_to(worker, length, &whole);
         text_of(worker, whole.status);
     }
     return NULL;

@@ -2,8 +2,9 @@
  * The type of an image, and its width and height in pixels, from a few bytes. No pixel is decoded.
  *
  * Each call is proved. It returns, and its result is the one that docs/LAYOUTS.md defines. It reads only the buffers that the
- * caller passes, and writes only what is said here. It allocates nothing, and keeps nothing between two calls. Calls may run
- * at the same time on several threads, if none writes what another reads. docs/PROMISES.md lists the promises.
+ * caller passes, and writes only what is said here. It allocates nothing, and keeps nothing between two calls: a push parser is
+ * in memory of the caller. Calls may run at the same time on several threads, if none writes what another reads.
+ * docs/PROMISES.md lists the promises.
  *
  * The caller must keep these rules, which the library cannot check:
  *  - A pointer must be aligned for its type and must not be NULL, even if the length is 0 or the result is not needed. No call
@@ -11,8 +12,8 @@
  *  - A buffer of bytes, text or spans must have as many items as its length says, and fewer than 2^63 bytes.
  *  - A buffer that is written must overlap no other buffer of the call. Text and spans must be initialised.
  *
- * Each call returns a status: IMAGESIZE_ANSWERED, or a number for each error. A call changes only what it says that it writes,
- * also when it returns an error.
+ * Each call but imagesize_stream_new returns a status: IMAGESIZE_ANSWERED, or a number for each error. A call changes only what it
+ * says that it writes, also when it returns an error.
  *
  * A text is ASCII, without a zero at its end. It is written if the buffer is long enough for all of it. Its length is written
  * in either case. If the buffer is too small, the status is IMAGESIZE_BUFFER_TOO_SMALL and the buffer does not change. The same
@@ -63,35 +64,35 @@ enum imagesize_status {
     IMAGESIZE_BUFFER_TOO_SMALL = 27, /* the result has more items than the buffer */
     IMAGESIZE_UNKNOWN_TYPE = 28, /* no type has these numbers */
     IMAGESIZE_UNKNOWN_STATUS = 29, /* no status has this number */
-    IMAGESIZE_BYTES_WANTED = 30 /* a call over parts needs another part of the input; no other call returns it */
+    IMAGESIZE_BYTES_WANTED = 30 /* more bytes of the input are needed; only calls over parts and imagesize_stream_push return it */
 };
 
-/* The types of images, with the MIME type and the extension of their files. */
+/* The types of images. Each comment begins with the usual name, and ends with the MIME type, if there is one, and the extension. */
 enum imagesize_type_number {
-    IMAGESIZE_ASEPRITE = 1, /* animated sprites of the editor Aseprite; .aseprite */
-    IMAGESIZE_ASTC = 2, /* adaptive scalable texture compression; image/astc, .astc */
-    IMAGESIZE_ATC = 3, /* a texture in ATC, in a PKM file; it has a compression; .pkm */
-    IMAGESIZE_BMP = 4, /* Windows bitmap; image/bmp, .bmp */
-    IMAGESIZE_DDS = 5, /* DirectDraw surface; it has a compression; image/x-dds, .dds */
-    IMAGESIZE_EAC = 6, /* a texture in EAC, in a PKM file; it has a compression; .pkm */
-    IMAGESIZE_ETC2 = 7, /* a texture in ETC1 or ETC2, in a PKM file; it has a compression; .pkm */
+    IMAGESIZE_ASEPRITE = 1, /* Aseprite: animated sprites of the editor; .aseprite */
+    IMAGESIZE_ASTC = 2, /* ASTC: adaptive scalable texture compression; image/astc, .astc */
+    IMAGESIZE_ATC = 3, /* ATC: a texture, in a PKM file; it has a compression; .pkm */
+    IMAGESIZE_BMP = 4, /* BMP: Windows bitmap; image/bmp, .bmp */
+    IMAGESIZE_DDS = 5, /* DDS: DirectDraw surface; it has a compression; image/x-dds, .dds */
+    IMAGESIZE_EAC = 6, /* EAC: a texture, in a PKM file; it has a compression; .pkm */
+    IMAGESIZE_ETC2 = 7, /* ETC2: a texture in ETC1 or ETC2, in a PKM file; it has a compression; .pkm */
     IMAGESIZE_EXR = 8, /* OpenEXR; image/x-exr, .exr */
-    IMAGESIZE_FARBFELD = 9, /* farbfeld; .ff */
-    IMAGESIZE_GIF = 10, /* graphics interchange format; image/gif, .gif */
-    IMAGESIZE_HDR = 11, /* Radiance RGBE; image/vnd.radiance, .hdr */
-    IMAGESIZE_HEIF = 12, /* HEIC and AVIF; it has a compression; image/heif, .heif */
-    IMAGESIZE_ICO = 13, /* Windows icon; image/vnd.microsoft.icon, .ico */
-    IMAGESIZE_ILBM = 14, /* interleaved bitmap, in an IFF file; image/x-ilbm, .iff */
+    IMAGESIZE_FARBFELD = 9, /* Farbfeld; .ff */
+    IMAGESIZE_GIF = 10, /* GIF: graphics interchange format; image/gif, .gif */
+    IMAGESIZE_HDR = 11, /* HDR: Radiance RGBE; image/vnd.radiance, .hdr */
+    IMAGESIZE_HEIF = 12, /* HEIF (HEIC, AVIF); it has a compression; image/heif, .heif */
+    IMAGESIZE_ICO = 13, /* ICO: Windows icon; image/vnd.microsoft.icon, .ico */
+    IMAGESIZE_ILBM = 14, /* ILBM: interleaved bitmap, in an IFF file; image/x-ilbm, .iff */
     IMAGESIZE_JPEG = 15, /* JPEG; image/jpeg, .jpg */
     IMAGESIZE_JXL = 16, /* JPEG XL; image/jxl, .jxl */
-    IMAGESIZE_KTX2 = 17, /* Khronos texture, version 2; image/ktx2, .ktx2 */
-    IMAGESIZE_PNM = 18, /* PBM, PGM and PPM; image/x-portable-anymap, .pnm */
-    IMAGESIZE_PVRTC = 19, /* PowerVR texture; it has a compression; .pvr */
-    IMAGESIZE_PSD = 20, /* Photoshop document; image/vnd.adobe.photoshop, .psd */
-    IMAGESIZE_QOI = 21, /* quite OK image; image/qoi, .qoi */
-    IMAGESIZE_TGA = 22, /* Truevision TGA; image/x-tga, .tga */
-    IMAGESIZE_TIFF = 23, /* TIFF, with BigTIFF; image/tiff, .tif */
-    IMAGESIZE_VTF = 24, /* Valve texture; image/vnd.valve.source.texture, .vtf */
+    IMAGESIZE_KTX2 = 17, /* KTX 2: Khronos texture, version 2; image/ktx2, .ktx2 */
+    IMAGESIZE_PNM = 18, /* PNM: PBM, PGM and PPM; image/x-portable-anymap, .pnm */
+    IMAGESIZE_PVRTC = 19, /* PVR: PowerVR texture; it has a compression; .pvr */
+    IMAGESIZE_PSD = 20, /* PSD: Photoshop document; image/vnd.adobe.photoshop, .psd */
+    IMAGESIZE_QOI = 21, /* QOI: quite OK image; image/qoi, .qoi */
+    IMAGESIZE_TGA = 22, /* TGA: Truevision; image/x-tga, .tga */
+    IMAGESIZE_TIFF = 23, /* TIFF (BigTIFF); image/tiff, .tif */
+    IMAGESIZE_VTF = 24, /* VTF: Valve texture; image/vnd.valve.source.texture, .vtf */
     IMAGESIZE_WEBP = 25 /* WebP; image/webp, .webp */
 };
 
@@ -246,6 +247,68 @@ uint32_t imagesize_parts_type(const uint8_t *bytes, size_t length, const imagesi
  */
 uint32_t imagesize_parts_size(uint32_t type, uint32_t compression, const uint8_t *bytes, size_t length, const imagesize_span *spans,
                               size_t count, uint64_t total, uint64_t *width, uint64_t *height, imagesize_span *wanted);
+
+/*
+ * A push parser: type and size of an input whose bytes come one after another, as from a socket or a pipe. The caller passes each
+ * chunk as it comes, of any length, and keeps none of them.
+ *
+ *     imagesize_stream stream;
+ *     uint8_t chunk[4096];
+ *     ssize_t got;
+ *     uint32_t status = IMAGESIZE_BYTES_WANTED;
+ *     imagesize_stream_new(&stream, IMAGESIZE_LENGTH_UNKNOWN);
+ *     while (status == IMAGESIZE_BYTES_WANTED && (got = read(0, chunk, sizeof chunk)) > 0) {
+ *         status = imagesize_stream_push(&stream, chunk, (size_t)got, &type, &compression, &width, &height);
+ *     }
+ *     if (status == IMAGESIZE_BYTES_WANTED) {
+ *         status = imagesize_stream_finish(&stream, &type, &compression, &width, &height);
+ *     }
+ *
+ * The state is in memory of the caller, on the stack or wherever there are IMAGESIZE_STREAM_SIZE bytes. It holds at most 1,023
+ * bytes of the input, and no pointer. It needs no release.
+ *
+ * The caller must keep these rules too, which the library cannot check:
+ *  - imagesize_stream_new comes before any other call with the same memory, and again after imagesize_stream_finish.
+ *  - One call at a time uses the same memory.
+ *  - The caller does not write into the memory. Between two calls it may copy all of it by memcpy or assignment. The copy and the
+ *    original then go on independently, each with its own bytes.
+ */
+
+/* The size of the memory in bytes, and the length to pass if the length of the input is not known. */
+#define IMAGESIZE_STREAM_SIZE 1280
+#define IMAGESIZE_LENGTH_UNKNOWN UINT64_MAX
+
+/* The memory of a push parser. Its content is the library's own. */
+typedef struct imagesize_stream {
+    uint64_t opaque[IMAGESIZE_STREAM_SIZE / 8];
+} imagesize_stream;
+
+/*
+ * Begins an input of `total` bytes, whatever the memory holds. Bytes past that length do not count. For an unknown length pass
+ * IMAGESIZE_LENGTH_UNKNOWN; every number above 2^63 - 1 means the same.
+ *
+ * A known length lets some results come earlier. No result is lost without it.
+ */
+void imagesize_stream_new(imagesize_stream *stream, uint64_t total);
+
+/*
+ * Passes the next `length` bytes of the input. There may be none.
+ *
+ * If the result depends on more bytes, the status is IMAGESIZE_BYTES_WANTED and nothing is written. Otherwise status, type,
+ * compression, width and height are those of imagesize_probe over the whole input, whatever bytes follow. Every later call returns and
+ * writes the same.
+ *
+ * If the length is known, the result comes with the last byte that it depends on, or with the last byte of the input. If it is
+ * not, the result of a TGA may come from imagesize_stream_finish alone, since its footer is at the end of the file.
+ */
+uint32_t imagesize_stream_push(imagesize_stream *stream, const uint8_t *bytes, size_t length, uint32_t *type, uint32_t *compression,
+                               uint64_t *width, uint64_t *height);
+
+/*
+ * Ends the input. Status, type, compression, width and height are those of imagesize_probe over the bytes that were passed, without
+ * those past the length. The status is never IMAGESIZE_BYTES_WANTED. Then the memory is free, or may be begun again.
+ */
+uint32_t imagesize_stream_finish(imagesize_stream *stream, uint32_t *type, uint32_t *compression, uint64_t *width, uint64_t *height);
 
 /*
  * Lists the bytes that type and size depend on: a span for each read, in order, with repeats. Every other input of this length

@@ -1,6 +1,7 @@
 /*
  * Type and size of the image in a file, over the calls of imagesize.h. Only the blocks of the file are read that the result
- * depends on. All of it is in this header; nothing more is linked than libimagesize and the C library.
+ * depends on. A pipe, a socket or another file that cannot seek is read forward, once, until the result is known. All of it is in
+ * this header; nothing more is linked than libimagesize and the C library.
  *
  *     imagesize_image image;
  *     uint32_t status = imagesize_path_probe("photo.jpg", &image);
@@ -10,7 +11,7 @@
  *
  * Each call returns a status: that of imagesize_probe over all bytes of the file, or one of these three.
  *  - IMAGESIZE_FAULT: the file cannot be opened or read. `errno` says why; it is 0 if the file became shorter meanwhile.
- *  - IMAGESIZE_BUDGET_SPENT: the result needs more than IMAGESIZE_FILE_MOST bytes.
+ *  - IMAGESIZE_BUDGET_SPENT: the result needs more than IMAGESIZE_FILE_MOST bytes. No more are read.
  *  - IMAGESIZE_OUT_OF_MEMORY: `malloc` or `realloc` returned NULL.
  *
  * The call writes all of `image`. The type is 0 if none was found. Width and height are 0 if the status is not
@@ -131,6 +132,35 @@ static inline uint32_t imagesize_reader_probe(void *reader, imagesize_read *read
     return status;
 }
 
+/* Reads the next bytes, at most `length` of them. Returns their number, 0 at the end of the input, or -1 if the read failed. */
+typedef long imagesize_read_next(void *reader, uint8_t *bytes, size_t length);
+
+/* Type and size of the image in an input that is read forward, once. After a result no more of it is read. */
+static inline uint32_t imagesize_forward_probe(void *reader, imagesize_read_next *next, imagesize_image *image)
+{
+    static const imagesize_image none = {0, 0, 0, 0};
+    uint8_t chunk[IMAGESIZE_FILE_BLOCK];
+    imagesize_stream stream;
+    uint32_t status = IMAGESIZE_BYTES_WANTED;
+    long got = 1;
+    *image = none;
+    imagesize_stream_new(&stream, IMAGESIZE_LENGTH_UNKNOWN);
+    for (size_t most = IMAGESIZE_FILE_MOST; status == IMAGESIZE_BYTES_WANTED && got > 0; most -= (size_t)got) {
+        if (most == 0) {
+            return IMAGESIZE_BUDGET_SPENT;
+        }
+        got = next(reader, chunk, most < sizeof chunk ? most : sizeof chunk);
+        if (got < 0) {
+            return IMAGESIZE_FAULT;
+        }
+        status = imagesize_stream_push(&stream, chunk, (size_t)got, &image->type, &image->compression, &image->width, &image->height);
+    }
+    if (status == IMAGESIZE_BYTES_WANTED) {
+        return imagesize_stream_finish(&stream, &image->type, &image->compression, &image->width, &image->height);
+    }
+    return status;
+}
+
 static inline uint32_t imagesize_stdio_read(void *reader, uint8_t *bytes, size_t length, uint64_t offset)
 {
     FILE *file = (FILE *)reader;
@@ -138,13 +168,26 @@ static inline uint32_t imagesize_stdio_read(void *reader, uint8_t *bytes, size_t
     return fseek(file, (long)offset, SEEK_SET) == 0 && fread(bytes, 1, length, file) == length ? IMAGESIZE_ANSWERED : IMAGESIZE_FAULT;
 }
 
-/* Type and size of the image in an open stream that can seek. The call reads from its first byte on, and keeps its position. */
+static inline long imagesize_stdio_next(void *reader, uint8_t *bytes, size_t length)
+{
+    FILE *file = (FILE *)reader;
+    size_t got = fread(bytes, 1, length, file);
+    return got == 0 && ferror(file) ? -1 : (long)got;
+}
+
+/*
+ * Type and size of the image in an open stream. If the stream can seek, the call reads from its first byte on, and keeps its
+ * position. Otherwise it reads whole blocks from here on.
+ */
 static inline uint32_t imagesize_stdio_probe(FILE *file, imagesize_image *image)
 {
     static const imagesize_image none = {0, 0, 0, 0};
     long position = ftell(file), total = -1;
     *image = none;
-    if (position < 0 || fseek(file, 0, SEEK_END) != 0 || (total = ftell(file)) < 0) {
+    if (position < 0) {
+        return imagesize_forward_probe(file, imagesize_stdio_next, image);
+    }
+    if (fseek(file, 0, SEEK_END) != 0 || (total = ftell(file)) < 0) {
         return IMAGESIZE_FAULT;
     }
     uint32_t status = imagesize_reader_probe(file, imagesize_stdio_read, (uint64_t)total, image);
@@ -175,7 +218,19 @@ static inline uint32_t imagesize_fd_read(void *reader, uint8_t *bytes, size_t le
     return IMAGESIZE_ANSWERED;
 }
 
-/* Type and size of the image in an open regular file. The file's position is neither used nor changed. */
+static inline long imagesize_fd_next(void *reader, uint8_t *bytes, size_t length)
+{
+    ssize_t got;
+    do {
+        got = read(*(int *)reader, bytes, length);
+    } while (got < 0 && errno == EINTR);
+    return (long)got;
+}
+
+/*
+ * Type and size of the image in an open file. The position of a regular file is neither used nor changed. Any other file is read
+ * forward from here on.
+ */
 static inline uint32_t imagesize_fd_probe(int file, imagesize_image *image)
 {
     static const imagesize_image none = {0, 0, 0, 0};
@@ -185,13 +240,15 @@ static inline uint32_t imagesize_fd_probe(int file, imagesize_image *image)
         return IMAGESIZE_FAULT;
     }
     if (!S_ISREG(about.st_mode)) {
-        errno = S_ISDIR(about.st_mode) ? EISDIR : ESPIPE;
-        return IMAGESIZE_FAULT;
+        return imagesize_forward_probe(&file, imagesize_fd_next, image);
     }
     return imagesize_reader_probe(&file, imagesize_fd_read, (uint64_t)about.st_size, image);
 }
 
-/* Type and size of the image in the regular file at a path. A pipe without a writer is an error, and is not waited for. */
+/*
+ * Type and size of the image in the file at a path. A pipe without a writer has no bytes, and no writer is waited for. If there is
+ * one, the call waits for its bytes.
+ */
 static inline uint32_t imagesize_path_probe(const char *path, imagesize_image *image)
 {
     static const imagesize_image none = {0, 0, 0, 0};
@@ -200,6 +257,7 @@ static inline uint32_t imagesize_path_probe(const char *path, imagesize_image *i
     if (file < 0) {
         return IMAGESIZE_FAULT;
     }
+    (void)fcntl(file, F_SETFL, 0); /* the reads wait, as the call to open did not */
     uint32_t status = imagesize_fd_probe(file, image);
     int why = errno;
     close(file);

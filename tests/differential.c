@@ -21,6 +21,9 @@
  *     parts     if each requested span is fetched, with bytes around it or in pieces, the result is that of the whole input, and
  *               the call writes nothing else
  *     missing   if one byte of the spans is missing, that byte is requested; if any other byte is missing, the result is the same
+ *     stream    pushed in pieces, with the length known or not, an input has the result of the whole: if the length is known, as soon
+ *               as the spans have come. From then on each call returns it. Until then a call writes nothing
+ *     ended     a stream that ends after some bytes, or whose length is that of these, has the result of these bytes
  *     typed     the size as the input's own type is its size; as another type, the whole input and its parts give the same size
  *     read      imagesize_file.h over a file, in blocks of 16 bytes, finds the result of the whole input, and reads within it
  *     cut       with each read cut short, and some interrupted, it finds the same
@@ -59,12 +62,12 @@ struct answer {
 
 /* The counts. */
 enum counter {
-    INPUTS, PROBES, VECTORS, FRONTS_OF_SAMPLES, CHANGES_OF_ONE, CHANGES_OF_TWO, CALLS, LOCAL, APPENDED, FRONT, BY_PARTS, MISSING, TYPED,
-    READ, CUT, FAILING, COUNTERS
+    INPUTS, PROBES, VECTORS, FRONTS_OF_SAMPLES, CHANGES_OF_ONE, CHANGES_OF_TWO, CALLS, LOCAL, APPENDED, FRONT, BY_PARTS, MISSING, STREAM,
+    ENDED, TYPED, READ, CUT, FAILING, COUNTERS
 };
 static const char *const counter_names[COUNTERS] = {
     "inputs", "probes", "samples", "fronts of samples", "changes of one byte", "changes of two bytes", "calls", "local",
-    "appended", "front", "parts", "missing", "typed", "read", "cut", "failing",
+    "appended", "front", "parts", "missing", "stream", "ended", "typed", "read", "cut", "failing",
 };
 static unsigned long long counted[COUNTERS], results[TYPES][STATUSES];
 
@@ -637,22 +640,32 @@ static bool add_part(const struct input *of, imagesize_span part)
     return true;
 }
 
-/* The result over the known parts. Numbers that the call does not write are 0. If it wrote too much, the status is STATUSES. */
-static struct answer probe_known(uint64_t total, imagesize_span *wanted)
+/* Each number before a call that may write it. */
+#define UNWRITTEN UINT32_C(0xFEFEFEFE)
+static const struct answer unwritten = {0, UNWRITTEN, UNWRITTEN, UNWRITTEN, UNWRITTEN};
+
+/* The result of a call. Numbers that it did not write are 0. If it wrote too much, the status is STATUSES. */
+static struct answer as_written(struct answer found)
 {
-    const uint32_t unwritten = 0xFEFEFEFE;
-    struct answer found = {0, unwritten, unwritten, unwritten, unwritten};
-    const imagesize_span before = *wanted;
-    counted[PROBES]++;
-    found.status = imagesize_probe_parts(known.bytes, known.length, known.spans, known.count, total, &found.type, &found.compression,
-                                         &found.width, &found.height, wanted);
-    bool is_wanted = found.status == IMAGESIZE_BYTES_WANTED, is_typed = found.type != unwritten, is_sized = found.status == IMAGESIZE_ANSWERED;
-    if ((is_wanted && is_typed) || (!is_wanted && (wanted->start != before.start || wanted->len != before.len))
-        || (found.compression != unwritten) != is_typed || (found.width != unwritten) != is_sized || (found.height != unwritten) != is_sized) {
+    bool is_wanted = found.status == IMAGESIZE_BYTES_WANTED, is_typed = found.type != UNWRITTEN, is_sized = found.status == IMAGESIZE_ANSWERED;
+    if ((is_wanted && is_typed) || (found.compression != UNWRITTEN) != is_typed || (found.width != UNWRITTEN) != is_sized
+        || (found.height != UNWRITTEN) != is_sized) {
         return (struct answer){.status = STATUSES};
     }
     return (struct answer){found.status, is_typed ? found.type : 0, is_typed ? found.compression : 0, is_sized ? found.width : 0,
                            is_sized ? found.height : 0};
+}
+
+/* The result over the known parts. If the call wrote a span that is not needed, the status is STATUSES. */
+static struct answer probe_known(uint64_t total, imagesize_span *wanted)
+{
+    struct answer found = unwritten;
+    const imagesize_span before = *wanted;
+    counted[PROBES]++;
+    found.status = imagesize_probe_parts(known.bytes, known.length, known.spans, known.count, total, &found.type, &found.compression,
+                                         &found.width, &found.height, wanted);
+    bool is_kept = wanted->start == before.start && wanted->len == before.len;
+    return found.status == IMAGESIZE_BYTES_WANTED || is_kept ? as_written(found) : (struct answer){.status = STATUSES};
 }
 
 /* Fetching each requested span gives the result of the whole input: with up to `around` bytes on each side, or at most `most` bytes
@@ -721,6 +734,96 @@ static bool without_any(const struct input *of, struct answer whole, const image
         place = span->start + below(span->len);
     }
     return without(of, whole, place, rests_on(spans, count, place));
+}
+
+static struct answer pushed(imagesize_stream *stream, const uint8_t *bytes, size_t length)
+{
+    struct answer found = unwritten;
+    counted[PROBES]++;
+    found.status = imagesize_stream_push(stream, bytes, length, &found.type, &found.compression, &found.width, &found.height);
+    return as_written(found);
+}
+
+static struct answer finished(imagesize_stream *stream)
+{
+    struct answer found = unwritten;
+    counted[PROBES]++;
+    found.status = imagesize_stream_finish(stream, &found.type, &found.compression, &found.width, &found.height);
+    return as_written(found);
+}
+
+/* Pushes the first bytes of an input in pieces of at most `most` bytes; some are empty. Each result is `result`, and one comes as soon as
+ * `last` bytes were pushed. */
+static bool streamed(const struct input *of, size_t length, uint64_t total, size_t most, struct answer result, uint64_t last)
+{
+    imagesize_stream stream;
+    size_t at = 0;
+    bool is_known = false;
+    imagesize_stream_new(&stream, total);
+    do {
+        size_t left = length - at < most ? length - at : most, piece = left == 0 || once_in(16) ? 0 : 1 + below(left);
+        struct answer found = pushed(&stream, of->bytes + at, piece);
+        at += piece;
+        if (found.status == IMAGESIZE_BYTES_WANTED ? is_known || at >= last : !same(result, found)) {
+            return false;
+        }
+        is_known = found.status != IMAGESIZE_BYTES_WANTED;
+    } while (at < length);
+    return same(result, finished(&stream));
+}
+
+/* The most bytes of a piece: all, one, or any number. */
+static size_t some_piece(size_t length)
+{
+    return length == 0 || once_in(32) ? 1 : once_in(4) ? 1 + below(length) : length;
+}
+
+/* A whole input in pieces, with its length known or not. */
+static bool by_stream(const struct input *of, struct answer whole, const imagesize_span *spans, size_t count)
+{
+    size_t most = some_piece(of->length);
+    uint64_t last = 0;
+    counted[STREAM]++;
+    if (once_in(2)) {
+        uint64_t unknown = once_in(2) ? IMAGESIZE_LENGTH_UNKNOWN : (UINT64_C(1) << 63) + of->length;
+        return streamed(of, of->length, unknown, most, whole, UINT64_MAX);
+    }
+    for (size_t at = 0; at < count; at++) {
+        uint64_t end = spans[at].start + spans[at].len;
+        last = end > last ? end : last;
+    }
+    return streamed(of, of->length, of->length, most, whole, last);
+}
+
+/* A stream that ends after some bytes, or whose length is so many. */
+static bool stream_ends(const struct input *of, size_t length)
+{
+    size_t most = some_piece(length);
+    struct answer front = probe(of->bytes, length);
+    counted[ENDED]++;
+    if (once_in(3)) {
+        return streamed(of, of->length, length, most, front, length);
+    }
+    return streamed(of, length, once_in(2) ? of->length : IMAGESIZE_LENGTH_UNKNOWN, most, front, UINT64_MAX);
+}
+
+/* A stream that ends after each of the first bytes, up to the one that has the result. Each time a copy of the state ends, and the
+ * stream goes on. */
+static bool stream_ends_anywhere(const struct input *of, uint64_t total)
+{
+    imagesize_stream stream;
+    struct answer found = {.status = IMAGESIZE_BYTES_WANTED};
+    size_t most = of->length < MOST ? of->length : MOST;
+    imagesize_stream_new(&stream, total);
+    for (size_t length = 0; length < most && found.status == IMAGESIZE_BYTES_WANTED; length++) {
+        imagesize_stream copy = stream;
+        counted[ENDED]++;
+        if (!same(probe(of->bytes, length), finished(&copy))) {
+            return false;
+        }
+        found = pushed(&stream, of->bytes + length, 1);
+    }
+    return true;
 }
 
 /* The size as this type over the known parts. The compression does not matter. */
@@ -885,6 +988,8 @@ static const char *broken(const struct input *of, bool sample)
         : !front_lasts(of, whole, of->length ? below(of->length) : 0)                           ? "front"
         : !(once_in(3) ? by_parts(of, whole, 0, 1 + below(9)) : by_parts(of, whole, below(40), ROOM)) ? "parts"
         : !without_any(of, whole, spans, count)                                                 ? "missing"
+        : !by_stream(of, whole, spans, count)                                                   ? "stream"
+        : !stream_ends(of, of->length ? below(of->length) : 0)                                  ? "ended"
                                                                                                 : NULL;
 }
 
@@ -900,6 +1005,8 @@ static const char *broken_file(const struct input *of)
         law = front_lasts(of, whole, length) ? NULL : "front";
     }
     law = law ? law : by_parts(of, whole, 0, 1) ? NULL : "parts";
+    bool ends = law || (stream_ends_anywhere(of, of->length) && stream_ends_anywhere(of, IMAGESIZE_LENGTH_UNKNOWN));
+    law = law ? law : ends ? NULL : "ended";
     law = law ? law : broken_reads(of, whole, true);
     for (size_t at = 0; at < count; at++) {
         for (uint64_t place = spans[at].start ? spans[at].start - 1 : 0; !law && place <= spans[at].start + spans[at].len; place++) {

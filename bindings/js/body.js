@@ -1,65 +1,67 @@
-// The body of a response, read no further than it is needed.
+// The bytes of a stream, read no further than they are needed.
 
+import { bytesIn } from './bytes.js';
 import { ImageError } from './errors.js';
 
-/** The bytes of a body that came so far, from its beginning. */
+/** A `ReadableStream`, or anything whose iterator gives bytes. */
 export class Body {
+  /** How many bytes came. */
   length = 0;
 
-  /** Whether all of its bytes came. */
-  ended;
-
-  /** How many bytes it has, or `Infinity` if that is not known. */
-  expected = Infinity;
+  /** How many bytes there are, or `Infinity` if that is not known. */
+  expected;
   #reader;
   #signal;
-  #buffer = new Uint8Array();
+  #ended = false;
 
-  constructor(response, signal) {
-    this.#reader = response.body?.getReader();
+  constructor(source, { expected = Infinity, signal } = {}) {
+    this.#reader = readerOf(source);
+    this.expected = expected;
     this.#signal = signal;
-    this.ended = this.#reader === undefined;
   }
 
-  get bytes() {
-    return this.#buffer.subarray(0, this.length);
-  }
-
-  /** Makes the buffer that long. Otherwise it grows as bytes come. */
-  reserve(length) {
-    const buffer = new Uint8Array(length);
-    buffer.set(this.bytes);
-    this.#buffer = buffer;
-  }
-
-  /** Reads until `end` bytes came or the body ended. It keeps the rest of the last piece too, up to `most` bytes in all. */
-  async readTo(end, most = end) {
-    while (!this.ended && this.length < end) {
-      const { done, value } = await this.#reader.read().catch((cause) => {
-        this.#signal?.throwIfAborted();
-        throw this.cutShort(this.length, cause);
-      });
-      if (done) this.ended = true;
-      else this.#keep(value.subarray(0, most - this.length));
+  /** Its chunks, until it ends or the signal is aborted. */
+  async* [Symbol.asyncIterator]() {
+    for (;;) {
+      this.#signal?.throwIfAborted();
+      const { done, value } = await unlessAborted(this.#reader.read(), this.#signal);
+      if (done) break;
+      const bytes = bytesIn(value);
+      this.length += bytes.length;
+      yield bytes;
     }
-    if (this.ended && this.expected < Infinity && this.length < this.expected) throw this.cutShort(this.length);
+    this.#ended = true;
+    if (this.expected < Infinity && this.length < this.expected) throw this.cutShort(this.length);
   }
 
-  /** Tells the server that the rest is not needed. */
+  /** Tells the source that the rest is not needed. */
   leave() {
-    this.#reader?.cancel().catch(() => {});
+    if (!this.#ended) this.#reader.cancel().catch(() => {});
   }
 
-  /** The error of a body that ends early. */
+  /** The error of a body that ends after so many bytes. */
   cutShort(length, cause) {
     const whole = this.expected < Infinity ? ` of ${this.expected}` : '';
     return new ImageError('CUT_SHORT', `${length}${whole} bytes came`, { cause });
   }
+}
 
-  #keep(bytes) {
-    const length = this.length + bytes.length;
-    if (length > this.#buffer.length) this.reserve(Math.max(length, 2 * this.#buffer.length));
-    this.#buffer.set(bytes, this.length);
-    this.length = length;
-  }
+// A stream has a reader, and an iterator is read alike: both give `{ done, value }`. A stream of Node ends at once by `destroy`,
+// and its iterator only after the chunk that it waits for.
+function readerOf(source) {
+  if (typeof source?.getReader === 'function') return source.getReader();
+  const iterate = source?.[Symbol.asyncIterator] ?? source?.[Symbol.iterator];
+  if (typeof iterate !== 'function') throw new TypeError('A stream is a ReadableStream, or an iterable of Uint8Arrays');
+  const iterator = iterate.call(source);
+  return { read: async () => iterator.next(), cancel: async () => (source.destroy ? source.destroy() : iterator.return?.()) };
+}
+
+// What a promise gives, or the reason of a signal that is aborted first.
+function unlessAborted(promise, signal) {
+  if (!signal) return promise;
+  return new Promise((resolve, reject) => {
+    const abort = () => reject(signal.reason);
+    signal.addEventListener('abort', abort, { once: true });
+    promise.then(resolve, reject).finally(() => signal.removeEventListener('abort', abort));
+  });
 }

@@ -7,3 +7,10 @@ export function bytesOf(data) {
   if (ArrayBuffer.isView(data)) return new Uint8Array(data.buffer, data.byteOffset, data.byteLength);
   return BUFFERS.includes(Object.prototype.toString.call(data)) ? new Uint8Array(data) : undefined;
 }
+
+/** The same bytes, or an error for anything else. */
+export function bytesIn(data) {
+  const bytes = bytesOf(data);
+  if (bytes === undefined) throw new TypeError('The bytes of an image are an ArrayBuffer, or a view of one as a Uint8Array');
+  return bytes;
+}

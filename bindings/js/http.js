@@ -3,6 +3,25 @@
 import { Body } from './body.js';
 import { ImageError } from './errors.js';
 
+// The body of a response. If it breaks off, the error says how many bytes came.
+class ResponseBody extends Body {
+  #signal;
+
+  constructor(source, signal) {
+    super(source, { signal });
+    this.#signal = signal;
+  }
+
+  async* [Symbol.asyncIterator]() {
+    try {
+      yield* super[Symbol.asyncIterator]();
+    } catch (cause) {
+      this.#signal?.throwIfAborted();
+      throw cause instanceof ImageError ? cause : this.cutShort(this.length, cause);
+    }
+  }
+}
+
 /** The input at an address. */
 export class Remote {
   /** The length of the input in bytes, or `Infinity` while it is not known. */
@@ -19,10 +38,10 @@ export class Remote {
     this.#signal = signal;
   }
 
-  /** The bytes of a block, as many as the input has there. If the server gives no ranges, it sets `whole` instead. */
+  /** The bytes of a block, as many as the input has there. If the server gives no ranges, it is null, and sets `whole`. */
   async read({ start, end }) {
     const response = await this.#fetched(`bytes=${start}-${end - 1}`);
-    const body = new Body(response, this.#signal);
+    const body = new ResponseBody(response.body ?? [], this.#signal);
     try {
       if (response.status === 200 && this.#version === undefined) return this.#beginWhole(response, body);
       const range = rangeOf(response, start);
@@ -56,6 +75,7 @@ export class Remote {
     if (response.type !== 'cors' && /^\d{1,15}$/.test(length)) body.expected = Number(length);
     this.total = body.expected;
     this.whole = body;
+    return null;
   }
 
   // Each response has the same version of the input, as far as the server distinguishes them. If the first request was
@@ -92,8 +112,10 @@ function checkEncoding({ headers }) {
 
 // The bytes of a range. The body has more of them if the response hides that it is compressed.
 async function rangeIn(body, wanted) {
-  body.reserve(wanted + 1);
-  await body.readTo(wanted + 1);
-  if (body.length > wanted) throw new ImageError('WRONG_RANGE', 'The server gives more bytes than its range has');
-  return body.bytes;
+  const bytes = new Uint8Array(wanted);
+  for await (const chunk of body) {
+    if (body.length > wanted) throw new ImageError('WRONG_RANGE', 'The server gives more bytes than its range has');
+    bytes.set(chunk, body.length - chunk.length);
+  }
+  return bytes;
 }

@@ -37,11 +37,11 @@ export interface Piece {
   bytes: Uint8Array;
 }
 
-/** What a probe in blocks or ranges has read. */
+/** What a probe in blocks, ranges or chunks has read. */
 export interface Reads {
-  /** The length of the input in bytes. It is `Infinity` if a server without ranges has not sent it. */
+  /** The length of the input in bytes. It is `Infinity` as long as the length of a stream is not known. */
   total: number;
-  /** How many slices, blocks or ranges were read. */
+  /** How many slices, blocks or ranges were read. A stream counts as one. */
   reads: number;
   /** How many bytes were read in all. */
   bytesRead: number;
@@ -55,11 +55,20 @@ export interface Reads {
 export interface Options {
   /** Ends the probe with the signal's reason. Without one, the probe waits for a server that stalls. */
   signal?: AbortSignal;
-  /** How many bytes may be read. The default is 1 MiB from a server, and 64 MiB of a file or blob. */
+  /** How many bytes may be read. The default is 1 MiB from a server, and 64 MiB of a file, a blob or a stream. */
   maxBytes?: number;
-  /** Whether the bytes that the result depends on are returned, also in an `ImageError`. */
+  /** Whether the bytes that the result depends on are returned, also in an `ImageError`. All chunks of a stream are then stored. */
   trace?: boolean;
 }
+
+/** What is known about a stream before its first byte. */
+export interface StreamLength {
+  /** The length of the input in bytes. The default is `Infinity`: not known. Bytes past that length do not count. */
+  total?: number;
+}
+
+/** A stream of bytes: `Response.body`, `Blob.stream()`, a `Readable` of Node, or an iterable of chunks. */
+export type Chunks = ReadableStream<Uint8Array> | AsyncIterable<Uint8Array> | Iterable<Uint8Array>;
 
 /**
  * Loads the library, once: later calls wait for the first. Await it before any other call. In Node it is not needed, since the
@@ -119,6 +128,57 @@ export function probeUrl(url: string | URL, options?: Options): Promise<Image & 
  * @throws {Error} the error of the system, such as `ENOENT`
  */
 export function probeFile(path: string | URL, options?: Options): Promise<Image & Reads>;
+
+/**
+ * Returns type and size of the image in a stream. Each chunk is passed to the library once, and then forgotten. The stream is
+ * cancelled as soon as there is a result, an error or an abort: a reader by `cancel()`, an iterator by `return()`, and a stream of
+ * Node by `destroy()`.
+ *
+ * @throws {ImageError} as `probe`; `'CUT_SHORT'` if the stream ends before `total` bytes, `'LIMIT_REACHED'`
+ * @throws {RangeError} if `total` or `maxBytes` is no whole number of bytes
+ * @throws {TypeError} if the argument is no stream, if it is locked, or if a chunk is not bytes
+ * @throws the stream's own error
+ * @example
+ * await probeStream(response.body) // { kind: 'Gif', compression: null, width: 100, height: 50, total: Infinity, .. }
+ */
+export function probeStream(stream: Chunks, options?: Options & StreamLength): Promise<Image & Reads>;
+
+/**
+ * A probe of bytes that come in chunks of any length, for a caller that passes them on too. It has 1.3 kB of state, keeps no chunk,
+ * and needs no release.
+ *
+ * @example
+ * const probe = new StreamProbe();
+ * for await (const chunk of chunks) {
+ *   const image = probe.feed(chunk); // null until the size is known
+ *   if (image && image.width * image.height > 50_000_000) return refuse(image);
+ *   file.write(chunk);
+ * }
+ * probe.close();
+ */
+export class StreamProbe {
+  /**
+   * @throws {RangeError} if `total` is no whole number of bytes
+   * @throws {ImageError} `'NOT_LOADED'` or `'NO_LIBRARY'`
+   */
+  constructor(options?: StreamLength);
+
+  /**
+   * Passes the next bytes. Returns null as long as more bytes are needed, and type and size as soon as they depend on no later
+   * byte. From then on each call returns the same, or throws the same.
+   *
+   * @throws {ImageError} as `probe`, as soon as the error depends on no later byte
+   * @throws {TypeError} if the argument is not bytes; then nothing was passed
+   */
+  feed(chunk: ArrayBufferLike | ArrayBufferView): Image | null;
+
+  /**
+   * Ends the input, and returns what `probe` returns for the bytes that were passed.
+   *
+   * @throws {ImageError} as `probe`
+   */
+  close(): Image;
+}
 
 /** Why an image has no size. */
 export type RefusalCode =

@@ -1,12 +1,14 @@
 // The type of an image and its width and height in pixels, from a few bytes, with no pixel decoded.
 
-import { bytesOf } from './bytes.js';
+import { Body } from './body.js';
+import { bytesIn } from './bytes.js';
 import { ImageError } from './errors.js';
 import { Remote } from './http.js';
 import { init, library } from './load.js';
-import { Parts, firstBlock, nextBlock, nextEnd } from './parts.js';
+import { Parts, firstBlock, limitReached, nextBlock } from './parts.js';
+import { Stream, StreamProbe } from './stream.js';
 
-export { ImageError, init };
+export { ImageError, StreamProbe, init };
 
 const MEBIBYTE = 2 ** 20;
 const MOST_SPANS = 65536;
@@ -54,6 +56,12 @@ export async function probeUrl(url, options) {
   return probeSource(new Remote(url, options?.signal), MEBIBYTE, options);
 }
 
+/** Type and size of the image in a stream. It is read up to the result, and then cancelled. */
+export async function probeStream(stream, { total = Infinity, ...options } = {}) {
+  const whole = new Body(stream, { expected: total, signal: options.signal });
+  return probeSource({ total, whole, read: () => null }, 64 * MEBIBYTE, options);
+}
+
 // The bytes of a block, or those that are left of the file.
 async function readBlock(file, { start, end }) {
   const buffer = new Uint8Array(end - start);
@@ -64,27 +72,30 @@ async function readBlock(file, { start, end }) {
   return buffer.subarray(0, length);
 }
 
-// Type and size of the image in a source: its `read` gives the bytes of a block, and its `total` is known after the first block.
+// Type and size of the image in a source. Its `read` gives the bytes of a block, and its `total` is known after the first block.
+// If it gives null, the source is a stream, `whole`.
 async function probeSource(source, most, { signal, maxBytes = most, trace = false } = {}) {
-  library();
   const parts = new Parts();
-  const read = () => ({ total: source.total, reads: parts.pieces.length, bytesRead: parts.length });
+  const read = () => ({ total: source.total, reads: source.whole ? 1 : parts.pieces.length, bytesRead: parts.length });
   try {
-    const { image, error } = await answerOf(source, parts, maxBytes, signal);
-    const traced = trace ? { trace: await traceOf(parts, source.total) } : {};
+    library();
+    const { image, error } = await answerOf(source, parts, { signal, maxBytes, trace });
+    const traced = trace ? { trace: await traceOf(source, parts) } : {};
     if (error) throw Object.assign(error, traced);
     return { ...image, ...read(), ...traced };
   } catch (error) {
     throw error instanceof ImageError ? Object.assign(error, read()) : error;
+  } finally {
+    source.whole?.leave();
   }
 }
 
-async function answerOf(source, parts, maxBytes, signal) {
+async function answerOf(source, parts, { signal, maxBytes, trace }) {
   let block = firstBlock(maxBytes);
   for (;;) {
     signal?.throwIfAborted();
     const bytes = await source.read(block);
-    if (source.whole) return answerOfWhole(source, parts, maxBytes);
+    if (bytes === null) return answerOfStream(source, parts, maxBytes, trace);
     const length = Math.min(block.end, source.total) - block.start;
     if (bytes.length !== length) throw new ImageError('CUT_SHORT', `${bytes.length} of ${length} bytes came`);
     parts.add(block.start, bytes);
@@ -94,26 +105,24 @@ async function answerOf(source, parts, maxBytes, signal) {
   }
 }
 
-// The result of an input that comes as a stream. While its length is not known, the probe gets the greatest length. Its result then
-// depends only on bytes that came, and holds for every input that begins with them.
-async function answerOfWhole(source, parts, maxBytes) {
-  const { whole } = source;
-  try {
-    for (let probes = 1, end = 1; ; probes += 1) {
-      await whole.readTo(end, maxBytes);
-      if (whole.ended) source.total = whole.length;
-      parts.become(whole.bytes);
-      const answer = library().probeParts(parts, Math.min(source.total, Number.MAX_SAFE_INTEGER));
-      if (!answer.wanted) return answer;
-      end = nextEnd(answer.wanted, source.total, parts, maxBytes, probes);
-    }
-  } finally {
-    whole.leave();
+// The result of a stream. Each chunk is passed once, and stored only for a trace.
+async function answerOfStream(source, parts, maxBytes, trace) {
+  const stream = new Stream(source.total);
+  for await (const chunk of source.whole) {
+    const bytes = chunk.subarray(0, maxBytes - parts.length);
+    if (trace) parts.add(parts.length, bytes.slice());
+    else parts.length += bytes.length;
+    const result = stream.push(bytes);
+    if (result) return result;
+    if (parts.length === maxBytes) throw limitReached(maxBytes);
   }
+  source.total = parts.length;
+  return stream.finish();
 }
 
 // The spans of a result with their bytes; null if there are too many, or too little memory for an input of this length.
-async function traceOf(parts, total) {
+async function traceOf({ whole, total }, parts) {
+  if (whole) parts.join();
   try {
     const found = await library().spansOfParts(parts, total < Infinity ? total : parts.length, MOST_SPANS);
     return found.map(({ start, len }) => ({ start, bytes: parts.slice(start, len) }));
@@ -121,10 +130,4 @@ async function traceOf(parts, total) {
     if (error instanceof RangeError || error.code === 'TOO_MANY_SPANS') return null;
     throw error;
   }
-}
-
-function bytesIn(data) {
-  const bytes = bytesOf(data);
-  if (bytes === undefined) throw new TypeError('The bytes of an image are an ArrayBuffer, or a view of one as a Uint8Array');
-  return bytes;
 }

@@ -23,11 +23,18 @@ const SPAN = 16;
 const AT = { type: 0, compression: 4, width: 8, height: 16, wanted: 24, count: 40, lent: 48 };
 const TEXT_ROOM = 256;
 
+// How many bytes the state of a push parser has, and the length of an input if it is not known.
+const STREAM_SIZE = 1280;
+const LENGTH_UNKNOWN = 0xffff_ffff_ffff_ffffn;
+
+/** How many bytes a push parser is passed at once, at most. */
+export const PIECE = 65536;
+
 const NO_NAMES = { kind: null, compression: null };
 
 // PNG among the numbers of types. The library has calls of its own for PNG, and no number.
 const PNG = 1000;
-const PNG_SIGNATURE = [0x89, 0x50, 0x4e, 0x47, 0x0d, 0x0a, 0x1a, 0x0a];
+export const PNG_SIGNATURE = [0x89, 0x50, 0x4e, 0x47, 0x0d, 0x0a, 0x1a, 0x0a];
 
 /** The library in a memory of its own, whose addresses have 32 or 64 bits. */
 export class Library {
@@ -47,14 +54,14 @@ export class Library {
     this.#memory = exports.memory;
     this.#base = Math.ceil(Number(exports.__heap_base.value) / SPAN) * SPAN;
     this.#answers = Object.fromEntries(Object.entries(AT).map(([name, at]) => [name, this.#pointer(at)]));
-    this.#lend(AT.lent + TEXT_ROOM);
+    this.#lend(AT.lent + STREAM_SIZE + PIECE);
   }
 
   /**
    * The result for the known parts of an input of `total` bytes: `{ wanted }`, a span that is needed, `{ image }` or `{ error }`.
    */
   probeParts(parts, total) {
-    return this.#probe(parts, total, beginsPng(parts.pieces));
+    return this.#probe(parts, total, beginsPng(parts.pieces[0]?.bytes));
   }
 
   #probe({ pieces, length }, total, isPng) {
@@ -71,10 +78,34 @@ export class Library {
     return status === BYTES_WANTED ? { wanted: this.#span(AT.wanted) } : this.#told(status);
   }
 
+  /** The state of a push parser at the beginning of an input of `total` bytes, or of `Infinity` if that is not known. */
+  streamOf(total) {
+    this.#calls.imagesize_stream_new(this.#pointer(AT.lent), total < Infinity ? BigInt(total) : LENGTH_UNKNOWN);
+    return this.#state.slice();
+  }
+
+  /**
+   * Passes the next bytes, at most `PIECE`, to a push parser, whose state changes. Returns `{ image }` or `{ error }`, or null if more
+   * bytes are needed.
+   */
+  push(state, bytes) {
+    this.#putPieces(AT.lent, [{ bytes: state }, { bytes }]);
+    const passed = [this.#pointer(AT.lent + STREAM_SIZE), BigInt(bytes.length)];
+    const status = this.#parse(this.#calls.imagesize_stream_push, ...passed);
+    state.set(this.#state);
+    return status === BYTES_WANTED ? null : this.#told(status);
+  }
+
+  /** Ends the input of a push parser, whose state is then of no more use. */
+  finish(state) {
+    this.#putPieces(AT.lent, [{ bytes: state }]);
+    return this.#told(this.#parse(this.#calls.imagesize_stream_finish));
+  }
+
   /** The spans that type and size of these bytes depend on, if there are at most so many. */
   spans(bytes, most) {
-    const pieces = [{ start: 0, bytes }];
-    return beginsPng(pieces) ? this.#spansOfPng(bytes, bytes.length, most) : this.#spansOf(pieces, bytes.length, most);
+    if (beginsPng(bytes)) return this.#spansOfPng(bytes, bytes.length, most);
+    return this.#spansOf([{ start: 0, bytes }], bytes.length, most);
   }
 
   /**
@@ -82,7 +113,7 @@ export class Library {
    * memory of its own, and the engine allocates only the pages that are written.
    */
   async spansOfParts(parts, total, most) {
-    if (beginsPng(parts.pieces)) return this.#spansOfPng(parts.pieces[0].bytes, total, most);
+    if (beginsPng(parts.pieces[0]?.bytes)) return this.#spansOfPng(parts.pieces[0].bytes, total, most);
     const apart = new Library(this.#module, await WebAssembly.instantiate(this.#module));
     return apart.#spansOf(parts.pieces, total, most);
   }
@@ -111,6 +142,18 @@ export class Library {
     }
     checkCount(spans.length, most);
     return spans;
+  }
+
+  // A call of the push parser whose state is in the memory.
+  #parse(call, ...passed) {
+    this.#putNumber(AT.type, 0);
+    const { type, compression, width, height } = this.#answers;
+    return call(this.#pointer(AT.lent), ...passed, type, compression, width, height);
+  }
+
+  get #state() {
+    const start = this.#base + AT.lent;
+    return this.#bytes.subarray(start, start + STREAM_SIZE);
   }
 
   #tellSpans(length, room, count) {
@@ -204,9 +247,9 @@ export class Library {
   }
 }
 
-// Whether the first piece, which begins an input, begins with the signature of PNG.
-function beginsPng([first]) {
-  return first !== undefined && PNG_SIGNATURE.every((byte, index) => first.bytes[index] === byte);
+/** Whether an input that begins with these bytes is a PNG. */
+export function beginsPng(bytes) {
+  return PNG_SIGNATURE.every((byte, index) => bytes?.[index] === byte);
 }
 
 function checkCount(count, most) {
@@ -218,7 +261,7 @@ function grow(memory, pages) {
   try {
     memory.grow(BigInt(pages));
   } catch (error) {
-    if (!(error instanceof TypeError)) throw error;
+    if (error.name !== 'TypeError') throw error; // Another realm has a TypeError of its own.
     memory.grow(Math.min(pages, 2 ** 32 - 1));
   }
 }

@@ -8,9 +8,6 @@ const BLOCK = 4096;
 // After so many each block is twice as long as the one before, so that an input of any length is read in a few more.
 const SINGLE_BLOCKS = 16;
 
-// A stream is probed so many times as soon as the requested bytes are there, and then more rarely.
-const SINGLE_PROBES = 64;
-
 /** The parts of an input that are known. */
 export class Parts {
   /** A piece of the input for each read, and how many bytes they have together. */
@@ -22,10 +19,9 @@ export class Parts {
     this.length += bytes.length;
   }
 
-  /** Replaces what is known by these bytes from the beginning of the input. */
-  become(bytes) {
-    this.pieces = [{ start: 0, bytes }];
-    this.length = bytes.length;
+  /** Makes one piece of those that follow one another from the beginning. */
+  join() {
+    this.pieces = [{ start: 0, bytes: this.slice(0, this.length) }];
   }
 
   /** The bytes of a span that is known. */
@@ -61,17 +57,7 @@ export function nextBlock(wanted, total, parts, most) {
   return { start, end };
 }
 
-/**
- * How many bytes of a stream must be there before the next probe: all up to the end of the requested span. After many probes it is
- * also twice as many as are there, so that all probes together cost a few times as much as the last one.
- */
-export function nextEnd(wanted, total, parts, most, probes) {
-  const within = total < Infinity ? wanted.start < most : parts.length < most;
-  if (!within) throw limitReached(most);
-  const end = wanted.start + wanted.len;
-  return Math.min(probes < SINGLE_PROBES ? end : Math.max(end, 2 * parts.length), most);
-}
-
-function limitReached(most) {
+/** The error of an input that has no result within the bytes that may be read. */
+export function limitReached(most) {
   return new ImageError('LIMIT_REACHED', `There is no answer within ${most} bytes`);
 }

@@ -1,4 +1,5 @@
-"""Microseconds and bytes read a file: `probe` beside Debian's python3-pil and python3-imagesize, in one run.
+"""Microseconds and bytes read a file: `probe` beside Debian's python3-pil and python3-imagesize, in one run. Of the package and of
+PIL there is also a row for a file that is read in chunks of 4096 bytes, as a stream is.
 
     /usr/bin/python3 bench.py [FOLDER_OF_IMAGES]
 
@@ -23,6 +24,7 @@ from typing import Any, Callable, Dict, List, Optional, Tuple
 HERE = pathlib.Path(__file__).resolve().parent
 ARCHIVES = pathlib.Path("/usr/share/games/openarena/baseoa")
 TURNS = 30
+CHUNK = 4096
 
 Finder = Callable[[str], Tuple[int, int]]
 
@@ -30,7 +32,7 @@ Finder = Callable[[str], Tuple[int, int]]
 def finders() -> Dict[str, Finder]:
     """The tools, each a call that finds the size of the image at a path. The package's folder comes after Debian's."""
     import imagesize  # type: ignore[import]
-    from PIL import Image  # type: ignore[import]
+    from PIL import Image, ImageFile  # type: ignore[import]
 
     sys.path.append(str(HERE))
     import imagesize_proved
@@ -39,8 +41,22 @@ def finders() -> Dict[str, Finder]:
         with Image.open(path) as image:
             return image.size
 
+    def by_parser(path: str) -> Any:
+        parser = ImageFile.Parser()
+        with open(path, "rb", buffering=0) as file:
+            for chunk in iter(lambda: file.read(CHUNK), b""):
+                parser.feed(chunk)
+                if parser.image:
+                    return parser.image.size
+        return parser.close().size
+
+    def by_chunks(path: str) -> Any:
+        with open(path, "rb", buffering=0) as file:
+            return imagesize_proved.probe(iter(lambda: file.read(CHUNK), b"")).size
+
     Image.init()
-    return {"imagesize_proved": lambda path: imagesize_proved.probe(path).size, "imagesize": imagesize.get, "PIL": by_pil}
+    return {"imagesize_proved": lambda path: imagesize_proved.probe(path).size, "imagesize": imagesize.get, "PIL": by_pil,
+            "imagesize_proved in chunks": by_chunks, "PIL in chunks": by_parser}
 
 
 def size_by(find: Finder, path: str) -> Optional[Tuple[int, int]]:

@@ -3,6 +3,8 @@
 
     count.py FOLDER [TABLE]
 
+A second row has the cost of `imagesize::stream_size`, which cannot seek.
+
 System calls want strace, and are those from the opening of the file to its closing. Instructions want valgrind; a column of a tool
 that is not there is `-`. TABLE has lines of three words, split by tabs: a file's name, and the reads and seeks that another program
 makes. With its opening and closing these are its calls; the script then ends with 1 where ours are more by two on any file.
@@ -27,9 +29,9 @@ def program():
     return next(m["executable"] for m in messages if m.get("executable"))
 
 
-def system_calls(size, file):
+def system_calls(size, file, *how):
     """How many calls one `size` makes, and how many bytes they give it."""
-    traced = subprocess.run(["strace", size, "1", file], check=True, capture_output=True, text=True).stderr.splitlines()
+    traced = subprocess.run(["strace", size, "1", file, *how], check=True, capture_output=True, text=True).stderr.splitlines()
     first = next(i for i, line in enumerate(traced) if line.startswith("openat(") and f'"{file}"' in line)
     last = next(i for i, line in enumerate(traced) if i > first and line.startswith("close("))
     lines = [line for line in traced[first : last + 1] if not line.startswith(("brk(", "mmap(", "munmap(", "mremap("))]
@@ -37,11 +39,21 @@ def system_calls(size, file):
     return len(lines), sum(given)
 
 
-def instructions(size, file, calls):
+def instructions(size, calls, file, *how):
     """How many instructions the program needs for so many calls."""
-    command = ["valgrind", "--tool=callgrind", "--callgrind-out-file=/dev/null", size, str(calls), file]
+    command = ["valgrind", "--tool=callgrind", "--callgrind-out-file=/dev/null", size, str(calls), file, *how]
     counted = subprocess.run(command, check=True, capture_output=True, text=True).stderr
     return int(re.search(r"refs:\s*([\d,]+)", counted)[1].replace(",", ""))
+
+
+def row(name, beside, size, *command):
+    """Prints the row of a file, and returns its system calls."""
+    calls, given = system_calls(size, *command) if shutil.which("strace") else ("-", "-")
+    cost = "-"
+    if shutil.which("valgrind"):
+        cost = (instructions(size, 2 * CALLS, *command) - instructions(size, CALLS, *command)) // CALLS
+    print(f"{name:<24}{calls:>7}{beside:>8}{given:>10}{cost:>14}", flush=True)
+    return calls
 
 
 def main(folder, table=None):
@@ -51,13 +63,10 @@ def main(folder, table=None):
     more = 0
     print(f"{'file':<24}{'calls':>7}{'beside':>8}{'bytes':>10}{'instructions':>14}")
     for file in sorted(path for path in pathlib.Path(folder).iterdir() if path.is_file()):
-        calls, given = system_calls(size, str(file)) if shutil.which("strace") else ("-", "-")
-        cost = "-"
-        if shutil.which("valgrind"):
-            cost = (instructions(size, str(file), 2 * CALLS) - instructions(size, str(file), CALLS)) // CALLS
         beside = others.get(file.name, "-")
+        calls = row(file.name, beside, size, str(file))
+        row("  as a stream", "-", size, str(file), "stream")
         more += calls != "-" and beside != "-" and calls > beside + 1
-        print(f"{file.name:<24}{calls:>7}{beside:>8}{given:>10}{cost:>14}", flush=True)
     return more > 0
 
 

@@ -1,8 +1,13 @@
 // Results as people read them.
 
-const TYPES = { Jpeg: 'JPEG', Gif: 'GIF', Tiff: 'TIFF', Webp: 'WebP', Jxl: 'JPEG XL', Bmp: 'BMP', Psd: 'PSD', Ico: 'ICO', Astc: 'ASTC',
-  Atc: 'ATC', Pvrtc: 'PVR', Eac: 'EAC', Etc2: 'ETC2', Exr: 'OpenEXR', Hdr: 'Radiance HDR', Dds: 'DDS', Ktx2: 'KTX 2', Qoi: 'QOI',
-  Farbfeld: 'farbfeld', Pnm: 'PNM', Vtf: 'VTF', Ilbm: 'ILBM', Tga: 'TGA', Heif: 'HEIF', Png: 'PNG' };
+const TYPES = {
+  // by bindings/lists.py: types
+  Aseprite: 'Aseprite', Astc: 'ASTC', Atc: 'ATC', Bmp: 'BMP', Dds: 'DDS', Eac: 'EAC', Etc2: 'ETC2', Exr: 'OpenEXR',
+  Farbfeld: 'Farbfeld', Gif: 'GIF', Hdr: 'HDR', Heif: 'HEIF', Ico: 'ICO', Ilbm: 'ILBM', Jpeg: 'JPEG', Jxl: 'JPEG XL',
+  Ktx2: 'KTX 2', Pnm: 'PNM', Pvrtc: 'PVR', Psd: 'PSD', Qoi: 'QOI', Tga: 'TGA', Tiff: 'TIFF', Vtf: 'VTF', Webp: 'WebP',
+  // end of the list
+  Png: 'PNG',
+};
 const BRANDS = { Av1: 'AVIF', Hevc: 'HEIC' };
 
 /** Why an image has no size, by the code of the error. */

@@ -11,8 +11,8 @@ import { fileURLToPath } from 'node:url';
 import { Worker } from 'node:worker_threads';
 import { ImageError, probe, probeBlob, probeFile, spans } from '../imagesize.js';
 import { Library } from '../library.js';
-import { firstBlock, nextBlock, nextEnd } from '../parts.js';
-import { iconOf, jpegBehind, tiffBehind } from './support.js';
+import { firstBlock, nextBlock } from '../parts.js';
+import { iconOf, jpegBehind, tiffBehind, withGrow } from './support.js';
 
 const gif = new TextEncoder().encode('GIF89ad\0\x32\0\0\0');
 const isGif = (image) => assert.deepEqual(image, { kind: 'Gif', compression: null, width: 100, height: 50 });
@@ -30,18 +30,6 @@ function refused(call, code) {
     return error;
   }
   return assert.fail('nothing was thrown');
-}
-
-// Runs `use` while memory grows as `grow` says.
-function withGrow(grow, use) {
-  const { prototype } = WebAssembly.Memory;
-  const before = prototype.grow;
-  prototype.grow = function (pages) { return grow(this, before, pages); };
-  try {
-    return use();
-  } finally {
-    prototype.grow = before;
-  }
 }
 
 test('bytes in every form', () => {
@@ -112,15 +100,8 @@ test('which bytes are read next', () => {
   assert.throws(() => next(far, Infinity, known(1, 4096), 4096 + 576), { code: 'LIMIT_REACHED' });
 });
 
-test('how far a stream is read', () => {
-  const far = { start: 1000, len: 8 };
-  const end = (length, most, probes, total = 5000) => nextEnd(far, total, { length }, most, probes);
-  assert.deepEqual([end(900, 9000, 63), end(900, 9000, 64), end(100, 9000, 64), end(900, 1500, 64)], [1008, 1800, 1008, 1500]);
-  assert.equal(end(900, 1001, 1), 1001);
-  assert.equal(end(999, 1000, 1, Infinity), 1000);
-  assert.throws(() => end(900, 1000, 1), { code: 'LIMIT_REACHED' });
-  assert.throws(() => end(1000, 1000, 1, Infinity), { code: 'LIMIT_REACHED' });
-});
+const header = readFileSync(new URL('../../../include/imagesize.h', import.meta.url), 'utf8');
+const STREAM_SIZE = Number(/^#define IMAGESIZE_STREAM_SIZE (\d+)/m.exec(header)[1]);
 
 // The buffers that a call of the library is passed: where each begins, how many bytes it has, and how it is aligned.
 const BUFFERS = {
@@ -128,6 +109,13 @@ const BUFFERS = {
     [bytes, length, 1], [parts, 16 * count, 8], [type, 4, 4], [compression, 4, 4], [width, 8, 8], [height, 8, 8], [wanted, 16, 8],
   ],
   imagesize_spans: ([bytes, length, found, room, count]) => [[bytes, length, 1], [found, 16 * room, 8], [count, 8, 8]],
+  imagesize_stream_new: ([stream]) => [[stream, STREAM_SIZE, 8]],
+  imagesize_stream_push: ([stream, bytes, length, type, compression, width, height]) => [
+    [stream, STREAM_SIZE, 8], [bytes, length, 1], [type, 4, 4], [compression, 4, 4], [width, 8, 8], [height, 8, 8],
+  ],
+  imagesize_stream_finish: ([stream, type, compression, width, height]) => [
+    [stream, STREAM_SIZE, 8], [type, 4, 4], [compression, 4, 4], [width, 8, 8], [height, 8, 8],
+  ],
 };
 
 test('what the library is passed is aligned, apart, and within its memory', () => {
@@ -149,6 +137,12 @@ test('what the library is passed is aligned, apart, and within its memory', () =
   assert.deepEqual(passed[0].filter((_, index) => [1, 3, 4].includes(index)), [15, 2, 40]);
   assert.equal(library.spans(gif, 3).length, 3);
   assert.deepEqual(passed.slice(1).map(([, length, , room]) => [length, room]), [[12, 0], [12, 3]]);
+  const state = library.streamOf(Infinity);
+  assert.equal(state.length, STREAM_SIZE);
+  assert.equal(library.push(state, gif.subarray(0, 5)), null);
+  isGif(library.push(state, gif.subarray(5)).image);
+  isGif(library.finish(state).image);
+  assert.deepEqual(passed.splice(3).map(([, , length]) => length).slice(1, 3), [5, 7]);
   // These bytes reach to the end of the memory.
   const full = new Uint8Array(exports.memory.buffer.byteLength - passed[1][0]);
   full.set(gif);
@@ -289,7 +283,6 @@ test('each worker has a library of its own', async () => {
 
 test('the codes are those of the header, and the declarations have them', async () => {
   const { STATUSES } = await import('../library.js');
-  const header = readFileSync(new URL('../../../include/imagesize.h', import.meta.url), 'utf8');
   const [, listed] = /enum imagesize_status \{(.*?)\};/s.exec(header);
   for (const [, name, number] of listed.matchAll(/IMAGESIZE_(\w+) = (\d+)/g)) assert.equal(STATUSES[number], name);
   const declared = readFileSync(fileURLToPath(new URL('../imagesize.d.ts', import.meta.url)), 'utf8');

@@ -1,14 +1,15 @@
 // What the module costs: node bindings/js/tests/measure.js [FILE..]
 //
-// It prints microseconds a call of `probe` over the bytes of each file, here and in Python; the bytes and requests of
-// `probeUrl` beside the whole input, from a server with ranges and from one without; and the size of what a page loads.
+// It prints microseconds a call of `probe` over the bytes of each file, here and in Python, and of a `StreamProbe` that gets them in
+// chunks; what many records cost in a stream; the bytes and requests of `probeUrl` beside the whole input, from a server with ranges
+// and from one without; and the size of what a page loads.
 
 import { spawnSync } from 'node:child_process';
 import { readFileSync, readdirSync } from 'node:fs';
 import { basename } from 'node:path';
 import { fileURLToPath } from 'node:url';
 import { brotliCompressSync, gzipSync } from 'node:zlib';
-import { probe, probeUrl } from '../imagesize.js';
+import { StreamProbe, probe, probeStream, probeUrl } from '../imagesize.js';
 import { giveRange, jpegBehind, tiffBehind, withServer } from './support.js';
 
 const CALLS = 2000;
@@ -17,14 +18,21 @@ const ROUNDS = 20;
 const row = (name, ...numbers) => console.log(name.padEnd(48), ...numbers.map((number) => String(number).padStart(10)));
 
 // Microseconds a call, in the best of some rounds.
-function timed(call) {
+function timed(call, calls = CALLS) {
   let best = Infinity;
   for (let round = 0; round < ROUNDS; round += 1) {
     const begin = performance.now();
-    for (let index = 0; index < CALLS; index += 1) call();
+    for (let index = 0; index < calls; index += 1) call();
     best = Math.min(best, performance.now() - begin);
   }
-  return ((best * 1000) / CALLS).toFixed(2);
+  return ((best * 1000) / calls).toFixed(2);
+}
+
+// Passes some bytes to a stream in chunks of this length, up to the result.
+function feed(bytes, length) {
+  const stream = new StreamProbe();
+  for (let at = 0; at < bytes.length; at += length) if (stream.feed(bytes.subarray(at, at + length))) return;
+  stream.close();
 }
 
 const PYTHON = `
@@ -49,13 +57,33 @@ function timedInPython(files) {
 }
 
 function measureCalls(files) {
-  row('microseconds a call', 'bytes', 'Node', 'Python');
+  row('microseconds a call', 'bytes', 'Node', 'Python', 'by 4 KiB', 'by 64 KiB');
   const inPython = timedInPython(files);
   files.forEach((file, index) => {
     const bytes = readFileSync(file);
-    const call = () => { try { probe(bytes); } catch { /* an error costs too */ } };
-    row(basename(file), bytes.length, timed(call), inPython[index]);
+    const timedAlso = (call) => timed(() => { try { call(); } catch { /* an error costs too */ } });
+    const inChunks = [4096, 65536].map((length) => timedAlso(() => feed(bytes, length)));
+    row(basename(file), bytes.length, timedAlso(() => probe(bytes)), inPython[index], ...inChunks);
   });
+}
+
+// Inputs whose size comes late, in chunks of 64 KiB; and what one call takes that needs more bytes.
+async function measureStreams() {
+  row('\nmicroseconds a stream', 'bytes', 'feed', 'probeStream', 'probe');
+  const inputs = { 'TIFF, its directory behind 50 MB': tiffBehind(50_000_000) };
+  for (const length of [4, 1000]) {
+    for (const count of [100, 1000, 10_000]) inputs[`JPEG, ${count} segments of ${length} bytes`] = jpegBehind(count, length);
+  }
+  for (const [name, bytes] of Object.entries(inputs)) {
+    const chunks = Array.from({ length: Math.ceil(bytes.length / 65536) }, (_, at) => bytes.subarray(at * 65536, (at + 1) * 65536));
+    const begin = performance.now();
+    await probeStream(chunks);
+    const inStream = ((performance.now() - begin) * 1000).toFixed(2);
+    row(name, bytes.length, timed(() => feed(bytes, 65536), 1), inStream, timed(() => probe(bytes), 1));
+  }
+  const stream = new StreamProbe();
+  stream.feed(Buffer.from('49492a00ffffffff', 'hex'));
+  for (const length of [0, 1, 4096, 65536]) row('a chunk that is passed by', length, timed(() => stream.feed(new Uint8Array(length))));
 }
 
 // An AVIF of 48x64 pixels with so many bytes of pixels.
@@ -102,5 +130,6 @@ function measureSizes() {
 }
 
 measureCalls(process.argv.slice(2));
+await measureStreams();
 await measureRanges();
 measureSizes();

@@ -50,9 +50,12 @@ const PRINTED = `const { kind, width, height } = probe(Buffer.from('${Buffer.fro
 test('import and require need no flag and no init, and give one module', () => {
   assert.equal(run('a.mjs', `import { probe } from 'imagesize-proved'; ${PRINTED}`), 'Gif 100 50');
   assert.equal(run('a.cjs', `const { probe } = require('imagesize-proved'); ${PRINTED}`), 'Gif 100 50');
-  const both = `const { ImageError, init } = require('imagesize-proved');
-    import('imagesize-proved').then((module) => console.log(module.ImageError === ImageError, module.init === init));`;
-  assert.equal(run('both.cjs', both), 'true true');
+  const both = `const required = require('imagesize-proved');
+    import('imagesize-proved').then((module) => {
+      const names = Object.keys(required);
+      console.log(names.length, names.every((name) => module[name] === required[name]));
+    });`;
+  assert.equal(run('both.cjs', both), '9 true');
   assert.equal(run('wasm.cjs', `console.log(require.resolve('imagesize-proved/imagesize.wasm'))`), join(installed, 'out/imagesize.wasm'));
 });
 
@@ -137,13 +140,25 @@ test('types for import and for require', { skip: none('tsc') }, () => {
   const use = `const image: Image & Reads = await probeUrl('http://127.0.0.1/', { trace: true });
     const wide: number = image.width;
     await init(new Uint8Array(1)); await init(new URL('http://127.0.0.1/')); await init();
+    const stream = new StreamProbe({ total: 12 });
+    const sides: number[] = [stream.feed(new ArrayBuffer(6))?.width ?? 0, stream.close().height];
+    async function* chunks() { yield new Uint8Array(12); }
+    for (const source of [new Blob([]).stream(), chunks(), [new Uint8Array(12)]]) {
+      sides.push((await probeStream(source, { total: 12, maxBytes: 12, signal: new AbortController().signal })).bytesRead);
+    }
     const code: 'NOT_LOADED' | string = new Error() instanceof ImageError ? 'yes' : 'NOT_LOADED';
     // @ts-expect-error
     await init(null);
     // @ts-expect-error
     probe('bytes');
-    export const known = [wide, code, probe(new Uint8Array(12)).kind === 'Gif'];`;
-  const names = `import { ImageError, init, probe, probeUrl, type Image, type Reads } from 'imagesize-proved';`;
+    // @ts-expect-error
+    stream.feed(null);
+    // @ts-expect-error
+    await probeStream(new Uint8Array(12));
+    // @ts-expect-error
+    stream.feed(new Uint8Array(12)).width;
+    export const known = [...sides, wide, code, probe(new Uint8Array(12)).kind === 'Gif'];`;
+  const names = `import { ImageError, StreamProbe, init, probe, probeStream, probeUrl, type Image, type Reads } from 'imagesize-proved';`;
   writeFileSync(join(folder, 'use.mts'), `${names}\n${use}`);
   const required = use.replace('export const known =', 'return');
   writeFileSync(join(folder, 'use.cts'), `${names}\nexport async function use() {\n${required}\n}`);

@@ -64,6 +64,18 @@ export function giveRange(request, response, bytes, headers = {}) {
   return response.end(bytes.subarray(first, end));
 }
 
+/** Runs `use` while memory grows as `grow` says. */
+export function withGrow(grow, use) {
+  const { prototype } = WebAssembly.Memory;
+  const before = prototype.grow;
+  prototype.grow = function (pages) { return grow(this, before, pages); };
+  try {
+    return use();
+  } finally {
+    prototype.grow = before;
+  }
+}
+
 /** Runs `use` while each fetch gives these bytes whole, in pieces of some length, with these headers and of this type. */
 export async function withPieces(bytes, length, { headers = {}, type = 'default' }, use) {
   const before = globalThis.fetch;

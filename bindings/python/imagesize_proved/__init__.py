@@ -6,11 +6,13 @@ The calls are those of the library that is proved, `include/imagesize.h`, as Pyt
     >>> imagesize_proved.probe("photo.gif").size
     Size(width=640, height=480)
 
-An image is bytes, a path, or an open binary file; `probe_with` and `probe_async` take a function that gives some of its bytes.
+An image is bytes, a path, an open binary file, or an iterable of chunks. `probe_with` and `probe_async` take a function that gives
+some of its bytes. A `StreamProbe` is fed with chunks as they come.
 `python -m imagesize_proved PATH..` prints type and size of files.
 """
 
 from ._calls import image_type, probe, probe_async, probe_with, size, spans
+from ._stream import StreamProbe
 from ._types import (
     Compression,
     Family,
@@ -36,6 +38,7 @@ __all__ = [
     "Size",
     "Span",
     "Status",
+    "StreamProbe",
     "__version__",
     "image_type",
     "probe",

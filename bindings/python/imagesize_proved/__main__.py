@@ -1,17 +1,19 @@
 """Prints type and size of image files: `python -m imagesize_proved [--recursive] [--json] [--spans] PATH..`
 
-A line for each file has its type, its size and its path, and after the path the error where there is no size.
+A line for each file has its type, its size and its path, and after the path the error where there is no size. The path `-` is
+standard input, which is read once where it cannot seek.
 """
 
 from __future__ import annotations
 
 import argparse
+import io
 import json
 import os
 import shutil
 import sys
 import time
-from typing import Any, Dict, Iterator, List, Optional, Sequence, TextIO
+from typing import Any, Dict, Iterator, List, Optional, Sequence, TextIO, Union
 
 from . import ImageError, Status, __version__, probe, spans
 
@@ -36,7 +38,7 @@ def main(arguments: Optional[Sequence[str]] = None) -> int:
 def parser() -> argparse.ArgumentParser:
     """The options. Without a path the status is 2."""
     asked = argparse.ArgumentParser("imagesize-proved", description="Prints type and size in pixels of image files.")
-    asked.add_argument("paths", nargs="+", metavar="PATH", help="a file, or a folder with --recursive")
+    asked.add_argument("paths", nargs="+", metavar="PATH", help="a file, - for standard input, or a folder with --recursive")
     asked.add_argument("--recursive", action="store_true", help="read all files below folders")
     asked.add_argument("--json", action="store_true", help="print a JSON array with an object for each file")
     asked.add_argument("--spans", action="store_true", help="print the bytes that each result depends on")
@@ -47,7 +49,7 @@ def parser() -> argparse.ArgumentParser:
 def files(paths: Sequence[str], recursive: bool) -> Iterator[str]:
     """The paths. Each folder is replaced by all files below it, sorted by name. Links to folders are not followed."""
     for path in paths:
-        if recursive and os.path.isdir(path):
+        if recursive and path != "-" and os.path.isdir(path):
             yield from below(path)
         else:
             yield path
@@ -82,7 +84,7 @@ def row_of(path: str, with_spans: bool) -> Row:
     row: Row = dict.fromkeys(("path", "type", "compression", "mime_type", "width", "height", "status", "error"))
     row["path"], found = path, None
     try:
-        found, (row["width"], row["height"]) = probe(path)
+        found, (row["width"], row["height"]) = probe(input_at(path))
     except ImageError as error:
         found, row["status"], row["error"] = error.image_type, error.status.name, error.message
     except OSError as error:
@@ -96,10 +98,15 @@ def row_of(path: str, with_spans: bool) -> Row:
     return row
 
 
+def input_at(path: str) -> Union[str, io.FileIO]:
+    """The path, or standard input, which stays open."""
+    return io.FileIO(0, closefd=False) if path == "-" else path
+
+
 def spans_of(path: str) -> Optional[List[Sequence[int]]]:
-    """Start and length of the spans that a result depends on; None where they cannot be had."""
+    """Start and length of the spans that a result depends on; None where they cannot be had, as for an input that is read once."""
     try:
-        return list(spans(path))
+        return list(spans(input_at(path)))
     except (ImageError, OSError, EOFError):
         return None
 

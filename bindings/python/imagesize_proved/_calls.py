@@ -5,11 +5,12 @@ from __future__ import annotations
 import ctypes
 import os
 import sys
-from typing import TYPE_CHECKING, Awaitable, Callable, List, Optional, Protocol, Tuple, TypeVar, Union
+from typing import TYPE_CHECKING, Any, Awaitable, Callable, List, Optional, Protocol, Tuple, TypeVar, Union, overload
 
 from ._library import PNG, Told, png_spans, probe_front, probe_two, probe_whole, spans_of, type_of
-from ._parts import BLOCK, BUDGET, SPENT, WANTED, BytesLike, Parts, blocks, checked, first_block
-from ._types import ImageError, ImageType, Probed, Size, Span, Status, known_type
+from ._parts import BLOCK, BUDGET, SPENT, WANTED, BytesLike, Parts, blocks, bytes_in, checked, first_block
+from ._stream import AsyncChunks, Chunks, is_read_once, read_once, read_once_async
+from ._types import ImageError, ImageType, Probed, Size, Span, Status, filename, known_type, probed
 
 if TYPE_CHECKING:
     _Path = os.PathLike[str]
@@ -28,6 +29,7 @@ class BinaryFile(Protocol):
 
 
 Image = Union[BytesLike, str, _Path, BinaryFile]
+Input = Union[Image, Chunks]
 
 T = TypeVar("T")
 
@@ -37,8 +39,8 @@ LIMIT = 1 << 16
 _FLAGS = (os.O_RDONLY | os.O_NONBLOCK,)  # so that a pipe without a writer does not wait
 
 
-def probe(image: Image, *, budget: int = BUDGET) -> Probed:
-    """Type and size in pixels of the image in some bytes, in the file at a path, or in an open binary file that can seek.
+def probe(image: Input, *, budget: int = BUDGET) -> Probed:
+    """Type and size in pixels of the image in some bytes, at a path, in an open binary file, or in an iterable of chunks.
 
         >>> probe("photo.gif").size
         Size(width=640, height=480)
@@ -46,24 +48,28 @@ def probe(image: Image, *, budget: int = BUDGET) -> Probed:
     Of a file the blocks of 4096 bytes are read that the result depends on, and larger ones after the eighth. An open file is read
     from its first byte on, and left at the offset where it was. Bytes have to be those of the whole file.
 
+    Some files are read once, from their offset on, up to the block with the last byte that the result depends on. They are those
+    that cannot seek, such as a pipe, and those that decompress, such as a `gzip.GzipFile`. At most 4095 bytes after that byte are
+    read, and no byte is given back. Of chunks no more are fetched than are needed, and then a generator is closed.
+
     Raises `ImageError` if there is no type or no size: its `status` says why. It is `BUDGET_SPENT` if more than `budget` bytes of a
-    file would be read. Raises `ValueError` if `budget` is not a whole number of at least 1. A file that cannot be read raises its
-    `OSError`, and one that becomes shorter meanwhile `EOFError`.
+    file would be read, or if `budget` bytes of what is read once have no result. Raises `ValueError` if `budget` is not a whole
+    number of at least 1. A file that cannot be read raises its `OSError`, and one that becomes shorter meanwhile `EOFError`.
     """
     budget = checked(budget)
     if type(image) is str:
-        return _probed(_at(image, budget, _told_in), image)
+        return probed(_at(image, budget, _told_in), image)
     if type(image) is bytes:
-        return _probed(probe_whole(image))
-    return _probed(_told(image, budget), image)
+        return probed(probe_whole(image))
+    return probed(_told(image, budget), image)
 
 
-def size(image: Image, *, budget: int = BUDGET) -> Size:
+def size(image: Input, *, budget: int = BUDGET) -> Size:
     """The size in pixels. Takes and raises what `probe` does."""
     return probe(image, budget=budget).size
 
 
-def image_type(image: Image, *, budget: int = BUDGET) -> ImageType:
+def image_type(image: Input, *, budget: int = BUDGET) -> ImageType:
     """The type, also of an image whose size is an error. Takes and raises what `probe` does.
 
     Of bytes only those are looked at that tell the type, so that the first twelve of a file are enough for most types.
@@ -71,7 +77,7 @@ def image_type(image: Image, *, budget: int = BUDGET) -> ImageType:
     budget = checked(budget)
     status, told = type_of(image) if type(image) is bytes else _told(image, budget)
     if not told[0]:
-        raise ImageError(status, None, _filename(image))
+        raise ImageError(status, None, filename(image))
     return known_type(told[0], told[1])
 
 
@@ -89,22 +95,34 @@ def probe_with(fetch: Callable[[int, int], BytesLike], total: int, *, budget: in
     parts = Parts(fetch(0, first) if first else b"", total, budget)
     while parts.length:
         parts.add(fetch(parts.start, parts.length))
-    return _probed(parts.told)
+    return probed(parts.told)
 
 
-async def probe_async(
-    read: Callable[[int, int], Awaitable[BytesLike]], length: int, *, budget: int = BUDGET
-) -> Probed:
+@overload
+async def probe_async(read: Callable[[int, int], Awaitable[BytesLike]], length: int, *, budget: int = BUDGET) -> Probed: ...
+
+
+@overload
+async def probe_async(read: AsyncChunks, length: Optional[int] = None, *, budget: int = BUDGET) -> Probed: ...
+
+
+async def probe_async(read: Any, length: Any = None, *, budget: int = BUDGET) -> Probed:
     """Type and size of the image in an input of `length` bytes. The coroutine function `read(start, length)` returns some of them.
 
-    Errors and bounds are those of `probe_with`.
+        >>> await probe_async(request.stream())
+
+    Instead of a function it also takes an asynchronous iterable of chunks, or a file whose `read(size)` is a coroutine function,
+    such as an `asyncio.StreamReader`. These are read once, as by `probe`, and their `length` may be left out. Other errors and
+    bounds are those of `probe_with`.
     """
     budget = checked(budget)
+    if not callable(read):
+        return probed(await read_once_async(read, length, budget))
     first = first_block(length, budget)
     parts = Parts(await read(0, first) if first else b"", length, budget)
     while parts.length:
         parts.add(await read(parts.start, parts.length))
-    return _probed(parts.told)
+    return probed(parts.told)
 
 
 def spans(image: Image, *, limit: int = LIMIT, budget: int = BUDGET) -> List[Span]:
@@ -116,7 +134,7 @@ def spans(image: Image, *, limit: int = LIMIT, budget: int = BUDGET) -> List[Spa
     """
     status, told = _spans(image, limit, checked(budget))
     if status:
-        raise ImageError(status, None, _filename(image))
+        raise ImageError(status, None, filename(image))
     return list(map(Span, told[::2], told[1::2]))
 
 
@@ -140,29 +158,19 @@ def _within(limit: int, numbers: List[int]) -> Tuple[int, List[int]]:
     return (0, numbers) if len(numbers) <= 2 * limit else (Status.BUFFER_TOO_SMALL, [])
 
 
-def _probed(told: Told, image: object = None) -> Probed:
-    status, (number, compression, width, height, _, _) = told
-    if status:
-        raise ImageError(status, known_type(number, compression) if number else None, _filename(image))
-    return Probed(known_type(number, compression), Size(width, height))
-
-
-def _filename(image: object) -> Optional[str]:
-    name = os.fspath(image) if isinstance(image, (str, os.PathLike)) else getattr(image, "name", None)
-    return name if isinstance(name, str) else None
-
-
-def _told(image: Image, budget: int) -> Told:
+def _told(image: Input, budget: int) -> Told:
     if isinstance(image, (str, os.PathLike)):
         return _at(image, budget, _told_in)
-    return _parts(image, budget).told
+    if is_read_once(image):
+        return read_once(image, budget)  # type: ignore[arg-type]
+    return _parts(image, budget).told  # type: ignore[arg-type]
 
 
 def _parts(image: Image, budget: int) -> Parts:
     if isinstance(image, (str, os.PathLike)):
         return _at(image, budget, _parts_in)
     try:
-        view = memoryview(image)  # type: ignore[arg-type]
+        view = bytes_in(image)  # type: ignore[arg-type]
     except TypeError:
         return _parts_of_file(image, budget)  # type: ignore[arg-type]
     with view:
@@ -244,8 +252,6 @@ def _read(file: BinaryFile, start: int, length: int) -> bytes:
 
 
 def _parts_of_view(view: memoryview) -> Parts:
-    if view.ndim != 1 or view.itemsize != 1:
-        view = memoryview(bytes(view))
     parts = Parts(view[:BLOCK], view.nbytes, sys.maxsize)
     while parts.length:
         parts.add(view[parts.start : parts.start + parts.length])

@@ -25,6 +25,9 @@ PNG = 1000
 _WANTED = 30
 
 _SIGNATURE = b"\x89PNG\r\n\x1a\n"
+_PNG_FRONT = 24  # the size of a PNG depends on no byte after these
+
+_State = ctypes.c_uint64 * (1280 // 8)  # imagesize_stream of imagesize.h
 
 _CALLS = (
     "imagesize_type",
@@ -32,6 +35,9 @@ _CALLS = (
     "imagesize_probe_parts",
     "imagesize_spans",
     "imagesize_png_parts_size",
+    "imagesize_stream_new",
+    "imagesize_stream_push",
+    "imagesize_stream_finish",
     "imagesize_type_name",
     "imagesize_compression_name",
     "imagesize_container_format",
@@ -59,7 +65,11 @@ _probe = _LIBRARY.imagesize_probe
 _probe_parts = _LIBRARY.imagesize_probe_parts
 _spans = _LIBRARY.imagesize_spans
 _png = _LIBRARY.imagesize_png_parts_size
-_probe_few = ctypes.PyDLL(_LIBRARY._name).imagesize_probe_parts  # over two blocks it is over before another thread would run
+_stream_new = _LIBRARY.imagesize_stream_new
+_QUICK = ctypes.PyDLL(_LIBRARY._name)  # for calls over few bytes, which are over before another thread would run
+_probe_few = _QUICK.imagesize_probe_parts
+_stream_push = _QUICK.imagesize_stream_push
+_stream_finish = _QUICK.imagesize_stream_finish
 
 
 class _Room:
@@ -184,6 +194,45 @@ def png_spans(front: bytes, total: int) -> List[int]:
         spans.extend((start, length))
         status, told = _probe_png(known, spans, total)
     return list(spans)
+
+
+class Stream:
+    """A push parser for an input of `total` bytes. It looks for a PNG in the first bytes, which it keeps.
+
+    Each call copies the state and changes the copy, so that calls of two threads share none.
+    """
+
+    __slots__ = ("total", "front", "state")
+
+    def __init__(self, total: int) -> None:
+        self.total = total
+        self.front = b""
+        self.state = _State()
+        _stream_new(self.state, ctypes.c_uint64(total))
+
+    def push(self, data: bytes) -> Told:
+        """Passes the next bytes. The status is `BYTES_WANTED` if more are needed."""
+        state, room = _State.from_buffer_copy(self.state), _room(len(data), 0)
+        told = _stream_push(state, data, room.length, *room.told[:4]), room.read()
+        self.state = state
+        _ROOMS.append(room)
+        if len(self.front) < _PNG_FRONT:
+            self.front += data[: min(_PNG_FRONT, self.total) - len(self.front)]
+            if self.front.startswith(_SIGNATURE):
+                return self._png(self.total)
+        return told
+
+    def finish(self) -> Told:
+        """Type and size of the image in the bytes that were passed. No call before has returned them."""
+        if self.front.startswith(_SIGNATURE):
+            return self._png(len(self.front))
+        state, room = _State.from_buffer_copy(self.state), _room(0, 0)
+        told = _stream_finish(state, *room.told[:4]), room.read()
+        _ROOMS.append(room)
+        return told
+
+    def _png(self, total: int) -> Told:
+        return _probe_png(self.front, array("Q", (0, len(self.front))), total)
 
 
 def spans_of(data: Union[bytes, ctypes.c_char], length: int, limit: int) -> Tuple[int, List[int]]:

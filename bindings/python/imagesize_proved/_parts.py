@@ -24,6 +24,9 @@ BLOCK = 4096
 BUDGET = 64 << 20
 """The bytes that are fetched at most, where a call names no other number."""
 
+LONGEST = (1 << 63) - 1
+"""The length of the longest input."""
+
 WANTED = int(Status.BYTES_WANTED)
 
 SPENT: Told = (Status.BUDGET_SPENT, [0] * 6)
@@ -44,11 +47,22 @@ def checked(budget: int) -> int:
     return whole
 
 
+def checked_total(total: int) -> int:
+    """The length of an input. Raises `ValueError` where no input is as long."""
+    if not 0 <= total <= LONGEST:
+        raise ValueError(f"an input has from 0 to 2^63-1 bytes, and not {total}")
+    return total
+
+
 def first_block(total: int, budget: int) -> int:
     """The bytes in the first block of an input of `total` bytes. Raises `ValueError` where no input is as long."""
-    if not 0 <= total < 1 << 63:
-        raise ValueError(f"an input has from 0 to 2^63-1 bytes, and not {total}")
-    return min(total, BLOCK, budget)
+    return min(checked_total(total), BLOCK, budget)
+
+
+def bytes_in(data: BytesLike) -> memoryview:
+    """A view of an object's bytes, one by one. It is copied where it has rows or longer items."""
+    view = memoryview(data)
+    return view if view.ndim == 1 and view.itemsize == 1 else memoryview(bytes(view))
 
 
 def blocks(told: Told, total: int) -> Tuple[int, int]:

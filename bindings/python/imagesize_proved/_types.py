@@ -4,10 +4,11 @@ from __future__ import annotations
 
 import dataclasses
 import functools
+import os
 from enum import IntEnum
 from typing import Any, Dict, NamedTuple, Optional, Tuple
 
-from ._library import PNG as _PNG, number, text
+from ._library import PNG as _PNG, Told, number, text
 
 
 class Status(IntEnum):
@@ -331,6 +332,20 @@ class ImageError(Exception):
 
     def __reduce__(self) -> Tuple[Any, ...]:
         return type(self), (self.status, self.image_type, self.filename), self.__dict__
+
+
+def probed(told: Told, image: object = None) -> Probed:
+    """A result of the library. Raises its error, with the name of the image if it has one."""
+    status, (number, compression, width, height, _, _) = told
+    if status:
+        raise ImageError(status, known_type(number, compression) if number else None, filename(image))
+    return Probed(known_type(number, compression), Size(width, height))
+
+
+def filename(image: object) -> Optional[str]:
+    """The path of an image, or the name of an open file, if it has one."""
+    name = os.fspath(image) if isinstance(image, (str, os.PathLike)) else getattr(image, "name", None)
+    return name if isinstance(name, str) else None
 
 
 def status_text(status: int) -> str:

@@ -34,10 +34,10 @@ class Program(unittest.TestCase):
         for name, data in (("a.gif", GIF), ("c.jpg", CUT), ("b/d.gif", GIF), ("b/e.txt", b"no image, but a text")):
             (self.folder / name).write_bytes(data)
 
-    def run_it(self, *arguments: str, stdout: int = subprocess.PIPE) -> "subprocess.CompletedProcess[str]":
+    def run_it(self, *arguments: str, stdin: Any = None, stdout: int = subprocess.PIPE, **how: Any) -> "subprocess.CompletedProcess[str]":
         command = [sys.executable, "-m", "imagesize_proved", *arguments]
         environment = {**os.environ, "PYTHONPATH": str(PACKAGE), "PYTHONUNBUFFERED": ""}  # with a buffer, as for most users
-        return subprocess.run(command, cwd=self.folder, env=environment, stdout=stdout, stderr=subprocess.PIPE, text=True)
+        return subprocess.run(command, cwd=self.folder, env=environment, stdin=stdin, stdout=stdout, stderr=subprocess.PIPE, text=True, **how)
 
     def test_table(self) -> None:
         said = self.run_it("a.gif", "c.jpg", "none", "b")
@@ -90,6 +90,30 @@ class Program(unittest.TestCase):
 
     def test_spans(self) -> None:
         self.assertEqual(self.run_it("--spans", "a.gif").stdout.splitlines()[1:], ["  0+12", "  6+2", "  8+2"])
+
+    def test_standard_input(self) -> None:
+        """A pipe is read up to the result, while its other end is open. A file can be read by blocks."""
+        reader, writer = os.pipe()
+        os.write(writer, GIF)
+        said = self.run_it("-", "c.jpg", stdin=reader, timeout=60)
+        self.assertEqual(said.stdout.splitlines()[0], "Gif                 640x480  -")
+        os.write(writer, GIF)
+        (row,) = json.loads(self.run_it("--json", "--spans", "-", stdin=reader, timeout=60).stdout)
+        self.assertEqual((row["path"], row["width"], row["spans"]), ("-", 640, None))
+        os.close(writer)
+        self.assertEqual(self.run_it("-", stdin=reader).stdout, "-                         -  -: the file ends before its size\n")
+        os.close(reader)
+        with open(self.folder / "a.gif") as file:
+            (row,) = json.loads(self.run_it("--json", "--spans", "-", stdin=file).stdout)
+        self.assertEqual((row["path"], row["width"], row["spans"]), ("-", 640, [[0, 12], [6, 2], [8, 2]]))
+        said = self.run_it("-", preexec_fn=lambda: os.close(0))
+        self.assertEqual((said.stdout, said.returncode), ("-                         -  -: Bad file descriptor\n", 1))
+
+    def test_names_that_are_a_dash(self) -> None:
+        (self.folder / "-").mkdir()
+        (self.folder / "-" / "a.gif").write_bytes(GIF)
+        self.assertEqual(list(program.files(["-"], True)), ["-"])
+        self.assertEqual([row["path"] for row in json.loads(self.run_it("--json", "--recursive", "./-").stdout)], ["./-/a.gif"])
 
     def test_names_that_are_no_text(self) -> None:
         name = os.fsdecode(b"a\xff\n.gif")

@@ -360,12 +360,6 @@ class Failing(unittest.TestCase):
                     imagesize.probe(path)
                 self.assertEqual(raised.exception.filename, str(path))
 
-    def test_open_pipe(self) -> None:
-        reader, writer = os.pipe()
-        os.close(writer)
-        with open(reader, "rb") as pipe:
-            self.assertRaises(OSError, imagesize.probe, pipe)
-
     def test_descriptors_are_closed(self) -> None:
         before = len(os.listdir("/proc/self/fd"))
         for path in ("/", __file__, "/nowhere"):

@@ -9,7 +9,7 @@ import re
 import tempfile
 import unittest
 from concurrent.futures import ThreadPoolExecutor
-from typing import Any, Callable, Iterator, List, Tuple
+from typing import Any, Callable, Iterator, List, Optional, Tuple
 
 import imagesize_proved as imagesize
 
@@ -36,13 +36,13 @@ def surprises() -> Iterator[Tuple[bytes, str]]:
         yield bytes.fromhex(data), line
 
 
-def line(call: Callable[..., imagesize.Probed], *arguments: Any) -> str:
+def line(call: Callable[..., Optional[imagesize.Probed]], *arguments: Any) -> str:
     """The line about the result of a call."""
     try:
-        found, size = call(*arguments)
+        found = call(*arguments)
     except imagesize.ImageError as error:
         return f"{error.image_type}: {error.text}" if error.image_type else error.text
-    return f"{found} {size.width}x{size.height}"
+    return f"{found.image_type} {found.size.width}x{found.size.height}" if found else "no result yet"
 
 
 def by_coroutine(data: bytes) -> imagesize.Probed:

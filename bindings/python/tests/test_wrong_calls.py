@@ -218,6 +218,23 @@ class Buffers(unittest.TestCase):
         found = self.passed("_probe_parts", lambda: imagesize.probe(bytearray(image)))
         self.assertEqual([(length, count) for _, length, _, count, *_ in found], [(8192, 1), (12288, 1), (16384, 1), (len(image), 1)])
 
+    def test_stream(self) -> None:
+        """The state of a push parser is as long and as aligned as the header says. No call changes one that another has."""
+        header = (PACKAGE.parent.parent / "include" / "imagesize.h").read_text()
+        (size,) = map(int, re.findall(r"^#define IMAGESIZE_STREAM_SIZE (\d+)", header, re.MULTILINE))
+        stream = imagesize.StreamProbe(100)
+        begun = self.passed("_stream_new", lambda: imagesize.StreamProbe(100))
+        pushed = [*self.passed("_stream_push", lambda: stream.feed(GIF[:5])), *self.passed("_stream_push", lambda: stream.feed(b""))]
+        ended = self.passed("_stream_finish", lambda: self.assertRaises(ImageError, stream.close))
+        self.assertEqual([total for _, total in begun], [100])
+        self.assertEqual([tuple(rest[:2]) for _, *rest in pushed], [(GIF[:5], 5), (b"", 0)])
+        states = [state for state, *_ in begun + pushed + ended]
+        self.assertEqual([(ctypes.sizeof(state), ctypes.alignment(state)) for state in states], [(size, 8)] * 4)
+        self.assertEqual(len(set(map(ctypes.addressof, states))), 4)
+        for _, *rest in [(None, *rest[2:]) for _, *rest in pushed] + ended:
+            self.assertEqual(len(rest), 4)
+            self.results(rest, 4)
+
     def test_spans(self) -> None:
         (asked, told) = self.passed("_spans", lambda: imagesize.spans(GIF))
         self.assertEqual((asked[:2], asked[3]), ((GIF, 12), 0))

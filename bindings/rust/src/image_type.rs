@@ -73,56 +73,56 @@ types! {
     /// Types are ordered as in the list below, and values of one type by their compressions.
     pub enum ImageType {
         // by bindings/lists.py: types
-        /// Animated sprites of the editor Aseprite.
+        /// Aseprite: animated sprites of the editor.
         Aseprite = 1,
-        /// Adaptive scalable texture compression.
+        /// ASTC: adaptive scalable texture compression.
         Astc = 2,
-        /// A texture in ATC, in a PKM file.
+        /// ATC: a texture, in a PKM file.
         Atc(AtcCompression) = 3,
-        /// Windows bitmap.
+        /// BMP: Windows bitmap.
         Bmp = 4,
-        /// DirectDraw surface.
+        /// DDS: DirectDraw surface.
         Dds(DdsCompression) = 5,
-        /// A texture in EAC, in a PKM file.
+        /// EAC: a texture, in a PKM file.
         Eac(PkmCompression) = 6,
-        /// A texture in ETC1 or ETC2, in a PKM file.
+        /// ETC2: a texture in ETC1 or ETC2, in a PKM file.
         Etc2(PkmCompression) = 7,
         /// OpenEXR.
         Exr = 8,
         /// Farbfeld.
         Farbfeld = 9,
-        /// Graphics interchange format.
+        /// GIF: graphics interchange format.
         Gif = 10,
-        /// Radiance RGBE.
+        /// HDR: Radiance RGBE.
         Hdr = 11,
-        /// HEIC and AVIF.
+        /// HEIF (HEIC, AVIF).
         Heif(Compression) = 12,
-        /// Windows icon.
+        /// ICO: Windows icon.
         Ico = 13,
-        /// Interleaved bitmap, in an IFF file.
+        /// ILBM: interleaved bitmap, in an IFF file.
         Ilbm = 14,
         /// JPEG.
         Jpeg = 15,
         /// JPEG XL.
         Jxl = 16,
-        /// Khronos texture, version 2.
+        /// KTX 2: Khronos texture, version 2.
         Ktx2 = 17,
         /// Portable network graphics, with the feature `png`.
         #[cfg(feature = "png")]
         Png = 1000,
-        /// PBM, PGM and PPM.
+        /// PNM: PBM, PGM and PPM.
         Pnm = 18,
-        /// PowerVR texture.
+        /// PVR: PowerVR texture.
         Pvrtc(PvrtcCompression) = 19,
-        /// Photoshop document.
+        /// PSD: Photoshop document.
         Psd = 20,
-        /// Quite OK image.
+        /// QOI: quite OK image.
         Qoi = 21,
-        /// Truevision TGA.
+        /// TGA: Truevision.
         Tga = 22,
-        /// TIFF, with BigTIFF.
+        /// TIFF (BigTIFF).
         Tiff = 23,
-        /// Valve texture.
+        /// VTF: Valve texture.
         Vtf = 24,
         /// WebP.
         Webp = 25,

@@ -6,7 +6,7 @@ use std::fs::File;
 use std::io::{Read, Seek, SeekFrom};
 
 /// Blocks begin and end at multiples of this, or where the input ends.
-const BLOCK: u64 = 4096;
+pub(crate) const BLOCK: u64 = 4096;
 
 /// With a requested byte so many after it are fetched, since the fields of one record are close together.
 const AHEAD: u64 = 64;
@@ -15,7 +15,7 @@ const AHEAD: u64 = 64;
 const FEW_SPANS: usize = 64;
 
 /// A call that has fetched so many bytes fetches no more.
-const MOST_BYTES: usize = 64 << 20;
+pub(crate) const MOST_BYTES: usize = 64 << 20;
 
 /// The first bytes of each image, which are fetched first.
 const FIRST: Span = Span { start: 0, len: 12 };

@@ -10,9 +10,17 @@
 //! results come from a C library in which each function is proved. This package fetches the bytes that the library requests, and
 //! is tested.
 //!
-//! [`size`] and the calls over a reader fetch blocks of 4096 bytes around the bytes that the result depends on. They never read
+//! | The image is in | Call |
+//! |---|---|
+//! | a file | [`size`] |
+//! | memory | [`blob_size`], [`image_type()`] |
+//! | a reader that can seek | [`reader_size`], [`reader_type`] |
+//! | a reader that cannot, such as a pipe | [`stream_size`], [`stream_probe`] |
+//! | pieces that arrive one after another | [`StreamProbe`] |
+//!
+//! [`size`] and the calls over a reader that can seek fetch blocks of 4096 bytes around the bytes that the result depends on. They never read
 //! the whole of a large file. For very many records the blocks become larger. If more is needed after 64 MiB, the call returns
-//! an error.
+//! an error. [`stream_size`] and [`stream_probe`] read from the first byte on, up to the result, and at most 64 MiB.
 
 #![warn(missing_docs)]
 
@@ -21,6 +29,7 @@ mod error;
 mod image_size;
 mod image_type;
 mod input;
+mod stream;
 mod sys;
 #[cfg(test)]
 mod tests;
@@ -32,6 +41,7 @@ pub use compression::{
 pub use error::{ImageError, ImageResult};
 pub use image_size::ImageSize;
 pub use image_type::ImageType;
+pub use stream::{stream_probe, stream_size, Probed, StreamProbe};
 
 use input::Input;
 use std::fs::File;
@@ -62,7 +72,8 @@ pub fn image_type(header: &[u8]) -> ImageResult<ImageType> {
 
 /// Reads the size of the image in a file, in pixels.
 ///
-/// The call opens the file, and reads only blocks around the bytes that the size depends on.
+/// The call opens the file, and reads only blocks around the bytes that the size depends on. A pipe cannot seek:
+/// [`stream_size`] reads it.
 ///
 /// # Errors
 ///

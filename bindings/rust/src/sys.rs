@@ -1,6 +1,7 @@
 //! The calls of the C library, as `include/imagesize.h` declares them, each with a safe function around it.
 
 use crate::{ImageError, ImageResult, ImageSize, ImageType};
+use std::mem::MaybeUninit;
 
 pub(crate) const ANSWERED: u32 = 0;
 pub(crate) const NOT_SUPPORTED: u32 = 1;
@@ -12,6 +13,12 @@ pub(crate) const BYTES_WANTED: u32 = 30;
 
 /// The longest text of the library has fewer bytes.
 const TEXT_ROOM: usize = 128;
+
+/// The size of a push parser's memory in bytes, as the header has it.
+pub(crate) const STREAM_SIZE: usize = 1280;
+
+/// No input has more bytes. It is also the length of an input whose length is not known.
+pub(crate) const LONGEST: u64 = i64::MAX as u64;
 
 /// The number of PNG, which has calls of its own in the library and no number.
 pub(crate) const PNG: u32 = 1000;
@@ -25,6 +32,13 @@ const SIGNATURE: &[u8; 8] = b"\x89PNG\r\n\x1a\n";
 pub(crate) struct Span {
     pub(crate) start: u64,
     pub(crate) len: u64,
+}
+
+/// The memory of a push parser, which the library alone reads and writes. It may be copied.
+#[repr(C)]
+#[derive(Clone)]
+pub(crate) struct Stream {
+    opaque: MaybeUninit<[u64; STREAM_SIZE / 8]>,
 }
 
 extern "C" {
@@ -85,6 +99,23 @@ extern "C" {
         height: *mut u64,
         wanted: *mut Span,
     ) -> u32;
+    fn imagesize_stream_new(stream: *mut Stream, total: u64);
+    fn imagesize_stream_push(
+        stream: *mut Stream,
+        bytes: *const u8,
+        length: usize,
+        kind: *mut u32,
+        compression: *mut u32,
+        width: *mut u64,
+        height: *mut u64,
+    ) -> u32;
+    fn imagesize_stream_finish(
+        stream: *mut Stream,
+        kind: *mut u32,
+        compression: *mut u32,
+        width: *mut u64,
+        height: *mut u64,
+    ) -> u32;
     fn imagesize_container_format(
         kind: u32,
         compression: u32,
@@ -103,7 +134,7 @@ extern "C" {
 }
 
 /// The results of a call: its status, and the numbers that it wrote. A number that it did not write is 0.
-#[derive(Default)]
+#[derive(Clone, Copy, Default, PartialEq, Eq)]
 pub(crate) struct Told {
     status: u32,
     kind: u32,
@@ -155,10 +186,65 @@ impl Parts {
             _ => Parts::Told(told),
         }
     }
+
+    /// The result, if no other part is needed.
+    pub(crate) fn told(self) -> Option<Told> {
+        match self {
+            Parts::Told(told) => Some(told),
+            Parts::Wanted(_) => None,
+        }
+    }
+}
+
+impl Stream {
+    /// Begins an input of `total` bytes. Bytes past that length do not count.
+    pub(crate) fn new(total: u64) -> Stream {
+        let mut stream = Stream {
+            opaque: MaybeUninit::uninit(),
+        };
+        // SAFETY: the pointer comes from memory of the header's size, which nothing else holds. It may hold anything.
+        unsafe { imagesize_stream_new(&mut stream, total) };
+        stream
+    }
+
+    /// Passes the next bytes. Returns the result of the input as soon as it depends on no later byte.
+    pub(crate) fn push(&mut self, bytes: &[u8]) -> Option<Told> {
+        let mut told = Told::default();
+        // SAFETY: the pointers come from memory that `new` wrote, from a slice of this length, and from numbers that nothing
+        // else holds.
+        told.status = unsafe {
+            imagesize_stream_push(
+                self,
+                bytes.as_ptr(),
+                bytes.len(),
+                &mut told.kind,
+                &mut told.compression,
+                &mut told.width,
+                &mut told.height,
+            )
+        };
+        (told.status != BYTES_WANTED).then_some(told)
+    }
+
+    /// Ends the input. Returns the result of the bytes that were passed.
+    pub(crate) fn finish(mut self) -> Told {
+        let mut told = Told::default();
+        // SAFETY: the pointers come from memory that `new` wrote, and from numbers that nothing else holds. It is not used again.
+        told.status = unsafe {
+            imagesize_stream_finish(
+                &mut self,
+                &mut told.kind,
+                &mut told.compression,
+                &mut told.width,
+                &mut told.height,
+            )
+        };
+        told
+    }
 }
 
 /// Whether these first bytes begin a PNG, and the package has the feature for it.
-fn is_png(bytes: &[u8]) -> bool {
+pub(crate) fn is_png(bytes: &[u8]) -> bool {
     cfg!(feature = "png") && bytes.starts_with(SIGNATURE)
 }
 
@@ -218,6 +304,15 @@ fn png_size(bytes: &[u8], spans: &[Span], total: u64) -> Parts {
         )
     };
     Parts::of(told, wanted)
+}
+
+/// The size of a PNG of `total` bytes, from its first bytes.
+pub(crate) fn png_front(bytes: &[u8], total: u64) -> Parts {
+    let front = Span {
+        start: 0,
+        len: bytes.len() as u64,
+    };
+    png_size(bytes, &[front], total)
 }
 
 /// The size of such an input, read as a PNG. The signature is passed as its first bytes: if two parts have a byte, the first counts.

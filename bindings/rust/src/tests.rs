@@ -103,6 +103,17 @@ fn statuses_are_those_of_the_header() {
 }
 
 #[test]
+fn a_stream_has_the_size_of_the_header() {
+    let define = format!("#define IMAGESIZE_STREAM_SIZE {}", sys::STREAM_SIZE);
+    assert!(header_text().lines().any(|line| line == define), "{define}");
+    assert_eq!(std::mem::size_of::<sys::Stream>(), sys::STREAM_SIZE);
+    assert_eq!(
+        std::mem::align_of::<sys::Stream>(),
+        std::mem::align_of::<u64>()
+    );
+}
+
+#[test]
 fn each_error_prints_its_status_text() {
     let statuses = header_count("enum imagesize_status") as u32;
     for status in 1..statuses {

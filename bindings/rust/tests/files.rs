@@ -1,6 +1,6 @@
 //! What is no file of an image, and what a program written for the crate may do with the names.
 
-use imagesize::{image_type, reader_size, size, ImageError, ImageResult, ImageSize};
+use imagesize::{image_type, reader_size, size, stream_size, ImageError, ImageResult, ImageSize};
 use std::fs::{self, File};
 use std::io::{self, BufRead, BufReader, ErrorKind, Read, Seek, SeekFrom};
 use std::path::{Path, PathBuf};
@@ -73,6 +73,20 @@ fn a_pipe_is_the_error_of_the_system() {
     assert_eq!(io_error(size(&pipe)).kind(), ErrorKind::NotSeekable);
     // Whether the writer was told that nobody reads is not the matter here.
     let _ = writer.join();
+}
+
+#[cfg(unix)]
+#[test]
+fn a_pipe_is_read_as_a_stream() {
+    let folder = Scratch::new("stream");
+    let pipe = folder.0.join("pipe");
+    let made = std::process::Command::new("mkfifo").arg(&pipe).status();
+    assert!(made.is_ok_and(|status| status.success()), "a pipe");
+    let name = pipe.clone();
+    let writer = std::thread::spawn(move || fs::write(name, GIF));
+    let found = stream_size(File::open(&pipe).expect("the pipe"));
+    assert_eq!(found.ok().map(|size| size.width), Some(640));
+    assert!(writer.join().is_ok_and(|wrote| wrote.is_ok()));
 }
 
 #[cfg(unix)]

@@ -2,8 +2,8 @@
 #![cfg(feature = "png")]
 
 use imagesize::{
-    blob_size, image_type, reader_size, reader_type, size, ImageError, ImageResult, ImageSize,
-    ImageType,
+    blob_size, image_type, reader_size, reader_type, size, stream_probe, stream_size, ImageError,
+    ImageResult, ImageSize, ImageType, StreamProbe,
 };
 use std::io::{self, Cursor, Write};
 use std::process::{Command, Stdio};
@@ -57,6 +57,41 @@ fn a_png_that_is_cut_ends() {
 }
 
 #[test]
+fn a_png_comes_in_pieces() -> ImageResult<()> {
+    for total in [None, Some(PNG.len() as u64), Some(u64::MAX)] {
+        for piece in 1..=PNG.len() {
+            let mut probe = StreamProbe::new(total);
+            let found: Vec<_> = PNG.chunks(piece).map(|chunk| probe.push(chunk)).collect();
+            // The size ends with byte 24.
+            for (at, found) in found.iter().enumerate() {
+                assert_eq!(found.is_some(), (at + 1) * piece >= 24, "{at} of {piece}");
+            }
+            let ended = probe.finish();
+            assert_eq!((ended.image_type()?, ended.size()?), (ImageType::Png, SIZE));
+            assert!(found.into_iter().flatten().all(|found| found == ended));
+        }
+    }
+    assert_eq!(stream_size(PNG)?, SIZE);
+    Ok(())
+}
+
+#[test]
+fn a_png_that_is_cut_ends_in_a_stream() {
+    for length in 0..24 {
+        let cut = &PNG[..length];
+        let wanted = (length >= 8).then_some(ImageType::Png);
+        let (found, read) = stream_probe(cut).expect("a reader that does not fail");
+        assert_eq!((found.image_type().ok(), read), (wanted, length as u64));
+        assert!(ends(found.size()), "{length}");
+        // The bytes that are known to be the last ones have the result at once.
+        let found = StreamProbe::new(Some(length as u64)).push(PNG);
+        let found = found.expect("all bytes");
+        assert_eq!(found.image_type().ok(), wanted);
+        assert!(ends(found.size()), "{length}");
+    }
+}
+
+#[test]
 fn others_with_a_part_of_the_signature_are_none() {
     for bytes in [
         b"\x89PNG\r\n\x1a\r\0\0\0\x0dIHDR\0\0\x02\x80\0\0\x01\xe0",
@@ -68,6 +103,7 @@ fn others_with_a_part_of_the_signature_are_none() {
         assert!(is_unknown(image_type(bytes)));
         assert!(is_unknown(reader_size(Cursor::new(bytes))));
         assert!(is_unknown(reader_type(Cursor::new(bytes))));
+        assert!(is_unknown(stream_size(&bytes[..])));
     }
 }
 

@@ -1,6 +1,6 @@
-//! The programs of `examples/`, which are written as for the crate, and what they print.
+//! The programs of `examples/`, and what they print. All but `receive` are written as for the crate.
 
-use std::fs;
+use std::fs::{self, File};
 use std::path::{Path, PathBuf};
 use std::process::{Command, Output};
 
@@ -32,8 +32,8 @@ impl Drop for Folder {
     }
 }
 
-/// What a program prints when it is run in a folder.
-fn run(program: &str, folder: &Path, arguments: &[&str]) -> Output {
+/// The command that runs a program.
+fn cargo(program: &str) -> Command {
     let manifest = concat!(env!("CARGO_MANIFEST_DIR"), "/Cargo.toml");
     let command = [
         "run",
@@ -45,8 +45,14 @@ fn run(program: &str, folder: &Path, arguments: &[&str]) -> Output {
         program,
         "--",
     ];
-    let output = Command::new(env!("CARGO"))
-        .args(command)
+    let mut cargo = Command::new(env!("CARGO"));
+    cargo.args(command);
+    cargo
+}
+
+/// What a program prints when it is run in a folder.
+fn run(program: &str, folder: &Path, arguments: &[&str]) -> Output {
+    let output = cargo(program)
         .args(arguments)
         .current_dir(folder)
         .output()
@@ -116,4 +122,27 @@ fn textures_are_checked_and_counted() {
          1 Dds(Unknown)\n\
          2 Etc2(Etc2)\n"
     );
+}
+
+#[test]
+fn an_image_is_passed_on_if_it_is_not_too_large() {
+    let small = [GIF, &[7; 100_000]].concat();
+    let files = [
+        ("small", &small[..]),
+        ("large", LARGE_GIF),
+        ("cut", CUT_GIF),
+    ];
+    let folder = Folder::new("receive", &files);
+    for (name, error) in [
+        ("small", ""),
+        ("large", "Error: \"65535x65535 is too large\"\n"),
+        ("cut", "failed to fill whole buffer"),
+    ] {
+        let file = File::open(folder.0.join(name)).expect("the file");
+        let output = cargo("receive").stdin(file).output().expect("cargo");
+        assert_eq!(output.status.success(), error.is_empty(), "{output:?}");
+        assert!(text(&output.stderr).contains(error), "{output:?}");
+        let passed = if error.is_empty() { &small[..] } else { b"" };
+        assert!(output.stdout == passed, "{} bytes", output.stdout.len());
+    }
 }

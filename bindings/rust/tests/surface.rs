@@ -2,7 +2,7 @@
 
 use imagesize::{
     blob_size, AtcCompression, Compression, CompressionFamily, DdsCompression, ImageError,
-    ImageResult, ImageSize, ImageType, PkmCompression, PvrtcCompression,
+    ImageResult, ImageSize, ImageType, PkmCompression, Probed, PvrtcCompression, StreamProbe,
 };
 use std::collections::{BTreeSet, HashSet};
 use std::error::Error;
@@ -22,6 +22,28 @@ fn the_types_have_the_traits_of_the_crate() {
     is_plain::<DdsCompression>();
     is_plain::<PkmCompression>();
     is_plain::<PvrtcCompression>();
+}
+
+#[test]
+fn a_stream_can_be_sent_copied_and_printed() -> ImageResult<()> {
+    fn is_sendable<T: Clone + Debug + Send + Sync + 'static>() {}
+    is_sendable::<StreamProbe>();
+    is_sendable::<Probed>();
+
+    let mut probe = StreamProbe::new(None);
+    assert_eq!(probe.push(b"GIF89a"), None);
+    let mut sent = probe.clone();
+    assert!(std::mem::size_of::<StreamProbe>() < 1400);
+    assert_eq!(format!("{probe:?}"), "StreamProbe { .. }");
+    let found = std::thread::spawn(move || sent.push(b"d\0e\0\0\0")).join();
+    let found = found.expect("no panic").expect("a size");
+    assert_eq!(found.size()?.height, 101);
+    assert_eq!(
+        format!("{found:?}"),
+        "Probed { image_type: Ok(Gif), size: Ok(ImageSize { width: 100, height: 101 }) }"
+    );
+    assert!(probe.finish().size().is_err());
+    Ok(())
 }
 
 #[test]

@@ -1,7 +1,9 @@
 //! Each test vector of the repository, through each call.
 
-use imagesize::{blob_size, image_type, reader_size, reader_type, size};
-use imagesize::{AtcCompression, ImageError, ImageResult, ImageSize, ImageType};
+use imagesize::{blob_size, image_type, reader_size, reader_type, size, stream_probe};
+use imagesize::{
+    AtcCompression, ImageError, ImageResult, ImageSize, ImageType, Probed, StreamProbe,
+};
 use std::fs::{self, File};
 use std::io::{self, BufRead, BufReader, Cursor, ErrorKind, Read, Seek, SeekFrom};
 use std::path::PathBuf;
@@ -58,6 +60,20 @@ fn line(kind: ImageResult<ImageType>, size: ImageResult<ImageSize>) -> String {
             size.to_string()
         }
     }
+}
+
+fn line_of(found: Probed) -> String {
+    line(found.image_type(), found.size())
+}
+
+/// What a stream finds in these bytes, in pieces of this many. It finds the same in each later piece and at the end.
+fn streamed(data: &[u8], piece: usize, total: Option<u64>) -> Probed {
+    let mut probe = StreamProbe::new(total);
+    let pushed: Vec<_> = data.chunks(piece).map(|chunk| probe.push(chunk)).collect();
+    let ended = probe.finish();
+    let mut found = pushed.into_iter().skip_while(Option::is_none);
+    assert!(found.all(|later| later == Some(ended)));
+    ended
 }
 
 /// A reader that gives one byte a read.
@@ -138,6 +154,47 @@ fn files_have_the_worked_answers() {
         let open = || BufReader::new(File::open(&file.0).expect("the file"));
         assert_eq!(line(reader_type(open()), reader_size(open())), wanted);
         assert_eq!(line(image_type(&data), size(&file.0)), wanted);
+    }
+}
+
+#[test]
+fn streams_have_the_worked_answers() {
+    for (data, wanted) in rows() {
+        for piece in [1, 2, 3, 7, 4096, data.len().max(1)] {
+            for total in [None, Some(data.len() as u64)] {
+                let found = streamed(&data, piece, total);
+                assert_eq!(line_of(found), wanted, "{piece} of {total:?}");
+            }
+        }
+        for stream in [
+            &mut &data[..] as &mut dyn Read,
+            &mut Trickle(Cursor::new(data.clone())),
+        ] {
+            let (found, read) = stream_probe(stream).expect("a reader that does not fail");
+            assert_eq!(line_of(found), wanted);
+            assert!(read <= data.len() as u64);
+        }
+    }
+}
+
+#[test]
+fn a_stream_of_known_length_has_its_answer_with_the_last_byte() {
+    for (data, wanted) in rows() {
+        let mut probe = StreamProbe::new(Some(data.len() as u64));
+        let found = probe.push(&[&data[..], b"and bytes past the end"].concat());
+        assert_eq!(line_of(found.expect("the whole input")), wanted);
+    }
+}
+
+#[test]
+fn a_stream_that_ends_has_the_answer_of_its_bytes() {
+    for (data, _) in rows().into_iter().filter(|row| row.0.len() <= 200) {
+        for front in (0..=data.len()).map(|end| &data[..end]) {
+            let wanted = line(image_type(front), blob_size(front));
+            for total in [None, Some(data.len() as u64)] {
+                assert_eq!(line_of(streamed(front, 5, total)), wanted, "{front:?}");
+            }
+        }
     }
 }
 
@@ -257,6 +314,8 @@ fn changed_inputs_of_many_blocks_have_the_answers_of_their_bytes() {
             let wanted = line(image_type(&data), blob_size(&data));
             let cursor = || Cursor::new(&data);
             assert_eq!(line(reader_type(cursor()), reader_size(cursor())), wanted);
+            let piece = 1 + numbers.below(10_000);
+            assert_eq!(line_of(streamed(&data, piece, None)), wanted);
         }
     }
 }

@@ -1,3 +1,4 @@
 pub mod Families
 pub mod Statuses
 pub mod TypeNumbers
+pub mod Walks

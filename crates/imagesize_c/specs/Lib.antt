@@ -2,4 +2,5 @@
 pub mod Lends
 pub mod Numbers
 pub mod Status
+pub mod Streams
 pub mod Told

@@ -11,5 +11,6 @@ pub mod png;
 pub mod queries;
 pub mod spans;
 mod status;
+pub mod streams;
 mod tell;
 pub mod texts;

@@ -11,7 +11,7 @@ use Rattle.imagesize_source.specs.Reading.{Reads, is_faulted, just, put_behind, 
 use Rattle.imagesize_source.specs.State.{State, Misses}
 use Rattle.imagesize_source.proofs.Agreement.{covered_one_of}
 use Rattle.imagesize_source.specs.Sharing.{Shares}
-use Rattle.imagesize_pieces.specs.Stream.{AllBelow, Begins, Says, came, stream_input, stream_state}
+use Rattle.imagesize_pieces.specs.Stream.{AllBelow, Begins, Says, came, end_of, stream_input, stream_state}
 use Rattle.imagesize_pieces.proofs.Beginning.{Run, begins_left, begins_shares, shares_begun, unknown_behind}
 use Rattle.imagesize_pieces.proofs.Called.{Called, all_seen, answered, is_short}
 
@@ -73,6 +73,15 @@ module _ {X : Type 0} (f : List ℕ → Reads X) (same : IsShared f) (told start
           unknown_behind told start kept unread front run fits what.0.start none.3 above,
           omega (arith, some, few, within),
         )
+
+    -- The read that failed requests bytes behind those so far, and none from the end on.
+    pub ends_begun : start ≤ what.0.start → (length front < end_of missed) × (end_of missed ≤ told)
+    ends_begun above =
+        let none = call.lacks what.0 what.1 in
+        let some = none.0 in let few = none.1 in let within = none.2 in
+        let late = (what_behind above).0 in
+        let ends : end_of missed ≡ what.0.start + what.0.most = ap end_of what.1 in
+        (omega (arith, late, ends, some, few), omega (arith, ends, within))
 
     -- An input of the told length whose marks all lie in the bytes so far would have missed nothing.
     pub complete_begun : (d : List ℕ) → Begins front told d → length d ≡ told

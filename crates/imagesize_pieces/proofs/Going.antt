@@ -1,5 +1,5 @@
 -- Where a walk over the bytes so far stands, for every input that begins with them.
-use Rattle.std.proofs.Common.{◌≡◌, ℕ, ◌+◌, ◌-◌, ◌^◌, ◌<◌, ◌≤◌, true, List, [], ◌∷◌, ◌++◌, length, Option, None, Some, inl, inr, sym, ap, ◌∙◌, subst, arith}
+use Rattle.std.proofs.Common.{◌≡◌, ℕ, ◌+◌, ◌-◌, ◌^◌, ◌<◌, ◌≤◌, true, List, [], ◌∷◌, ◌++◌, length, Option, None, Some, Result, Ok, Err, inl, inr, sym, ap, ◌∙◌, subst, arith}
 use Rattle.std.specs.Prelude.{option_map}
 use Rattle.std.specs.Option.{ForSome}
 use Rattle.imagesize_source.specs.declared.source.parts.Missing.{Missing}
@@ -8,14 +8,17 @@ use Rattle.imagesize_source.specs.Agreement.{is_covered}
 use Rattle.imagesize_source.specs.Chain.{Chain, Along, next_record, chain_from, Advances}
 use Rattle.imagesize_source.specs.Input.{span_at}
 use Rattle.imagesize_source.specs.Known.{AllKnown, Lacks, parts_state, sure_of}
-use Rattle.imagesize_source.specs.Reading.{put_behind, uncounted}
+use Rattle.imagesize_source.specs.Reading.{Reads, go_on, put_behind, uncounted}
+use Rattle.imagesize_source.specs.declared.halt.Halt.{Halt}
 use Rattle.imagesize_source.specs.State.{State, Misses, state_after}
-use Rattle.imagesize_source.proofs.Agreement.{covered-left}
+use Rattle.imagesize_source.proofs.Agreement.{covered-left, covered-right}
 use Rattle.imagesize_source.proofs.ChainLaws.{chain_induction}
-use Rattle.imagesize_source.proofs.Chains.{chain_next, chain_stop}
+use Rattle.imagesize_source.proofs.Chains.{chain_next, chain_stop, chain_unfolds, follows}
 use Rattle.imagesize_source.proofs.Runs.{past-recorded}
-use Rattle.imagesize_source.specs.Sharing.{Stood}
-use Rattle.imagesize_pieces.specs.Stream.{Begins, Reach, came, stream_input, stream_state}
+use Rattle.imagesize_source.specs.Sharing.{Shares, Stood}
+use Rattle.imagesize_source.proofs.Known.{length-filled_input}
+use Rattle.imagesize_source.proofs.Sharing.{chain_shared}
+use Rattle.imagesize_pieces.specs.Stream.{AllBelow, Begins, Reach, came, end_of, stream_input, stream_state}
 use Rattle.imagesize_pieces.proofs.Asking.{missed_is, missed_covered}
 use Rattle.imagesize_pieces.proofs.Beginning.{Run, begins_shares, unknown_behind}
 use Rattle.imagesize_pieces.proofs.Called.{is_short, moved, some_is}
@@ -59,6 +62,13 @@ stood_as c P t place told m start kept unread others content first log before mi
     (moved (λ x y z. Stood c P (stream_state told start kept unread first before)
     (parts_state x y z log missed) t place) told m
     (came start kept unread) others (kept ++ unread) content same.0 same.1 same.2 stood))
+
+-- a mark of the first readings is one of all
+onward_covered : {X Y : Type 0} (marks : List Span) (r : Result X Halt) (f : X → Reads Y) (place : ℕ)
+    → is_covered marks place ≡ true
+    → is_covered (go_on marks r f).marks place ≡ true
+onward_covered marks (Ok x) f place here = covered-left marks (f x).marks place here
+onward_covered marks (Err e) f place here = here
 
 module _ {C X : Type 0} (c : Chain C X) (P : List C → Type 0) (t : Along C) (told start : ℕ)
     (kept unread front : List ℕ)
@@ -115,3 +125,44 @@ module _ {C X : Type 0} (c : Chain C X) (P : List C → Type 0) (t : Along C) (t
       let behind = unknown_behind told start kept unread front run fits what.0.start none.3
       (omega (arith, ahead_begun, from, between.0)) in
       omega (arith, behind, between.1)
+
+  -- the read that failed requests bytes behind the record's place, and behind the bytes so far
+  pub ends_left : (k : ℕ) → Reaches c k → start ≤ t.place
+      → (length front < end_of missed) × (place < end_of missed) × (end_of missed ≤ told)
+  ends_left k reaches from =
+      let is = what.2 in let none = lacks what.0 what.1 in
+      let some = none.0 in let few = none.1 in let within = none.2 in
+      let between = reach_covered fill place (place + k) (c.said stood.held place)
+      (reaches stood.held place) what.0.start
+      (missed_covered (next_record c fill u).marks what.0 is none.0) in
+      let behind = unknown_behind told start kept unread front run fits what.0.start none.3
+      (omega (arith, ahead_begun, from, between.0)) in
+      let ends : end_of missed ≡ what.0.start + what.0.most = ap end_of what.1 in (
+        omega (arith, behind, ends, some, few),
+        omega (arith, between.0, ends, some, few),
+        omega (arith, ends, within),
+      )
+
+  -- An input of the told length has a mark from the record's place on.
+  pub rests_left : (k : ℕ) → Reaches c k → ((e : List ℕ) → Advances c e) → (d : List ℕ) → Begins front told d
+      → length d ≡ told
+      → AllBelow place (chain_from c d t).marks → ⊥
+  rests_left k reaches adv d begins as_long below =
+      none what.0.start (subst (λ w. is_covered w.marks what.0.start ≡ true) same first) where
+        none : (p : ℕ) → is_covered (chain_from c d u).marks p ≡ true → ⊥
+        none p here =
+            let early = below p (subst (λ w. is_covered w.marks p ≡ true) (sym (leads_begun d begins))
+            (covered-right stood.made (chain_from c d u).marks p here)) in
+            let late = chain_above c k reaches d (adv d) u p here in
+            omega (arith, early, late)
+
+        same : chain_from c fill u ≡ chain_from c d u
+        same = chain_shared c fill d (adv fill) (adv d) u (record {
+          no_longer = omega (arith, as_long, length-filled_input told (came start kept unread) (kept ++ unread));
+          there = λ p here. absurd (none p here);
+        })
+
+        first : is_covered (chain_from c fill u).marks what.0.start ≡ true
+        first = subst (λ w. is_covered w.marks what.0.start ≡ true) (sym (chain_unfolds c fill u (adv fill)))
+            (onward_covered (next_record c fill u).marks (next_record c fill u).answer (follows c fill u.held) what.0.start
+            (missed_covered (next_record c fill u).marks what.0 what.2 (lacks what.0 what.1).0))

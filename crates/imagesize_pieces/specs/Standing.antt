@@ -1,4 +1,4 @@
--- Where a walk stands in an input that comes in pieces, as the code has it.
+-- The position of a walk in an input that arrives in chunks, as the code keeps it.
 use Rattle.std.specs.Prelude.{ℕ, ◌-◌, List, take}
 use Rattle.imagesize_source.specs.Chain.{Said}
 use Rattle.imagesize_source.specs.Layout.{Layout}
@@ -6,7 +6,7 @@ use Rattle.imagesize_source.specs.Reading.{Reads}
 use Rattle.imagesize_pieces.specs.Stream.{Streams}
 use Rattle.imagesize_pieces.specs.declared.stand.Stand.{Stand}
 
--- these bytes came, of which the room has those from the stand's start on
+-- these bytes arrived, and the buffer holds those from `stand.start` on
 abbrev pub Stands : {C X : Type 0} → ℕ → (List C → ℕ → Layout (Said C X)) → (List C → ℕ → Type 0) → Stand → List ℕ → (List ℕ → Reads X)
     → List ℕ → Type 0
 Stands first said keeps stand room whole front =

@@ -1,5 +1,5 @@
--- An input that comes in pieces: what its first bytes tell of every input that begins with them.
-use Rattle.std.specs.Prelude.{◌≡◌, ℕ, ◌+◌, ◌≤◌, ◌<◌, true, List, [], ◌∷◌, ◌++◌, length, take, drop, Option, Result}
+-- An input that arrives in chunks: what the bytes so far say about every input that begins with them.
+use Rattle.std.specs.Prelude.{◌≡◌, ℕ, ◌+◌, ◌≤◌, ◌<◌, true, List, [], ◌∷◌, ◌++◌, length, take, drop, Option, None, Some, Result}
 use Rattle.imagesize_source.specs.Agreement.{is_covered}
 use Rattle.imagesize_source.specs.Known.{byte_in_parts, filled_input, parts_state}
 use Rattle.imagesize_source.specs.Layout.{Layout, done, refuse, field, reading, begin_record}
@@ -11,12 +11,12 @@ use Rattle.imagesize_source.specs.declared.halt.Halt.{Halt}
 use Rattle.imagesize_source.specs.declared.source.parts.Missing.{Missing}
 use Rattle.imagesize_source.specs.declared.span.Span.{Span}
 
--- an input of at most so many bytes begins with these
+-- an input of at most `told` bytes begins with these
 pub record Begins (front : List ℕ) (told : ℕ) (d : List ℕ) : Type 0 where
   pub first : take (length front) d ≡ front
   pub fits : length d ≤ told
 
--- the layout reads no byte before one place, and none from another on
+-- the layout reads no byte before the offset `low`, and none from `high` on
 abbrev pub Reach : {X : Type 0} → ℕ → ℕ → Layout X → Type 0
 Reach low high (done x) = Unit {0}
 Reach low high (refuse e) = Unit {0}
@@ -24,37 +24,42 @@ Reach low high (field order place n f) = (low ≤ place) × (place + n ≤ high)
 Reach low high (reading r place f) = (low ≤ place) × (place + most r ≤ high) × ((bs : List ℕ) → length bs ≤ most r → Reach low high (f bs))
 Reach low high (begin_record t) = Reach low high t
 
--- no place of these spans is as great
+-- each offset of the spans is below n
 abbrev pub AllBelow : ℕ → List Span → Type 0
 AllBelow n spans = (place : ℕ) → is_covered spans place ≡ true → place < n
 
--- Of every input that begins with these bytes this is the answer, by the same marks.
+-- Every input that begins with these bytes has this result, with the same spans.
 pub record Says {X : Type 0} (front : List ℕ) (told : ℕ) (reads : List ℕ → Reads X) (answer : Result X Halt) : Type 0 where
   pub marks : List Span
   pub is : (d : List ℕ) → Begins front told d → uncounted (reads d) ≡ just answer marks
 
--- the places of n bytes from a place on, as one span
+-- the n bytes from an offset on, as one span
 abbrev pub run_of : ℕ → ℕ → List Span
 run_of place n = record { start = place; len = n } ∷ []
 
--- the places of the bytes from a place on, of which some were kept and the others came behind them
+-- the span of the bytes from an offset on: those that were kept, and those of the next chunk after them
 abbrev pub came : ℕ → List ℕ → List ℕ → List Span
 came start kept chunk = run_of start (length kept + length chunk)
 
--- the byte at a place, where it is one of them
+-- the byte at an offset, or `None` if it is not one of them
 abbrev pub byte_at : ℕ → ℕ → List ℕ → List ℕ → ℕ → Option ℕ
 byte_at told start kept chunk place = byte_in_parts told (came start kept chunk) (kept ++ chunk) place
 
--- an input that has them, and 0 at every other place
+-- an input that has them, and 0 at every other offset
 abbrev pub stream_input : ℕ → ℕ → List ℕ → List ℕ → List ℕ
 stream_input told start kept chunk = filled_input told (came start kept chunk) (kept ++ chunk)
 
--- they as a source
+-- these bytes as a source
 abbrev pub stream_state : ℕ → ℕ → List ℕ → List ℕ → List Span → Option Missing → State
 stream_state told start kept chunk seen missed = parts_state told (came start kept chunk) (kept ++ chunk) seen missed
 
--- Of an input of at most `told` bytes so many came, and a walk stands at a place. Of the bytes from the start on as many are
--- kept as came. Every input that begins so has the readings of the whole behind some spans from that place on.
+-- the offset after the last byte that a read requests that missed bytes
+abbrev pub end_of : Option Missing → ℕ
+end_of None = 0
+end_of (Some m) = m.start + m.most
+
+-- The first `passed` bytes of an input of at most `told` bytes arrived. Those from `start` on are kept. The next record
+-- of the walk is at `place`. For every input that begins so, the reads are some spans, then those from that record on.
 pub record Streams {C X : Type 0} (first : ℕ) (said : List C → ℕ → Layout (Said C X)) (P : List C → Type 0) (start place told passed : ℕ)
     (kept : List ℕ) (whole : List ℕ → Reads X) (front : List ℕ) : Type 0 where
   pub held : List C

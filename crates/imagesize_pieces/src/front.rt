@@ -1,4 +1,4 @@
-//! What stands at fixed places near the beginning of an input that comes in pieces.
+//! Values at fixed offsets, read from the first bytes of an input that arrives in chunks.
 ghost use Rattle.std.specs.Prelude.{◌≡◌, ℕ, ◌<◌, ◌≤◌, ◌^◌, List, length, true, false};
 ghost use Rattle.imagesize_source.specs.Layout.{Layout, layout_reads};
 ghost use Rattle.imagesize_source.specs.Reading.{is_faulted, is_stopped};
@@ -9,32 +9,37 @@ use crate::source::StreamSource;
 use imagesize_source::Halt;
 use imagesize_source::source::Source;
 
-/// What stands at fixed places.
+/// A value at fixed offsets.
 pub trait Fixed {
-    /// What it tells.
+    /// The value.
     type Answer: Drop;
 
-    /// Where it stands.
+    /// The layout of its bytes.
     ghost layout: { Self → Layout Self.Answer };
 
-    /// Reads it.
+    /// Reads the value.
     fn read<S: Source>(&self, source: &mut S) -> Result<Self::Answer, Halt>
         ensures { Follows (S.state source.old) (S.state source.new) result (layout self.now) };
 }
 
-/// Reads it from the first bytes of an input of at most `told` bytes. If they do not tell it, the reading fails.
-pub fn read_front<F: Fixed>(fixed: &F, bytes: &[u8], told: u64) -> Result<F::Answer, Halt>
+/// Reads the value from the first bytes of an input of at most `told` bytes. The read fails if a byte that it needs is missing.
+/// Also returns the offset after the last byte that a failed read requests.
+pub fn read_front<F: Fixed>(fixed: &F, bytes: &[u8], told: u64) -> (Result<F::Answer, Halt>, u64)
     requires fits { length bytes.now ≤ told }
     requires short { told < 2 ^ 63 }
-    ensures says { is_faulted result ≡ false → Says bytes.now told (λ d. layout_reads d (F.layout fixed.now)) result }
-    ensures unstopped { is_faulted result ≡ false → is_stopped result ≡ false }
-    ensures few { is_faulted result ≡ true → (high : ℕ) → Reach 0 high (F.layout fixed.now) → length bytes.now < high }
-    ensures complete { is_faulted result ≡ true → (d : List ℕ) → Begins bytes.now told d → length d ≡ told
+    ensures says { is_faulted result.0 ≡ false → Says bytes.now told (λ d. layout_reads d (F.layout fixed.now)) result.0 }
+    ensures unstopped { is_faulted result.0 ≡ false → is_stopped result.0 ≡ false }
+    ensures few { is_faulted result.0 ≡ true → (high : ℕ) → Reach 0 high (F.layout fixed.now) → length bytes.now < high }
+    ensures complete { is_faulted result.0 ≡ true → (d : List ℕ) → Begins bytes.now told d → length d ≡ told
         → AllBelow (length bytes.now) (layout_reads d (F.layout fixed.now)).marks → ⊥ }
 
-    // Nothing is missed where all came.
-    ensures whole { told ≤ length bytes.now → is_faulted result ≡ false }
+    // If all bytes of the input are here, the read does not fail.
+    ensures whole { told ≤ length bytes.now → is_faulted result.0 ≡ false }
+
+    // A failed read requests more than these bytes.
+    ensures ends { is_faulted result.0 ≡ true → (length bytes.now < result.1) × (result.1 ≤ told) }
 {
     let mut source = StreamSource::new(0, bytes, &[], told);
-    fixed.read(&mut source)
+    let found = fixed.read(&mut source);
+    (found, source.end())
 }

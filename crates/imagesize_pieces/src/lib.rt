@@ -1,4 +1,4 @@
-//! Inputs that come in pieces: what the bytes so far tell of every input that begins with them.
+//! Inputs that arrive in chunks: what the bytes so far say about every input that begins with them.
 #![tactic(auto)]
 
 pub mod front;

@@ -1,9 +1,9 @@
-//! The room of an input that comes in pieces, which has the bytes that came from a place on.
+//! The buffer of an input that arrives in chunks. It holds the bytes that arrived, from an offset on.
 ghost use Rattle.std.specs.Prelude.{◌≡◌, ◌+◌, ◌-◌, ◌≤◌, ◌++◌, take, drop, length};
 
 use imagesize_source::source::parts::put;
 
-/// The first so many bytes.
+/// The first `count` bytes, or all of them if there are fewer.
 #[inline(always)]
 pub fn front_of(bytes: &[u8], count: u64) -> &[u8]
     ensures { result.now ≡ take count bytes.now }
@@ -15,7 +15,7 @@ pub fn front_of(bytes: &[u8], count: u64) -> &[u8]
     }
 }
 
-/// The bytes behind so many.
+/// The bytes after the first `count`.
 #[inline(always)]
 #[tactic(auto, using(imagesize_source::proofs::Known::slice_behind))]
 pub fn bytes_behind(bytes: &[u8], count: u64) -> &[u8]
@@ -24,7 +24,8 @@ pub fn bytes_behind(bytes: &[u8], count: u64) -> &[u8]
     &bytes[(count as usize).min(bytes.len())..]
 }
 
-/// Keeps in the room, of the bytes at its front and more behind them, those behind so many.
+/// Appends `more` to the first `count` bytes of the buffer, and drops the first `skip` of these bytes. The rest is at the front of
+/// the buffer.
 #[tactic(auto, using(crate::proofs::Keeping::more_kept, crate::proofs::Keeping::moved_kept))]
 pub fn keep_behind(room: &mut [u8], count: usize, more: &[u8], skip: u64)
     requires within { count ≤ length room.old }

@@ -1,12 +1,12 @@
-//! The bytes of an input that came so far, from a place on, as a source. A reading is answered from them, or fails.
-ghost use Rattle.std.specs.Prelude.{◌≡◌, ℕ, ◌+◌, ◌-◌, ◌<◌, ◌≤◌, ◌++◌, [], ◌∷◌, min, take, drop, length, slice_index, is_some, true, false, None, Some, IfOk, IfSome};
+//! The bytes of an input that arrived so far, from an offset on, as a source. A read of a missing byte fails.
+ghost use Rattle.std.specs.Prelude.{◌≡◌, ℕ, ◌+◌, ◌-◌, ◌<◌, ◌≤◌, ◌++◌, [], ◌∷◌, min, take, length, slice_index, is_some, true, false, None, Some, IfOk, IfSome};
 ghost use Rattle.std.specs.Option.{ForSome};
 ghost use Rattle.imagesize_source.specs.Agreement.{has_place};
 ghost use Rattle.imagesize_source.specs.Input.{part, span_at};
 ghost use Rattle.imagesize_source.specs.Known.{AllKnown, Lacks};
 ghost use Rattle.imagesize_source.specs.Reading.{part_read, map_answer};
 ghost use Rattle.imagesize_source.specs.State.{Runs};
-ghost use Rattle.imagesize_pieces.specs.Stream.{byte_at, came, stream_input, stream_state};
+ghost use Rattle.imagesize_pieces.specs.Stream.{byte_at, came, end_of, stream_input, stream_state};
 
 use crate::room::bytes_behind;
 use imagesize_source::source::Source;
@@ -15,20 +15,20 @@ use imagesize_source::source::parts::{Missing, count_there, is_cut, put};
 use imagesize_source::text::text_length;
 use imagesize_source::{Halt, ImageError, Reason, Span, Text};
 
-/// The bytes from a place on, of which some were kept and the others came behind them. The input may have more.
+/// The bytes from an offset on: the kept ones, and those of the next chunk after them. The input may have more.
 #[derive(Drop)]
 pub struct StreamSource<'a> {
-    /// The place of the first of them.
+    /// The offset of the first byte.
     pub start: u64,
     /// The bytes that were kept.
     pub kept: &'a [u8],
-    /// Those behind them.
+    /// The bytes after the kept ones.
     pub chunk: &'a [u8],
-    /// How many bytes the input has.
+    /// The length of the input in bytes.
     pub told: u64,
-    /// What the last reading that failed misses.
+    /// What the last failed read misses.
     pub missed: Option<Missing>,
-    /// What the readings saw.
+    /// The spans of the reads.
     pub log: SpanLog,
     ghost within: { start + length kept.now + length chunk.now ≤ told },
     ghost seen: { AllKnown told (came start kept.now chunk.now) (kept.now ++ chunk.now) log.spans },
@@ -36,7 +36,7 @@ pub struct StreamSource<'a> {
 }
 
 impl<'a> StreamSource<'a> {
-    /// The source of these bytes.
+    /// A source of these bytes.
     pub fn new(start: u64, kept: &'a [u8], chunk: &'a [u8], told: u64) -> Self
         requires { start + length kept.now + length chunk.now ≤ told }
         ensures start { result.start ≡ start }
@@ -56,7 +56,17 @@ impl<'a> StreamSource<'a> {
         }
     }
 
-    // Records the places of a reading.
+    /// The offset after the last byte that the last failed read requests.
+    pub fn end(&self) -> u64
+        ensures { result ≡ end_of self.now.missed }
+    {
+        match self.missed {
+            Some(missing) => missing.start + missing.most,
+            None => 0,
+        }
+    }
+
+    // Records `count` bytes from an offset on. Without bytes it records no span.
     #[inline(always)]
     #[tactic(auto, unfolding(imagesize_source::specs::Input::span_at))]
     fn see(&mut self, start: u64, count: usize)
@@ -88,7 +98,7 @@ impl<'a> StreamSource<'a> {
         self.log = SpanLog::with(&self.log, &span);
     }
 
-    // Records a reading that misses bytes behind these.
+    // Records a read whose first `count` bytes are known and whose next byte is missing.
     fn miss(&mut self, start: u64, count: usize, sure: usize, most: usize) -> Halt
         requires known { (i : ℕ) → i < count → is_some (byte_at self.old.told self.old.start self.old.kept.now self.old.chunk.now (start + i)) ≡ true }
         requires some { 0 < sure }
@@ -112,8 +122,8 @@ impl<'a> StreamSource<'a> {
         Halt::Failed
     }
 
-    // Copies what came of a reading into its room, as far as no byte is missing. It answers how many bytes that is, and how
-    // many of the room's bytes the input has.
+    // Copies the known bytes of a read into the buffer, up to the first missing byte. Returns how many it copied, and how many
+    // bytes of the buffer lie within the input.
     #[inline(always)]
     fn fill_known(&self, place: u64, room: &mut [u8]) -> (usize, usize)
         ensures wanted { result.1 ≡ min (length room.new) (self.now.told - place) }
@@ -127,7 +137,7 @@ impl<'a> StreamSource<'a> {
         (found, wanted)
     }
 
-    // Copies what came of a reading into its room, as far as no byte is missing, and answers how many bytes that is.
+    // Copies the known bytes of a read into the buffer, up to the first missing byte, and returns how many it copied.
     fn gather(&self, place: u64, room: &mut [u8]) -> usize
         requires { length room.old ≤ self.now.told - place }
         ensures within { result ≤ length room.old }
@@ -146,7 +156,7 @@ impl<'a> StreamSource<'a> {
         count
     }
 
-    // The bytes from a place on, up to the end of those that were kept, or of those behind them.
+    // The known bytes from an offset on, up to the end of the slice that contains it.
     #[inline(always)]
     #[tactic(auto, using(crate::proofs::Streaming::kept_known, crate::proofs::Streaming::chunk_known, crate::proofs::Streaming::before_none, crate::proofs::Streaming::behind_none))]
     fn known_from(&self, place: u64) -> &'a [u8]
@@ -164,7 +174,7 @@ impl<'a> StreamSource<'a> {
         bytes_behind(self.chunk, offset - kept)
     }
 
-    // So many bytes from a place on, where all of them stand in one of both slices.
+    // The `count` bytes from an offset on, or `None` if no slice contains all of them.
     #[inline(always)]
     #[tactic(auto, using(crate::proofs::Streaming::first_known))]
     fn whole_from(&self, place: u64, count: usize) -> Option<&'a [u8]>
@@ -178,7 +188,7 @@ impl<'a> StreamSource<'a> {
         Some(&run[..count])
     }
 
-    // A reading whose bytes do not all stand in one of both slices.
+    // A read that no slice contains as a whole.
     #[cold]
     #[inline(never)]
     fn gather_at(&mut self, place: u64, room: &mut [u8]) -> Result<usize, Halt>

@@ -1,15 +1,17 @@
-//! Where a walk stands.
+//! The position of a walk.
 ghost use Rattle.std.specs.Prelude.{◌<◌, ◌≤◌, ◌^◌};
 
-/// Where a walk stands in an input that comes in pieces.
+/// The position of a walk along the records of an input that arrives in chunks.
 #[derive(Clone, Copy)]
 pub struct Stand {
-    /// The place of the first byte that the room has.
+    /// The offset of the first byte in the buffer.
     pub start: u64,
-    /// The place of the record that is next.
+    /// The offset of the next record.
     pub place: u64,
-    /// How many bytes came.
+    /// How many bytes arrived.
     pub passed: u64,
+    /// The offset after the last byte that the read that missed a byte requests.
+    pub end: u64,
     /// How many bytes the input has at most.
     pub told: u64,
     ghost ahead: { start ≤ place },

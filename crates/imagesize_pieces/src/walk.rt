@@ -1,4 +1,4 @@
-//! A walk along the records of an input that comes in pieces: it goes on where it stands, over what was kept and what comes.
+//! A walk along the records of an input that arrives in chunks. Each chunk continues it, over the kept bytes and the new ones.
 ghost use Rattle.std.specs.Prelude.{◌≡◌, ℕ, ◌+◌, ◌-◌, ◌<◌, ◌≤◌, ◌++◌, List, length, false, None, IfSome};
 ghost use Rattle.imagesize_source.specs.Reading.{Reads, is_faulted, is_stopped};
 ghost use Rattle.imagesize_source.specs.Walk.{CanFollow, chain_of};
@@ -11,7 +11,8 @@ use crate::stand::Stand;
 use imagesize_source::Halt;
 use imagesize_source::walk::{Records, walk_on};
 
-/// Goes on with more bytes, and returns the answer as soon as they tell it. The room has the bytes from the stand's start on.
+/// Continues the walk with the next chunk, and returns the result as soon as the bytes decide it. The buffer holds the bytes
+/// from `stand.start` on.
 pub fn read_on<R: Records>(
     records: &mut R,
     stand: &mut Stand,
@@ -31,10 +32,13 @@ pub fn read_on<R: Records>(
     ensures stays { IfSome result (λ _. (stand.new ≡ stand.old) × (room.new ≡ room.old)) }
     ensures unstopped { IfSome result (λ answer. is_stopped answer ≡ false) }
 
-    // Nothing is missed where all came.
+    // The read that a byte is missing for requests more than the bytes that arrived, and more than the records before it.
+    ensures ends { result ≡ None → (stand.new.passed < stand.new.end) × (stand.new.start < stand.new.end) × (stand.new.end ≤ stand.new.told) }
+
+    // If all bytes of the input arrived, there is a result.
     ensures whole { stand.old.told ≤ stand.old.passed + length chunk.now → result ≡ None → ⊥ }
 
-    // Of each list of bytes that came before:
+    // For each list of bytes that may have arrived before:
     ensures goes_on { result ≡ None → (first : ℕ) (whole : List ℕ → Reads R.Answer) (front : List ℕ)
         → Stands first (R.said records.old) (R.keeps records.old) stand.old room.old whole front
         → Stands first (R.said records.old) (R.keeps records.new) stand.new room.new whole (front ++ chunk.now) }
@@ -45,6 +49,10 @@ pub fn read_on<R: Records>(
         → Stands first (R.said records.old) (R.keeps records.old) stand.old room.old whole front
         → (d : List ℕ) → Begins (front ++ chunk.now) stand.old.told d → length d ≡ stand.old.told
         → AllBelow (length front + length chunk.now) (whole d).marks → ⊥ }
+    ensures starts { result ≡ None → (first : ℕ) (whole : List ℕ → Reads R.Answer) (front : List ℕ)
+        → Stands first (R.said records.old) (R.keeps records.old) stand.old room.old whole front
+        → (d : List ℕ) → Begins (front ++ chunk.now) stand.old.told d → length d ≡ stand.old.told
+        → AllBelow stand.new.start (whole d).marks → ⊥ }
 {
     let passed = stand.passed + chunk.len() as u64;
     let start = stand.start.min(passed);
@@ -54,6 +62,7 @@ pub fn read_on<R: Records>(
     let mut place = stand.place;
     let found = walk_on(records, &mut place, &mut source);
     if is_faulted(&found) {
+        stand.end = source.end();
         keep_behind(room, count, unread, place.saturating_sub(start));
         stand.start = place;
         stand.place = place;
@@ -63,7 +72,7 @@ pub fn read_on<R: Records>(
     Some(found)
 }
 
-/// Whether a reading failed, for bytes that did not come yet.
+/// Whether a read failed because a byte has not arrived yet.
 #[inline(always)]
 pub fn is_faulted<X>(answer: &Result<X, Halt>) -> bool
     ensures { result ≡ is_faulted answer.now }

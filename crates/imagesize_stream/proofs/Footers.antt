@@ -88,6 +88,23 @@ never_refused {X} front told t e says few fits enough reach h = by_test (is_faul
       let no : ◌≡◌ {A = Result X Halt} (Err e) (Ok found.0) =
       sym (ap (λ (r : Reads X). r.answer) ((says is).is front (begins_all front told fits))) ∙ found.1 in absurd cc
 
+-- the same of what the code found
+pub never_missed : {X : Type 0} (front : List ℕ) (told : ℕ) (t : Layout X) (r : Result X Halt) (e : Halt) → r ≡ Err e
+    → (is_faulted r ≡ false → Says front told (λ d. layout_reads d t) r)
+    → (is_faulted r ≡ true → (high : ℕ) → Reach 0 high t → length front < high)
+    → length front ≤ told → 18 ≤ length front → Reach 0 18 t → Sure 18 t → ⊥
+never_missed {X} front told t r e is says few =
+    never_refused front told t e
+    (subst (λ (q : Result X Halt). is_faulted q ≡ false → Says front told (λ d. layout_reads d t) q) is says)
+    (subst (λ (q : Result X Halt). is_faulted q ≡ true → (high : ℕ) → Reach 0 high t → length front < high) is few)
+
+pub said_ok : {X : Type 0} (front : List ℕ) (told : ℕ) (t : Layout X) (r : Result X Halt) (x : X) → r ≡ Ok x
+    → (is_faulted r ≡ false → Says front told (λ d. layout_reads d t) r)
+    → Says front told (λ d. layout_reads d t) (Ok x)
+said_ok {X} front told t r x is says =
+    subst (λ (q : Result X Halt). Says front told (λ d. layout_reads d t) q) is
+    (says (ap (λ (q : Result X Halt). is_faulted q) is))
+
 pixels_sure : (b : Bool)
     → Sure 18 (cond b (field Little 16 1
     (λ bits. field Little 17 1 (λ descriptor. done (is_pixel_sound bits descriptor)))) (done false))

@@ -11,3 +11,5 @@ pub mod Coming
 pub mod Footers
 pub mod Ending
 pub mod Words
+pub mod Given
+pub mod Requests

@@ -1,5 +1,5 @@
--- What the bytes so far say of every image that begins with them.
-use Rattle.std.specs.Prelude.{◌≡◌, ℕ, ◌-◌, ◌≤◌, true, List, length, if◌then◌else◌, Option, Result, Ok, Err, IfSome}
+-- What the first bytes say about every image that begins with them.
+use Rattle.std.specs.Prelude.{◌≡◌, ℕ, ◌-◌, ◌<◌, ◌≤◌, true, List, length, if◌then◌else◌, Option, Result, Ok, Err, IfSome}
 use Rattle.std.specs.Result.{result_ok}
 use Rattle.imagesize.specs.Meaning.{kind_reads, meaning_reads}
 use Rattle.imagesize.specs.declared.types.ImageType.{ImageType}
@@ -18,36 +18,47 @@ use Rattle.imagesize_stream.specs.declared.front.Opening.TheVariants as opened
 use Rattle.imagesize_stream.specs.declared.hear.Heard.{Heard}
 use Rattle.imagesize_stream.specs.declared.hear.Heard.TheVariants.{Answer, Footer, Missing, Records}
 
--- the type of every input that begins so, if it has one
+-- every input that begins so has this type, or none
 abbrev pub TypeIs : List ℕ → ℕ → Option ImageType → Type 0
 TypeIs front told image = (d : List ℕ) → Begins front told d → result_ok (kind_reads d 0).answer ≡ image
 
--- of every input that begins so, the size or why it has none
+-- every input that begins so has this size or this error
 abbrev pub SizeIs : List ℕ → ℕ → Result ImageSize Halt → Type 0
 SizeIs front told size = (d : List ℕ) → Begins front told d → (meaning_reads d 0).answer ≡ size
 
--- no input of the told length begins so that rests on these bytes alone
-abbrev pub RestsOnMore : List ℕ → ℕ → Type 0
-RestsOnMore front told = (d : List ℕ) → Begins front told d → length d ≡ told → AllBelow (length front) (meaning_reads d 0).marks → ⊥
+-- each input of the reported length that begins so depends on a byte at this offset or after it
+abbrev pub RestsFrom : ℕ → List ℕ → ℕ → Type 0
+RestsFrom offset front told = (d : List ℕ) → Begins front told d → length d ≡ told → AllBelow offset (meaning_reads d 0).marks → ⊥
 
--- the input is a TGA of this size where its last bytes say so, and rests on the last of them
+-- no input of the reported length that begins so depends on these bytes alone
+abbrev pub RestsOnMore : List ℕ → ℕ → Type 0
+RestsOnMore front told = RestsFrom (length front) front told
+
+-- the input is a TGA of this size if its footer says so, and the result depends on its last byte
 pub record IsByFooter (size : ImageSize) (d : List ℕ) : Type 0 where
   pub type : (kind_reads d 0).answer ≡ (if is_tga_footer (part d (length d - 18) 18) then Ok Tga else Err NotSupported)
   pub size_is : (meaning_reads d 0).answer ≡ (if is_tga_footer (part d (length d - 18) 18) then Ok size else Err NotSupported)
   pub rests : is_covered (meaning_reads d 0).marks (length d - 1) ≡ true
 
--- what they say is so
+-- what the first bytes say is true of every input that begins so
 abbrev pub Hears : List ℕ → ℕ → Heard → Type 0
-Hears front told (Missing image) = RestsOnMore front told × IfSome image (λ type. Says front told (λ d. kind_reads d 0) (Ok type))
+Hears front told (Missing image end) = RestsOnMore front told × IfSome image (λ type. Says front told (λ d. kind_reads d 0) (Ok type))
 Hears front told (Answer image size) = TypeIs front told image × SizeIs front told size
 Hears front told (Records image next place) =
     IsSteady next place × Says front told (λ d. kind_reads d 0) (Ok image)
     × Says front told (λ d. layout_reads d (opening image)) (Ok (opened.Records next place))
 Hears front told (Footer size) = (18 ≤ length front) × ((d : List ℕ) → Begins front told d → IsByFooter size d)
 
--- this holds where bytes are missing
+-- P, if bytes are missing
 abbrev pub IfMissing : Heard → Type 0 → Type 0
-IfMissing (Missing image) P = P
+IfMissing (Missing image end) P = P
 IfMissing (Answer image size) P = Unit {0}
 IfMissing (Records image next place) P = Unit {0}
 IfMissing (Footer size) P = Unit {0}
+
+-- the read that missed a byte requests more than these bytes, and none past the end
+abbrev pub EndsBehind : List ℕ → ℕ → Heard → Type 0
+EndsBehind front told (Missing image end) = (length front < end) × (end ≤ told)
+EndsBehind front told (Answer image size) = Unit {0}
+EndsBehind front told (Records image next place) = Unit {0}
+EndsBehind front told (Footer size) = Unit {0}

@@ -1,4 +1,6 @@
+pub mod Given
 pub mod Heard
+pub mod Parts
 pub mod Probe
 pub mod Pushed
 pub mod Steps

@@ -1,5 +1,5 @@
--- A probe whose bytes come in pieces: which bytes came, and what they tell.
-use Rattle.std.specs.Prelude.{◌≡◌, ℕ, ◌-◌, ◌<◌, ◌≤◌, List, length, drop, take, Option, Some, IfSome}
+-- A probe whose bytes arrive in chunks: which bytes arrived, and what they say.
+use Rattle.std.specs.Prelude.{◌≡◌, ℕ, ◌+◌, ◌-◌, ◌<◌, ◌≤◌, List, length, drop, take, Option, Some, IfSome}
 use Rattle.std.specs.Coded.{Unit-prop, le_prop, ×_prop}
 use Rattle.imagesize.specs.Meaning.{meaning_reads}
 use Rattle.imagesize.specs.declared.types.ImageType.{ImageType}
@@ -10,11 +10,12 @@ use Rattle.imagesize_stream.specs.Steps.{Awaits, IsSteady, awaited_said, steady_
 use Rattle.imagesize_stream.specs.declared.stage.Stage.{Stage}
 use Rattle.imagesize_stream.specs.declared.stage.Stage.TheVariants.{Done, First, Footer, Records}
 
--- what is known of the type
+-- a known type is the type of every input that begins so
 abbrev pub TypeSays : List ℕ → ℕ → Option ImageType → Type 0
 TypeSays front told kind = IfSome kind (λ type. TypeIs front told (Some type))
 
--- These bytes came, by the stage: the room has all of them; or a walk stands behind some; or the room has the last of them; or they tell all.
+-- These bytes arrived. By the stage, the buffer holds all of them, those from the position of the walk on, or the last
+-- 18; or the result is known.
 abbrev pub CameBy : Stage → Option ImageType → ℕ → ℕ → ℕ → ℕ → List ℕ → List ℕ → Type 0
 CameBy First kind start place passed told room front = (take passed room ≡ front) × TypeSays front told kind
 CameBy (Records next) kind start place passed told room front =
@@ -44,9 +45,25 @@ holds_prop (Done size) start place passed = Unit-prop
 abbrev pub HoldsAt : Stage → Stand → Type 0
 HoldsAt stage stand = HoldsBy stage stand.start stand.place stand.passed
 
--- there is no answer yet, and this holds
+-- P, if there is no result yet
 abbrev pub IfAwaiting : Stage → Type 0 → Type 0
 IfAwaiting First P = P
 IfAwaiting (Records next) P = P
 IfAwaiting (Footer size) P = P
 IfAwaiting (Done size) P = Unit {0}
+
+-- While there is no answer, bytes are missing up to this end, behind those that came and behind the start. A footer has 18 bytes.
+abbrev pub AheadBy : Stage → ℕ → ℕ → ℕ → ℕ → Type 0
+AheadBy First start passed end told = (passed < end) × ((start < end) × (end ≤ told))
+AheadBy (Records next) start passed end told = (passed < end) × ((start < end) × (end ≤ told))
+AheadBy (Footer size) start passed end told = (passed < end) × ((start + 18 ≤ end) × (end ≤ told))
+AheadBy (Done size) start passed end told = Unit {0}
+
+pub ahead_prop : (stage : Stage) (start passed end told : ℕ) → IsProp (AheadBy stage start passed end told)
+ahead_prop First start passed end told = ×_prop le_prop (×_prop le_prop le_prop)
+ahead_prop (Records next) start passed end told = ×_prop le_prop (×_prop le_prop le_prop)
+ahead_prop (Footer size) start passed end told = ×_prop le_prop (×_prop le_prop le_prop)
+ahead_prop (Done size) start passed end told = Unit-prop
+
+abbrev pub IsAhead : Stage → Stand → Type 0
+IsAhead stage stand = AheadBy stage stand.start stand.passed stand.end stand.told

@@ -1,4 +1,4 @@
--- What came of an image, as a probe has it.
+-- Which bytes of an image arrived, and the result, as a probe keeps them.
 use Rattle.std.specs.Prelude.{ℕ, List, Option, None, Some, Result}
 use Rattle.imagesize.specs.declared.types.ImageType.{ImageType}
 use Rattle.imagesize_source.specs.Outcome.{stated}
@@ -9,7 +9,7 @@ use Rattle.imagesize_stream.specs.declared.stage.Stage.{Stage}
 use Rattle.imagesize_stream.specs.declared.stage.Stage.TheVariants.{Done, First, Footer, Records}
 use Rattle.imagesize_types.specs.declared.size.ImageSize.{ImageSize}
 
--- these bytes came
+-- these bytes arrived
 abbrev pub Came : StreamProbe → List ℕ → Type 0
 Came probe front = CameTo probe.stage probe.kind probe.stand probe.room front
 
@@ -23,6 +23,6 @@ stage_answer kind (Records next) = None
 stage_answer kind (Footer size) = None
 stage_answer kind (Done size) = Some (kind, stated size)
 
--- type and size, where they are known
+-- the type and the size, once they are known
 abbrev pub answer_of : StreamProbe → Option (Option ImageType × Result ImageSize ImageError)
 answer_of probe = stage_answer probe.kind probe.stage

@@ -1,4 +1,4 @@
--- What a stream awaits of an image whose size is behind records: the record that is next, as one chain for all formats.
+-- The record that a stream waits for, as one sequence for all formats whose size is in records.
 use Rattle.std.specs.Prelude.{◌≡◌, ℕ, ◌+◌, ◌-◌, ◌++◌, length, take, replicate, ◌<◌, ◌≤◌, ◌==◌, Bool, List, Option, None, Some, Result, Err, codes, ok_or, unwrap_or, if◌then◌else◌}
 use Rattle.std.specs.Coded.{Unit-prop, le_prop, ×_prop}
 use Rattle.std.specs.List.{last_or}
@@ -33,7 +33,7 @@ use Rattle.imagesize_walked.specs.Ilbm.{ilbm_chunk}
 use Rattle.imagesize_walked.specs.Jpeg.{jpeg_segment}
 use Rattle.imagesize_walked.specs.Walks.{depth_behind}
 
--- what goes on from what a format's record says: its verdict, or the record that is next
+-- what follows from what a format's record says: its verdict, or the next record
 abbrev pub after : {C Y : Type 0} → (C → Awaited) → (Y → Layout (Said Awaited ImageSize)) → Said C Y → Layout (Said Awaited ImageSize)
 after on verdict (Decided y) = verdict y
 after on verdict (Next v place) = done (Next (on v) place)
@@ -45,33 +45,34 @@ decides size = done (Decided size)
 abbrev pub names_of : Bool → ℕ
 names_of long = if long then 256 else 32
 
--- what is awaited behind a word of a portable bitmap: a comment may end with its first word, and the first other word is the width
+-- The record after a word of a portable bitmap. A comment may end with its first word. The first other word is the
+-- width.
 abbrev pub word_leads : WordRead → Awaited
 word_leads w = if is_comment w.text then (if w.ended_by == 0x0A then Word else Comment) else if is_blank w.text then Word else Height (number_text w.text)
 
 abbrev pub word_step : ℕ → WordRead → Layout (Said Awaited ImageSize)
 word_step place w = done (Next (word_leads w) (place + w.taken))
 
--- the word behind the width is the height
+-- the word after the width is the height
 abbrev pub height_step : Option ℕ → WordRead → Layout (Said Awaited ImageSize)
 height_step width w = accept (pnm_size width (number_text (trim w.text))) decides
 
--- with one entry of a TIFF more
+-- after one more entry of a TIFF
 abbrev pub listed_with : Listed → tiff.Entry → Listed
 listed_with l entry = record l { seen = l.seen + 1; width = side_with 0x100 l.width entry; height = side_with 0x101 l.height entry }
 
--- the first bytes of a codestream, with zeros behind them
+-- the first bytes of a codestream, followed by zeros
 abbrev pub kept_of : List ℕ → Kept
 kept_of front = record { bytes = front ++ replicate (16 - length front) 0; len = length front }
 
 abbrev pub kept_front : Kept → List ℕ
 kept_front kept = take kept.len kept.bytes
 
--- by them the size
+-- the size from the first bytes of a codestream
 abbrev pub jxl_verdict : List ℕ → Layout (Said Awaited ImageSize)
 jxl_verdict front = accept (jxl_size front) decides
 
--- what goes on from the boxes of a HEIF that are found
+-- what follows the boxes of a HEIF that were found
 abbrev pub meta_leads : ℕ → FoundBox → Layout (Said Awaited ImageSize)
 meta_leads place meta = bytes (place + 8) 4 (λ version. done (Next Iprp (place + 12)))
 
@@ -84,12 +85,12 @@ gathered_first all = record { left = all; best = None; turn = None }
 abbrev pub ipco_leads : ℕ → FoundBox → Layout (Said Awaited ImageSize)
 ipco_leads place ipco = done (Next (Property (gathered_first ipco.size)) (place + 8))
 
--- a property of a HEIF, behind those that amount to this
+-- what follows a property of a HEIF, after those that add up to g
 abbrev pub property_step : Gathered → ℕ → Option heif.Property → Layout (Said Awaited ImageSize)
 property_step g place None = accept (gathered_answer g) decides
 property_step g place (Some property) = done (Next (Property (gathered_with g property)) (place + property_bytes property))
 
--- the layout of the record that is awaited at a place
+-- the layout of the next record, at an offset
 abbrev pub step : Awaited → ℕ → Layout (Said Awaited ImageSize)
 step (Segment depth) place = bind (jpeg_segment depth place) (after (λ marker. Segment (depth_behind depth marker)) decides)
 step Chunk place = bind (ilbm_chunk place) (after (λ _. Chunk) decides)
@@ -110,7 +111,7 @@ step (Property g) place = bind (property_at g.left place) (property_step g place
 step (Box kept) place =
     bind (jxl_box (kept_front kept) place) (after (λ piece. Box (kept_of (kept_front kept ++ piece))) jxl_verdict)
 
--- a record holds what is awaited behind it
+-- a record holds the record after it
 abbrev pub last_awaited : List Awaited → Awaited
 last_awaited held = unwrap_or (last_or None held) Chunk
 
@@ -147,7 +148,7 @@ pub small_prop : (largest : Option ImageSize) → IsProp (IsSmall largest)
 small_prop None = Unit-prop
 small_prop (Some size) = ×_prop le_prop le_prop
 
--- what holds of the record that is awaited at a place
+-- what always holds of the next record at an offset
 abbrev pub IsSteady : Awaited → ℕ → Type 0
 IsSteady (Segment depth) place = depth < place
 IsSteady Chunk place = Unit {0}
@@ -182,11 +183,11 @@ steady_prop Ipco place = Unit-prop
 steady_prop (Property g) place = Unit-prop
 steady_prop (Box kept) place = le_prop
 
--- and of the one behind
+-- what then holds of the record after it
 abbrev pub StaysSteady : Said Awaited ImageSize → Type 0
 StaysSteady (Decided size) = Unit {0}
 StaysSteady (Next next place) = IsSteady next place
 
--- the value stands at the record that is next behind those that hold these
+-- `next` is the record after those that hold these
 abbrev pub Awaits : Awaited → List Awaited → ℕ → Type 0
 Awaits next held place = (last_awaited held ≡ next) × IsSteady next place

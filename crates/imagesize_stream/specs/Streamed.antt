@@ -1,4 +1,4 @@
--- What the first bytes of an image tell: its type, and its size or the records that it is behind.
+-- What the first bytes of an image say: its type, and its size or the first record on the way to it.
 use Rattle.std.specs.Prelude.{ℕ, List, [], length, nat_lt, if◌then◌else◌, Option, None, Some}
 use Rattle.imagesize.specs.Kind.{first_row, tga_or_none, with_compression}
 use Rattle.imagesize.specs.Types.{rows}
@@ -37,7 +37,7 @@ use Rattle.imagesize_texts.specs.Hdr.{hdr_identifier}
 use Rattle.imagesize_types.specs.declared.size.ImageSize.{ImageSize}
 use Rattle.imagesize_walked.specs.Tiff.{tiff_header}
 
--- what the first bytes say of the type, by the first row that holds of them
+-- what the first bytes say about the type, by the first row that holds of them
 abbrev pub first_by : List ℕ → Option ImageType → Layout First
 first_by head (Some found) = bind (with_compression 0 head found) (λ type. done (first.Type type))
 first_by head None = if may_be_tga head then done (first.MaybeTga head) else refuse NotSupported
@@ -45,19 +45,19 @@ first_by head None = if may_be_tga head then done (first.MaybeTga head) else ref
 abbrev pub first_layout : Layout First
 first_layout = bytes 0 12 (λ head. first_by head (first_row rows head))
 
--- the type that goes on from there
+-- the type that follows from what the first bytes say
 abbrev pub type_behind : List ℕ → First → Reads ImageType
 type_behind d (first.Type type) = gives type
 type_behind d (first.MaybeTga head) = layout_reads d (bind (is_tga (length d) head) tga_or_none)
 
--- the size where it stands among the first bytes, or the record that is next
+-- a size at fixed offsets
 abbrev pub sized : Layout ImageSize → Layout Opening
 sized layout = bind layout (λ size. done (opened.Size size))
 
 abbrev pub opens : Awaited → ℕ → Layout Opening
 opens next place = done (opened.Records next place)
 
--- the version of an EXR, by which its names may be long
+-- the version of an EXR, which says whether its names may be long
 abbrev pub open_exr : Layout Opening
 open_exr = field Little 4 4 (λ version. opens (Attribute (nat_lt 32 (name_room version))) 8)
 
@@ -69,7 +69,7 @@ open_hdr = bind hdr_identifier (λ first. opens Line first)
 abbrev pub open_heif : Layout Opening
 open_heif = field Big 0 4 (λ first. opens Meta first)
 
--- the first bytes of a JPEG XL that stands alone, or its boxes
+-- a JPEG XL codestream without boxes, or the boxes
 abbrev pub jxl_opened : Option (List ℕ) → Layout Opening
 jxl_opened (Some front) = accept (jxl_size front) (λ size. done (opened.Size size))
 jxl_opened None = opens (Box (kept_of [])) 12
@@ -85,7 +85,7 @@ open_ico = field Little 4 2 (λ count. opens (Icon count 0 None) 6)
 abbrev pub open_tiff : Layout Opening
 open_tiff = bind tiff_header (λ header. opens (Directory header) header.directory)
 
--- what the first bytes say of the size, by the type
+-- what the first bytes say about the size, by the type
 abbrev pub opening : ImageType → Layout Opening
 opening Aseprite = sized aseprite
 opening Astc = sized astc

@@ -1,6 +1,6 @@
-//! The record that a stream awaits next, of each format whose size is behind records.
-ghost use Rattle.std.specs.Prelude.{◌≡◌, ℕ, ◌<◌, ◌≤◌, ◌++◌, length, [], false, IfOk};
-ghost use Rattle.imagesize_source.specs.Layout.{bind, layout_reads};
+//! The record that a stream waits for, in each format whose size is in records.
+ghost use Rattle.std.specs.Prelude.{◌≡◌, ℕ, ◌<◌, ◌≤◌, length, [], false, IfOk};
+ghost use Rattle.imagesize_source.specs.Layout.{bind};
 ghost use Rattle.imagesize_source.specs.Paying.{Nears, Paid};
 ghost use Rattle.imagesize_source.specs.Reading.{is_stopped, map_answer, number_read};
 ghost use Rattle.imagesize_source.specs.State.{Follows, Runs};
@@ -27,61 +27,61 @@ use imagesize_walked::formats::ilbm::Chunks;
 use imagesize_walked::formats::jpeg::Segments;
 use imagesize_walked::formats::tiff::{self, Entries, Header, Version};
 
-/// The record that is next.
+/// The next record.
 #[derive(Clone, Copy)]
 pub(crate) enum Awaited {
-    /// A segment of a JPEG, so many images deep within the image.
+    /// A segment of a JPEG. `depth` says how many images within the image it is in.
     Segment {
         depth: u64,
     },
     /// A chunk of an interleaved bitmap.
     Chunk,
-    /// An attribute of an EXR, whose names may be long.
+    /// An attribute of an EXR. `long` says whether its names may be long.
     Attribute {
         long: bool,
     },
     /// A line of a Radiance picture.
     Line,
-    /// A word of a portable bitmap, before its width.
+    /// A word of a portable bitmap, which may be its width.
     Word,
     /// The rest of a comment of a portable bitmap.
     Comment,
-    /// The height of a portable bitmap, behind this width.
+    /// The height of a portable bitmap, after this width.
     Height {
         width: Option<usize>,
     },
-    /// An entry of an icon, of so many, behind so many with this largest size.
+    /// An entry of an icon's directory of `count` entries. `seen` were read, and `largest` is the largest size of those.
     Icon {
         count: u16,
         seen: u16,
         largest: Option<ImageSize>,
     },
-    /// The count of a TIFF's entries.
+    /// The number of entries in a TIFF's first directory.
     Directory {
         header: Header,
     },
-    /// An entry of a TIFF.
+    /// An entry of a TIFF's first directory.
     Entry(Listed),
-    /// A box of a HEIF, among which `meta` is searched for.
+    /// A box of a HEIF, in the search for `meta`.
     Meta,
-    /// A box in `meta`, among which `iprp` is searched for.
+    /// A box in `meta`, in the search for `iprp`.
     Iprp,
-    /// A box in `iprp`, among which `ipco` is searched for.
+    /// A box in `iprp`, in the search for `ipco`.
     Ipco,
-    /// A property of a HEIF, behind those that amount to this.
+    /// A property of a HEIF, and what those before it add up to.
     Property(Gathered),
-    /// A box of a JPEG XL, behind those with these first bytes of the codestream.
+    /// A box of a JPEG XL, and the first bytes of the codestream from the boxes before it.
     Box(Kept),
 }
 
-/// The first bytes of a codestream, so many, with zeros behind them.
+/// The first `len` bytes of a codestream, followed by zeros.
 #[derive(Clone, Copy)]
 pub(crate) struct Kept {
     pub(crate) bytes: [u8; 16],
     pub(crate) len: usize,
 }
 
-/// How many entries a TIFF has, how many were read, and the sides that these give.
+/// The header of a TIFF, how many entries its directory has, how many were read, and the width and the height from these.
 #[derive(Clone, Copy)]
 pub(crate) struct Listed {
     pub(crate) header: Header,
@@ -92,7 +92,7 @@ pub(crate) struct Listed {
 }
 
 impl Awaited {
-    // Reads the record at an offset. What it holds is the record behind it.
+    // Reads the record at an offset. It holds the record after it.
     #[inline]
     pub(crate) fn read<S: Source>(
         self,
@@ -127,7 +127,7 @@ impl Awaited {
         }
     }
 
-    // The verdict at the end of the input.
+    // The result at the end of the input.
     pub(crate) fn at_end(self) -> Result<ImageSize, Halt>
         ensures goes_on { is_stopped result ≡ false }
         ensures is { result ≡ ends_with self }
@@ -141,7 +141,7 @@ impl Awaited {
     }
 }
 
-// Reads a record, behind which one of the same kind is next.
+// Reads a record of a format in which `next` follows each record.
 #[inline(always)]
 fn read_same<R: Records<Held = (), Answer = ImageSize>, S: Source>(
     records: &mut R,
@@ -231,7 +231,7 @@ fn read_word<S: Source>(source: &mut S, place: u64) -> Result<Found<Awaited, Ima
     })
 }
 
-// What is awaited behind a word of a portable bitmap.
+// The record after a word of a portable bitmap.
 fn behind_word(word: &Word<'_>) -> Awaited
     ensures is { result ≡ word_leads (read_word_of word.now) }
     ensures steady { (q : ℕ) → IsSteady result q }
@@ -376,7 +376,7 @@ fn read_entry<S: Source>(
     }
 }
 
-// The same, by how many bytes the head and the value of an entry have.
+// Reads an entry with a head of `HEAD` bytes and a value of `VALUE` bytes.
 fn read_entry_of<S: Source, const HEAD: usize, const VALUE: usize>(
     source: &mut S,
     place: u64,
@@ -501,7 +501,7 @@ fn read_listed<S: Source>(
     })
 }
 
-/// Keeps these first bytes of a codestream.
+/// Keeps the first bytes of a codestream.
 pub(crate) fn keep(front: &Front) -> Kept
     ensures is { result ≡ kept_of front.now }
     ensures few { result.len ≤ 16 }

@@ -1,5 +1,4 @@
-//! What the first bytes of an image tell: its type, and its size where that stands among them.
-ghost use Rattle.std.specs.Prelude.{◌≡◌};
+//! What the first bytes of an image say: its type, and its size if they contain it.
 ghost use Rattle.imagesize_fixed.specs.Tga.{tga, tga_by_header};
 ghost use Rattle.imagesize_source.specs.State.{Follows};
 ghost use Rattle.imagesize_stream.specs.Streamed.{first_layout, open_exr, open_hdr, open_heif, open_ico, open_jxl, open_tiff, opening, opens};
@@ -22,16 +21,16 @@ use imagesize_texts::formats::hdr::read_identifier;
 use imagesize_types::size::ImageSize;
 use imagesize_walked::formats::tiff::read_header;
 
-/// What the first bytes say of the type.
+/// What the first bytes say about the type.
 #[derive(Drop)]
 pub(crate) enum First {
-    /// It is this.
+    /// The type.
     Type(ImageType),
-    /// These can begin a TGA, of which the last bytes tell whether it is one.
+    /// The first twelve bytes of what may be a TGA. Its header decides, or else its last bytes.
     MaybeTga { head: [u8; 12] },
 }
 
-/// The type, by the first bytes.
+/// The type, from the first bytes.
 #[derive(Clone, Copy)]
 pub(crate) struct FirstBytes;
 
@@ -55,16 +54,16 @@ impl Fixed for FirstBytes {
     }
 }
 
-/// What the first bytes say of the size.
+/// What the first bytes say about the size.
 #[derive(Drop)]
 pub(crate) enum Opening {
-    /// It is this.
+    /// The size.
     Size(ImageSize),
-    /// It is behind records, of which this one is next.
+    /// The size is in records. `next` is the first, at this offset.
     Records { next: Awaited, place: u64 },
 }
 
-/// The size of an image of this type, by the first bytes.
+/// The size of an image of this type, from the first bytes.
 #[derive(Clone, Copy)]
 pub(crate) struct FirstSize {
     pub(crate) image: ImageType,
@@ -106,7 +105,7 @@ impl Fixed for FirstSize {
     }
 }
 
-/// Whether the header of what may be a TGA with these first bytes is sound.
+/// Whether the header of what may be a TGA is sound.
 #[derive(Clone, Copy)]
 pub(crate) struct TgaHeader {
     pub(crate) head: [u8; 12],
@@ -136,13 +135,13 @@ impl Fixed for TgaSize {
     }
 }
 
-// Records from an offset on that is known without a reading.
+// The records of a format that begin at a fixed offset.
 #[inline(always)]
 #[tactic(auto, using(imagesize_source::proofs::Runs::steps))]
 fn open_at<S: Source>(source: &mut S, next: Awaited, place: u64) -> Result<Opening, Halt>
     ensures { Follows (S.state source.old) (S.state source.new) result (opens next place) }
 {
-    // The proof needs that the input is not so long.
+    // The proof needs that the length is below 2^63.
     let _told = source.told();
     Ok(Opening::Records { next, place })
 }

@@ -1,4 +1,4 @@
-//! What the bytes so far say of an image, from its first byte on.
+//! What the first bytes of an image say about its type and its size.
 ghost use Rattle.std.specs.Prelude.{◌≡◌, ◌<◌, ◌≤◌, ◌^◌, ◌&&◌, not, Ok, length};
 ghost use Rattle.imagesize_fixed.specs.Tga.{lacks_its_map};
 ghost use Rattle.imagesize.specs.Meaning.{kind_reads};
@@ -6,7 +6,7 @@ ghost use Rattle.imagesize_pieces.specs.Stream.{Says};
 ghost use Rattle.imagesize_source.specs.Layout.{layout_reads};
 ghost use Rattle.imagesize_stream.specs.declared.front.First.TheVariants as first;
 ghost use Rattle.imagesize_stream.specs.Streamed.{first_layout};
-ghost use Rattle.imagesize_stream.specs.Heard.{Hears, IfMissing};
+ghost use Rattle.imagesize_stream.specs.Heard.{EndsBehind, Hears, IfMissing};
 
 use crate::awaited::Awaited;
 use crate::front::{First, FirstBytes, FirstSize, Opening, TgaHeader, TgaSize};
@@ -17,25 +17,27 @@ use imagesize_pieces::walk::is_faulted;
 use imagesize_source::Halt;
 use imagesize_types::size::ImageSize;
 
-/// What the bytes so far say.
+/// What the first bytes say.
 #[derive(Drop)]
 pub(crate) enum Heard {
-    /// Bytes are missing that tell the type, or the size of this type.
+    /// The type needs more bytes or, if there is a type, its size does.
     Missing {
         image: Option<ImageType>,
+        /// The offset after the last byte that the read that missed a byte requests.
+        end: u64,
     },
-    /// The type, if there is one, and the size.
+    /// The type, if one was found, and the size or the error.
     Answer {
         image: Option<ImageType>,
         size: Result<ImageSize, Halt>,
     },
-    /// The type, whose size is behind records, and the one that is next.
+    /// The type, and the first record on the way to its size.
     Records {
         image: ImageType,
         next: Awaited,
         place: u64,
     },
-    /// The last bytes tell whether it is a TGA, of this size.
+    /// The last bytes of the input decide whether it is a TGA of this size.
     Footer {
         size: ImageSize,
     },
@@ -47,11 +49,12 @@ pub(crate) fn hear(bytes: &[u8], told: u64) -> Heard
     requires short { told < 2 ^ 63 }
     ensures hears { Hears bytes.now told result }
     ensures few { IfMissing result (length bytes.now < 132) }
+    ensures ends { EndsBehind bytes.now told result }
     ensures whole { told ≤ length bytes.now → IfMissing result ⊥ }
 {
-    let found = read_front(&FirstBytes, bytes, told);
+    let (found, end) = read_front(&FirstBytes, bytes, told);
     if is_faulted(&found) {
-        return Heard::Missing { image: None };
+        return Heard::Missing { image: None, end };
     }
     let first = match found {
         Ok(first) => first,
@@ -68,18 +71,22 @@ pub(crate) fn hear(bytes: &[u8], told: u64) -> Heard
     }
 }
 
-// The same of the size, by the type that they say.
+// What the first bytes say about the size, after they decided the type.
 fn hear_size(image: ImageType, bytes: &[u8], told: u64) -> Heard
     requires image { Says bytes.now told (λ d. kind_reads d 0) (Ok image) }
     requires fits { length bytes.now ≤ told }
     requires short { told < 2 ^ 63 }
     ensures hears { Hears bytes.now told result }
     ensures few { IfMissing result (length bytes.now < 132) }
+    ensures ends { EndsBehind bytes.now told result }
     ensures whole { told ≤ length bytes.now → IfMissing result ⊥ }
 {
-    let found = read_front(&FirstSize { image }, bytes, told);
+    let (found, end) = read_front(&FirstSize { image }, bytes, told);
     if is_faulted(&found) {
-        return Heard::Missing { image: Some(image) };
+        return Heard::Missing {
+            image: Some(image),
+            end,
+        };
     }
     let opening = match found {
         Ok(opening) => opening,
@@ -99,13 +106,14 @@ fn hear_size(image: ImageType, bytes: &[u8], told: u64) -> Heard
     }
 }
 
-// The same of what may be a TGA, by its first twelve bytes. Where its header does not tell it, its footer does.
+// What the first bytes say about what may be a TGA. If the header does not decide, the footer does.
 fn hear_tga(head: &[u8; 12], bytes: &[u8], told: u64) -> Heard
     requires first { Says bytes.now told (λ d. layout_reads d first_layout) (Ok (first.MaybeTga head.now)) }
     requires fits { length bytes.now ≤ told }
     requires short { told < 2 ^ 63 }
     ensures hears { Hears bytes.now told result }
     ensures few { IfMissing result (length bytes.now < 132) }
+    ensures ends { EndsBehind bytes.now told result }
     ensures whole { told ≤ length bytes.now → IfMissing result ⊥ }
 {
     if told < 18 {
@@ -115,13 +123,18 @@ fn hear_tga(head: &[u8; 12], bytes: &[u8], told: u64) -> Heard
         };
     }
     if bytes.len() < 18 {
-        return Heard::Missing { image: None };
+        return Heard::Missing {
+            image: None,
+            end: 18,
+        };
     }
-    let Ok(sound) = read_front(&TgaHeader { head: *head }, bytes, told) else {
-        return Heard::Missing { image: None };
+    let (sound, end) = read_front(&TgaHeader { head: *head }, bytes, told);
+    let Ok(sound) = sound else {
+        return Heard::Missing { image: None, end };
     };
-    let Ok(size) = read_front(&TgaSize, bytes, told) else {
-        return Heard::Missing { image: None };
+    let (size, end) = read_front(&TgaSize, bytes, told);
+    let Ok(size) = size else {
+        return Heard::Missing { image: None, end };
     };
     if is_by_header(sound, head) {
         return Heard::Answer {

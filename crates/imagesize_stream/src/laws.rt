@@ -1,4 +1,4 @@
-//! What a probe tells does not depend on how the bytes are cut into pieces.
+//! The result of a probe does not depend on how the bytes are cut into chunks.
 ghost use Rattle.std.specs.Prelude.{◌≡◌, ◌-◌, ◌^◌, ◌++◌, min, take, unwrap_or};
 ghost use Rattle.std.specs.Result.{result_ok};
 ghost use Rattle.imagesize.specs.Meaning.{kind_of, meaning};
@@ -7,8 +7,8 @@ use crate::probe::StreamProbe;
 use imagesize::{ImageResult, ImageType};
 use imagesize_types::size::ImageSize;
 
-/// The type and the size of the image in two pieces. Bytes past the told length do not count. Wherever the bytes are cut, the
-/// result is that of both pieces together.
+/// The type and the size of an image that arrives in two chunks. Bytes past the reported length do not count. Wherever the bytes
+/// are cut, the result is the same as for one chunk of all bytes.
 pub fn probe_two(
     total: Option<u64>,
     first: &[u8],

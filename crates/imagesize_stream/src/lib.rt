@@ -1,13 +1,15 @@
-//! The type of an image and its size in pixels, from bytes that come in pieces.
+//! The type of an image and its size in pixels, from bytes that arrive in chunks.
 #![tactic(auto)]
 
 mod awaited;
 mod front;
 mod hear;
 mod laws;
+mod parts;
 mod probe;
 mod sizes;
 mod stage;
 
 pub use laws::probe_two;
+pub use parts::PartsProbe;
 pub use probe::StreamProbe;

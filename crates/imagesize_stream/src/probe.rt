@@ -1,11 +1,12 @@
-//! A push parser: the caller passes the bytes of an image as they come, in pieces of any length.
+//! A push parser: the caller passes the bytes of an image as they arrive, in chunks of any length.
 ghost use Rattle.std.specs.Prelude.{◌≡◌, ℕ, ◌+◌, ◌-◌, ◌<◌, ◌≤◌, ◌^◌, ◌++◌, [], List, length, take, min, Option, None, Some, IfSome, unwrap_or};
 ghost use Rattle.std.specs.Result.{result_ok};
 ghost use Rattle.imagesize.specs.Meaning.{kind_of, meaning};
 ghost use Rattle.imagesize_pieces.specs.Stream.{AllBelow, Begins};
 ghost use Rattle.imagesize_source.specs.Outcome.{stated};
+ghost use Rattle.imagesize_stream.specs.Given.{HasPart, IsGiven, MayBeAt};
 ghost use Rattle.imagesize_stream.specs.Heard.{RestsOnMore};
-ghost use Rattle.imagesize_stream.specs.Probe.{HoldsAt, IfAwaiting, holds_prop};
+ghost use Rattle.imagesize_stream.specs.Probe.{HoldsAt, IfAwaiting, IsAhead, holds_prop};
 
 use crate::stage::{ROOM, Stage, begin, wait, walk};
 use imagesize::{ImageResult, ImageType};
@@ -14,15 +15,35 @@ use imagesize_pieces::stand::Stand;
 use imagesize_source::{Halt, Reason};
 use imagesize_types::size::ImageSize;
 
-// The length of an input of which no length is told: no input is longer.
+// The length of an input whose length is unknown. No input is longer.
 const MOST: u64 = (1 << 63) - 1;
 
-/// The type of an image and its size in pixels, from bytes that come in pieces of any length.
+/// The type of an image and its size in pixels, from bytes that arrive in chunks of any length.
 ///
 /// It keeps at most 1,023 bytes of the input, and allocates nothing.
+///
+/// ```
+/// use imagesize::ImageType;
+/// use imagesize_stream::StreamProbe;
+///
+/// let mut probe = StreamProbe::new(None);
+/// let mut chunks = b"GIF89a\x80\x02\xe0\x01\0\0 and what else there is".chunks(5);
+/// let (kind, size) = loop {
+///     match chunks.next() {
+///         Some(chunk) => {
+///             if let Some(result) = probe.push(chunk) {
+///                 break result;
+///             }
+///         }
+///         None => break probe.finish(),
+///     }
+/// };
+/// assert_eq!(kind, Some(ImageType::Gif));
+/// assert_eq!(size?.width, 640);
+/// ```
 #[derive(Drop)]
 pub struct StreamProbe {
-    stand: Stand,
+    pub(crate) stand: Stand,
     room: [u8; ROOM],
     kind: Option<ImageType>,
     stage: Stage,
@@ -32,7 +53,7 @@ pub struct StreamProbe {
 impl StreamProbe {
     ghost use Rattle.imagesize_stream.specs.Pushed.{Came, answer_of, told_of};
 
-    /// A probe of an input of `total` bytes, if its length is known. Bytes past that length do not count.
+    /// Begins an input of `total` bytes, or of unknown length. Bytes past that length do not count.
     pub fn new(total: Option<u64>) -> StreamProbe
         ensures told { told_of result ≡ min (unwrap_or total (2 ^ 63 - 1)) (2 ^ 63 - 1) }
         ensures begins { Came result [] }
@@ -42,6 +63,7 @@ impl StreamProbe {
                 start: 0,
                 place: 0,
                 passed: 0,
+                end: 0,
                 told: total.unwrap_or(MOST).min(MOST),
             },
             room: [0; ROOM],
@@ -50,24 +72,25 @@ impl StreamProbe {
         }
     }
 
-    /// Passes the next bytes. Returns the type, if one was found, and the size or the error, as soon as no further byte can
-    /// change them. From then on each call returns the same.
+    /// Passes the next bytes. Returns the type, if one was found, and the size or the error, as soon as they depend on no byte
+    /// that has not arrived. From then on each call returns the same. `None` means that more bytes are needed.
     pub fn push(&mut self, chunk: &[u8]) -> Option<(Option<ImageType>, ImageResult<ImageSize>)>
         ensures told { told_of self.new ≡ told_of self.old }
 
-        // A probe that has answered keeps its answer.
+        // Once there is a result, it stays.
         ensures is { result ≡ answer_of self.new }
         ensures keeps { IfSome (answer_of self.old) (λ answer. answer_of self.new ≡ Some answer) }
 
-        // Of each list of bytes that came before:
+        // For each list of bytes that may have arrived before:
         ensures goes_on { (front : List ℕ) → Came self.old front → Came self.new (front ++ take (told_of self.old - length front) chunk.now) }
 
-        // An answer is that of every input that begins so and is no longer than was told.
+        // The result holds for every input that begins with these bytes and is no longer than the reported length.
         ensures says { (front : List ℕ) → Came self.old front → IfSome result (λ answer. (d : List ℕ)
             → Begins (front ++ take (told_of self.old - length front) chunk.now) (told_of self.old) d
             → (answer.0 ≡ result_ok (kind_of d 0).answer) × (answer.1 ≡ (meaning d 0).answer)) }
 
-        // There is an answer where an input of the told length that begins so rests on these bytes alone, and where all came.
+        // There is a result once an input of the reported length that begins with these bytes depends on them alone, and once all
+        // bytes have arrived.
         ensures complete { result ≡ None → (front : List ℕ) → Came self.old front → (d : List ℕ)
             → Begins (front ++ take (told_of self.old - length front) chunk.now) (told_of self.old) d → length d ≡ told_of self.old
             → AllBelow (length front + length (take (told_of self.old - length front) chunk.now)) (meaning d 0).marks → ⊥ }
@@ -86,7 +109,7 @@ impl StreamProbe {
         self.kind
     }
 
-    /// Ends the input. Returns the type, if one was found, and the size or the error: those of the bytes that were passed.
+    /// Ends the input. Returns the type, if one was found, and the size or the error, as for a slice of the bytes that were passed.
     pub fn finish(mut self) -> (Option<ImageType>, ImageResult<ImageSize>)
         ensures kind { (front : List ℕ) → Came self front → result.0 ≡ result_ok (kind_of front 0).answer }
         ensures size { (front : List ℕ) → Came self front → result.1 ≡ (meaning front 0).answer }
@@ -102,14 +125,21 @@ impl StreamProbe {
         }
     }
 
-    // Takes more bytes. Those beyond the told length are not looked at.
-    fn take_in(&mut self, chunk: &[u8])
+    // Reads the next chunk. Bytes past the reported length are not looked at.
+    pub(crate) fn take_in(&mut self, chunk: &[u8])
         ensures told { told_of self.new ≡ told_of self.old }
+        ensures ahead { IsAhead self.new.stage self.new.stand }
+        ensures passed { IfAwaiting self.new.stage (self.new.stand.passed
+            ≡ self.old.stand.passed + length (take (self.old.stand.told - self.old.stand.passed) chunk.now)) }
         ensures keeps { IfSome (answer_of self.old) (λ answer. answer_of self.new ≡ Some answer) }
         ensures goes_on { (front : List ℕ) → Came self.old front → Came self.new (front ++ take (told_of self.old - length front) chunk.now) }
         ensures complete { IfAwaiting self.new.stage ((front : List ℕ) → Came self.old front
             → RestsOnMore (front ++ take (told_of self.old - length front) chunk.now) (told_of self.old)) }
         ensures whole { IfAwaiting self.new.stage ((front : List ℕ) → Came self.old front → told_of self.old ≤ length front + length chunk.now → ⊥) }
+
+        // Of each input with these parts:
+        ensures parts { (d : List ℕ) → IsGiven self.old.stage self.old.kind self.old.stand self.old.room d
+            → HasPart d self.old.stand.passed chunk.now → MayBeAt self.new.stage self.new.kind self.new.stand self.new.room d }
     {
         let chunk = front_of(chunk, self.stand.told - self.stand.passed);
         self.stage = match self.stage {
@@ -126,8 +156,24 @@ impl StreamProbe {
         };
     }
 
-    // Type and size, where they are known.
-    fn answer(&self) -> Option<(Option<ImageType>, ImageResult<ImageSize>)>
+    // Skips the bytes that are not needed, up to the first one that is.
+    pub(crate) fn skip(&mut self)
+        requires { IsAhead self.old.stage self.old.stand }
+        ensures told { told_of self.new ≡ told_of self.old }
+        ensures keeps { answer_of self.new ≡ answer_of self.old }
+        ensures ahead { IsAhead self.new.stage self.new.stand }
+        ensures later { self.old.stand.passed ≤ self.new.stand.passed }
+        ensures parts { (d : List ℕ) → MayBeAt self.old.stage self.old.kind self.old.stand self.old.room d
+            → MayBeAt self.new.stage self.new.kind self.new.stand self.new.room d }
+    {
+        if let Stage::Done { .. } = self.stage {
+            return;
+        }
+        self.stand.passed = self.stand.passed.max(self.stand.start);
+    }
+
+    // The type and the size, once they are known.
+    pub(crate) fn answer(&self) -> Option<(Option<ImageType>, ImageResult<ImageSize>)>
         ensures { result ≡ answer_of self.now }
     {
         match self.stage {
@@ -137,7 +183,7 @@ impl StreamProbe {
     }
 }
 
-// A result of readings, with the error of its refusal.
+// A result of reads, with the error of its `Halt`.
 fn stated(size: Result<ImageSize, Halt>) -> ImageResult<ImageSize>
     ensures { result ≡ stated size }
 {

@@ -1,4 +1,4 @@
-//! The chain of the records that a stream awaits, for all formats.
+//! The sequence of records that a stream waits for, for all formats.
 ghost use Rattle.imagesize_stream.specs.Steps.{Awaits, awaited_said};
 
 use crate::awaited::Awaited;

@@ -1,8 +1,10 @@
-//! How far a stream has come, and how it goes on.
+//! The stages of a push parser, and how each chunk continues them.
 ghost use Rattle.std.specs.Prelude.{◌≡◌, ℕ, ◌+◌, ◌-◌, ◌<◌, ◌≤◌, ◌++◌, List, Option, length, take};
 ghost use Rattle.imagesize.specs.declared.types.ImageType.{ImageType};
-ghost use Rattle.imagesize_stream.specs.Heard.{RestsOnMore};
-ghost use Rattle.imagesize_stream.specs.Probe.{CameTo, HoldsAt, IfAwaiting};
+ghost use Rattle.imagesize_source.specs.Input.{part};
+ghost use Rattle.imagesize_stream.specs.Given.{IsGiven, MayBeAt};
+ghost use Rattle.imagesize_stream.specs.Heard.{RestsFrom, RestsOnMore};
+ghost use Rattle.imagesize_stream.specs.Probe.{CameTo, HoldsAt, IfAwaiting, IsAhead};
 ghost use Rattle.imagesize_stream.specs.Steps.{IsSteady};
 ghost use Rattle.imagesize_stream.specs.declared.stage.Stage.TheVariants as stage;
 
@@ -20,35 +22,39 @@ use imagesize_types::size::ImageSize;
 /// The most bytes that are kept.
 pub(crate) const ROOM: usize = 1023;
 
-// The most first bytes that tell the type, and the size or where the records are.
+// How many first bytes always suffice for the type, and for the size or the offset of the first record.
 const FIRST: u64 = 132;
 
-/// How far a stream has come.
+/// The stage of a push parser.
 #[derive(Clone, Copy)]
 pub(crate) enum Stage {
-    /// The first bytes do not tell the type yet, or not the size of this type. All of them are kept.
+    /// The type or its size needs more of the first bytes. All bytes so far are kept.
     First,
-    /// The size is behind records, of which this one is next.
+    /// The size is in records. This record is next.
     Records { next: Awaited },
-    /// The last bytes tell whether it is a TGA, of this size. The last of those that came are kept.
+    /// The last bytes of the input decide whether it is a TGA of this size. The last 18 bytes so far are kept.
     Footer { size: ImageSize },
-    /// The size, or why there is none.
+    /// The size or the error is known.
     Done { size: Result<ImageSize, Halt> },
 }
 
-/// Goes on along the records with more bytes.
+/// Continues the walk along the records with the next chunk.
 pub(crate) fn walk(next: Awaited, stand: &mut Stand, room: &mut [u8; ROOM], chunk: &[u8]) -> Stage
     requires steady { IsSteady next stand.old.place }
     requires few { stand.old.passed - stand.old.start ≤ 1023 }
     requires fits { stand.old.passed + length chunk.now ≤ stand.old.told }
     ensures told { stand.new.told ≡ stand.old.told }
     ensures holds { HoldsAt result stand.new }
+    ensures ahead { IsAhead result stand.new }
+    ensures passed { IfAwaiting result (stand.new.passed ≡ stand.old.passed + length chunk.now) }
 
-    // Of each list of bytes that came before:
+    // For each list of bytes that may have arrived before:
     ensures goes_on { (kind : Option ImageType) (front : List ℕ) → CameTo (stage.Records next) kind stand.old room.old front
         → CameTo result kind stand.new room.new (front ++ chunk.now) }
     ensures complete { IfAwaiting result ((kind : Option ImageType) (front : List ℕ) → CameTo (stage.Records next) kind stand.old room.old front
         → RestsOnMore (front ++ chunk.now) stand.old.told) }
+    ensures starts { IfAwaiting result ((kind : Option ImageType) (front : List ℕ) → CameTo (stage.Records next) kind stand.old room.old front
+        → RestsFrom stand.new.start (front ++ chunk.now) stand.old.told) }
     ensures whole { IfAwaiting result (stand.old.told ≤ stand.old.passed + length chunk.now → ⊥) }
 {
     let mut sizes = Sizes { next };
@@ -58,7 +64,7 @@ pub(crate) fn walk(next: Awaited, stand: &mut Stand, room: &mut [u8; ROOM], chun
     }
 }
 
-/// Waits for the last bytes, and returns what they tell once all came.
+/// Waits for the last bytes. Once all bytes arrived, these decide whether it is a TGA.
 pub(crate) fn wait(
     size: ImageSize,
     kind: &mut Option<ImageType>,
@@ -70,16 +76,27 @@ pub(crate) fn wait(
     requires fits { stand.old.passed + length chunk.now ≤ stand.old.told }
     ensures told { stand.new.told ≡ stand.old.told }
     ensures holds { HoldsAt result stand.new }
+    ensures ahead { IsAhead result stand.new }
+    ensures passed { IfAwaiting result (stand.new.passed ≡ stand.old.passed + length chunk.now) }
     ensures goes_on { (front : List ℕ) → CameTo (stage.Footer size) kind.old stand.old room.old front
         → CameTo result kind.new stand.new room.new (front ++ chunk.now) }
     ensures complete { IfAwaiting result ((front : List ℕ) → CameTo (stage.Footer size) kind.old stand.old room.old front
         → RestsOnMore (front ++ chunk.now) stand.old.told) }
+    ensures starts { IfAwaiting result ((front : List ℕ) → CameTo (stage.Footer size) kind.old stand.old room.old front
+        → RestsFrom stand.new.start (front ++ chunk.now) stand.old.told) }
     ensures whole { IfAwaiting result (stand.old.told ≤ stand.old.passed + length chunk.now → ⊥) }
+
+    // Of each input with these parts:
+    ensures parts { (d : List ℕ) → IsGiven (stage.Footer size) kind.old stand.old room.old d
+        → chunk.now ≡ part d stand.old.passed (length chunk.now) → MayBeAt result kind.new stand.new room.new d }
 {
     let count = chunk.len() as u64;
     keep_behind(room, 18, chunk, count);
     stand.passed += count;
     if stand.passed < stand.told {
+        stand.start = stand.told - 18;
+        stand.place = stand.start;
+        stand.end = stand.told;
         return Stage::Footer { size };
     }
     let mut last = [0u8; 18];
@@ -94,7 +111,7 @@ pub(crate) fn wait(
     }
 }
 
-/// Begins with more bytes, of which the room has the first.
+/// Continues with the next chunk while the first bytes do not suffice. The buffer holds all bytes so far.
 pub(crate) fn begin(
     kind: &mut Option<ImageType>,
     stand: &mut Stand,
@@ -106,10 +123,14 @@ pub(crate) fn begin(
     requires fits { stand.old.passed + length chunk.now ≤ stand.old.told }
     ensures told { stand.new.told ≡ stand.old.told }
     ensures holds { HoldsAt result stand.new }
+    ensures ahead { IsAhead result stand.new }
+    ensures passed { IfAwaiting result (stand.new.passed ≡ stand.old.passed + length chunk.now) }
     ensures goes_on { (front : List ℕ) → CameTo stage.First kind.old stand.old room.old front
         → CameTo result kind.new stand.new room.new (front ++ chunk.now) }
     ensures complete { IfAwaiting result ((front : List ℕ) → CameTo stage.First kind.old stand.old room.old front
         → RestsOnMore (front ++ chunk.now) stand.old.told) }
+    ensures starts { IfAwaiting result ((front : List ℕ) → CameTo stage.First kind.old stand.old room.old front
+        → RestsFrom stand.new.start (front ++ chunk.now) stand.old.told) }
     ensures whole { IfAwaiting result (stand.old.told ≤ stand.old.passed + length chunk.now → ⊥) }
 {
     let left = FIRST - stand.passed;
@@ -120,7 +141,7 @@ pub(crate) fn begin(
     begun(kind, stand, room, rest)
 }
 
-// Goes on from the first bytes, all of which are kept, with more behind them.
+// Continues from the first bytes, which are all in the buffer, with the rest of the chunk.
 fn begun(
     kind: &mut Option<ImageType>,
     stand: &mut Stand,
@@ -133,14 +154,18 @@ fn begun(
     requires fits { stand.old.passed + length chunk.now ≤ stand.old.told }
     ensures told { stand.new.told ≡ stand.old.told }
     ensures holds { HoldsAt result stand.new }
+    ensures ahead { IsAhead result stand.new }
+    ensures passed { IfAwaiting result (stand.new.passed ≡ stand.old.passed + length chunk.now) }
     ensures goes_on { CameTo result kind.new stand.new room.new (take stand.old.passed room.old ++ chunk.now) }
     ensures complete { IfAwaiting result (RestsOnMore (take stand.old.passed room.old ++ chunk.now) stand.old.told) }
+    ensures starts { IfAwaiting result (RestsFrom stand.new.start (take stand.old.passed room.old ++ chunk.now) stand.old.told) }
     ensures whole { IfAwaiting result (stand.old.told ≤ stand.old.passed + length chunk.now → ⊥) }
 {
     let passed = stand.passed as usize;
     match hear(&room[..passed], stand.told) {
-        Heard::Missing { image } => {
+        Heard::Missing { image, end } => {
             *kind = image;
+            stand.end = end;
             Stage::First
         }
         Heard::Answer { image, size } => {

@@ -3,6 +3,7 @@
 pub mod failures;
 pub mod parts;
 pub mod readers;
+pub mod rounds;
 pub mod stream;
 
 use crate::table::{Row, Wrong, holds};
@@ -29,6 +30,7 @@ pub fn check(alloc: Global, row: &Row<'_>) -> Result<(), Wrong> {
     check_followed(alloc, row)?;
     parts::check_parts(alloc, row)?;
     stream::check_stream(alloc, row)?;
+    rounds::check(alloc, row)?;
     if let Some(spans) = &row.spans {
         check_trace(alloc, row, spans)?;
         check_free_bytes(alloc, row, spans)?;

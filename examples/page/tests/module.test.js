@@ -1,7 +1,8 @@
-// The module in a browser without the page: before and after `init`, in a worker, and as a script that a bundler made.
+// The module in a browser without the page: before and after `init`, over streams, in a worker, and as a script that a bundler made.
 
 import assert from 'node:assert/strict';
 import { execFileSync, spawnSync } from 'node:child_process';
+import { EventEmitter, once } from 'node:events';
 import { readFileSync } from 'node:fs';
 import { test } from 'node:test';
 import { fileURLToPath } from 'node:url';
@@ -10,7 +11,8 @@ import { withTab } from './chromium.js';
 
 const folder = fileURLToPath(new URL('../../../bindings/js/', import.meta.url));
 const TYPES = { js: 'text/javascript', wasm: 'application/wasm', html: 'text/html' };
-const SIZE = `probe(new TextEncoder().encode('GIF89ad\\0\\x32\\0\\0\\0')).width`;
+const GIF = `new TextEncoder().encode('GIF89ad\\0\\x32\\0\\0\\0')`;
+const SIZE = `probe(${GIF}).width`;
 const FILES = {
   '/': '<!doctype html><title>module</title>',
   '/worker.js': `import { init, probe } from '/imagesize.js'; await init(); postMessage(${SIZE});`,
@@ -25,7 +27,19 @@ if (hasBundler) {
   ], { cwd: folder, encoding: 'utf8' });
 }
 
+const leaving = new EventEmitter();
+
+// Gives the beginning of a GIF, and never the rest.
+function stall(response) {
+  response.on('close', () => leaving.emit('close'));
+  response.writeHead(200).write(Buffer.concat([Buffer.from('GIF89ad\0\x32\0\0\0', 'latin1'), Buffer.alloc(5000)]));
+}
+
 function serve({ url }, response) {
+  if (url === '/stalled.gif') {
+    stall(response);
+    return;
+  }
   response.setHeader('Content-Type', TYPES[url.split('.')[1] ?? 'html'] ?? 'text/plain');
   try {
     response.end(FILES[url] ?? readFileSync(`${folder}${url.slice(1)}`));
@@ -39,7 +53,7 @@ test('the module', async (t) => {
     await tab.send('Page.enable');
     await tab.send('Page.navigate', { url: new URL('/', address).href });
     await tab.until(`document.title === 'module'`);
-    const inModule = (code) => tab.value(`import('/imagesize.js').then(async ({ init, probe }) => { ${code} })
+    const inModule = (code) => tab.value(`import('/imagesize.js').then(async ({ init, probe, probeStream, probeUrl, StreamProbe }) => { ${code} })
       .catch(({ name, code, message }) => [name, code, message].join(' '))`);
     const inWorker = (made) => tab.value(`new Promise((resolve, reject) => {
       const worker = ${made};
@@ -54,6 +68,18 @@ test('the module', async (t) => {
     await t.test('after init it answers', async () => {
       assert.match(await inModule(`await init('/nothing.wasm')`), /^ImageError NO_LIBRARY .*answers 404/);
       assert.equal(await inModule(`await init(); return ${SIZE}`), 100);
+    });
+
+    await t.test('over streams, which it leaves', async () => {
+      assert.deepEqual(await inModule(`
+        const stream = new StreamProbe();
+        const found = Array.from(${GIF}, (byte) => stream.feed(Uint8Array.of(byte))?.width ?? null);
+        return [...found.slice(-2), (await probeStream(new Blob([${GIF}]).stream())).height];`), [null, 100, 50]);
+      for (const call of [`probeStream((await fetch('/stalled.gif')).body)`, `probeUrl(new URL('/stalled.gif', document.baseURI))`]) {
+        const closed = once(leaving, 'close', { signal: AbortSignal.timeout(10000) });
+        assert.equal(await inModule(`return (await ${call}).width`), 100);
+        await closed;
+      }
     });
 
     await t.test('in a worker', async () => {

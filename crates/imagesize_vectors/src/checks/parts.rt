@@ -20,8 +20,8 @@ pub enum How {
     Shuffled,
 }
 
-// The part that is fetched.
-fn part_for(how: How, wanted: &Span, whole: u64) -> Span {
+/// The part that is fetched.
+pub fn part_for(how: How, wanted: &Span, whole: u64) -> Span {
     let end = wanted.start.saturating_add(wanted.len);
     let (start, end) = match how {
         How::Exactly => (wanted.start, end),

@@ -50,8 +50,8 @@ pub fn check_stream(alloc: Global, row: &Row<'_>) -> Result<(), Wrong> {
     Ok(())
 }
 
-// Whether two sizes are the same, or two errors have the same text.
-fn is_same(
+/// Whether two sizes are the same, or two errors have the same text.
+pub fn is_same(
     alloc: Global,
     one: &ImageResult<ImageSize>,
     other: &ImageResult<ImageSize>,

@@ -1,10 +1,10 @@
-use Rattle.std.proofs.Common.{◌+◌, ◌<◌, ◌^◌, length, min, refl, sym, ap, ◌∙◌, subst, arith}
+use Rattle.std.proofs.Common.{◌<◌, ◌^◌, length, refl, sym, ap, ◌∙◌, subst, arith}
 use Rattle.std.proofs.lemmas.Bool.{false_from_ne_true}
 use Rattle.imagesize_source.specs.Layout.{layout_reads}
 use Rattle.imagesize_source.specs.Reading.{is_faulted}
 use Rattle.imagesize_source.proofs.Sharing.{shared}
 use Rattle.imagesize_pieces.specs.Stream.{Begins, Says}
-use Rattle.imagesize_pieces.proofs.Asking.{complete_begun, few_begun, none_missed, says_begun}
+use Rattle.imagesize_pieces.proofs.Asking.{complete_begun, ends_begun, few_begun, none_missed, says_begun}
 use Rattle.imagesize_pieces.proofs.Beginning.{last_run}
 use Rattle.imagesize_pieces.proofs.Called.{called, goes_on}
 use Rattle.imagesize_pieces.proofs.Reaching.{reach_covered}
@@ -12,14 +12,14 @@ use Rattle.imagesize_pieces.proofs.front.read_front.Goals as goal
 
 pub returns-clause-says : goal.returns-clause-says
 returns-clause-says g c = λ faultless.
-    let a = c.new-source.result in let b = c.read.new.source in let new = c.new-source.ensures in
+    let a = c.new-source.result in let b = c.read-found.new.source in let new = c.new-source.ensures in
     let call = called (λ e. layout_reads e
-    (g.F.Fixed.layout c.args.fixed.now)) _ _ _ _ _ _ _ b.log.spans _ b.missed _ new.seen new.missed c.read.ensures
+    (g.F.Fixed.layout c.args.fixed.now)) _ _ _ _ _ _ _ b.log.spans _ b.missed _ new.seen new.missed c.read-found.ensures
     b.seen b.lacks in
     let run = last_run c.args.bytes.now a.kept.now a.chunk.now 0 (length c.args.bytes.now) a.start refl new.kept
     (ap length new.chunk) (new.start ∙ omega arith) in
     subst (λ k. Says c.args.bytes.now k
-    (λ d. layout_reads d (g.F.Fixed.layout c.args.fixed.now)) c.read.result) new.told
+    (λ d. layout_reads d (g.F.Fixed.layout c.args.fixed.now)) c.read-found.result) new.told
     (says_begun (λ e. layout_reads e (g.F.Fixed.layout c.args.fixed.now))
     (λ d e. shared d e (g.F.Fixed.layout c.args.fixed.now)) a.told a.start a.kept.now a.chunk.now _ run
     (omega (arith, a.within))
@@ -27,17 +27,17 @@ returns-clause-says g c = λ faultless.
 
 pub returns-clause-unstopped : goal.returns-clause-unstopped
 returns-clause-unstopped g c = λ faultless.
-    let a = c.new-source.result in let b = c.read.new.source in let new = c.new-source.ensures in
+    let a = c.new-source.result in let b = c.read-found.new.source in let new = c.new-source.ensures in
     let call = called (λ e. layout_reads e
-    (g.F.Fixed.layout c.args.fixed.now)) _ _ _ _ _ _ _ b.log.spans _ b.missed _ new.seen new.missed c.read.ensures
+    (g.F.Fixed.layout c.args.fixed.now)) _ _ _ _ _ _ _ b.log.spans _ b.missed _ new.seen new.missed c.read-found.ensures
     b.seen b.lacks in
     goes_on _ _ _ _ (subst (λ k. k < 2 ^ 63) (sym new.told) c.requires.short) _ _ _ call faultless
 
 pub returns-clause-few : goal.returns-clause-few
 returns-clause-few g c = λ faults high reach.
-    let a = c.new-source.result in let b = c.read.new.source in let new = c.new-source.ensures in
+    let a = c.new-source.result in let b = c.read-found.new.source in let new = c.new-source.ensures in
     let call = called (λ e. layout_reads e
-    (g.F.Fixed.layout c.args.fixed.now)) _ _ _ _ _ _ _ b.log.spans _ b.missed _ new.seen new.missed c.read.ensures
+    (g.F.Fixed.layout c.args.fixed.now)) _ _ _ _ _ _ _ b.log.spans _ b.missed _ new.seen new.missed c.read-found.ensures
     b.seen b.lacks in
     let run = last_run c.args.bytes.now a.kept.now a.chunk.now 0 (length c.args.bytes.now) a.start refl new.kept
     (ap length new.chunk) (new.start ∙ omega arith) in
@@ -50,9 +50,9 @@ returns-clause-few g c = λ faults high reach.
 
 pub returns-clause-complete : goal.returns-clause-complete
 returns-clause-complete g c = λ faults d begins as_long below.
-    let a = c.new-source.result in let b = c.read.new.source in let new = c.new-source.ensures in
+    let a = c.new-source.result in let b = c.read-found.new.source in let new = c.new-source.ensures in
     let call = called (λ e. layout_reads e
-    (g.F.Fixed.layout c.args.fixed.now)) _ _ _ _ _ _ _ b.log.spans _ b.missed _ new.seen new.missed c.read.ensures
+    (g.F.Fixed.layout c.args.fixed.now)) _ _ _ _ _ _ _ b.log.spans _ b.missed _ new.seen new.missed c.read-found.ensures
     b.seen b.lacks in
     let run = last_run c.args.bytes.now a.kept.now a.chunk.now 0 (length c.args.bytes.now) a.start refl new.kept
     (ap length new.chunk) (new.start ∙ omega arith) in
@@ -66,16 +66,31 @@ returns-clause-complete g c = λ faults d begins as_long below.
 
 pub returns-clause-whole : goal.returns-clause-whole
 returns-clause-whole g c = λ all.
-    let a = c.new-source.result in let b = c.read.new.source in let new = c.new-source.ensures in
+    let a = c.new-source.result in let b = c.read-found.new.source in let new = c.new-source.ensures in
     let call = called (λ e. layout_reads e
-    (g.F.Fixed.layout c.args.fixed.now)) _ _ _ _ _ _ _ b.log.spans _ b.missed _ new.seen new.missed c.read.ensures
+    (g.F.Fixed.layout c.args.fixed.now)) _ _ _ _ _ _ _ b.log.spans _ b.missed _ new.seen new.missed c.read-found.ensures
     b.seen b.lacks in
     let run = last_run c.args.bytes.now a.kept.now a.chunk.now 0 (length c.args.bytes.now) a.start refl new.kept
     (ap length new.chunk) (new.start ∙ omega arith) in
-    false_from_ne_true (is_faulted c.read.result) (λ faults.
+    false_from_ne_true (is_faulted c.read-found.result) (λ faults.
     none_missed (λ e. layout_reads e (g.F.Fixed.layout c.args.fixed.now))
     (λ d e. shared d e (g.F.Fixed.layout c.args.fixed.now)) a.told a.start a.kept.now a.chunk.now _ run
     (omega (arith, a.within))
     (subst (λ k. k < 2 ^ 63) (sym new.told) c.requires.short) b.log.spans b.missed _ call faults
     (omega (arith, all, new.told))
     (λ p here. omega (arith, new.start)))
+
+pub returns-clause-ends : goal.returns-clause-ends
+returns-clause-ends g c = λ faults.
+    let a = c.new-source.result in let b = c.read-found.new.source in let new = c.new-source.ensures in
+    let call = called (λ e. layout_reads e
+    (g.F.Fixed.layout c.args.fixed.now)) _ _ _ _ _ _ _ b.log.spans _ b.missed _ new.seen new.missed c.read-found.ensures
+    b.seen b.lacks in
+    let run = last_run c.args.bytes.now a.kept.now a.chunk.now 0 (length c.args.bytes.now) a.start refl new.kept
+    (ap length new.chunk) (new.start ∙ omega arith) in
+    let ends = ends_begun (λ e. layout_reads e (g.F.Fixed.layout c.args.fixed.now))
+    (λ d e. shared d e (g.F.Fixed.layout c.args.fixed.now)) a.told a.start a.kept.now a.chunk.now _ run
+    (omega (arith, a.within))
+    (subst (λ k. k < 2 ^ 63) (sym new.told) c.requires.short) b.log.spans b.missed _ call faults
+    (omega (arith, new.start)) in
+    (omega (arith, ends.0, c.end.ensures), omega (arith, ends.1, c.end.ensures, new.told))

@@ -11,7 +11,7 @@ use Rattle.imagesize_pieces.specs.Stream.{Begins, Says}
 use Rattle.imagesize_pieces.proofs.Asking.{complete_begun, none_missed, says_begun, says_behind}
 use Rattle.imagesize_pieces.proofs.Beginning.{any_run, begins_left, kept_on, run_held}
 use Rattle.imagesize_pieces.proofs.Called.{called, goes_on, same_frame}
-use Rattle.imagesize_pieces.proofs.Going.{ahead_begun, chain_above, few_left, leads_begun, stood_as}
+use Rattle.imagesize_pieces.proofs.Going.{ahead_begun, chain_above, ends_left, few_left, leads_begun, rests_left, stood_as}
 use Rattle.imagesize_pieces.proofs.Streaming.{both_bytes}
 use Rattle.imagesize_pieces.proofs.walk.read_on.Goals as goal
 
@@ -246,6 +246,81 @@ returns-then-is_faulted-clause-complete g c = λ none first whole front s d begi
           (sym (s.resumes d (begins_left front c.args.chunk.now c.args.stand.now.told d begins)))
           (covered-right s.before _ p here)),
     ))
+
+pub returns-then-is_faulted-clause-ends : goal.returns-then-is_faulted-clause-ends
+returns-then-is_faulted-clause-ends g c = λ none.
+    let a = c.new-source.result in let b = c.walk_on-found.new.source in let new = c.new-source.ensures in
+    let faults : is_faulted c.walk_on-found.result ≡ true = sym c.is_faulted.ensures ∙ c.if-is_faulted.true in
+    let runs = c.walk_on-found.ensures.runs 0 c.requires.keeps.0 c.requires.keeps.1 in
+    let call = called (λ e. chain_from (chain_of 0 (g.R.Records.said c.args.records.now)) e
+    (record { held = c.requires.keeps.0; place = c.args.stand.now.place }))
+    _ _ _ _ _ _ _ b.log.spans _ b.missed _ new.seen new.missed runs b.seen b.lacks in
+    let same = same_frame _ _ _ _ _ _ [] [] None None runs.frame in
+    let stood = stood_as (chain_of 0 (g.R.Records.said c.args.records.now))
+    (λ behind. g.R.Records.keeps c.walk_on-found.new.records behind c.walk_on-found.new.place)
+    (record {
+      held = c.requires.keeps.0;
+      place = c.args.stand.now.place;
+    }) c.walk_on-found.new.place _ _ _ _ _ _ _ _ _ _ _ new.seen new.missed same
+    (c.walk_on-found.ensures.stands 0 c.requires.keeps.0 c.requires.keeps.1 faults) in
+    let start_is : a.start ≡ min c.args.stand.now.start (c.args.stand.now.passed + length c.args.chunk.now) = new.start
+    ∙ c.min-start.ensures in
+    let short = subst (λ k. k < 2 ^ 63) (sym new.told) c.args.stand.now.short in
+    let run = any_run a.kept.now a.chunk.now a.start in
+    let ahead = ahead_begun (chain_of 0 (g.R.Records.said c.args.records.now)) _
+    (record { held = c.requires.keeps.0; place = c.args.stand.now.place })
+    a.told a.start a.kept.now a.chunk.now _ run
+    (omega (arith, a.within)) short b.log.spans b.missed c.walk_on-found.new.place stood call.seen call.lacks in
+    let ends = ends_left (chain_of 0 (g.R.Records.said c.args.records.now)) _
+    (record { held = c.requires.keeps.0; place = c.args.stand.now.place })
+    a.told a.start a.kept.now a.chunk.now _ run
+    (omega (arith, a.within)) short b.log.spans b.missed c.walk_on-found.new.place stood call.seen call.lacks
+    (length c.args.room.now + 1) c.requires.reaches (omega (arith, start_is, c.args.stand.now.ahead)) in
+    let long = run.ends in
+    let kept_long : length a.kept.now ≡ c.args.stand.now.passed - c.args.stand.now.start =
+    ap length (new.kept ∙ ap (λ k. take k c.args.room.now) c.saturating_sub-count.ensures)
+    ∙ length-take (c.args.stand.now.passed - c.args.stand.now.start) c.args.room.now ∙ omega (arith, c.requires.room) in
+    let unread_long : length a.chunk.now ≡ length c.bytes_behind-unread.result.now = ap length new.chunk in
+    let chunk_long : length a.chunk.now ≡ length c.args.chunk.now - (c.args.stand.now.start - c.args.stand.now.passed) =
+    unread_long ∙ ap length (c.bytes_behind-unread.ensures ∙ ap (λ k. drop k c.args.chunk.now) c.saturating_sub.ensures)
+    ∙ length-drop (c.args.stand.now.start - c.args.stand.now.passed) c.args.chunk.now in (
+      omega (arith, ends.0, long, kept_long, chunk_long, start_is, c.end-stand.ensures),
+      omega (arith, ends.1, c.end-stand.ensures),
+      omega (arith, ends.2, new.told, c.end-stand.ensures),
+    )
+
+pub returns-then-is_faulted-clause-starts : goal.returns-then-is_faulted-clause-starts
+returns-then-is_faulted-clause-starts g c = λ none first whole front s d begins as_long below.
+    let a = c.new-source.result in let b = c.walk_on-found.new.source in let new = c.new-source.ensures in
+    let faults : is_faulted c.walk_on-found.result ≡ true = sym c.is_faulted.ensures ∙ c.if-is_faulted.true in
+    let runs = c.walk_on-found.ensures.runs first s.held s.known in
+    let call = called (λ e. chain_from (chain_of first (g.R.Records.said c.args.records.now)) e
+    (record { held = s.held; place = c.args.stand.now.place }))
+    _ _ _ _ _ _ _ b.log.spans _ b.missed _ new.seen new.missed runs b.seen b.lacks in
+    let same = same_frame _ _ _ _ _ _ [] [] None None runs.frame in
+    let stood = stood_as (chain_of first (g.R.Records.said c.args.records.now))
+    (λ behind. g.R.Records.keeps c.walk_on-found.new.records behind c.walk_on-found.new.place)
+    (record {
+      held = s.held;
+      place = c.args.stand.now.place;
+    }) c.walk_on-found.new.place _ _ _ _ _ _ _ _ _ _ _ new.seen new.missed same
+    (c.walk_on-found.ensures.stands first s.held s.known faults) in
+    let start_is : a.start ≡ min c.args.stand.now.start (c.args.stand.now.passed + length c.args.chunk.now) = new.start
+    ∙ c.min-start.ensures in
+    let short = subst (λ k. k < 2 ^ 63) (sym new.told) c.args.stand.now.short in
+    let run = run_held front c.args.chunk.now a.kept.now a.chunk.now c.args.stand.now.start c.args.stand.now.passed
+    a.start s.as_many
+    (new.kept ∙ ap (λ k. take k c.args.room.now) c.saturating_sub-count.ensures ∙ s.rest)
+    (new.chunk ∙ c.bytes_behind-unread.ensures ∙ ap (λ k. drop k c.args.chunk.now) c.saturating_sub.ensures) start_is in
+    rests_left (chain_of first (g.R.Records.said c.args.records.now)) _
+    (record { held = s.held; place = c.args.stand.now.place })
+    a.told a.start a.kept.now a.chunk.now (front ++ c.args.chunk.now) run
+    (omega (arith, a.within)) short b.log.spans b.missed c.walk_on-found.new.place stood call.seen call.lacks
+    (length c.args.room.now + 1) c.requires.reaches c.requires.follows d
+    (subst (λ k. Begins (front ++ c.args.chunk.now) k d) (sym new.told) begins) (as_long ∙ sym new.told)
+    (λ p here. below p (subst (λ (w : Reads _). is_covered w.marks p ≡ true)
+    (sym (s.resumes d (begins_left front c.args.chunk.now c.args.stand.now.told d begins)))
+    (covered-right s.before _ p here)))
 
 pub returns-then-is_faulted-clause-whole : goal.returns-then-is_faulted-clause-whole
 returns-then-is_faulted-clause-whole g c = λ all none.

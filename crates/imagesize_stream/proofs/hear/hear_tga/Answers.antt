@@ -1,6 +1,6 @@
-use Rattle.std.proofs.Common.{refl, sym, ◌∙◌}
+use Rattle.std.proofs.Common.{sym, ◌∙◌}
 use Rattle.imagesize_fixed.specs.Tga.{tga, tga_by_header}
-use Rattle.imagesize_stream.proofs.Footers.{footer_decides, header_reach, header_size, header_sure, header_type, never_refused, rests_on_more, short_size, short_type, size_reach, size_sure}
+use Rattle.imagesize_stream.proofs.Footers.{footer_decides, header_reach, header_size, header_sure, header_type, never_missed, rests_on_more, said_ok, short_size, short_type, size_reach, size_sure}
 use Rattle.imagesize_stream.proofs.hear.hear_tga.Goals as goal
 
 pub returns-then-told-lt18-clause-hears : goal.returns-then-told-lt18-clause-hears
@@ -18,49 +18,71 @@ returns-then-bytes-lt18-clause-hears c = (
 
 pub returns-in_default-clause-hears : goal.returns-in_default-clause-hears
 returns-in_default-clause-hears c = absurd (
-    never_refused c.args.bytes.now c.args.told
-    (tga_by_header c.args.head.now) c.in_default.field-0 c.in_default.ensures.says c.in_default.ensures.few
+    never_missed c.args.bytes.now c.args.told
+    (tga_by_header c.args.head.now) c.read_front-sound.result.0 c.in_default.field-0 c.in_default.is
+    c.read_front-sound.ensures.says c.read_front-sound.ensures.few
     c.requires.fits c.if-bytes-lt18.false (header_reach c.args.head.now) (header_sure c.args.head.now))
 
 pub returns-in_default-clause-few : goal.returns-in_default-clause-few
 returns-in_default-clause-few c = absurd (
-    never_refused c.args.bytes.now c.args.told
-    (tga_by_header c.args.head.now) c.in_default.field-0 c.in_default.ensures.says c.in_default.ensures.few
+    never_missed c.args.bytes.now c.args.told
+    (tga_by_header c.args.head.now) c.read_front-sound.result.0 c.in_default.field-0 c.in_default.is
+    c.read_front-sound.ensures.says c.read_front-sound.ensures.few
+    c.requires.fits c.if-bytes-lt18.false (header_reach c.args.head.now) (header_sure c.args.head.now))
+
+pub returns-in_default-clause-ends : goal.returns-in_default-clause-ends
+returns-in_default-clause-ends c = absurd (
+    never_missed c.args.bytes.now c.args.told
+    (tga_by_header c.args.head.now) c.read_front-sound.result.0 c.in_default.field-0 c.in_default.is
+    c.read_front-sound.ensures.says c.read_front-sound.ensures.few
     c.requires.fits c.if-bytes-lt18.false (header_reach c.args.head.now) (header_sure c.args.head.now))
 
 pub returns-in_default-clause-whole : goal.returns-in_default-clause-whole
 returns-in_default-clause-whole c = absurd (
-    never_refused c.args.bytes.now c.args.told
-    (tga_by_header c.args.head.now) c.in_default.field-0 c.in_default.ensures.says c.in_default.ensures.few
+    never_missed c.args.bytes.now c.args.told
+    (tga_by_header c.args.head.now) c.read_front-sound.result.0 c.in_default.field-0 c.in_default.is
+    c.read_front-sound.ensures.says c.read_front-sound.ensures.few
     c.requires.fits c.if-bytes-lt18.false (header_reach c.args.head.now) (header_sure c.args.head.now))
 
-pub returns-in_default-read_front-clause-hears : goal.returns-in_default-read_front-clause-hears
-returns-in_default-read_front-clause-hears c = absurd (
-    never_refused c.args.bytes.now c.args.told tga c.in_default-read_front.field-0 c.in_default-read_front.ensures.says
-    c.in_default-read_front.ensures.few
+pub returns-in_default-size-clause-hears : goal.returns-in_default-size-clause-hears
+returns-in_default-size-clause-hears c = absurd (
+    never_missed c.args.bytes.now c.args.told tga c.read_front-size.result.0 c.in_default-size.field-0
+    c.in_default-size.is c.read_front-size.ensures.says c.read_front-size.ensures.few
     c.requires.fits c.if-bytes-lt18.false size_reach size_sure)
 
-pub returns-in_default-read_front-clause-few : goal.returns-in_default-read_front-clause-few
-returns-in_default-read_front-clause-few c = absurd (
-    never_refused c.args.bytes.now c.args.told tga c.in_default-read_front.field-0 c.in_default-read_front.ensures.says
-    c.in_default-read_front.ensures.few
+pub returns-in_default-size-clause-few : goal.returns-in_default-size-clause-few
+returns-in_default-size-clause-few c = absurd (
+    never_missed c.args.bytes.now c.args.told tga c.read_front-size.result.0 c.in_default-size.field-0
+    c.in_default-size.is c.read_front-size.ensures.says c.read_front-size.ensures.few
     c.requires.fits c.if-bytes-lt18.false size_reach size_sure)
 
-pub returns-in_default-read_front-clause-whole : goal.returns-in_default-read_front-clause-whole
-returns-in_default-read_front-clause-whole c = absurd (
-    never_refused c.args.bytes.now c.args.told tga c.in_default-read_front.field-0 c.in_default-read_front.ensures.says
-    c.in_default-read_front.ensures.few
+pub returns-in_default-size-clause-ends : goal.returns-in_default-size-clause-ends
+returns-in_default-size-clause-ends c = absurd (
+    never_missed c.args.bytes.now c.args.told tga c.read_front-size.result.0 c.in_default-size.field-0
+    c.in_default-size.is c.read_front-size.ensures.says c.read_front-size.ensures.few
+    c.requires.fits c.if-bytes-lt18.false size_reach size_sure)
+
+pub returns-in_default-size-clause-whole : goal.returns-in_default-size-clause-whole
+returns-in_default-size-clause-whole c = absurd (
+    never_missed c.args.bytes.now c.args.told tga c.read_front-size.result.0 c.in_default-size.field-0
+    c.in_default-size.is c.read_front-size.ensures.says c.read_front-size.ensures.few
     c.requires.fits c.if-bytes-lt18.false size_reach size_sure)
 
 pub returns-then-is_by_header-clause-hears : goal.returns-then-is_by_header-clause-hears
 returns-then-is_by_header-clause-hears c =
     let is = sym c.is_by_header.ensures ∙ c.if-is_by_header.true in (
       header_type c.args.bytes.now c.args.told c.args.head.now c.requires.first c.requires.fits c.in-Ok.sound
-          c.in-Ok-read_front.size
-          (c.in-Ok.ensures.says refl) (c.in-Ok-read_front.ensures.says refl) c.if-bytes-lt18.false is,
+          c.in-Ok-size.size
+          (said_ok c.args.bytes.now c.args.told (tga_by_header c.args.head.now) c.read_front-sound.result.0
+          c.in-Ok.sound c.in-Ok.is c.read_front-sound.ensures.says)
+          (said_ok c.args.bytes.now c.args.told tga c.read_front-size.result.0 c.in-Ok-size.size
+          c.in-Ok-size.is c.read_front-size.ensures.says) c.if-bytes-lt18.false is,
       header_size c.args.bytes.now c.args.told c.args.head.now c.requires.first c.requires.fits c.in-Ok.sound
-          c.in-Ok-read_front.size
-          (c.in-Ok.ensures.says refl) (c.in-Ok-read_front.ensures.says refl) c.if-bytes-lt18.false is,
+          c.in-Ok-size.size
+          (said_ok c.args.bytes.now c.args.told (tga_by_header c.args.head.now) c.read_front-sound.result.0
+          c.in-Ok.sound c.in-Ok.is c.read_front-sound.ensures.says)
+          (said_ok c.args.bytes.now c.args.told tga c.read_front-size.result.0 c.in-Ok-size.size
+          c.in-Ok-size.is c.read_front-size.ensures.says) c.if-bytes-lt18.false is,
     )
 
 pub returns-clause-hears : goal.returns-clause-hears
@@ -68,6 +90,9 @@ returns-clause-hears c =
     let is = sym c.is_by_header.ensures ∙ c.if-is_by_header.false in (
       c.if-bytes-lt18.false,
       footer_decides c.args.bytes.now c.args.told c.args.head.now c.requires.first c.requires.fits c.in-Ok.sound
-          c.in-Ok-read_front.size
-          (c.in-Ok.ensures.says refl) (c.in-Ok-read_front.ensures.says refl) c.if-bytes-lt18.false is,
+          c.in-Ok-size.size
+          (said_ok c.args.bytes.now c.args.told (tga_by_header c.args.head.now) c.read_front-sound.result.0
+          c.in-Ok.sound c.in-Ok.is c.read_front-sound.ensures.says)
+          (said_ok c.args.bytes.now c.args.told tga c.read_front-size.result.0 c.in-Ok-size.size
+          c.in-Ok-size.is c.read_front-size.ensures.says) c.if-bytes-lt18.false is,
     )

@@ -32,3 +32,32 @@ returns-in-Footer-clause-goes_on c =
     (omega (arith, c.requires.few)) hears.0 refl
     c.keep_behind.ensures in
     c.wait.ensures.goes_on (take c.args.stand.now.passed c.args.room.now) (last.0, last.1, tt, hears.1)
+
+pub returns-in-Records-clause-starts : goal.returns-in-Records-clause-starts
+returns-in-Records-clause-starts c =
+    let hears = c.in-Records.ensures.hears in
+    awaiting_map c.walk.result
+    (λ rests. rests (Some c.in-Records.image) (take c.args.stand.now.passed c.args.room.now) (
+      type_is (take c.args.stand.now.passed c.args.room.now) c.args.stand.now.told _ hears.1,
+      opened_came c.args.room.now c.args.stand.now.passed c.args.stand.now.start c.args.stand.now.told
+          c.in-Records.place c.in-Records.next c.in-Records.image
+          c.requires.first (omega (arith, c.requires.few)) hears.0 hears.1 hears.2,
+    )) c.walk.ensures.starts
+
+pub returns-in-Footer-clause-complete : goal.returns-in-Footer-clause-complete
+returns-in-Footer-clause-complete c =
+    let hears = c.in-Footer.ensures.hears in
+    let last = last_kept c.args.room.now c.keep_behind.new.room c.args.stand.now.passed (c.args.stand.now.passed - 18)
+    (omega (arith, c.requires.few)) hears.0 refl
+    c.keep_behind.ensures in
+    awaiting_map c.wait.result
+    (λ rests. rests (take c.args.stand.now.passed c.args.room.now) (last.0, last.1, tt, hears.1)) c.wait.ensures.complete
+
+pub returns-in-Footer-clause-starts : goal.returns-in-Footer-clause-starts
+returns-in-Footer-clause-starts c =
+    let hears = c.in-Footer.ensures.hears in
+    let last = last_kept c.args.room.now c.keep_behind.new.room c.args.stand.now.passed (c.args.stand.now.passed - 18)
+    (omega (arith, c.requires.few)) hears.0 refl
+    c.keep_behind.ensures in
+    awaiting_map c.wait.result
+    (λ rests. rests (take c.args.stand.now.passed c.args.room.now) (last.0, last.1, tt, hears.1)) c.wait.ensures.starts

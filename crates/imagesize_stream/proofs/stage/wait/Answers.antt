@@ -1,9 +1,10 @@
-use Rattle.std.proofs.Common.{◌≤◌, true, false, length, take, refl, sym, ◌∙◌, ap, arith}
+use Rattle.std.proofs.Common.{◌+◌, ◌-◌, ◌≤◌, true, false, length, take, refl, sym, ◌∙◌, ap, arith}
 use Rattle.std.proofs.lemmas.List.{length-append}
 use Rattle.imagesize_fixed.specs.Tga.{is_tga_footer}
 use Rattle.imagesize_pieces.proofs.Beginning.{begins_left}
 use Rattle.imagesize_stream.proofs.Coming.{says_on}
 use Rattle.imagesize_stream.proofs.Footers.{footer_tells, last_on}
+use Rattle.imagesize_stream.proofs.Given.{footer_came, footer_known, footer_on}
 use Rattle.imagesize_stream.proofs.stage.wait.Goals as goal
 
 pub returns-then-stand-clause-goes_on : goal.returns-then-stand-clause-goes_on
@@ -38,3 +39,53 @@ returns-clause-goes_on c = λ front came.
     (length c.args.chunk.now) some came.1 refl c.keep_behind.ensures)
     came.3 (ap is_tga_footer (sym c.copy_from_slice.ensures.after) ∙ sym c.is_footer.ensures ∙ c.if-is_footer.false)
     (omega (arith, as_many, c.requires.fits, length-append front c.args.chunk.now))
+
+pub returns-then-stand-clause-parts : goal.returns-then-stand-clause-parts
+returns-then-stand-clause-parts c = λ d given part.
+    let stand = c.args.stand.now in let chunk = c.args.chunk.now in
+    let footer = footer_on d c.args.room.now c.keep_behind.new.room chunk stand.passed stand.told (length chunk)
+    given.as_long c.requires.fits (omega arith) refl given.known.1 part c.keep_behind.ensures in
+    record {
+      given = record {
+        as_long = given.as_long;
+        known = (given.known.0, footer);
+      };
+      depends = (
+        (λ below.
+            let here = below (length d - 1) given.known.0.rests in
+            omega (arith, here, given.as_long, c.if-stand.true)),
+        λ below. let here = below (length d - 1) given.known.0.rests in omega (arith, here, given.as_long),
+      );
+    }
+
+pub returns-then-is_footer-clause-parts : goal.returns-then-is_footer-clause-parts
+returns-then-is_footer-clause-parts c = λ d given part.
+    let stand = c.args.stand.now in let chunk = c.args.chunk.now in
+    let footer = footer_on d c.args.room.now c.keep_behind.new.room chunk stand.passed stand.told (length chunk)
+    given.as_long c.requires.fits (omega arith) refl given.known.1 part c.keep_behind.ensures in
+    record {
+      given = record {
+        as_long = given.as_long;
+        known = footer_known d (take 18 c.keep_behind.new.room) c.args.size true given.known.0
+            (footer_came d c.keep_behind.new.room (stand.passed + length chunk) stand.told given.as_long
+            (omega (arith, c.requires.some, c.requires.fits)) c.if-stand.false footer)
+            (ap is_tga_footer (sym c.copy_from_slice.ensures.after) ∙ sym c.is_footer.ensures ∙ c.if-is_footer.true);
+      };
+      depends = tt;
+    }
+
+pub returns-clause-parts : goal.returns-clause-parts
+returns-clause-parts c = λ d given part.
+    let stand = c.args.stand.now in let chunk = c.args.chunk.now in
+    let footer = footer_on d c.args.room.now c.keep_behind.new.room chunk stand.passed stand.told (length chunk)
+    given.as_long c.requires.fits (omega arith) refl given.known.1 part c.keep_behind.ensures in
+    record {
+      given = record {
+        as_long = given.as_long;
+        known = footer_known d (take 18 c.keep_behind.new.room) c.args.size false given.known.0
+            (footer_came d c.keep_behind.new.room (stand.passed + length chunk) stand.told given.as_long
+            (omega (arith, c.requires.some, c.requires.fits)) c.if-stand.false footer)
+            (ap is_tga_footer (sym c.copy_from_slice.ensures.after) ∙ sym c.is_footer.ensures ∙ c.if-is_footer.false);
+      };
+      depends = tt;
+    }

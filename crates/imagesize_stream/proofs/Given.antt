@@ -1,0 +1,307 @@
+-- An input whose parts are given in rounds: what more of them leave known.
+use Rattle.std.proofs.Common.{◌≡◌, ℕ, ◌+◌, ◌-◌, ◌<◌, ◌≤◌, max, ◌⊎◌, inl, inr, List, [], ◌++◌, length, take, drop, Bool, true, false, cond, Option, Some, None, Result, Ok, Err, refl, sym, ap, ◌∙◌, subst, arith}
+use Rattle.std.proofs.Math.Seq.{drop-append-add, take-add}
+use Rattle.std.proofs.lemmas.Bool.{cases_lt}
+use Rattle.std.proofs.lemmas.List.{drop-append-le, drop-drop, drop-take, drop_all, length-drop, length-take, take_all, take_min}
+use Rattle.std.specs.Result.{result_ok}
+use Rattle.imagesize.specs.Meaning.{kind_reads, meaning_reads}
+use Rattle.imagesize.specs.declared.types.ImageType.{ImageType}
+use Rattle.imagesize.specs.declared.types.ImageType.TheVariants.{Tga}
+use Rattle.imagesize_fixed.specs.Tga.{is_tga_footer}
+use Rattle.imagesize_pieces.proofs.Beginning.{begins_left}
+use Rattle.imagesize_pieces.specs.Stream.{Begins}
+use Rattle.imagesize_pieces.specs.declared.stand.Stand.{Stand}
+use Rattle.imagesize_source.specs.Input.{part}
+use Rattle.imagesize_source.specs.declared.halt.Halt.{Halt}
+use Rattle.imagesize_source.specs.declared.halt.Halt.TheVariants.{NotSupported}
+use Rattle.imagesize_stream.specs.Given.{DependsFrom, HasPart, IsGiven, KnownBy, MayBeAt}
+use Rattle.imagesize_stream.specs.Heard.{IsByFooter, RestsFrom, RestsOnMore}
+use Rattle.imagesize_stream.specs.Probe.{AheadBy, CameBy, CameTo, HoldsAt, HoldsBy, IfAwaiting}
+use Rattle.imagesize_stream.specs.Pushed.{stage_answer}
+use Rattle.imagesize_stream.proofs.Coming.{awaiting_map}
+use Rattle.imagesize_types.specs.declared.size.ImageSize.{ImageSize}
+use Rattle.imagesize_stream.specs.declared.stage.Stage.{Stage}
+use Rattle.imagesize_stream.specs.declared.stage.Stage.TheVariants.{Done, First, Footer, Records}
+
+-- bytes from an offset on, as many as there are
+pub cut_part : (d cut : List ℕ) (p n : ℕ) → cut ≡ part d p n → cut ≡ part d p (length cut)
+unfolding part
+cut_part d cut p n is =
+    is ∙ sym (take_min n (drop p d)) ∙ ap (λ k. take k (drop p d)) (sym (ap length is ∙ length-take n (drop p d)))
+
+-- the first bytes, and those behind them
+pub first_on : (d cut : List ℕ) (p : ℕ) → cut ≡ part d p (length cut) → take p d ++ cut ≡ take (p + length cut) d
+unfolding part
+first_on d cut p is = ap (λ xs. take p d ++ xs) is ∙ sym (take-add p (length cut) d)
+
+-- an input begins with its first bytes
+pub begins_first : (d : List ℕ) (told p : ℕ) → length d ≡ told → Begins (take p d) told d
+begins_first d told p as_long = record {
+  first = ap (λ k. take k d) (length-take p d) ∙ take_min p d;
+  fits = omega (arith, as_long);
+}
+
+-- what begins with more of them begins with these
+pub begins_less : (d e : List ℕ) (told p q : ℕ) → p ≤ q → Begins (take q d) told e → Begins (take p d) told e
+begins_less d e told p q less begins =
+    let more : p + (q - p) ≡ q = omega (arith, less) in
+    begins_left (take p d) (take (q - p) (drop p d)) told e
+    (subst (λ xs. Begins xs told e) (ap (λ k. take k d) (sym more) ∙ take-add p (q - p) d) begins)
+
+-- bytes that were given from an earlier offset on
+pub given_later : (d bytes : List ℕ) (offset p : ℕ) → offset ≤ p → p ≤ length d → HasPart d offset bytes
+    → HasPart d p (drop (p - offset) bytes)
+unfolding part
+given_later d bytes offset p before within has =
+    let k : ℕ = p - offset in
+    let at : length d - offset ≡ k + (length d - p) = omega (arith, before, within) in
+    let many : length (drop k bytes) ≡ length bytes - k = length-drop k bytes in
+    let back : offset + k ≡ p = omega (arith, before) in
+    sym (drop-take k (length d - p) bytes)
+    ∙ ap (λ n. drop k (take n bytes)) (sym at)
+    ∙ ap (drop k) has
+    ∙ dropped (length bytes) k (drop offset d)
+    ∙ ap (λ n. take n (drop k (drop offset d))) (sym many)
+    ∙ ap (take (length (drop k bytes))) (drop-drop k offset d ∙ ap (λ n. drop n d) back)
+  where
+    dropped : (n k : ℕ) (xs : List ℕ) → drop k (take n xs) ≡ take (n - k) (drop k xs)
+    dropped n k xs = by_cases (cases_lt n k) where
+      by_cases : (n < k) ⊎ (k ≤ n) → drop k (take n xs) ≡ take (n - k) (drop k xs)
+      by_cases (inr some) =
+          let all : k + (n - k) ≡ n = omega (arith, some) in
+          ap (λ m. drop k (take m xs)) (sym all) ∙ drop-take k (n - k) xs
+      by_cases (inl few) =
+          let none : n - k ≡ 0 = omega (arith, few) in
+          drop_all k (take n xs) (omega (arith, few, length-take n xs)) ∙ ap (λ m. take m (drop k xs)) (sym none)
+
+-- those of the last bytes that came, where the last that came are kept
+pub footer_left : (d room : List ℕ) (passed told : ℕ) → length d ≡ told → 18 ≤ passed → passed ≤ told
+    → take 18 room ≡ drop (length (take passed d) - 18) (take passed d)
+    → drop (told - passed) (take 18 room) ≡ drop (told - 18) (take passed d)
+footer_left d room passed told as_long some within is =
+    ap (drop (told - passed)) is ∙ drop-drop (told - passed) (length (take passed d) - 18) (take passed d)
+    ∙ ap (λ k. drop k (take passed d)) (omega (arith, length-take passed d, as_long, some, within))
+
+-- with more of them
+pub footer_on : (d room new cut : List ℕ) (passed told count : ℕ) → length d ≡ told → passed + length cut ≤ told
+    → 18 ≤ length room → count ≡ length cut
+    → drop (told - passed) (take 18 room) ≡ drop (told - 18) (take passed d) → cut ≡ part d passed (length cut)
+    → take (18 + length cut - count) new ≡ drop count (take 18 room ++ cut)
+    → drop (told - (passed + length cut)) (take 18 new) ≡ drop (told - 18) (take (passed + length cut) d)
+footer_on d room new cut passed told count as_long within enough many is is_part kept =
+    let all : 18 + length cut - count ≡ 18 = omega (arith, many) in
+    let at : count + (told - (passed + length cut)) ≡ told - passed = omega (arith, within, many) in
+    ap (λ k. drop (told - (passed + length cut)) (take k new)) (sym all)
+    ∙ ap (drop (told - (passed + length cut))) kept
+    ∙ drop-drop (told - (passed + length cut)) count (take 18 room ++ cut)
+    ∙ ap (λ k. drop k (take 18 room ++ cut)) at
+    ∙ by_cases (cases_lt 18 (told - passed))
+    ∙ ap (drop (told - 18)) (first_on d cut passed is_part)
+  where
+    first_long : length (take 18 room) ≡ 18
+    first_long = length-take 18 room ∙ omega (arith, enough)
+
+    long : length (take passed d) ≡ passed
+    long = length-take passed d ∙ omega (arith, as_long, within)
+
+    by_cases : (18 < told - passed) ⊎ (told - passed ≤ 18)
+        → drop (told - passed) (take 18 room ++ cut) ≡ drop (told - 18) (take passed d ++ cut)
+    by_cases (inr near) =
+        drop-append-le (told - passed) (take 18 room) cut (omega (arith, near, first_long))
+        ∙ ap (λ xs. xs ++ cut) is
+        ∙ sym (drop-append-le (told - 18) (take passed d) cut (omega (arith, near, long)))
+    by_cases (inl far) =
+        let here : told - passed ≡ length (take 18 room) + (told - passed - 18) = omega (arith, far, first_long) in
+        let there : told - 18 ≡ length (take passed d) + (told - passed - 18) = omega (arith, far, long) in
+        ap (λ k. drop k (take 18 room ++ cut)) here ∙ drop-append-add (take 18 room) cut (told - passed - 18)
+        ∙ sym (drop-append-add (take passed d) cut (told - passed - 18))
+        ∙ ap (λ k. drop k (take passed d ++ cut)) (sym there)
+
+-- all of them came
+pub footer_came : (d new : List ℕ) (passed told : ℕ) → length d ≡ told → 18 ≤ told → told ≤ passed
+    → drop (told - passed) (take 18 new) ≡ drop (told - 18) (take passed d) → take 18 new ≡ part d (length d - 18) 18
+unfolding part
+footer_came d new passed told as_long some all is =
+    let none : told - passed ≡ 0 = omega (arith, all) in
+    let at : told - 18 ≡ length d - 18 = omega (arith, as_long) in
+    ap (λ k. drop k (take 18 new)) (sym none) ∙ is ∙ ap (drop (told - 18)) (take_all passed d (omega (arith, as_long, all)))
+    ∙ ap (λ k. drop k d) at
+    ∙ sym (take_all 18 (drop (length d - 18) d) (omega (arith, length-drop (length d - 18) d, as_long, some)))
+
+-- what a probe knows of an input that begins with the bytes that came
+known_from : (stage : Stage) (kind : Option ImageType) (start place passed told : ℕ) (room front d : List ℕ)
+    → length d ≡ told → passed ≤ told → HoldsBy stage start place passed → Begins front told d
+    → IfAwaiting stage (front ≡ take passed d)
+    → CameBy stage kind start place passed told room front → KnownBy stage kind start place passed told room d
+known_from First kind start place passed told room front d as_long within holds begins is came =
+    subst (λ xs. CameBy First kind start place passed told room xs) is came
+known_from (Records next) kind start place passed told room front d as_long within holds begins is came =
+    subst (λ xs. CameBy (Records next) kind start place passed told room xs) is came
+known_from (Footer size) kind start place passed told room front d as_long within holds begins is came = (
+  came.3 d begins,
+  footer_left d room passed told as_long holds within
+      (subst (λ xs. take 18 room ≡ drop (length xs - 18) xs) is came.1),
+)
+known_from (Done size) kind start place passed told room front d as_long within holds begins is came =
+    (came.0 d begins, came.1 d begins)
+
+awaiting_three : {P Q R S : Type 0} (stage : Stage) → (P → Q → R → S) → IfAwaiting stage P → IfAwaiting stage Q
+    → IfAwaiting stage R → IfAwaiting stage S
+awaiting_three First f p q r = f p q r
+awaiting_three (Records next) f p q r = f p q r
+awaiting_three (Footer size) f p q r = f p q r
+awaiting_three (Done size) f p q r = tt
+
+pub may_be : (stage : Stage) (kind : Option ImageType) (stand : Stand) (room front d : List ℕ) (was : ℕ)
+    → stand.told ≡ was → length d ≡ was → Begins front was d → HoldsAt stage stand
+    → IfAwaiting stage (front ≡ take stand.passed d) → CameTo stage kind stand room front
+    → IfAwaiting stage (RestsOnMore front was) → IfAwaiting stage (RestsFrom stand.start front was)
+    → MayBeAt stage kind stand room d
+may_be stage kind stand room front d was same as_long begins holds is came more starts = record {
+  given = record {
+    as_long = as_long ∙ sym same;
+    known = known_from stage kind stand.start stand.place stand.passed stand.told room front d (as_long ∙ sym same)
+        stand.fits holds
+        (subst (λ k. Begins front k d) (sym same) begins) is came;
+  };
+  depends = awaiting_three stage (λ at rests later. (
+    (λ below. rests d begins as_long (λ p here.
+        let early = below p here in let fits = stand.fits in
+        omega (arith, early, ap length at, length-take stand.passed d, as_long, same, fits))),
+    λ below. later d begins as_long below,
+  )) is more starts;
+}
+
+-- where bytes that are not needed are passed by
+pub known_behind : (stage : Stage) (kind : Option ImageType) (start place passed next end told : ℕ) (room d : List ℕ)
+    → length d ≡ told → next ≡ max passed start → HoldsBy stage start place passed
+    → AheadBy stage start passed end told → KnownBy stage kind start place passed told room d
+    → KnownBy stage kind start place next told room d
+known_behind First kind start place passed next end told room d as_long is holds ahead known =
+    subst (λ k. KnownBy First kind start place k told room d) (omega (arith, is, holds.0)) known
+known_behind (Records awaited) kind start place passed next end told room d as_long is holds ahead known =
+    by_cases (cases_lt passed start) where
+      by_cases : (passed < start) ⊎ (start ≤ passed) → KnownBy (Records awaited) kind start place next told room d
+      by_cases (inr none) =
+          subst (λ k. KnownBy (Records awaited) kind start place k told room d) (omega (arith, is, none)) known
+      by_cases (inl some) =
+          let at : next ≡ start = omega (arith, is, some) in
+          let less : passed ≤ next = omega (arith, at, some) in
+          let many : next ≡ length (take next d) =
+          omega (arith, length-take next d, as_long, at, ahead.1.0, ahead.1.1) in
+          let none : next - start ≡ 0 = omega (arith, at) in (
+            (λ e begins. known.0 e (begins_less d e told passed next less begins)),
+            record {
+              held = known.1.held;
+              known = known.1.known;
+              as_many = many;
+              rest = ap (λ k. take k room) none ∙ sym (drop_all start (take next d) (omega (arith, at, many)));
+              before = known.1.before;
+              resumes = λ e begins. known.1.resumes e (begins_less d e told passed next less begins);
+            },
+          )
+known_behind (Footer size) kind start place passed next end told room d as_long is holds ahead known =
+    by_cases (cases_lt passed start) where
+      by_cases : (passed < start) ⊎ (start ≤ passed) → KnownBy (Footer size) kind start place next told room d
+      by_cases (inr none) =
+          subst (λ k. KnownBy (Footer size) kind start place k told room d) (omega (arith, is, none)) known
+      by_cases (inl some) =
+          let at : next ≡ start = omega (arith, is, some) in (
+            known.0,
+            drop_all (told - next) (take 18 room)
+                (omega (arith, at, length-take 18 room, ahead.1.0, ahead.1.1))
+                ∙ sym (drop_all (told - 18) (take next d)
+                (omega (arith, at, length-take next d, ahead.1.0, ahead.1.1))),
+          )
+known_behind (Done size) kind start place passed next end told room d as_long is holds ahead known = known
+
+pub depends_behind : (stage : Stage) (start passed next : ℕ) (d : List ℕ) → next ≡ max passed start
+    → IfAwaiting stage (DependsFrom passed d × DependsFrom start d)
+    → IfAwaiting stage (DependsFrom next d × DependsFrom start d)
+depends_behind stage start passed next d is = by_stage stage where
+  behind : DependsFrom passed d × DependsFrom start d → DependsFrom next d × DependsFrom start d
+  behind depends = by_cases (cases_lt passed start) where
+    by_cases : (passed < start) ⊎ (start ≤ passed) → DependsFrom next d × DependsFrom start d
+    by_cases (inl some) = (subst (λ k. DependsFrom k d) (omega (arith, is, some)) depends.1, depends.1)
+    by_cases (inr none) = (subst (λ k. DependsFrom k d) (omega (arith, is, none)) depends.0, depends.1)
+
+  by_stage : (stage : Stage) → IfAwaiting stage (DependsFrom passed d × DependsFrom start d)
+      → IfAwaiting stage (DependsFrom next d × DependsFrom start d)
+  by_stage First depends = behind depends
+  by_stage (Records awaited) depends = behind depends
+  by_stage (Footer size) depends = behind depends
+  by_stage (Done size) depends = tt
+
+-- before any byte came
+pub none_given : (stage : Stage) (kind : Option ImageType) (stand : Stand) (room d : List ℕ)
+    → length d ≡ stand.told → 132 ≤ length room → HoldsAt stage stand → CameTo stage kind stand room []
+    → IsGiven stage kind stand room d
+none_given stage kind stand room d as_long enough holds came = record {
+  as_long = as_long;
+  known = known_from stage kind stand.start stand.place stand.passed stand.told room [] d as_long stand.fits holds
+      (record { first = refl; fits = omega (arith, as_long) })
+      (at_first stage stand.start stand.place stand.passed stand.told room enough came holds) came;
+} where
+  at_first : (stage : Stage) (start place passed told : ℕ) (room : List ℕ) → 132 ≤ length room
+      → CameBy stage kind start place passed told room [] → HoldsBy stage start place passed
+      → IfAwaiting stage (◌≡◌ {A = List ℕ} [] (take passed d))
+  at_first First start place passed told room enough came holds =
+      let zero : 0 ≡ passed = omega (arith, ap length came.0, length-take passed room, holds.1, enough) in
+      ap (λ k. take k d) zero
+  at_first (Records next) start place passed told room enough came holds =
+      ap (λ k. take k d) (sym came.1.as_many)
+  at_first (Footer size) start place passed told room enough came holds = ap (λ k. take k d) (sym came.0)
+  at_first (Done size) start place passed told room enough came holds = tt
+
+-- the footer tells it
+pub footer_known : (d last : List ℕ) (size : ImageSize) (b : Bool) → IsByFooter size d
+    → last ≡ part d (length d - 18) 18 → is_tga_footer last ≡ b
+    → (result_ok (kind_reads d 0).answer ≡ cond b (Some Tga) None)
+    × ((meaning_reads d 0).answer ≡ cond b (Ok size) (Err NotSupported))
+footer_known d last size b by_footer is decides = (
+  ap result_ok (by_footer.type ∙ ap (λ t. cond t (Ok Tga) (Err NotSupported)) test) ∙ kind_by b,
+  by_footer.size_is ∙ ap (λ t. cond t (Ok size) (Err NotSupported)) test,
+) where
+  test : is_tga_footer (part d (length d - 18) 18) ≡ b
+  test = ap is_tga_footer (sym is) ∙ decides
+
+  kind_by : (b : Bool)
+      → result_ok (cond {A = Result ImageType Halt} b (Ok Tga) (Err NotSupported)) ≡ cond b (Some Tga) None
+  kind_by true = refl
+  kind_by false = refl
+
+-- no bytes are those of any input
+pub none_has : (d : List ℕ) (p : ℕ) → HasPart d p []
+unfolding part
+none_has d p = take_all (length d - p) [] (omega arith)
+
+-- with more bytes of the input
+pub given_on : (stage : Stage) (kind : Option ImageType) (stand : Stand) (room d cut : List ℕ) (passed was : ℕ)
+    → length d ≡ was → cut ≡ part d passed (length cut) → stand.told ≡ was → HoldsAt stage stand
+    → IfAwaiting stage (stand.passed ≡ passed + length cut) → CameTo stage kind stand room (take passed d ++ cut)
+    → IfAwaiting stage (RestsOnMore (take passed d ++ cut) was)
+    → IfAwaiting stage (RestsFrom stand.start (take passed d ++ cut) was)
+    → MayBeAt stage kind stand room d
+given_on stage kind stand room d cut passed was as_long is same holds many came more starts =
+    let front : take passed d ++ cut ≡ take (passed + length cut) d = first_on d cut passed is in
+    may_be stage kind stand room (take passed d ++ cut) d was same as_long
+    (subst (λ xs. Begins xs was d) (sym front) (begins_first d was (passed + length cut) as_long)) holds
+    (awaiting_map stage (λ at. front ∙ ap (λ k. take k d) (sym at)) many) came more starts
+
+-- what is missing is ahead of what was passed by
+pub ahead_behind : (stage : Stage) (start passed next end told : ℕ) → next ≡ max passed start
+    → AheadBy stage start passed end told → AheadBy stage start next end told
+ahead_behind First start passed next end told is ahead =
+    (omega (arith, is, ahead.0, ahead.1.0), ahead.1)
+ahead_behind (Records awaited) start passed next end told is ahead =
+    (omega (arith, is, ahead.0, ahead.1.0), ahead.1)
+ahead_behind (Footer size) start passed next end told is ahead =
+    (omega (arith, is, ahead.0, ahead.1.0), ahead.1)
+ahead_behind (Done size) start passed next end told is ahead = tt
+
+pub ahead_none : (kind : Option ImageType) (stage : Stage) (start passed end told : ℕ)
+    → stage_answer kind stage ≡ None → AheadBy stage start passed end told → (passed < end) × (end ≤ told)
+ahead_none kind First start passed end told none ahead = (ahead.0, ahead.1.1)
+ahead_none kind (Records next) start passed end told none ahead = (ahead.0, ahead.1.1)
+ahead_none kind (Footer size) start passed end told none ahead = (ahead.0, ahead.1.1)
+ahead_none kind (Done size) start passed end told none ahead = absurd cc

@@ -1,0 +1,22 @@
+use Rattle.std.proofs.Common.{refl, arith}
+use Rattle.imagesize_stream.proofs.Given.{ahead_behind, depends_behind, known_behind}
+use Rattle.imagesize_stream.proofs.probe.StreamProbe.skip.Goals as goal
+
+pub returns : goal.returns
+returns c =
+    let s = c.args.self.now in
+    let stand = s.stand in record {
+      told = refl;
+      keeps = refl;
+      ahead = ahead_behind s.stage stand.start stand.passed c.max-self.result stand.end stand.told c.max-self.ensures
+          c.requires;
+      later = omega (arith, c.max-self.ensures);
+      parts = λ d may. record {
+        given = record {
+          as_long = may.given.as_long;
+          known = known_behind s.stage s.kind stand.start stand.place stand.passed c.max-self.result stand.end stand.told
+              s.room d may.given.as_long c.max-self.ensures s.holds c.requires may.given.known;
+        };
+        depends = depends_behind s.stage stand.start stand.passed c.max-self.result d c.max-self.ensures may.depends;
+      };
+    }

@@ -1,0 +1,40 @@
+-- An input whose parts are given in rounds: what is known of it.
+use Rattle.std.specs.Prelude.{◌≡◌, ℕ, ◌-◌, List, length, drop, take, Option}
+use Rattle.std.specs.Result.{result_ok}
+use Rattle.imagesize.specs.Meaning.{kind_reads, meaning_reads}
+use Rattle.imagesize.specs.declared.types.ImageType.{ImageType}
+use Rattle.imagesize_pieces.specs.Stream.{AllBelow}
+use Rattle.imagesize_pieces.specs.declared.stand.Stand.{Stand}
+use Rattle.imagesize_source.specs.Input.{part}
+use Rattle.imagesize_stream.specs.Heard.{IsByFooter}
+use Rattle.imagesize_stream.specs.Probe.{CameBy, IfAwaiting}
+use Rattle.imagesize_stream.specs.declared.stage.Stage.{Stage}
+use Rattle.imagesize_stream.specs.declared.stage.Stage.TheVariants.{Done, First, Footer, Records}
+
+-- the input has these bytes from an offset on; bytes past its end do not count
+abbrev pub HasPart : List ℕ → ℕ → List ℕ → Type 0
+HasPart d offset bytes = take (length d - offset) bytes ≡ part d offset (length bytes)
+
+-- What is known of the input, by the stage. The first bytes came, except those that are not needed. For a footer, the buffer has
+-- those of the last 18 bytes that came.
+abbrev pub KnownBy : Stage → Option ImageType → ℕ → ℕ → ℕ → ℕ → List ℕ → List ℕ → Type 0
+KnownBy First kind start place passed told room d = CameBy First kind start place passed told room (take passed d)
+KnownBy (Records next) kind start place passed told room d = CameBy (Records next) kind start place passed told room (take passed d)
+KnownBy (Footer size) kind start place passed told room d =
+    IsByFooter size d × (drop (told - passed) (take 18 room) ≡ drop (told - 18) (take passed d))
+KnownBy (Done size) kind start place passed told room d =
+    (result_ok (kind_reads d 0).answer ≡ kind) × ((meaning_reads d 0).answer ≡ size)
+
+-- the size depends on a byte at this offset or behind it
+abbrev pub DependsFrom : ℕ → List ℕ → Type 0
+DependsFrom offset d = AllBelow offset (meaning_reads d 0).marks → ⊥
+
+-- the input may be this one, by its length and the parts that were given
+pub record IsGiven (stage : Stage) (kind : Option ImageType) (stand : Stand) (room d : List ℕ) : Type 0 where
+  pub as_long : length d ≡ stand.told
+  pub known : KnownBy stage kind stand.start stand.place stand.passed stand.told room d
+
+-- and depends on more, while there is no answer
+pub record MayBeAt (stage : Stage) (kind : Option ImageType) (stand : Stand) (room d : List ℕ) : Type 0 where
+  pub given : IsGiven stage kind stand room d
+  pub depends : IfAwaiting stage (DependsFrom stand.passed d × DependsFrom stand.start d)

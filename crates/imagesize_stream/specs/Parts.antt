@@ -1,0 +1,33 @@
+-- What a probe that is given parts of an input returns.
+use Rattle.std.specs.Prelude.{ℕ, ◌-◌, List, Option, None, Some, Result}
+use Rattle.imagesize.specs.declared.parts.PartsAnswer.{PartsAnswer}
+use Rattle.imagesize.specs.declared.parts.PartsAnswer.TheVariants.{Found, Wanted}
+use Rattle.imagesize.specs.declared.types.ImageType.{ImageType}
+use Rattle.imagesize_pieces.specs.declared.stand.Stand.{Stand}
+use Rattle.imagesize_source.specs.declared.error.ImageError.{ImageError}
+use Rattle.imagesize_source.specs.declared.span.Span.{Span}
+use Rattle.imagesize_stream.specs.Given.{MayBeAt}
+use Rattle.imagesize_stream.specs.Pushed.{answer_of, told_of}
+use Rattle.imagesize_stream.specs.declared.parts.PartsProbe.{PartsProbe}
+use Rattle.imagesize_types.specs.declared.size.ImageSize.{ImageSize}
+
+-- the input may be this one, by the parts that were given
+abbrev pub MayBe : PartsProbe → List ℕ → Type 0
+MayBe parts d = MayBeAt parts.probe.stage parts.probe.kind parts.probe.stand parts.probe.room d
+
+-- how many bytes the input has
+abbrev pub total_of : PartsProbe → ℕ
+total_of parts = told_of parts.probe
+
+abbrev pub found_or_next : Option (Option ImageType × Result ImageSize ImageError) → Stand → PartsAnswer (Option ImageType × Result ImageSize ImageError)
+found_or_next (Some found) stand = Found found
+found_or_next None stand = Wanted (record { start = stand.passed; len = stand.end - stand.passed })
+
+-- type and size, or the span that is requested next
+abbrev pub next_of : PartsProbe → PartsAnswer (Option ImageType × Result ImageSize ImageError)
+next_of parts = found_or_next (answer_of parts.probe) parts.probe.stand
+
+-- what holds for a requested span
+abbrev pub IfWanted : {T : Type 0} → PartsAnswer T → (Span → Type 0) → Type 0
+IfWanted (Found found) Holds = Unit {0}
+IfWanted (Wanted w) Holds = Holds w
