@@ -14,7 +14,12 @@ use Rattle.imagesize_walked.specs.Walks.{IsIcon}
 use Rattle.imagesize_source.specs.Layout.{Layout, accept, bind, layout_reads}
 use Rattle.imagesize_source.specs.Layout.Layout.{field, «done»}
 use Rattle.imagesize_source.specs.Reading.{bytes_at, gives, map_answer, number_at, refuses, uncounted}
-use Rattle.imagesize_source.specs.State.{State, Runs, IsSound}
+use Rattle.imagesize_source.specs.State.{State, Follows, Runs, IsSound}
+use Rattle.imagesize_source.specs.Way.{Way, Fixed, Recorded, Texts}
+use Rattle.imagesize.specs.Types.{IfFixed}
+use Rattle.imagesize_stream.specs.Streamed.{sized}
+use Rattle.imagesize_stream.specs.declared.front.Opening.{Opening}
+use Rattle.imagesize_stream.specs.declared.front.Opening.TheVariants as opened
 use Rattle.imagesize_source.specs.declared.halt.Halt.{Halt}
 use Rattle.imagesize_walked.specs.Walks.{LeadsTo, depth_behind}
 use Rattle.imagesize_source.proofs.Layouts.{over-bind, runs_as}
@@ -60,6 +65,19 @@ runs_off {X} {Y} {a} {b} t g e first =
     runs_as (layout_reads a.held.input (bind t g))
     (runs_refused (layout_reads a.held.input t) (λ v. layout_reads a.held.input (g v)) first)
     (λ _. ap uncounted (sym (over-bind a.held.input t g)))
+
+-- a size at fixed offsets is all that the first bytes say of it
+pub fixed_on : (a b : State) (w : Way ImageSize) (size : ImageSize) → IfFixed w (λ t. Follows a b (Ok size) t)
+    → IfFixed w (λ t. Follows {X = Opening} a b (Ok (opened.Size size)) (sized t))
+fixed_on a b (Fixed most t) size first = runs_on t (λ s. done (opened.Size s)) size (opened.Size size) refl first
+fixed_on a b (Recorded outside each stated reads) size first = tt
+fixed_on a b (Texts reads) size first = tt
+
+pub fixed_off : (a b : State) (w : Way ImageSize) (e : Halt) → IfFixed w (λ t. Follows {X = ImageSize} a b (Err e) t)
+    → IfFixed w (λ t. Follows {X = Opening} a b (Err e) (sized t))
+fixed_off a b (Fixed most t) e first = runs_off t (λ s. done (opened.Size s)) e first
+fixed_off a b (Recorded outside each stated reads) e first = tt
+fixed_off a b (Texts reads) e first = tt
 
 -- how deep the segment behind another stands
 pub leads_as : (depth behind marker : ℕ) → LeadsTo depth marker behind → behind ≡ depth_behind depth marker

@@ -6,35 +6,22 @@ use Rattle.std.proofs.lemmas.List.{take-append-le, take_all}
 use Rattle.std.specs.List.{concat}
 use Rattle.std.specs.Prelude.{bit_and, codes, replicate}
 use Rattle.imagesize.specs.Meaning.{size_reads}
+use Rattle.imagesize.specs.Types.{way_of}
 use Rattle.imagesize.specs.declared.types.ImageType.{ImageType}
-use Rattle.imagesize.specs.declared.types.ImageType.TheVariants.{Aseprite, Astc, Atc, Bmp, Dds, Eac, Etc2, Exr, Farbfeld, Gif, Hdr, Heif, Ico, Ilbm, Jpeg, Jxl, Ktx2, Pnm, Pvrtc, Psd, Qoi, Tga, Tiff, Vtf, Webp}
-use Rattle.imagesize_fixed.specs.Aseprite.{aseprite}
-use Rattle.imagesize_fixed.specs.Astc.{astc}
-use Rattle.imagesize_fixed.specs.Atc.{atc}
-use Rattle.imagesize_fixed.specs.Bmp.{bmp}
-use Rattle.imagesize_fixed.specs.Dds.{dds}
-use Rattle.imagesize_fixed.specs.Farbfeld.{farbfeld}
-use Rattle.imagesize_fixed.specs.Gif.{gif}
-use Rattle.imagesize_fixed.specs.Ktx2.{ktx2}
-use Rattle.imagesize_fixed.specs.Pkm.{pkm}
-use Rattle.imagesize_fixed.specs.Psd.{psd}
-use Rattle.imagesize_fixed.specs.Pvrtc.{pvrtc}
-use Rattle.imagesize_fixed.specs.Qoi.{qoi}
-use Rattle.imagesize_fixed.specs.Tga.{tga}
-use Rattle.imagesize_fixed.specs.Vtf.{vtf}
-use Rattle.imagesize_fixed.specs.Webp.{webp}
+use Rattle.imagesize.specs.declared.types.ImageType.TheVariants.{Exr, Hdr, Heif, Ico, Ilbm, Jpeg, Jxl, Pnm, Tiff}
 use Rattle.imagesize_source.specs.Chain.{Said, Decided, Next, Chain, Advances, chain_at, start}
 use Rattle.imagesize_source.specs.Input.{span_of}
 use Rattle.imagesize_source.specs.Layout.{Layout, accept, bind, layout_reads}
 use Rattle.imagesize_source.specs.Layout.Layout.{refuse, «done»}
 use Rattle.imagesize_source.specs.Reading.{Reads, and_then, bytes_at, gives, just, map_answer, number_at}
+use Rattle.imagesize_source.specs.Way.{Way, Fixed, Recorded, Texts, by_way}
 use Rattle.imagesize_source.specs.declared.endian.Endian.TheVariants.{Big, Little}
 use Rattle.imagesize_source.specs.declared.halt.Halt.{Halt}
 use Rattle.imagesize_source.specs.declared.halt.Halt.TheVariants.{Corrupted}
 use Rattle.imagesize_source.proofs.Layouts.{onward-and_then, over-bind, then_alike, then_then}
 use Rattle.imagesize_source.proofs.Tests.{on_test}
 use Rattle.imagesize_stream.specs.Steps.{after, decides, gathered_first, ipco_leads, iprp_leads, jxl_verdict, kept_front, kept_of, listed_with, meta_leads, names_of, property_step, step}
-use Rattle.imagesize_stream.specs.Streamed.{jxl_opened, open_exr, open_hdr, open_heif, open_ico, open_jxl, open_tiff, opening, opens, sized}
+use Rattle.imagesize_stream.specs.Streamed.{jxl_opened, open_exr, open_hdr, open_heif, open_ico, open_jxl, open_tiff, opening, opening_by, opening_records, opens, sized, IfRecorded}
 use Rattle.imagesize_stream.specs.declared.awaited.Awaited.{Awaited}
 use Rattle.imagesize_stream.specs.declared.awaited.Awaited.TheVariants.{Attribute, Box, Chunk, Directory, Entry, Icon, Ipco, Iprp, Line, Meta, Property, Segment, Word}
 use Rattle.imagesize_stream.specs.declared.awaited.Listed.{Listed}
@@ -387,30 +374,27 @@ jxl_as d =
     each (Some front) = by_size_of (jxl_size front)
     each None = sym (boxes_as d)
 
+-- the size in records is that of the walk from the first record
+records_as : (type : ImageType) (d : List ℕ) → IfRecorded (way_of type)
+    (λ reads. reads d ≡ and_then (layout_reads d (opening_records type)) (opened_rest d))
+records_as Exr d = exr_as d
+records_as Hdr d = hdr_as d
+records_as (Heif _) d = heif_as d
+records_as Ico d = ico_as d
+records_as Ilbm d = sym (ilbm_as d)
+records_as Jpeg d = sym (jpeg_as d)
+records_as Jxl d = jxl_as d
+records_as Pnm d = sym (pnm_as d)
+records_as Tiff d = tiff_as d
+records_as type d = tt
+
+opened_by : (w : Way ImageSize) (first : Layout Opening) (d : List ℕ)
+    → IfRecorded w (λ reads. reads d ≡ and_then (layout_reads d first) (opened_rest d))
+    → by_way w d ≡ and_then (layout_reads d (opening_by w first)) (opened_rest d)
+opened_by (Fixed most layout) first d records = sized_as d layout
+opened_by (Recorded outside each stated reads) first d records = records
+opened_by (Texts reads) first d records = records
+
 pub opened_as : (type : ImageType) (d : List ℕ)
     → size_reads type d ≡ and_then (layout_reads d (opening type)) (opened_rest d)
-opened_as Aseprite d = sized_as d aseprite
-opened_as Astc d = sized_as d astc
-opened_as (Atc _) d = sized_as d atc
-opened_as Bmp d = sized_as d bmp
-opened_as (Dds _) d = sized_as d dds
-opened_as (Eac _) d = sized_as d pkm
-opened_as (Etc2 _) d = sized_as d pkm
-opened_as Exr d = exr_as d
-opened_as Farbfeld d = sized_as d farbfeld
-opened_as Gif d = sized_as d gif
-opened_as Hdr d = hdr_as d
-opened_as (Heif _) d = heif_as d
-opened_as Ico d = ico_as d
-opened_as Ilbm d = sym (ilbm_as d)
-opened_as Jpeg d = sym (jpeg_as d)
-opened_as Jxl d = jxl_as d
-opened_as Ktx2 d = sized_as d ktx2
-opened_as Pnm d = sym (pnm_as d)
-opened_as (Pvrtc _) d = sized_as d pvrtc
-opened_as Psd d = sized_as d psd
-opened_as Qoi d = sized_as d qoi
-opened_as Tga d = sized_as d tga
-opened_as Tiff d = tiff_as d
-opened_as Vtf d = sized_as d vtf
-opened_as Webp d = sized_as d webp
+opened_as type d = opened_by (way_of type) (opening_records type) d (records_as type d)

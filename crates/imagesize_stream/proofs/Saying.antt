@@ -1,30 +1,17 @@
 -- What a layout says, whatever its readings answer.
 use Rattle.std.proofs.Common.{◌≡◌, ℕ, List, Option, Some, None, Result, Ok, Err, subst, arith}
+use Rattle.imagesize.specs.Types.{way_of}
 use Rattle.imagesize.specs.declared.types.ImageType.{ImageType}
-use Rattle.imagesize.specs.declared.types.ImageType.TheVariants.{Aseprite, Astc, Atc, Bmp, Dds, Eac, Etc2, Exr, Farbfeld, Gif, Hdr, Heif, Ico, Ilbm, Jpeg, Jxl, Ktx2, Pnm, Pvrtc, Psd, Qoi, Tga, Tiff, Vtf, Webp}
-use Rattle.imagesize_fixed.specs.Aseprite.{aseprite}
-use Rattle.imagesize_fixed.specs.Astc.{astc}
-use Rattle.imagesize_fixed.specs.Atc.{atc}
-use Rattle.imagesize_fixed.specs.Bmp.{bmp}
-use Rattle.imagesize_fixed.specs.Dds.{dds}
-use Rattle.imagesize_fixed.specs.Farbfeld.{farbfeld}
-use Rattle.imagesize_fixed.specs.Gif.{gif}
-use Rattle.imagesize_fixed.specs.Ktx2.{ktx2}
-use Rattle.imagesize_fixed.specs.Pkm.{pkm}
-use Rattle.imagesize_fixed.specs.Psd.{psd}
-use Rattle.imagesize_fixed.specs.Pvrtc.{pvrtc}
-use Rattle.imagesize_fixed.specs.Qoi.{qoi}
-use Rattle.imagesize_fixed.specs.Tga.{tga}
-use Rattle.imagesize_fixed.specs.Vtf.{vtf}
-use Rattle.imagesize_fixed.specs.Webp.{webp}
+use Rattle.imagesize.specs.declared.types.ImageType.TheVariants.{Exr, Hdr, Heif, Ico, Ilbm, Jpeg, Jxl, Pnm, Tiff}
 use Rattle.imagesize_source.specs.Input.{span_of}
 use Rattle.imagesize_source.specs.Layout.{Layout, accept, bind, layout_reads}
 use Rattle.imagesize_source.specs.Layout.Layout.{begin_record, field, reading, refuse, «done»}
 use Rattle.imagesize_source.specs.Reading.{Reads, go_on, number_at, read_of}
+use Rattle.imagesize_source.specs.Way.{Way, Fixed, Recorded, Texts}
 use Rattle.imagesize_source.specs.declared.halt.Halt.{Halt}
 use Rattle.imagesize_source.specs.declared.span.Span.{Span}
 use Rattle.imagesize_stream.specs.Steps.{IsSteady}
-use Rattle.imagesize_stream.specs.Streamed.{jxl_opened, opening, opens, sized}
+use Rattle.imagesize_stream.specs.Streamed.{jxl_opened, opening, opening_by, opening_records, opens, sized}
 use Rattle.imagesize_boxes.specs.Jxl.{jxl_size, jxl_start}
 use Rattle.imagesize_stream.specs.declared.awaited.Awaited.TheVariants.{Directory, Line}
 use Rattle.imagesize_stream.specs.declared.front.Opening.{Opening}
@@ -84,30 +71,24 @@ jxl_steady : (found : Option (List ℕ)) → Saying OpensSteady (jxl_opened foun
 jxl_steady (Some front) = jxl_sized (jxl_size front)
 jxl_steady None = omega arith
 
-pub opening_steady : (type : ImageType) → Saying OpensSteady (opening type)
-opening_steady Aseprite = steady_sized aseprite
-opening_steady Astc = steady_sized astc
-opening_steady (Atc _) = steady_sized atc
-opening_steady Bmp = steady_sized bmp
-opening_steady (Dds _) = steady_sized dds
-opening_steady (Eac _) = steady_sized pkm
-opening_steady (Etc2 _) = steady_sized pkm
-opening_steady Exr = λ version. tt
-opening_steady Farbfeld = steady_sized farbfeld
-opening_steady Gif = steady_sized gif
-opening_steady Hdr = saying_bind OpensSteady hdr_identifier (λ first. opens Line first) (λ first. tt)
-opening_steady (Heif _) = λ first. tt
-opening_steady Ico = λ count. (omega arith, tt)
-opening_steady Ilbm = tt
-opening_steady Jpeg = omega arith
-opening_steady Jxl = saying_bind OpensSteady jxl_start jxl_opened jxl_steady
-opening_steady Ktx2 = steady_sized ktx2
-opening_steady Pnm = tt
-opening_steady (Pvrtc _) = steady_sized pvrtc
-opening_steady Psd = steady_sized psd
-opening_steady Qoi = steady_sized qoi
-opening_steady Tga = steady_sized tga
-opening_steady Tiff =
+records_steady : (type : ImageType) → Saying OpensSteady (opening_records type)
+records_steady Exr = λ version. tt
+records_steady Hdr = saying_bind OpensSteady hdr_identifier (λ first. opens Line first) (λ first. tt)
+records_steady (Heif _) = λ first. tt
+records_steady Ico = λ count. (omega arith, tt)
+records_steady Ilbm = tt
+records_steady Jpeg = omega arith
+records_steady Jxl = saying_bind OpensSteady jxl_start jxl_opened jxl_steady
+records_steady Pnm = tt
+records_steady Tiff =
     saying_bind OpensSteady tiff_header (λ header. opens (Directory header) header.directory) (λ header. tt)
-opening_steady Vtf = steady_sized vtf
-opening_steady Webp = steady_sized webp
+records_steady type = tt
+
+steady_by : (w : Way ImageSize) (first : Layout Opening) → Saying OpensSteady first
+    → Saying OpensSteady (opening_by w first)
+steady_by (Fixed most layout) first steady = steady_sized layout
+steady_by (Recorded outside each stated reads) first steady = steady
+steady_by (Texts reads) first steady = steady
+
+pub opening_steady : (type : ImageType) → Saying OpensSteady (opening type)
+opening_steady type = steady_by (way_of type) (opening_records type) (records_steady type)

@@ -1,27 +1,14 @@
 -- What the first bytes of an image say: its type, and its size or the first record on the way to it.
 use Rattle.std.specs.Prelude.{ℕ, List, [], length, nat_lt, if◌then◌else◌, Option, None, Some}
 use Rattle.imagesize.specs.Kind.{first_row, tga_or_none, with_compression}
-use Rattle.imagesize.specs.Types.{rows}
+use Rattle.imagesize.specs.Types.{rows, way_of}
 use Rattle.imagesize.specs.declared.types.ImageType.{ImageType}
-use Rattle.imagesize.specs.declared.types.ImageType.TheVariants.{Aseprite, Astc, Atc, Bmp, Dds, Eac, Etc2, Exr, Farbfeld, Gif, Hdr, Heif, Ico, Ilbm, Jpeg, Jxl, Ktx2, Pnm, Pvrtc, Psd, Qoi, Tga, Tiff, Vtf, Webp}
-use Rattle.imagesize_fixed.specs.Aseprite.{aseprite}
-use Rattle.imagesize_fixed.specs.Astc.{astc}
-use Rattle.imagesize_fixed.specs.Atc.{atc}
-use Rattle.imagesize_fixed.specs.Bmp.{bmp}
-use Rattle.imagesize_fixed.specs.Dds.{dds}
-use Rattle.imagesize_fixed.specs.Farbfeld.{farbfeld}
-use Rattle.imagesize_fixed.specs.Gif.{gif}
-use Rattle.imagesize_fixed.specs.Ktx2.{ktx2}
-use Rattle.imagesize_fixed.specs.Pkm.{pkm}
-use Rattle.imagesize_fixed.specs.Psd.{psd}
-use Rattle.imagesize_fixed.specs.Pvrtc.{pvrtc}
-use Rattle.imagesize_fixed.specs.Qoi.{qoi}
-use Rattle.imagesize_fixed.specs.Tga.{is_tga, may_be_tga, tga}
-use Rattle.imagesize_fixed.specs.Vtf.{vtf}
-use Rattle.imagesize_fixed.specs.Webp.{webp}
+use Rattle.imagesize.specs.declared.types.ImageType.TheVariants.{Exr, Hdr, Heif, Ico, Ilbm, Jpeg, Jxl, Pnm, Tiff}
+use Rattle.imagesize_fixed.specs.Tga.{is_tga, may_be_tga}
 use Rattle.imagesize_source.specs.Layout.{Layout, accept, bind, bytes, layout_reads}
 use Rattle.imagesize_source.specs.Layout.Layout.{field, refuse, «done»}
 use Rattle.imagesize_source.specs.Reading.{Reads, gives}
+use Rattle.imagesize_source.specs.Way.{Way, Fixed, Recorded, Texts}
 use Rattle.imagesize_source.specs.declared.endian.Endian.TheVariants.{Big, Little}
 use Rattle.imagesize_source.specs.declared.halt.Halt.TheVariants.{NotSupported}
 use Rattle.imagesize_boxes.specs.Jxl.{jxl_size, jxl_start}
@@ -85,30 +72,31 @@ open_ico = field Little 4 2 (λ count. opens (Icon count 0 None) 6)
 abbrev pub open_tiff : Layout Opening
 open_tiff = bind tiff_header (λ header. opens (Directory header) header.directory)
 
+-- the first record of a type that stores its size in records
+abbrev pub opening_records : ImageType → Layout Opening
+opening_records Exr = open_exr
+opening_records Hdr = open_hdr
+opening_records (Heif _) = open_heif
+opening_records Ico = open_ico
+opening_records Ilbm = opens Chunk 12
+opening_records Jpeg = opens (Segment 0) 2
+opening_records Jxl = open_jxl
+opening_records Pnm = opens Word 2
+opening_records Tiff = open_tiff
+opening_records type = refuse NotSupported
+
+-- what holds for the reads of a size in records
+abbrev pub IfRecorded : Way ImageSize → ((List ℕ → Reads ImageSize) → Type 0) → Type 0
+IfRecorded (Fixed most layout) Holds = Unit {0}
+IfRecorded (Recorded outside each stated reads) Holds = Holds reads
+IfRecorded (Texts reads) Holds = Holds reads
+
+-- the size, if it is at fixed offsets, or else the first record
+abbrev pub opening_by : Way ImageSize → Layout Opening → Layout Opening
+opening_by (Fixed most layout) first = sized layout
+opening_by (Recorded outside each stated reads) first = first
+opening_by (Texts reads) first = first
+
 -- what the first bytes say about the size, by the type
 abbrev pub opening : ImageType → Layout Opening
-opening Aseprite = sized aseprite
-opening Astc = sized astc
-opening (Atc _) = sized atc
-opening Bmp = sized bmp
-opening (Dds _) = sized dds
-opening (Eac _) = sized pkm
-opening (Etc2 _) = sized pkm
-opening Exr = open_exr
-opening Farbfeld = sized farbfeld
-opening Gif = sized gif
-opening Hdr = open_hdr
-opening (Heif _) = open_heif
-opening Ico = open_ico
-opening Ilbm = opens Chunk 12
-opening Jpeg = opens (Segment 0) 2
-opening Jxl = open_jxl
-opening Ktx2 = sized ktx2
-opening Pnm = opens Word 2
-opening (Pvrtc _) = sized pvrtc
-opening Psd = sized psd
-opening Qoi = sized qoi
-opening Tga = sized tga
-opening Tiff = open_tiff
-opening Vtf = sized vtf
-opening Webp = sized webp
+opening type = opening_by (way_of type) (opening_records type)

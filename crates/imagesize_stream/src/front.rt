@@ -1,17 +1,15 @@
 //! What the first bytes of an image say: its type, and its size if they contain it.
 ghost use Rattle.imagesize_fixed.specs.Tga.{tga, tga_by_header};
 ghost use Rattle.imagesize_source.specs.State.{Follows};
-ghost use Rattle.imagesize_stream.specs.Streamed.{first_layout, open_exr, open_hdr, open_heif, open_ico, open_jxl, open_tiff, opening, opens};
+ghost use Rattle.imagesize.specs.Types.{IfFixed, way_of};
+ghost use Rattle.imagesize_stream.specs.Streamed.{first_layout, open_exr, open_hdr, open_heif, open_ico, open_jxl, open_tiff, opening, opens, sized};
 
 use crate::awaited::{Awaited, keep};
 use imagesize::ImageType;
-use imagesize::formats::{first_row, with_compression};
+use imagesize::formats::{first_row, fixed_size, with_compression};
 use imagesize_boxes::formats::jxl::front::Front;
 use imagesize_boxes::formats::jxl::read_start;
-use imagesize_fixed::formats::tga::{has_sound_header, may_be_tga};
-use imagesize_fixed::formats::{
-    aseprite, astc, atc, bmp, dds, farbfeld, gif, ktx2, pkm, psd, pvrtc, qoi, tga, vtf, webp,
-};
+use imagesize_fixed::formats::tga::{self, has_sound_header, may_be_tga};
 use imagesize_pieces::front::Fixed;
 use imagesize_source::readings::{read_exact_at, read_u16, read_u32};
 use imagesize_source::source::Source;
@@ -77,30 +75,16 @@ impl Fixed for FirstSize {
     #[tactic(auto, using(imagesize_source::proofs::Runs::steps, imagesize_source::proofs::Layouts::binding))]
     fn read<S: Source>(&self, source: &mut S) -> Result<Opening, Halt> {
         match self.image {
-            ImageType::Aseprite => Ok(Opening::Size(aseprite::size(source)?)),
-            ImageType::Astc => Ok(Opening::Size(astc::size(source)?)),
-            ImageType::Atc(_) => Ok(Opening::Size(atc::size(source)?)),
-            ImageType::Bmp => Ok(Opening::Size(bmp::size(source)?)),
-            ImageType::Dds(_) => Ok(Opening::Size(dds::size(source)?)),
-            ImageType::Eac(_) | ImageType::Etc2(_) => Ok(Opening::Size(pkm::size(source)?)),
             ImageType::Exr => open_exr(source),
-            ImageType::Farbfeld => Ok(Opening::Size(farbfeld::size(source)?)),
-            ImageType::Gif => Ok(Opening::Size(gif::size(source)?)),
             ImageType::Hdr => open_hdr(source),
             ImageType::Heif(_) => open_heif(source),
             ImageType::Ico => open_ico(source),
             ImageType::Ilbm => open_at(source, Awaited::Chunk, 12),
             ImageType::Jpeg => open_at(source, Awaited::Segment { depth: 0 }, 2),
             ImageType::Jxl => open_jxl(source),
-            ImageType::Ktx2 => Ok(Opening::Size(ktx2::size(source)?)),
             ImageType::Pnm => open_at(source, Awaited::Word, 2),
-            ImageType::Pvrtc(_) => Ok(Opening::Size(pvrtc::size(source)?)),
-            ImageType::Psd => Ok(Opening::Size(psd::size(source)?)),
-            ImageType::Qoi => Ok(Opening::Size(qoi::size(source)?)),
-            ImageType::Tga => Ok(Opening::Size(tga::size(source)?)),
             ImageType::Tiff => open_tiff(source),
-            ImageType::Vtf => Ok(Opening::Size(vtf::size(source)?)),
-            ImageType::Webp => Ok(Opening::Size(webp::size(source)?)),
+            image => open_fixed(source, image),
         }
     }
 }
@@ -133,6 +117,14 @@ impl Fixed for TgaSize {
     fn read<S: Source>(&self, source: &mut S) -> Result<ImageSize, Halt> {
         tga::size(source)
     }
+}
+
+// The size of a type that stores it at fixed offsets.
+fn open_fixed<S: Source>(source: &mut S, image: ImageType) -> Result<Opening, Halt>
+    ensures { IfFixed (way_of image) (λ layout. Follows (S.state source.old) (S.state source.new) result (sized layout)) }
+{
+    let size = fixed_size(source, image)?;
+    Ok(Opening::Size(size))
 }
 
 // The records of a format that begin at a fixed offset.
