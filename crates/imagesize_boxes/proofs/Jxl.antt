@@ -253,8 +253,12 @@ module _ (d : List ℕ) where
       let few = here.0 in let fits = here.1 in
       let together = length_more t.held v in
       omega (arith, begins_one t))
-      (λ t. omega (arith, begins_one t, at_most d (32 + (16 - length (concat t.held))) (jxl_box (concat t.held) t.place)
-      (box_few (concat t.held) t.place)))
+      (λ t. omega (
+        arith,
+        begins_one t,
+        at_most d (32 + (16 - length (concat t.held))) (jxl_box (concat t.held) t.place)
+            (box_few (concat t.held) t.place),
+      ))
       (start jxl_chain) where
         begins_one : (t : Along (List ℕ)) → 1 ≤ (next_record jxl_chain d t).begun
         begins_one t = omega arith
