@@ -1,19 +1,21 @@
 -- What readings of the bytes so far tell of every input that begins with them.
-use Rattle.std.proofs.Common.{◌≡◌, ℕ, ◌+◌, ◌^◌, ◌<◌, ◌≤◌, Bool, true, false, List, [], ◌++◌, length, Option, None, Some, Result, IfSome, IsSomeAnd, refl, sym, ap, ◌∙◌, subst, arith}
+use Rattle.std.proofs.Common.{◌≡◌, ℕ, ◌+◌, ◌-◌, ◌^◌, ◌<◌, ◌≤◌, Bool, true, false, ◌⊎◌, inl, inr, List, [], ◌∷◌, ◌++◌, length, slice_index, Option, None, Some, Result, IfSome, IsSomeAnd, refl, sym, ap, ◌∙◌, subst, arith}
 use Rattle.std.specs.Prelude.{option_map}
+use Rattle.std.proofs.lemmas.Bool.{cases_lt}
 use Rattle.std.proofs.lemmas.Bool.Decides.{nat_tests}
 use Rattle.imagesize_source.specs.declared.halt.Halt.{Halt}
 use Rattle.imagesize_source.specs.declared.source.parts.Missing.{Missing}
 use Rattle.imagesize_source.specs.declared.span.Span.{Span}
-use Rattle.imagesize_source.specs.Agreement.{is_covered, has_place}
+use Rattle.imagesize_source.specs.Agreement.{Alike, is_covered, has_place}
+use Rattle.imagesize_source.specs.Input.{span_at}
 use Rattle.imagesize_source.specs.Known.{sure_of}
 use Rattle.imagesize_source.specs.Reading.{Reads, is_faulted, just, put_behind, uncounted}
 use Rattle.imagesize_source.specs.State.{State, Misses}
-use Rattle.imagesize_source.proofs.Agreement.{covered_one_of}
+use Rattle.imagesize_source.proofs.Agreement.{covered-left, covered-one, covered-right, covered_one_of}
 use Rattle.imagesize_source.specs.Sharing.{Shares}
 use Rattle.imagesize_pieces.specs.Stream.{AllBelow, Begins, Says, came, end_of, stream_input, stream_state}
 use Rattle.imagesize_pieces.proofs.Beginning.{Run, begins_left, begins_shares, shares_begun, unknown_behind}
-use Rattle.imagesize_pieces.proofs.Called.{Called, all_seen, answered, is_short}
+use Rattle.imagesize_pieces.proofs.Called.{Called, all_seen, answered, is_short, some_is}
 
 -- readings that see an input by their marks alone, however long it is
 abbrev pub IsShared : {X : Type 0} → (List ℕ → Reads X) → Type 0
@@ -32,6 +34,59 @@ missed_covered marks m is some =
     let begins = is.behind in let ends = is.within in
     let in_mark : has_place is.mark m.start ≡ true = grind (arith, nat_tests) in
     subst (λ s. is_covered s m.start ≡ true) (sym is.all) (covered_one_of is.made is.mark is.rest m.start in_mark)
+
+head_is : {x y : Span} {xs ys : List Span} → ◌≡◌ {A = List Span} (x ∷ xs) (y ∷ ys) → x ≡ y
+head_is e = cc
+
+tail_is : {x y : Span} {xs ys : List Span} → ◌≡◌ {A = List Span} (x ∷ xs) (y ∷ ys) → xs ≡ ys
+tail_is e = cc
+
+-- Reads of two inputs part at an offset p, and those of the first have m in a mark, after some others. If p is in none
+-- of these, and in the mark not before m, the reads of the second input have m too.
+parted_covered : (made rest seen parted others : List Span) (mark one other : Span) (p m : ℕ)
+    → made ++ mark ∷ rest ≡ seen ++ one ∷ parted → other.start ≡ one.start → has_place one p ≡ true
+    → has_place other p ≡ true → (is_covered made p ≡ true → ⊥) → (mark.start ≤ p → m ≤ p)
+    → has_place mark m ≡ true → is_covered (seen ++ other ∷ others) m ≡ true
+parted_covered [] rest [] parted others mark one other p m same start within also none late here =
+    let begins : other.start ≡ mark.start = start ∙ ap (λ (s : Span). s.start) (sym (head_is same)) in
+    let above : other.start ≤ p = grind (arith, nat_tests) in
+    let after : m ≤ p = late (omega (arith, above, begins)) in
+    covered_one_of [] other others m (grind (arith, nat_tests))
+parted_covered [] rest (y ∷ seen) parted others mark one other p m same start within also none late here =
+    covered_one_of [] y (seen ++ other ∷ others) m (subst (λ s. has_place s m ≡ true) (head_is same) here)
+parted_covered (x ∷ made) rest [] parted others mark one other p m same start within also none late here =
+    absurd (none (covered_one_of [] x made p (subst (λ s. has_place s p ≡ true) (sym (head_is same)) within)))
+parted_covered (x ∷ made) rest (y ∷ seen) parted others mark one other p m same start within also none late here =
+    covered-right (y ∷ []) (seen ++ other ∷ others) m
+    (parted_covered made rest seen parted others mark one other p m (tail_is same) start within also
+    (λ before. none (covered-right (x ∷ []) made p before)) late here)
+
+-- What reads of an input missed is a byte of the reads of each input that shares the bytes before it.
+pub alike_covered : {X : Type 0} (d e : List ℕ) (f g : Reads X) (made rest : List Span) (mark : Span) (m : ℕ)
+    → Alike true d e f g → f.marks ≡ made ++ mark ∷ rest → mark.start ≤ m → m < mark.start + mark.len
+    → Shares e d (made ++ span_at mark.start (m - mark.start)) → is_covered g.marks m ≡ true
+alike_covered {X} d e f g made rest mark m alike all behind within shares = elim alike [
+  | inl same ↦ subst (λ s. is_covered s m ≡ true) (sym (ap (λ (r : Reads X). r.marks) same ∙ all))
+      (covered_one_of made mark rest m here)
+  | inr parts ↦ subst (λ s. is_covered s m ≡ true) (sym parts.there)
+      (parted_covered made rest parts.seen parts.rest parts.others mark parts.mark parts.other parts.place m
+      (sym all ∙ parts.here) parts.start parts.within parts.also
+      (λ before. parts.differs (shares.there parts.place (covered-left made part parts.place before)).1)
+      (λ above. by_cases parts.place (cases_lt parts.place m) above parts.differs) here)
+] where
+  part : List Span
+  part = span_at mark.start (m - mark.start)
+
+  here : has_place mark m ≡ true
+  here = grind (arith, nat_tests)
+
+  by_cases : (p : ℕ) → (p < m) ⊎ (m ≤ p) → mark.start ≤ p → (slice_index e p ≡ slice_index d p → ⊥) → m ≤ p
+  by_cases p (inr late) above differs = late
+  by_cases p (inl early) above differs =
+      let at : mark.start + (p - mark.start) ≡ p = omega (arith, above) in
+      absurd (differs (shares.there p (covered-right made part p
+      (subst (λ q. is_covered part q ≡ true) at
+      (covered-one mark.start (m - mark.start) (p - mark.start) (omega (arith, early, above)))))).1)
 
 module _ {X : Type 0} (f : List ℕ → Reads X) (same : IsShared f) (told start : ℕ) (kept unread front : List ℕ)
     (run : Run front kept unread start)
@@ -65,7 +120,7 @@ module _ {X : Type 0} (f : List ℕ → Reads X) (same : IsShared f) (told start
     pub what_covered : is_covered (f fill).marks what.0.start ≡ true
     what_covered = missed_covered (f fill).marks what.0 what.2 (call.lacks what.0 what.1).0
 
-    -- it lies behind the bytes so far, and before the end
+    -- it lies after the bytes so far, and before the end
     pub what_behind : start ≤ what.0.start → (length front ≤ what.0.start) × (what.0.start < told)
     what_behind above =
         let none = call.lacks what.0 what.1 in
@@ -74,7 +129,7 @@ module _ {X : Type 0} (f : List ℕ → Reads X) (same : IsShared f) (told start
           omega (arith, some, few, within),
         )
 
-    -- The read that failed requests bytes behind those so far, and none from the end on.
+    -- The read that failed requests bytes after those so far, and none from the end on.
     pub ends_begun : start ≤ what.0.start → (length front < end_of missed) × (end_of missed ≤ told)
     ends_begun above =
         let none = call.lacks what.0 what.1 in
@@ -82,6 +137,24 @@ module _ {X : Type 0} (f : List ℕ → Reads X) (same : IsShared f) (told start
         let late = (what_behind above).0 in
         let ends : end_of missed ≡ what.0.start + what.0.most = ap end_of what.1 in
         (omega (arith, late, ends, some, few), omega (arith, ends, within))
+
+    -- it is a byte of each input's reads
+    pub marked_begun : start ≤ what.0.start → (d : List ℕ) → Begins front told d → Alike true fill d (f fill) (f d)
+        → (length front ≤ what.0.start) × (what.0.start < end_of missed)
+        × (is_covered (f d).marks what.0.start ≡ true)
+    marked_begun above d begins alike =
+        let is = what.2 in
+        let none = call.lacks what.0 what.1 in let some = none.0 in let few = none.1 in
+        let within : what.0.start + what.0.sure ≤ is.mark.start + is.mark.len = is.within in
+        let ends : end_of missed ≡ what.0.start + what.0.most = ap end_of what.1 in (
+          (what_behind above).0,
+          omega (arith, ends, some, few),
+          alike_covered fill d (f fill) (f d) is.made is.rest is.mark what.0.start alike is.all is.behind
+              (omega (arith, within, some))
+              (begins_shares told start kept unread front run fits d
+              (is.made ++ span_at is.mark.start (what.0.start - is.mark.start)) begins
+              (λ p here. call.seen p (subst (λ s. is_covered s p ≡ true) (sym (some_is is.recorded)) here))),
+        )
 
     -- An input of the told length whose marks all lie in the bytes so far would have missed nothing.
     pub complete_begun : (d : List ℕ) → Begins front told d → length d ≡ told
@@ -116,7 +189,7 @@ by_fault {X} r other right never = by_test (is_faulted r) refl where
   by_test true is = absurd (never is)
   by_test false is = right is
 
--- behind other spans
+-- after other spans
 pub says_behind : {X : Type 0} (front chunk : List ℕ) (told : ℕ) (whole reads : List ℕ → Reads X) (before : List Span)
     (r : Result X Halt)
     → ((d : List ℕ) → Begins front told d → uncounted (whole d) ≡ put_behind before (uncounted (reads d)))

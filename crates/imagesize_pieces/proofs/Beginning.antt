@@ -54,7 +54,7 @@ pub record Run (front kept unread : List ℕ) (start : ℕ) : Type 0 where
   pub is : kept ++ unread ≡ drop start front
   pub ends : start + (length kept + length unread) ≡ length front
 
--- what was kept from a place on, and what came behind the bytes before
+-- what was kept from a place on, and what came after the bytes before
 run_start : (front chunk : List ℕ) (place : ℕ)
     → drop place front ++ drop (place - length front) chunk
     ≡ drop (min place (length front + length chunk)) (front ++ chunk)
@@ -178,7 +178,7 @@ module _ (told start : ℕ) (kept unread front : List ℕ) (run : Run front kept
         absurd (let no : true ≡ false = sym is ∙ ap is_some (as_one place) ∙ not_behind told start bytes place late in
         cc)
 
-  -- a place from the start on that is not known is behind the bytes so far
+  -- an offset from the start on that is not known is after the bytes so far
   pub unknown_behind : (place : ℕ) → is_some (byte_at told start kept unread place) ≡ false → start ≤ place
       → length front ≤ place
   unknown_behind place none above = by_cases (cases_lt place (length front)) where

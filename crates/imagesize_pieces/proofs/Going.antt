@@ -1,5 +1,5 @@
 -- Where a walk over the bytes so far stands, for every input that begins with them.
-use Rattle.std.proofs.Common.{◌≡◌, ℕ, ◌+◌, ◌-◌, ◌^◌, ◌<◌, ◌≤◌, true, List, [], ◌∷◌, ◌++◌, length, Option, None, Some, Result, Ok, Err, inl, inr, sym, ap, ◌∙◌, subst, arith}
+use Rattle.std.proofs.Common.{◌≡◌, ℕ, ◌+◌, ◌-◌, ◌^◌, ◌<◌, ◌≤◌, max, min, true, List, [], ◌∷◌, ◌++◌, length, Option, None, Some, Result, Ok, Err, inl, inr, sym, ap, ◌∙◌, subst, arith}
 use Rattle.std.specs.Prelude.{option_map}
 use Rattle.std.specs.Option.{ForSome}
 use Rattle.imagesize_source.specs.declared.source.parts.Missing.{Missing}
@@ -11,15 +11,14 @@ use Rattle.imagesize_source.specs.Known.{AllKnown, Lacks, parts_state, sure_of}
 use Rattle.imagesize_source.specs.Reading.{Reads, go_on, put_behind, uncounted}
 use Rattle.imagesize_source.specs.declared.halt.Halt.{Halt}
 use Rattle.imagesize_source.specs.State.{State, Misses, state_after}
-use Rattle.imagesize_source.proofs.Agreement.{covered-left, covered-right}
+use Rattle.imagesize_source.proofs.Agreement.{alike_layout, covered-left, covered-right, with_texts}
 use Rattle.imagesize_source.proofs.ChainLaws.{chain_induction}
 use Rattle.imagesize_source.proofs.Chains.{chain_next, chain_stop, chain_unfolds, follows}
 use Rattle.imagesize_source.proofs.Runs.{past-recorded}
-use Rattle.imagesize_source.specs.Sharing.{Shares, Stood}
+use Rattle.imagesize_source.specs.Sharing.{Stood}
 use Rattle.imagesize_source.proofs.Known.{length-filled_input}
-use Rattle.imagesize_source.proofs.Sharing.{chain_shared}
-use Rattle.imagesize_pieces.specs.Stream.{AllBelow, Begins, Reach, came, end_of, stream_input, stream_state}
-use Rattle.imagesize_pieces.proofs.Asking.{missed_is, missed_covered}
+use Rattle.imagesize_pieces.specs.Stream.{Begins, Reach, SomeBetween, came, end_of, stream_input, stream_state}
+use Rattle.imagesize_pieces.proofs.Asking.{alike_covered, missed_is, missed_covered}
 use Rattle.imagesize_pieces.proofs.Beginning.{Run, begins_shares, unknown_behind}
 use Rattle.imagesize_pieces.proofs.Called.{is_short, moved, some_is}
 use Rattle.imagesize_pieces.proofs.Reaching.{covered_either, reach_covered}
@@ -115,7 +114,7 @@ module _ {C X : Type 0} (c : Chain C X) (P : List C → Type 0) (t : Along C) (t
   pub ahead_begun : t.place ≤ place
   ahead_begun = stood.ahead honest
 
-  -- what is missed lies in the record, and behind the bytes so far, so that few of them are kept
+  -- what is missed lies in the record, and after the bytes so far, so that few of them are kept
   pub few_left : (k : ℕ) → Reaches c k → start ≤ t.place → length front < place + k
   few_left k reaches from =
       let is = what.2 in let none = lacks what.0 what.1 in
@@ -126,7 +125,7 @@ module _ {C X : Type 0} (c : Chain C X) (P : List C → Type 0) (t : Along C) (t
       (omega (arith, ahead_begun, from, between.0)) in
       omega (arith, behind, between.1)
 
-  -- the read that failed requests bytes behind the record's place, and behind the bytes so far
+  -- the read that failed requests bytes after the record's offset, and after the bytes so far
   pub ends_left : (k : ℕ) → Reaches c k → start ≤ t.place
       → (length front < end_of missed) × (place < end_of missed) × (end_of missed ≤ told)
   ends_left k reaches from =
@@ -143,26 +142,48 @@ module _ {C X : Type 0} (c : Chain C X) (P : List C → Type 0) (t : Along C) (t
         omega (arith, ends, within),
       )
 
-  -- An input of the told length has a mark from the record's place on.
-  pub rests_left : (k : ℕ) → Reaches c k → ((e : List ℕ) → Advances c e) → (d : List ℕ) → Begins front told d
-      → length d ≡ told
-      → AllBelow place (chain_from c d t).marks → ⊥
-  rests_left k reaches adv d begins as_long below =
-      none what.0.start (subst (λ w. is_covered w.marks what.0.start ≡ true) same first) where
-        none : (p : ℕ) → is_covered (chain_from c d u).marks p ≡ true → ⊥
-        none p here =
-            let early = below p (subst (λ w. is_covered w.marks p ≡ true) (sym (leads_begun d begins))
-            (covered-right stood.made (chain_from c d u).marks p here)) in
-            let late = chain_above c k reaches d (adv d) u p here in
-            omega (arith, early, late)
+  -- the bytes that the failed read saw, with those of the reads before it in the record
+  seen_known : AllKnown told (came start kept unread) (kept ++ unread)
+      (what.2.made ++ span_at what.2.mark.start (what.0.start - what.2.mark.start))
+  seen_known =
+      let is = what.2 in
+      let part : List Span = is.made ++ span_at is.mark.start ((sure_of what.0).start - is.mark.start) in
+      let all : ◌≡◌ {A = Option (List Span)} (Some log)
+      (option_map (λ spans. spans ++ part) (option_map (λ spans. spans ++ stood.made) (Some []))) =
+      is.recorded ∙ ap (option_map (λ spans. spans ++ part)) (past-recorded before stood.made) in
+      λ p here. seen p (subst (λ s. is_covered s p ≡ true) (sym (some_is all)) (covered-right stood.made part p here))
 
-        same : chain_from c fill u ≡ chain_from c d u
-        same = chain_shared c fill d (adv fill) (adv d) u (record {
-          no_longer = omega (arith, as_long, length-filled_input told (came start kept unread) (kept ++ unread));
-          there = λ p here. absurd (none p here);
-        })
+  -- what is missed is a byte of the record in each input that begins with the bytes so far
+  record_covered : (d : List ℕ) → Begins front told d → length d ≡ told
+      → is_covered (next_record c d u).marks what.0.start ≡ true
+  record_covered d begins as_long =
+      let is = what.2 in let none = lacks what.0 what.1 in let some = none.0 in
+      let within : what.0.start + what.0.sure ≤ is.mark.start + is.mark.len = is.within in
+      alike_covered fill d (next_record c fill u) (next_record c d u) is.made is.rest is.mark what.0.start
+      (alike_layout fill d (c.said stood.held place) (with_texts (c.said stood.held place))
+      (as_long ∙ sym (length-filled_input told (came start kept unread) (kept ++ unread))))
+      is.all is.behind (omega (arith, within, some))
+      (begins_shares told start kept unread front run fits d
+      (is.made ++ span_at is.mark.start (what.0.start - is.mark.start)) begins seen_known)
 
-        first : is_covered (chain_from c fill u).marks what.0.start ≡ true
-        first = subst (λ w. is_covered w.marks what.0.start ≡ true) (sym (chain_unfolds c fill u (adv fill)))
-            (onward_covered (next_record c fill u).marks (next_record c fill u).answer (follows c fill u.held) what.0.start
-            (missed_covered (next_record c fill u).marks what.0 what.2 (lacks what.0 what.1).0))
+  -- An input of the told length depends on it.
+  pub marked_left : (k : ℕ) → Reaches c k → ((e : List ℕ) → Advances c e) → start ≤ t.place → (d : List ℕ)
+      → Begins front told d → length d ≡ told
+      → SomeBetween (max (length front) place) (min (end_of missed) (place + k)) (chain_from c d t).marks
+  marked_left k reaches adv from d begins as_long =
+      let none = lacks what.0 what.1 in let some = none.0 in let few = none.1 in
+      let here = record_covered d begins as_long in
+      let between = reach_covered d place (place + k) (c.said stood.held place) (reaches stood.held place)
+      what.0.start here in
+      let behind = unknown_behind told start kept unread front run fits what.0.start none.3
+      (omega (arith, ahead_begun, from, between.0)) in
+      let ends : end_of missed ≡ what.0.start + what.0.most = ap end_of what.1 in (
+        what.0.start,
+        omega (arith, behind, between.0),
+        omega (arith, between.1, ends, some, few),
+        subst (λ w. is_covered w.marks what.0.start ≡ true) (sym (leads_begun d begins))
+            (covered-right stood.made (chain_from c d u).marks what.0.start
+            (subst (λ w. is_covered w.marks what.0.start ≡ true) (sym (chain_unfolds c d u (adv d)))
+            (onward_covered (next_record c d u).marks (next_record c d u).answer (follows c d u.held) what.0.start
+            here))),
+      )

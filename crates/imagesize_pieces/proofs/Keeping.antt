@@ -1,4 +1,4 @@
--- What is kept of bytes and of those behind them.
+-- What is kept of bytes and of those after them.
 use Rattle.std.proofs.Common.{◌≡◌, ℕ, ◌+◌, ◌-◌, ◌≤◌, ◌<◌, min, List, ◌++◌, length, take, drop, sym, ap, ◌∙◌, arith}
 use Rattle.std.proofs.lemmas.List.{drop-append-le, drop-take, length-append, length-drop, length-take, take_all}
 use Rattle.std.proofs.Math.Seq.{drop-append-add, take-append_seam}

@@ -63,7 +63,7 @@ module _ (n start : ℕ) (kept chunk : List ℕ) where
       ∙ append_first kept chunk (place - start + i) (omega (arith, below, long, within))
       ∙ sym (get_or-drop (place - start) kept i 0) ∙ ap (λ bs. get_or bs i 0) (sym is))
 
-  -- and those behind them
+  -- and those after them
   pub chunk_known : (run : List ℕ) (place i : ℕ) → start + length kept + length chunk ≤ n → start ≤ place
       → length kept ≤ place - start
       → run ≡ drop (place - start - length kept) chunk → i < length run

@@ -28,6 +28,10 @@ Reach low high (begin_record t) = Reach low high t
 abbrev pub AllBelow : ℕ → List Span → Type 0
 AllBelow n spans = (place : ℕ) → is_covered spans place ≡ true → place < n
 
+-- an offset of the spans is at least `low` and below `high`
+abbrev pub SomeBetween : ℕ → ℕ → List Span → Type 0
+SomeBetween low high spans = (place : ℕ) × (low ≤ place) × (place < high) × (is_covered spans place ≡ true)
+
 -- Every input that begins with these bytes has this result, with the same spans.
 pub record Says {X : Type 0} (front : List ℕ) (told : ℕ) (reads : List ℕ → Reads X) (answer : Result X Halt) : Type 0 where
   pub marks : List Span

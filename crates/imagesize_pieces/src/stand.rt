@@ -10,7 +10,7 @@ pub struct Stand {
     pub place: u64,
     /// How many bytes arrived.
     pub passed: u64,
-    /// The offset after the last byte that the read that missed a byte requests.
+    /// The offset after the last byte that is requested.
     pub end: u64,
     /// How many bytes the input has at most.
     pub told: u64,

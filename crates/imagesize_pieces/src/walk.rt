@@ -1,9 +1,9 @@
 //! A walk along the records of an input that arrives in chunks. Each chunk continues it, over the kept bytes and the new ones.
-ghost use Rattle.std.specs.Prelude.{◌≡◌, ℕ, ◌+◌, ◌-◌, ◌<◌, ◌≤◌, ◌++◌, List, length, false, None, IfSome};
+ghost use Rattle.std.specs.Prelude.{◌≡◌, ℕ, ◌+◌, ◌-◌, ◌<◌, ◌≤◌, ◌++◌, List, length, false, max, min, None, IfSome};
 ghost use Rattle.imagesize_source.specs.Reading.{Reads, is_faulted, is_stopped};
 ghost use Rattle.imagesize_source.specs.Walk.{CanFollow, chain_of};
 ghost use Rattle.imagesize_pieces.specs.Standing.{Stands};
-ghost use Rattle.imagesize_pieces.specs.Stream.{AllBelow, Begins, Reach, Says};
+ghost use Rattle.imagesize_pieces.specs.Stream.{AllBelow, Begins, Reach, Says, SomeBetween};
 
 use crate::room::{bytes_behind, keep_behind};
 use crate::source::StreamSource;
@@ -49,10 +49,12 @@ pub fn read_on<R: Records>(
         → Stands first (R.said records.old) (R.keeps records.old) stand.old room.old whole front
         → (d : List ℕ) → Begins (front ++ chunk.now) stand.old.told d → length d ≡ stand.old.told
         → AllBelow (length front + length chunk.now) (whole d).marks → ⊥ }
-    ensures starts { result ≡ None → (first : ℕ) (whole : List ℕ → Reads R.Answer) (front : List ℕ)
+
+    // The result depends on a byte that has not arrived. It is in the next record, and the read that missed a byte requests it.
+    ensures marked { result ≡ None → (first : ℕ) (whole : List ℕ → Reads R.Answer) (front : List ℕ)
         → Stands first (R.said records.old) (R.keeps records.old) stand.old room.old whole front
         → (d : List ℕ) → Begins (front ++ chunk.now) stand.old.told d → length d ≡ stand.old.told
-        → AllBelow stand.new.start (whole d).marks → ⊥ }
+        → SomeBetween (max stand.new.passed stand.new.start) (min stand.new.end (stand.new.start + (length room.old + 1))) (whole d).marks }
 {
     let passed = stand.passed + chunk.len() as u64;
     let start = stand.start.min(passed);

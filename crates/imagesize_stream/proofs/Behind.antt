@@ -39,7 +39,7 @@ runs_done {a = a} x sound = record {
   ended = tt;
 }
 
--- behind an answer that leads to this value
+-- after an answer that leads to this value
 pub runs_on : {X Y : Type 0} {a b : State} (t : Layout X) (g : X → Layout Y) (x : X) (y : Y) → g x ≡ done y
     → Runs a b (Ok x) (layout_reads a.held.input t) → Runs a b (Ok y) (layout_reads a.held.input (bind t g))
 runs_on {X} {Y} {a} {b} t g x y is first =
@@ -48,7 +48,7 @@ runs_on {X} {Y} {a} {b} t g x y is first =
     (subst (λ u. Runs b b (Ok y) (layout_reads b.held.input u)) (sym is) (runs_done y first.sound_after)))
     (λ _. ap uncounted (sym (over-bind a.held.input t g)))
 
--- behind an answer, and what was read behind it
+-- after an answer, and what was read after it
 pub runs_next : {X Y : Type 0} {a m b : State} (t : Layout X) (g : X → Layout Y) (x : X) (r : Result Y Halt)
     → Runs a m (Ok x) (layout_reads a.held.input t) → Runs m b r (layout_reads m.held.input (g x))
     → Runs a b r (layout_reads a.held.input (bind t g))
@@ -57,7 +57,7 @@ runs_next {X} {Y} {a} {m} {b} t g x r first second =
     (runs_then (layout_reads a.held.input t) (λ v held. layout_reads held.input (g v)) first second)
     (λ _. ap uncounted (sym (over-bind a.held.input t g)))
 
--- behind a refusal
+-- after a refusal
 pub runs_off : {X Y : Type 0} {a b : State} (t : Layout X) (g : X → Layout Y) (e : Halt)
     → Runs {X = X} a b (Err e) (layout_reads a.held.input t)
     → Runs {X = Y} a b (Err e) (layout_reads a.held.input (bind t g))
@@ -79,7 +79,7 @@ fixed_off a b (Fixed most t) e first = runs_off t (λ s. done (opened.Size s)) e
 fixed_off a b (Recorded outside each stated reads) e first = tt
 fixed_off a b (Texts reads) e first = tt
 
--- how deep the segment behind another stands
+-- how deep the segment after another stands
 pub leads_as : (depth behind marker : ℕ) → LeadsTo depth marker behind → behind ≡ depth_behind depth marker
 unfolding LeadsTo
 leads_as depth behind marker leads = leads.0

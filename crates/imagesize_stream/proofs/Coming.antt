@@ -59,6 +59,12 @@ opened_came room passed start told place next type first within steady says size
   resumes = λ d begins. opened_behind (take passed room) told type says (opened.Records next place) size d begins;
 }
 
+pub awaiting_all : {P : Type 0} (stage : Stage) → P → IfAwaiting stage P
+awaiting_all First p = p
+awaiting_all (Records next) p = p
+awaiting_all (Footer size) p = p
+awaiting_all (Done size) p = tt
+
 pub awaiting_map : {P Q : Type 0} (stage : Stage) → (P → Q) → IfAwaiting stage P → IfAwaiting stage Q
 awaiting_map First f p = f p
 awaiting_map (Records next) f p = f p

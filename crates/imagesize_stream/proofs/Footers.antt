@@ -1,5 +1,5 @@
 -- What may be a TGA: its header and its footer.
-use Rattle.std.proofs.Common.{◌≡◌, ℕ, ◌+◌, ◌-◌, ◌<◌, ◌≤◌, min, Bool, true, false, ◌&&◌, not, cond, leb, List, [], ◌++◌, length, slice_index, take, drop, Option, Some, None, Result, Ok, Err, refl, sym, ap, ◌∙◌, subst, arith}
+use Rattle.std.proofs.Common.{◌≡◌, ℕ, ◌+◌, ◌-◌, ◌<◌, ◌≤◌, min, inl, inr, Bool, true, false, ◌&&◌, not, cond, leb, List, [], ◌++◌, length, slice_index, take, drop, Option, Some, None, Result, Ok, Err, refl, sym, ap, ◌∙◌, subst, arith}
 use Rattle.std.proofs.lemmas.Bool.Decides.{nat_tests}
 use Rattle.std.proofs.lemmas.List.{append-nil, drop-append-le, drop-drop, length-append, length-drop, length-take, take_all}
 use Rattle.std.specs.Result.{result_ok}
@@ -26,7 +26,7 @@ use Rattle.imagesize_source.proofs.Layouts.{over-bind}
 use Rattle.imagesize_stream.proofs.Firsts.{type_by_first}
 use Rattle.imagesize_stream.proofs.Hearing.{first_covered}
 use Rattle.imagesize_stream.proofs.Saying.{Saying, saying, saying_bind}
-use Rattle.imagesize_stream.specs.Heard.{IsByFooter, RestsOnMore, SizeIs, TypeIs}
+use Rattle.imagesize_stream.specs.Heard.{IsByFooter, OutOfHeader, RestsOnMore, SizeIs, TypeIs}
 use Rattle.imagesize_stream.specs.Streamed.{first_by, first_layout, type_behind}
 use Rattle.imagesize_stream.specs.declared.front.First.{First}
 use Rattle.imagesize_stream.specs.declared.front.First.TheVariants as first
@@ -133,6 +133,11 @@ size_sure = (omega arith, λ width. (omega arith, λ height. tt))
 
 pub size_reach : Reach 0 18 tga
 size_reach = (omega arith, omega arith, λ width. (omega arith, omega arith, λ height. tt))
+
+-- after 12 bytes of a header of 18, and before all
+pub in_header : (n : ℕ) → OutOfHeader n → 12 ≤ n → n < 18 → ⊥
+in_header n (inl few) enough short = omega (arith, few, enough)
+in_header n (inr all) enough short = omega (arith, all, short)
 
 -- these first bytes may be of a TGA
 abbrev MayBe : First → Type 0

@@ -1,5 +1,5 @@
 -- An input whose parts are given in rounds: what more of them leave known.
-use Rattle.std.proofs.Common.{◌≡◌, ℕ, ◌+◌, ◌-◌, ◌<◌, ◌≤◌, max, ◌⊎◌, inl, inr, List, [], ◌++◌, length, take, drop, Bool, true, false, cond, Option, Some, None, Result, Ok, Err, refl, sym, ap, ◌∙◌, subst, arith}
+use Rattle.std.proofs.Common.{◌≡◌, ℕ, ◌+◌, ◌-◌, ◌<◌, ◌≤◌, max, min, ◌⊎◌, inl, inr, List, [], ◌++◌, length, take, drop, Bool, true, false, cond, Option, Some, None, Result, Ok, Err, refl, sym, ap, ◌∙◌, subst, arith}
 use Rattle.std.proofs.Math.Seq.{drop-append-add, take-add}
 use Rattle.std.proofs.lemmas.Bool.{cases_lt}
 use Rattle.std.proofs.lemmas.List.{drop-append-le, drop-drop, drop-take, drop_all, length-drop, length-take, take_all, take_min}
@@ -9,14 +9,15 @@ use Rattle.imagesize.specs.declared.types.ImageType.{ImageType}
 use Rattle.imagesize.specs.declared.types.ImageType.TheVariants.{Tga}
 use Rattle.imagesize_fixed.specs.Tga.{is_tga_footer}
 use Rattle.imagesize_pieces.proofs.Beginning.{begins_left}
-use Rattle.imagesize_pieces.specs.Stream.{Begins}
+use Rattle.imagesize_pieces.specs.Stream.{Begins, SomeBetween}
 use Rattle.imagesize_pieces.specs.declared.stand.Stand.{Stand}
 use Rattle.imagesize_source.specs.Input.{part}
 use Rattle.imagesize_source.specs.declared.halt.Halt.{Halt}
 use Rattle.imagesize_source.specs.declared.halt.Halt.TheVariants.{NotSupported}
+use Rattle.imagesize_source.specs.declared.span.Span.{Span}
 use Rattle.imagesize_stream.specs.Given.{DependsFrom, HasPart, IsGiven, KnownBy, MayBeAt}
-use Rattle.imagesize_stream.specs.Heard.{IsByFooter, RestsFrom, RestsOnMore}
-use Rattle.imagesize_stream.specs.Probe.{AheadBy, CameBy, CameTo, HoldsAt, HoldsBy, IfAwaiting}
+use Rattle.imagesize_stream.specs.Heard.{IsByFooter, OutOfHeader, RestsOnMore}
+use Rattle.imagesize_stream.specs.Probe.{AheadBy, CameBy, CameTo, HoldsAt, HoldsBy, IfAwaiting, MarkedBy, NextBy, RestsOnNext}
 use Rattle.imagesize_stream.specs.Pushed.{stage_answer}
 use Rattle.imagesize_stream.proofs.Coming.{awaiting_map}
 use Rattle.imagesize_types.specs.declared.size.ImageSize.{ImageSize}
@@ -29,7 +30,7 @@ unfolding part
 cut_part d cut p n is =
     is ∙ sym (take_min n (drop p d)) ∙ ap (λ k. take k (drop p d)) (sym (ap length is ∙ length-take n (drop p d)))
 
--- the first bytes, and those behind them
+-- the first bytes, and those after them
 pub first_on : (d cut : List ℕ) (p : ℕ) → cut ≡ part d p (length cut) → take p d ++ cut ≡ take (p + length cut) d
 unfolding part
 first_on d cut p is = ap (λ xs. take p d ++ xs) is ∙ sym (take-add p (length cut) d)
@@ -124,7 +125,8 @@ unfolding part
 footer_came d new passed told as_long some all is =
     let none : told - passed ≡ 0 = omega (arith, all) in
     let at : told - 18 ≡ length d - 18 = omega (arith, as_long) in
-    ap (λ k. drop k (take 18 new)) (sym none) ∙ is ∙ ap (drop (told - 18)) (take_all passed d (omega (arith, as_long, all)))
+    ap (λ k. drop k (take 18 new)) (sym none) ∙ is
+    ∙ ap (drop (told - 18)) (take_all passed d (omega (arith, as_long, all)))
     ∙ ap (λ k. drop k d) at
     ∙ sym (take_all 18 (drop (length d - 18) d) (omega (arith, length-drop (length d - 18) d, as_long, some)))
 
@@ -145,31 +147,28 @@ known_from (Footer size) kind start place passed told room front d as_long withi
 known_from (Done size) kind start place passed told room front d as_long within holds begins is came =
     (came.0 d begins, came.1 d begins)
 
-awaiting_three : {P Q R S : Type 0} (stage : Stage) → (P → Q → R → S) → IfAwaiting stage P → IfAwaiting stage Q
-    → IfAwaiting stage R → IfAwaiting stage S
-awaiting_three First f p q r = f p q r
-awaiting_three (Records next) f p q r = f p q r
-awaiting_three (Footer size) f p q r = f p q r
-awaiting_three (Done size) f p q r = tt
+awaiting_both : {P Q R : Type 0} (stage : Stage) → (P → Q → R) → IfAwaiting stage P → IfAwaiting stage Q
+    → IfAwaiting stage R
+awaiting_both First f p q = f p q
+awaiting_both (Records next) f p q = f p q
+awaiting_both (Footer size) f p q = f p q
+awaiting_both (Done size) f p q = tt
 
 pub may_be : (stage : Stage) (kind : Option ImageType) (stand : Stand) (room front d : List ℕ) (was : ℕ)
     → stand.told ≡ was → length d ≡ was → Begins front was d → HoldsAt stage stand
     → IfAwaiting stage (front ≡ take stand.passed d) → CameTo stage kind stand room front
-    → IfAwaiting stage (RestsOnMore front was) → IfAwaiting stage (RestsFrom stand.start front was)
-    → MayBeAt stage kind stand room d
-may_be stage kind stand room front d was same as_long begins holds is came more starts = record {
+    → IfAwaiting stage (RestsOnMore front was) → RestsOnNext stage stand front was → MayBeAt stage kind stand room d
+may_be stage kind stand room front d was same as_long begins holds is came more marks = record {
   given = record {
     as_long = as_long ∙ sym same;
     known = known_from stage kind stand.start stand.place stand.passed stand.told room front d (as_long ∙ sym same)
         stand.fits holds
         (subst (λ k. Begins front k d) (sym same) begins) is came;
   };
-  depends = awaiting_three stage (λ at rests later. (
-    (λ below. rests d begins as_long (λ p here.
-        let early = below p here in let fits = stand.fits in
-        omega (arith, early, ap length at, length-take stand.passed d, as_long, same, fits))),
-    λ below. later d begins as_long below,
-  )) is more starts;
+  depends = awaiting_both stage (λ at rests below. rests d begins as_long (λ p here.
+      let early = below p here in let fits = stand.fits in
+      omega (arith, early, ap length at, length-take stand.passed d, as_long, same, fits))) is more;
+  marked = marks d begins as_long;
 }
 
 -- where bytes that are not needed are passed by
@@ -188,7 +187,7 @@ known_behind (Records awaited) kind start place passed next end told room d as_l
           let at : next ≡ start = omega (arith, is, some) in
           let less : passed ≤ next = omega (arith, at, some) in
           let many : next ≡ length (take next d) =
-          omega (arith, length-take next d, as_long, at, ahead.1.0, ahead.1.1) in
+          omega (arith, length-take next d, as_long, at, ahead.1.0, ahead.1.1.0) in
           let none : next - start ≡ 0 = omega (arith, at) in (
             (λ e begins. known.0 e (begins_less d e told passed next less begins)),
             record {
@@ -209,28 +208,32 @@ known_behind (Footer size) kind start place passed next end told room d as_long 
           let at : next ≡ start = omega (arith, is, some) in (
             known.0,
             drop_all (told - next) (take 18 room)
-                (omega (arith, at, length-take 18 room, ahead.1.0, ahead.1.1))
+                (omega (arith, at, length-take 18 room, ahead.1.0, ahead.1.1.0))
                 ∙ sym (drop_all (told - 18) (take next d)
-                (omega (arith, at, length-take next d, ahead.1.0, ahead.1.1))),
+                (omega (arith, at, length-take next d, ahead.1.0, ahead.1.1.0))),
           )
 known_behind (Done size) kind start place passed next end told room d as_long is holds ahead known = known
 
-pub depends_behind : (stage : Stage) (start passed next : ℕ) (d : List ℕ) → next ≡ max passed start
-    → IfAwaiting stage (DependsFrom passed d × DependsFrom start d)
-    → IfAwaiting stage (DependsFrom next d × DependsFrom start d)
-depends_behind stage start passed next d is = by_stage stage where
-  behind : DependsFrom passed d × DependsFrom start d → DependsFrom next d × DependsFrom start d
-  behind depends = by_cases (cases_lt passed start) where
-    by_cases : (passed < start) ⊎ (start ≤ passed) → DependsFrom next d × DependsFrom start d
-    by_cases (inl some) = (subst (λ k. DependsFrom k d) (omega (arith, is, some)) depends.1, depends.1)
-    by_cases (inr none) = (subst (λ k. DependsFrom k d) (omega (arith, is, none)) depends.0, depends.1)
+pub depends_behind : (stage : Stage) (start place passed next end : ℕ) (d : List ℕ) → next ≡ max passed start
+    → HoldsBy stage start place passed → IfAwaiting stage (DependsFrom passed d)
+    → MarkedBy stage start passed end (meaning_reads d 0).marks → IfAwaiting stage (DependsFrom next d)
+depends_behind First start place passed next end d is holds depends marked =
+    subst (λ k. DependsFrom k d) (omega (arith, is, holds.0)) depends
+depends_behind (Records awaited) start place passed next end d is holds depends marked =
+    λ below. let early = below marked.0 marked.3 in omega (arith, early, marked.1, is)
+depends_behind (Footer size) start place passed next end d is holds depends marked =
+    λ below. let early = below marked.0 marked.3 in omega (arith, early, marked.1, is)
+depends_behind (Done size) start place passed next end d is holds depends marked = tt
 
-  by_stage : (stage : Stage) → IfAwaiting stage (DependsFrom passed d × DependsFrom start d)
-      → IfAwaiting stage (DependsFrom next d × DependsFrom start d)
-  by_stage First depends = behind depends
-  by_stage (Records awaited) depends = behind depends
-  by_stage (Footer size) depends = behind depends
-  by_stage (Done size) depends = tt
+pub marked_behind : (stage : Stage) (start place passed next end : ℕ) (marks : List Span) → next ≡ max passed start
+    → HoldsBy stage start place passed → MarkedBy stage start passed end marks → MarkedBy stage start next end marks
+marked_behind First start place passed next end marks is holds marked =
+    subst (λ k. OutOfHeader k → SomeBetween k end marks) (omega (arith, is, holds.0)) marked
+marked_behind (Records awaited) start place passed next end marks is holds marked =
+    (marked.0, omega (arith, is, marked.1), marked.2, marked.3)
+marked_behind (Footer size) start place passed next end marks is holds marked =
+    (marked.0, omega (arith, is, marked.1), marked.2, marked.3)
+marked_behind (Done size) start place passed next end marks is holds marked = tt
 
 -- before any byte came
 pub none_given : (stage : Stage) (kind : Option ImageType) (stand : Stand) (room d : List ℕ)
@@ -280,28 +283,57 @@ pub given_on : (stage : Stage) (kind : Option ImageType) (stand : Stand) (room d
     → length d ≡ was → cut ≡ part d passed (length cut) → stand.told ≡ was → HoldsAt stage stand
     → IfAwaiting stage (stand.passed ≡ passed + length cut) → CameTo stage kind stand room (take passed d ++ cut)
     → IfAwaiting stage (RestsOnMore (take passed d ++ cut) was)
-    → IfAwaiting stage (RestsFrom stand.start (take passed d ++ cut) was)
-    → MayBeAt stage kind stand room d
-given_on stage kind stand room d cut passed was as_long is same holds many came more starts =
+    → RestsOnNext stage stand (take passed d ++ cut) was → MayBeAt stage kind stand room d
+given_on stage kind stand room d cut passed was as_long is same holds many came more marks =
     let front : take passed d ++ cut ≡ take (passed + length cut) d = first_on d cut passed is in
     may_be stage kind stand room (take passed d ++ cut) d was same as_long
     (subst (λ xs. Begins xs was d) (sym front) (begins_first d was (passed + length cut) as_long)) holds
-    (awaiting_map stage (λ at. front ∙ ap (λ k. take k d) (sym at)) many) came more starts
+    (awaiting_map stage (λ at. front ∙ ap (λ k. take k d) (sym at)) many) came more marks
 
 -- what is missing is ahead of what was passed by
-pub ahead_behind : (stage : Stage) (start passed next end told : ℕ) → next ≡ max passed start
-    → AheadBy stage start passed end told → AheadBy stage start next end told
-ahead_behind First start passed next end told is ahead =
-    (omega (arith, is, ahead.0, ahead.1.0), ahead.1)
-ahead_behind (Records awaited) start passed next end told is ahead =
-    (omega (arith, is, ahead.0, ahead.1.0), ahead.1)
-ahead_behind (Footer size) start passed next end told is ahead =
-    (omega (arith, is, ahead.0, ahead.1.0), ahead.1)
-ahead_behind (Done size) start passed next end told is ahead = tt
+pub next_behind : (stage : Stage) (start passed next end told : ℕ) → next ≡ max passed start
+    → AheadBy stage start passed end told → NextBy stage next end told
+next_behind First start passed next end told is ahead =
+    let few = ahead.1.1.1.0 in
+    (omega (arith, is, ahead.0, ahead.1.0), (ahead.1.1.0, (omega (arith, is, few), ahead.1.1.1.1)))
+next_behind (Records awaited) start passed next end told is ahead =
+    let few = ahead.1.1.1 in (omega (arith, is, ahead.0, ahead.1.0), (ahead.1.1.0, omega (arith, is, few)))
+next_behind (Footer size) start passed next end told is ahead =
+    let few = ahead.1.1.1 in (omega (arith, is, ahead.0, ahead.1.0), (ahead.1.1.0, omega (arith, is, few)))
+next_behind (Done size) start passed next end told is ahead = tt
 
-pub ahead_none : (kind : Option ImageType) (stage : Stage) (start passed end told : ℕ)
-    → stage_answer kind stage ≡ None → AheadBy stage start passed end told → (passed < end) × (end ≤ told)
-ahead_none kind First start passed end told none ahead = (ahead.0, ahead.1.1)
-ahead_none kind (Records next) start passed end told none ahead = (ahead.0, ahead.1.1)
-ahead_none kind (Footer size) start passed end told none ahead = (ahead.0, ahead.1.1)
-ahead_none kind (Done size) start passed end told none ahead = absurd cc
+pub next_none : (kind : Option ImageType) (stage : Stage) (passed end told : ℕ) → stage_answer kind stage ≡ None
+    → NextBy stage passed end told → (passed < end) × (end ≤ told) × (end ≤ passed + 1024)
+next_none kind First passed end told none next = (next.0, next.1.0, next.1.1.0)
+next_none kind (Records awaited) passed end told none next = (next.0, next.1.0, next.1.1)
+next_none kind (Footer size) passed end told none next = (next.0, next.1.0, next.1.1)
+next_none kind (Done size) passed end told none next = absurd cc
+
+-- the result depends on a byte of the requested span
+pub marked_none : (kind : Option ImageType) (stage : Stage) (start passed end : ℕ) (marks : List Span)
+    → stage_answer kind stage ≡ None → MarkedBy stage start passed end marks → OutOfHeader passed
+    → SomeBetween passed end marks
+marked_none kind First start passed end marks none marked out = marked out
+marked_none kind (Records awaited) start passed end marks none marked out =
+    (marked.0, omega (arith, marked.1), marked.2, marked.3)
+marked_none kind (Footer size) start passed end marks none marked out =
+    (marked.0, omega (arith, marked.1), marked.2, marked.3)
+marked_none kind (Done size) start passed end marks none marked out = absurd cc
+
+-- before any byte came the stage is the first one
+pub none_passed : (kind : Option ImageType) (stage : Stage) (start place passed : ℕ) → stage_answer kind stage ≡ None
+    → HoldsBy stage start place passed → passed ≡ 0 → start ≤ 0
+none_passed kind First start place passed none holds is = holds.0
+none_passed kind (Records awaited) start place passed none holds is =
+    let some = holds.1.1 in absurd (omega (arith, some, is))
+none_passed kind (Footer size) start place passed none holds is = absurd (omega (arith, holds, is))
+none_passed kind (Done size) start place passed none holds is = absurd cc
+
+pub first_next : (kind : Option ImageType) (stage : Stage) (start place passed end told : ℕ)
+    → stage_answer kind stage ≡ None → HoldsBy stage start place passed → NextBy stage passed end told → passed ≡ 0
+    → min 18 told ≤ end
+first_next kind First start place passed end told none holds next is = next.1.1.1
+first_next kind (Records awaited) start place passed end told none holds next is =
+    let some = holds.1.1 in absurd (omega (arith, some, is))
+first_next kind (Footer size) start place passed end told none holds next is = absurd (omega (arith, holds, is))
+first_next kind (Done size) start place passed end told none holds next is = absurd cc

@@ -1,28 +1,36 @@
 -- What the first bytes say of every image that begins with them.
-use Rattle.std.proofs.Common.{◌≡◌, ℕ, ◌≤◌, List, [], ◌++◌, length, true, Result, Ok, Err, sym, ap, ◌∙◌, subst}
+use Rattle.std.proofs.Common.{◌≡◌, ℕ, ◌-◌, ◌<◌, ◌≤◌, ◌⊎◌, inl, inr, leb, List, [], ◌++◌, length, true, false, Result, Ok, Err, refl, sym, ap, ◌∙◌, subst, arith}
+use Rattle.std.proofs.lemmas.Bool.{cases_lt}
+use Rattle.std.proofs.lemmas.Bool.Decides.{nat_tests}
 use Rattle.std.specs.Result.{result_ok}
 use Rattle.imagesize.specs.Meaning.{kind_reads, meaning_reads, size_reads}
 use Rattle.imagesize.specs.declared.types.ImageType.{ImageType}
-use Rattle.imagesize_pieces.specs.Stream.{AllBelow, Begins, Says}
+use Rattle.imagesize_pieces.specs.Stream.{AllBelow, Begins, Says, SomeBetween}
 use Rattle.imagesize_pieces.proofs.Beginning.{begins_all}
 use Rattle.imagesize_source.specs.Agreement.{is_covered}
 use Rattle.imagesize_source.specs.Layout.{layout_reads}
-use Rattle.imagesize_source.specs.Reading.{Reads, and_then, go_on, put_behind, uncounted}
+use Rattle.imagesize_source.specs.Reading.{Reads, and_then, bytes_at, go_on, put_behind, uncounted}
 use Rattle.imagesize_source.specs.declared.halt.Halt.{Halt}
+use Rattle.imagesize_source.specs.declared.halt.Halt.TheVariants.{Ended}
 use Rattle.imagesize_source.specs.declared.span.Span.{Span}
 use Rattle.imagesize_source.proofs.Agreement.{covered-left, covered-right}
 use Rattle.imagesize_source.proofs.Marks.{behind-behind}
 use Rattle.imagesize_stream.proofs.Firsts.{type_by_first}
 use Rattle.imagesize_stream.proofs.Opened.{opened_as, opened_rest}
 use Rattle.imagesize_stream.proofs.Saying.{OpensSteady, opening_steady, saying}
-use Rattle.imagesize_stream.specs.Heard.{RestsOnMore, SizeIs, TypeIs}
+use Rattle.imagesize_stream.specs.Heard.{RestsBetween, RestsOnMore, SizeIs, TypeIs}
 use Rattle.imagesize_stream.specs.Steps.{IsSteady}
 use Rattle.imagesize_stream.specs.Streamed.{first_layout, opening, type_behind}
 use Rattle.imagesize_stream.specs.declared.awaited.Awaited.{Awaited}
+use Rattle.imagesize_stream.specs.declared.front.First.{First}
 use Rattle.imagesize_stream.specs.declared.front.First.TheVariants as first
 use Rattle.imagesize_stream.specs.declared.front.Opening.{Opening}
 use Rattle.imagesize_stream.specs.declared.front.Opening.TheVariants as opened
 use Rattle.imagesize_types.specs.declared.size.ImageSize.{ImageSize}
+
+first_short : (d : List ℕ) → length d < 12 → (layout_reads d first_layout).answer ≡ Err Ended
+unfolding bytes_at
+first_short d few = let no : leb 12 (length d - 0) ≡ false = grind (arith, nat_tests) in rw no refl
 
 module _ (front : List ℕ) (told : ℕ) where
   -- the type
@@ -110,6 +118,11 @@ module _ (front : List ℕ) (told : ℕ) where
       (first_covered (layout_reads d first_layout).marks (layout_reads d first_layout).answer
       (type_behind d) place here))
 
+  pub first_asked : (low high : ℕ) → ((d : List ℕ) → Begins front told d → length d ≡ told
+      → SomeBetween low high (layout_reads d first_layout).marks) → RestsBetween low high front told
+  first_asked low high some d begins as_long =
+      let here = some d begins as_long in (here.0, here.1, here.2, type_covered d here.0 here.3)
+
   pub first_missing : ((d : List ℕ) → Begins front told d → length d ≡ told
       → AllBelow (length front) (layout_reads d first_layout).marks → ⊥)
       → RestsOnMore front told
@@ -134,6 +147,36 @@ module _ (front : List ℕ) (told : ℕ) where
   size_missing type says none =
       λ d begins as_long below. none d begins as_long
       (λ place here. below place (size_covered type says d begins place here))
+
+  pub size_asked : (type : ImageType) → Says front told (λ d. kind_reads d 0) (Ok type) → (low high : ℕ)
+      → ((d : List ℕ) → Begins front told d → length d ≡ told
+      → SomeBetween low high (layout_reads d (opening type)).marks) → RestsBetween low high front told
+  size_asked type says low high some d begins as_long =
+      let here = some d begins as_long in (here.0, here.1, here.2, size_covered type says d begins here.0 here.3)
+
+  -- no fewer than twelve bytes say a type
+  pub first_typed : length front ≤ told → (x : First) → Says front told (λ d. layout_reads d first_layout) (Ok x)
+      → 12 ≤ length front
+  first_typed fits x says = by_cases (cases_lt (length front) 12) where
+    by_cases : (length front < 12) ⊎ (12 ≤ length front) → 12 ≤ length front
+    by_cases (inr enough) = enough
+    by_cases (inl few) =
+        let no : ◌≡◌ {A = Result First Halt} (Ok x) (Err Ended) =
+        sym (ap (λ (r : Reads First). r.answer) (says.is front (begins_all front told fits))) ∙ first_short front few in
+        absurd cc
+
+  pub kind_typed : length front ≤ told → (type : ImageType) → Says front told (λ d. kind_reads d 0) (Ok type)
+      → 12 ≤ length front
+  kind_typed fits type says = by_cases (cases_lt (length front) 12) where
+    by_cases : (length front < 12) ⊎ (12 ≤ length front) → 12 ≤ length front
+    by_cases (inr enough) = enough
+    by_cases (inl few) =
+        let no : ◌≡◌ {A = Result ImageType Halt} (Ok type) (Err Ended) =
+        sym (ap (λ (r : Reads ImageType). r.answer) (says.is front (begins_all front told fits)))
+        ∙ ap (λ (r : Reads ImageType). r.answer) (type_by_first front)
+        ∙ ap (λ q. (go_on (layout_reads front first_layout).marks q (type_behind front)).answer)
+        (first_short front few) in
+        absurd cc
 
 -- the answer of the readings
 pub size_of_said : (front : List ℕ) (told : ℕ) (size : Result ImageSize Halt)

@@ -1,4 +1,4 @@
--- The size of an image by its first bytes, and by the records behind them.
+-- The size of an image by its first bytes, and by the records after them.
 use Rattle.std.proofs.Common.{◌≡◌, ℕ, ◌+◌, ◌-◌, ◌<◌, Bool, ltb, eqb, List, [], ◌++◌, length, Option, None, Some, slice_index, Result, Ok, Err, refl, sym, ap, ◌∙◌, subst, arith}
 use Rattle.std.proofs.lemmas.Bool.Decides.{nat_tests}
 use Rattle.std.proofs.lemmas.List.{length_push}
@@ -223,7 +223,7 @@ AtPlace place (Next v q) = Unit {0}
 box_placed : (tag : List ℕ) (place : ℕ) → Saying (AtPlace place) (searched_box tag place)
 box_placed tag place head = by_searched (Saying (AtPlace place)) tag place head refl tt (λ big. tt)
 
--- A search: what goes on behind its box.
+-- A search: what goes on after its box.
 search_as : (next : Awaited) (tag : List ℕ) (leads : ℕ → FoundBox → Layout (Said Awaited ImageSize))
     → ((place : ℕ) → step next place ≡ bind (searched_box tag place) (after (λ _. next) (leads place)))
     → (first : ℕ) (d : List ℕ)

@@ -1,5 +1,5 @@
 -- What a probe that is given parts requests next.
-use Rattle.std.proofs.Common.{◌≡◌, ℕ, ◌+◌, ◌<◌, ◌≤◌, Option, None, Some, Result, refl, arith}
+use Rattle.std.proofs.Common.{◌≡◌, ℕ, ◌+◌, ◌-◌, ◌<◌, ◌≤◌, min, Option, None, Some, Result, IfSome, refl, sym, ◌∙◌, arith}
 use Rattle.imagesize.specs.declared.types.ImageType.{ImageType}
 use Rattle.imagesize_pieces.specs.declared.stand.Stand.{Stand}
 use Rattle.imagesize_source.specs.declared.error.ImageError.{ImageError}
@@ -14,6 +14,30 @@ pub no_gap : (P : Type 0) (found : Option Both) (stand : Stand) (offset : ℕ) �
     → IfWanted (found_or_next found stand) (λ w. w.start < offset → P)
 no_gap P None stand offset before = λ late. absurd (omega (arith, late, before))
 no_gap P (Some found) stand offset before = tt
+
+-- where there is no answer there was none
+pub none_before : (found later : Option Both) → IfSome found (λ answer. later ≡ Some answer) → later ≡ None
+    → found ≡ None
+none_before None later keeps none = refl
+none_before (Some found) later keeps none =
+    let no : ◌≡◌ {A = Option Both} (Some found) None = sym keeps ∙ none in absurd cc
+
+-- the first span of an input
+pub first_span : (found : Option Both) (stand : Stand) (told : ℕ)
+    → (found ≡ None → (stand.passed ≡ 0) × (min 18 told ≤ stand.end))
+    → IfWanted (found_or_next found stand) (λ w. (w.start ≡ 0) × (min 18 told ≤ w.len))
+first_span None stand told first = let at = first refl in (at.0, omega (arith, at.0, at.1))
+first_span (Some found) stand told first = tt
+
+-- where the whole span came a span after it is requested
+pub gets_beyond : (found later : Option Both) (stand next : Stand) (offset n : ℕ)
+    → (found ≡ None → later ≡ None → stand.passed + (stand.end - stand.passed) ≤ offset + n
+    → stand.passed + (stand.end - stand.passed) ≤ next.passed)
+    → IfWanted (found_or_next found stand) (λ w. offset ≤ w.start → w.start + w.len ≤ offset + n
+    → IfWanted (found_or_next later next) (λ v. w.start + w.len ≤ v.start))
+gets_beyond None None stand next offset n more = λ _ all. more refl refl all
+gets_beyond None (Some found) stand next offset n more = λ _ _. tt
+gets_beyond (Some found) later stand next offset n more = tt
 
 -- where more bytes came a later span is requested
 pub gets_further : (found later : Option Both) (stand next : Stand) (offset n : ℕ)

@@ -19,7 +19,7 @@ use Rattle.imagesize_types.specs.declared.size.ImageSize.{ImageSize}
 abbrev pub run : Awaited → ℕ → List ℕ → Reads ImageSize
 run next place d = chain_from awaited_chain d (record { held = next ∷ []; place = place })
 
--- and behind a record
+-- and after a record
 abbrev pub goes : List ℕ → Said Awaited ImageSize → Reads ImageSize
 goes d (Decided size) = gives size
 goes d (Next next place) = run next place d
@@ -60,7 +60,7 @@ follows_goes d next (Decided size) = refl
 follows_goes d next (Next v place) =
     sym (by_last d (record { held = (next ∷ []) ++ v ∷ []; place = place }) (v ∷ []) (sym (last_is (next ∷ []) v)))
 
--- the readings are those of the record, and what is behind it
+-- the readings are those of the record, and what is after it
 pub run_unfolds : (d : List ℕ) (next : Awaited) (place : ℕ)
     → run next place d ≡ and_then (layout_reads d (step next place)) (goes d)
 run_unfolds d next place =
@@ -69,8 +69,8 @@ run_unfolds d next place =
     (follows awaited_chain d (next ∷ [])) (goes d)
     (λ said _. follows_goes d next said)
 
--- A format whose chain is c. Behind some of its records x is kept, by which the record that is next is awaited. The readings of
--- what is awaited are those of the chain's record, and of what is behind it.
+-- A format whose chain is c. After some of its records x is kept, by which the record that is next is awaited. The
+-- readings of what is awaited are those of the chain's record, and of what is after it.
 module _ {C Y T : Type 0} (c : Chain C Y) (awaits : T → Awaited) (on : T → C → T)
     (verdict_of : Y → Layout (Said Awaited ImageSize))
     (R : List C → T → Type 0) (d : List ℕ) (adv : Advances c d)

@@ -44,7 +44,7 @@ use Rattle.imagesize_walked.specs.declared.formats.tiff.Version.{Version}
 use Rattle.imagesize_walked.specs.declared.formats.tiff.Version.TheVariants.{BigTiff, Tiff}
 
 module _ {C Y : Type 0} (on : C → Awaited) (verdict : Y → Layout (Said Awaited ImageSize)) where
-  -- what is behind a record tells the places that it tells
+  -- what is after a record tells the places that it tells
   pub tells_behind : (P : ℕ → Type 0) → ((y : Y) → Tells P (verdict y)) → (t : Layout (Said C Y)) → Tells P t
       → Tells P (bind t (after on verdict))
   tells_behind P each (done (Decided y)) tells = each y
@@ -160,7 +160,7 @@ pub awaited_advances : (d : List ℕ) → Advances awaited_chain d
 awaited_advances = advances awaited_chain (λ held place. step_tells (last_awaited held) place)
     (λ held place. step_begins (last_awaited held) place)
 
--- what is refused beyond the end is refused with what is behind it
+-- what is refused beyond the end is refused with what is after it
 refused_behind : {X Y : Type 0} (d : List ℕ) (t : Layout X) (g : X → Layout Y)
     → uncounted (layout_reads d t) ≡ refuses Ended → uncounted (layout_reads d (bind t g)) ≡ refuses Ended
 refused_behind d t g is =
@@ -170,7 +170,7 @@ some_names : (long : Bool) → 0 < names_of long
 some_names true = omega arith
 some_names false = omega arith
 
--- what decides beyond the end decides with what is behind it
+-- what decides beyond the end decides with what is after it
 decided_behind : {C : Type 0} (d : List ℕ) (t : Layout (Said C ImageSize)) (on : C → Awaited)
     (r : Result ImageSize Halt)
     → uncounted (layout_reads d t) ≡ just (map_answer Decided r) []

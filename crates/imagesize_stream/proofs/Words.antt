@@ -18,7 +18,7 @@ use Rattle.imagesize_texts.specs.Pnm.{is_blank, is_comment, pnm_height, pnm_pass
 use Rattle.imagesize_texts.specs.Texts.{passed_line, word}
 use Rattle.imagesize_types.specs.declared.size.ImageSize.{ImageSize}
 
--- what goes on behind spans
+-- what goes on after spans
 behind_onward : {X Y : Type 0} (first marks : List Span) (answer : Result X Halt) (f : X → Reads Y)
     → go_on (first ++ marks) answer f ≡ put_behind first (go_on marks answer f)
 behind_onward first marks (Ok x) f = sym (behind-behind first marks (f x))
@@ -29,7 +29,7 @@ behind_text : {X Y : Type 0} (first : List Span) (r : Reads X) (f : X → Reads 
 behind_text first r f = ap (after_records r.begun) (behind_onward first r.marks r.answer f)
 
 module _ (d : List ℕ) where
-  -- what is behind a record of the chain
+  -- what is after a record of the chain
   abbrev mine : Said (Unit {0}) ImageSize → Reads ImageSize
   mine said = and_then (layout_reads d (after (λ _. Word) decides said)) (goes d)
 
@@ -53,7 +53,7 @@ module _ (d : List ℕ) where
           ap (λ q. run Word q d) (let e : place + taken + rest ≡ place + (taken + rest) = omega arith in e)
       by_length (Err e) = refl
 
-  -- the height behind the width
+  -- the height after the width
   height_as : (place : ℕ) (w : WordRead)
       → run (Height (number_text w.text)) (place + w.taken) d ≡ and_then (layout_reads d (pnm_height place w)) mine
   height_as place w =
@@ -95,7 +95,7 @@ module _ (d : List ℕ) where
     by_tests false line true = refl
     by_tests false line false = height_as place w
 
-  -- what is awaited reads as the record of the chain, and what is behind it
+  -- what is awaited reads as the record of the chain, and what is after it
   pub word_unrolls : (place : ℕ) → run Word place d ≡ and_then (layout_reads d (word place (pnm_word place))) mine
   word_unrolls place =
       let bs : List ℕ = text_part d word_text_of place word_room in

@@ -7,7 +7,7 @@ use Rattle.imagesize_pieces.specs.Stream.{AllBelow}
 use Rattle.imagesize_pieces.specs.declared.stand.Stand.{Stand}
 use Rattle.imagesize_source.specs.Input.{part}
 use Rattle.imagesize_stream.specs.Heard.{IsByFooter}
-use Rattle.imagesize_stream.specs.Probe.{CameBy, IfAwaiting}
+use Rattle.imagesize_stream.specs.Probe.{CameBy, IfAwaiting, MarkedBy}
 use Rattle.imagesize_stream.specs.declared.stage.Stage.{Stage}
 use Rattle.imagesize_stream.specs.declared.stage.Stage.TheVariants.{Done, First, Footer, Records}
 
@@ -25,7 +25,7 @@ KnownBy (Footer size) kind start place passed told room d =
 KnownBy (Done size) kind start place passed told room d =
     (result_ok (kind_reads d 0).answer ≡ kind) × ((meaning_reads d 0).answer ≡ size)
 
--- the size depends on a byte at this offset or behind it
+-- the size depends on a byte at this offset or after it
 abbrev pub DependsFrom : ℕ → List ℕ → Type 0
 DependsFrom offset d = AllBelow offset (meaning_reads d 0).marks → ⊥
 
@@ -37,4 +37,5 @@ pub record IsGiven (stage : Stage) (kind : Option ImageType) (stand : Stand) (ro
 -- and depends on more, while there is no answer
 pub record MayBeAt (stage : Stage) (kind : Option ImageType) (stand : Stand) (room d : List ℕ) : Type 0 where
   pub given : IsGiven stage kind stand room d
-  pub depends : IfAwaiting stage (DependsFrom stand.passed d × DependsFrom stand.start d)
+  pub depends : IfAwaiting stage (DependsFrom stand.passed d)
+  pub marked : MarkedBy stage stand.start stand.passed stand.end (meaning_reads d 0).marks

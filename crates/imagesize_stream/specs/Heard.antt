@@ -1,9 +1,9 @@
 -- What the first bytes say about every image that begins with them.
-use Rattle.std.specs.Prelude.{◌≡◌, ℕ, ◌-◌, ◌<◌, ◌≤◌, true, List, length, if◌then◌else◌, Option, Result, Ok, Err, IfSome}
+use Rattle.std.specs.Prelude.{◌≡◌, ◌⊎◌, ℕ, ◌-◌, ◌<◌, ◌≤◌, min, true, List, length, if◌then◌else◌, Option, Result, Ok, Err, IfSome}
 use Rattle.std.specs.Result.{result_ok}
 use Rattle.imagesize.specs.Meaning.{kind_reads, meaning_reads}
 use Rattle.imagesize.specs.declared.types.ImageType.{ImageType}
-use Rattle.imagesize_pieces.specs.Stream.{AllBelow, Begins, Says}
+use Rattle.imagesize_pieces.specs.Stream.{AllBelow, Begins, Says, SomeBetween}
 use Rattle.imagesize.specs.declared.types.ImageType.TheVariants.{Tga}
 use Rattle.imagesize_fixed.specs.Tga.{is_tga_footer}
 use Rattle.imagesize_source.specs.Agreement.{is_covered}
@@ -26,13 +26,17 @@ TypeIs front told image = (d : List ℕ) → Begins front told d → result_ok (
 abbrev pub SizeIs : List ℕ → ℕ → Result ImageSize Halt → Type 0
 SizeIs front told size = (d : List ℕ) → Begins front told d → (meaning_reads d 0).answer ≡ size
 
--- each input of the reported length that begins so depends on a byte at this offset or after it
-abbrev pub RestsFrom : ℕ → List ℕ → ℕ → Type 0
-RestsFrom offset front told = (d : List ℕ) → Begins front told d → length d ≡ told → AllBelow offset (meaning_reads d 0).marks → ⊥
-
 -- no input of the reported length that begins so depends on these bytes alone
 abbrev pub RestsOnMore : List ℕ → ℕ → Type 0
-RestsOnMore front told = RestsFrom (length front) front told
+RestsOnMore front told = (d : List ℕ) → Begins front told d → length d ≡ told → AllBelow (length front) (meaning_reads d 0).marks → ⊥
+
+-- each of them depends on a byte from `low` on, below `high`
+abbrev pub RestsBetween : ℕ → ℕ → List ℕ → ℕ → Type 0
+RestsBetween low high front told = (d : List ℕ) → Begins front told d → length d ≡ told → SomeBetween low high (meaning_reads d 0).marks
+
+-- The bytes from this offset on are not the rest of a header of 18 bytes after its first 12.
+abbrev pub OutOfHeader : ℕ → Type 0
+OutOfHeader offset = (offset < 12) ⊎ (18 ≤ offset)
 
 -- the input is a TGA of this size if its footer says so, and the result depends on its last byte
 pub record IsByFooter (size : ImageSize) (d : List ℕ) : Type 0 where
@@ -40,13 +44,16 @@ pub record IsByFooter (size : ImageSize) (d : List ℕ) : Type 0 where
   pub size_is : (meaning_reads d 0).answer ≡ (if is_tga_footer (part d (length d - 18) 18) then Ok size else Err NotSupported)
   pub rests : is_covered (meaning_reads d 0).marks (length d - 1) ≡ true
 
--- what the first bytes say is true of every input that begins so
+-- What the first bytes say is true of every input that begins so. If bytes are missing, it depends on one of those that the
+-- read requests. Of the header of what may be a TGA, it may depend on none.
 abbrev pub Hears : List ℕ → ℕ → Heard → Type 0
-Hears front told (Missing image end) = RestsOnMore front told × IfSome image (λ type. Says front told (λ d. kind_reads d 0) (Ok type))
+Hears front told (Missing image end) =
+    RestsOnMore front told × IfSome image (λ type. Says front told (λ d. kind_reads d 0) (Ok type))
+    × (OutOfHeader (length front) → RestsBetween (length front) (min end 132) front told)
 Hears front told (Answer image size) = TypeIs front told image × SizeIs front told size
 Hears front told (Records image next place) =
     IsSteady next place × Says front told (λ d. kind_reads d 0) (Ok image)
-    × Says front told (λ d. layout_reads d (opening image)) (Ok (opened.Records next place))
+    × Says front told (λ d. layout_reads d (opening image)) (Ok (opened.Records next place)) × (12 ≤ length front)
 Hears front told (Footer size) = (18 ≤ length front) × ((d : List ℕ) → Begins front told d → IsByFooter size d)
 
 -- P, if bytes are missing

@@ -1,9 +1,11 @@
 -- What a probe that is given parts of an input returns.
-use Rattle.std.specs.Prelude.{ℕ, ◌-◌, List, Option, None, Some, Result}
+use Rattle.std.specs.Prelude.{◌≡◌, ℕ, ◌+◌, ◌-◌, ◌<◌, ◌≤◌, true, List, Option, None, Some, Result}
+use Rattle.imagesize.specs.Meaning.{meaning}
 use Rattle.imagesize.specs.declared.parts.PartsAnswer.{PartsAnswer}
 use Rattle.imagesize.specs.declared.parts.PartsAnswer.TheVariants.{Found, Wanted}
 use Rattle.imagesize.specs.declared.types.ImageType.{ImageType}
 use Rattle.imagesize_pieces.specs.declared.stand.Stand.{Stand}
+use Rattle.imagesize_source.specs.Agreement.{is_covered}
 use Rattle.imagesize_source.specs.declared.error.ImageError.{ImageError}
 use Rattle.imagesize_source.specs.declared.span.Span.{Span}
 use Rattle.imagesize_stream.specs.Given.{MayBeAt}
@@ -31,3 +33,7 @@ next_of parts = found_or_next (answer_of parts.probe) parts.probe.stand
 abbrev pub IfWanted : {T : Type 0} → PartsAnswer T → (Span → Type 0) → Type 0
 IfWanted (Found found) Holds = Unit {0}
 IfWanted (Wanted w) Holds = Holds w
+
+-- the result of this input depends on a byte of the span
+abbrev pub HasMarked : Span → List ℕ → Type 0
+HasMarked w d = (place : ℕ) × (w.start ≤ place) × (place < w.start + w.len) × (is_covered (meaning d 0).marks place ≡ true)

@@ -1,11 +1,12 @@
 -- A probe whose bytes arrive in chunks: which bytes arrived, and what they say.
-use Rattle.std.specs.Prelude.{◌≡◌, ℕ, ◌+◌, ◌-◌, ◌<◌, ◌≤◌, List, length, drop, take, Option, Some, IfSome}
+use Rattle.std.specs.Prelude.{◌≡◌, ℕ, ◌+◌, ◌-◌, ◌<◌, ◌≤◌, max, min, List, length, drop, take, Option, Some, IfSome}
 use Rattle.std.specs.Coded.{Unit-prop, le_prop, ×_prop}
 use Rattle.imagesize.specs.Meaning.{meaning_reads}
 use Rattle.imagesize.specs.declared.types.ImageType.{ImageType}
-use Rattle.imagesize_pieces.specs.Stream.{Begins, Streams}
+use Rattle.imagesize_pieces.specs.Stream.{Begins, SomeBetween, Streams}
 use Rattle.imagesize_pieces.specs.declared.stand.Stand.{Stand}
-use Rattle.imagesize_stream.specs.Heard.{IsByFooter, SizeIs, TypeIs}
+use Rattle.imagesize_source.specs.declared.span.Span.{Span}
+use Rattle.imagesize_stream.specs.Heard.{IsByFooter, OutOfHeader, SizeIs, TypeIs}
 use Rattle.imagesize_stream.specs.Steps.{Awaits, IsSteady, awaited_said, steady_prop}
 use Rattle.imagesize_stream.specs.declared.stage.Stage.{Stage}
 use Rattle.imagesize_stream.specs.declared.stage.Stage.TheVariants.{Done, First, Footer, Records}
@@ -32,13 +33,13 @@ CameTo stage kind stand room front = CameBy stage kind stand.start stand.place s
 -- what always holds at a stage
 abbrev pub HoldsBy : Stage → ℕ → ℕ → ℕ → Type 0
 HoldsBy First start place passed = (start ≤ 0) × (passed < 132)
-HoldsBy (Records next) start place passed = IsSteady next place × (passed - start ≤ 1023)
+HoldsBy (Records next) start place passed = IsSteady next place × ((passed - start ≤ 1023) × (12 ≤ passed))
 HoldsBy (Footer size) start place passed = 18 ≤ passed
 HoldsBy (Done size) start place passed = Unit {0}
 
 pub holds_prop : (stage : Stage) (start place passed : ℕ) → IsProp (HoldsBy stage start place passed)
 holds_prop First start place passed = ×_prop le_prop le_prop
-holds_prop (Records next) start place passed = ×_prop (steady_prop next place) le_prop
+holds_prop (Records next) start place passed = ×_prop (steady_prop next place) (×_prop le_prop le_prop)
 holds_prop (Footer size) start place passed = le_prop
 holds_prop (Done size) start place passed = Unit-prop
 
@@ -52,18 +53,43 @@ IfAwaiting (Records next) P = P
 IfAwaiting (Footer size) P = P
 IfAwaiting (Done size) P = Unit {0}
 
--- While there is no answer, bytes are missing up to this end, behind those that came and behind the start. A footer has 18 bytes.
+-- While there is no answer, bytes are missing up to this end, after those that came and after the start. A footer has 18
+-- bytes, a record 1,024 at most. Of the first bytes 18 or more are requested at once.
 abbrev pub AheadBy : Stage → ℕ → ℕ → ℕ → ℕ → Type 0
-AheadBy First start passed end told = (passed < end) × ((start < end) × (end ≤ told))
-AheadBy (Records next) start passed end told = (passed < end) × ((start < end) × (end ≤ told))
-AheadBy (Footer size) start passed end told = (passed < end) × ((start + 18 ≤ end) × (end ≤ told))
+AheadBy First start passed end told =
+    (passed < end) × ((start < end) × ((end ≤ told) × ((end ≤ start + 1024) × (min 18 told ≤ end))))
+AheadBy (Records next) start passed end told = (passed < end) × ((start < end) × ((end ≤ told) × (end ≤ start + 1024)))
+AheadBy (Footer size) start passed end told = (passed < end) × ((start + 18 ≤ end) × ((end ≤ told) × (end ≤ start + 1024)))
 AheadBy (Done size) start passed end told = Unit {0}
-
-pub ahead_prop : (stage : Stage) (start passed end told : ℕ) → IsProp (AheadBy stage start passed end told)
-ahead_prop First start passed end told = ×_prop le_prop (×_prop le_prop le_prop)
-ahead_prop (Records next) start passed end told = ×_prop le_prop (×_prop le_prop le_prop)
-ahead_prop (Footer size) start passed end told = ×_prop le_prop (×_prop le_prop le_prop)
-ahead_prop (Done size) start passed end told = Unit-prop
 
 abbrev pub IsAhead : Stage → Stand → Type 0
 IsAhead stage stand = AheadBy stage stand.start stand.passed stand.end stand.told
+
+-- While there is no answer, the requested span is from the byte after those that came up to this end.
+abbrev pub NextBy : Stage → ℕ → ℕ → ℕ → Type 0
+NextBy First passed end told = (passed < end) × ((end ≤ told) × ((end ≤ passed + 1024) × (min 18 told ≤ end)))
+NextBy (Records next) passed end told = (passed < end) × ((end ≤ told) × (end ≤ passed + 1024))
+NextBy (Footer size) passed end told = (passed < end) × ((end ≤ told) × (end ≤ passed + 1024))
+NextBy (Done size) passed end told = Unit {0}
+
+pub next_prop : (stage : Stage) (passed end told : ℕ) → IsProp (NextBy stage passed end told)
+next_prop First passed end told = ×_prop le_prop (×_prop le_prop (×_prop le_prop le_prop))
+next_prop (Records next) passed end told = ×_prop le_prop (×_prop le_prop le_prop)
+next_prop (Footer size) passed end told = ×_prop le_prop (×_prop le_prop le_prop)
+next_prop (Done size) passed end told = Unit-prop
+
+abbrev pub IsNext : Stage → Stand → Type 0
+IsNext stage stand = NextBy stage stand.passed stand.end stand.told
+
+-- The result depends on a byte before this end, after those that came, and in the next record or footer. Of the bytes 12 to
+-- 17 this is not known, if they may be the header of a TGA.
+abbrev pub MarkedBy : Stage → ℕ → ℕ → ℕ → List Span → Type 0
+MarkedBy First start passed end marks = OutOfHeader passed → SomeBetween passed end marks
+MarkedBy (Records next) start passed end marks = SomeBetween (max passed start) end marks
+MarkedBy (Footer size) start passed end marks = SomeBetween (max passed start) end marks
+MarkedBy (Done size) start passed end marks = Unit {0}
+
+-- each input of the reported length that begins so depends on such a byte
+abbrev pub RestsOnNext : Stage → Stand → List ℕ → ℕ → Type 0
+RestsOnNext stage stand front told = (d : List ℕ) → Begins front told d → length d ≡ told
+    → MarkedBy stage stand.start stand.passed stand.end (meaning_reads d 0).marks

@@ -1,5 +1,5 @@
 //! Type and size of an image from spans of it that the caller fetches, in rounds.
-ghost use Rattle.imagesize_stream.specs.Probe.{IsAhead, ahead_prop};
+ghost use Rattle.imagesize_stream.specs.Probe.{IsNext, next_prop};
 
 use crate::probe::StreamProbe;
 use imagesize::{ImageResult, ImageType, PartsAnswer, Span};
@@ -36,22 +36,25 @@ use imagesize_types::size::ImageSize;
 #[derive(Drop)]
 pub struct PartsProbe {
     probe: StreamProbe,
-    ghost ahead: { IsAhead probe.stage probe.stand } by { ahead_prop probe.stage probe.stand.start probe.stand.passed probe.stand.end probe.stand.told },
+    ghost next: { IsNext probe.stage probe.stand } by { next_prop probe.stage probe.stand.passed probe.stand.end probe.stand.told },
 }
 
 impl PartsProbe {
-    ghost use Rattle.std.specs.Prelude.{◌≡◌, ℕ, ◌+◌, ◌-◌, ◌<◌, ◌≤◌, ◌^◌, List, length, min};
+    ghost use Rattle.std.specs.Prelude.{◌≡◌, ◌⊎◌, ℕ, ◌+◌, ◌-◌, ◌<◌, ◌≤◌, ◌^◌, List, length, min};
     ghost use Rattle.imagesize.specs.Meaning.{meaning};
     ghost use Rattle.imagesize.specs.Parted.{Fits, IfFound, IsProbed};
     ghost use Rattle.imagesize.specs.declared.parts.PartsAnswer.TheVariants as answer;
     ghost use Rattle.imagesize_pieces.specs.Stream.{AllBelow};
     ghost use Rattle.imagesize_stream.specs.Given.{HasPart};
-    ghost use Rattle.imagesize_stream.specs.Parts.{IfWanted, MayBe, next_of, total_of};
+    ghost use Rattle.imagesize_stream.specs.Parts.{HasMarked, IfWanted, MayBe, next_of, total_of};
 
     /// A probe of an input of `total` bytes. Of a length of 2^63 bytes or more, nothing is promised.
     pub fn new(total: u64) -> PartsProbe
         ensures total { total_of result ≡ min total (2 ^ 63 - 1) }
         ensures begins { (d : List ℕ) → length d ≡ total_of result → MayBe result d }
+
+        // The first span has 18 bytes at least, or the whole input.
+        ensures first { IfWanted (next_of result) (λ w. (w.start ≡ 0) × (min 18 (total_of result) ≤ w.len)) }
     {
         let mut probe = StreamProbe::new(Some(total));
         probe.take_in(&[]);
@@ -61,8 +64,8 @@ impl PartsProbe {
 
     /// Returns the type, if one was found, and the size or the error. If bytes are missing, requests a span.
     ///
-    /// The span has all bytes that the next read requests. It lies within the input and has at least one byte. The result
-    /// depends on a byte at its start or after it.
+    /// The span has all bytes that the next read requests. It lies within the input and has 1 to 1,024 bytes. If the caller
+    /// always passes whole spans, the result depends on a byte of each span.
     pub fn answer(&self) -> PartsAnswer<(Option<ImageType>, ImageResult<ImageSize>)>
         ensures is { result ≡ next_of self.now }
 
@@ -70,6 +73,13 @@ impl PartsProbe {
         ensures says { (d : List ℕ) → MayBe self.now d → IfFound result (IsProbed d) }
         ensures wants { (d : List ℕ) → MayBe self.now d → IfWanted result (λ w. AllBelow w.start (meaning d 0).marks → ⊥) }
         ensures fits { Fits (total_of self.now) result }
+
+        // The result depends on a byte of the span. Which bytes of a TGA's header it depends on is known after its last bytes. So
+        // a caller that supplied 12 to 17 bytes is asked for the rest of the 18, whether or not the result depends on them.
+        ensures within { (d : List ℕ) → MayBe self.now d → IfWanted result (λ w. (w.start < 12) ⊎ (18 ≤ w.start) → HasMarked w d) }
+
+        // The span has 1,024 bytes at most.
+        ensures short { IfWanted result (λ w. w.len ≤ 1024) }
     {
         match self.probe.answer() {
             Some(found) => PartsAnswer::Found(found),
@@ -84,7 +94,7 @@ impl PartsProbe {
     /// Passes the bytes from an offset on: those of the requested span, or more of them, or fewer.
     ///
     /// Bytes before the requested span are ignored, and so are bytes past the end of the input. If `offset` lies after the
-    /// start of the requested span, the call changes nothing.
+    /// start of the requested span, the call changes nothing. No byte of a span that was passed whole is requested again.
     pub fn supply(&mut self, offset: u64, bytes: &[u8])
         ensures total { total_of self.new ≡ total_of self.old }
 
@@ -94,12 +104,16 @@ impl PartsProbe {
         // The input may be each that has the parts so far and these bytes.
         ensures goes_on { (d : List ℕ) → MayBe self.old d → HasPart d offset bytes.now → MayBe self.new d }
 
-        // Bytes behind a gap are not taken.
+        // Bytes after a gap are not taken.
         ensures gap { IfWanted (next_of self.old) (λ w. w.start < offset → self.new ≡ self.old) }
 
         // With the first byte that was requested there is an answer, or a later span is requested.
         ensures further { IfWanted (next_of self.old) (λ w. offset ≤ w.start → w.start < offset + length bytes.now
             → IfWanted (next_of self.new) (λ next. w.start < next.start)) }
+
+        // With the whole requested span there is an answer, or a span after it is requested.
+        ensures beyond { IfWanted (next_of self.old) (λ w. offset ≤ w.start → w.start + w.len ≤ offset + length bytes.now
+            → IfWanted (next_of self.new) (λ next. w.start + w.len ≤ next.start)) }
     {
         let start = self.probe.stand.passed;
         if offset > start {

@@ -1,12 +1,12 @@
 //! A push parser: the caller passes the bytes of an image as they arrive, in chunks of any length.
-ghost use Rattle.std.specs.Prelude.{◌≡◌, ℕ, ◌+◌, ◌-◌, ◌<◌, ◌≤◌, ◌^◌, ◌++◌, [], List, length, take, min, Option, None, Some, IfSome, unwrap_or};
+ghost use Rattle.std.specs.Prelude.{◌≡◌, ℕ, ◌+◌, ◌-◌, ◌<◌, ◌≤◌, ◌^◌, ◌++◌, [], List, length, take, max, min, Option, None, Some, IfSome, unwrap_or};
 ghost use Rattle.std.specs.Result.{result_ok};
 ghost use Rattle.imagesize.specs.Meaning.{kind_of, meaning};
 ghost use Rattle.imagesize_pieces.specs.Stream.{AllBelow, Begins};
 ghost use Rattle.imagesize_source.specs.Outcome.{stated};
 ghost use Rattle.imagesize_stream.specs.Given.{HasPart, IsGiven, MayBeAt};
 ghost use Rattle.imagesize_stream.specs.Heard.{RestsOnMore};
-ghost use Rattle.imagesize_stream.specs.Probe.{HoldsAt, IfAwaiting, IsAhead, holds_prop};
+ghost use Rattle.imagesize_stream.specs.Probe.{HoldsAt, IfAwaiting, IsAhead, IsNext, holds_prop};
 
 use crate::stage::{ROOM, Stage, begin, wait, walk};
 use imagesize::{ImageResult, ImageType};
@@ -161,8 +161,9 @@ impl StreamProbe {
         requires { IsAhead self.old.stage self.old.stand }
         ensures told { told_of self.new ≡ told_of self.old }
         ensures keeps { answer_of self.new ≡ answer_of self.old }
-        ensures ahead { IsAhead self.new.stage self.new.stand }
+        ensures next { IsNext self.new.stage self.new.stand }
         ensures later { self.old.stand.passed ≤ self.new.stand.passed }
+        ensures passed { IfAwaiting self.new.stage (self.new.stand.passed ≡ max self.old.stand.passed self.old.stand.start) }
         ensures parts { (d : List ℕ) → MayBeAt self.old.stage self.old.kind self.old.stand self.old.room d
             → MayBeAt self.new.stage self.new.kind self.new.stand self.new.room d }
     {

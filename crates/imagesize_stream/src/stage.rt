@@ -3,8 +3,8 @@ ghost use Rattle.std.specs.Prelude.{◌≡◌, ℕ, ◌+◌, ◌-◌, ◌<◌, �
 ghost use Rattle.imagesize.specs.declared.types.ImageType.{ImageType};
 ghost use Rattle.imagesize_source.specs.Input.{part};
 ghost use Rattle.imagesize_stream.specs.Given.{IsGiven, MayBeAt};
-ghost use Rattle.imagesize_stream.specs.Heard.{RestsFrom, RestsOnMore};
-ghost use Rattle.imagesize_stream.specs.Probe.{CameTo, HoldsAt, IfAwaiting, IsAhead};
+ghost use Rattle.imagesize_stream.specs.Heard.{RestsOnMore};
+ghost use Rattle.imagesize_stream.specs.Probe.{CameTo, HoldsAt, IfAwaiting, IsAhead, RestsOnNext};
 ghost use Rattle.imagesize_stream.specs.Steps.{IsSteady};
 ghost use Rattle.imagesize_stream.specs.declared.stage.Stage.TheVariants as stage;
 
@@ -25,6 +25,12 @@ pub(crate) const ROOM: usize = 1023;
 // How many first bytes always suffice for the type, and for the size or the offset of the first record.
 const FIRST: u64 = 132;
 
+// How many bytes the header of a TGA has. So many are requested at once.
+const HEADER: u64 = 18;
+
+// How many bytes a record has at most.
+const RECORD: u64 = 1024;
+
 /// The stage of a push parser.
 #[derive(Clone, Copy)]
 pub(crate) enum Stage {
@@ -42,6 +48,7 @@ pub(crate) enum Stage {
 pub(crate) fn walk(next: Awaited, stand: &mut Stand, room: &mut [u8; ROOM], chunk: &[u8]) -> Stage
     requires steady { IsSteady next stand.old.place }
     requires few { stand.old.passed - stand.old.start ≤ 1023 }
+    requires typed { 12 ≤ stand.old.passed }
     requires fits { stand.old.passed + length chunk.now ≤ stand.old.told }
     ensures told { stand.new.told ≡ stand.old.told }
     ensures holds { HoldsAt result stand.new }
@@ -53,14 +60,17 @@ pub(crate) fn walk(next: Awaited, stand: &mut Stand, room: &mut [u8; ROOM], chun
         → CameTo result kind stand.new room.new (front ++ chunk.now) }
     ensures complete { IfAwaiting result ((kind : Option ImageType) (front : List ℕ) → CameTo (stage.Records next) kind stand.old room.old front
         → RestsOnMore (front ++ chunk.now) stand.old.told) }
-    ensures starts { IfAwaiting result ((kind : Option ImageType) (front : List ℕ) → CameTo (stage.Records next) kind stand.old room.old front
-        → RestsFrom stand.new.start (front ++ chunk.now) stand.old.told) }
+    ensures marked { (kind : Option ImageType) (front : List ℕ) → CameTo (stage.Records next) kind stand.old room.old front
+        → RestsOnNext result stand.new (front ++ chunk.now) stand.old.told }
     ensures whole { IfAwaiting result (stand.old.told ≤ stand.old.passed + length chunk.now → ⊥) }
 {
     let mut sizes = Sizes { next };
     match read_on(&mut sizes, stand, room, chunk) {
         Some(size) => Stage::Done { size },
-        None => Stage::Records { next: sizes.next },
+        None => {
+            stand.end = stand.end.min(stand.start + RECORD);
+            Stage::Records { next: sizes.next }
+        }
     }
 }
 
@@ -82,8 +92,8 @@ pub(crate) fn wait(
         → CameTo result kind.new stand.new room.new (front ++ chunk.now) }
     ensures complete { IfAwaiting result ((front : List ℕ) → CameTo (stage.Footer size) kind.old stand.old room.old front
         → RestsOnMore (front ++ chunk.now) stand.old.told) }
-    ensures starts { IfAwaiting result ((front : List ℕ) → CameTo (stage.Footer size) kind.old stand.old room.old front
-        → RestsFrom stand.new.start (front ++ chunk.now) stand.old.told) }
+    ensures marked { (front : List ℕ) → CameTo (stage.Footer size) kind.old stand.old room.old front
+        → RestsOnNext result stand.new (front ++ chunk.now) stand.old.told }
     ensures whole { IfAwaiting result (stand.old.told ≤ stand.old.passed + length chunk.now → ⊥) }
 
     // Of each input with these parts:
@@ -129,8 +139,8 @@ pub(crate) fn begin(
         → CameTo result kind.new stand.new room.new (front ++ chunk.now) }
     ensures complete { IfAwaiting result ((front : List ℕ) → CameTo stage.First kind.old stand.old room.old front
         → RestsOnMore (front ++ chunk.now) stand.old.told) }
-    ensures starts { IfAwaiting result ((front : List ℕ) → CameTo stage.First kind.old stand.old room.old front
-        → RestsFrom stand.new.start (front ++ chunk.now) stand.old.told) }
+    ensures marked { (front : List ℕ) → CameTo stage.First kind.old stand.old room.old front
+        → RestsOnNext result stand.new (front ++ chunk.now) stand.old.told }
     ensures whole { IfAwaiting result (stand.old.told ≤ stand.old.passed + length chunk.now → ⊥) }
 {
     let left = FIRST - stand.passed;
@@ -158,14 +168,14 @@ fn begun(
     ensures passed { IfAwaiting result (stand.new.passed ≡ stand.old.passed + length chunk.now) }
     ensures goes_on { CameTo result kind.new stand.new room.new (take stand.old.passed room.old ++ chunk.now) }
     ensures complete { IfAwaiting result (RestsOnMore (take stand.old.passed room.old ++ chunk.now) stand.old.told) }
-    ensures starts { IfAwaiting result (RestsFrom stand.new.start (take stand.old.passed room.old ++ chunk.now) stand.old.told) }
+    ensures marked { RestsOnNext result stand.new (take stand.old.passed room.old ++ chunk.now) stand.old.told }
     ensures whole { IfAwaiting result (stand.old.told ≤ stand.old.passed + length chunk.now → ⊥) }
 {
     let passed = stand.passed as usize;
     match hear(&room[..passed], stand.told) {
         Heard::Missing { image, end } => {
             *kind = image;
-            stand.end = end;
+            stand.end = end.min(FIRST).max(HEADER).min(stand.told);
             Stage::First
         }
         Heard::Answer { image, size } => {

@@ -1,10 +1,12 @@
-use Rattle.std.proofs.Common.{◌<◌, ◌^◌, length, refl, sym, ap, ◌∙◌, subst, arith}
+use Rattle.std.proofs.Common.{◌<◌, ◌^◌, ◌++◌, length, refl, sym, ap, ◌∙◌, subst, arith}
 use Rattle.std.proofs.lemmas.Bool.{false_from_ne_true}
 use Rattle.imagesize_source.specs.Layout.{layout_reads}
 use Rattle.imagesize_source.specs.Reading.{is_faulted}
+use Rattle.imagesize_source.proofs.Agreement.{alike_layout, with_texts}
+use Rattle.imagesize_source.proofs.Known.{length-filled_input}
 use Rattle.imagesize_source.proofs.Sharing.{shared}
-use Rattle.imagesize_pieces.specs.Stream.{Begins, Says}
-use Rattle.imagesize_pieces.proofs.Asking.{complete_begun, ends_begun, few_begun, none_missed, says_begun}
+use Rattle.imagesize_pieces.specs.Stream.{Begins, Says, came, stream_input}
+use Rattle.imagesize_pieces.proofs.Asking.{complete_begun, ends_begun, few_begun, marked_begun, none_missed, says_begun}
 use Rattle.imagesize_pieces.proofs.Beginning.{last_run}
 use Rattle.imagesize_pieces.proofs.Called.{called, goes_on}
 use Rattle.imagesize_pieces.proofs.Reaching.{reach_covered}
@@ -63,6 +65,27 @@ returns-clause-complete g c = λ faults d begins as_long below.
     (subst (λ k. Begins c.args.bytes.now k d) (sym new.told) begins) (as_long ∙ sym new.told)
     (λ p here. omega (arith, new.start))
     below
+
+pub returns-clause-marked : goal.returns-clause-marked
+returns-clause-marked g c = λ faults d begins as_long high reach.
+    let a = c.new-source.result in let b = c.read-found.new.source in let new = c.new-source.ensures in
+    let call = called (λ e. layout_reads e
+    (g.F.Fixed.layout c.args.fixed.now)) _ _ _ _ _ _ _ b.log.spans _ b.missed _ new.seen new.missed c.read-found.ensures
+    b.seen b.lacks in
+    let run = last_run c.args.bytes.now a.kept.now a.chunk.now 0 (length c.args.bytes.now) a.start refl new.kept
+    (ap length new.chunk) (new.start ∙ omega arith) in
+    let fill = stream_input a.told a.start a.kept.now a.chunk.now in
+    let marked = marked_begun (λ e. layout_reads e (g.F.Fixed.layout c.args.fixed.now))
+    (λ d e. shared d e (g.F.Fixed.layout c.args.fixed.now)) a.told a.start a.kept.now a.chunk.now _ run
+    (omega (arith, a.within))
+    (subst (λ k. k < 2 ^ 63) (sym new.told) c.requires.short) b.log.spans b.missed _ call faults
+    (omega (arith, new.start)) d
+    (subst (λ k. Begins c.args.bytes.now k d) (sym new.told) begins)
+    (alike_layout fill d (g.F.Fixed.layout c.args.fixed.now) (with_texts (g.F.Fixed.layout c.args.fixed.now))
+    (as_long ∙ sym new.told
+    ∙ sym (length-filled_input a.told (came a.start a.kept.now a.chunk.now) (a.kept.now ++ a.chunk.now)))) in
+    let reached = reach_covered d 0 high (g.F.Fixed.layout c.args.fixed.now) reach _ marked.2 in
+    (_, marked.0, omega (arith, marked.1, reached.1, c.end.ensures), marked.2)
 
 pub returns-clause-whole : goal.returns-clause-whole
 returns-clause-whole g c = λ all.

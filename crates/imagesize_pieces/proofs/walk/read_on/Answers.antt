@@ -11,7 +11,7 @@ use Rattle.imagesize_pieces.specs.Stream.{Begins, Says}
 use Rattle.imagesize_pieces.proofs.Asking.{complete_begun, none_missed, says_begun, says_behind}
 use Rattle.imagesize_pieces.proofs.Beginning.{any_run, begins_left, kept_on, run_held}
 use Rattle.imagesize_pieces.proofs.Called.{called, goes_on, same_frame}
-use Rattle.imagesize_pieces.proofs.Going.{ahead_begun, chain_above, ends_left, few_left, leads_begun, rests_left, stood_as}
+use Rattle.imagesize_pieces.proofs.Going.{ahead_begun, chain_above, ends_left, few_left, leads_begun, marked_left, stood_as}
 use Rattle.imagesize_pieces.proofs.Streaming.{both_bytes}
 use Rattle.imagesize_pieces.proofs.walk.read_on.Goals as goal
 
@@ -289,8 +289,8 @@ returns-then-is_faulted-clause-ends g c = λ none.
       omega (arith, ends.2, new.told, c.end-stand.ensures),
     )
 
-pub returns-then-is_faulted-clause-starts : goal.returns-then-is_faulted-clause-starts
-returns-then-is_faulted-clause-starts g c = λ none first whole front s d begins as_long below.
+pub returns-then-is_faulted-clause-marked : goal.returns-then-is_faulted-clause-marked
+returns-then-is_faulted-clause-marked g c = λ none first whole front s d begins as_long.
     let a = c.new-source.result in let b = c.walk_on-found.new.source in let new = c.new-source.ensures in
     let faults : is_faulted c.walk_on-found.result ≡ true = sym c.is_faulted.ensures ∙ c.if-is_faulted.true in
     let runs = c.walk_on-found.ensures.runs first s.held s.known in
@@ -312,15 +312,20 @@ returns-then-is_faulted-clause-starts g c = λ none first whole front s d begins
     a.start s.as_many
     (new.kept ∙ ap (λ k. take k c.args.room.now) c.saturating_sub-count.ensures ∙ s.rest)
     (new.chunk ∙ c.bytes_behind-unread.ensures ∙ ap (λ k. drop k c.args.chunk.now) c.saturating_sub.ensures) start_is in
-    rests_left (chain_of first (g.R.Records.said c.args.records.now)) _
+    let marked = marked_left (chain_of first (g.R.Records.said c.args.records.now)) _
     (record { held = s.held; place = c.args.stand.now.place })
     a.told a.start a.kept.now a.chunk.now (front ++ c.args.chunk.now) run
     (omega (arith, a.within)) short b.log.spans b.missed c.walk_on-found.new.place stood call.seen call.lacks
-    (length c.args.room.now + 1) c.requires.reaches c.requires.follows d
-    (subst (λ k. Begins (front ++ c.args.chunk.now) k d) (sym new.told) begins) (as_long ∙ sym new.told)
-    (λ p here. below p (subst (λ (w : Reads _). is_covered w.marks p ≡ true)
-    (sym (s.resumes d (begins_left front c.args.chunk.now c.args.stand.now.told d begins)))
-    (covered-right s.before _ p here)))
+    (length c.args.room.now + 1) c.requires.reaches c.requires.follows
+    (omega (arith, start_is, c.args.stand.now.ahead)) d
+    (subst (λ k. Begins (front ++ c.args.chunk.now) k d) (sym new.told) begins) (as_long ∙ sym new.told) in (
+      marked.0,
+      omega (arith, marked.1, s.as_many, length-append front c.args.chunk.now),
+      omega (arith, marked.2, c.end-stand.ensures),
+      subst (λ (w : Reads _). is_covered w.marks marked.0 ≡ true)
+          (sym (s.resumes d (begins_left front c.args.chunk.now c.args.stand.now.told d begins)))
+          (covered-right s.before _ marked.0 marked.3),
+    )
 
 pub returns-then-is_faulted-clause-whole : goal.returns-then-is_faulted-clause-whole
 returns-then-is_faulted-clause-whole g c = λ all none.

@@ -1,18 +1,22 @@
 use Rattle.std.proofs.Common.{Ok, sym, ◌∙◌, subst}
 use Rattle.imagesize_pieces.specs.Stream.{Says}
 use Rattle.imagesize_source.specs.Layout.{layout_reads}
-use Rattle.imagesize_stream.proofs.Hearing.{size_missing, size_of_said, size_refused, size_said, steady_said, type_is}
+use Rattle.imagesize_stream.proofs.Hearing.{kind_typed, size_asked, size_missing, size_of_said, size_refused, size_said, steady_said, type_is}
 use Rattle.imagesize_stream.proofs.Reaches.{opening_reaches}
 use Rattle.imagesize_stream.specs.Streamed.{opening}
 use Rattle.imagesize_stream.specs.declared.front.Opening.{Opening}
 use Rattle.imagesize_stream.proofs.hear.hear_size.Goals as goal
 
 pub returns-then-is_faulted-clause-hears : goal.returns-then-is_faulted-clause-hears
-returns-then-is_faulted-clause-hears c = (
-  size_missing c.args.bytes.now c.args.told c.args.image c.requires.image
-      (c.read_front-found.ensures.complete (sym c.is_faulted.ensures ∙ c.if-is_faulted.true)),
-  c.requires.image,
-)
+returns-then-is_faulted-clause-hears c =
+    let faults = sym c.is_faulted.ensures ∙ c.if-is_faulted.true in (
+      size_missing c.args.bytes.now c.args.told c.args.image c.requires.image
+          (c.read_front-found.ensures.complete faults),
+      c.requires.image,
+      λ _. size_asked c.args.bytes.now c.args.told c.args.image c.requires.image _ _
+          (λ d begins as_long.
+          c.read_front-found.ensures.marked faults d begins as_long 132 (opening_reaches c.args.image)),
+    )
 
 pub returns-then-is_faulted-clause-few : goal.returns-then-is_faulted-clause-few
 returns-then-is_faulted-clause-few c =
@@ -48,4 +52,5 @@ returns-in-Records-clause-hears c =
           c.in-Records.place is,
       c.requires.image,
       is,
+      kind_typed c.args.bytes.now c.args.told c.requires.fits c.args.image c.requires.image,
     )

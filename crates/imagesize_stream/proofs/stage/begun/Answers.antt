@@ -1,7 +1,10 @@
-use Rattle.std.proofs.Common.{◌-◌, Some, take, refl, arith}
+use Rattle.std.proofs.Common.{◌≡◌, ◌-◌, Some, length, take, refl, sym, ◌∙◌, subst, arith}
+use Rattle.std.proofs.lemmas.List.{length-take}
+use Rattle.imagesize_pieces.proofs.Beginning.{begins_left}
 use Rattle.imagesize_stream.proofs.Footers.{last_kept}
 use Rattle.imagesize_stream.proofs.Coming.{awaiting_map, opened_came}
 use Rattle.imagesize_stream.proofs.Hearing.{type_is}
+use Rattle.imagesize_stream.specs.Heard.{OutOfHeader}
 use Rattle.imagesize_stream.proofs.stage.begun.Goals as goal
 
 pub returns-in-Records-clause-goes_on : goal.returns-in-Records-clause-goes_on
@@ -33,16 +36,28 @@ returns-in-Footer-clause-goes_on c =
     c.keep_behind.ensures in
     c.wait.ensures.goes_on (take c.args.stand.now.passed c.args.room.now) (last.0, last.1, tt, hears.1)
 
-pub returns-in-Records-clause-starts : goal.returns-in-Records-clause-starts
-returns-in-Records-clause-starts c =
+pub returns-in-Missing-clause-marked : goal.returns-in-Missing-clause-marked
+returns-in-Missing-clause-marked c = λ d begins as_long out.
+    let front = take c.args.stand.now.passed c.args.room.now in
+    let many : length front ≡ c.args.stand.now.passed =
+    length-take c.args.stand.now.passed c.args.room.now ∙ omega (arith, c.requires.few) in
+    let marked = c.in-Missing.ensures.hears.2 (subst OutOfHeader (sym many) out) d
+    (begins_left front c.args.chunk.now c.args.stand.now.told d begins) as_long in (
+      marked.0,
+      omega (arith, many, marked.1),
+      omega (arith, marked.2, c.in-Missing.ensures.ends.1),
+      marked.3,
+    )
+
+pub returns-in-Records-clause-marked : goal.returns-in-Records-clause-marked
+returns-in-Records-clause-marked c =
     let hears = c.in-Records.ensures.hears in
-    awaiting_map c.walk.result
-    (λ rests. rests (Some c.in-Records.image) (take c.args.stand.now.passed c.args.room.now) (
+    c.walk.ensures.marked (Some c.in-Records.image) (take c.args.stand.now.passed c.args.room.now) (
       type_is (take c.args.stand.now.passed c.args.room.now) c.args.stand.now.told _ hears.1,
       opened_came c.args.room.now c.args.stand.now.passed c.args.stand.now.start c.args.stand.now.told
           c.in-Records.place c.in-Records.next c.in-Records.image
           c.requires.first (omega (arith, c.requires.few)) hears.0 hears.1 hears.2,
-    )) c.walk.ensures.starts
+    )
 
 pub returns-in-Footer-clause-complete : goal.returns-in-Footer-clause-complete
 returns-in-Footer-clause-complete c =
@@ -51,13 +66,13 @@ returns-in-Footer-clause-complete c =
     (omega (arith, c.requires.few)) hears.0 refl
     c.keep_behind.ensures in
     awaiting_map c.wait.result
-    (λ rests. rests (take c.args.stand.now.passed c.args.room.now) (last.0, last.1, tt, hears.1)) c.wait.ensures.complete
+    (λ rests. rests (take c.args.stand.now.passed c.args.room.now) (last.0, last.1, tt, hears.1))
+    c.wait.ensures.complete
 
-pub returns-in-Footer-clause-starts : goal.returns-in-Footer-clause-starts
-returns-in-Footer-clause-starts c =
+pub returns-in-Footer-clause-marked : goal.returns-in-Footer-clause-marked
+returns-in-Footer-clause-marked c =
     let hears = c.in-Footer.ensures.hears in
     let last = last_kept c.args.room.now c.keep_behind.new.room c.args.stand.now.passed (c.args.stand.now.passed - 18)
     (omega (arith, c.requires.few)) hears.0 refl
     c.keep_behind.ensures in
-    awaiting_map c.wait.result
-    (λ rests. rests (take c.args.stand.now.passed c.args.room.now) (last.0, last.1, tt, hears.1)) c.wait.ensures.starts
+    c.wait.ensures.marked (take c.args.stand.now.passed c.args.room.now) (last.0, last.1, tt, hears.1)

@@ -50,13 +50,23 @@ returns-then-stand-clause-parts c = λ d given part.
         as_long = given.as_long;
         known = (given.known.0, footer);
       };
-      depends = (
-        (λ below.
-            let here = below (length d - 1) given.known.0.rests in
-            omega (arith, here, given.as_long, c.if-stand.true)),
-        λ below. let here = below (length d - 1) given.known.0.rests in omega (arith, here, given.as_long),
+      depends = λ below.
+          let here = below (length d - 1) given.known.0.rests in omega (arith, here, given.as_long, c.if-stand.true);
+      marked = (
+        length d - 1,
+        omega (arith, given.as_long, c.if-stand.true),
+        omega (arith, given.as_long, c.if-stand.true),
+        given.known.0.rests,
       );
     }
+
+pub returns-then-stand-clause-marked : goal.returns-then-stand-clause-marked
+returns-then-stand-clause-marked c = λ front came d begins as_long. (
+  length d - 1,
+  omega (arith, as_long, c.if-stand.true),
+  omega (arith, as_long, c.if-stand.true),
+  (came.3 d (begins_left front c.args.chunk.now c.args.stand.now.told d begins)).rests,
+)
 
 pub returns-then-is_footer-clause-parts : goal.returns-then-is_footer-clause-parts
 returns-then-is_footer-clause-parts c = λ d given part.
@@ -72,6 +82,7 @@ returns-then-is_footer-clause-parts c = λ d given part.
             (ap is_tga_footer (sym c.copy_from_slice.ensures.after) ∙ sym c.is_footer.ensures ∙ c.if-is_footer.true);
       };
       depends = tt;
+      marked = tt;
     }
 
 pub returns-clause-parts : goal.returns-clause-parts
@@ -88,4 +99,5 @@ returns-clause-parts c = λ d given part.
             (ap is_tga_footer (sym c.copy_from_slice.ensures.after) ∙ sym c.is_footer.ensures ∙ c.if-is_footer.false);
       };
       depends = tt;
+      marked = tt;
     }

@@ -39,6 +39,7 @@ returns-in-None-clause-complete c = λ kind front came d begins as_long below.
     c.in-None.ensures.complete refl 0 (λ d. meaning_reads d 0) front came.1 d begins as_long
     (λ p here. omega (arith, below p here, length-append front c.args.chunk.now))
 
-pub returns-in-None-clause-starts : goal.returns-in-None-clause-starts
-returns-in-None-clause-starts c = λ kind front came d begins as_long below.
-    c.in-None.ensures.starts refl 0 (λ d. meaning_reads d 0) front came.1 d begins as_long below
+pub returns-in-None-clause-marked : goal.returns-in-None-clause-marked
+returns-in-None-clause-marked c = λ kind front came d begins as_long.
+    let marked = c.in-None.ensures.marked refl 0 (λ d. meaning_reads d 0) front came.1 d begins as_long in
+    (marked.0, marked.1, omega (arith, marked.2), marked.3)

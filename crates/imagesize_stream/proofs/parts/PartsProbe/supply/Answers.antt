@@ -1,8 +1,8 @@
 use Rattle.std.proofs.Common.{◌-◌, length, sym, ap, ◌∙◌, subst, arith}
 use Rattle.std.proofs.lemmas.List.{length-drop, length-take}
 use Rattle.imagesize_stream.proofs.Ending.{awaiting_none}
-use Rattle.imagesize_stream.proofs.Given.{ahead_none, given_later}
-use Rattle.imagesize_stream.proofs.Requests.{gets_further, no_gap}
+use Rattle.imagesize_stream.proofs.Given.{given_later, next_none}
+use Rattle.imagesize_stream.proofs.Requests.{gets_beyond, gets_further, no_gap}
 use Rattle.imagesize_stream.specs.Given.{HasPart}
 use Rattle.imagesize_stream.specs.Pushed.{answer_of}
 use Rattle.imagesize_stream.proofs.parts.PartsProbe.supply.Goals as goal
@@ -24,8 +24,7 @@ pub returns-clause-further : goal.returns-clause-further
 returns-clause-further c =
     let s = c.args.self.now.probe in let t = c.take_in.new.self in let u = c.skip.new.self in
     gets_further (answer_of s) (answer_of u) s.stand u.stand c.args.offset (length c.args.bytes.now) (λ none later some.
-    let ahead = ahead_none s.kind s.stage s.stand.start s.stand.passed s.stand.end s.stand.told none
-    c.args.self.now.ahead in
+    let ahead = next_none s.kind s.stage s.stand.passed s.stand.end s.stand.told none c.args.self.now.next in
     let many = awaiting_none t.kind t.stage (sym c.skip.ensures.keeps ∙ later) c.take_in.ensures.passed in
     let behind = c.skip.ensures.later in
     omega (
@@ -35,6 +34,26 @@ returns-clause-further c =
       many,
       behind,
       some,
+      c.if-offset-start.false,
+      length-take (s.stand.told - s.stand.passed) c.bytes_behind.result.now,
+      ap length c.bytes_behind.ensures,
+      length-drop (s.stand.passed - c.args.offset) c.args.bytes.now,
+    ))
+
+pub returns-clause-beyond : goal.returns-clause-beyond
+returns-clause-beyond c =
+    let s = c.args.self.now.probe in let t = c.take_in.new.self in let u = c.skip.new.self in
+    gets_beyond (answer_of s) (answer_of u) s.stand u.stand c.args.offset (length c.args.bytes.now) (λ none later all.
+    let ahead = next_none s.kind s.stage s.stand.passed s.stand.end s.stand.told none c.args.self.now.next in
+    let many = awaiting_none t.kind t.stage (sym c.skip.ensures.keeps ∙ later) c.take_in.ensures.passed in
+    let behind = c.skip.ensures.later in
+    omega (
+      arith,
+      ahead.0,
+      ahead.1,
+      many,
+      behind,
+      all,
       c.if-offset-start.false,
       length-take (s.stand.told - s.stand.passed) c.bytes_behind.result.now,
       ap length c.bytes_behind.ensures,

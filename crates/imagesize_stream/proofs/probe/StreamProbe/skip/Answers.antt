@@ -1,5 +1,7 @@
 use Rattle.std.proofs.Common.{refl, arith}
-use Rattle.imagesize_stream.proofs.Given.{ahead_behind, depends_behind, known_behind}
+use Rattle.imagesize.specs.Meaning.{meaning_reads}
+use Rattle.imagesize_stream.proofs.Coming.{awaiting_all}
+use Rattle.imagesize_stream.proofs.Given.{depends_behind, known_behind, marked_behind, next_behind}
 use Rattle.imagesize_stream.proofs.probe.StreamProbe.skip.Goals as goal
 
 pub returns : goal.returns
@@ -8,15 +10,19 @@ returns c =
     let stand = s.stand in record {
       told = refl;
       keeps = refl;
-      ahead = ahead_behind s.stage stand.start stand.passed c.max-self.result stand.end stand.told c.max-self.ensures
+      next = next_behind s.stage stand.start stand.passed c.max-self.result stand.end stand.told c.max-self.ensures
           c.requires;
       later = omega (arith, c.max-self.ensures);
+      passed = awaiting_all s.stage c.max-self.ensures;
       parts = λ d may. record {
         given = record {
           as_long = may.given.as_long;
-          known = known_behind s.stage s.kind stand.start stand.place stand.passed c.max-self.result stand.end stand.told
-              s.room d may.given.as_long c.max-self.ensures s.holds c.requires may.given.known;
+          known = known_behind s.stage s.kind stand.start stand.place stand.passed c.max-self.result stand.end
+              stand.told s.room d may.given.as_long c.max-self.ensures s.holds c.requires may.given.known;
         };
-        depends = depends_behind s.stage stand.start stand.passed c.max-self.result d c.max-self.ensures may.depends;
+        depends = depends_behind s.stage stand.start stand.place stand.passed c.max-self.result stand.end d
+            c.max-self.ensures s.holds may.depends may.marked;
+        marked = marked_behind s.stage stand.start stand.place stand.passed c.max-self.result stand.end
+            (meaning_reads d 0).marks c.max-self.ensures s.holds may.marked;
       };
     }

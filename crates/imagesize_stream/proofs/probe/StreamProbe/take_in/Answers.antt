@@ -55,8 +55,7 @@ returns-clause-parts c = λ d given has.
           (w.begin-self.ensures.goes_on (take s.stand.passed d) here.known)
           (awaiting_map w.begin-self.result (λ rests. rests (take s.stand.passed d) here.known)
           w.begin-self.ensures.complete)
-          (awaiting_map w.begin-self.result (λ rests. rests (take s.stand.passed d) here.known)
-          w.begin-self.ensures.starts))
+          (w.begin-self.ensures.marked (take s.stand.passed d) here.known))
       | in-Records w ↦
           let here = rw w.in-Records.is at given in
           let now = w.walk-self.new in
@@ -66,8 +65,11 @@ returns-clause-parts c = λ d given has.
           (w.walk-self.ensures.goes_on s.kind (take s.stand.passed d) here.known)
           (awaiting_map w.walk-self.result (λ rests. rests s.kind (take s.stand.passed d) here.known)
           w.walk-self.ensures.complete)
-          (awaiting_map w.walk-self.result (λ rests. rests s.kind (take s.stand.passed d) here.known)
-          w.walk-self.ensures.starts))
+          (w.walk-self.ensures.marked s.kind (take s.stand.passed d) here.known))
       | in-Footer w ↦ rw (w.self-is, w.self2-is) (w.wait-self.ensures.parts d (rw w.in-Footer.is at given) is)
-      | in-Done w ↦ rw (w.self-is, w.self2-is) (record { given = given; depends = rw w.in-Done.is tt })
+      | in-Done w ↦ rw (w.self-is, w.self2-is) (record {
+        given = given;
+        depends = rw w.in-Done.is tt;
+        marked = rw w.in-Done.is tt;
+      })
     ]
