@@ -27,7 +27,6 @@ use Rattle.imagesize_fixed.specs.Webp.{is_webp, webp}
 use Rattle.imagesize.specs.Compressions.{atc_ways, dds_ways, heif_ways, pkm_ways, pvrtc_ways}
 use Rattle.imagesize.specs.declared.types.ImageType.{ImageType}
 use Rattle.imagesize.specs.declared.types.ImageType.TheVariants.{Aseprite, Astc, Atc, Bmp, Dds, Eac, Etc2, Exr, Farbfeld, Gif, Hdr, Heif, Ico, Ilbm, Jpeg, Jxl, Ktx2, Pnm, Pvrtc, Psd, Qoi, Tga, Tiff, Vtf, Webp}
-use Rattle.imagesize_source.specs.Layout.{Layout}
 use Rattle.imagesize_source.specs.Way.{Way, Fixed, Recorded, Texts}
 use Rattle.imagesize_types.specs.declared.compression.AtcCompression.TheVariants.{Unknown as atc_unknown}
 use Rattle.imagesize_types.specs.declared.compression.Compression.TheVariants.{Unknown as heif_unknown}
@@ -128,12 +127,6 @@ type_name_of type = (facts_of type).name
 -- how the size of each type is stored
 abbrev pub way_of : ImageType → Way ImageSize
 way_of type = (facts_of type).way
-
--- what holds for the layout of a size that is stored at fixed offsets
-abbrev pub IfFixed : Way ImageSize → (Layout ImageSize → Type 0) → Type 0
-IfFixed (Fixed most layout) Holds = Holds layout
-IfFixed (Recorded outside each stated reads) Holds = Unit {0}
-IfFixed (Texts reads) Holds = Unit {0}
 
 -- whether appended bytes cannot change a size of this type
 abbrev pub lasts : ImageType → Bool

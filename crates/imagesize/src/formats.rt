@@ -1,7 +1,7 @@
 //! The image formats: the table that distinguishes them, and the size by each of them.
 ghost use Rattle.std.specs.Prelude.{◌≡◌, length};
 ghost use Rattle.imagesize.specs.Kind.{first_row, kind, kind_by, tga_or_none, with_compression};
-ghost use Rattle.imagesize.specs.Types.{IfFixed, rows, way_of};
+ghost use Rattle.imagesize.specs.Types.{rows};
 ghost use Rattle.imagesize.specs.Meaning.{size_reads};
 ghost use Rattle.imagesize_fixed.specs.Tga.{is_tga};
 ghost use Rattle.imagesize_source.specs.Layout.{bind};
@@ -161,40 +161,29 @@ pub(crate) fn size<S: Source>(source: &mut S, kind: ImageType) -> Result<ImageSi
         (size_reads kind (S.state source.old).held.input) }
 {
     match kind {
-        ImageType::Exr => exr::size(source),
-        ImageType::Hdr => hdr::size(source),
-        ImageType::Heif(_) => heif::size(source),
-        ImageType::Ico => ico::size(source),
-        ImageType::Ilbm => ilbm::size(source),
-        ImageType::Jpeg => jpeg::size(source),
-        ImageType::Jxl => jxl::size(source),
-        ImageType::Pnm => pnm::size(source),
-        ImageType::Tiff => tiff::size(source),
-        _ => fixed_size(source, kind),
-    }
-}
-
-/// The size of an image of a type that stores it at fixed offsets. For any other type nothing is read.
-#[inline(always)]
-pub fn fixed_size<S: Source>(source: &mut S, kind: ImageType) -> Result<ImageSize, Halt>
-    ensures { IfFixed (way_of kind) (λ layout. Follows (S.state source.old) (S.state source.new) result layout) }
-{
-    match kind {
         ImageType::Aseprite => aseprite::size(source),
         ImageType::Astc => astc::size(source),
         ImageType::Atc(_) => atc::size(source),
         ImageType::Bmp => bmp::size(source),
         ImageType::Dds(_) => dds::size(source),
         ImageType::Eac(_) | ImageType::Etc2(_) => pkm::size(source),
+        ImageType::Exr => exr::size(source),
         ImageType::Farbfeld => farbfeld::size(source),
         ImageType::Gif => gif::size(source),
+        ImageType::Hdr => hdr::size(source),
+        ImageType::Heif(_) => heif::size(source),
+        ImageType::Ico => ico::size(source),
+        ImageType::Ilbm => ilbm::size(source),
+        ImageType::Jpeg => jpeg::size(source),
+        ImageType::Jxl => jxl::size(source),
         ImageType::Ktx2 => ktx2::size(source),
+        ImageType::Pnm => pnm::size(source),
         ImageType::Pvrtc(_) => pvrtc::size(source),
         ImageType::Psd => psd::size(source),
         ImageType::Qoi => qoi::size(source),
         ImageType::Tga => tga::size(source),
+        ImageType::Tiff => tiff::size(source),
         ImageType::Vtf => vtf::size(source),
         ImageType::Webp => webp::size(source),
-        _ => Err(Halt::NotSupported),
     }
 }

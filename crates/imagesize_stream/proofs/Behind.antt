@@ -16,8 +16,7 @@ use Rattle.imagesize_source.specs.Layout.Layout.{field, «done»}
 use Rattle.imagesize_source.specs.Reading.{bytes_at, gives, map_answer, number_at, refuses, uncounted}
 use Rattle.imagesize_source.specs.State.{State, Follows, Runs, IsSound}
 use Rattle.imagesize_source.specs.Way.{Way, Fixed, Recorded, Texts}
-use Rattle.imagesize.specs.Types.{IfFixed}
-use Rattle.imagesize_stream.specs.Streamed.{sized}
+use Rattle.imagesize_stream.specs.Streamed.{sized, IfFixed}
 use Rattle.imagesize_stream.specs.declared.front.Opening.{Opening}
 use Rattle.imagesize_stream.specs.declared.front.Opening.TheVariants as opened
 use Rattle.imagesize_source.specs.declared.halt.Halt.{Halt}

@@ -85,6 +85,12 @@ opening_records Pnm = opens Word 2
 opening_records Tiff = open_tiff
 opening_records type = refuse NotSupported
 
+-- what holds for the layout of a size at fixed offsets
+abbrev pub IfFixed : Way ImageSize → (Layout ImageSize → Type 0) → Type 0
+IfFixed (Fixed most layout) Holds = Holds layout
+IfFixed (Recorded outside each stated reads) Holds = Unit {0}
+IfFixed (Texts reads) Holds = Unit {0}
+
 -- what holds for the reads of a size in records
 abbrev pub IfRecorded : Way ImageSize → ((List ℕ → Reads ImageSize) → Type 0) → Type 0
 IfRecorded (Fixed most layout) Holds = Unit {0}

@@ -1,15 +1,18 @@
 //! What the first bytes of an image say: its type, and its size if they contain it.
 ghost use Rattle.imagesize_fixed.specs.Tga.{tga, tga_by_header};
 ghost use Rattle.imagesize_source.specs.State.{Follows};
-ghost use Rattle.imagesize.specs.Types.{IfFixed, way_of};
-ghost use Rattle.imagesize_stream.specs.Streamed.{first_layout, open_exr, open_hdr, open_heif, open_ico, open_jxl, open_tiff, opening, opens, sized};
+ghost use Rattle.imagesize.specs.Types.{way_of};
+ghost use Rattle.imagesize_stream.specs.Streamed.{IfFixed, first_layout, open_exr, open_hdr, open_heif, open_ico, open_jxl, open_tiff, opening, opens, sized};
 
 use crate::awaited::{Awaited, keep};
 use imagesize::ImageType;
-use imagesize::formats::{first_row, fixed_size, with_compression};
+use imagesize::formats::{first_row, with_compression};
 use imagesize_boxes::formats::jxl::front::Front;
 use imagesize_boxes::formats::jxl::read_start;
-use imagesize_fixed::formats::tga::{self, has_sound_header, may_be_tga};
+use imagesize_fixed::formats::tga::{has_sound_header, may_be_tga};
+use imagesize_fixed::formats::{
+    aseprite, astc, atc, bmp, dds, farbfeld, gif, ktx2, pkm, psd, pvrtc, qoi, tga, vtf, webp,
+};
 use imagesize_pieces::front::Fixed;
 use imagesize_source::readings::{read_exact_at, read_u16, read_u32};
 use imagesize_source::source::Source;
@@ -119,12 +122,36 @@ impl Fixed for TgaSize {
     }
 }
 
-// The size of a type that stores it at fixed offsets.
+// What the first bytes say about a size at fixed offsets.
 fn open_fixed<S: Source>(source: &mut S, image: ImageType) -> Result<Opening, Halt>
     ensures { IfFixed (way_of image) (λ layout. Follows (S.state source.old) (S.state source.new) result (sized layout)) }
 {
     let size = fixed_size(source, image)?;
     Ok(Opening::Size(size))
+}
+
+// The size of an image of a type that stores it at fixed offsets. For any other type nothing is read.
+fn fixed_size<S: Source>(source: &mut S, image: ImageType) -> Result<ImageSize, Halt>
+    ensures { IfFixed (way_of image) (λ layout. Follows (S.state source.old) (S.state source.new) result layout) }
+{
+    match image {
+        ImageType::Aseprite => aseprite::size(source),
+        ImageType::Astc => astc::size(source),
+        ImageType::Atc(_) => atc::size(source),
+        ImageType::Bmp => bmp::size(source),
+        ImageType::Dds(_) => dds::size(source),
+        ImageType::Eac(_) | ImageType::Etc2(_) => pkm::size(source),
+        ImageType::Farbfeld => farbfeld::size(source),
+        ImageType::Gif => gif::size(source),
+        ImageType::Ktx2 => ktx2::size(source),
+        ImageType::Pvrtc(_) => pvrtc::size(source),
+        ImageType::Psd => psd::size(source),
+        ImageType::Qoi => qoi::size(source),
+        ImageType::Tga => tga::size(source),
+        ImageType::Vtf => vtf::size(source),
+        ImageType::Webp => webp::size(source),
+        _ => Err(Halt::NotSupported),
+    }
 }
 
 // The records of a format that begin at a fixed offset.
