@@ -2,3 +2,4 @@ pub mod Joins
 pub mod Limits
 pub mod Rounds
 pub mod Spans
+pub mod Uploads

@@ -1,25 +1,25 @@
--- How many places of its marks an input still lacks, of which some parts were fetched.
-use Rattle.std.proofs.Common.{◌≡◌, ℕ, zero, suc, ◌+◌, ◌*◌, ◌^◌, ◌<◌, ◌≤◌, Bool, true, false, ◌&&◌, ◌||◌, not, cond, eqb, List, [], ◌∷◌, ◌++◌, length, refl, sym, ap, ◌∙◌, subst, arith}
+-- How many offsets of its marks an input has from the next request on.
+use Rattle.std.proofs.Common.{◌≡◌, ℕ, zero, suc, ◌+◌, ◌-◌, ◌*◌, ◌<◌, ◌≤◌, Bool, true, false, ◌&&◌, ◌⊎◌, inl, inr, min, cond, eqb, List, length, refl, sym, ap, ◌∙◌, subst, arith}
 use Rattle.std.proofs.lemmas.Bool.{and_parts}
-use Rattle.std.specs.Prelude.{count_by, nat_le, if◌then◌else◌, Result, Ok, Err, IfErr}
+use Rattle.std.specs.Prelude.{count_by, nat_le, Result, Ok, Err, IfErr}
 use Rattle.std.specs.List.{range_with_len}
 use Rattle.std.proofs.lemmas.Bool.Decides.{nat_tests}
-use Rattle.std.proofs.lemmas.Grind.{flat_map-append}
-use Rattle.std.proofs.lemmas.List.{append-nil}
+use Rattle.std.proofs.lemmas.List.{take_all}
+use Rattle.std.proofs.lemmas.Nat.{mul-le}
 use Rattle.imagesize.specs.Meaning.{meaning}
-use Rattle.imagesize.specs.Parted.{HasKnown, Wants, texts_of}
-use Rattle.imagesize_source.specs.Agreement.{is_covered, has_place, has_whole}
+use Rattle.imagesize.specs.Parted.{IsWithin}
+use Rattle.imagesize.specs.declared.parts.PartsAnswer.{PartsAnswer}
+use Rattle.imagesize.specs.declared.parts.PartsAnswer.TheVariants.{Found, Wanted}
+use Rattle.imagesize_source.specs.Agreement.{is_covered}
 use Rattle.imagesize_source.specs.Counts.{places}
 use Rattle.imagesize_source.specs.Input.{part}
-use Rattle.imagesize_source.specs.Known.{HasParts, bytes_of}
 use Rattle.imagesize_source.specs.declared.span.Span.{Span}
 use Rattle.imagesize_source.proofs.Counts.{count-cons, count_fewer, tests_fewer}
-use Rattle.imagesize_source.proofs.Known.{unknown_free}
-use Rattle.imagesize.proofs.Wanted.{parts_known}
-use Rattle.imagesize_uses.specs.Remote.{longest, most_at_once}
-use Rattle.std.proofs.lemmas.Nat.{mul-le}
-
--- ---- counts of places
+use Rattle.imagesize_source.proofs.Parts.{part_length}
+use Rattle.imagesize_stream.specs.Given.{HasPart}
+use Rattle.imagesize_stream.specs.Parts.{HasMarked, IfWanted, MayBe, next_of, total_of}
+use Rattle.imagesize_stream.specs.declared.parts.PartsProbe.{PartsProbe}
+use Rattle.imagesize_uses.specs.Remote.{most_at_once}
 
 -- and less often, where a place is among them that has it no more
 count_less : (p q : ℕ → Bool) (a n at : ℕ) → a ≤ at → at < a + n → ((x : ℕ) → p x ≡ true → q x ≡ true) → p at ≡ false
@@ -57,177 +57,210 @@ count_less p q a (suc n) at low high h gone has =
             rest,
           )
 
--- one span more
-covered_behind : (spans : List Span) (w : Span) (place : ℕ)
-    → is_covered (spans ++ w ∷ []) place ≡ is_covered spans place || has_place w place
-covered_behind [] w place =
-    let Goal : Bool → Type 0 = λ b. b || false ≡ b in elim (has_place w place) as Goal [ true ↦ refl | false ↦ refl ]
-covered_behind (s ∷ spans) w place =
-    let Goal : Bool → Type 0 = λ b. b || is_covered (spans ++ w ∷ []) place
-    ≡ (b || is_covered spans place) || has_place w place in
-    elim (has_place s place) as Goal [ true ↦ refl | false ↦ covered_behind spans w place ]
+-- an offset of the marks that is not before this one
+abbrev is_ahead : List Span → ℕ → ℕ → Bool
+is_ahead marks start place = is_covered marks place && nat_le start place
 
--- ---- what was fetched so far
+-- how many of these an input has
+unfoldable pub ahead : List ℕ → ℕ → ℕ
+ahead d start = count_by (is_ahead (meaning d 0).marks start) (range_with_len 0 (length d))
 
--- a place of the marks that no part has
-abbrev pub lacks : List Span → List Span → ℕ → Bool
-lacks marks spans place = is_covered marks place && not (is_covered spans place)
+-- never more than the marks cover
+few_ahead : (d : List ℕ) (start : ℕ) → ahead d start ≤ places (length d) (meaning d 0).marks
+unfolding ahead
+few_ahead d start =
+    count_fewer (is_ahead (meaning d 0).marks start) (is_covered (meaning d 0).marks) (range_with_len 0 (length d))
+    (λ place has. (and_parts (is_covered (meaning d 0).marks place) (nat_le start place) has).0)
 
--- how many places of its marks the parts of an input lack
-unfoldable pub lacking : List ℕ → List Span → ℕ
-lacking d spans = count_by (lacks (meaning d 0).marks spans) (range_with_len 0 (length d))
+-- fewer behind a span that has one
+less_ahead : (d : List ℕ) (w : Span) (next : ℕ) → HasMarked w d → w.start + w.len ≤ length d → w.start + w.len ≤ next
+    → ahead d next < ahead d w.start
+unfolding ahead
+less_ahead d w next marked fits behind =
+    count_less (is_ahead marks next) (is_ahead marks w.start) 0 (length d) marked.0 (omega arith)
+    (omega (arith, marked.2)) later gone has where
+      marks : List Span
+      marks = (meaning d 0).marks
 
--- The parts are those of an input of fewer than 2^63 bytes, and there were so many fetches, of so many bytes, before and
--- behind them.
-pub record Fetching (d : List ℕ) (whole : ℕ) (spans : List Span) (bytes : List ℕ)
-    (before now start asked : ℕ) : Type 0 where
-  pub as_long : whole ≡ length d
-  pub short : whole < 2 ^ 63
-  pub content : bytes_of d spans ≡ bytes
-  pub few : now + lacking d spans ≤ before + places (length d) (meaning d 0).marks
-  pub most : asked + lacking d spans * most_at_once d ≤ start + places (length d) (meaning d 0).marks * most_at_once d
+      both : {a b : Bool} → a ≡ true → b ≡ true → a && b ≡ true
+      both {a} {b} p q = ap (λ c. c && b) p ∙ q
 
--- never more than the marks have
-few_lacking : (d : List ℕ) (spans : List Span) → lacking d spans ≤ places (length d) (meaning d 0).marks
-unfolding lacking
-few_lacking d spans =
-    count_fewer (lacks (meaning d 0).marks spans) (is_covered (meaning d 0).marks) (range_with_len 0 (length d))
-    (λ place has. (and_parts (is_covered (meaning d 0).marks place) (not (is_covered spans place)) has).0)
+      none : (a : Bool) {b : Bool} → b ≡ false → a && b ≡ false
+      none true is = is
+      none false is = refl
 
-pub begun : (d : List ℕ) (whole now asked : ℕ) (spans : List Span) (bytes : List ℕ) → whole ≡ length d → whole < 2 ^ 63
-    → spans ≡ []
-    → bytes ≡ [] → Fetching d whole spans bytes now now asked asked
-begun d whole now asked spans bytes long short none also = record {
-  as_long = long;
-  short = short;
-  content = ap (bytes_of d) none ∙ sym also;
-  few = omega (arith, few_lacking d spans);
-  most = (let times = mul-le (lacking d spans) (most_at_once d) (places (length d) (meaning d 0).marks) (most_at_once d)
-      (few_lacking d spans)
-      (omega arith) in omega (arith, times));
-}
+      later : (place : ℕ) → is_ahead marks next place ≡ true → is_ahead marks w.start place ≡ true
+      later place is =
+          let parts = and_parts (is_covered marks place) (nat_le next place) is in
+          let high = parts.1 in
+          let low : nat_le w.start place ≡ true = grind (arith, nat_tests) in
+          both parts.0 low
 
--- the input has the bytes that the parts know, as the call has them
-pub has_known : {d : List ℕ} {whole : ℕ} {spans others : List Span} {bytes content : List ℕ}
-    {before now start asked : ℕ}
-    → Fetching d whole spans bytes before now start asked → others ≡ spans → content ≡ bytes
-    → HasKnown d whole others content
-has_known {d} {whole} {spans} {others} {bytes} {content} f same also =
-    parts_known d whole others content
-    (record { as_long = sym f.as_long; bytes = ap (bytes_of d) same ∙ f.content ∙ sym also })
+      gone : is_ahead marks next marked.0 ≡ false
+      gone =
+          let below = marked.2 in
+          let low : nat_le next marked.0 ≡ false = grind (arith, nat_tests) in
+          none (is_covered marks marked.0) low
 
--- what lies within one of some spans is no longer than the longest
-longest_has : (marks : List Span) (w : Span) → has_whole marks w ≡ true → w.len ≤ longest marks
-longest_has [] w has = absurd (let no : false ≡ true = has in cc)
-longest_has (s ∷ marks) w has =
-    by_test (nat_le s.start w.start && nat_le (w.start + w.len) (s.start + s.len)) refl (longest_has marks w) has where
-      by_test : (test : Bool) → (nat_le s.start w.start && nat_le (w.start + w.len) (s.start + s.len)) ≡ test
-          → (has_whole marks w ≡ true → w.len ≤ longest marks) → test || has_whole marks w ≡ true
-          → w.len ≤ longest (s ∷ marks)
-      by_test true is behind _ =
-          let both = and_parts (nat_le s.start w.start) (nat_le (w.start + w.len) (s.start + s.len)) is in
-          let low = both.0 in
-          let high = both.1 in
-          let within : w.len ≤ s.len = grind (arith, nat_tests) in
-          omega (arith, within)
-      by_test false is behind rest = (let among = behind rest in omega (arith, among))
+      has : is_ahead marks w.start marked.0 ≡ true
+      has =
+          let above = marked.1 in
+          let low : nat_le w.start marked.0 ≡ true = grind (arith, nat_tests) in
+          both marked.3 low
+
+-- where the next request begins; the end of the input, once there is a result
+abbrev pub next_start : {T : Type 0} → ℕ → PartsAnswer T → ℕ
+next_start n (Found found) = n
+next_start n (Wanted w) = w.start
+
+-- A first span begins with the input, and has its first 18 bytes. Each other one begins behind them.
+abbrev pub IsOpened : ℕ → Span → Type 0
+IsOpened n w = ((w.start ≡ 0) × (min 18 n ≤ w.len)) ⊎ (min 18 n ≤ w.start)
+
+-- no other span begins in a TGA's header
+apart : (n : ℕ) (w : Span) → IsWithin n w → IsOpened n w → (w.start < 12) ⊎ (18 ≤ w.start)
+apart n w fits (inl first) = inl (omega (arith, first.0))
+apart n w fits (inr later) = inr (omega (arith, fits.0, fits.1, later))
+
+opened_behind : {T : Type 0} (n : ℕ) (w : Span) (next : PartsAnswer T) → IsOpened n w
+    → IfWanted next (λ v. w.start + w.len ≤ v.start) → IfWanted next (IsOpened n)
+opened_behind n w (Found found) opened later = tt
+opened_behind n w (Wanted v) (inl first) later = inr (omega (arith, first.0, first.1, later))
+opened_behind n w (Wanted v) (inr above) later = inr (omega (arith, above, later))
+
+-- The input may be this one, and so many fetches requested so many bytes, before and now.
+pub record Fetching (d : List ℕ) (probe : PartsProbe) (before now first asked : ℕ) : Type 0 where
+  pub may : MayBe probe d
+  pub opened : IfWanted (next_of probe) (IsOpened (length d))
+  pub few : now + ahead d (next_start (length d) (next_of probe)) ≤ before + places (length d) (meaning d 0).marks
+  pub most : asked + ahead d (next_start (length d) (next_of probe)) * most_at_once d
+      ≤ first + places (length d) (meaning d 0).marks * most_at_once d
+  pub once : asked ≤ first + next_start (length d) (next_of probe)
+
+opened_first : {T : Type 0} (n total : ℕ) (next : PartsAnswer T) → n ≡ total
+    → IfWanted next (λ w. (w.start ≡ 0) × (min 18 total ≤ w.len)) → IfWanted next (IsOpened n)
+opened_first n total (Found found) long first = tt
+opened_first n total (Wanted w) long first = inl (first.0, omega (arith, first.1, long))
+
+pub begun : (d : List ℕ) (probe : PartsProbe) (now asked : ℕ) → length d ≡ total_of probe
+    → ((e : List ℕ) → length e ≡ total_of probe → MayBe probe e)
+    → IfWanted (next_of probe) (λ w. (w.start ≡ 0) × (min 18 (total_of probe) ≤ w.len))
+    → Fetching d probe now now asked asked
+begun d probe now asked long begins first =
+    let start = next_start (length d) (next_of probe) in
+    let few = few_ahead d start in
+    let times = mul-le (ahead d start) (most_at_once d) (places (length d) (meaning d 0).marks) (most_at_once d) few
+    (omega arith) in
+    record {
+      may = begins d long;
+      opened = opened_first (length d) (total_of probe) (next_of probe) long first;
+      few = omega (arith, few);
+      most = omega (arith, times);
+      once = omega arith;
+    }
+
+-- the next request begins behind this end
+begins_behind : {T : Type 0} (n end : ℕ) (next : PartsAnswer T) → end ≤ n → IfWanted next (λ w. end ≤ w.start)
+    → end ≤ next_start n next
+begins_behind n end (Found found) fits later = fits
+begins_behind n end (Wanted w) fits later = later
+
+-- the fetched bytes are a part of the input
+has_part : (d bytes : List ℕ) (w : Span) → IsWithin (length d) w → bytes ≡ part d w.start w.len
+    → HasPart d w.start bytes
+has_part d bytes w fits is =
+    let long : length bytes ≡ w.len = omega (arith, ap length is, part_length d w.start w.len) in
+    take_all (length d - w.start) bytes (omega (arith, long, fits.1)) ∙ is ∙ ap (part d w.start) (sym long)
 
 suc_times : (a k : ℕ) → (a + 1) * k ≡ a * k + k
 suc_times a k = omega arith
 
--- a fetch of what is wanted of the parts, as the call has them, leaves fewer places that are lacking
-module _ {d : List ℕ} {whole : ℕ} {spans others : List Span} {bytes content : List ℕ} {before now start asked : ℕ}
-    (w : Span)
-    (f : Fetching d whole spans bytes before now start asked) (same : others ≡ spans) (also : content ≡ bytes)
-    (says : HasKnown d whole others content → whole < 2 ^ 63
-    → Wants (texts_of d) (meaning d 0).marks whole others content w)
-    (fits : (0 < w.len) × (w.start + w.len ≤ whole)) where
-  wants : (is_covered (meaning d 0).marks w.start ≡ true) × (is_covered spans w.start ≡ false)
-      × (texts_of d ≡ false → has_whole (meaning d 0).marks w ≡ true)
-  wants =
-      let has : HasParts d whole others content =
-      record { as_long = sym f.as_long; bytes = ap (bytes_of d) same ∙ f.content ∙ sym also } in
-      let is = says (parts_known d whole others content has) f.short in
-      let free : is_covered others w.start ≡ false =
-      unknown_free d whole others content w.start has (omega (arith, fits.0, fits.1)) is.1 in
-      (is.0, ap (λ s. is_covered s w.start) (sym same) ∙ free, is.2)
+-- if these bytes have all of what was requested, the next request begins behind it
+abbrev pub GoesBeyond : PartsProbe → PartsProbe → ℕ → List ℕ → Type 0
+GoesBeyond old new offset bytes =
+    IfWanted (next_of old) (λ v. offset ≤ v.start → v.start + v.len ≤ offset + length bytes
+    → IfWanted (next_of new) (λ next. v.start + v.len ≤ next.start))
 
-  pub smaller : {more : List Span} → more ≡ spans ++ w ∷ [] → lacking d more < lacking d spans
-  unfolding lacking
-  smaller {more} is =
-      let has : has_place w w.start ≡ true = (let some = fits.0 in grind (arith, nat_tests)) in
-      subst (λ s. count_by (lacks marks s) (range_with_len 0 (length d)) < count_by (lacks marks spans)
-      (range_with_len 0 (length d))) (sym is)
-      (count_less (lacks marks (spans ++ w ∷ [])) (lacks marks spans) 0 (length d) w.start (omega arith)
-      (omega (arith, fits.0, fits.1, f.as_long)) no_more (none has)
-      (ap (λ b. is_covered marks w.start && not b) wants.1 ∙ and_true wants.0)) where
-        marks : List Span
-        marks = (meaning d 0).marks
+-- one fetch of a requested span, by what the probe says of it
+module _ {d : List ℕ} {probe : PartsProbe} {before now first asked : ℕ} (w : Span)
+    (f : Fetching d probe before now first asked) (is : Wanted w ≡ next_of probe)
+    (within : MayBe probe d → (w.start < 12) ⊎ (18 ≤ w.start) → HasMarked w d) (fits : IsWithin (total_of probe) w)
+    (short : w.len ≤ 1024) where
+  inside : IsWithin (length d) w
+  inside = subst (λ n. IsWithin n w) (sym f.may.given.as_long) fits
 
-        with_more : (a b c : Bool) → a && not (b || c) ≡ true → a && not b ≡ true
-        with_more true true c is = is
-        with_more true false c is = refl
-        with_more false b c is = is
+  opened : IsOpened (length d) w
+  opened = subst (λ a. IfWanted a (IsOpened (length d))) (sym is) f.opened
 
-        no_more : (place : ℕ) → lacks marks (spans ++ w ∷ []) place ≡ true → lacks marks spans place ≡ true
-        no_more place is = with_more (is_covered marks place) (is_covered spans place) (has_place w place)
-            (ap (λ b. is_covered marks place && not b) (sym (covered_behind spans w place)) ∙ is)
+  marked : HasMarked w d
+  marked = within f.may (apart (length d) w inside opened)
 
-        covers : (a b : Bool) → a && not (b || true) ≡ false
-        covers true true = refl
-        covers true false = refl
-        covers false b = refl
+  few : w.len ≤ most_at_once d
+  few = omega (arith, short, inside.1)
 
-        none : has_place w w.start ≡ true → lacks marks (spans ++ w ∷ []) w.start ≡ false
-        none has = ap (λ b. is_covered marks w.start && not b)
-            (covered_behind spans w w.start ∙ ap (λ b. is_covered spans w.start || b) has)
-            ∙ covers (is_covered marks w.start) (is_covered spans w.start)
+  from : next_start (length d) (next_of probe) ≡ w.start
+  from = sym (ap (next_start (length d)) is)
 
-        and_true : {b : Bool} → b ≡ true → b && true ≡ true
-        and_true is = ap (λ b. b && true) is
+  -- the counts behind it, by where the next request begins
+  counted : {next later further : ℕ} → w.start + w.len ≤ next → later ≤ now + 1 → further ≤ asked + w.len
+      → (later + ahead d next ≤ before + places (length d) (meaning d 0).marks)
+      × (further + ahead d next * most_at_once d ≤ first + places (length d) (meaning d 0).marks * most_at_once d)
+      × (further ≤ first + next)
+  counted {next} {later} {further} behind counts asks =
+      let less = less_ahead d w next marked inside.1 behind in
+      let were = ap (ahead d) from in
+      let times = mul-le (ahead d next + 1) (most_at_once d) (ahead d w.start) (most_at_once d) (omega (arith, less))
+      (omega arith) in
+      let had = ap (λ n. n * most_at_once d) were in (
+        omega (arith, f.few, counts, less, were),
+        omega (arith, f.most, asks, few, times, had, suc_times (ahead d next) (most_at_once d)),
+        omega (arith, f.once, asks, behind, from),
+      )
 
-  -- it is within one mark, or within the input
-  at_once : w.len ≤ most_at_once d
-  at_once = by_test (texts_of d) refl where
-    by_test : (test : Bool) → texts_of d ≡ test → w.len ≤ most_at_once d
-    by_test true is = subst (λ b. w.len ≤ (if b then length d else longest (meaning d 0).marks)) (sym is)
-        (omega (arith, fits.1, f.as_long))
-    by_test false is = subst (λ b. w.len ≤ (if b then length d else longest (meaning d 0).marks)) (sym is)
-        (longest_has (meaning d 0).marks w (wants.2 is))
+  behind : (new : PartsProbe) (bytes : List ℕ) → GoesBeyond probe new w.start bytes → bytes ≡ part d w.start w.len
+      → IfWanted (next_of new) (λ next. w.start + w.len ≤ next.start)
+  behind new bytes beyond got =
+      subst (λ a. IfWanted a (λ v. w.start ≤ v.start → v.start + v.len ≤ w.start + length bytes
+      → IfWanted (next_of new) (λ next. v.start + v.len ≤ next.start))) (sym is) beyond (omega arith)
+      (omega (arith, ap length got, part_length d w.start w.len, inside.1))
 
-  -- one place fewer is lacking, so that many more bytes may be asked for
-  fewer_times : {more : List Span} → more ≡ spans ++ w ∷ []
-      → lacking d more * most_at_once d + most_at_once d ≤ lacking d spans * most_at_once d
-  fewer_times {more} is =
-      let times = mul-le (lacking d more + 1) (most_at_once d) (lacking d spans) (most_at_once d)
-      (omega (arith, smaller is)) (omega arith) in
-      omega (arith, times, suc_times (lacking d more) (most_at_once d))
+  pub fetched : (new : PartsProbe) (bytes : List ℕ) {later further : ℕ} → GoesBeyond probe new w.start bytes
+      → bytes ≡ part d w.start w.len → (MayBe probe d → HasPart d w.start bytes → MayBe new d) → later ≤ now + 1
+      → further ≤ asked + w.len → Fetching d new before later first further
+  fetched new bytes {later} {further} beyond got goes_on counts asks =
+      let next = behind new bytes beyond got in
+      let all = counted (begins_behind (length d) (w.start + w.len) (next_of new) inside.1 next) counts asks in
+      record {
+        may = goes_on f.may (has_part d bytes w inside got);
+        opened = opened_behind (length d) w (next_of new) opened next;
+        few = all.0;
+        most = all.1;
+        once = all.2;
+      }
 
-  pub fetched : {more : List Span} {got : List ℕ} {later further : ℕ} → more ≡ spans ++ w ∷ []
-      → got ≡ bytes ++ part d w.start w.len
-      → later ≤ now + 1 → further ≤ asked + w.len → Fetching d whole more got before later start further
-  fetched {more} {got} {later} {further} is adds counts asks = record {
-    as_long = f.as_long;
-    short = f.short;
-    content = ap (bytes_of d) is ∙ flat_map-append (λ s. part d s.start s.len) spans (w ∷ [])
-        ∙ ap (λ bs. bytes_of d spans ++ bs) (append-nil (part d w.start w.len))
-        ∙ ap (λ bs. bs ++ part d w.start w.len) f.content ∙ sym adds;
-    few = omega (arith, f.few, counts, smaller is);
-    most = omega (arith, f.most, asks, at_once, fewer_times is);
-  }
+  -- fewer offsets are left
+  pub smaller : (new : PartsProbe) (bytes : List ℕ) → GoesBeyond probe new w.start bytes → bytes ≡ part d w.start w.len
+      → ahead d (next_start (length d) (next_of new)) < ahead d (next_start (length d) (next_of probe))
+  smaller new bytes beyond got =
+      let less = less_ahead d w (next_start (length d) (next_of new)) marked inside.1
+      (begins_behind (length d) (w.start + w.len) (next_of new) inside.1 (behind new bytes beyond got)) in
+      omega (arith, less, ap (ahead d) from)
 
-  -- there was a place to fetch
+  -- a fetch that ends it counts too
   pub few_by : {later : ℕ} → later ≤ now + 1 → later ≤ before + places (length d) (meaning d 0).marks
-  few_by {later} counts = omega (arith, f.few, counts, smaller refl)
+  few_by {later} counts =
+      let all = counted {next = length d} {later = later} {further = asked} inside.1 counts (omega arith) in
+      omega (arith, all.0)
 
-  -- of as many bytes
   pub most_by : {further : ℕ} → further ≤ asked + w.len
-      → further ≤ start + places (length d) (meaning d 0).marks * most_at_once d
-  most_by {further} asks = omega (arith, f.most, asks, at_once, fewer_times {more = spans ++ w ∷ []} refl)
+      → further ≤ first + places (length d) (meaning d 0).marks * most_at_once d
+  most_by {further} asks =
+      let all = counted {next = length d} {later = now} {further = further} inside.1 (omega arith) asks in
+      omega (arith, all.1)
 
-  -- and the marks have it
+  -- the marks have an offset
   pub some_place : 0 < places (length d) (meaning d 0).marks
-  some_place = omega (arith, smaller {more = spans ++ w ∷ []} refl, few_lacking d spans)
+  some_place = omega (arith, less_ahead d w (length d) marked inside.1 inside.1, few_ahead d w.start)
 
 -- what holds of each error
 pub if_err : {X E : Type 0} {P : Type 0} (r : Result X E) → P → IfErr r (λ _. P)

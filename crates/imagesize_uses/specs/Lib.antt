@@ -3,3 +3,4 @@ pub mod Document
 pub mod Gate
 pub mod Remote
 pub mod Texture
+pub mod Upload

@@ -47,8 +47,11 @@ pub fn admit<R: Told>(reader: &mut R, most_pixels: u64) -> Admission
     }
 }
 
-// The verdict on a size, or on its error.
-fn judge(answer: ImageResult<ImageSize>, most_pixels: u64) -> Result<ImageSize, Rejection>
+/// The verdict on a size, or on its error.
+pub(crate) fn judge(
+    answer: ImageResult<ImageSize>,
+    most_pixels: u64,
+) -> Result<ImageSize, Rejection>
     ensures { result ≡ gate_verdict most_pixels answer }
 {
     match answer {

@@ -10,3 +10,4 @@ pub mod remote;
 #[cfg(test)]
 mod tests;
 pub mod texture;
+pub mod upload;

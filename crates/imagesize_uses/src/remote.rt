@@ -1,15 +1,14 @@
 //! An input that is fetched, for example by range requests, until its type and size are known.
-ghost use Rattle.std.specs.Prelude.{◌≡◌, ℕ, ◌+◌, ◌*◌, ◌^◌, ◌<◌, ◌≤◌, ◌++◌, List, Option, Some, length, take, IfErr, IfOk};
+ghost use Rattle.std.specs.Prelude.{◌≡◌, ℕ, ◌+◌, ◌*◌, ◌^◌, ◌<◌, ◌≤◌, List, Option, Some, length, take, IfErr, IfOk};
 ghost use Rattle.imagesize.specs.Meaning.{meaning};
 ghost use Rattle.imagesize_source.specs.Counts.{places};
 ghost use Rattle.imagesize_source.specs.Input.{part};
-ghost use Rattle.imagesize_uses.specs.Remote.{Fetch, GaveAll, IsOf, Stops, most_at_once};
-ghost use Rattle.imagesize_uses.specs.declared.remote.Interrupted.TheVariants.{Memory};
+ghost use Rattle.imagesize_uses.specs.Remote.{Fetch, IsOf, Stops, most_at_once};
 
 use crate::cache::bytes_of_span;
 use crate::joined::copy_front;
-use imagesize::{ImageResult, ImageSize, ImageType, PartsAnswer, Span, parts_probe};
-use std::alloc::{AllocError, Allocator};
+use imagesize::{ImageResult, ImageSize, ImageType, PartsAnswer, Span};
+use imagesize_stream::PartsProbe;
 use std::io::{self, ErrorKind};
 
 /// An input whose bytes are elsewhere, and are fetched by offset.
@@ -58,73 +57,61 @@ pub enum Interrupted {
     Failed(io::Error),
     /// A fetch gave fewer bytes than it requested.
     Short,
-    /// Memory for the parts could not be allocated.
-    Memory,
 }
 
-impl From<AllocError> for Interrupted {
-    ghost from_gives = { λ _ stop. stop ≡ Memory };
-
-    fn from(_error: AllocError) -> Interrupted {
-        Interrupted::Memory
-    }
-}
+// How many bytes one fetch requests at most.
+const MOST: usize = 1024;
 
 /// Reads type and size of the image in an input, and fetches only what is needed for them.
 ///
-/// Errors: the first fetch that fails or gives too few bytes, and `Memory` if memory for the parts cannot be allocated.
-/// Before `Memory`, no fetch failed or gave too few bytes.
-pub fn probe_remote<A: Allocator + Copy, R: Remote>(
-    alloc: A,
-    remote: &mut R,
-) -> Result<Probed, Interrupted>
+/// A fetch requests at most 1,024 bytes, and all fetches together at most as many as the input has. The call allocates
+/// nothing.
+///
+/// Errors: the first fetch that fails or gives too few bytes.
+pub fn probe_remote<R: Remote>(remote: &mut R) -> Result<Probed, Interrupted>
     ensures answer { IfOk result (IsOf (R.input remote.old)) }
-    ensures stops { Stops (R.last remote.old) (R.last remote.new) result }
+    ensures stops { Stops (R.last remote.new) result }
 
     // There are at most as many fetches as the spans of the trace cover bytes, each byte counted once.
     ensures few { R.fetches remote.new ≤ R.fetches remote.old + places (length (R.input remote.old)) (meaning (R.input remote.old) 0).marks }
 
-    // Except for text formats, each fetch requests at most the bytes of one span.
+    // All fetches together request at most as many bytes as the input has.
+    ensures once { R.asked remote.new ≤ R.asked remote.old + length (R.input remote.old) }
+
+    // They request at most 1,024 bytes for each byte that the spans cover.
     ensures most { R.asked remote.new ≤ R.asked remote.old
         + places (length (R.input remote.old)) (meaning (R.input remote.old) 0).marks * most_at_once (R.input remote.old) }
 
-    // It fails only if a byte is needed: a result that needs none allocates nothing and makes no fetch.
+    // It fails only if a byte is needed: a result that needs none makes no fetch.
     ensures some { IfErr result (λ _. 0 < places (length (R.input remote.old)) (meaning (R.input remote.old) 0).marks) }
 {
     let whole = remote.length();
-    let mut bytes = Vec::new(alloc);
-    let mut spans = Vec::new(alloc);
+    let mut probe = PartsProbe::new(whole);
+    let mut room = [0u8; MOST];
     'rounds: loop {
-        match parts_probe(&bytes, &spans, whole) {
+        match probe.answer() {
             PartsAnswer::Found((kind, answer)) => return Ok(Probed { kind, answer }),
             PartsAnswer::Wanted(span) => {
-                fetch_part(alloc, remote, &span, &mut bytes)?;
-                spans.extend_from_slice(&[span])?;
+                let part = &mut room[..span.len as usize];
+                fetch_part(remote, span.start, part)?;
+                probe.supply(span.start, part);
             }
         }
     }
 }
 
-// Fetches the bytes of a span, and appends them.
-fn fetch_part<A: Allocator, R: Remote>(
-    alloc: A,
-    remote: &mut R,
-    span: &Span,
-    bytes: &mut Vec<u8, A>,
-) -> Result<(), Interrupted>
+// Fetches the bytes from an offset on, until the buffer is full.
+fn fetch_part<R: Remote>(remote: &mut R, place: u64, room: &mut [u8]) -> Result<(), Interrupted>
     ensures same { R.input remote.new ≡ R.input remote.old }
     ensures counts { R.fetches remote.new ≤ R.fetches remote.old + 1 }
-    ensures bytes { IfOk result (λ _. bytes.new.items ≡ bytes.old.items ++ part (R.input remote.old) span.now.start span.now.len) }
-    ensures asks { R.asked remote.new ≤ R.asked remote.old + span.now.len }
-    ensures whole { IfOk result (λ _. GaveAll (R.last remote.new)) }
-    ensures stops { Stops (R.last remote.old) (R.last remote.new) result }
+    ensures bytes { IfOk result (λ _. room.new ≡ part (R.input remote.old) place (length room.old)) }
+    ensures asks { R.asked remote.new ≤ R.asked remote.old + length room.old }
+    ensures stops { Stops (R.last remote.new) result }
 {
-    let mut room = Vec::new(alloc);
-    room.resize(span.len as usize, 0)?;
-    match remote.fetch(span.start, &mut room) {
+    match remote.fetch(place, room) {
         Err(error) => Err(Interrupted::Failed(error)),
         Ok(count) if count < room.len() => Err(Interrupted::Short),
-        Ok(_) => Ok(bytes.extend_from_slice(&room)?),
+        Ok(_) => Ok(()),
     }
 }
 

@@ -7,7 +7,9 @@ use crate::gate::{Limited, Rejection, admit, admit_within};
 use crate::joined::joined_size;
 use crate::remote::{Held, Interrupted, probe_remote};
 use crate::texture::{Flaw, check_texture};
-use imagesize::{CompressionFamily, ImageSize, ImageType};
+use crate::upload::{UploadGate, admit_chunks};
+use imagesize::{CompressionFamily, ImageError, ImageSize, ImageType, Reason};
+use std::alloc::{AllocError, Allocator};
 use std::io::{Cursor, ErrorKind};
 use std::test::Fail;
 
@@ -54,6 +56,60 @@ fn a_limited_gate_takes_no_more(rt: HostRuntime) {
     let admission = admit(&mut limited, 10_000);
     assert!(rt; matches!(admission.verdict, Err(Rejection::NoSize(_))));
     assert_eq!(rt; admission.taken, 11);
+}
+
+#[test]
+fn an_upload_gate_ends_once_the_size_is_known(rt: HostRuntime) {
+    let mut gate = UploadGate::new(None, 10_000);
+    assert!(rt; gate.feed(&GIF[..11]).is_none());
+    let verdict = gate.feed(&GIF[11..]);
+    assert!(rt; matches!(verdict, Some(Ok(size)) if size == square(100)));
+    let verdict = gate.feed(b"these bytes are not looked at");
+    assert!(rt; matches!(verdict, Some(Ok(size)) if size == square(100)));
+    assert!(rt; matches!(gate.finish(), Ok(size) if size == square(100)));
+}
+
+#[test]
+fn an_upload_gate_decides_at_the_end(rt: HostRuntime) {
+    let mut gate = UploadGate::new(None, 10_000);
+    assert!(rt; gate.feed(&GIF[..11]).is_none());
+    assert!(rt;
+        matches!(
+            gate.finish(),
+            Err(Rejection::NoSize(ImageError::IoError(Reason::EndOfInput)))
+        )
+    );
+}
+
+#[test]
+fn an_upload_in_chunks_has_its_verdict(rt: HostRuntime) {
+    let (first, second) = LONG_JPEG.split_at(70);
+    let verdict = admit_chunks(&[first, second], None, 35);
+    assert!(rt;
+        matches!(
+            verdict,
+            Ok(ImageSize {
+                width: 7,
+                height: 5
+            })
+        )
+    );
+    let verdict = admit_chunks(&[first, b"", second], Some(LONG_JPEG.len() as u64), 34);
+    assert!(rt;
+        matches!(
+            verdict,
+            Err(Rejection::TooLarge(ImageSize {
+                width: 7,
+                height: 5
+            }))
+        )
+    );
+    assert!(rt;
+        matches!(
+            admit_chunks(&[first, second], Some(70), 35),
+            Err(Rejection::NoSize(_))
+        )
+    );
 }
 
 #[test]
@@ -107,23 +163,47 @@ fn slices_are_read_as_one(rt: HostRuntime) {
     assert!(rt; matches!(size, Ok(size) if size == square(100)));
 }
 
+// An ILBM of 7 by 5 pixels, with 1,000 chunks of 200 bytes before its bitmap header.
+fn ilbm_of_chunks<A: Allocator>(alloc: A) -> Result<Vec<u8, A>, AllocError> {
+    let mut bytes = Vec::new(alloc);
+    bytes.extend_from_slice(b"FORM\0\x03\x2C\xA0ILBM")?;
+    for _ in 0..1_000 {
+        bytes.extend_from_slice(b"ANNO\0\0\0\xC8")?;
+        bytes.extend_from_slice(&[b' '; 200])?;
+    }
+    bytes.extend_from_slice(b"BMHD\0\0\0\x14\0\x07\0\x05")?;
+    Ok(bytes)
+}
+
 #[test]
 fn a_remote_input_is_fetched_until_it_is_known(rt: HostRuntime) {
     let mut remote = Held::new(LONG_JPEG, usize::MAX, u64::MAX);
-    let probed = probe_remote(rt.alloc(), &mut remote);
+    let probed = probe_remote(&mut remote);
     assert!(rt;
         matches!(probed, Ok(probed) if probed.kind == Some(ImageType::Jpeg)
         && matches!(probed.answer, Ok(ImageSize { width: 7, height: 5 })))
     );
-    assert!(rt; remote.fetches() > 30);
+}
+
+#[test]
+fn a_remote_input_takes_a_fetch_for_each_record(rt: HostRuntime) -> Result<(), Fail> {
+    let bytes = ilbm_of_chunks(rt.alloc())?;
+    let mut remote = Held::new(&bytes, 1_024, u64::MAX);
+    let probed = probe_remote(&mut remote);
+    assert!(rt;
+        matches!(probed, Ok(probed) if matches!(probed.answer, Ok(ImageSize { width: 7, height: 5 })))
+    );
+    // one for the type, one for the head of each chunk, and one for each side
+    assert_eq!(rt; remote.fetches(), 1 + 1_001 + 2);
+    Ok(())
 }
 
 #[test]
 fn a_fetch_that_fails_or_is_short_ends_it(rt: HostRuntime) {
-    let failed = probe_remote(rt.alloc(), &mut Held::new(LONG_JPEG, usize::MAX, 3));
+    let failed = probe_remote(&mut Held::new(LONG_JPEG, usize::MAX, 3));
     assert!(rt;
         matches!(failed, Err(Interrupted::Failed(error)) if error.kind() == ErrorKind::TimedOut)
     );
-    let short = probe_remote(rt.alloc(), &mut Held::new(GIF, 11, u64::MAX));
+    let short = probe_remote(&mut Held::new(GIF, 11, u64::MAX));
     assert!(rt; matches!(short, Err(Interrupted::Short)));
 }
