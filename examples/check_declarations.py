@@ -5,7 +5,7 @@
 HEADER is imagesize.h, and SOURCES the folder of the library's source. Each exported function must be declared once, and
 nothing else may be. Its result must have the right type, and its parameters must be in their order, with the names and the types
 that a caller in C sees. The blocks `extern "C"` of a Rust file may declare fewer functions, each as the header does. The two
-numbers of a span are compared too, and the size of a push parser.
+numbers of a span are compared too, and the sizes of a push parser and of a probe over spans.
 """
 
 import pathlib
@@ -25,6 +25,8 @@ PASSED = {
     "&mut usize": ("size_t *",),
     "&mut Span": ("imagesize_span *",),
     "*mut StreamProbe": ("imagesize_stream *",),
+    "*mut PartsProbe": ("imagesize_parts *",),
+    "*const PartsProbe": ("const imagesize_parts *",),
 }
 # The types of a Rust binding.
 BOUND = {
@@ -39,6 +41,8 @@ BOUND = {
     "*mut usize": "size_t *",
     "*mut Span": "imagesize_span *",
     "*mut Stream": "imagesize_stream *",
+    "*mut Rounds": "imagesize_parts *",
+    "*const Rounds": "const imagesize_parts *",
 }
 # The C type of a result.
 RESULTS = {"": "void", " -> u32": "uint32_t"}
@@ -116,13 +120,14 @@ def check_spans(header, folder):
     assert body == wanted, f"a span is `{wanted}`, and not `{body}`"
 
 
-def check_streams(header, folder):
-    """The memory of a push parser has the size that is proved to be enough, and its alignment."""
-    (size,) = re.findall(r"#define IMAGESIZE_STREAM_SIZE (\d+)", header)
-    assert "typedef struct imagesize_stream { uint64_t opaque[IMAGESIZE_STREAM_SIZE / 8]; } imagesize_stream;" in header
-    assert int(size) % 8 == 0, "the size of a push parser is no multiple of 8"
-    source = plain((pathlib.Path(folder) / "streams.rt").read_text())
-    for proved in (f"size_of::<StreamProbe>() <= {size}", "align_of::<StreamProbe>() <= 8"):
+def check_memory(header, folder, name, file, probe):
+    """The memory that a caller gives has the size that is proved to be enough, and its alignment."""
+    macro = f"IMAGESIZE_{name.upper()}_SIZE"
+    (size,) = re.findall(rf"#define {macro} (\d+)", header)
+    assert f"typedef struct imagesize_{name} {{ uint64_t opaque[{macro} / 8]; }} imagesize_{name};" in header
+    assert int(size) % 8 == 0, f"{macro} is no multiple of 8"
+    source = plain((pathlib.Path(folder) / file).read_text())
+    for proved in (f"size_of::<{probe}>() <= {size}", f"align_of::<{probe}>() <= 8"):
         assert f"const _: () = prove!({proved});" in source, f"not proved: {proved}"
 
 
@@ -132,7 +137,8 @@ def main(header, sources, *bindings):
     assert exports and calls.keys() == exports.keys(), f"declared and not exported, or the reverse: {calls.keys() ^ exports.keys()}"
     compare("the library", exports, calls)
     check_spans(header, sources)
-    check_streams(header, sources)
+    check_memory(header, sources, "stream", "streams.rt", "StreamProbe")
+    check_memory(header, sources, "parts", "rounds.rt", "PartsProbe")
     counts = [len(calls)]
     for path in bindings:
         found = bound(path)

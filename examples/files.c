@@ -21,17 +21,9 @@ static void *limited_malloc(size_t size)
     return may_allocate() ? malloc(size) : NULL;
 }
 
-static void *limited_realloc(void *buffer, size_t size)
-{
-    return may_allocate() ? realloc(buffer, size) : NULL;
-}
-
 #define malloc limited_malloc
-#define realloc limited_realloc
 #include "imagesize_file.h"
 #undef malloc
-#undef realloc
-
 
 #include <inttypes.h>
 #include <string.h>
@@ -174,17 +166,17 @@ static void failing_readings(uint8_t *bytes)
     }
 }
 
-/* Each allocation fails in turn: the status is IMAGESIZE_OUT_OF_MEMORY, and all memory is freed. */
+/* Blocks of 4096 bytes need no allocation. Longer ones do: each allocation fails in turn, and all memory is freed. */
 static void failing_allocations(uint8_t *bytes)
 {
-    struct input input = {bytes, jpeg(bytes, 3, 65533), 0, 0, 0, 0};
-    for (long before = 0; before < 2; before++) {
-        imagesize_image image = {1, 2, 3, 4};
-        allocations = before;
-        expect(imagesize_reader_probe(&input, read_input, 0, &image) == IMAGESIZE_OUT_OF_MEMORY && is_none(&image), "no memory at all");
-    }
+    struct input input = {bytes, 2 * 4096, 0, 0, 0, 0};
+    imagesize_image image = {1, 2, 3, 4};
+    jpeg(bytes, 0, 0);
+    allocations = 0;
+    expect(is_size(imagesize_reader_probe(&input, read_input, input.length, &image), &image, 7, 5), "no memory is needed for a block");
+    input.length = jpeg(bytes, 100000, 2);
     for (long enough = 0; enough < 100; enough++) {
-        imagesize_image image = {1, 2, 3, 4};
+        image = (imagesize_image){1, 2, 3, 4};
         allocations = enough;
         uint32_t status = imagesize_reader_probe(&input, read_input, input.length, &image);
         int is_enough = allocations >= 0;

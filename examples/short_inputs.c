@@ -221,6 +221,48 @@ static void parts_of_any_kind(struct worker *worker, enum asked asked, size_t le
     }
 }
 
+/* A probe over spans, with numbers beside it that no call may change. */
+struct rounds {
+    uint64_t before;
+    imagesize_parts parts;
+    uint64_t after;
+};
+
+/* Passes some bytes of an input. They end at a page that cannot be read. */
+static void supply(struct worker *worker, struct rounds *rounds, size_t input, size_t offset, size_t length)
+{
+    memcpy(worker->bytes_end - length, worker->input_end - input + offset, length);
+    imagesize_parts_supply(&rounds->parts, offset, worker->bytes_end - length, length);
+}
+
+/* Rounds that bring the first byte of each requested span, and others around it, lead to the right result. Each span begins after the
+ * last one. Bytes after a gap change nothing. */
+static void rounds_lead_to(struct worker *worker, size_t length, const struct answer *right)
+{
+    struct rounds rounds = {0xA5, {{0}}, 0xA5};
+    uint64_t next = 0;
+    memset(&rounds.parts, 0xA5, sizeof rounds.parts);
+    imagesize_parts_new(&rounds.parts, length);
+    for (;;) {
+        struct answer a = nothing_told, none = nothing_told;
+        imagesize_span wanted = {7, 8};
+        a.status = imagesize_parts_answer(&rounds.parts, &a.type, &a.compression, &a.width, &a.height, &wanted);
+        if (a.status != IMAGESIZE_BYTES_WANTED) {
+            expect(is_same(&a, right) && wanted.start == 7 && wanted.len == 8, "rounds lead to the right result");
+            break;
+        }
+        none.status = IMAGESIZE_BYTES_WANTED;
+        expect(is_same(&a, &none), "a call that requests a span writes nothing else");
+        expect(wanted.start >= next && wanted.len > 0 && wanted.start < length && wanted.len <= length - wanted.start,
+               "a requested span lies within the input, and begins after the last one");
+        size_t start = (size_t)wanted.start, from = random_number(worker) % (start + 1);
+        next = wanted.start + 1;
+        supply(worker, &rounds, length, start + 1, length - start - 1);
+        supply(worker, &rounds, length, from, start + 1 - from + random_number(worker) % (length - start));
+    }
+    expect(rounds.before == 0xA5 && rounds.after == 0xA5, "and nothing beside the memory is written");
+}
+
 /* A push parser of an input of this length, or of unknown length, with numbers beside it that no call may change. */
 struct stream {
     uint64_t before;
@@ -279,6 +321,7 @@ static void *work(void *its)
         spans_lie_within(worker, length);
         parts_lead_to_each(worker, length, &whole);
         parts_of_any_kind(worker, (enum asked)(i % 3), length);
+        rounds_lead_to(worker, length, &whole);
         pieces_lead_to(worker, length, &whole);
         text_of(worker, whole.status);
     }

@@ -1,5 +1,6 @@
 /*
- * Passes each test vector to a push parser, in pieces of several lengths, and compares the result with imagesize_probe.
+ * Passes each test vector to a push parser, in pieces of several lengths, and to a probe over spans, in rounds that bring all of each
+ * requested span or less, and compares the results with imagesize_probe.
  *
  *     streams TABLE
  *
@@ -139,6 +140,81 @@ static void past_the_length(struct memory *memory, const uint8_t *bytes, size_t 
     expect(is_same(finish(memory), probe(bytes, total)), "not at the end either");
 }
 
+/* The memory of a probe over spans, between numbers that no call may change. */
+struct rounds {
+    uint64_t before;
+    imagesize_parts parts;
+    uint64_t after;
+};
+
+/* Passes bytes from an offset on. They end where the sanitizer ends the memory. */
+static void supply(struct rounds *rounds, uint64_t offset, const uint8_t *bytes, size_t length)
+{
+    uint8_t *piece = malloc(length + (length == 0));
+    if (piece == NULL) {
+        exit(2);
+    }
+    memcpy(piece, bytes, length);
+    imagesize_parts_supply(&rounds->parts, offset, piece, length);
+    free(piece);
+}
+
+/* The result, or the requested span, which lies within the input and begins at this offset or after it. */
+static struct answer ask(const struct rounds *rounds, size_t length, uint64_t least, imagesize_span *wanted)
+{
+    struct answer a = nothing, again = nothing;
+    imagesize_span span = {7, 8};
+    *wanted = span;
+    a.status = imagesize_parts_answer(&rounds->parts, &a.type, &a.compression, &a.width, &a.height, wanted);
+    again.status = imagesize_parts_answer(&rounds->parts, &again.type, &again.compression, &again.width, &again.height, &span);
+    expect(is_same(a, again) && wanted->start == span.start && wanted->len == span.len, "a second call returns the same");
+    if (a.status == IMAGESIZE_BYTES_WANTED) {
+        expect(is_same(a, nothing), "a call that requests a span writes nothing else");
+        expect(wanted->start >= least && wanted->len > 0 && wanted->start < length && wanted->len <= length - wanted->start,
+               "a requested span lies within the input, and after the start of the last one");
+    } else {
+        expect(wanted->start == 7 && wanted->len == 8, "a call with a result requests nothing");
+    }
+    expect(rounds->before == 0xA5A5A5A5 && rounds->after == 0xA5A5A5A5, "nothing beside the memory is written");
+    return a;
+}
+
+/* Rounds that bring at most so many bytes of each requested span, or these and all bytes before. Bytes after a gap are ignored. A copy of
+ * the memory goes on by itself. */
+static void in_rounds(const uint8_t *bytes, size_t length, size_t most, int with_all_before)
+{
+    struct rounds rounds = {0xA5A5A5A5, {{0}}, 0xA5A5A5A5}, copy;
+    struct answer right = probe(bytes, length), a;
+    imagesize_span wanted, last;
+    uint64_t least = 0;
+    imagesize_parts_new(&rounds.parts, length);
+    while (a = ask(&rounds, length, least, &wanted), a.status == IMAGESIZE_BYTES_WANTED) {
+        size_t start = (size_t)wanted.start, brought = wanted.len < most ? (size_t)wanted.len : most;
+        least = wanted.start + 1;
+        supply(&rounds, start + 1, bytes + start + 1, length - start - 1);
+        copy = rounds;
+        supply(&copy, start, bytes + start, length - start);
+        expect(is_same(ask(&copy, length, 0, &last), right), "a copy that gets all the rest has the result");
+        if (with_all_before) {
+            supply(&rounds, 0, bytes, start + brought);
+        } else {
+            supply(&rounds, start, bytes + start, brought);
+        }
+    }
+    expect(is_same(a, right), "rounds lead to the right result");
+    supply(&rounds, 0, bytes, length);
+    expect(is_same(ask(&rounds, length, 0, &last), right), "which stays");
+}
+
+static void all_rounds(const uint8_t *bytes, size_t length)
+{
+    static const size_t most[] = {1, 2, 5, LONGEST};
+    for (size_t i = 0; i < sizeof most / sizeof *most; i++) {
+        in_rounds(bytes, length, most[i], 0);
+        in_rounds(bytes, length, most[i], 1);
+    }
+}
+
 static void all_ways(struct memory *memory, const uint8_t *bytes, size_t length)
 {
     static const size_t pieces[] = {1, 2, 3, 7, 4096, LONGEST + 1};
@@ -152,6 +228,7 @@ static void all_ways(struct memory *memory, const uint8_t *bytes, size_t length)
     each_front(memory, bytes, length, IMAGESIZE_LENGTH_UNKNOWN);
     copied(memory, bytes, length);
     past_the_length(memory, bytes, length);
+    all_rounds(bytes, length);
 }
 
 /* The bytes of a line's first cell, in hex, or `-` for none. Their number is returned. */
@@ -182,6 +259,6 @@ int main(int count, char **arguments)
     free(line);
     fclose(table);
     expect(vectors > 200, "the table has its vectors");
-    printf("%zu test vectors as streams: %s\n", vectors, failures == 0 ? "as they should be" : "NOT as they should be");
+    printf("%zu test vectors as streams and in rounds: %s\n", vectors, failures == 0 ? "as they should be" : "NOT as they should be");
     return failures != 0;
 }

@@ -2,8 +2,8 @@
  * The type of an image, and its width and height in pixels, from a few bytes. No pixel is decoded.
  *
  * Each call is proved. It returns, and its result is the one that docs/LAYOUTS.md defines. It reads only the buffers that the
- * caller passes, and writes only what is said here. It allocates nothing, and keeps nothing between two calls: a push parser is
- * in memory of the caller. Calls may run at the same time on several threads, if none writes what another reads.
+ * caller passes, and writes only what is said here. It allocates nothing, and keeps nothing between two calls: a push parser and a
+ * probe over spans are in memory of the caller. Calls may run at the same time on several threads, if none writes what another reads.
  * docs/PROMISES.md lists the promises.
  *
  * The caller must keep these rules, which the library cannot check:
@@ -12,8 +12,8 @@
  *  - A buffer of bytes, text or spans must have as many items as its length says, and fewer than 2^63 bytes.
  *  - A buffer that is written must overlap no other buffer of the call. Text and spans must be initialised.
  *
- * Each call but imagesize_stream_new returns a status: IMAGESIZE_ANSWERED, or a number for each error. A call changes only what it
- * says that it writes, also when it returns an error.
+ * Each call that has a result returns a status: IMAGESIZE_ANSWERED, or a number for each error. A call changes only what it says that
+ * it writes, also when it returns an error.
  *
  * A text is ASCII, without a zero at its end. It is written if the buffer is long enough for all of it. Its length is written
  * in either case. If the buffer is too small, the status is IMAGESIZE_BUFFER_TOO_SMALL and the buffer does not change. The same
@@ -214,7 +214,8 @@ uint32_t imagesize_probe(const uint8_t *bytes, size_t length, uint32_t *type, ui
  *         length += wanted.len;
  *     }
  *
- * imagesize_file.h reads files in this way, in blocks of 4096 bytes.
+ * Each call reads the parts from the beginning. With many records, imagesize_parts_answer below is faster: it keeps its state, and
+ * no list of parts is needed.
  *
  * If two parts give different values for one byte, the first part counts. If there are fewer bytes than the spans have, the last
  * bytes are unknown. Bytes that are left over are not read. For a total of 2^63 bytes or more the result is unspecified. The call
@@ -309,6 +310,66 @@ uint32_t imagesize_stream_push(imagesize_stream *stream, const uint8_t *bytes, s
  * those past the length. The status is never IMAGESIZE_BYTES_WANTED. Then the memory is free, or may be begun again.
  */
 uint32_t imagesize_stream_finish(imagesize_stream *stream, uint32_t *type, uint32_t *compression, uint64_t *width, uint64_t *height);
+
+/*
+ * Type and size of an input whose bytes can be fetched by offset, as from a file or by range requests. In each round the caller fetches
+ * a span and passes its bytes. It keeps neither spans nor bytes, and no round reads again what an earlier one read.
+ *
+ *     imagesize_parts parts;
+ *     imagesize_span wanted;
+ *     uint8_t block[4096];
+ *     ssize_t got;
+ *     imagesize_parts_new(&parts, total);
+ *     while ((status = imagesize_parts_answer(&parts, &type, &compression, &width, &height, &wanted)) == IMAGESIZE_BYTES_WANTED) {
+ *         if ((got = pread(file, block, sizeof block, (off_t)wanted.start)) <= 0) {
+ *             return GAVE_UP;
+ *         }
+ *         imagesize_parts_supply(&parts, wanted.start, block, (size_t)got);
+ *     }
+ *
+ * The state is in memory of the caller, on the stack or wherever there are IMAGESIZE_PARTS_SIZE bytes. It holds at most 1,023 bytes
+ * of the input, and no pointer. It needs no release. imagesize_file.h reads files in this way, in blocks of 4096 bytes.
+ *
+ * The rules of the push parser hold for this memory too. imagesize_parts_new comes first, and one call at a time uses the memory. The
+ * caller does not write into it, but may copy all of it between two calls.
+ */
+
+/* The size of the memory in bytes. */
+#define IMAGESIZE_PARTS_SIZE 1280
+
+/* The memory of a probe over spans. Its content is the library's own. */
+typedef struct imagesize_parts {
+    uint64_t opaque[IMAGESIZE_PARTS_SIZE / 8];
+} imagesize_parts;
+
+/*
+ * Begins an input of `total` bytes, whatever the memory holds. If the input turns out to be shorter, begin again with its true length.
+ * A total of 2^63 bytes or more means 2^63 - 1.
+ */
+void imagesize_parts_new(imagesize_parts *parts, uint64_t total);
+
+/*
+ * Passes the `length` bytes of the input from `offset` on: those of the requested span, or more of them, or fewer. Nothing is returned:
+ * imagesize_parts_answer has the result.
+ *
+ * Bytes before the requested span are ignored, and so are bytes past the end of the input. If `offset` lies after the start of the
+ * requested span, or if there is a result already, nothing changes. If the byte at the start of the requested span is among them, a
+ * result or a later span follows.
+ */
+void imagesize_parts_supply(imagesize_parts *parts, uint64_t offset, const uint8_t *bytes, size_t length);
+
+/*
+ * Reads type and size from the spans that were passed, or asks for another one. The memory of the probe does not change.
+ *
+ * If another span is needed, the status is IMAGESIZE_BYTES_WANTED, and only `wanted` is written. It has at least one byte and lies
+ * within the input. The result depends on a byte at its start or after it. The caller may fetch all of `wanted`, a block from its start on
+ * or around it, or its first byte alone.
+ *
+ * Otherwise status, type, compression, width and height are those of imagesize_probe over the whole input, and `wanted` does not
+ * change. Every later call returns and writes the same.
+ */
+uint32_t imagesize_parts_answer(const imagesize_parts *parts, uint32_t *type, uint32_t *compression, uint64_t *width, uint64_t *height,
+                                imagesize_span *wanted);
 
 /*
  * Lists the bytes that type and size depend on: a span for each read, in order, with repeats. Every other input of this length

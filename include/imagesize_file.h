@@ -12,7 +12,7 @@
  * Each call returns a status: that of imagesize_probe over all bytes of the file, or one of these three.
  *  - IMAGESIZE_FAULT: the file cannot be opened or read. `errno` says why; it is 0 if the file became shorter meanwhile.
  *  - IMAGESIZE_BUDGET_SPENT: the result needs more than IMAGESIZE_FILE_MOST bytes. No more are read.
- *  - IMAGESIZE_OUT_OF_MEMORY: `malloc` or `realloc` returned NULL.
+ *  - IMAGESIZE_OUT_OF_MEMORY: `malloc` returned NULL. Only a block of more than IMAGESIZE_FILE_BLOCK bytes is allocated.
  *
  * The call writes all of `image`. The type is 0 if none was found. Width and height are 0 if the status is not
  * IMAGESIZE_ANSWERED; the type may be known then.
@@ -39,7 +39,7 @@
 extern "C" {
 #endif
 
-/* The bytes of a block, the bytes that one call reads at most, and the spans apart from one another after which blocks grow. */
+/* The bytes of a block, the bytes that one call reads at most, and the blocks after which they grow. */
 enum { IMAGESIZE_FILE_BLOCK = 4096, IMAGESIZE_FILE_MOST = 64 << 20, IMAGESIZE_FILE_FEW = 64 };
 
 /* What a file is: the numbers of imagesize.h for type and compression, and the size in pixels. */
@@ -51,35 +51,20 @@ typedef struct imagesize_image {
 /* Reads `length` bytes from an offset on, all of them. Returns IMAGESIZE_ANSWERED, or a status of its own such as IMAGESIZE_FAULT. */
 typedef uint32_t imagesize_read(void *reader, uint8_t *bytes, size_t length, uint64_t offset);
 
-/* The parts of a file that were read. */
-struct imagesize_file_known {
-    uint8_t *bytes;
-    imagesize_span *spans;
-    size_t length, count, bytes_room, spans_room;
+/* A probe over a file, and what was read for it: how many blocks, how many bytes in all, and where the last block ends. */
+struct imagesize_file_rounds {
+    imagesize_parts parts;
+    size_t blocks, length;
+    uint64_t end;
 };
 
-/* A buffer that holds this many items. NULL if there is no memory; then the old buffer stays. */
-static inline void *imagesize_file_grown(void *buffer, size_t *room, size_t items, size_t item)
+/* The block around a span. On long walks it is as long as all that was read, so that they take few rounds. */
+static inline imagesize_span imagesize_file_block(const struct imagesize_file_rounds *rounds, imagesize_span wanted, uint64_t total)
 {
-    if (items <= *room) {
-        return buffer;
-    }
-    size_t larger = 2 * items;
-    void *grown = realloc(buffer, larger * item);
-    if (grown != NULL) {
-        *room = larger;
-    }
-    return grown;
-}
-
-/* The block around a part. On long walks it is as long as all that is known, so that they take few rounds. */
-static inline imagesize_span imagesize_file_block(const struct imagesize_file_known *known, imagesize_span wanted, uint64_t total)
-{
-    const imagesize_span *last = known->spans + known->count - (known->count > 0);
     imagesize_span block = {wanted.start - wanted.start % IMAGESIZE_FILE_BLOCK, 0};
     uint64_t end = wanted.start + wanted.len, grown = block.start;
-    if (known->count > 0 && (last->start + last->len == block.start || known->count > IMAGESIZE_FILE_FEW)) {
-        grown += known->length < IMAGESIZE_FILE_MOST - known->length ? known->length : IMAGESIZE_FILE_MOST - known->length;
+    if (rounds->end == block.start || rounds->blocks > IMAGESIZE_FILE_FEW) {
+        grown += rounds->length < IMAGESIZE_FILE_MOST - rounds->length ? rounds->length : IMAGESIZE_FILE_MOST - rounds->length;
     }
     end = end > grown ? end : grown;
     end += (IMAGESIZE_FILE_BLOCK - end % IMAGESIZE_FILE_BLOCK) % IMAGESIZE_FILE_BLOCK;
@@ -87,25 +72,27 @@ static inline imagesize_span imagesize_file_block(const struct imagesize_file_kn
     return block;
 }
 
-/* Reads the block around a part. */
-static inline uint32_t imagesize_file_fetch(struct imagesize_file_known *known, void *reader, imagesize_read *read,
+/* Reads the block around a span, and passes it to the probe, which keeps what it needs of it. */
+static inline uint32_t imagesize_file_round(struct imagesize_file_rounds *rounds, void *reader, imagesize_read *read,
                                             imagesize_span wanted, uint64_t total)
 {
-    imagesize_span block = imagesize_file_block(known, wanted, total);
-    if (block.len > IMAGESIZE_FILE_MOST - known->length) {
+    uint8_t one[IMAGESIZE_FILE_BLOCK], *bytes = one;
+    imagesize_span block = imagesize_file_block(rounds, wanted, total);
+    if (block.len > IMAGESIZE_FILE_MOST - rounds->length) {
         return IMAGESIZE_BUDGET_SPENT;
     }
-    void *bytes = imagesize_file_grown(known->bytes, &known->bytes_room, known->length + (size_t)block.len, 1);
-    known->bytes = bytes != NULL ? (uint8_t *)bytes : known->bytes;
-    void *spans = imagesize_file_grown(known->spans, &known->spans_room, known->count + 1, sizeof *known->spans);
-    known->spans = spans != NULL ? (imagesize_span *)spans : known->spans;
-    if (bytes == NULL || spans == NULL) {
+    if (block.len > sizeof one && (bytes = (uint8_t *)malloc((size_t)block.len)) == NULL) {
         return IMAGESIZE_OUT_OF_MEMORY;
     }
-    uint32_t status = read(reader, known->bytes + known->length, (size_t)block.len, block.start);
+    uint32_t status = read(reader, bytes, (size_t)block.len, block.start);
     if (status == IMAGESIZE_ANSWERED) {
-        known->spans[known->count++] = block;
-        known->length += (size_t)block.len;
+        imagesize_parts_supply(&rounds->parts, block.start, bytes, (size_t)block.len);
+        rounds->blocks++;
+        rounds->length += (size_t)block.len;
+        rounds->end = block.start + block.len;
+    }
+    if (bytes != one) {
+        free(bytes);
     }
     return status;
 }
@@ -113,22 +100,21 @@ static inline uint32_t imagesize_file_fetch(struct imagesize_file_known *known, 
 /* Type and size of the image in an input of `total` bytes, fewer than 2^63. `read` returns some of them. */
 static inline uint32_t imagesize_reader_probe(void *reader, imagesize_read *read, uint64_t total, imagesize_image *image)
 {
-    struct imagesize_file_known known = {(uint8_t *)malloc(IMAGESIZE_FILE_BLOCK), (imagesize_span *)malloc(sizeof(imagesize_span)), 0,
-                                         0, IMAGESIZE_FILE_BLOCK, 1};
+    static const imagesize_image none = {0, 0, 0, 0};
+    struct imagesize_file_rounds rounds;
     imagesize_span wanted = {0, 0};
-    uint32_t status = known.bytes != NULL && known.spans != NULL ? IMAGESIZE_ANSWERED : IMAGESIZE_OUT_OF_MEMORY;
-    image->type = image->compression = 0;
-    image->width = image->height = 0;
+    uint32_t status = IMAGESIZE_ANSWERED;
+    *image = none;
+    imagesize_parts_new(&rounds.parts, total);
+    rounds.blocks = rounds.length = 0;
+    rounds.end = 0;
     while (status == IMAGESIZE_ANSWERED) {
-        status = imagesize_parts_probe(known.bytes, known.length, known.spans, known.count, total, &image->type, &image->compression,
-                                       &image->width, &image->height, &wanted);
+        status = imagesize_parts_answer(&rounds.parts, &image->type, &image->compression, &image->width, &image->height, &wanted);
         if (status != IMAGESIZE_BYTES_WANTED) {
-            break;
+            return status;
         }
-        status = imagesize_file_fetch(&known, reader, read, wanted, total);
+        status = imagesize_file_round(&rounds, reader, read, wanted, total);
     }
-    free(known.bytes);
-    free(known.spans);
     return status;
 }
 

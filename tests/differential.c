@@ -21,6 +21,8 @@
  *     parts     if each requested span is fetched, with bytes around it or in pieces, the result is that of the whole input, and
  *               the call writes nothing else
  *     missing   if one byte of the spans is missing, that byte is requested; if any other byte is missing, the result is the same
+ *     rounds    if each requested span is passed to a probe over spans, with bytes around it or in pieces, the result is that of the
+ *               whole input; each span begins after the last one, and bytes after a gap change nothing
  *     stream    pushed in pieces, with the length known or not, an input has the result of the whole: if the length is known, as soon
  *               as the spans have come. From then on each call returns it. Until then a call writes nothing
  *     ended     a stream that ends after some bytes, or whose length is that of these, has the result of these bytes
@@ -62,12 +64,12 @@ struct answer {
 
 /* The counts. */
 enum counter {
-    INPUTS, PROBES, VECTORS, FRONTS_OF_SAMPLES, CHANGES_OF_ONE, CHANGES_OF_TWO, CALLS, LOCAL, APPENDED, FRONT, BY_PARTS, MISSING, STREAM,
+    INPUTS, PROBES, VECTORS, FRONTS_OF_SAMPLES, CHANGES_OF_ONE, CHANGES_OF_TWO, CALLS, LOCAL, APPENDED, FRONT, BY_PARTS, MISSING, ROUNDS, STREAM,
     ENDED, TYPED, READ, CUT, FAILING, COUNTERS
 };
 static const char *const counter_names[COUNTERS] = {
     "inputs", "probes", "samples", "fronts of samples", "changes of one byte", "changes of two bytes", "calls", "local",
-    "appended", "front", "parts", "missing", "stream", "ended", "typed", "read", "cut", "failing",
+    "appended", "front", "parts", "missing", "rounds", "stream", "ended", "typed", "read", "cut", "failing",
 };
 static unsigned long long counted[COUNTERS], results[TYPES][STATUSES];
 
@@ -736,6 +738,59 @@ static bool without_any(const struct input *of, struct answer whole, const image
     return without(of, whole, place, rests_on(spans, count, place));
 }
 
+/* The result of a probe over spans. If the call wrote a span that is not needed, the status is STATUSES. */
+static struct answer asked(const imagesize_parts *parts, imagesize_span *wanted)
+{
+    struct answer found = unwritten;
+    const imagesize_span before = *wanted;
+    counted[PROBES]++;
+    found.status = imagesize_parts_answer(parts, &found.type, &found.compression, &found.width, &found.height, wanted);
+    bool is_kept = wanted->start == before.start && wanted->len == before.len;
+    return found.status == IMAGESIZE_BYTES_WANTED || is_kept ? as_written(found) : (struct answer){.status = STATUSES};
+}
+
+/* Passing each requested span gives the result of the whole input: with up to `around` bytes on each side, or at most `most` bytes at a
+ * time, as for the parts. Bytes after a gap change nothing. Each span begins after the last one, and no later than the bytes that the
+ * result depends on end. */
+static bool by_rounds(const struct input *of, struct answer whole, uint64_t around, uint64_t most, uint64_t last)
+{
+    imagesize_parts parts;
+    imagesize_span wanted = {0, 0};
+    uint64_t next = 0;
+    counted[ROUNDS]++;
+    imagesize_parts_new(&parts, of->length);
+    for (;;) {
+        struct answer found = asked(&parts, &wanted);
+        if (found.status != IMAGESIZE_BYTES_WANTED) {
+            imagesize_parts_supply(&parts, 0, of->bytes, of->length);
+            return same(whole, found) && same(whole, asked(&parts, &wanted));
+        }
+        if (!within(wanted, of->length) || wanted.start < next || wanted.start >= last) {
+            return false;
+        }
+        next = wanted.start + 1;
+        if (once_in(4)) {
+            imagesize_parts_supply(&parts, next, of->bytes + next, of->length - next);
+        }
+        uint64_t before = wanted.start < around ? wanted.start : around, behind = of->length - wanted.start - wanted.len;
+        wanted.start -= before;
+        wanted.len += before + (behind < around ? behind : around);
+        wanted.len = wanted.len < most ? wanted.len : most;
+        imagesize_parts_supply(&parts, wanted.start, of->bytes + wanted.start, wanted.len);
+    }
+}
+
+/* The end of the last byte that a result depends on. */
+static uint64_t end_of(const imagesize_span *spans, size_t count)
+{
+    uint64_t last = 0;
+    for (size_t at = 0; at < count; at++) {
+        uint64_t end = spans[at].start + spans[at].len;
+        last = end > last ? end : last;
+    }
+    return last;
+}
+
 static struct answer pushed(imagesize_stream *stream, const uint8_t *bytes, size_t length)
 {
     struct answer found = unwritten;
@@ -782,17 +837,12 @@ static size_t some_piece(size_t length)
 static bool by_stream(const struct input *of, struct answer whole, const imagesize_span *spans, size_t count)
 {
     size_t most = some_piece(of->length);
-    uint64_t last = 0;
     counted[STREAM]++;
     if (once_in(2)) {
         uint64_t unknown = once_in(2) ? IMAGESIZE_LENGTH_UNKNOWN : (UINT64_C(1) << 63) + of->length;
         return streamed(of, of->length, unknown, most, whole, UINT64_MAX);
     }
-    for (size_t at = 0; at < count; at++) {
-        uint64_t end = spans[at].start + spans[at].len;
-        last = end > last ? end : last;
-    }
-    return streamed(of, of->length, of->length, most, whole, last);
+    return streamed(of, of->length, of->length, most, whole, end_of(spans, count));
 }
 
 /* A stream that ends after some bytes, or whose length is so many. */
@@ -988,6 +1038,8 @@ static const char *broken(const struct input *of, bool sample)
         : !front_lasts(of, whole, of->length ? below(of->length) : 0)                           ? "front"
         : !(once_in(3) ? by_parts(of, whole, 0, 1 + below(9)) : by_parts(of, whole, below(40), ROOM)) ? "parts"
         : !without_any(of, whole, spans, count)                                                 ? "missing"
+        : !(once_in(3) ? by_rounds(of, whole, 0, 1 + below(9), end_of(spans, count))
+                       : by_rounds(of, whole, below(40), ROOM, end_of(spans, count)))           ? "rounds"
         : !by_stream(of, whole, spans, count)                                                   ? "stream"
         : !stream_ends(of, of->length ? below(of->length) : 0)                                  ? "ended"
                                                                                                 : NULL;

@@ -19,8 +19,7 @@ export function probe(data) {
   const parts = new Parts();
   let block = firstBlock(Infinity);
   for (;;) {
-    parts.add(block.start, bytes.subarray(block.start, block.end));
-    const { wanted, image, error } = library().probeParts(parts, bytes.length);
+    const { wanted, image, error } = parts.supply(block.start, bytes.subarray(block.start, block.end), bytes.length);
     if (error) throw error;
     if (image) return image;
     block = nextBlock(wanted, bytes.length, parts, Infinity);
@@ -75,11 +74,11 @@ async function readBlock(file, { start, end }) {
 // Type and size of the image in a source. Its `read` gives the bytes of a block, and its `total` is known after the first block.
 // If it gives null, the source is a stream, `whole`.
 async function probeSource(source, most, { signal, maxBytes = most, trace = false } = {}) {
-  const parts = new Parts();
-  const read = () => ({ total: source.total, reads: source.whole ? 1 : parts.pieces.length, bytesRead: parts.length });
+  const parts = new Parts({ trace });
+  const read = () => ({ total: source.total, reads: source.whole ? 1 : parts.reads, bytesRead: parts.length });
   try {
     library();
-    const { image, error } = await answerOf(source, parts, { signal, maxBytes, trace });
+    const { image, error } = await answerOf(source, parts, { signal, maxBytes });
     const traced = trace ? { trace: await traceOf(source, parts) } : {};
     if (error) throw Object.assign(error, traced);
     return { ...image, ...read(), ...traced };
@@ -90,28 +89,26 @@ async function probeSource(source, most, { signal, maxBytes = most, trace = fals
   }
 }
 
-async function answerOf(source, parts, { signal, maxBytes, trace }) {
+async function answerOf(source, parts, { signal, maxBytes }) {
   let block = firstBlock(maxBytes);
   for (;;) {
     signal?.throwIfAborted();
     const bytes = await source.read(block);
-    if (bytes === null) return answerOfStream(source, parts, maxBytes, trace);
+    if (bytes === null) return answerOfStream(source, parts, maxBytes);
     const length = Math.min(block.end, source.total) - block.start;
     if (bytes.length !== length) throw new ImageError('CUT_SHORT', `${bytes.length} of ${length} bytes came`);
-    parts.add(block.start, bytes);
-    const answer = library().probeParts(parts, source.total);
+    const answer = parts.supply(block.start, bytes, source.total);
     if (!answer.wanted) return answer;
     block = nextBlock(answer.wanted, source.total, parts, maxBytes);
   }
 }
 
 // The result of a stream. Each chunk is passed once, and stored only for a trace.
-async function answerOfStream(source, parts, maxBytes, trace) {
+async function answerOfStream(source, parts, maxBytes) {
   const stream = new Stream(source.total);
   for await (const chunk of source.whole) {
     const bytes = chunk.subarray(0, maxBytes - parts.length);
-    if (trace) parts.add(parts.length, bytes.slice());
-    else parts.length += bytes.length;
+    parts.add(parts.length, bytes);
     const result = stream.push(bytes);
     if (result) return result;
     if (parts.length === maxBytes) throw limitReached(maxBytes);

@@ -23,11 +23,11 @@ const SPAN = 16;
 const AT = { type: 0, compression: 4, width: 8, height: 16, wanted: 24, count: 40, lent: 48 };
 const TEXT_ROOM = 256;
 
-// How many bytes the state of a push parser has, and the length of an input if it is not known.
-const STREAM_SIZE = 1280;
+// How many bytes the state of a push parser has, or of a probe over spans, and the length of an input if it is not known.
+const STATE_SIZE = 1280;
 const LENGTH_UNKNOWN = 0xffff_ffff_ffff_ffffn;
 
-/** How many bytes a push parser is passed at once, at most. */
+/** How many bytes a push parser or a probe over spans is passed at once, at most. */
 export const PIECE = 65536;
 
 const NO_NAMES = { kind: null, compression: null };
@@ -54,27 +54,46 @@ export class Library {
     this.#memory = exports.memory;
     this.#base = Math.ceil(Number(exports.__heap_base.value) / SPAN) * SPAN;
     this.#answers = Object.fromEntries(Object.entries(AT).map(([name, at]) => [name, this.#pointer(at)]));
-    this.#lend(AT.lent + STREAM_SIZE + PIECE);
+    this.#lend(AT.lent + STATE_SIZE + PIECE);
+  }
+
+  /** The state of a probe over spans at the beginning of an input of `total` bytes. */
+  roundsOf(total) {
+    this.#calls.imagesize_parts_new(this.#pointer(AT.lent), BigInt(total));
+    return this.#state.slice();
   }
 
   /**
-   * The result for the known parts of an input of `total` bytes: `{ wanted }`, a span that is needed, `{ image }` or `{ error }`.
+   * Passes the bytes of an input from an offset on to a probe over spans, whose state changes. Returns `{ wanted }`, a span that is
+   * needed, `{ image }` or `{ error }`.
    */
-  probeParts(parts, total) {
-    return this.#probe(parts, total, beginsPng(parts.pieces[0]?.bytes));
+  supply(state, start, bytes) {
+    this.#bytes.set(state, this.#base + AT.lent);
+    for (let at = 0; at < bytes.length; at += PIECE) {
+      const piece = bytes.subarray(at, at + PIECE);
+      this.#bytes.set(piece, this.#base + AT.lent + STATE_SIZE);
+      const passed = [this.#pointer(AT.lent + STATE_SIZE), BigInt(piece.length)];
+      this.#calls.imagesize_parts_supply(this.#pointer(AT.lent), BigInt(start + at), ...passed);
+    }
+    state.set(this.#state);
+    const status = this.#parse((...told) => this.#calls.imagesize_parts_answer(...told, this.#answers.wanted));
+    return status === BYTES_WANTED ? { wanted: this.#span(AT.wanted) } : this.#told(status);
   }
 
-  #probe({ pieces, length }, total, isPng) {
+  /** The size of a PNG of `total` bytes with these first bytes: `{ wanted }`, `{ image }` or `{ error }`. */
+  probePng(front, total) {
+    return this.#probePng({ pieces: [{ start: 0, bytes: front }], length: front.length }, total);
+  }
+
+  #probePng({ pieces, length }, total) {
     const bytes = AT.lent + SPAN * pieces.length;
     this.#lend(bytes + length);
     this.#putSpans(AT.lent, pieces);
     this.#putPieces(bytes, pieces);
-    this.#putNumber(AT.type, isPng ? PNG : 0);
-    const { type, compression, width, height, wanted } = this.#answers;
+    this.#putNumber(AT.type, PNG);
+    const { width, height, wanted } = this.#answers;
     const known = [this.#pointer(bytes), BigInt(length), this.#pointer(AT.lent), BigInt(pieces.length), BigInt(total)];
-    const status = isPng
-      ? this.#calls.imagesize_png_parts_size(...known, width, height, wanted)
-      : this.#calls.imagesize_probe_parts(...known, type, compression, width, height, wanted);
+    const status = this.#calls.imagesize_png_parts_size(...known, width, height, wanted);
     return status === BYTES_WANTED ? { wanted: this.#span(AT.wanted) } : this.#told(status);
   }
 
@@ -90,7 +109,7 @@ export class Library {
    */
   push(state, bytes) {
     this.#putPieces(AT.lent, [{ bytes: state }, { bytes }]);
-    const passed = [this.#pointer(AT.lent + STREAM_SIZE), BigInt(bytes.length)];
+    const passed = [this.#pointer(AT.lent + STATE_SIZE), BigInt(bytes.length)];
     const status = this.#parse(this.#calls.imagesize_stream_push, ...passed);
     state.set(this.#state);
     return status === BYTES_WANTED ? null : this.#told(status);
@@ -134,7 +153,7 @@ export class Library {
     const known = { pieces: [], length: 0 };
     const spans = [];
     for (;;) {
-      const { wanted } = this.#probe(known, total, true);
+      const { wanted } = this.#probePng(known, total);
       if (!wanted) break;
       spans.push(wanted);
       known.pieces.push({ start: wanted.start, bytes: front.subarray(wanted.start, wanted.start + wanted.len) });
@@ -144,7 +163,7 @@ export class Library {
     return spans;
   }
 
-  // A call of the push parser whose state is in the memory.
+  // A call over the state that is in the memory.
   #parse(call, ...passed) {
     this.#putNumber(AT.type, 0);
     const { type, compression, width, height } = this.#answers;
@@ -153,7 +172,7 @@ export class Library {
 
   get #state() {
     const start = this.#base + AT.lent;
-    return this.#bytes.subarray(start, start + STREAM_SIZE);
+    return this.#bytes.subarray(start, start + STATE_SIZE);
   }
 
   #tellSpans(length, room, count) {

@@ -1,6 +1,8 @@
-// How a probe continues: which block of an input is read next, until the known parts give type and size.
+// How a probe continues: which block of an input is read next, until the blocks give type and size.
 
 import { ImageError } from './errors.js';
+import { beginsPng } from './library.js';
+import { library } from './load.js';
 
 // Blocks begin at multiples of so many bytes.
 const BLOCK = 4096;
@@ -8,15 +10,36 @@ const BLOCK = 4096;
 // After so many each block is twice as long as the one before, so that an input of any length is read in a few more.
 const SINGLE_BLOCKS = 16;
 
-/** The parts of an input that are known. */
+/** The parts of an input that were read. Their bytes are stored only for a trace. */
 export class Parts {
-  /** A piece of the input for each read, and how many bytes they have together. */
-  pieces = [];
+  /** How many parts were read, and how many bytes they have together. */
+  reads = 0;
   length = 0;
 
+  /** The parts themselves, if they are stored. */
+  pieces = [];
+  #stored;
+  #state = null;
+
+  constructor({ trace = false } = {}) {
+    this.#stored = trace;
+  }
+
   add(start, bytes) {
-    this.pieces.push({ start, bytes });
+    this.reads += 1;
     this.length += bytes.length;
+    if (this.#stored) this.pieces.push({ start, bytes: bytes.slice() });
+  }
+
+  /**
+   * Adds the block that was requested of an input of `total` bytes. Returns `{ wanted }`, a span that is needed, `{ image }` or
+   * `{ error }`. The first block has the size of a PNG, or the input is none.
+   */
+  supply(start, bytes, total) {
+    this.add(start, bytes);
+    if (this.reads === 1 && beginsPng(bytes)) return library().probePng(bytes, total);
+    this.#state ??= library().roundsOf(total);
+    return library().supply(this.#state, start, bytes);
   }
 
   /** Makes one piece of those that follow one another from the beginning. */
@@ -24,7 +47,7 @@ export class Parts {
     this.pieces = [{ start: 0, bytes: this.slice(0, this.length) }];
   }
 
-  /** The bytes of a span that is known. */
+  /** The bytes of a span that is stored. */
   slice(start, len) {
     const slice = new Uint8Array(len);
     for (const piece of this.pieces) {
@@ -51,7 +74,7 @@ export function firstBlock(most) {
 export function nextBlock(wanted, total, parts, most) {
   const start = Math.floor(wanted.start / BLOCK) * BLOCK;
   const last = Math.ceil((wanted.start + wanted.len) / BLOCK) * BLOCK;
-  const ahead = start + BLOCK * 2 ** Math.max(0, parts.pieces.length + 1 - SINGLE_BLOCKS);
+  const ahead = start + BLOCK * 2 ** Math.max(0, parts.reads + 1 - SINGLE_BLOCKS);
   const end = Math.min(Math.max(last, ahead), total, start + most - parts.length);
   if (end <= wanted.start) throw limitReached(most);
   return { start, end };

@@ -48,8 +48,7 @@ export class Stream {
   }
 
   #png(total) {
-    const parts = { pieces: [{ start: 0, bytes: this.#front }], length: this.#front.length };
-    const { wanted, ...result } = library().probeParts(parts, Math.min(total, Number.MAX_SAFE_INTEGER));
+    const { wanted, ...result } = library().probePng(this.#front, Math.min(total, Number.MAX_SAFE_INTEGER));
     return wanted ? null : result;
   }
 }

@@ -10,7 +10,7 @@ import { after, test } from 'node:test';
 import { fileURLToPath } from 'node:url';
 import { Worker } from 'node:worker_threads';
 import { ImageError, probe, probeBlob, probeFile, spans } from '../imagesize.js';
-import { Library } from '../library.js';
+import { Library, PNG_SIGNATURE } from '../library.js';
 import { firstBlock, nextBlock } from '../parts.js';
 import { iconOf, jpegBehind, tiffBehind, withGrow } from './support.js';
 
@@ -86,13 +86,13 @@ test('large bytes are answered by a few blocks of them, and no memory grows', ()
 });
 
 test('which bytes are read next', () => {
-  const known = (count, length) => ({ pieces: Array(count), length });
+  const known = (reads, length) => ({ reads, length });
   const next = (...all) => { const { start, end } = nextBlock(...all); return [start, end]; };
   const far = { start: 1_000_000, len: 4 };
   assert.deepEqual(firstBlock(Infinity), { start: 0, end: 4096 });
   assert.deepEqual(firstBlock(4095), { start: 0, end: 4095 });
-  for (const [count, blocks] of [[1, 1], [15, 1], [16, 2], [17, 4], [20, 32]]) {
-    assert.deepEqual(next(far, Infinity, known(count, 0), Infinity), [999_424, 999_424 + 4096 * blocks], `${count} blocks are known`);
+  for (const [reads, blocks] of [[1, 1], [15, 1], [16, 2], [17, 4], [20, 32]]) {
+    assert.deepEqual(next(far, Infinity, known(reads, 0), Infinity), [999_424, 999_424 + 4096 * blocks], `${reads} blocks were read`);
   }
   assert.deepEqual(next({ start: 8190, len: 4 }, Infinity, known(1, 0), Infinity), [4096, 12_288]);
   assert.deepEqual(next(far, 1_000_100, known(1, 0), Infinity), [999_424, 1_000_100]);
@@ -101,12 +101,18 @@ test('which bytes are read next', () => {
 });
 
 const header = readFileSync(new URL('../../../include/imagesize.h', import.meta.url), 'utf8');
-const STREAM_SIZE = Number(/^#define IMAGESIZE_STREAM_SIZE (\d+)/m.exec(header)[1]);
+const [STREAM_SIZE, PARTS_SIZE] = ['STREAM', 'PARTS']
+  .map((name) => Number(new RegExp(`^#define IMAGESIZE_${name}_SIZE (\\d+)`, 'm').exec(header)[1]));
 
 // The buffers that a call of the library is passed: where each begins, how many bytes it has, and how it is aligned.
 const BUFFERS = {
-  imagesize_probe_parts: ([bytes, length, parts, count, , type, compression, width, height, wanted]) => [
-    [bytes, length, 1], [parts, 16 * count, 8], [type, 4, 4], [compression, 4, 4], [width, 8, 8], [height, 8, 8], [wanted, 16, 8],
+  imagesize_parts_new: ([parts]) => [[parts, PARTS_SIZE, 8]],
+  imagesize_parts_supply: ([parts, , bytes, length]) => [[parts, PARTS_SIZE, 8], [bytes, length, 1]],
+  imagesize_parts_answer: ([parts, type, compression, width, height, wanted]) => [
+    [parts, PARTS_SIZE, 8], [type, 4, 4], [compression, 4, 4], [width, 8, 8], [height, 8, 8], [wanted, 16, 8],
+  ],
+  imagesize_png_parts_size: ([bytes, length, parts, count, , width, height, wanted]) => [
+    [bytes, length, 1], [parts, 16 * count, 8], [width, 8, 8], [height, 8, 8], [wanted, 16, 8],
   ],
   imagesize_spans: ([bytes, length, found, room, count]) => [[bytes, length, 1], [found, 16 * room, 8], [count, 8, 8]],
   imagesize_stream_new: ([stream]) => [[stream, STREAM_SIZE, 8]],
@@ -132,19 +138,25 @@ test('what the library is passed is aligned, apart, and within its memory', () =
   };
   const wrapped = Object.fromEntries(Object.keys(BUFFERS).map((name) => [name, noted(name)]));
   const library = new Library(compiled, { exports: { ...exports, ...wrapped } });
-  const pieces = [{ start: 0, bytes: gif }, { start: 20, bytes: gif.subarray(0, 3) }];
-  isGif(library.probeParts({ pieces, length: 15 }, 40).image);
-  assert.deepEqual(passed[0].filter((_, index) => [1, 3, 4].includes(index)), [15, 2, 40]);
+  const rounds = library.roundsOf(200_000);
+  assert.equal(rounds.length, PARTS_SIZE);
+  assert.deepEqual(library.supply(rounds, 0, gif.subarray(0, 5)), { wanted: { start: 5, len: 7 } });
+  const [[, total], [, offset, , given]] = passed.splice(0);
+  assert.deepEqual([total, offset, given], [200_000, 0, 5]);
+  isGif(library.supply(rounds, 0, Buffer.concat([gif, Buffer.alloc(140_000)])).image);
+  assert.deepEqual(passed.splice(0).slice(0, 3).map(([, at, , length]) => [at, length]), [[0, 65536], [65536, 65536], [131072, 8940]]);
+  assert.deepEqual(library.probePng(Uint8Array.of(...PNG_SIGNATURE, 0, 0), 40), { wanted: { start: 16, len: 4 } });
+  assert.deepEqual(passed.splice(0).map(([, length, , count, whole]) => [length, count, whole]), [[10, 1, 40]]);
   assert.equal(library.spans(gif, 3).length, 3);
-  assert.deepEqual(passed.slice(1).map(([, length, , room]) => [length, room]), [[12, 0], [12, 3]]);
+  assert.deepEqual(passed.map(([, length, , room]) => [length, room]), [[12, 0], [12, 3]]);
   const state = library.streamOf(Infinity);
   assert.equal(state.length, STREAM_SIZE);
   assert.equal(library.push(state, gif.subarray(0, 5)), null);
   isGif(library.push(state, gif.subarray(5)).image);
   isGif(library.finish(state).image);
-  assert.deepEqual(passed.splice(3).map(([, , length]) => length).slice(1, 3), [5, 7]);
+  assert.deepEqual(passed.splice(2).map(([, , length]) => length).slice(1, 3), [5, 7]);
   // These bytes reach to the end of the memory.
-  const full = new Uint8Array(exports.memory.buffer.byteLength - passed[1][0]);
+  const full = new Uint8Array(exports.memory.buffer.byteLength - passed[0][0]);
   full.set(gif);
   assert.equal(library.spans(full, 3).length, 3);
 });

@@ -6,10 +6,38 @@ import { tmpdir } from 'node:os';
 import { join } from 'node:path';
 import { test } from 'node:test';
 import { probe, probeBlob, probeFile, probeUrl, spans } from '../imagesize.js';
-import { giveRange, lineOf, withPieces, withServer, worked } from './support.js';
+import { beginsPng } from '../library.js';
+import { library } from '../load.js';
+import { giveRange, jpegBehind, lineOf, withPieces, withServer, worked } from './support.js';
 
 test('from bytes', async () => {
   for (const { bytes, line } of worked) assert.equal(await lineOf(() => probe(bytes)), line);
+});
+
+// The image by a probe over spans, which is passed so many bytes of each requested span, and the number of rounds. Each span begins
+// after the last one.
+function inRounds(bytes, most) {
+  const state = library().roundsOf(bytes.length);
+  let answer = library().supply(state, 0, new Uint8Array());
+  let rounds = 0;
+  for (let before = -1; answer.wanted; rounds += 1) {
+    const { start, len } = answer.wanted;
+    assert.ok(start > before && len > 0 && start + len <= bytes.length);
+    before = start;
+    answer = library().supply(state, start, bytes.subarray(start, start + Math.min(len, most)));
+  }
+  if (answer.error) throw answer.error;
+  return { ...answer.image, rounds };
+}
+
+test('in rounds, each with the requested span or with its first byte', async () => {
+  for (const { bytes, line } of worked.filter((row) => !beginsPng(row.bytes))) {
+    for (const most of [Infinity, 1]) assert.equal(await lineOf(() => inRounds(bytes, most)), line);
+  }
+});
+
+test('records that are far apart take at most two rounds each', () => {
+  for (const records of [10, 100]) assert.ok(inRounds(jpegBehind(records, 60000), Infinity).rounds <= 2 * records + 4);
 });
 
 test('their spans', () => {

@@ -7,8 +7,8 @@ import os
 import sys
 from typing import TYPE_CHECKING, Any, Awaitable, Callable, List, Optional, Protocol, Tuple, TypeVar, Union, overload
 
-from ._library import PNG, Told, png_spans, probe_front, probe_two, probe_whole, spans_of, type_of
-from ._parts import BLOCK, BUDGET, SPENT, WANTED, BytesLike, Parts, blocks, bytes_in, checked, first_block
+from ._library import PNG, Told, png_spans, probe_front, probe_whole, spans_of, type_of
+from ._parts import BLOCK, BUDGET, SPENT, WANTED, BytesLike, Parts, Stored, bytes_in, checked, first_block
 from ._stream import AsyncChunks, Chunks, is_read_once, read_once, read_once_async
 from ._types import ImageError, ImageType, Probed, Size, Span, Status, filename, known_type, probed
 
@@ -143,11 +143,11 @@ def _spans(image: Image, limit: int, budget: int) -> Tuple[int, List[int]]:
         if type_of(image)[1][0] == PNG:
             return _within(limit, png_spans(image, len(image)))
         return spans_of(image, len(image), limit)
-    parts = _parts(image, budget)
+    parts = _parts(image, budget, [])
     if parts.told is SPENT or not parts.total:
         return SPENT[0] if parts.told is SPENT else 0, []
     if parts.told[1][0] == PNG:
-        return _within(limit, png_spans(parts.known, parts.total))
+        return _within(limit, png_spans(parts.front, parts.total))
     filled = parts.filled()
     if filled is None:
         return Status.OUT_OF_MEMORY, []
@@ -166,15 +166,16 @@ def _told(image: Input, budget: int) -> Told:
     return _parts(image, budget).told  # type: ignore[arg-type]
 
 
-def _parts(image: Image, budget: int) -> Parts:
+def _parts(image: Image, budget: int, stored: Optional[Stored] = None) -> Parts:
+    """The blocks of an input up to its result. They are stored where `stored` is a list."""
     if isinstance(image, (str, os.PathLike)):
-        return _at(image, budget, _parts_in)
+        return _at(image, budget, lambda file, most: _parts_in(file, most, stored))
     try:
         view = bytes_in(image)  # type: ignore[arg-type]
     except TypeError:
-        return _parts_of_file(image, budget)  # type: ignore[arg-type]
+        return _parts_of_file(image, budget, stored)  # type: ignore[arg-type]
     with view:
-        return _parts_of_view(view)
+        return _parts_of_view(view, stored)
 
 
 def _at(path: Union[str, _Path], budget: int, read: Callable[[int, int], T]) -> T:
@@ -202,23 +203,11 @@ def _front(file: int, budget: int) -> Tuple[bytes, int]:
 def _told_in(file: int, budget: int) -> Told:
     front, total = _front(file, budget)
     told = probe_front(front, total)
-    if told[0] != WANTED:
-        return told
-    # Most files of more than one block take a second one, and no third.
-    start, end = blocks(told, total)
-    if len(front) + end - start > budget:
-        return SPENT
-    more = os.pread(file, end - start, start)
-    second = probe_two(front, more, start, total) if len(more) == end - start else None
-    if second and second[0] != WANTED:
-        return second
-    parts = Parts(front, total, budget, told)
-    parts.add(more, second)
-    return _followed(file, parts).told
+    return _followed(file, Parts(front, total, budget, None, told)).told if told[0] == WANTED else told
 
 
-def _parts_in(file: int, budget: int) -> Parts:
-    return _followed(file, Parts(*_front(file, budget), budget))
+def _parts_in(file: int, budget: int, stored: Optional[Stored] = None) -> Parts:
+    return _followed(file, Parts(*_front(file, budget), budget, stored))
 
 
 def _followed(file: int, parts: Parts) -> Parts:
@@ -227,14 +216,14 @@ def _followed(file: int, parts: Parts) -> Parts:
     return parts
 
 
-def _parts_of_file(file: BinaryFile, budget: int) -> Parts:
+def _parts_of_file(file: BinaryFile, budget: int, stored: Optional[Stored] = None) -> Parts:
     if not hasattr(file, "read"):
         raise TypeError(f"an image is bytes, a path or an open binary file, and not {type(file).__name__}")
     place = file.tell()
     try:
         file.seek(0, os.SEEK_END)
         total = file.tell()
-        parts = Parts(_read(file, 0, first_block(total, budget)), total, budget)
+        parts = Parts(_read(file, 0, first_block(total, budget)), total, budget, stored)
         while parts.length:
             parts.add(_read(file, parts.start, parts.length))
         return parts
@@ -251,8 +240,8 @@ def _read(file: BinaryFile, start: int, length: int) -> bytes:
     return data
 
 
-def _parts_of_view(view: memoryview) -> Parts:
-    parts = Parts(view[:BLOCK], view.nbytes, sys.maxsize)
+def _parts_of_view(view: memoryview, stored: Optional[Stored] = None) -> Parts:
+    parts = Parts(view[:BLOCK], view.nbytes, sys.maxsize, stored)
     while parts.length:
         parts.add(view[parts.start : parts.start + parts.length])
     return parts

@@ -27,7 +27,7 @@ _WANTED = 30
 _SIGNATURE = b"\x89PNG\r\n\x1a\n"
 _PNG_FRONT = 24  # the size of a PNG depends on no byte after these
 
-_State = ctypes.c_uint64 * (1280 // 8)  # imagesize_stream of imagesize.h
+_State = ctypes.c_uint64 * (1280 // 8)  # imagesize_stream and imagesize_parts of imagesize.h
 
 _CALLS = (
     "imagesize_type",
@@ -35,6 +35,9 @@ _CALLS = (
     "imagesize_probe_parts",
     "imagesize_spans",
     "imagesize_png_parts_size",
+    "imagesize_parts_new",
+    "imagesize_parts_supply",
+    "imagesize_parts_answer",
     "imagesize_stream_new",
     "imagesize_stream_push",
     "imagesize_stream_finish",
@@ -62,12 +65,14 @@ def _loaded() -> ctypes.CDLL:
 _LIBRARY = _loaded()
 _type = _LIBRARY.imagesize_type
 _probe = _LIBRARY.imagesize_probe
-_probe_parts = _LIBRARY.imagesize_probe_parts
 _spans = _LIBRARY.imagesize_spans
 _png = _LIBRARY.imagesize_png_parts_size
+_parts_supply = _LIBRARY.imagesize_parts_supply
 _stream_new = _LIBRARY.imagesize_stream_new
 _QUICK = ctypes.PyDLL(_LIBRARY._name)  # for calls over few bytes, which are over before another thread would run
 _probe_few = _QUICK.imagesize_probe_parts
+_parts_new = _QUICK.imagesize_parts_new
+_parts_answer = _QUICK.imagesize_parts_answer
 _stream_push = _QUICK.imagesize_stream_push
 _stream_finish = _QUICK.imagesize_stream_finish
 
@@ -84,9 +89,6 @@ class _Room:
         self.total = ctypes.c_uint64()
         self.spans, self.count = ctypes.c_void_p(), ctypes.c_size_t()
         self.of_front = (self.length, self.front, ctypes.c_size_t(1), self.total, *self.told)
-        self.two, self.length_of_two = (ctypes.c_uint64 * 4)(), ctypes.c_size_t()
-        self.of_two = (self.length_of_two, self.two, ctypes.c_size_t(2), self.total, *self.told)
-        self.of_parts = (self.length, self.spans, self.count, self.total, *self.told)
         self.of_png = (self.length, self.spans, self.count, self.total, *self.told[2:])
 
 
@@ -140,38 +142,6 @@ def probe_front(front: bytes, total: int) -> Told:
     return told
 
 
-def probe_two(front: bytes, more: bytes, start: int, total: int) -> Told:
-    """Type and size of the image in an input of `total` bytes, of which the first are known, and more from an offset on.
-
-    The input is no PNG.
-    """
-    try:
-        room = _ROOMS.pop()
-    except IndexError:
-        room = _Room()
-    room.numbers[0] = 0
-    room.total.value = total
-    room.two[:] = [0, len(front), start, len(more)]
-    known = front + more
-    room.length_of_two.value = len(known)
-    told = _probe_few(known, *room.of_two), room.read()
-    _ROOMS.append(room)
-    return told
-
-
-def probe_parts(known: bytes, spans: "array[int]", total: int) -> Told:
-    """Type and size of the image in an input of `total` bytes, whose parts are known: start and length of each.
-
-    The input is no PNG: its size is in the first block, so no other part is requested.
-    """
-    room = _room(len(known), total)
-    room.spans.value, numbers = spans.buffer_info()
-    room.count.value = numbers // 2
-    told = _probe_parts(known, *room.of_parts), room.read()
-    _ROOMS.append(room)
-    return told
-
-
 def _probe_png(known: bytes, spans: "array[int]", total: int) -> Told:
     """The size of a PNG, whose parts are known."""
     room = _room(len(known), total)
@@ -194,6 +164,30 @@ def png_spans(front: bytes, total: int) -> List[int]:
         spans.extend((start, length))
         status, told = _probe_png(known, spans, total)
     return list(spans)
+
+
+class Rounds:
+    """A probe over spans of an input of `total` bytes, which is passed those that it requests.
+
+    The input is no PNG: its size is in the first block, so no other span is requested.
+    """
+
+    __slots__ = ("state",)
+
+    def __init__(self, total: int) -> None:
+        self.state = _State()
+        _parts_new(self.state, ctypes.c_uint64(total))
+
+    def supply(self, start: int, data: bytes) -> None:
+        """Passes the bytes from an offset on."""
+        _parts_supply(self.state, ctypes.c_uint64(start), data, ctypes.c_size_t(len(data)))
+
+    def answer(self) -> Told:
+        """Type and size of the image. The status is `BYTES_WANTED` if another span is needed."""
+        room = _room(0, 0)
+        told = _parts_answer(self.state, *room.told), room.read()
+        _ROOMS.append(room)
+        return told
 
 
 class Stream:

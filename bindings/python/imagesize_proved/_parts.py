@@ -1,4 +1,4 @@
-"""The known parts of an input, from which the library returns a result, or the span that it still needs."""
+"""The blocks of an input that are fetched, one after another, until the library returns a result."""
 
 from __future__ import annotations
 
@@ -6,9 +6,9 @@ import errno
 import mmap
 import operator
 from array import array
-from typing import TYPE_CHECKING, Optional, Tuple, Union
+from typing import TYPE_CHECKING, List, Optional, Tuple, Union
 
-from ._library import Told, probe_front, probe_parts
+from ._library import Rounds, Told, probe_front
 from ._types import Status
 
 if TYPE_CHECKING:
@@ -17,6 +17,9 @@ else:  # which takes no parameter before Python 3.12
     _Array = array
 
 BytesLike = Union[bytes, bytearray, memoryview, mmap.mmap, _Array]
+
+Stored = List[Tuple[int, bytes]]
+"""The start and the bytes of each block that is stored."""
 
 BLOCK = 4096
 """The bytes of a block. A requested span is fetched with the blocks around it."""
@@ -65,54 +68,43 @@ def bytes_in(data: BytesLike) -> memoryview:
     return view if view.ndim == 1 and view.itemsize == 1 else memoryview(bytes(view))
 
 
-def blocks(told: Told, total: int) -> Tuple[int, int]:
-    """Start and end of the whole blocks around the requested span."""
-    start, length = told[1][4:]
-    end = start + length
-    end += -end % BLOCK
-    return start - start % BLOCK, end if end < total else total
-
-
 class Parts:
-    """The known parts of an input of `total` bytes, beginning with its first block. `told` may be the library's result for that.
+    """An input of `total` bytes, whose blocks are fetched, beginning with the first one.
 
     The caller fetches `length` bytes from offset `start` and passes them to `add`. If `length` is 0, `told` is the final result:
-    the library's, or `SPENT` if more than `budget` bytes are needed.
+    the library's, or `SPENT` if more than `budget` bytes are needed. The blocks are stored only where `stored` is a list. `told` may
+    be the library's result for the first one.
     """
 
-    __slots__ = ("total", "budget", "known", "spans", "rounds", "start", "last", "length", "told")
+    __slots__ = ("total", "budget", "stored", "taken", "reads", "start", "length", "front", "rounds", "told")
 
-    def __init__(self, front: BytesLike, total: int, budget: int, told: Optional[Told] = None) -> None:
+    def __init__(
+        self, front: BytesLike, total: int, budget: int, stored: Optional[Stored] = None, told: Optional[Told] = None
+    ) -> None:
         self.total = total
         self.budget = budget
-        self.start = self.last = 0
+        self.stored = stored
+        self.taken = self.reads = self.start = 0
         self.length = first_block(total, budget)
-        self.known = self._taken(front)
-        self.spans = array("Q", (0, self.length))
-        self.rounds = 1
-        self.told = told or probe_front(self.known, total)
+        self.front = self._taken(front)
+        self.rounds: Optional[Rounds] = None
+        self.told = told or probe_front(self.front, total)
         self._go_on()
 
-    def add(self, data: BytesLike, told: Optional[Told] = None) -> None:
-        """Adds the requested bytes. Raises `EOFError` if there are fewer, and `ValueError` if there are more.
-
-        `told` may be the library's result for all that is known then.
-        """
-        self.known += self._taken(data)
-        if self.start == self.spans[-2] + self.spans[-1]:
-            self.spans[-1] += self.length
-        else:
-            self.spans.extend((self.start, self.length))
-        if self.start > self.last:
-            self.last = self.start
-        self.rounds += 1
-        self.told = told or probe_parts(self.known, self.spans, self.total)
+    def add(self, data: BytesLike) -> None:
+        """Adds the requested bytes. Raises `EOFError` if there are fewer, and `ValueError` if there are more."""
+        data = self._taken(data)
+        if self.rounds is None:  # most inputs have their result in the first block, which one call finds
+            self.rounds = Rounds(self.total)
+            self.rounds.supply(0, self.front)
+        self.rounds.supply(self.start, data)
+        self.told = self.rounds.answer()
         self._go_on()
 
     def filled(self) -> Optional[mmap.mmap]:
-        """An input of this length that has the known parts, and zeros elsewhere; None where there is no memory for it.
+        """An input of this length that has the stored blocks, and zeros elsewhere; None where there is no memory for it.
 
-        Memory is taken for the known parts alone.
+        Memory is taken for the blocks alone.
         """
         try:
             room = mmap.mmap(-1, self.total, _SPARSE)
@@ -120,10 +112,8 @@ class Parts:
             if error.errno != errno.ENOMEM:
                 raise
             return None
-        taken = 0
-        for start, length in zip(self.spans[::2], self.spans[1::2]):
-            room[start : start + length] = self.known[taken : taken + length]
-            taken += length
+        for start, block in self.stored or ():
+            room[start : start + len(block)] = block
         return room
 
     def _taken(self, data: BytesLike) -> bytes:
@@ -132,18 +122,22 @@ class Parts:
         if len(data) != self.length:
             error = EOFError if len(data) < self.length else ValueError
             raise error(f"{self.length} bytes from place {self.start} on were wanted, and {len(data)} came")
+        if self.stored is not None:
+            self.stored.append((self.start, data))
+        self.taken += self.length
+        self.reads += 1
         return data
 
     def _go_on(self) -> None:
         if self.told[0] != WANTED:
             self.length = 0
             return
-        # No block is fetched twice. The more rounds there were, the more blocks, so that a long walk takes few rounds.
-        self.start, end = blocks(self.told, self.total)
-        if self.rounds >= 8:
-            end = min(max(end, self.start + (BLOCK << self.rounds // 2 - 3)), self.total)
-        if self.start < self.last:
-            end = min(end, *(known for known in self.spans[::2] if known > self.start))
-        self.length = end - self.start
-        if len(self.known) + self.length > self.budget:
+        # The more blocks were read, the longer is the next one, so that a long walk takes few of them.
+        start, length = self.told[1][4:]
+        self.start, end = start - start % BLOCK, start + length
+        end += -end % BLOCK
+        if self.reads >= 8:
+            end = max(end, self.start + (BLOCK << self.reads // 2 - 3))
+        self.length = min(end, self.total) - self.start
+        if self.taken + self.length > self.budget:
             self.told, self.length = SPENT, 0

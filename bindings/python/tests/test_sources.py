@@ -11,6 +11,7 @@ import signal
 import struct
 import sys
 import tempfile
+import tracemalloc
 import unittest
 from functools import partial
 from typing import Any, List, Tuple
@@ -117,18 +118,16 @@ class Reading(unittest.TestCase):
         self.assertEqual(imagesize.probe(image).size, (7, 5))
         self.assertEqual(image.ends, 1)
 
-    def test_no_byte_twice(self) -> None:
-        """The requested span goes from an unknown block into a known one."""
-        spans = [(16384, 4), (4099, 1), (8192, 9000)]
-        wants = iter([*((30, [0, 0, 0, 0, *span]) for span in spans), (0, [10, 0, 640, 480, 0, 0])])
-
-        def told(*_: Any) -> Any:
-            return next(wants)
-
-        image = Sliced(bytes(20000))
-        with mock.patch("imagesize_proved._parts.probe_front", told), mock.patch("imagesize_proved._parts.probe_parts", told):
-            self.assertEqual(image.probe(), (640, 480))
-        self.assertEqual(image.fetched, [(0, 4096), (16384, 3616), (4096, 4096), (8192, 8192)])
+    def test_blocks_are_not_stored(self) -> None:
+        """A long walk holds the present block and the one before it, and not all of them."""
+        image = Sliced(jpeg(1 << 20, 2))
+        tracemalloc.start()
+        try:
+            self.assertEqual(image.probe(), (7, 5))
+            _, most = tracemalloc.get_traced_memory()
+        finally:
+            tracemalloc.stop()
+        self.assertLess(most, sum(length for _, length in image.fetched) * 0.6)
 
     def test_directory_at_the_end(self) -> None:
         entries = b"\x03\0" + b"".join(struct.pack("<HHII", tag, 4, 1, size) for tag, size in ((256, 5), (257, 7), (258, 8)))

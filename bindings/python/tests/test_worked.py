@@ -10,8 +10,11 @@ import tempfile
 import unittest
 from concurrent.futures import ThreadPoolExecutor
 from typing import Any, Callable, Iterator, List, Optional, Tuple
+from unittest import mock
 
 import imagesize_proved as imagesize
+from imagesize_proved._library import Rounds
+from imagesize_proved._types import probed
 
 from . import EXAMPLES
 
@@ -57,6 +60,19 @@ def by_fetch(data: bytes) -> imagesize.Probed:
     return imagesize.probe_with(lambda start, length: data[start : start + length], len(data))
 
 
+def by_rounds(data: bytes, most: int) -> imagesize.Probed:
+    """By a probe over spans, which gets at most so many bytes of each requested span. Each begins after the last one."""
+    rounds, last = Rounds(len(data)), -1
+    told = rounds.answer()
+    while told[0] == imagesize.Status.BYTES_WANTED:
+        start, length = told[1][4:]
+        assert last < start and 0 < length <= len(data) - start, (last, start, length)
+        last = start
+        rounds.supply(start, data[start : start + min(length, most)])
+        told = rounds.answer()
+    return probed(told)
+
+
 class Worked(unittest.TestCase):
     def setUp(self) -> None:
         folder = tempfile.TemporaryDirectory()
@@ -92,6 +108,22 @@ class Worked(unittest.TestCase):
             with self.subTest(data=data):
                 self.assertEqual(line(by_coroutine, data), wanted)
                 self.assertEqual(line(by_fetch, data), wanted)
+
+    def test_rounds(self) -> None:
+        for data, wanted, _ in rows():
+            for most in (1, 5, len(data)):
+                with self.subTest(data=data, most=most):
+                    if not data.startswith(PNG[:8]):  # which has a call of its own
+                        self.assertEqual(line(by_rounds, data, most), wanted)
+
+    def test_rounds_of_many_records(self) -> None:
+        """A record takes two rounds at most, however far it is from the next one."""
+        for count in (10, 100):
+            data = b"\xff\xd8" + (b"\xff\xe0\xff\xff" + bytes(65533)) * count + b"\xff\xc0\0\x11\x08\0\x05\0\x07" + bytes(8)
+            with mock.patch.object(Rounds, "supply", autospec=True, side_effect=Rounds.supply) as supply:
+                self.assertEqual(by_rounds(data, len(data)).size, (7, 5))
+            self.assertLessEqual(supply.call_count, 2 * count + 4)
+            self.assertLess(sum(len(call[0][2]) for call in supply.call_args_list), 5 * count + 40)
 
     def test_type_and_size_alone(self) -> None:
         for data, wanted, _ in rows():

@@ -192,31 +192,30 @@ class Buffers(unittest.TestCase):
         self.assertEqual(len(references), 5)
         self.results(references, 5)
 
-    def test_second_block(self) -> None:
-        image = b"\xff\xd8\xff\xe0\x7f\xfe" + bytes(32764) + b"\xff\xc0\0\x11\x08\0\x05\0\x07" + bytes(800)
-        self.assertEqual(imagesize.probe(image).size, (7, 5))
+    def test_rounds(self) -> None:
+        """The state of a probe over spans is as long and as aligned as the header says. Each block is passed once."""
+        header = (PACKAGE.parent.parent / "include" / "imagesize.h").read_text()
+        (size,) = map(int, re.findall(r"^#define IMAGESIZE_PARTS_SIZE (\d+)", header, re.MULTILINE))
+        image = b"\xff\xd8" + (b"\xff\xe0\xff\xff" + bytes(65533)) * 2 + b"\xff\xc0\0\x11\x08\0\x05\0\x07" + bytes(8)
         with tempfile.NamedTemporaryFile() as file:
             file.write(image)
             file.flush()
-            found = self.passed("_probe_few", lambda: self.assertEqual(imagesize.probe(file.name).size, (7, 5)))
-        ((*_,), (data, length, spans, count, total, *references)) = found
-        known = image[:4096] + image[32768:]
-        self.assertEqual((data, length, list(spans), count, total), (known, len(known), [0, 4096, 32768, len(image) - 32768], 2, len(image)))
-        self.assertEqual(len(references), 5)
-        self.results(references, 5)
-
-    def test_parts(self) -> None:
-        image = b"\xff\xd8" + (b"\xff\xe0\xff\xff" + bytes(65533)) * 2 + b"\xff\xc0\0\x11\x08\0\x05\0\x07" + bytes(8)
-        found = self.passed("_probe_parts", lambda: imagesize.probe(bytearray(image)))
-        self.assertEqual(len(found), 2)
-        for number, (data, length, _, count, total, *references) in enumerate(found):
-            self.assertEqual((length, count, total, len(references)), (len(data), 2 + number, len(image), 5))
-            self.results(references, 5)
-
-    def test_parts_that_touch_are_one(self) -> None:
-        image = b"\xff\xd8" + b"\xff\xe0\0\2" * 4096 + b"\xff\xc0\0\x11\x08\0\x05\0\x07" + bytes(8)
-        found = self.passed("_probe_parts", lambda: imagesize.probe(bytearray(image)))
-        self.assertEqual([(length, count) for _, length, _, count, *_ in found], [(8192, 1), (12288, 1), (16384, 1), (len(image), 1)])
+            forms: List[Any] = [bytearray(image), file, file.name]
+            for form in forms:
+                begun, supplied, answered = (
+                    self.passed(call, lambda: self.assertEqual(imagesize.probe(form).size, (7, 5)))
+                    for call in ("_parts_new", "_parts_supply", "_parts_answer")
+                )
+                self.assertEqual([total for _, total in begun], [len(image)])
+                blocks = [(0, 4096), (65536, 4096), (131072, len(image) - 131072)]
+                self.assertEqual([(start, length) for _, start, _, length in supplied], blocks)
+                self.assertEqual([data for _, _, data, _ in supplied], [image[start : start + length] for start, length in blocks])
+                for state, *_ in (*begun, *supplied, *answered):
+                    self.assertEqual((ctypes.sizeof(state), ctypes.alignment(state)), (size, 8))
+                self.assertEqual(len(answered), 2)
+                for _, *references in answered:
+                    self.assertEqual(len(references), 5)
+                    self.results(references, 5)
 
     def test_stream(self) -> None:
         """The state of a push parser is as long and as aligned as the header says. No call changes one that another has."""

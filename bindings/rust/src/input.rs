@@ -1,6 +1,6 @@
 //! An input that is fetched in the blocks that the library requests.
 
-use crate::sys::{self, Parts, Span, Told};
+use crate::sys::{self, Parts, Rounds, Span, Told};
 use crate::{ImageError, ImageResult, ImageSize, ImageType};
 use std::fs::File;
 use std::io::{Read, Seek, SeekFrom};
@@ -29,8 +29,11 @@ pub(crate) struct Input<R> {
     place: u64,
     /// The length of the input.
     total: u64,
-    /// The bytes of all spans, one span after another.
+    /// How many bytes are fetched.
+    held: usize,
+    /// The bytes of all spans, one span after another; or those of the last block alone.
     bytes: Vec<u8>,
+    /// What is fetched. Spans that touch are one.
     spans: Vec<Span>,
 }
 
@@ -66,14 +69,33 @@ impl<R: Read + Seek> Input<R> {
             base,
             place,
             total: end.saturating_sub(base),
+            held: 0,
             bytes: Vec::new(),
             spans: Vec::new(),
         }
     }
 
-    /// Type and size of the image in the input.
-    pub(crate) fn probe(self) -> ImageResult<Told> {
-        self.ask(sys::probe_parts)
+    /// Type and size of the image in the input. Only the last block is stored.
+    ///
+    /// Each round fetches the first byte that is requested, and then requests a later one. So the loop ends.
+    pub(crate) fn probe(mut self) -> ImageResult<Told> {
+        self.fetch(FIRST)?;
+        // Most inputs have their result in the first block, which one call finds.
+        let mut wanted = match sys::probe_parts(&self.bytes, &self.spans, self.total) {
+            Parts::Told(told) => return Ok(told),
+            Parts::Wanted(span) => span,
+        };
+        let mut rounds = Rounds::new(self.total);
+        rounds.supply(0, &self.bytes);
+        loop {
+            self.bytes.clear();
+            let start = self.fetch(wanted)?;
+            rounds.supply(start, &self.bytes);
+            match rounds.answer() {
+                Parts::Told(told) => return Ok(told),
+                Parts::Wanted(span) => wanted = span,
+            }
+        }
     }
 
     /// The type of the image in the input.
@@ -102,12 +124,12 @@ impl<R: Read + Seek> Input<R> {
         }
     }
 
-    /// Fetches the block around a span.
-    fn fetch(&mut self, wanted: Span) -> ImageResult<()> {
-        let known = self.bytes.len();
-        if known >= MOST_BYTES {
+    /// Fetches the block around a span, after the bytes that are stored. Returns its offset.
+    fn fetch(&mut self, wanted: Span) -> ImageResult<u64> {
+        if self.held >= MOST_BYTES {
             return Err(ImageError::of_status(sys::BUDGET_SPENT));
         }
+        let known = self.bytes.len();
         let block = self.block(wanted);
         let place = self.base + block.start;
         if place != self.place {
@@ -116,11 +138,12 @@ impl<R: Read + Seek> Input<R> {
         self.bytes.resize(known + block.len as usize, 0);
         self.reader.read_exact(&mut self.bytes[known..])?;
         self.place = place + block.len;
+        self.held += block.len as usize;
         match self.spans.last_mut() {
             Some(last) if last.start + last.len == block.start => last.len += block.len,
             _ => self.spans.push(block),
         }
-        Ok(())
+        Ok(block.start)
     }
 
     /// The block around a span. If it continues the last one, or if many spans are apart, it is as long as all bytes so far, so
@@ -128,9 +151,8 @@ impl<R: Read + Seek> Input<R> {
     fn block(&self, wanted: Span) -> Span {
         let start = wanted.start - wanted.start % BLOCK;
         let goes_on = matches!(self.spans.last(), Some(last) if last.start + last.len == start);
-        let held = self.bytes.len();
         let grown = if goes_on || self.spans.len() > FEW_SPANS {
-            held.min(MOST_BYTES - held) as u64
+            self.held.min(MOST_BYTES - self.held) as u64
         } else {
             0
         };

@@ -14,8 +14,9 @@ pub(crate) const BYTES_WANTED: u32 = 30;
 /// The longest text of the library has fewer bytes.
 const TEXT_ROOM: usize = 128;
 
-/// The size of a push parser's memory in bytes, as the header has it.
+/// The sizes in bytes of the memory of a push parser and of a probe over spans, as the header has them.
 pub(crate) const STREAM_SIZE: usize = 1280;
+pub(crate) const PARTS_SIZE: usize = 1280;
 
 /// No input has more bytes. It is also the length of an input whose length is not known.
 pub(crate) const LONGEST: u64 = i64::MAX as u64;
@@ -39,6 +40,12 @@ pub(crate) struct Span {
 #[derive(Clone)]
 pub(crate) struct Stream {
     opaque: MaybeUninit<[u64; STREAM_SIZE / 8]>,
+}
+
+/// The memory of a probe over spans, which the library alone reads and writes.
+#[repr(C)]
+pub(crate) struct Rounds {
+    opaque: MaybeUninit<[u64; PARTS_SIZE / 8]>,
 }
 
 extern "C" {
@@ -95,6 +102,16 @@ extern "C" {
         spans: *const Span,
         count: usize,
         total: u64,
+        width: *mut u64,
+        height: *mut u64,
+        wanted: *mut Span,
+    ) -> u32;
+    fn imagesize_parts_new(parts: *mut Rounds, total: u64);
+    fn imagesize_parts_supply(parts: *mut Rounds, offset: u64, bytes: *const u8, length: usize);
+    fn imagesize_parts_answer(
+        parts: *const Rounds,
+        kind: *mut u32,
+        compression: *mut u32,
         width: *mut u64,
         height: *mut u64,
         wanted: *mut Span,
@@ -240,6 +257,42 @@ impl Stream {
             )
         };
         told
+    }
+}
+
+impl Rounds {
+    /// Begins an input of `total` bytes, which is no PNG.
+    pub(crate) fn new(total: u64) -> Rounds {
+        let mut rounds = Rounds {
+            opaque: MaybeUninit::uninit(),
+        };
+        // SAFETY: the pointer comes from memory of the header's size, which nothing else holds. It may hold anything.
+        unsafe { imagesize_parts_new(&mut rounds, total) };
+        rounds
+    }
+
+    /// Passes the bytes from an offset on.
+    pub(crate) fn supply(&mut self, offset: u64, bytes: &[u8]) {
+        // SAFETY: the pointers come from memory that `new` wrote and that nothing else holds, and from a slice of this length.
+        unsafe { imagesize_parts_supply(self, offset, bytes.as_ptr(), bytes.len()) };
+    }
+
+    /// The result of the input, or the span that is requested next.
+    pub(crate) fn answer(&self) -> Parts {
+        let mut told = Told::default();
+        let mut wanted = Span::default();
+        // SAFETY: the pointers come from memory that `new` wrote, and from numbers and a span that nothing else holds.
+        told.status = unsafe {
+            imagesize_parts_answer(
+                self,
+                &mut told.kind,
+                &mut told.compression,
+                &mut told.width,
+                &mut told.height,
+                &mut wanted,
+            )
+        };
+        Parts::of(told, wanted)
     }
 }
 

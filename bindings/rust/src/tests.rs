@@ -103,14 +103,16 @@ fn statuses_are_those_of_the_header() {
 }
 
 #[test]
-fn a_stream_has_the_size_of_the_header() {
-    let define = format!("#define IMAGESIZE_STREAM_SIZE {}", sys::STREAM_SIZE);
-    assert!(header_text().lines().any(|line| line == define), "{define}");
+fn the_memory_of_a_probe_has_the_size_of_the_header() {
+    for (name, size) in [("STREAM", sys::STREAM_SIZE), ("PARTS", sys::PARTS_SIZE)] {
+        let define = format!("#define IMAGESIZE_{name}_SIZE {size}");
+        assert!(header_text().lines().any(|line| line == define), "{define}");
+    }
     assert_eq!(std::mem::size_of::<sys::Stream>(), sys::STREAM_SIZE);
-    assert_eq!(
-        std::mem::align_of::<sys::Stream>(),
-        std::mem::align_of::<u64>()
-    );
+    assert_eq!(std::mem::size_of::<sys::Rounds>(), sys::PARTS_SIZE);
+    let aligned = std::mem::align_of::<u64>();
+    assert_eq!(std::mem::align_of::<sys::Stream>(), aligned);
+    assert_eq!(std::mem::align_of::<sys::Rounds>(), aligned);
 }
 
 #[test]
@@ -141,5 +143,70 @@ fn families_are_those_of_the_header() {
         };
         let number = sys::compression_family(found.numbers());
         assert_eq!(header.get(name), Some(&number), "{found:?}");
+    }
+}
+
+/// The bytes of each test vector of the repository that is no PNG.
+fn worked() -> Vec<Vec<u8>> {
+    let path = concat!(env!("CARGO_MANIFEST_DIR"), "/../../examples/out/worked.tsv");
+    let text = std::fs::read_to_string(path).expect("the test vectors, which examples/run writes");
+    let digits = |row: &str| row.split('\t').next().map(|hex| hex.replace('-', ""));
+    let byte = |digits: &str| u8::from_str_radix(digits, 16).expect("two digits a byte");
+    text.lines()
+        .filter_map(digits)
+        .map(|hex| {
+            (0..hex.len())
+                .step_by(2)
+                .map(|at| byte(&hex[at..at + 2]))
+                .collect()
+        })
+        .filter(|bytes: &Vec<u8>| !bytes.starts_with(b"\x89PNG\r\n\x1a\n"))
+        .collect()
+}
+
+/// The result of rounds that bring at most so many bytes of each requested span, and their number. Each span begins after the last one.
+fn by_rounds(bytes: &[u8], most: u64) -> (sys::Told, usize) {
+    let mut rounds = sys::Rounds::new(bytes.len() as u64);
+    let (mut next, mut count) = (0, 0);
+    loop {
+        let span = match rounds.answer() {
+            sys::Parts::Told(told) => return (told, count),
+            sys::Parts::Wanted(span) => span,
+        };
+        count += 1;
+        assert!(span.start >= next && span.len > 0 && span.start + span.len <= bytes.len() as u64);
+        next = span.start + 1;
+        let end = span.start + span.len.min(most);
+        rounds.supply(span.start, &bytes[span.start as usize..end as usize]);
+    }
+}
+
+#[test]
+fn rounds_lead_to_the_result_of_the_whole() {
+    let inputs = worked();
+    assert!(inputs.len() > 200);
+    for bytes in inputs {
+        let total = bytes.len() as u64;
+        let all = sys::Span {
+            start: 0,
+            len: total,
+        };
+        let whole = sys::probe_parts(&bytes, &[all], total).told();
+        for most in [1, 5, u64::MAX] {
+            let (told, _) = by_rounds(&bytes, most);
+            assert!(Some(told) == whole, "{bytes:?}, {most}");
+        }
+    }
+}
+
+#[test]
+fn a_record_takes_two_rounds_at_most() {
+    for segments in [10, 100] {
+        let segment = [&b"\xff\xe0\xff\xff"[..], &[0; 65533]].concat();
+        let frame = &b"\xff\xc0\0\x11\x08\0\x05\0\x07\x03\x01\x22\0\x02\x11\x01\x03\x11\x01"[..];
+        let bytes = [&b"\xff\xd8"[..], &segment.repeat(segments), frame].concat();
+        let (told, rounds) = by_rounds(&bytes, u64::MAX);
+        assert_eq!(told.size().expect("a size").width, 7);
+        assert!(rounds <= 2 * segments + 4, "{rounds}");
     }
 }

@@ -1,21 +1,22 @@
 -- What the proofs over memory of a C caller cite.
-pub use Rattle.std.proofs.Common.{◌≡◌, ℕ, Bool, true, false, List, [], ◌∷◌, ◌+◌, ◌≤◌, ◌++◌, length, refl, w8, w32, w64, MutBor, Bor}
+pub use Rattle.std.proofs.Common.{◌≡◌, ℕ, Bool, true, false, List, [], ◌∷◌, ◌+◌, ◌≤◌, ◌++◌, length, refl, ap, w8, w32, w64, MutBor, Bor}
 pub use Rattle.std.proofs.raw_atomic.Walks.{proved}
 pub use base.Fraction.{full_share}
 pub use base.Logic.{id⊢, sep}
-pub use base.Fml.{ftrue, flft, flent}
+pub use base.Fml.{ftrue, flft, flent, Incl-refl}
 pub use mir.Syntax.{named}
 pub use mir.Val.{Val, vint, vptr, vunit}
+pub use contract.BorrowLft.{⊑_static}
 pub use contract.Monad.{fact}
 pub use contract.Running.{tables}
 pub use prog.Wp.{WpFn}
 pub use types.Logic.{sem}
-pub use types.Kit.{‵, raw, ◌⊛◌, some, later, prop, ◌$◌, ◌∵◌, !, qed, done, move, keep, drop, use1, use2, use3, split, join, fsplit, feq_i, pick, await, regoal, suffices, frame, group, show}
+pub use types.Kit.{‵, raw, ◌⊛◌, some, later, prop, ◌$◌, ◌∵◌, !, qed, done, move, keep, drop, use1, use2, use3, split, join, fsplit, feq_i, feq_l, pick, await, regoal, suffices, frame, group, show}
 pub use types.SemTy.{Body}
 pub use types.Tokens.{lft_new, lft_end}
 pub use types.Run.{enter, of_opd, addr, stop, unit_lit, no_more, and_then, returns}
 pub use types.ByLocal.{alloc_all, pass_all, free_all, look_at, get, through, sets, lands_as}
-pub use denote.Builtin.{u8, u32, u64}
+pub use denote.Builtin.{u8, u32, u64, unit}
 pub use denote.Exit.{yes}
 pub use denote.Laws.{Is, shows}
 pub use denote.Lend.{lends_ref, ref_back}
@@ -37,7 +38,7 @@ pub use types.Run.{assigns, init, load, look}
 pub use denote.Memory.{lone}
 pub use denote.Plain.{uint_vals, uint_Tells}
 pub use types.Tokens.{lent_back}
-pub use denote.Lend.{lends_free}
+pub use denote.Lend.{lends_free, lends_shr}
 pub use denote.Ref.{ShrRef}
 pub use denote.RattleType.{RattleType, owns}
 pub use denote.Triple.Entry.{alive}

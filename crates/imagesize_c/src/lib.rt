@@ -9,6 +9,7 @@ pub mod parts;
 pub mod parts_alone;
 pub mod png;
 pub mod queries;
+pub mod rounds;
 pub mod spans;
 mod status;
 pub mod streams;

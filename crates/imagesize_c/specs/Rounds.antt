@@ -1,0 +1,36 @@
+-- What the spans that were passed to a probe say, and what the calls over it write.
+use Rattle.std.specs.Prelude.{◌≡◌, ℕ, ◌+◌, ◌-◌, ◌<◌, ◌≤◌, ◌^◌, List, length, min, Option, Result}
+use Rattle.imagesize.specs.Parted.{IfFound}
+use Rattle.imagesize.specs.declared.parts.PartsAnswer.{PartsAnswer}
+use Rattle.imagesize.specs.declared.parts.PartsAnswer.TheVariants.{Found, Wanted}
+use Rattle.imagesize.specs.declared.types.ImageType.{ImageType}
+use Rattle.imagesize_c.specs.Status.{status_of}
+use Rattle.imagesize_c.specs.Told.{TellsSize, TellsType}
+use Rattle.imagesize_source.specs.declared.error.ImageError.{ImageError}
+use Rattle.imagesize_source.specs.declared.span.Span.{Span}
+use Rattle.imagesize_stream.specs.Given.{HasPart}
+use Rattle.imagesize_stream.specs.Parts.{IfWanted, MayBe, next_of, total_of}
+use Rattle.imagesize_stream.specs.declared.parts.PartsProbe.{PartsProbe}
+use Rattle.imagesize_types.specs.declared.size.ImageSize.{ImageSize}
+
+-- The input may be each one of this length. A length of 2^63 or more is taken for the greatest one.
+abbrev pub Opens : PartsProbe → ℕ → Type 0
+Opens probe total = (total_of probe ≡ min total (2 ^ 63 - 1)) × ((d : List ℕ) → length d ≡ total_of probe → MayBe probe d)
+
+-- The bytes from an offset on were passed. The length stays, and so does a result. The input may be each one that it might be
+-- before and that has these bytes. After a gap nothing changes. With the first requested byte, a later span is requested.
+pub record TakesPart (old new : PartsProbe) (offset : ℕ) (bytes : List ℕ) : Type 0 where
+  pub total : total_of new ≡ total_of old
+  pub keeps : IfFound (next_of old) (λ found. next_of new ≡ Found found)
+  pub goes_on : (d : List ℕ) → MayBe old d → HasPart d offset bytes → MayBe new d
+  pub gap : IfWanted (next_of old) (λ w. w.start < offset → new ≡ old)
+  pub further : IfWanted (next_of old) (λ w. offset ≤ w.start → w.start < offset + length bytes
+      → IfWanted (next_of new) (λ next. w.start < next.start))
+
+-- The status of a result, with its type and its size. Without a result, the span that is requested.
+abbrev pub TellsNext : PartsAnswer (Option ImageType × Result ImageSize ImageError)
+    → ℕ → ℕ → ℕ → ℕ → ℕ → ℕ → ℕ → ℕ → ℕ → Span → Span → Type 0
+TellsNext (Wanted span) status a number c compression w width h height before wanted =
+    (status ≡ 30) × (number ≡ a) × (compression ≡ c) × (width ≡ w) × (height ≡ h) × (wanted ≡ span)
+TellsNext (Found (kind, size)) status a number c compression w width h height before wanted =
+    (status ≡ status_of size) × TellsType kind a number c compression × TellsSize size w width h height × (wanted ≡ before)
