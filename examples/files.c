@@ -318,6 +318,7 @@ static void forward(uint8_t *bytes)
     size_t length = jpeg(bytes, 3, 9000);
     struct forward input = {bytes, length, 1000, 0, 0, 0, 0};
     expect(is_size(imagesize_forward_probe(&input, read_forward, &image), &image, 7, 5), "the size by pieces of an input");
+    expect(image.type == IMAGESIZE_JPEG && image.compression == IMAGESIZE_NO_COMPRESSION, "the type by pieces of an input");
     input = (struct forward){bytes, 100, 7, 0, 0, 0, 0};
     expect(imagesize_forward_probe(&input, read_forward, &image) == IMAGESIZE_END_OF_INPUT && image.type == IMAGESIZE_JPEG
                && image.width == 0, "a JPEG that is cut has a type");

@@ -7,8 +7,8 @@ import os
 import sys
 from typing import TYPE_CHECKING, Any, Awaitable, Callable, List, Optional, Protocol, Tuple, TypeVar, Union, overload
 
-from ._library import PNG, Told, png_spans, probe_front, probe_whole, spans_of, type_of
-from ._parts import BLOCK, BUDGET, SPENT, WANTED, BytesLike, Parts, Stored, bytes_in, checked, first_block
+from ._library import PNG, Told, png_spans, probe_front, probe_two, probe_whole, spans_of, type_of
+from ._parts import BLOCK, BUDGET, SPENT, WANTED, BytesLike, Parts, Stored, blocks, bytes_in, checked, first_block
 from ._stream import AsyncChunks, Chunks, is_read_once, read_once, read_once_async
 from ._types import ImageError, ImageType, Probed, Size, Span, Status, filename, known_type, probed
 
@@ -203,7 +203,19 @@ def _front(file: int, budget: int) -> Tuple[bytes, int]:
 def _told_in(file: int, budget: int) -> Told:
     front, total = _front(file, budget)
     told = probe_front(front, total)
-    return _followed(file, Parts(front, total, budget, None, told)).told if told[0] == WANTED else told
+    if told[0] != WANTED:
+        return told
+    # Most files of more than one block take a second one, and no third.
+    start, end = blocks(told, total)
+    if len(front) + end - start > budget:
+        return SPENT
+    more = os.pread(file, end - start, start)
+    second = probe_two(front, more, start, total) if len(more) == end - start else None
+    if second and second[0] != WANTED:
+        return second
+    parts = Parts(front, total, budget, None, told)
+    parts.add(more)
+    return _followed(file, parts).told
 
 
 def _parts_in(file: int, budget: int, stored: Optional[Stored] = None) -> Parts:

@@ -89,6 +89,8 @@ class _Room:
         self.total = ctypes.c_uint64()
         self.spans, self.count = ctypes.c_void_p(), ctypes.c_size_t()
         self.of_front = (self.length, self.front, ctypes.c_size_t(1), self.total, *self.told)
+        self.two = (ctypes.c_uint64 * 4)()
+        self.of_two = (self.length, self.two, ctypes.c_size_t(2), self.total, *self.told)
         self.of_png = (self.length, self.spans, self.count, self.total, *self.told[2:])
 
 
@@ -138,6 +140,18 @@ def probe_front(front: bytes, total: int) -> Told:
     room.length.value = len(front)
     room.total.value = total
     told = _probe_few(front, *room.of_front), room.read()
+    _ROOMS.append(room)
+    return told
+
+
+def probe_two(front: bytes, more: bytes, start: int, total: int) -> Told:
+    """Type and size of the image in an input of `total` bytes, of which the first are known, and more from an offset on.
+
+    The input is no PNG.
+    """
+    room = _room(len(front) + len(more), total)
+    room.two[:] = [0, len(front), start, len(more)]
+    told = _probe_few(front + more, *room.of_two), room.read()
     _ROOMS.append(room)
     return told
 

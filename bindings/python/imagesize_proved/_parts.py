@@ -68,6 +68,14 @@ def bytes_in(data: BytesLike) -> memoryview:
     return view if view.ndim == 1 and view.itemsize == 1 else memoryview(bytes(view))
 
 
+def blocks(told: Told, total: int) -> Tuple[int, int]:
+    """Start and end of the whole blocks around the requested span."""
+    start, length = told[1][4:]
+    end = start + length
+    end += -end % BLOCK
+    return start - start % BLOCK, end if end < total else total
+
+
 class Parts:
     """An input of `total` bytes, whose blocks are fetched, beginning with the first one.
 
@@ -133,11 +141,9 @@ class Parts:
             self.length = 0
             return
         # The more blocks were read, the longer is the next one, so that a long walk takes few of them.
-        start, length = self.told[1][4:]
-        self.start, end = start - start % BLOCK, start + length
-        end += -end % BLOCK
+        self.start, end = blocks(self.told, self.total)
         if self.reads >= 8:
-            end = max(end, self.start + (BLOCK << self.reads // 2 - 3))
-        self.length = min(end, self.total) - self.start
+            end = min(max(end, self.start + (BLOCK << self.reads // 2 - 3)), self.total)
+        self.length = end - self.start
         if self.taken + self.length > self.budget:
             self.told, self.length = SPENT, 0
