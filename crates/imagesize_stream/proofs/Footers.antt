@@ -179,14 +179,16 @@ module _ (front : List ℕ) (told : ℕ) (head : List ℕ)
   short_type short d begins =
       ap (λ (r : Reads ImageType). result_ok r.answer)
       (type_reads d begins
-      ∙ ap (λ w. put_behind says.marks (uncounted w)) (none_short d (let few = begins.fits in omega (arith, few, short))))
+      ∙ ap (λ w. put_behind says.marks (uncounted w))
+      (none_short d (let few = begins.fits in omega (arith, few, short))))
 
   pub short_size : told < 18 → SizeIs front told (Err NotSupported)
   unfolding meaning_reads
   short_size short d begins =
       ap (λ (r : Reads ImageType). (and_then r (λ found. size_reads found d)).answer)
       (type_reads d begins
-      ∙ ap (λ w. put_behind says.marks (uncounted w)) (none_short d (let few = begins.fits in omega (arith, few, short))))
+      ∙ ap (λ w. put_behind says.marks (uncounted w))
+      (none_short d (let few = begins.fits in omega (arith, few, short))))
 
   abbrev footer_of : List ℕ → List ℕ
   footer_of d = part d (length d - 18) 18
