@@ -4,7 +4,7 @@ use Rattle.imagesize.proofs.Detection.{kind_cost, kind_at_most}
 use Rattle.imagesize.proofs.Ways.{laws_of}
 use Rattle.imagesize.specs.Counts.{cost, most_bytes, most_as, stated_bytes, stated_as}
 use Rattle.imagesize.specs.Meaning.{kind_reads, meaning_reads, size_reads}
-use Rattle.imagesize.specs.Types.{in_record, lasts, outside_records, way_of}
+use Rattle.imagesize.specs.Types.{lasts, way_of}
 use Rattle.imagesize.specs.Parted.{has_texts}
 use Rattle.imagesize.specs.declared.types.ImageType.{ImageType}
 use Rattle.imagesize.specs.declared.types.ImageType.TheVariants.{Aseprite}
@@ -17,18 +17,10 @@ use Rattle.imagesize_source.specs.State.{total}
 use Rattle.imagesize_source.specs.declared.halt.Halt.{Halt}
 use Rattle.imagesize_source.specs.declared.span.Span.{Span}
 
--- a type is read from no more than it is with what stands outside of the records; one type is named, so that each is tried
-kind_outside : (type : ImageType) → kind_cost type ≤ outside_records type
-kind_outside Aseprite = omega arith
-kind_outside _ = omega arith
-
 -- with its type, a size is read from at most the bytes of its format
 size_most : (type : ImageType) (d : List ℕ)
     → kind_cost type + total (size_reads type d).marks ≤ most_as {E = Halt} (Ok type) d
-size_most type d = cost_way (kind_cost type) (outside_records type) (in_record type) (lasts type) (has_texts type)
-    (way_of type)
-    (kind_outside type)
-    (laws_of type) d
+size_most type d = cost_way (kind_cost type) (lasts type) (has_texts type) (way_of type) (laws_of type) d
 
 onward_most : (spans : List Span) (r : Result ImageType Halt) (d : List ℕ) → total spans ≤ bound_of kind_cost 37 r
     → total (go_on spans r (λ found. size_reads found d)).marks ≤ most_as r d

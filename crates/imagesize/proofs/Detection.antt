@@ -30,7 +30,7 @@ use Rattle.imagesize_source.proofs.Extension.{bytes_ok, bytes_more}
 use Rattle.imagesize_source.specs.Counts.{CostsBy}
 use Rattle.imagesize_source.specs.Input.{part, span_of}
 use Rattle.imagesize_source.specs.Layout.{Layout, bind, if_there, layout_reads}
-use Rattle.imagesize_source.specs.Layout.Layout.{«done», refuse, field, reading}
+use Rattle.imagesize_source.specs.Layout.Layout.{«done», refuse, field, reading, begin_record}
 use Rattle.imagesize_source.proofs.Parts.{part_length}
 use Rattle.imagesize_source.proofs.Tests.{on_test}
 use Rattle.imagesize_types.specs.Head.{four_at}
@@ -151,6 +151,7 @@ Fades u (field order place n f) = ⊥
 Fades u (reading (AllOf n) place f) = ⊥
 Fades u (reading (PartOf n) place f) = (bs : List ℕ) → (length bs < n → f bs ≡ done u) × Fades u (f bs)
 Fades u (reading (TextOf t n) place f) = ⊥
+Fades u (begin_record t) = Fades u t
 
 -- a part that is there is not changed by bytes that follow
 part_kept : (d x : List ℕ) (place n : ℕ) → n ≤ length d - place → part (d ++ x) place n ≡ part d place n
@@ -176,6 +177,7 @@ fades {X} u d x (reading (PartOf n) place f) v w h is more = elim (cases_lt (len
       (ap (λ bs. (layout_reads (d ++ x) (f bs)).answer) (sym (part_kept d x place n all)) ∙ more)
 ]
 fades u d x (reading (TextOf t n) place f) v w h is more = absurd h
+fades u d x (begin_record t) v w h is more = fades u d x t v w h is more
 
 -- all or nothing of a reading
 if_there_fades : {X : Type 0} (u : X) (place n : ℕ) (f : Option (List ℕ) → Layout X) → f None ≡ done u

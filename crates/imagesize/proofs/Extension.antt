@@ -4,7 +4,7 @@ use Rattle.imagesize.proofs.Detection.{kind_cost, way_more}
 use Rattle.imagesize.proofs.Ways.{laws_of}
 use Rattle.imagesize.specs.Counts.{lasts_as}
 use Rattle.imagesize.specs.Meaning.{kind_of, kind_reads, size_reads, meaning, meaning_reads}
-use Rattle.imagesize.specs.Types.{in_record, lasts, outside_records, way_of}
+use Rattle.imagesize.specs.Types.{lasts, way_of}
 use Rattle.imagesize.specs.Parted.{has_texts}
 use Rattle.imagesize_types.specs.declared.size.ImageSize.{ImageSize}
 use Rattle.imagesize.specs.declared.types.ImageType.{ImageType}
@@ -36,9 +36,7 @@ meaning_more d x place size stays is =
     let after = way_more d x place found.0 found.1 found.2 in
     let sized : (size_reads found.0 d).answer ≡ Ok size = sym (meaning_of d place found.0 found.1) ∙ is in
     meaning_of (d ++ x) place after.0 after.1 ∙ ap (λ way. (by_way way (d ++ x)).answer) after.2
-    ∙ lasts_way (kind_cost found.0) (outside_records found.0) (in_record found.0) (lasts found.0) (has_texts found.0)
-    (way_of found.0) found.2
-    (laws_of found.0)
+    ∙ lasts_way (kind_cost found.0) (lasts found.0) (has_texts found.0) (way_of found.0) found.2 (laws_of found.0)
     d x size sized
 
 same_lasts : (r : Result ImageType Halt) → lasts_as (stated r) ≡ lasts_as r

@@ -4,7 +4,7 @@ use Rattle.imagesize.proofs.Detection.{kind_cost, kind_costs}
 use Rattle.imagesize.proofs.Ways.{laws_of}
 use Rattle.imagesize.specs.Kind.{kind}
 use Rattle.imagesize.specs.Meaning.{kind_reads, size_reads, meaning_reads}
-use Rattle.imagesize.specs.Types.{in_record, lasts, outside_records, way_of}
+use Rattle.imagesize.specs.Types.{lasts, way_of}
 use Rattle.imagesize.specs.Parted.{has_texts}
 use Rattle.imagesize.specs.declared.types.ImageType.{ImageType}
 use Rattle.imagesize_source.proofs.Agreement.{alike_more, costed_texts, local_layout, local_then, local_length}
@@ -20,9 +20,7 @@ local_kind place = local_length (λ n d. layout_reads d (kind n place))
 
 -- and a size does
 pub local_size : (type : ImageType) → IsLocal (has_texts type) (size_reads type)
-local_size type = local_way (kind_cost type) (outside_records type) (in_record type) (lasts type) (has_texts type)
-    (way_of type)
-    (laws_of type)
+local_size type = local_way (kind_cost type) (lasts type) (has_texts type) (way_of type) (laws_of type)
 
 -- where no texts are read, none are among readings with them
 widened : {X : Type 0} (texts : Bool) (r : List ℕ → Reads X) → IsLocal texts r → IsLocal true r

@@ -17,12 +17,11 @@ use Rattle.imagesize_walked.proofs.Tiff.{tiff_laws}
 use Rattle.imagesize.proofs.Detection.{kind_cost}
 use Rattle.imagesize.specs.Parted.{has_texts}
 use Rattle.imagesize.specs.declared.types.ImageType.{ImageType}
-use Rattle.imagesize.specs.Types.{in_record, lasts, outside_records, way_of}
+use Rattle.imagesize.specs.Types.{lasts, way_of}
 use Rattle.imagesize.specs.declared.types.ImageType.TheVariants.{Aseprite, Astc, Atc, Bmp, Dds, Eac, Etc2, Exr, Farbfeld, Gif, Hdr, Heif, Ico, Ilbm, Jpeg, Jxl, Ktx2, Pnm, Pvrtc, Psd, Qoi, Tga, Tiff, Vtf, Webp}
 use Rattle.imagesize_source.proofs.Way.{Laws}
 
-pub laws_of : (type : ImageType)
-    → Laws (kind_cost type) (outside_records type) (in_record type) (lasts type) (has_texts type) (way_of type)
+pub laws_of : (type : ImageType) → Laws (kind_cost type) (lasts type) (has_texts type) (way_of type)
 laws_of Aseprite = sides_laws (omega arith)
 laws_of Astc = sides_laws (omega arith)
 laws_of (Atc _) = atc_laws

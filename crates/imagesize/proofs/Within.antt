@@ -28,8 +28,8 @@ use Rattle.imagesize.specs.declared.types.ImageType.TheVariants.{Exr, Hdr, Heif,
 use Rattle.imagesize_source.specs.Chain.{Along, Chain, chain_at, chain_from, marks_of, next_record, records_from, start, trail}
 use Rattle.imagesize_source.specs.Input.{span_at, span_of}
 use Rattle.imagesize_source.specs.Layout.{Layout, layout_reads}
-use Rattle.imagesize_source.specs.Layout.Layout.{«done», refuse, field, reading}
-use Rattle.imagesize_source.specs.Reading.{Reads, Reading, AllOf, PartOf, TextOf, and_then, bytes_read, go_on, number_at, number_read, read_of, text_part}
+use Rattle.imagesize_source.specs.Layout.Layout.{«done», refuse, field, reading, begin_record}
+use Rattle.imagesize_source.specs.Reading.{Reads, Reading, AllOf, PartOf, TextOf, and_then, bytes_read, go_on, just, number_at, number_read, read_of, text_part}
 use Rattle.imagesize_types.specs.declared.size.ImageSize.{ImageSize}
 use Rattle.imagesize_source.specs.State.{total}
 use Rattle.imagesize_source.specs.Way.{Way, Fixed, Recorded, Texts, by_way}
@@ -77,6 +77,7 @@ layout_within d (field order place k f) = onward_within (length d) (span_of d pl
     (λ v. layout_reads d (f v)) (reading_within d place k) (λ v. layout_within d (f v))
 layout_within d (reading r place f) = onward_within (length d) (read_of d r place).marks (read_of d r place).answer
     (λ bs. layout_reads d (f bs)) (read_within d r place) (λ bs. layout_within d (f bs))
+layout_within d (begin_record t) = layout_within d t
 
 then_within : {X Y : Type 0} (n : ℕ) (r : Reads X) (f : X → Reads Y) → AreWithin n r.marks
     → ((x : X) → AreWithin n (f x).marks)
@@ -136,7 +137,7 @@ codestream_within d (Some front) = All-nil (IsWithin (length d))
 
 jxl_within : (d : List ℕ) → AreWithin (length d) (jxl d).marks
 jxl_within d =
-    then_within (length d) (jxl_codestream d) (λ front. record { answer = jxl_size front; marks = [] })
+    then_within (length d) (jxl_codestream d) (λ front. just (jxl_size front) [])
     (then_within (length d) (layout_reads d jxl_start) (codestream d) (layout_within d jxl_start) (codestream_within d))
     (λ front. All-nil (IsWithin (length d)))
 
@@ -154,13 +155,13 @@ hdr_within d =
 
 -- what is owed of a size, by the way in which it is found
 abbrev IsMarked : Way ImageSize → Type 0
-IsMarked (Fixed layout) = Unit {0}
-IsMarked (Recorded each reads begun) = (d : List ℕ) → AreWithin (length d) (reads d).marks
+IsMarked (Fixed most layout) = Unit {0}
+IsMarked (Recorded outside each stated reads) = (d : List ℕ) → AreWithin (length d) (reads d).marks
 IsMarked (Texts reads) = (d : List ℕ) → AreWithin (length d) (reads d).marks
 
 way_within : (way : Way ImageSize) (d : List ℕ) → IsMarked way → AreWithin (length d) (by_way way d).marks
-way_within (Fixed layout) d marked = layout_within d layout
-way_within (Recorded each reads begun) d marked = marked d
+way_within (Fixed most layout) d marked = layout_within d layout
+way_within (Recorded outside each stated reads) d marked = marked d
 way_within (Texts reads) d marked = marked d
 
 type_marked : (type : ImageType) → IsMarked (way_of type)

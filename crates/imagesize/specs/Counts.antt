@@ -1,7 +1,7 @@
 -- How many bytes a type and its size are read from, and what appended bytes cannot change.
 use Rattle.std.specs.Prelude.{◌≡◌, ℕ, Bool, true, false, ◌⊎◌, List, Result, Ok, Err}
 use Rattle.imagesize.specs.Meaning.{kind_of, meaning}
-use Rattle.imagesize.specs.Types.{in_record, lasts, outside_records, way_of}
+use Rattle.imagesize.specs.Types.{lasts, way_of}
 use Rattle.imagesize.specs.declared.types.ImageType.{ImageType}
 use Rattle.imagesize.specs.declared.types.ImageType.TheVariants.{Atc, Dds, Eac, Etc2, Heif, Pvrtc, Tga}
 use Rattle.imagesize_types.specs.declared.compression.AtcCompression.TheVariants.{Unknown as atc_unknown}
@@ -28,7 +28,7 @@ stated_bytes d place = stated_as (kind_of d place).answer d
 
 -- the bound for each format, in bytes; 37 for an unknown type
 abbrev pub most_as : {E : Type 0} → Result ImageType E → List ℕ → ℕ
-most_as (Ok type) d = most_by (outside_records type) (in_record type) (way_of type) d
+most_as (Ok type) d = most_by (way_of type) d
 most_as (Err _) d = 37
 
 abbrev pub most_bytes : List ℕ → ℕ → ℕ

@@ -11,7 +11,7 @@ use Rattle.std.specs.Int.{w32, from_be_bytes}
 use Rattle.std.specs.List.{find, last_or, sum_by}
 use Rattle.std.specs.Option.{option_or}
 use Rattle.std.specs.Prelude.{codes, flat_map, fold, nat_lt, nat_le, unwrap_or, ok_or, option_map, slice_get, filter}
-use Rattle.imagesize_boxes.specs.Heif.{heif_compression, is_general, is_named, box_size, box_searched, search_for, searched_box, extents_size, property_named, property_found, property_at, property_bytes, extents_of, rotations_of, skipped_bytes, no_pixels, largest_or_none, largest_extents, turn_by, heif_answer, property_or_answer, properties, heif, heif_in_meta, heif_in_iprp, boxes_in_iprp, boxes_in_meta, heif_boxes}
+use Rattle.imagesize_boxes.specs.Heif.{heif_compression, is_general, is_named, box_size, box_searched, search_for, searched_box, extents_size, property_named, property_found, property_at, property_bytes, extents_of, rotations_of, skipped_bytes, no_pixels, largest_or_none, largest_extents, turn_by, heif_answer, property_or_answer, properties, heif, heif_in_meta, heif_in_iprp}
 use Rattle.imagesize_boxes.specs.Walks.{Amounts, Largest, earlier_largest, gathered_with, gathered_answer}
 use Rattle.imagesize_boxes.specs.declared.formats.heif.FoundBox.{FoundBox}
 use Rattle.imagesize_boxes.specs.declared.formats.heif.Gathered.{Gathered}
@@ -25,12 +25,12 @@ use Rattle.imagesize_source.specs.declared.halt.Halt.{Halt}
 use Rattle.imagesize_source.specs.declared.halt.Halt.TheVariants.{Corrupted, Ended, InvalidHeifBoxSize, NotEnoughData}
 use Rattle.imagesize_source.specs.declared.endian.Endian.TheVariants.{Big}
 use Rattle.imagesize_source.specs.Agreement.{IsLocal}
-use Rattle.imagesize_source.specs.Chain.{Said, Decided, Next, Advances, start, verdict, records, chain_at, count_behind}
+use Rattle.imagesize_source.specs.Chain.{Said, Decided, Next, Advances, start, verdict, chain_at}
 use Rattle.imagesize_source.specs.Counts.{AtMost}
 use Rattle.imagesize_source.specs.Input.{span_of}
 use Rattle.imagesize_source.specs.Layout.{Layout, bytes, refuse, done, layout_reads, bind, whole}
 use Rattle.imagesize_source.specs.Numbers.{number}
-use Rattle.imagesize_source.specs.Reading.{and_then, bytes_at, bytes_read, number_at, number_read, refuses, map_answer}
+use Rattle.imagesize_source.specs.Reading.{and_then, bytes_at, bytes_read, just, number_read, refuses, map_answer, uncounted, with_answer}
 use Rattle.imagesize_source.specs.State.{State, Runs, total}
 use Rattle.imagesize_source.proofs.Always.{CompressionLaws}
 use Rattle.imagesize_source.proofs.Advances.{Tells, advances}
@@ -38,7 +38,7 @@ use Rattle.imagesize_source.proofs.Spends.{Spends, Onto, chain_onto, left, said_
 use Rattle.imagesize_source.proofs.PastTheEnd.{bytes_beyond, saturated_by}
 use Rattle.imagesize_source.proofs.ChainLaws.{local_chain, chain_cost}
 use Rattle.imagesize_source.proofs.Chains.{chain_stop}
-use Rattle.imagesize_source.proofs.Counts.{begun_cost, then_within, total-span_of, total_behind}
+use Rattle.imagesize_source.proofs.Counts.{Bounded, bounded_then, then_within, total-span_of, total_behind}
 use Rattle.imagesize_source.proofs.Bytes.{first_four}
 use Rattle.imagesize_source.proofs.Layouts.{no_part, no_span}
 use Rattle.imagesize_source.proofs.Agreement.{local_bytes, local_then, local_number, without_texts}
@@ -76,15 +76,17 @@ search_advances tag first = advances (search_for tag first)
 
 -- from the end of the input on there is no box
 pub search_ends : (tag : List ℕ) (d : List ℕ) (place : ℕ) → length d ≤ place
-    → layout_reads d (searched_box tag place) ≡ refuses Ended
-search_ends tag d place far = bytes_beyond d place 8 (λ head. box_searched tag place head) far (omega arith)
+    → uncounted (layout_reads d (searched_box tag place)) ≡ refuses Ended
+search_ends tag d place far =
+    ap uncounted (bytes_beyond d place 8 (λ head. box_searched tag place head) far (omega arith))
 
 search_beyond : (tag : List ℕ) (d : List ℕ) (place : ℕ) → length d ≤ place
-    → chain_at (search_for tag place) d ≡ refuses Ended
+    → uncounted (chain_at (search_for tag place) d) ≡ refuses Ended
 search_beyond tag d place far =
     let none = search_ends tag d place far in
-    chain_stop (search_for tag place) d (start (search_for tag place)) (Err Ended) (ap (λ r. verdict r.answer) none)
-    ∙ ap (λ r. record { answer = Err Ended; marks = r.marks }) none
+    ap uncounted (chain_stop (search_for tag place) d (start (search_for tag place)) (Err Ended)
+    (ap (λ r. verdict r.answer) none))
+    ∙ ap (with_answer (Err Ended)) none
 
 pub search_saturated : {a b : State} {r : Result FoundBox Halt} (tag : List ℕ) (place at : ℕ)
     → Runs a b r (chain_at (search_for tag at) a.held.input) → at ≡ min place (2 ^ 64 - 1)
@@ -281,12 +283,12 @@ answers all g held place d h =
 
 -- at a place beyond the input it ends too
 none_listed : (d : List ℕ) (held : List Property) (left place : ℕ) → length d ≤ place
-    → layout_reads d (bind (property_at left place) (property_or_answer held place))
-    ≡ layout_reads d (property_or_answer held place None)
+    → uncounted (layout_reads d (bind (property_at left place) (property_or_answer held place)))
+    ≡ uncounted (layout_reads d (property_or_answer held place None))
 none_listed d held left place far = rw (no_part d place 8 far, no_span d place 8 far) refl
 
 pub answer_read : (d : List ℕ) (best : Option ImageSize) (turn : Option ℕ) → layout_reads d (heif_answer best turn)
-    ≡ record { answer = map_answer Decided (ok_or (option_map (turn_by turn) best) NotEnoughData); marks = [] }
+    ≡ just (map_answer Decided (ok_or (option_map (turn_by turn) best) NotEnoughData)) []
 answer_read d None turn = refl
 answer_read d (Some size) turn = refl
 
@@ -318,29 +320,30 @@ module _ {b end : State} (all : ℕ) (g : Gathered) (place : ℕ) (held : List P
 
 pub list_ends : (all : ℕ) (g : Gathered) (held : List Property) → Amounts all g held → (d : List ℕ) (place : ℕ)
     → length d ≤ place
-    → layout_reads d (bind (property_at (all - sum_by skipped_bytes held) place) (property_or_answer held place))
-    ≡ record { answer = map_answer Decided (gathered_answer g); marks = [] }
+    → uncounted (layout_reads d
+    (bind (property_at (all - sum_by skipped_bytes held) place) (property_or_answer held place)))
+    ≡ just (map_answer Decided (gathered_answer g)) []
 list_ends all g held h d place far =
-    none_listed d held (all - sum_by skipped_bytes held) place far ∙ answers all g held place d h
-    ∙ answer_read d g.best g.turn
+    none_listed d held (all - sum_by skipped_bytes held) place far
+    ∙ ap uncounted (answers all g held place d h ∙ answer_read d g.best g.turn)
 
 none_gathered : (all place : ℕ) (d : List ℕ) → length d ≤ place
-    → chain_at (properties all place) d ≡ record { answer = Err NotEnoughData; marks = [] }
+    → uncounted (chain_at (properties all place) d) ≡ refuses NotEnoughData
 none_gathered all place d far =
     let says = list_ends all (record { left = all; best = None; turn = None }) [] (record {
       left = omega arith;
       best = record { is = refl; first = refl; area = refl; found = λ some. absurd (omega arith) };
       turn = refl;
     }) d place far in
-    chain_stop (properties all place) d (start (properties all place)) (Err NotEnoughData)
-    (ap (λ r. verdict r.answer) says)
-    ∙ ap (λ r. record { answer = Err NotEnoughData; marks = r.marks }) says
+    ap uncounted (chain_stop (properties all place) d (start (properties all place)) (Err NotEnoughData)
+    (ap (λ r. verdict r.answer) says))
+    ∙ ap (with_answer (Err NotEnoughData)) says
 
 pub list_saturated : {a b : State} {r : Result ImageSize Halt} (all place at : ℕ)
     → Runs a b r (chain_at (properties all at) a.held.input) → at ≡ min place (2 ^ 64 - 1)
     → Runs a b r (chain_at (properties all place) a.held.input)
 list_saturated all place at = saturated_by (λ p d. chain_at (properties all p) d)
-    (record { answer = Err NotEnoughData; marks = [] }) place at (λ d p far. none_gathered all p d far)
+    (refuses NotEnoughData) place at (λ d p far. none_gathered all p d far)
 
 -- the compression is read from at most 12 bytes, and is always told
 pub heif_compression_laws : (place : ℕ) (head : List ℕ) → CompressionLaws 12 (heif_compression place head)
@@ -362,15 +365,9 @@ property_at_most all place held q = (
       (omega arith, λ content. tt) (omega arith, λ content. tt) (λ size big. tt),
 )
 
-search_cost : (tag : List ℕ) (place : ℕ) (d : List ℕ) → total (chain_at (search_for tag place) d).marks ≤ 20 * records
-    (search_for tag place) d
+search_cost : (tag : List ℕ) (place : ℕ) (d : List ℕ) → Bounded 0 20 (chain_at (search_for tag place) d)
 search_cost tag place d =
     chain_cost (search_for tag place) d (search_advances tag place d) 20 (search_at_most tag place)
-
-properties_cost : (all place : ℕ) (d : List ℕ)
-    → total (chain_at (properties all place) d).marks ≤ 20 * records (properties all place) d
-properties_cost all place d =
-    chain_cost (properties all place) d (properties_advance all place d) 20 (property_at_most all place)
 
 -- what is seen of an input
 local_search : (tag : List ℕ) (place : ℕ) → IsLocal false (λ d. chain_at (search_for tag place) d)
@@ -400,57 +397,29 @@ heif_local = local_then (λ d. number_read d Big 0 4) (λ first d. and_then (cha
     (local_search (codes "meta") first)
     in_meta_local)
 
-in_iprp_cost : (iprp : FoundBox) (d : List ℕ) → total (heif_in_iprp iprp d).marks ≤ 20 * boxes_in_iprp iprp d
-in_iprp_cost iprp d =
-    let reads = chain_at (search_for (codes "ipco") (iprp.place + 8)) d in
-    let all = begun_cost 20 reads.marks reads.answer (λ ipco. chain_at (properties ipco.size (ipco.place + 8)) d)
-    (λ ipco. records (properties ipco.size (ipco.place + 8)) d) _ 0
-    (search_cost (codes "ipco") (iprp.place + 8) d)
-    (λ ipco. omega (arith, properties_cost ipco.size (ipco.place + 8) d)) in
-    omega arith
+in_iprp_cost : (iprp : FoundBox) (d : List ℕ) → Bounded 0 20 (heif_in_iprp iprp d)
+in_iprp_cost iprp d = bounded_then 20 0 0 (chain_at (search_for (codes "ipco") (iprp.place + 8)) d)
+    (λ ipco. chain_at (properties ipco.size (ipco.place + 8)) d) (search_cost (codes "ipco") (iprp.place + 8) d)
+    (λ ipco _. chain_cost (properties ipco.size (ipco.place + 8)) d
+    (properties_advance ipco.size (ipco.place + 8) d) 20 (property_at_most ipco.size (ipco.place + 8)))
 
-in_meta_cost : (meta : FoundBox) (d : List ℕ) → total (heif_in_meta meta d).marks ≤ 4 + 20 * boxes_in_meta meta d
-in_meta_cost meta d =
-    let reads = chain_at (search_for (codes "iprp") (meta.place + 12)) d in
-    let rest : total (and_then reads (λ iprp. heif_in_iprp iprp d)).marks ≤ 20 *
-    (records (search_for (codes "iprp") (meta.place + 12)) d
-    + count_behind reads.answer (λ iprp. boxes_in_iprp iprp d)) =
-    omega (
-      arith,
-      begun_cost 20 reads.marks reads.answer (λ iprp. heif_in_iprp iprp d) (λ iprp. boxes_in_iprp iprp d) _ 0
-          (search_cost (codes "iprp") (meta.place + 12) d) (λ iprp. omega (arith, in_iprp_cost iprp d)),
-    ) in
-    omega (
-      arith,
-      begun_cost 20 (span_of d (meta.place + 8) 4) (bytes_at d (meta.place + 8) 4)
-          (λ version. and_then reads (λ iprp. heif_in_iprp iprp d))
-          (λ version. records (search_for (codes "iprp") (meta.place + 12)) d + count_behind reads.answer
-          (λ iprp. boxes_in_iprp iprp d)) 4 0
-          (total-span_of d (meta.place + 8) 4) (λ version. omega (arith, rest)),
-    )
+in_meta_cost : (meta : FoundBox) (d : List ℕ) → Bounded 4 20 (heif_in_meta meta d)
+in_meta_cost meta d = bounded_then 20 4 0 (bytes_read d (meta.place + 8) 4)
+    (λ version. and_then (chain_at (search_for (codes "iprp") (meta.place + 12)) d) (λ iprp. heif_in_iprp iprp d))
+    (omega (arith, total-span_of d (meta.place + 8) 4))
+    (λ version _. bounded_then 20 0 0 (chain_at (search_for (codes "iprp") (meta.place + 12)) d)
+    (λ iprp. heif_in_iprp iprp d) (search_cost (codes "iprp") (meta.place + 12) d) (λ iprp _. in_iprp_cost iprp d))
 
 -- a box is read from at most 20 bytes
-pub heif_cost : (d : List ℕ) → 24 + total (heif d).marks ≤ 32 + 20 * heif_boxes d
-heif_cost d =
-    let rest : (first : ℕ)
-    → total (and_then (chain_at (search_for (codes "meta") first) d) (λ meta. heif_in_meta meta d)).marks ≤ 4
-    + 20 * (records (search_for (codes "meta") first) d + count_behind
-    (chain_at (search_for (codes "meta") first) d).answer
-    (λ meta. boxes_in_meta meta d)) =
-    λ first. let reads = chain_at (search_for (codes "meta") first) d in
-    omega (
-      arith,
-      begun_cost 20 reads.marks reads.answer (λ meta. heif_in_meta meta d) (λ meta. boxes_in_meta meta d) _ 4
-          (search_cost (codes "meta") first d) (λ meta. in_meta_cost meta d),
-    ) in
-    omega (
-      arith,
-      begun_cost 20 (span_of d 0 4) (number_at d Big 0 4)
-          (λ first. and_then (chain_at (search_for (codes "meta") first) d)
-          (λ meta. heif_in_meta meta d)) (λ first. records (search_for (codes "meta") first) d + count_behind
-          (chain_at (search_for (codes "meta") first) d).answer (λ meta. boxes_in_meta meta d)) 4 4
-          (total-span_of d 0 4) rest,
-    )
+pub heif_cost : (d : List ℕ) → 24 + total (heif d).marks ≤ 32 + 20 * (heif d).begun
+heif_cost d = omega (
+  arith,
+  bounded_then 20 4 4 (number_read d Big 0 4)
+      (λ first. and_then (chain_at (search_for (codes "meta") first) d) (λ meta. heif_in_meta meta d))
+      (omega (arith, total-span_of d 0 4))
+      (λ first _. bounded_then 20 0 4 (chain_at (search_for (codes "meta") first) d) (λ meta. heif_in_meta meta d)
+      (search_cost (codes "meta") first d) (λ meta _. in_meta_cost meta d)),
+)
 
 -- what follows is read behind the head of a box that was found
 abbrev behind_head : FoundBox → Option ℕ
@@ -515,5 +484,5 @@ heif_within d = omega (
 )
 
 -- the properties may go on in bytes that follow
-pub heif_laws : RecordedLaws 24 32 20 false false heif heif_boxes
+pub heif_laws : RecordedLaws 24 32 20 false false heif
 heif_laws = record { local = heif_local; cost = heif_cost; within = heif_within; lasts = λ keeps. absurd cc }

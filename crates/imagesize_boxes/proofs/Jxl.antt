@@ -1,32 +1,30 @@
 -- JPEG XL: how many bytes its size is read from, and what it sees of an input.
 use Rattle.std.proofs.Common.{false, ◌≡◌, ℕ, ◌+◌, ◌-◌, ◌*◌, ◌<◌, ◌≤◌, min, true, List, [], ◌∷◌, ◌++◌, length, take, drop, Option, None, Some, Result, Ok, Err, inl, refl, ap, ◌∙◌, arith}
-use Rattle.std.proofs.lemmas.List.{append-nil, length-append}
-use Rattle.std.proofs.lemmas.List.Folds.{concat-append}
+use Rattle.std.proofs.lemmas.List.{length-append}
 use Rattle.std.specs.List.{concat}
 use Rattle.imagesize_source.specs.declared.halt.Halt.{Halt}
 use Rattle.imagesize_source.specs.declared.span.Span.{Span}
 use Rattle.imagesize_source.specs.declared.endian.Endian.TheVariants.{Big}
 use Rattle.imagesize_source.specs.Agreement.{IsLocal}
-use Rattle.imagesize_source.specs.Chain.{Said, Decided, Next, Along, start, next_record, records_from, chain_from, chain_at, count_behind}
+use Rattle.imagesize_source.specs.Chain.{Said, Decided, Next, Along, start, next_record, chain_at}
 use Rattle.imagesize_source.specs.Counts.{AtMost, CostsBy}
 use Rattle.imagesize_source.specs.Input.{part, span_of}
 use Rattle.imagesize_source.specs.Layout.{layout_reads, bytes_there}
 use Rattle.imagesize_source.specs.Layout.Layout.{«done»}
 use Rattle.imagesize_source.specs.Numbers.{number}
-use Rattle.imagesize_source.specs.Reading.{Reads, go_on, gives, put_behind, bytes_at, number_at}
+use Rattle.imagesize_source.specs.Reading.{Reads, after_records, go_on, gives, just, put_behind, bytes_at, number_at}
 use Rattle.imagesize_source.specs.State.{total}
 use Rattle.imagesize_source.proofs.Ahead.{Ahead, chain_ahead}
-use Rattle.imagesize_source.proofs.ChainLaws.{chain_induction, local_chain}
-use Rattle.imagesize_source.proofs.Chains.{chain_next, chain_stop, records_next, records_stop}
+use Rattle.imagesize_source.proofs.ChainLaws.{chain_bounded, local_chain}
 use Rattle.imagesize_source.proofs.Costs.{bound_of, costs}
-use Rattle.imagesize_source.proofs.Counts.{at_most, at_most_more, then_within, total-span_of, total_behind}
+use Rattle.imagesize_source.proofs.Counts.{Bounded, at_most, at_most_more, bounded_then, each_plus, then_within, total-span_of, total_behind}
 use Rattle.imagesize_source.proofs.Agreement.{local_layout, local_then, without_texts}
 use Rattle.imagesize_source.proofs.Runs.{total-append}
 use Rattle.imagesize_source.proofs.Tests.{on_test}
 use Rattle.imagesize_source.proofs.Way.{RecordedLaws}
 use Rattle.imagesize_boxes.specs.declared.formats.jxl.boxes.BoxHead.{BoxHead}
-use Rattle.imagesize_boxes.specs.Jxl.{has_signature, jxl_size, box_head, box_room, said_behind, partial_said, box_content, jxl_box, jxl_chain, jxl_start, codestream, jxl_codestream, jxl, jxl_boxes, boxes_behind}
-use Rattle.imagesize_boxes.proofs.JxlBoxes.{BoxSays, by_checked, by_head, by_piece, by_end, by_partial, by_content, jxl_advances}
+use Rattle.imagesize_boxes.specs.Jxl.{has_signature, jxl_size, box_head, box_room, said_behind, partial_said, box_content, jxl_box, jxl_chain, jxl_start, codestream, jxl_codestream, jxl}
+use Rattle.imagesize_boxes.proofs.JxlBoxes.{BoxSays, by_checked, by_head, by_piece, by_end, by_partial, by_content, joined, jxl_advances}
 use Rattle.imagesize_boxes.proofs.JxlGrowth.{jxl_lasts, box_sized}
 use Rattle.imagesize_source.proofs.Parts.{part_length}
 
@@ -103,7 +101,7 @@ jxl_within d =
     let boxes = chain_ahead jxl_chain d (jxl_advances d) (λ pieces place. box_ahead (concat pieces) place) in
     let found = then_within (layout_reads d jxl_start) (codestream d) 16 (length d) (at_most d 16 jxl_start start_few)
     (λ o _. by_start o boxes) in
-    let all = then_within (jxl_codestream d) (λ front. record { answer = jxl_size front; marks = [] })
+    let all = then_within (jxl_codestream d) (λ front. just (jxl_size front) [])
     (16 + length d) 0 found
     (λ front _. omega arith) in
     omega arith where
@@ -158,7 +156,7 @@ local_behind None = local_chain jxl_chain jxl_advances
 local_behind (Some front) = λ d e long. inl refl
 
 pub jxl_local : IsLocal false jxl
-jxl_local = local_then jxl_codestream (λ front d. record { answer = jxl_size front; marks = [] })
+jxl_local = local_then jxl_codestream (λ front d. just (jxl_size front) [])
     (local_then (λ d. layout_reads d jxl_start) (λ found d. codestream d found)
     (local_layout jxl_start (without_texts false 16 jxl_start start_few))
     local_behind)
@@ -247,51 +245,50 @@ module _ (d : List ℕ) where
       (omega arith))))
 
   -- the pieces together have at most 16 bytes, and the last box reads at most 12 more
-  boxes_lean : (t : Along (List ℕ)) → total (chain_from jxl_chain d t).marks ≤ 20 * records_from jxl_chain d t + 12
-      + (16 - length (concat t.held))
+  boxes_cost : Bounded 28 20 (chain_at jxl_chain d)
   unfolding Lean
-  boxes_lean = chain_induction jxl_chain d
-      (λ t. total (chain_from jxl_chain d t).marks ≤ 20 * records_from jxl_chain d t + 12
-      + (16 - length (concat t.held))) (jxl_advances d)
-      (λ t v place is later.
-      let u : Along (List ℕ) = record { held = t.held ++ v ∷ []; place = place } in
-      let all : total (chain_from jxl_chain d t).marks ≡ total (next_record jxl_chain d t).marks + total
-      (chain_from jxl_chain d u).marks = ap (λ w. total w.marks) (chain_next jxl_chain d t v place (jxl_advances d) is)
-      ∙ total-append (next_record jxl_chain d t).marks (chain_from jxl_chain d u).marks in
-      let one = records_next jxl_chain d t v place (jxl_advances d) is in
+  boxes_cost = chain_bounded jxl_chain d (jxl_advances d) 20 (λ t. 12 + (16 - length (concat t.held)))
+      (λ t v place is.
       let here = box_lean (concat t.held) t.place v place is in
       let few = here.0 in let fits = here.1 in
-      let long : length (concat u.held) ≡ length (concat t.held) + length v =
-      ap length (concat-append t.held (v ∷ []) ∙ ap (λ rest. concat t.held ++ rest) (append-nil v))
-      ∙ length-append (concat t.held) v
-      in
-      omega arith)
-      (λ t r is.
-      let all : total (chain_from jxl_chain d t).marks ≡ total (next_record jxl_chain d t).marks =
-      ap (λ w. total w.marks)
-      (chain_stop jxl_chain d t r is) in
-      let one = records_stop jxl_chain d t r is in
-      let few = at_most d (32 + (16 - length (concat t.held))) (jxl_box (concat t.held) t.place)
-      (box_few (concat t.held) t.place) in
-      omega arith)
+      let together = length_more t.held v in
+      omega (arith, begins_one t))
+      (λ t. omega (
+        arith,
+        begins_one t,
+        at_most d (32 + (16 - length (concat t.held))) (jxl_box (concat t.held) t.place)
+            (box_few (concat t.held) t.place),
+      ))
+      (start jxl_chain) where
+        begins_one : (t : Along (List ℕ)) → 1 ≤ (next_record jxl_chain d t).begun
+        begins_one t = omega arith
 
-  begun_within : (found : Result (Option (List ℕ)) Halt) (spans : List Span)
+        length_more : (pieces : List (List ℕ)) (piece : List ℕ)
+            → length (concat (pieces ++ piece ∷ [])) ≡ length (concat pieces) + length piece
+        length_more pieces piece = ap length (joined pieces (concat pieces) piece refl)
+            ∙ length-append (concat pieces) piece
+
+  begun_within : (begun : ℕ) (found : Result (Option (List ℕ)) Halt) (spans : List Span)
       → total spans ≤ bound_of start_bound 16 found
-      → total (go_on spans found (codestream d)).marks ≤ 30 + 20 * count_behind found (boxes_behind d)
-  begun_within (Ok None) spans few = let boxes = boxes_lean (start jxl_chain) in let all = total-append spans
-      (chain_at jxl_chain d).marks in omega arith
-  begun_within (Ok (Some front)) spans few = let all = total-append spans [] in omega arith
-  begun_within (Err e) spans few = omega arith
+      → Bounded 30 20 (after_records begun (go_on spans found (codestream d)))
+  begun_within begun (Ok None) spans few = omega (
+    arith,
+    boxes_cost,
+    total-append spans (chain_at jxl_chain d).marks,
+    each_plus 20 begun (chain_at jxl_chain d).begun,
+  )
+  begun_within begun (Ok (Some front)) spans few = omega (arith, total-append spans [])
+  begun_within begun (Err e) spans few = omega arith
 
 -- a box is read from at most 20 bytes and its piece
-pub jxl_cost : (d : List ℕ) → 12 + total (jxl d).marks ≤ 45 + 20 * jxl_boxes d
-jxl_cost d =
-    let found = begun_within d (layout_reads d jxl_start).answer (layout_reads d jxl_start).marks
-    (omega (arith, costs start_bound 16 0 d jxl_start start_costs)) in
-    let all = then_within (jxl_codestream d) (λ front. record { answer = jxl_size front; marks = [] })
-    (30 + 20 * jxl_boxes d) 0 found
-    (λ front _. omega arith) in
-    omega arith
+pub jxl_cost : (d : List ℕ) → 12 + total (jxl d).marks ≤ 45 + 20 * (jxl d).begun
+jxl_cost d = omega (
+  arith,
+  bounded_then 20 30 0 (jxl_codestream d) (λ front. just (jxl_size front) [])
+      (begun_within d (layout_reads d jxl_start).begun (layout_reads d jxl_start).answer
+      (layout_reads d jxl_start).marks (omega (arith, costs start_bound 16 0 d jxl_start start_costs)))
+      (λ front _. omega arith),
+)
 
-pub jxl_laws : RecordedLaws 12 45 20 true false jxl jxl_boxes
+pub jxl_laws : RecordedLaws 12 45 20 true false jxl
 jxl_laws = record { local = jxl_local; cost = jxl_cost; within = jxl_within; lasts = λ _. jxl_lasts }

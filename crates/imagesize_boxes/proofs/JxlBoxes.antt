@@ -16,7 +16,7 @@ use Rattle.imagesize_source.specs.declared.halt.Halt.TheVariants.{Corrupted, End
 use Rattle.imagesize_source.specs.Chain.{Said, Decided, Next, Advances}
 use Rattle.imagesize_source.specs.Layout.{Layout, layout_reads, bind, bytes, bytes_there, accept}
 use Rattle.imagesize_source.specs.Layout.Layout.{field, refuse, done}
-use Rattle.imagesize_source.specs.Reading.{is_failure, refuses}
+use Rattle.imagesize_source.specs.Reading.{is_failure, just, refuses, uncounted}
 use Rattle.imagesize_source.specs.State.{State, Runs, EndedBy, IsSound}
 use Rattle.imagesize_source.proofs.Advances.{Begins, Tells, advances}
 use Rattle.imagesize_source.proofs.Reached.{reads_nothing}
@@ -169,14 +169,14 @@ jxl_advances = advances jxl_chain (λ pieces place. box_tells (concat pieces) pl
 
 -- from the end of the input on no box begins
 pub boxes_end : (front : List ℕ) (d : List ℕ) (place : ℕ) → length d ≤ place
-    → layout_reads d (jxl_box front place) ≡ refuses Ended
+    → uncounted (layout_reads d (jxl_box front place)) ≡ refuses Ended
 unfolding box_head
-boxes_end front d place far = bytes_beyond d place 8
+boxes_end front d place far = ap uncounted (bytes_beyond d place 8
     (λ head. bind (cond (eqb (number Big (take 4 head)) 1)
     (field Big (place + 8) 8
     (λ size. accept (box_checked place (record { tag = drop 4 head; size = size; length = 16 })) done))
     (accept (box_checked place (record { tag = drop 4 head; size = number Big (take 4 head); length = 8 })) done))
-    (λ head. box_content front place head)) far (omega arith)
+    (λ head. box_content front place head)) far (omega arith))
 
 -- the bytes of the boxes so far, and of one more
 pub joined : (pieces : List (List ℕ)) (front piece : List ℕ) → concat pieces ≡ front
@@ -212,7 +212,7 @@ plain_size front =
     (λ _. (refl, λ b. record { budget = λ e. absurd cc; fault = λ e. absurd cc })))
 
 sized_by : {b : State} (r : Result ImageSize Halt) → IsSound b → Plainly r
-    → Runs b b r (record { answer = r; marks = [] })
+    → Runs b b r (just r [])
 sized_by {b} (Ok size) sound plain = reads_nothing b (Ok size) sound refl tt
 sized_by {b} (Err e) sound plain = reads_nothing b (Err e) sound plain.0 (plain.1 b)
 
@@ -221,5 +221,5 @@ pub sized : {a b : State} (front : List ℕ) → Runs a b (Ok front) (jxl_codest
     → Runs a b (jxl_size front)
     (jxl a.held.input)
 sized {a} {b} front run =
-    runs_then (jxl_codestream a.held.input) (λ found held. record { answer = jxl_size found; marks = [] }) run
+    runs_then (jxl_codestream a.held.input) (λ found held. just (jxl_size found) []) run
     (sized_by (jxl_size front) run.sound_after (plain_size front))

@@ -15,8 +15,7 @@ use Rattle.imagesize_source.specs.Input.{part, span_of}
 use Rattle.imagesize_source.specs.Layout.{Layout, layout_reads, bind, bytes, bytes_there, accept}
 use Rattle.imagesize_source.specs.Layout.Layout.{field, done}
 use Rattle.imagesize_source.specs.Numbers.{number}
-use Rattle.imagesize_source.specs.Reading.{Reads, go_on, gives, bytes_at, number_at}
-use Rattle.imagesize_source.proofs.PastTheEnd.{bytes_beyond}
+use Rattle.imagesize_source.specs.Reading.{Reads, go_on, gives, just, bytes_at, number_at, refuses, uncounted, with_answer}
 use Rattle.imagesize_source.proofs.ChainLaws.{chain_induction}
 use Rattle.imagesize_source.proofs.Chains.{chain_next, chain_stop}
 use Rattle.imagesize_source.proofs.Extension.{bytes_ok, number_ok, bytes_more, number_more, part_grows}
@@ -25,7 +24,7 @@ use Rattle.imagesize_boxes.specs.declared.formats.jxl.boxes.BoxHead.{BoxHead}
 use Rattle.imagesize_boxes.specs.Fields.{bits_of, low_bits, field_at, found_by}
 use Rattle.imagesize_boxes.specs.Jxl.{has_signature, jxl_header, jxl_size, piece_at, box_checked, box_head, box_room, said_behind, partial_said, box_content, jxl_box, jxl_chain, jxl_start, codestream, jxl_codestream, jxl}
 use Rattle.imagesize_boxes.proofs.Fields.{found_more}
-use Rattle.imagesize_boxes.proofs.JxlBoxes.{BoxSays, by_checked, by_head, by_piece, by_content, jxl_advances}
+use Rattle.imagesize_boxes.proofs.JxlBoxes.{BoxSays, by_checked, by_head, by_piece, by_content, boxes_end, jxl_advances}
 use Rattle.imagesize_source.proofs.Parts.{part_length}
 
 -- behind an answer that bytes behind the input leave, as R says, or that goes on
@@ -184,23 +183,11 @@ module _ (d x : List ℕ) where
       }) sized)))
 
 -- A next box that stands behind the end is not there.
-box_gone : (d : List ℕ) (t : Along (List ℕ)) → length d ≤ t.place → chain_from jxl_chain d t ≡ record {
-  answer = Err Ended;
-  marks = [];
-}
-unfolding box_head
+box_gone : (d : List ℕ) (t : Along (List ℕ)) → length d ≤ t.place
+    → uncounted (chain_from jxl_chain d t) ≡ refuses Ended
 box_gone d t gone =
-    let out = bytes_beyond d t.place 8
-    (λ front. bind (cond (eqb (number Big (take 4 front)) 1)
-    (field Big (t.place + 8) 8
-    (λ size. accept (box_checked t.place (record { tag = drop 4 front; size = size; length = 16 })) done))
-    (accept (box_checked t.place (record { tag = drop 4 front; size = number Big (take 4 front); length = 8 })) done))
-    (box_content (concat t.held) t.place)) gone (omega arith) in
-    chain_stop jxl_chain d t (Err Ended) (ap (λ r. verdict r.answer) out) ∙ ap (λ r. record {
-      answer = Err Ended;
-      marks =
-          r.marks;
-    }) out
+    let out : uncounted (next_record jxl_chain d t) ≡ refuses Ended = boxes_end (concat t.held) d t.place gone in
+    ap uncounted (chain_stop jxl_chain d t (Err Ended) (ap (λ r. verdict r.answer) out)) ∙ ap (with_answer (Err Ended)) out
 
 box_there : (d : List ℕ) (t : Along (List ℕ)) (front : List ℕ) → (chain_from jxl_chain d t).answer ≡ Ok front
     → (within : Bool)
@@ -317,10 +304,10 @@ size_grows (a ∷ b ∷ front) more v is =
 pub jxl_lasts : (d x : List ℕ) (v : ImageSize) → (jxl d).answer ≡ Ok v → (jxl (d ++ x)).answer ≡ Ok v
 jxl_lasts d x v is =
     let found = then_ok (jxl_codestream d).answer (jxl_codestream d).marks
-    (λ front. record { answer = jxl_size front; marks = [] }) v is
+    (λ front. just (jxl_size front) []) v is
     in
     let grown = codestream_grows d x found.0 found.1 in
     then_at (jxl_codestream (d ++ x)).answer (jxl_codestream (d ++ x)).marks
-    (λ front. record { answer = jxl_size front; marks = [] })
+    (λ front. just (jxl_size front) [])
     (found.0 ++ grown.0) grown.1
     ∙ size_grows found.0 grown.0 v found.2

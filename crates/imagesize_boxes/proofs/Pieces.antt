@@ -4,7 +4,7 @@ use Rattle.std.proofs.lemmas.Bool.Decides.{nat_tests}
 use Rattle.std.proofs.lemmas.List.{append-nil}
 use Rattle.imagesize_source.specs.declared.halt.Halt.{Halt}
 use Rattle.imagesize_source.specs.Input.{part, span_of}
-use Rattle.imagesize_source.specs.Reading.{part_read}
+use Rattle.imagesize_source.specs.Reading.{just, part_read}
 use Rattle.imagesize_source.specs.Layout.{layout_reads, bytes_there}
 use Rattle.imagesize_source.specs.Layout.Layout.{«done»}
 use Rattle.imagesize_source.specs.State.{State, Runs, IsSound}
@@ -24,7 +24,7 @@ piece_some {a} {b} {r} place k n some long h =
     let test : eqb k 0 ≡ false = grind (arith, nat_tests) in
     let reads : layout_reads a.held.input (cond (eqb k 0) (done []) (bytes_there place k (λ piece. done piece)))
     ≡ part_read a.held.input place k =
-    rw test (ap (λ marks. record { answer = Ok (part a.held.input place k); marks = marks })
+    rw test (ap (just (Ok (part a.held.input place k)))
     (append-nil (span_of a.held.input place k)))
     in
     subst (λ w. Runs a b r w) (sym reads) (subst (λ m. Runs a b r (part_read a.held.input place m)) long h)

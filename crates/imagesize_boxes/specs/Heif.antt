@@ -14,11 +14,11 @@ use Rattle.imagesize_boxes.specs.declared.formats.heif.Property.{Property}
 use Rattle.imagesize_boxes.specs.declared.formats.heif.Property.TheVariants.{Extents, Rotation, Skipped}
 use Rattle.imagesize_source.specs.declared.halt.Halt.TheVariants.{Corrupted, InvalidHeifBoxSize, NotEnoughData}
 use Rattle.imagesize_source.specs.declared.endian.Endian.TheVariants.{Big}
-use Rattle.imagesize_source.specs.Chain.{Said, Decided, Next, Chain, chain_at, records, count_behind}
+use Rattle.imagesize_source.specs.Chain.{Said, Decided, Next, Chain, chain_at}
 use Rattle.imagesize_source.specs.Layout.{Layout, bind, bytes, if_there}
-use Rattle.imagesize_source.specs.Layout.Layout.{refuse, «done»}
+use Rattle.imagesize_source.specs.Layout.Layout.{begin_record, refuse, «done»}
 use Rattle.imagesize_source.specs.Numbers.{number}
-use Rattle.imagesize_source.specs.Reading.{Reads, and_then, bytes_at, bytes_read, number_at, number_read}
+use Rattle.imagesize_source.specs.Reading.{Reads, and_then, bytes_read, number_read}
 
 -- whether the input begins with a file type box (`ftyp`)
 unfoldable pub is_heif : List ℕ → Bool
@@ -71,7 +71,7 @@ box_searched tag place head =
     else done (Next tt (place + box_size head))
 
 abbrev pub searched_box : List ℕ → ℕ → Layout (Said (Unit {0}) FoundBox)
-searched_box tag place = bytes place 8 (λ head. box_searched tag place head)
+searched_box tag place = begin_record (bytes place 8 (λ head. box_searched tag place head))
 
 -- a search from an offset on, for the first box with this name
 abbrev pub search_for : List ℕ → ℕ → Chain (Unit {0}) FoundBox
@@ -97,7 +97,7 @@ property_found left place None = done None
 property_found left place (Some head) = property_named left place head
 
 abbrev pub property_at : ℕ → ℕ → Layout (Option Property)
-property_at left place = if_there place 8 (property_found left place)
+property_at left place = begin_record (if_there place 8 (property_found left place))
 
 -- how many bytes after a property the next one begins
 abbrev pub property_bytes : Property → ℕ
@@ -170,23 +170,3 @@ heif d =
     and_then (number_read d Big 0 4) (λ first.
     and_then (chain_at (search_for (codes "meta") first) d) (λ meta.
     heif_in_meta meta d))
-
--- how many boxes are begun, in the three searches and in the list
-abbrev pub boxes_in_iprp : FoundBox → List ℕ → ℕ
-boxes_in_iprp iprp d =
-    records (search_for (codes "ipco") (iprp.place + 8)) d + count_behind (chain_at (search_for (codes "ipco") (iprp.place + 8)) d).answer
-    (λ ipco.
-    records (properties ipco.size (ipco.place + 8)) d)
-
-abbrev pub boxes_in_meta : FoundBox → List ℕ → ℕ
-boxes_in_meta meta d =
-    count_behind (bytes_at d (meta.place + 8) 4) (λ version.
-    records (search_for (codes "iprp") (meta.place + 12)) d + count_behind (chain_at (search_for (codes "iprp") (meta.place + 12)) d).answer
-    (λ iprp.
-    boxes_in_iprp iprp d))
-
-abbrev pub heif_boxes : List ℕ → ℕ
-heif_boxes d =
-    count_behind (number_at d Big 0 4) (λ first.
-    records (search_for (codes "meta") first) d + count_behind (chain_at (search_for (codes "meta") first) d).answer (λ meta.
-    boxes_in_meta meta d))

@@ -6,11 +6,11 @@ use Rattle.imagesize_boxes.specs.declared.formats.jxl.boxes.BoxHead.{BoxHead}
 use Rattle.imagesize_boxes.specs.declared.formats.jxl.header.Side.{Side}
 use Rattle.imagesize_source.specs.declared.halt.Halt.{Halt}
 use Rattle.imagesize_source.specs.declared.halt.Halt.TheVariants.{Corrupted, Ended, InvalidJxlBoxSize, InvalidJxlSignature}
-use Rattle.imagesize_source.specs.Chain.{Said, Decided, Next, Chain, chain_at, records, count_behind}
+use Rattle.imagesize_source.specs.Chain.{Said, Decided, Next, Chain, chain_at}
 use Rattle.imagesize_source.specs.Layout.{Layout, layout_reads, bind, bytes, bytes_there, accept}
-use Rattle.imagesize_source.specs.Layout.Layout.{field, refuse, done}
+use Rattle.imagesize_source.specs.Layout.Layout.{begin_record, field, refuse, done}
 use Rattle.imagesize_source.specs.Numbers.{number}
-use Rattle.imagesize_source.specs.Reading.{Reads, gives, and_then}
+use Rattle.imagesize_source.specs.Reading.{Reads, gives, just, and_then}
 use Rattle.imagesize_source.specs.declared.endian.Endian.TheVariants.{Big}
 use Rattle.imagesize_types.specs.Head.{begins}
 use Rattle.imagesize_types.specs.Sides.{exchange_if}
@@ -132,7 +132,7 @@ box_content held place head =
 
 -- a box, after boxes that hold these bytes
 abbrev pub jxl_box : List ℕ → ℕ → Layout (Said (List ℕ) (List ℕ))
-jxl_box held place = bind (box_head place) (λ head. box_content held place head)
+jxl_box held place = begin_record (bind (box_head place) (λ head. box_content held place head))
 
 -- the boxes after the signature box, each with a piece of the codestream
 abbrev pub jxl_chain : Chain (List ℕ) (List ℕ)
@@ -152,12 +152,4 @@ jxl_codestream d = and_then (layout_reads d jxl_start) (codestream d)
 
 -- the size from these bytes
 abbrev pub jxl : List ℕ → Reads ImageSize
-jxl d = and_then (jxl_codestream d) (λ front. record { answer = jxl_size front; marks = [] })
-
--- how many boxes are begun
-abbrev pub boxes_behind : List ℕ → Option (List ℕ) → ℕ
-boxes_behind d None = records jxl_chain d
-boxes_behind d (Some front) = 0
-
-abbrev pub jxl_boxes : List ℕ → ℕ
-jxl_boxes d = count_behind (layout_reads d jxl_start).answer (boxes_behind d)
+jxl d = and_then (jxl_codestream d) (λ front. just (jxl_size front) [])

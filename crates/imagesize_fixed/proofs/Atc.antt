@@ -17,6 +17,7 @@ atc_compression_laws = record { few = (omega arith, λ _. tt); answers = λ _. t
 -- with the compression, 40 bytes
 pub atc_laws : FixedLaws 20 40 atc
 atc_laws = record {
+  fits = omega arith;
   few = (
     omega arith,
     λ tag. on_test (AtMost 16) (is_dds tag) dds _ (λ _. search rules)

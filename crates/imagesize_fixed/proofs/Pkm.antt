@@ -9,4 +9,4 @@ unfolding pkm_compression
 pkm_compression_laws = record { few = (omega arith, λ _. tt); answers = λ _. tt }
 
 pub pkm_laws : FixedLaws 14 41 pkm
-pkm_laws = record { few = search rules; plain = search rules }
+pkm_laws = record { fits = omega arith; few = search rules; plain = search rules }

@@ -21,6 +21,7 @@ pvrtc_compression_laws =
 
 pub pvrtc_laws : FixedLaws 24 36 pvrtc
 pvrtc_laws = record {
+  fits = omega arith;
   few = (
     omega arith,
     λ tag. on_test (AtMost 8) (is_pvr3 tag) pvr3 pvr2 (λ _. (omega arith, λ _. (omega arith, λ _. tt)))

@@ -20,6 +20,7 @@ by_form P letter lossy lossless extended none =
 
 pub webp_laws : FixedLaws 12 41 webp
 webp_laws = record {
+  fits = omega arith;
   few = (
     omega arith,
     λ tag. by_form (AtMost 25) (slice_index tag 3) (omega arith, λ x. (omega arith, λ y. tt)) (omega arith, λ x. tt)

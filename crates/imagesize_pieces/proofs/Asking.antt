@@ -9,7 +9,7 @@ use Rattle.imagesize_source.specs.declared.span.Span.{Span}
 use Rattle.imagesize_source.specs.Agreement.{Alike, is_covered, has_place}
 use Rattle.imagesize_source.specs.Input.{span_at}
 use Rattle.imagesize_source.specs.Known.{sure_of}
-use Rattle.imagesize_source.specs.Reading.{Reads, is_faulted, put_behind}
+use Rattle.imagesize_source.specs.Reading.{Reads, is_faulted, just, put_behind, uncounted}
 use Rattle.imagesize_source.specs.State.{State, Misses}
 use Rattle.imagesize_source.proofs.Agreement.{covered-left, covered-one, covered-right, covered_one_of}
 use Rattle.imagesize_source.specs.Sharing.{Shares}
@@ -106,8 +106,8 @@ module _ {X : Type 0} (f : List ℕ → Reads X) (same : IsShared f) (told start
   says_begun faultless = record {
     marks = (f fill).marks;
     is = λ d begins.
-        same_begun faultless d begins
-        ∙ ap (λ a. record { answer = a; marks = (f fill).marks })
+        ap uncounted (same_begun faultless d begins)
+        ∙ ap (λ a. just a (f fill).marks)
         (answered f told (came start kept unread) (kept ++ unread) short log missed r call faultless);
   }
 
@@ -192,7 +192,8 @@ by_fault {X} r other right never = by_test (is_faulted r) refl where
 -- after other spans
 pub says_behind : {X : Type 0} (front chunk : List ℕ) (told : ℕ) (whole reads : List ℕ → Reads X) (before : List Span)
     (r : Result X Halt)
-    → ((d : List ℕ) → Begins front told d → whole d ≡ put_behind before (reads d)) → Says (front ++ chunk) told reads r
+    → ((d : List ℕ) → Begins front told d → uncounted (whole d) ≡ put_behind before (uncounted (reads d)))
+    → Says (front ++ chunk) told reads r
     → Says (front ++ chunk) told whole r
 says_behind front chunk told whole reads before r resumes says = record {
   marks = before ++ says.marks;

@@ -8,7 +8,7 @@ use Rattle.imagesize_source.specs.Agreement.{is_covered}
 use Rattle.imagesize_source.specs.Chain.{Chain, Along, next_record, chain_from, Advances}
 use Rattle.imagesize_source.specs.Input.{span_at}
 use Rattle.imagesize_source.specs.Known.{AllKnown, Lacks, parts_state, sure_of}
-use Rattle.imagesize_source.specs.Reading.{Reads, go_on, put_behind}
+use Rattle.imagesize_source.specs.Reading.{Reads, go_on, put_behind, uncounted}
 use Rattle.imagesize_source.specs.declared.halt.Halt.{Halt}
 use Rattle.imagesize_source.specs.State.{State, Misses, state_after}
 use Rattle.imagesize_source.proofs.Agreement.{alike_layout, covered-left, covered-right, with_texts}
@@ -106,7 +106,8 @@ module _ {C X : Type 0} (c : Chain C X) (P : List C → Type 0) (t : Along C) (t
       λ p here. seen p (subst (λ s. is_covered s p ≡ true) (sym (some_is all)) (covered-left stood.made part p here))
 
   -- each input that begins with the bytes so far comes to it
-  pub leads_begun : (d : List ℕ) → Begins front told d → chain_from c d t ≡ put_behind stood.made (chain_from c d u)
+  pub leads_begun : (d : List ℕ) → Begins front told d
+      → uncounted (chain_from c d t) ≡ put_behind stood.made (uncounted (chain_from c d u))
   leads_begun d begins =
       stood.leads honest d (begins_shares told start kept unread front run fits d stood.made begins made_known)
 

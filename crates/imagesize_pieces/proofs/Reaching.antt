@@ -5,7 +5,7 @@ use Rattle.imagesize_source.specs.declared.halt.Halt.{Halt}
 use Rattle.imagesize_source.specs.declared.span.Span.{Span}
 use Rattle.imagesize_source.specs.Agreement.{is_covered, has_place}
 use Rattle.imagesize_source.specs.Input.{part, span_at, span_of}
-use Rattle.imagesize_source.specs.Layout.{Layout, done, refuse, field, reading, layout_reads, bind, accept}
+use Rattle.imagesize_source.specs.Layout.{Layout, done, refuse, field, reading, begin_record, layout_reads, bind, accept}
 use Rattle.imagesize_source.specs.Reading.{Reads, Reading, AllOf, PartOf, TextOf, go_on, read_of, most, number_at, text_part}
 use Rattle.imagesize_source.specs.Text.{text_front}
 use Rattle.imagesize_source.proofs.Answered.{bytes_is}
@@ -77,6 +77,7 @@ reach_covered d low high (reading r start f) reach place is =
     ((low ≤ place) × (place < high)) is
     (λ here. let h = covered_reading d r start place here in (omega (arith, h.0, reach.0), omega (arith, h.1, reach.1)))
     (λ bs got later. reach_covered d low high (f bs) (reach.2 bs (read_most d r start bs got)) place later)
+reach_covered d low high (begin_record t) reach place is = reach_covered d low high t reach place is
 
 -- what reads so far reads no farther
 pub reach_more : {X : Type 0} (low high more : ℕ) (t : Layout X) → high ≤ more → Reach low high t → Reach low more t
@@ -86,6 +87,7 @@ reach_more low high more (field order start n f) far reach =
     (reach.0, omega (arith, far, reach.1), λ v. reach_more low high more (f v) far (reach.2 v))
 reach_more low high more (reading r start f) far reach =
     (reach.0, omega (arith, far, reach.1), λ bs few. reach_more low high more (f bs) far (reach.2 bs few))
+reach_more low high more (begin_record t) far reach = reach_more low high more t far reach
 
 -- both sides of a test
 pub reach_if : {X : Type 0} (b : Bool) (low high : ℕ) (t u : Layout X) → Reach low high t → Reach low high u
@@ -110,3 +112,4 @@ reach_bind low high (field order place n f) g reach rest =
     (reach.0, reach.1, λ v. reach_bind low high (f v) g (reach.2 v) rest)
 reach_bind low high (reading r place f) g reach rest =
     (reach.0, reach.1, λ bs few. reach_bind low high (f bs) g (reach.2 bs few) rest)
+reach_bind low high (begin_record t) g reach rest = reach_bind low high t g reach rest

@@ -2,8 +2,8 @@
 use Rattle.std.specs.Prelude.{◌≡◌, ℕ, ◌+◌, ◌≤◌, ◌<◌, true, List, [], ◌∷◌, ◌++◌, length, take, drop, Option, None, Some, Result}
 use Rattle.imagesize_source.specs.Agreement.{is_covered}
 use Rattle.imagesize_source.specs.Known.{byte_in_parts, filled_input, parts_state}
-use Rattle.imagesize_source.specs.Layout.{Layout, done, refuse, field, reading}
-use Rattle.imagesize_source.specs.Reading.{Reads, most, put_behind}
+use Rattle.imagesize_source.specs.Layout.{Layout, done, refuse, field, reading, begin_record}
+use Rattle.imagesize_source.specs.Reading.{Reads, just, most, put_behind, uncounted}
 use Rattle.imagesize_source.specs.State.{State}
 use Rattle.imagesize_source.specs.Chain.{Said, chain_from}
 use Rattle.imagesize_source.specs.Walk.{chain_of}
@@ -22,6 +22,7 @@ Reach low high (done x) = Unit {0}
 Reach low high (refuse e) = Unit {0}
 Reach low high (field order place n f) = (low ≤ place) × (place + n ≤ high) × ((v : ℕ) → Reach low high (f v))
 Reach low high (reading r place f) = (low ≤ place) × (place + most r ≤ high) × ((bs : List ℕ) → length bs ≤ most r → Reach low high (f bs))
+Reach low high (begin_record t) = Reach low high t
 
 -- each offset of the spans is below n
 abbrev pub AllBelow : ℕ → List Span → Type 0
@@ -34,7 +35,7 @@ SomeBetween low high spans = (place : ℕ) × (low ≤ place) × (place < high) 
 -- Every input that begins with these bytes has this result, with the same spans.
 pub record Says {X : Type 0} (front : List ℕ) (told : ℕ) (reads : List ℕ → Reads X) (answer : Result X Halt) : Type 0 where
   pub marks : List Span
-  pub is : (d : List ℕ) → Begins front told d → reads d ≡ record { answer = answer; marks = marks }
+  pub is : (d : List ℕ) → Begins front told d → uncounted (reads d) ≡ just answer marks
 
 -- the n bytes from an offset on, as one span
 abbrev pub run_of : ℕ → ℕ → List Span
@@ -71,4 +72,4 @@ pub record Streams {C X : Type 0} (first : ℕ) (said : List C → ℕ → Layou
   pub rest : kept ≡ drop start front
   pub before : List Span
   pub resumes : (d : List ℕ) → Begins front told d
-      → whole d ≡ put_behind before (chain_from (chain_of first said) d (record { held = held; place = place }))
+      → uncounted (whole d) ≡ put_behind before (uncounted (chain_from (chain_of first said) d (record { held = held; place = place })))

@@ -41,6 +41,7 @@ sides_plain false = tt
 -- the signature is 8 bytes, and the sides are 8 more
 pub png_laws : (place : ℕ) → FixedLaws 8 24 (png place)
 png_laws place = record {
+  fits = omega arith;
   few = (omega arith, λ head. sides_few (is_png head));
   plain =
       λ head. sides_plain (is_png head);

@@ -4,7 +4,7 @@ use Rattle.imagesize_source.specs.declared.halt.Halt.{Halt}
 use Rattle.imagesize_source.specs.declared.span.Span.{Span}
 use Rattle.imagesize_source.specs.Chain.{Said, Decided, Next, Chain, Advances}
 use Rattle.imagesize_source.specs.Input.{span_of}
-use Rattle.imagesize_source.specs.Layout.{Layout, done, refuse, field, reading, layout_reads}
+use Rattle.imagesize_source.specs.Layout.{Layout, done, refuse, field, reading, begin_record, layout_reads}
 use Rattle.imagesize_source.specs.Reading.{Reads, Reading, AllOf, PartOf, TextOf, go_on, number_at, read_of}
 use Rattle.imagesize_source.proofs.Extension.{bytes_ok, number_ok}
 use Rattle.imagesize_source.proofs.Runs.{part_is}
@@ -18,6 +18,7 @@ Tells P (done (Next v place)) = P place
 Tells P (refuse e) = Unit {0}
 Tells P (field order place k f) = (v : ℕ) → Tells P (f v)
 Tells P (reading r place f) = (bs : List ℕ) → Tells P (f bs)
+Tells P (begin_record t) = Tells P t
 
 -- the reading gives some byte, or P
 abbrev pub OrSome : Reading → Type 0 → Type 0
@@ -32,6 +33,7 @@ Begins q (done (Next v place)) = ⊥
 Begins q (refuse e) = Unit {0}
 Begins q (field order place k f) = (q ≤ place) × (0 < k)
 Begins q (reading r place f) = (q ≤ place) × OrSome r (Tells (λ _. ⊥) (f []))
+Begins q (begin_record t) = Begins q t
 
 onward_tells : {C X Y : Type 0} (P : Type 0) (spans : List Span) (r : Result Y Halt) (f : Y → Reads (Said C X))
     (s : Said C X)
@@ -50,6 +52,7 @@ tells P d (field order place k f) v q h is =
 tells P d (reading r place f) v q h is =
     onward_tells (P q) (read_of d r place).marks (read_of d r place).answer (λ bs. layout_reads d (f bs))
     (Next v q) is (λ bs _ got. tells P d (f bs) v q (h bs) got)
+tells P d (begin_record t) v q h is = tells P d t v q h is
 
 -- where a reading gives a byte, there was one
 some_byte : {P : Type 0} (d : List ℕ) (r : Reading) (place : ℕ) (bs : List ℕ) → OrSome r P → (bs ≡ [] → P → ⊥)
@@ -78,6 +81,7 @@ begins d (reading r place f) v q p h is =
     (λ bs. layout_reads d (f bs)) (Next v p) is
     (λ bs got told. let below = some_byte d r place bs h.1 (λ none nothing. tells (λ _. ⊥) d (f []) v p nothing
     (sym (ap (λ bs. (layout_reads d (f bs)).answer) none) ∙ told)) got in omega (arith, h.0))
+begins d (begin_record t) v q p h is = begins d t v q p h is
 
 -- A chain advances, whose records each begin at their place or behind it and tell only greater places.
 pub advances : {C X : Type 0} (c : Chain C X)

@@ -7,16 +7,16 @@ use Rattle.imagesize_source.specs.declared.halt.Halt.{Halt}
 use Rattle.imagesize_source.specs.declared.span.Span.{Span}
 use Rattle.imagesize_source.specs.declared.endian.Endian.{Endian}
 use Rattle.std.proofs.lemmas.Bool.{cases_lt}
-use Rattle.imagesize_source.specs.Counts.{AtMost, CostsBy}
+use Rattle.imagesize_source.specs.Counts.{AtMost, CostsBy, Each}
 use Rattle.imagesize_source.specs.Agreement.{Agrees, Alike, IsLocal, Parting, has_place, is_covered}
 use Rattle.imagesize_source.specs.Input.{part, span_at, span_of}
-use Rattle.imagesize_source.specs.Layout.{Layout, done, refuse, field, reading, layout_reads}
+use Rattle.imagesize_source.specs.Layout.{Layout, done, refuse, field, reading, begin_record, layout_reads}
 use Rattle.imagesize_source.specs.Numbers.{number}
 use Rattle.imagesize_source.specs.declared.text.Text.{Text}
 use Rattle.imagesize_source.specs.Text.{text_front}
 use Rattle.imagesize_source.proofs.Texts.{front_first, front_length, front_same, front_take}
 use Rattle.imagesize_source.proofs.Runs.{marks_onward}
-use Rattle.imagesize_source.specs.Reading.{Reads, Reading, AllOf, PartOf, TextOf, go_on, put_behind, and_then, bytes_at, bytes_read, number_at, number_read, text_part, read_of, map_answer}
+use Rattle.imagesize_source.specs.Reading.{Reads, Reading, AllOf, PartOf, TextOf, after_records, just, go_on, put_behind, and_then, bytes_at, bytes_read, number_at, number_read, text_part, read_of, map_answer}
 use Rattle.imagesize_source.proofs.Parts.{part_length, parts_long, part_at, part_front}
 
 pub covered-left : (s t : List Span) (place : ℕ) → is_covered s place ≡ true → is_covered (s ++ t) place ≡ true
@@ -115,7 +115,7 @@ same_reading : (d e : List ℕ) (r : Reading) (place : ℕ) → Agrees d e (read
 same_reading d e (AllOf k) place a = rw (same_span d e place k a.as_long, same_bytes d e place k a) refl
 same_reading d e (PartOf k) place a = rw (same_span d e place k a.as_long, same_part d e place k a) refl
 same_reading d e (TextOf t k) place a =
-    ap (λ bs. record { answer = Ok bs; marks = span_at place (length bs) }) (same_text d e t place k a)
+    ap (λ bs. just (Ok bs) (span_at place (length bs))) (same_text d e t place k a)
 
 -- what goes on from an answer rests on its spans
 pub agrees_first : {d e : List ℕ} {X Y : Type 0} (spans : List Span) (r : Result X Halt) (f : X → Reads Y)
@@ -144,10 +144,11 @@ local d e (field order place k f) a =
 local d e (reading r place f) a =
     let here : Agrees d e (read_of d r place).marks = agrees_first (read_of d r place).marks (read_of d r place).answer
     (λ bs. layout_reads d (f bs)) a in
-    rw (same_reading d e r place here)
-    (onward_local (read_of d r place).marks (read_of d r place).answer (λ bs. layout_reads d (f bs))
+    ap (λ w. and_then w (λ bs. layout_reads e (f bs))) (same_reading d e r place here)
+    ∙ onward_local (read_of d r place).marks (read_of d r place).answer (λ bs. layout_reads d (f bs))
     (λ bs. layout_reads e (f bs)) a
-    (λ bs. local d e (f bs)))
+    (λ bs. local d e (f bs))
+local d e (begin_record t) a = ap (after_records 1) (local d e t a)
 
 -- ---- where two inputs part
 
@@ -253,8 +254,7 @@ alike_part d e place k long = elim (differ (part d place k) (part e place k) (pa
 alike_made : {texts : Bool} {X : Type 0} (f : List ℕ → ℕ → Result X Halt) (d e : List ℕ) (place k : ℕ)
     → length e ≡ length d
     → (part e place k ≡ part d place k → f e place ≡ f d place)
-    → Alike texts d e (record { answer = f d place; marks = span_of d place k })
-    (record { answer = f e place; marks = span_of e place k })
+    → Alike texts d e (just (f d place) (span_of d place k)) (just (f e place) (span_of e place k))
 alike_made f d e place k long same = elim (alike_part d e place k long) [
   | inl is ↦ (let span = same_span d e place k long in inl (rw (span, same is) refl))
   | inr parts ↦ inr parts
@@ -320,6 +320,7 @@ AllRead texts (done x) = Unit {0}
 AllRead texts (refuse e) = Unit {0}
 AllRead texts (field order place k f) = (v : ℕ) → AllRead texts (f v)
 AllRead texts (reading r place f) = IsRead texts r × ((bs : List ℕ) → AllRead texts (f bs))
+AllRead texts (begin_record t) = AllRead texts t
 
 is_read : (r : Reading) → IsRead true r
 is_read (AllOf k) = tt
@@ -332,6 +333,7 @@ with_texts (done x) = tt
 with_texts (refuse e) = tt
 with_texts (field order place k f) = λ v. with_texts (f v)
 with_texts (reading r place f) = (is_read r, λ bs. with_texts (f bs))
+with_texts (begin_record t) = with_texts t
 
 -- and one whose bytes are counted has no texts
 pub without_texts : (texts : Bool) {X : Type 0} (k : ℕ) (t : Layout X) → AtMost k t → AllRead texts t
@@ -341,6 +343,14 @@ without_texts texts k (field order place n f) few = λ v. without_texts texts (k
 without_texts texts k (reading (AllOf n) place f) few = (tt, λ bs. without_texts texts (k - n) (f bs) (few.1 bs))
 without_texts texts k (reading (PartOf n) place f) few = (tt, λ bs. without_texts texts (k - n) (f bs) (few.1 bs))
 without_texts texts k (reading (TextOf t n) place f) few = absurd few
+without_texts texts k (begin_record t) few = without_texts texts k t few
+
+pub each_texts : (texts : Bool) {X : Type 0} (k : ℕ) (t : Layout X) → Each k t → AllRead texts t
+each_texts texts k (begin_record t) few = without_texts texts k t few
+each_texts texts k (done x) few = tt
+each_texts texts k (refuse e) few = tt
+each_texts texts k (field order place n f) few = without_texts texts 0 (field order place n f) few
+each_texts texts k (reading r place f) few = without_texts texts 0 (reading r place f) few
 
 pub costed_texts : (texts : Bool) {X : Type 0} (f : X → ℕ) (e u : ℕ) (t : Layout X) → CostsBy f e u t → AllRead texts t
 costed_texts texts f e u (done x) few = tt
@@ -349,6 +359,7 @@ costed_texts texts f e u (field order place n g) few = λ v. costed_texts texts 
 costed_texts texts f e u (reading (AllOf n) place g) few = (tt, λ bs. costed_texts texts f e (u + n) (g bs) (few.1 bs))
 costed_texts texts f e u (reading (PartOf n) place g) few = (tt, λ bs. costed_texts texts f e (u + n) (g bs) (few bs))
 costed_texts texts f e u (reading (TextOf t n) place g) few = absurd few
+costed_texts texts f e u (begin_record t) few = costed_texts texts f e u t few
 
 alike_reading : {texts : Bool} (d e : List ℕ) (r : Reading) (place : ℕ) → IsRead texts r → length e ≡ length d
     → Alike texts d e (read_of d r place) (read_of e r place)
@@ -356,7 +367,7 @@ alike_reading d e (AllOf k) place is long =
     alike_made (λ x p. bytes_at x p k) d e place k long (bytes_made d e place k long)
 alike_reading d e (PartOf k) place is long = alike_made (λ x p. Ok (part x p k)) d e place k long (λ same. ap Ok same)
 alike_reading d e (TextOf t k) place is long = elim (alike_text d e t place k is long) [
-  | inl same ↦ inl (ap (λ bs. record { answer = Ok bs; marks = span_at place (length bs) }) same)
+  | inl same ↦ inl (ap (λ bs. just (Ok bs) (span_at place (length bs))) same)
   | inr parts ↦ inr parts
 ]
 
@@ -418,10 +429,11 @@ alike_then d e p q f g (inr parts) rest =
 alike_then {texts} {X} {Y} d e p q f g (inl same) rest =
     subst (λ w. Alike texts d e (and_then p f) (and_then w g)) (sym same) (by_answer p.answer refl)
   where
-    by_answer : (r : Result X Halt) → p.answer ≡ r → Alike texts d e (go_on p.marks r f) (go_on p.marks r g)
+    by_answer : (r : Result X Halt) → p.answer ≡ r
+        → Alike texts d e (after_records p.begun (go_on p.marks r f)) (after_records p.begun (go_on p.marks r g))
     by_answer (Err x) is = inl refl
     by_answer (Ok x) is = elim (rest x is (ap (λ w. w.answer) same ∙ is)) [
-      | inl rest_same ↦ inl (ap (put_behind p.marks) rest_same)
+      | inl rest_same ↦ inl (ap (λ w. after_records p.begun (put_behind p.marks w)) rest_same)
       | inr parts ↦ inr (parting_among p.marks [] [] (before_none p.marks _) (before_none p.marks _) parts)
     ]
 
@@ -439,6 +451,10 @@ alike_layout d e (reading r place f) read long =
     alike_then d e (read_of d r place) (read_of e r place) (λ bs. layout_reads d (f bs))
     (λ bs. layout_reads e (f bs)) (alike_reading d e r place read.0 long)
     (λ bs is also. alike_layout d e (f bs) (read.1 bs) long)
+alike_layout d e (begin_record t) read long = elim (alike_layout d e t read long) [
+  | inl same ↦ inl (ap (after_records 1) same)
+  | inr parts ↦ inr parts
+]
 
 pub local_layout : {texts : Bool} {X : Type 0} (t : Layout X) → AllRead texts t → IsLocal texts (λ d. layout_reads d t)
 local_layout t read d e long = alike_layout d e t read long

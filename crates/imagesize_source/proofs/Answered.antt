@@ -9,7 +9,7 @@ use Rattle.imagesize_source.specs.declared.endian.Endian.{Endian}
 use Rattle.imagesize_source.specs.declared.endian.Endian.TheVariants.{Big}
 use Rattle.imagesize_source.specs.Input.{part}
 use Rattle.imagesize_source.specs.Numbers.{number}
-use Rattle.imagesize_source.specs.Reading.{Reads, go_on, put_behind, bytes_at, number_at}
+use Rattle.imagesize_source.specs.Reading.{Reads, go_on, just, put_behind, bytes_at, number_at}
 use Rattle.imagesize_source.proofs.Extension.{bytes_ok, number_ok}
 use Rattle.imagesize_source.proofs.Parts.{part_length}
 
@@ -60,7 +60,7 @@ big_pair d place v is =
 -- what holds behind an answer and behind a refusal holds of what goes on
 pub on_answer : {X Y : Type 0} (P : Reads Y → Type 0) (spans : List Span) (r : Result X Halt) (f : X → Reads Y)
     → ((x : X) → r ≡ Ok x → P (put_behind spans (f x)))
-    → ((e : Halt) → r ≡ Err e → P (record { answer = Err e; marks = spans }))
+    → ((e : Halt) → r ≡ Err e → P (just (Err e) spans))
     → P (go_on spans r f)
 on_answer P spans (Ok x) f answered refused = answered x refl
 on_answer P spans (Err e) f answered refused = refused e refl

@@ -1,16 +1,15 @@
 -- What holds of every chain: locality, counts and extension.
 use Rattle.std.proofs.Common.{Bool, ◌≡◌, ℕ, zero, suc, ◌+◌, ◌*◌, ◌<◌, ◌≤◌, List, [], ◌∷◌, ◌++◌, length, Some, Result, Ok, Err, inl, refl, sym, ap, ◌∙◌, subst, arith}
-use Rattle.std.proofs.Math.Nat.{mul-add}
 use Rattle.imagesize_source.specs.declared.halt.Halt.{Halt}
 use Rattle.imagesize_source.specs.Agreement.{Alike, IsLocal}
-use Rattle.imagesize_source.specs.Chain.{Said, Decided, Next, Chain, Along, start, next_record, verdict, records_from, records, chain_from, chain_at, Advances}
-use Rattle.imagesize_source.specs.Counts.{AtMost}
+use Rattle.imagesize_source.specs.Chain.{Said, Decided, Next, Chain, Along, start, next_record, verdict, chain_from, chain_at, Advances}
+use Rattle.imagesize_source.specs.Counts.{Each}
 use Rattle.imagesize_source.specs.Extension.{Plain, Lasts}
-use Rattle.imagesize_source.specs.Reading.{and_then, put_behind}
+use Rattle.imagesize_source.specs.Reading.{after_records, and_then, put_behind, with_answer}
 use Rattle.imagesize_source.specs.State.{total}
-use Rattle.imagesize_source.proofs.Chains.{chain_unfolds, follows, chain_next, chain_stop, records_next, records_stop}
+use Rattle.imagesize_source.proofs.Chains.{chain_unfolds, follows, chain_next, chain_stop}
 use Rattle.imagesize_source.proofs.Agreement.{AllRead, alike_layout, alike_then}
-use Rattle.imagesize_source.proofs.Counts.{at_most}
+use Rattle.imagesize_source.proofs.Counts.{Bounded, bounded_each, each_plus}
 use Rattle.imagesize_source.proofs.Extension.{more}
 use Rattle.imagesize_source.proofs.Runs.{total-append}
 
@@ -68,34 +67,32 @@ local_chain {texts} {C} {X} c adv read d e long = chain_induction c d P (adv d) 
     decided (Decided x) r is = inl refl
     decided (Next v place) r is = absurd cc
 
--- Counts: where each record reads at most k bytes, a chain reads at most k for each of its records.
+-- Counts: a chain is bounded where its records are, and where they use up an allowance besides.
 module _ {C X : Type 0} (c : Chain C X) (d : List ℕ) (adv : Advances c d) where
-  -- from some records on
-  pub chain_cost_from : (k : ℕ) → ((t : Along C) → total (next_record c d t).marks ≤ k) → (t : Along C)
-      → total (chain_from c d t).marks
-      ≤ k * records_from c d t
-  chain_cost_from k each = chain_induction c d (λ t. total (chain_from c d t).marks ≤ k * records_from c d t) adv
+  pub chain_bounded : (each : ℕ) (allowed : Along C → ℕ)
+      → ((t : Along C) (v : C) (place : ℕ) → (next_record c d t).answer ≡ Ok (Next v place)
+      → total (next_record c d t).marks + allowed (record { held = t.held ++ v ∷ []; place = place })
+      ≤ allowed t + each * (next_record c d t).begun)
+      → ((t : Along C) → Bounded (allowed t) each (next_record c d t))
+      → (t : Along C) → Bounded (allowed t) each (chain_from c d t)
+  chain_bounded each allowed used few = chain_induction c d (λ t. Bounded (allowed t) each (chain_from c d t)) adv
       (λ t v place is later.
       let u : Along C = record { held = t.held ++ v ∷ []; place = place } in
       let all : total (chain_from c d t).marks ≡ total (next_record c d t).marks + total (chain_from c d u).marks =
       ap (λ w. total w.marks) (chain_next c d t v place adv is)
       ∙ total-append (next_record c d t).marks (chain_from c d u).marks in
-      let here = each t in
-      let count : k * records_from c d t ≡ k * records_from c d u + k * 1 =
-      ap (λ n. k * n) (records_next c d t v place adv is) ∙ mul-add
-      k (records_from c d u) 1 in
-      omega arith)
-      (λ t r is.
-      let all : total (chain_from c d t).marks ≡ total (next_record c d t).marks =
-      ap (λ w. total w.marks) (chain_stop c d t r is) in
-      let here = each t in
-      let count : k * records_from c d t ≡ k * 1 = ap (λ n. k * n) (records_stop c d t r is) in
-      omega arith)
+      let count : each * (chain_from c d t).begun ≡ each * (next_record c d t).begun + each * (chain_from c d u).begun =
+      ap (λ w. each * w.begun) (chain_next c d t v place adv is)
+      ∙ each_plus each (next_record c d t).begun (chain_from c d u).begun in
+      omega (arith, used t v place is))
+      (λ t r is. subst (λ w. Bounded (allowed t) each w) (sym (chain_stop c d t r is)) (few t))
 
-  -- the whole chain, by the layouts of its records
-  pub chain_cost : (k : ℕ) → ((held : List C) (place : ℕ) → AtMost k (c.said held place))
-      → total (chain_at c d).marks ≤ k * records c d
-  chain_cost k each = chain_cost_from k (λ t. at_most d k (c.said t.held t.place) (each t.held t.place)) (start c)
+  -- by the layouts of its records
+  pub chain_cost : (each : ℕ) → ((held : List C) (place : ℕ) → Each each (c.said held place))
+      → Bounded 0 each (chain_at c d)
+  chain_cost each few = chain_bounded each (λ _. 0) (λ t v place is. omega (arith, bounded t)) bounded (start c) where
+    bounded : (t : Along C) → Bounded 0 each (next_record c d t)
+    bounded t = bounded_each each d (c.said t.held t.place) (few t.held t.place)
 
   -- Where the records use up an allowance, a chain reads at most the allowance.
   pub chain_within : (allowed : Along C → ℕ)
@@ -104,18 +101,10 @@ module _ {C X : Type 0} (c : Chain C X) (d : List ℕ) (adv : Advances c d) wher
       (record { held = t.held ++ v ∷ []; place = place }) ≤ allowed t)
       → ((t : Along C) → total (next_record c d t).marks ≤ allowed t)
       → (t : Along C) → total (chain_from c d t).marks ≤ allowed t
-  chain_within allowed used each = chain_induction c d (λ t. total (chain_from c d t).marks ≤ allowed t) adv
-      (λ t v place is later.
-      let u : Along C = record { held = t.held ++ v ∷ []; place = place } in
-      let all : total (chain_from c d t).marks ≡ total (next_record c d t).marks + total (chain_from c d u).marks =
-      ap (λ w. total w.marks) (chain_next c d t v place adv is)
-      ∙ total-append (next_record c d t).marks (chain_from c d u).marks in
-      let here = used t v place is in
-      omega arith)
-      (λ t r is.
-      let all : total (chain_from c d t).marks ≡ total (next_record c d t).marks =
-      ap (λ w. total w.marks) (chain_stop c d t r is) in
-      let here = each t in omega arith)
+  chain_within allowed used few t = omega (
+    arith,
+    chain_bounded 0 allowed (λ t v place is. omega (arith, used t v place is)) (λ t. omega (arith, few t)) t,
+  )
 
 verdict_ok : {C X : Type 0} (r : Result (Said C X) Halt) (y : X) → verdict r ≡ Some (Ok y) → r ≡ Ok (Decided y)
 verdict_ok (Ok (Decided x)) y is = cc
@@ -128,36 +117,28 @@ module _ {C X : Type 0} (c : Chain C X) (d x : List ℕ) (adv : Advances c d) (a
     → next_record c (d ++ x) t ≡ next_record c d t) where
   -- from some records on
   pub chain_more_from : (t : Along C) (v : X) → (chain_from c d t).answer ≡ Ok v
-      → (chain_from c (d ++ x) t ≡ chain_from c d t)
-      × (records_from c (d ++ x) t ≡ records_from c d t)
+      → chain_from c (d ++ x) t ≡ chain_from c d t
   chain_more_from = chain_induction c d
-      (λ t. (v : X) → (chain_from c d t).answer ≡ Ok v → (chain_from c (d ++ x) t ≡ chain_from c d t)
-      × (records_from c (d ++ x) t ≡ records_from c d t)) adv
+      (λ t. (v : X) → (chain_from c d t).answer ≡ Ok v → chain_from c (d ++ x) t ≡ chain_from c d t) adv
       (λ t v place is later y ok.
       let u : Along C = record { held = t.held ++ v ∷ []; place = place } in
       let here : next_record c (d ++ x) t ≡ next_record c d t = each t (Next v place) is in
       let is_more : (next_record c (d ++ x) t).answer ≡ Ok (Next v place) = ap (λ w. w.answer) here ∙ is in
-      let rest = later y (sym (ap (λ w. w.answer) (chain_next c d t v place adv is)) ∙ ok) in (
-        chain_next c (d ++ x) t v place adv_more is_more ∙ ap (λ w. put_behind w.marks (chain_from c (d ++ x) u)) here
-            ∙ ap (put_behind (next_record c d t).marks) rest.0 ∙ sym (chain_next c d t v place adv is),
-        records_next c (d ++ x) t v place adv_more is_more ∙ ap (λ n. n + 1) rest.1
-            ∙ sym (records_next c d t v place adv is),
-      ))
+      let rest = later y (sym (ap (λ w. w.answer) (chain_next c d t v place adv is)) ∙ ok) in
+      chain_next c (d ++ x) t v place adv_more is_more
+      ∙ ap (λ w. after_records w.begun (put_behind w.marks (chain_from c (d ++ x) u))) here
+      ∙ ap (λ w. after_records (next_record c d t).begun (put_behind (next_record c d t).marks w)) rest
+      ∙ sym (chain_next c d t v place adv is))
       (λ t r is y ok.
       let decided : r ≡ Ok y = sym (ap (λ w. w.answer) (chain_stop c d t r is)) ∙ ok in
       let here : next_record c (d ++ x) t ≡ next_record c d t =
       each t (Decided y) (verdict_ok (next_record c d t).answer y
       (is ∙ ap Some decided)) in
-      let is_more : verdict (next_record c (d ++ x) t).answer ≡ Some r = ap (λ w. verdict w.answer) here ∙ is in (
-        chain_stop c (d ++ x) t r is_more ∙ ap (λ w. record { answer = r; marks = w.marks }) here
-            ∙ sym (chain_stop c d t r is),
-        records_stop c (d ++ x) t r is_more ∙ sym (records_stop c d t r is),
-      ))
+      let is_more : verdict (next_record c (d ++ x) t).answer ≡ Some r = ap (λ w. verdict w.answer) here ∙ is in
+      chain_stop c (d ++ x) t r is_more ∙ ap (with_answer r) here ∙ sym (chain_stop c d t r is))
 
 -- a chain of plain records lasts
 pub lasts_chain : {C X : Type 0} (c : Chain C X) → ((d : List ℕ) → Advances c d)
     → ((held : List C) (place : ℕ) → Plain (c.said held place)) → Lasts (λ d. chain_at c d)
-lasts_chain c adv plain d x v is =
-    (chain_more_from c d x (adv d) (adv (d ++ x))
-    (λ t y got. more d x (c.said t.held t.place) y (plain t.held t.place) got) (start c) v
-    is).0
+lasts_chain c adv plain d x v is = chain_more_from c d x (adv d) (adv (d ++ x))
+    (λ t y got. more d x (c.said t.held t.place) y (plain t.held t.place) got) (start c) v is

@@ -5,7 +5,7 @@ use Rattle.imagesize_source.specs.declared.halt.Halt.{Halt}
 use Rattle.imagesize_source.specs.declared.span.Span.{Span}
 use Rattle.imagesize_source.specs.Input.{span_of}
 use Rattle.imagesize_source.specs.Layout.{Layout, layout_reads, bind}
-use Rattle.imagesize_source.specs.Layout.Layout.{«done», refuse, field, reading}
+use Rattle.imagesize_source.specs.Layout.Layout.{«done», refuse, field, reading, begin_record}
 use Rattle.imagesize_source.specs.Reading.{Reads, Reading, AllOf, PartOf, TextOf, go_on, number_at, read_of, most}
 use Rattle.imagesize_source.specs.State.{total}
 use Rattle.imagesize_source.proofs.Counts.{of_bytes, total-span_of, total_reading}
@@ -59,6 +59,7 @@ costs f e u d (reading r place g) h = onward_costs f e u (most r) (read_of d r p
     (λ x is. refused (u + most r ≤ e) ((bs : List ℕ) → CostsBy f e (u + most r) (g bs))
     {e = x} d r place h is) (λ bs. costs f e (u + most r) d (g bs)
     (otherwise (u + most r ≤ e) ((bs : List ℕ) → CostsBy f e (u + most r) (g bs)) r h bs))
+costs f e u d (begin_record t) h = costs f e u d t h
 
 -- fewer bytes before cost no more
 pub costs_less : {X : Type 0} (f : X → ℕ) (e u v : ℕ) (t : Layout X) → u ≤ v → CostsBy f e v t → CostsBy f e u t
@@ -72,6 +73,7 @@ costs_less f e u v (field order place n g) le h = let here = h.0 in (
 costs_less f e u v (reading r place g) le h =
     if_refused r (λ here. omega arith) (λ rest bs. costs_less f e (u + most r) (v + most r)
     (g bs) (omega arith) (rest bs)) h
+costs_less f e u v (begin_record t) le h = costs_less f e u v t le h
 
 -- one layout behind another
 pub costs_bind : {X Y : Type 0} (f : Y → ℕ) (e u j : ℕ) (t : Layout X) (g : X → Layout Y) → AtMost j t → u + j ≤ e
@@ -89,3 +91,4 @@ costs_bind f e u j (reading r place h) g few enough next =
     both ((most r ≤ j) × ((bs : List ℕ) → AtMost (j - most r) (h bs))) r few (omega arith)
     (λ bs. costs_bind f e (u + most r) (j - most r) (h bs) g (all.1 bs) (omega arith)
     (λ x. costs_less f e (u + most r + (j - most r)) (u + j) (g x) (omega arith) (next x)))
+costs_bind f e u j (begin_record t) g few enough next = costs_bind f e u j t g few enough next

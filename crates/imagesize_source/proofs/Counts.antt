@@ -1,6 +1,6 @@
 -- How many bytes are read, and how many places are seen.
-use Rattle.std.proofs.Common.{◌≡◌, ℕ, zero, suc, ◌+◌, ◌-◌, ◌*◌, ◌≤◌, min, max, Bool, true, false, cond, eqb, ◌||◌, List, [], ◌∷◌, length, Result, Ok, Err, refl, sym, arith}
-use Rattle.std.proofs.Math.Nat.{add-zero}
+use Rattle.std.proofs.Common.{◌≡◌, ℕ, zero, suc, ◌+◌, ◌-◌, ◌*◌, ◌≤◌, min, max, Bool, true, false, cond, eqb, ◌||◌, List, [], ◌∷◌, length, Result, Ok, Err, refl, sym, ap, ◌∙◌, arith}
+use Rattle.std.proofs.Math.Nat.{add-zero, mul-add}
 use Rattle.std.proofs.lemmas.Bool.Decides.{nat_tests}
 use Rattle.std.proofs.lemmas.List.Sums.{sum_by-cons}
 use Rattle.std.specs.Prelude.{count_by}
@@ -11,12 +11,12 @@ use Rattle.imagesize_source.specs.declared.halt.Halt.{Halt}
 use Rattle.imagesize_source.specs.declared.span.Span.{Span}
 use Rattle.imagesize_source.specs.declared.text.Text.{Text}
 use Rattle.imagesize_source.specs.Agreement.{has_place, is_covered}
-use Rattle.imagesize_source.specs.Counts.{places, AtMost, IfBytes}
-use Rattle.imagesize_source.specs.Chain.{count_behind}
+use Rattle.imagesize_source.specs.Counts.{places, AtMost, Each, IfBytes}
 use Rattle.imagesize_source.specs.Input.{part, span_at, span_of}
-use Rattle.imagesize_source.specs.Layout.{Layout, done, refuse, field, reading, layout_reads, bind}
-use Rattle.imagesize_source.specs.Reading.{Reads, Reading, AllOf, PartOf, TextOf, and_then, go_on, number_at, text_part, read_of, most}
+use Rattle.imagesize_source.specs.Layout.{Layout, done, refuse, field, reading, begin_record, layout_reads, bind}
+use Rattle.imagesize_source.specs.Reading.{Reads, Reading, AllOf, PartOf, TextOf, after_records, and_then, go_on, plus, number_at, text_part, read_of, most}
 use Rattle.imagesize_source.specs.State.{State, state_after, step, total, new_bytes, front_after}
+use Rattle.imagesize_source.proofs.Marks.{plus-is}
 use Rattle.imagesize_source.proofs.Parts.{part_length}
 use Rattle.std.proofs.lemmas.Bool.{or_right}
 
@@ -87,6 +87,7 @@ at_most d k (field order place n f) h =
 at_most d k (reading r place f) h =
     onward_at_most (read_of d r place).marks (read_of d r place).answer (λ bs. layout_reads d (f bs)) (most r) k
     (total_reading d r place) (of_bytes r h).0 (λ bs. at_most d (k - most r) (f bs) ((of_bytes r h).1 bs))
+at_most d k (begin_record t) h = at_most d k t h
 
 onward_within : {X Y : Type 0} (spans : List Span) (r : Result X Halt) (f : X → Reads Y) (j k : ℕ) → total spans ≤ j
     → ((x : X) → r ≡ Ok x → total (f x).marks ≤ k) → total (go_on spans r f).marks ≤ j + k
@@ -99,14 +100,40 @@ pub then_within : {X Y : Type 0} (r : Reads X) (f : X → Reads Y) (j k : ℕ) �
     → ((x : X) → r.answer ≡ Ok x → total (f x).marks ≤ k) → total (and_then r f).marks ≤ j + k
 then_within r f j k one two = onward_within r.marks r.answer f j k one two
 
--- what an answer leads to is read from `each` a record, and nothing behind a refusal
-pub begun_cost : {X Y : Type 0} (each : ℕ) (spans : List Span) (r : Result X Halt) (f : X → Reads Y) (n : X → ℕ)
-    (j k : ℕ)
-    → total spans ≤ j → ((x : X) → total (f x).marks ≤ k + each * n x)
-    → total (go_on spans r f).marks ≤ j + (k + each * count_behind r n)
-begun_cost each spans (Ok x) f n j k here rest = let all = total-append spans (f x).marks in let more = rest x in
-    omega arith
-begun_cost each spans (Err e) f n j k here rest = omega arith
+-- Readings are of at most so many bytes, and `each` for a record that is begun.
+abbrev pub Bounded : {X : Type 0} → ℕ → ℕ → Reads X → Type 0
+Bounded outside each r = total r.marks ≤ outside + each * r.begun
+
+-- so much for the records that are begun before others
+pub each_plus : (each k n : ℕ) → each * plus k n ≡ each * k + each * n
+each_plus each k n = ap (λ m. each * m) (plus-is k n) ∙ mul-add each k n
+
+onward_bounded : {X Y : Type 0} (each j k begun : ℕ) (spans : List Span) (r : Result X Halt) (f : X → Reads Y)
+    → total spans ≤ j + each * begun → ((x : X) → r ≡ Ok x → Bounded k each (f x))
+    → Bounded (j + k) each (after_records begun (go_on spans r f))
+onward_bounded each j k begun spans (Ok x) f here rest =
+    omega (arith, here, rest x refl, total-append spans (f x).marks, each_plus each begun (f x).begun)
+onward_bounded each j k begun spans (Err e) f here rest = omega (arith, here, each_plus each begun 0)
+
+-- readings behind readings
+pub bounded_then : {X Y : Type 0} (each j k : ℕ) (r : Reads X) (f : X → Reads Y) → Bounded j each r
+    → ((x : X) → r.answer ≡ Ok x → Bounded k each (f x)) → Bounded (j + k) each (and_then r f)
+bounded_then each j k r f here rest = onward_bounded each j k r.begun r.marks r.answer f here rest
+
+-- a layout that asks for at most so many bytes
+pub bounded_layout : {X : Type 0} (each k : ℕ) (d : List ℕ) (t : Layout X) → AtMost k t
+    → Bounded k each (layout_reads d t)
+bounded_layout each k d t few = omega (arith, at_most d k t few)
+
+-- a record that asks for at most so many bytes, or the end of a list
+pub bounded_each : {X : Type 0} (each : ℕ) (d : List ℕ) (t : Layout X) → Each each t
+    → Bounded 0 each (layout_reads d t)
+bounded_each each d (begin_record t) few =
+    omega (arith, at_most d each t few, each_plus each 1 (layout_reads d t).begun)
+bounded_each each d (done x) few = omega arith
+bounded_each each d (refuse e) few = omega arith
+bounded_each each d (field order place n f) few = bounded_layout each 0 d (field order place n f) few
+bounded_each each d (reading r place f) few = bounded_layout each 0 d (reading r place f) few
 
 -- at most j bytes are at most k, where k is no less
 pub at_most_more : {X : Type 0} (j k : ℕ) (t : Layout X) → j ≤ k → AtMost j t → AtMost k t
@@ -122,6 +149,7 @@ at_most_more j k (reading r place f) le h = if_bytes r (λ few. let here = few.0
   λ bs. at_most_more (j - most r) (k - most r) (f bs)
       (omega arith) (few.1 bs),
 )) h
+at_most_more j k (begin_record t) le h = at_most_more j k t le h
 
 -- a layout behind another asks for as many bytes as both
 pub at_most_bind : {X Y : Type 0} (j k : ℕ) (t : Layout X) (g : X → Layout Y) → AtMost j t → ((x : X) → AtMost k (g x))
@@ -138,6 +166,7 @@ at_most_bind j k (reading r place f) g h rest = if_bytes r (λ few. let here = f
   λ bs. at_most_more (j - most r + k) (j + k - most r)
       (bind (f bs) g) (omega arith) (at_most_bind (j - most r) k (f bs) g (few.1 bs) rest),
 )) h
+at_most_bind j k (begin_record t) g h rest = at_most_bind j k t g h rest
 
 pub count-cons : (p : ℕ → Bool) (x : ℕ) (xs : List ℕ) → count_by p (x ∷ xs) ≡ cond (p x) 1 0 + count_by p xs
 count-cons p x xs = sum_by-cons (λ y. cond (p y) 1 0) x xs

@@ -12,10 +12,10 @@ use Rattle.imagesize_source.proofs.Runs.{part_is}
 use Rattle.imagesize_source.proofs.Texts.{front_all, front_any, front_more}
 use Rattle.imagesize_source.specs.declared.endian.Endian.{Endian}
 use Rattle.imagesize_source.specs.Input.{part, span_at, span_of}
-use Rattle.imagesize_source.specs.Layout.{Layout, done, refuse, field, reading, layout_reads}
+use Rattle.imagesize_source.specs.Layout.{Layout, done, refuse, field, reading, begin_record, layout_reads}
 use Rattle.imagesize_source.specs.Numbers.{number}
 use Rattle.imagesize_source.specs.Extension.{Plain, Never, WhereCut}
-use Rattle.imagesize_source.specs.Reading.{Reads, and_then, number_read, Reading, AllOf, PartOf, TextOf, go_on, put_behind, bytes_at, number_at, text_part, read_of, map_answer}
+use Rattle.imagesize_source.specs.Reading.{Reads, after_records, and_then, just, number_read, Reading, AllOf, PartOf, TextOf, go_on, put_behind, bytes_at, number_at, text_part, read_of, map_answer}
 use Rattle.imagesize_source.proofs.Parts.{part_length}
 
 -- bytes behind the input are not among those that are all there
@@ -82,6 +82,7 @@ never_ok d (field order place k f) v never is =
 never_ok d (reading r place f) v never is =
     onward_never (read_of d r place).marks (read_of d r place).answer (λ bs. layout_reads d (f bs)) v is
     (λ bs ok. never_ok d (f bs) v (never bs) ok)
+never_ok d (begin_record t) v never is = never_ok d t v never is
 
 -- bytes behind the input follow those that are there
 drop_grows : (n : ℕ) (d x : List ℕ) → (rest : List ℕ) × (drop n (d ++ x) ≡ drop n d ++ rest)
@@ -136,20 +137,21 @@ reading_more P Q d x (PartOf k) place bs not_cut h is = elim (cases_lt (length d
 ]
 reading_more P Q d x (TextOf t k) place bs not_cut h is =
     let got : text_part d t place k ≡ bs = part_is is in
-    ap (λ bs. record { answer = Ok bs; marks = span_at place (length bs) })
+    ap (λ bs. just (Ok bs) (span_at place (length bs)))
     (text_more d x t place k
     (λ open_end few. not_cut (h.0 (ap (is_ended t) (sym got) ∙ open_end) (omega (arith, few, ap length got)))))
 
 -- what goes on is the same, where the readings are so whose answer it goes on from
-onward_more : {X Y : Type 0} (r r' : Reads X) (f g : X → Reads Y) (y : Y) → (and_then r f).answer ≡ Ok y
+pub onward_more : {X Y : Type 0} (r r' : Reads X) (f g : X → Reads Y) (y : Y) → (and_then r f).answer ≡ Ok y
     → ((x : X) → r.answer ≡ Ok x → (f x).answer ≡ Ok y → r' ≡ r) → ((x : X) → (f x).answer ≡ Ok y → g x ≡ f x)
     → and_then r' g ≡ and_then r f
 onward_more {X} {Y} r r' f g y is same rest = by_answer r.answer refl where
   by_answer : (a : Result X Halt) → r.answer ≡ a → and_then r' g ≡ and_then r f
   by_answer (Ok x) ok =
       let ends : (f x).answer ≡ Ok y = sym (ap (λ a. (go_on r.marks a f).answer) ok) ∙ is in
-      ap (λ w. and_then w g) (same x ok ends) ∙ ap (λ a. go_on r.marks a g) ok ∙ ap (put_behind r.marks) (rest x ends)
-      ∙ sym (ap (λ a. go_on r.marks a f) ok)
+      ap (λ w. and_then w g) (same x ok ends) ∙ ap (λ a. after_records r.begun (go_on r.marks a g)) ok
+      ∙ ap (λ w. after_records r.begun (put_behind r.marks w)) (rest x ends)
+      ∙ sym (ap (λ a. after_records r.begun (go_on r.marks a f)) ok)
   by_answer (Err e) bad =
       absurd (let no : ◌≡◌ {A = Result Y Halt} (Err e) (Ok y) = sym (ap (λ a. (go_on r.marks a f).answer) bad)
       ∙ is in cc)
@@ -170,6 +172,7 @@ more d x (reading r place f) v p is =
     (λ bs got ok. reading_more (Never (f bs)) (Plain (f bs)) d x r place bs (λ never. never_ok d (f bs) v never ok)
     (p bs) got)
     (λ bs ok. more d x (f bs) v (otherwise (Never (f bs)) (Plain (f bs)) r bs (p bs)) ok)
+more d x (begin_record t) v p is = ap (after_records 1) (more d x t v p is)
 
 -- the answer alone
 pub more_answer : {X : Type 0} (d x : List ℕ) (t : Layout X) (v : X) → Plain t → (layout_reads d t).answer ≡ Ok v

@@ -7,24 +7,55 @@ use Rattle.imagesize_source.specs.declared.span.Span.{Span}
 use Rattle.imagesize_source.specs.declared.halt.Halt.{Halt}
 use Rattle.imagesize_source.specs.Input.{part, span_of, span_at}
 use Rattle.imagesize_source.specs.Layout.{Layout, layout_reads, bind, whole, if_there, some_where}
-use Rattle.imagesize_source.specs.Layout.Layout.{«done», refuse, field, reading}
-use Rattle.imagesize_source.specs.Reading.{Reads, and_then, gives, go_on, map_answer, put_behind, number_at, part_read, read_of}
+use Rattle.imagesize_source.specs.Layout.Layout.{«done», refuse, field, reading, begin_record}
+use Rattle.imagesize_source.specs.Reading.{Reads, after_records, and_then, gives, just, uncounted, go_on, map_answer, put_behind, number_at, part_read, read_of}
 use Rattle.imagesize_source.specs.State.{State, Runs, Missed, total, state_after}
+use Rattle.imagesize_source.proofs.Marks.{plus-assoc, plus-zero}
 use Rattle.imagesize_source.proofs.Runs.{answered, part_is, runs_refused}
 
 behind-onward : {Y Z : Type 0} (marks more : List Span) (r : Result Y Halt) (g : Y → Reads Z)
     → put_behind marks (go_on more r g)
     ≡ go_on (marks ++ more) r g
-behind-onward marks more (Ok y) g =
-    ap (λ m. record { answer = (g y).answer; marks = m }) (sym (append_assoc marks more (g y).marks))
+behind-onward marks more (Ok y) g = ap (λ m. record (g y) { marks = m }) (sym (append_assoc marks more (g y).marks))
 behind-onward marks more (Err e) g = refl
 
 -- what goes on from an answer that itself goes on
 pub onward-and_then : {X Y Z : Type 0} (marks : List Span) (r : Result X Halt) (f : X → Reads Y) (g : Y → Reads Z)
     (both : X → Reads Z)
     → ((x : X) → both x ≡ and_then (f x) g) → go_on marks r both ≡ and_then (go_on marks r f) g
-onward-and_then marks (Ok x) f g both is = ap (put_behind marks) (is x) ∙ behind-onward marks (f x).marks (f x).answer g
+onward-and_then marks (Ok x) f g both is =
+    ap (put_behind marks) (is x)
+    ∙ ap (after_records (f x).begun) (behind-onward marks (f x).marks (f x).answer g)
 onward-and_then marks (Err e) f g both is = refl
+
+-- the same of readings that begin records
+pub then_then : {X Y Z : Type 0} (r : Reads X) (f : X → Reads Y) (g : Y → Reads Z) (both : X → Reads Z)
+    → ((x : X) → both x ≡ and_then (f x) g) → and_then r both ≡ and_then (and_then r f) g
+then_then r f g both is =
+    let w = go_on r.marks r.answer f in
+    ap (after_records r.begun) (onward-and_then r.marks r.answer f g both is)
+    ∙ ap (λ n. record (go_on w.marks w.answer g) { begun = n })
+    (sym (plus-assoc r.begun w.begun (go_on w.marks w.answer g).begun))
+
+-- what goes on from the same answer
+onward_alike : {X Y : Type 0} (marks : List Span) (r : Result X Halt) (f g : X → Reads Y)
+    → ((x : X) → r ≡ Ok x → f x ≡ g x)
+    → go_on marks r f ≡ go_on marks r g
+onward_alike marks (Ok x) f g same = ap (put_behind marks) (same x refl)
+onward_alike marks (Err e) f g same = refl
+
+pub then_alike : {X Y : Type 0} (r : Reads X) (f g : X → Reads Y) → ((x : X) → r.answer ≡ Ok x → f x ≡ g x)
+    → and_then r f ≡ and_then r g
+then_alike r f g same = ap (after_records r.begun) (onward_alike r.marks r.answer f g same)
+
+-- an answer that is given as it is
+onward_gives : {X : Type 0} (marks : List Span) (r : Result X Halt) → go_on marks r gives ≡ just r marks
+onward_gives marks (Ok x) = ap (just (Ok x)) (append-nil marks)
+onward_gives marks (Err e) = refl
+
+pub then_gives : {X : Type 0} (r : Reads X) → and_then r gives ≡ r
+then_gives r = ap (after_records r.begun) (onward_gives r.marks r.answer)
+    ∙ ap (λ n. record r { begun = n }) (plus-zero r.begun)
 
 -- one layout behind the other: first the readings of the one, then those of the other
 pub over-bind : {X Y : Type 0} (d : List ℕ) (t : Layout X) (f : X → Layout Y)
@@ -37,6 +68,7 @@ over-bind d (field order place k g) f =
 over-bind d (reading r place g) f =
     onward-and_then (read_of d r place).marks (read_of d r place).answer (λ bs. layout_reads d (g bs))
     (λ x. layout_reads d (f x)) (λ bs. layout_reads d (bind (g bs) f)) (λ bs. over-bind d (g bs) f)
+over-bind d (begin_record t) f = ap (after_records 1) (over-bind d t f)
 
 whole-all : (k : ℕ) (bs : List ℕ) → k ≤ length bs → whole k bs ≡ Some bs
 whole-all k bs all = grind (arith, nat_tests)
@@ -75,7 +107,7 @@ whole_stopped {a = a} {b = b} d place k found r why is h =
 
 -- readings that are others' where the source is honest
 pub runs_as : {X : Type 0} {a b : State} {r : Result X Halt} {reads : Reads X} (other : Reads X) → Runs a b r reads
-    → (a.held.honest ≡ true → reads ≡ other) → Runs a b r other
+    → (a.held.honest ≡ true → uncounted reads ≡ uncounted other) → Runs a b r other
 runs_as {X} {a} {b} {r} other h same = record {
   sound = h.sound;
   sound_after = h.sound_after;
@@ -92,7 +124,7 @@ runs_as {X} {a} {b} {r} other h same = record {
 -- an honest source tells the length
 pub by_told : {X : Type 0} {a b : State} {r : Result X Halt} (f : ℕ → Reads X) → Runs a b r (f a.frame.told)
     → Runs a b r (f (length a.held.input))
-by_told {a} f h = runs_as (f (length a.held.input)) h (λ honest. ap f (h.sound honest).0)
+by_told {a} f h = runs_as (f (length a.held.input)) h (λ honest. ap (λ n. uncounted (f n)) (h.sound honest).0)
 
 -- behind the end nothing is there
 pub no_part : (d : List ℕ) (place k : ℕ) → length d ≤ place → part d place k ≡ []

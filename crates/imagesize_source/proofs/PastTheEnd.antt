@@ -6,7 +6,7 @@ use Rattle.imagesize_source.specs.declared.halt.Halt.{Halt}
 use Rattle.imagesize_source.specs.declared.halt.Halt.TheVariants.{Ended}
 use Rattle.imagesize_source.specs.Layout.{Layout, bytes, layout_reads, if_there, whole}
 use Rattle.imagesize_source.specs.Layout.Layout.{«done»}
-use Rattle.imagesize_source.specs.Reading.{Reads, bytes_at, bytes_read, number_at, number_read, part_read, gives, refuses}
+use Rattle.imagesize_source.specs.Reading.{Reads, bytes_at, bytes_read, number_at, number_read, part_read, gives, refuses, uncounted}
 use Rattle.imagesize_source.specs.State.{State, Runs}
 use Rattle.imagesize_source.proofs.Layouts.{no_part, no_span, runs_as}
 
@@ -14,14 +14,14 @@ use Rattle.imagesize_source.proofs.Layouts.{no_part, no_span, runs_as}
 -- So a place that is held at the greatest of 64 bits serves as well.
 pub saturated_by : {X : Type 0} {a b : State} {r : Result X Halt} (f : ℕ → List ℕ → Reads X) (other : Reads X)
     (place at : ℕ)
-    → ((d : List ℕ) (p : ℕ) → length d ≤ p → f p d ≡ other) → Runs a b r (f at a.held.input)
+    → ((d : List ℕ) (p : ℕ) → length d ≤ p → uncounted (f p d) ≡ other) → Runs a b r (f at a.held.input)
     → at ≡ min place (2 ^ 64 - 1) → Runs a b r (f place a.held.input)
 saturated_by {a} f other place at beyond h is =
     runs_as (f place a.held.input) h
     (λ honest. within a.held.input (h.sound honest).1 (leb place (2 ^ 64 - 1)) refl) where
       within : (d : List ℕ) → length d < 2 ^ 63 → (is_within : Bool) → leb place (2 ^ 64 - 1) ≡ is_within
-          → f at d ≡ f place d
-      within d short true fits = ap (λ p. f p d) (grind (arith, nat_tests))
+          → uncounted (f at d) ≡ uncounted (f place d)
+      within d short true fits = ap (λ p. uncounted (f p d)) (grind (arith, nat_tests))
       within d short false far = beyond d at (grind (arith, nat_tests))
           ∙ sym (beyond d place (grind (arith, nat_tests)))
 

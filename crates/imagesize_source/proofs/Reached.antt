@@ -5,7 +5,7 @@ use Rattle.imagesize_source.specs.declared.halt.Halt.{Halt}
 use Rattle.imagesize_source.specs.declared.span.Span.{Span}
 use Rattle.imagesize_source.specs.Chain.{Decided, Next, Chain, Along, next_record, chain_from, Advances}
 use Rattle.imagesize_source.specs.Layout.{Layout, layout_reads, bind}
-use Rattle.imagesize_source.specs.Reading.{Reads, and_then, go_on, put_behind, gives, is_stopped, is_faulted}
+use Rattle.imagesize_source.specs.Reading.{Reads, and_then, go_on, put_behind, gives, is_stopped, is_faulted, just, uncounted}
 use Rattle.imagesize_source.specs.State.{State, Runs, EndedBy, Missed, IsSound, total, state_after}
 use Rattle.imagesize_source.proofs.Chains.{chain_unfolds, follows}
 use Rattle.imagesize_source.proofs.Marks.{behind-behind}
@@ -20,7 +20,7 @@ pub record Reached {X : Type 0} (a b : State) (whole rest : Reads X) : Type 0 wh
   pub made : List Span
   pub within : a.held.honest ≡ true → b.taken ≤ a.taken + total made
   pub state : a.held.honest ≡ true → b ≡ state_after a made
-  pub left : a.held.honest ≡ true → whole ≡ put_behind made rest
+  pub left : a.held.honest ≡ true → uncounted whole ≡ put_behind made (uncounted rest)
 
 -- nothing was read
 pub reached_start : {X : Type 0} (a : State) (whole : Reads X) → Reached a a whole whole
@@ -47,7 +47,7 @@ onward_at spans r s f is = ap (λ q. go_on spans q f) is
 -- nothing is read
 pub reads_nothing : {X : Type 0} (b : State) (r : Result X Halt) → IsSound b → is_faulted r ≡ false
     → IfErr r (EndedBy b)
-    → Runs b b r (record { answer = r; marks = [] })
+    → Runs b b r (just r [])
 unfolding state_after
 reads_nothing b r sound no_fault ended = record {
   sound = sound;
@@ -83,7 +83,7 @@ module _ {X : Type 0} {a b : State} {whole rest : Reads X} (h : Reached a b whol
     made = h.made;
     within = h.within;
     state = h.state;
-    left = λ honest. h.left honest ∙ ap (put_behind h.made) (same honest);
+    left = λ honest. h.left honest ∙ ap (λ w. put_behind h.made (uncounted w)) (same honest);
   }
 
   -- a run that ends with what was left, or is ended by a refusal on the way
@@ -127,7 +127,7 @@ module _ {X : Type 0} {a b : State} {whole rest : Reads X} (h : Reached a b whol
 
   -- the readings that were left end the run
   pub reached_end : {end : State} (r : Result X Halt) (given : Reads X) → Runs b end r given
-      → (a.held.honest ≡ true → given ≡ rest) → Runs a end r whole
+      → (a.held.honest ≡ true → uncounted given ≡ uncounted rest) → Runs a end r whole
   reached_end r given run same = ended_by r r given run refl refl run.ended
       (λ honest. ([], ap (λ w. w.marks) (sym (same honest)) ∙ sym (append-nil given.marks)))
       (λ honest. let is = ap (λ w. total w.marks) (same honest) in omega arith)
@@ -135,10 +135,10 @@ module _ {X : Type 0} {a b : State} {whole rest : Reads X} (h : Reached a b whol
 
   -- nothing more is read, and the answer is known
   pub reached_now : (r : Result X Halt) → IsSound b → is_faulted r ≡ false → IfErr r (EndedBy b)
-      → (a.held.honest ≡ true → length a.held.input < 2 ^ 63 → rest ≡ record { answer = r; marks = [] })
+      → (a.held.honest ≡ true → length a.held.input < 2 ^ 63 → uncounted rest ≡ just r [])
       → Runs a b r whole
   reached_now r sound no_fault ended same =
-      reached_end r (record { answer = r; marks = [] }) (reads_nothing b r sound no_fault ended)
+      reached_end r (just r []) (reads_nothing b r sound no_fault ended)
       (λ honest. sym (same honest (let short = (h.sound sound honest).1 in omega arith)))
 
 module _ {X Y : Type 0} {a b : State} {whole : Reads X} (reads : Reads Y) (f : Y → Reads X)
@@ -161,10 +161,10 @@ module _ {X Y : Type 0} {a b : State} {whole : Reads X} (reads : Reads Y) (f : Y
           ∙ past-past a h.made
           given.marks;
       left = λ honest.
-          h.left honest ∙ ap (λ w. put_behind h.made (and_then w f)) (sym (same honest))
-          ∙ ap (put_behind h.made)
+          h.left honest ∙ ap (λ w. put_behind h.made (uncounted (and_then w f))) (sym (same honest))
+          ∙ ap (λ w. put_behind h.made (uncounted w))
           (onward_at given.marks given.answer (Ok y) f (run.answer (still_honest h honest) refl))
-          ∙ behind-behind h.made given.marks (f y);
+          ∙ behind-behind h.made given.marks (uncounted (f y));
     }
 
     -- the next readings were refused
@@ -178,8 +178,8 @@ module _ {X Y : Type 0} {a b : State} {whole : Reads X} (reads : Reads Y) (f : Y
         (λ honest. let is = ap (λ w. total w.marks) (same honest) in
         let more = total_onward reads.marks reads.answer f in omega arith)
         (λ honest is.
-        let out : go_on reads.marks reads.answer f ≡ record { answer = Err e; marks = given.marks } =
-        ap (λ w. and_then w f) (sym (same honest)) ∙ onward_at given.marks given.answer (Err e) f is in
+        let out : go_on reads.marks reads.answer f ≡ just (Err e) given.marks =
+        ap (λ w. go_on w.marks w.answer f) (sym (same honest)) ∙ onward_at given.marks given.answer (Err e) f is in
         (ap (λ w. w.answer) out, ap (λ w. w.marks) out))
 
     -- the next readings gave the answer, behind which nothing is read
@@ -193,7 +193,7 @@ module _ {X Y : Type 0} {a b : State} {whole : Reads X} (reads : Reads Y) (f : Y
         let more = total_onward reads.marks reads.answer f in omega arith)
         (λ honest is.
         let out : go_on reads.marks reads.answer f ≡ put_behind given.marks (gives x) =
-        ap (λ w. and_then w f) (sym (same honest)) ∙ onward_at given.marks given.answer (Ok y) f is
+        ap (λ w. go_on w.marks w.answer f) (sym (same honest)) ∙ onward_at given.marks given.answer (Ok y) f is
         ∙ ap (put_behind given.marks) last in
         (ap (λ w. w.answer) out, ap (λ w. w.marks) out ∙ append-nil given.marks))
 
@@ -230,7 +230,7 @@ module _ {C X : Type 0} (c : Chain C X) (adv : (d : List ℕ) → Advances c d) 
 -- a layout that was read, and what goes on from its answer and reads nothing
 pub runs_bind : {X Y : Type 0} {a b : State} {x : X} (r : Result Y Halt) (t : Layout X) (f : X → Layout Y)
     → Runs a b (Ok x) (layout_reads a.held.input t)
-    → ((d : List ℕ) → layout_reads d (f x) ≡ record { answer = r; marks = [] }) → is_faulted r ≡ false
+    → ((d : List ℕ) → layout_reads d (f x) ≡ just r []) → is_faulted r ≡ false
     → IfErr r (EndedBy b) → Runs a b r (layout_reads a.held.input (bind t f))
 runs_bind {X} {Y} {a} {b} {x} r t f first says no_fault ended =
     let second : Runs b b r (layout_reads b.held.input (f x)) = subst (λ w. Runs b b r w) (sym (says b.held.input))

@@ -9,9 +9,9 @@ use Rattle.imagesize_source.specs.declared.span.Span.{Span}
 use Rattle.imagesize_source.specs.declared.text.Text.{Text}
 use Rattle.imagesize_source.specs.Chain.{Next, Chain, Along, next_record, verdict, chain_from, Advances}
 use Rattle.imagesize_source.specs.Input.{part, span_at, span_of}
-use Rattle.imagesize_source.specs.Layout.{Layout, done, refuse, field, reading, layout_reads}
+use Rattle.imagesize_source.specs.Layout.{Layout, done, refuse, field, reading, begin_record, layout_reads}
 use Rattle.imagesize_source.specs.Numbers.{number}
-use Rattle.imagesize_source.specs.Reading.{Reads, Reading, AllOf, PartOf, TextOf, go_on, put_behind, bytes_at, number_at, text_part, read_of, map_answer}
+use Rattle.imagesize_source.specs.Reading.{Reads, Reading, AllOf, PartOf, TextOf, after_records, and_then, just, uncounted, with_answer, go_on, put_behind, bytes_at, number_at, text_part, read_of, map_answer}
 use Rattle.imagesize_source.specs.Sharing.{Shares}
 use Rattle.imagesize_source.specs.Text.{text_front, is_ended}
 use Rattle.imagesize_source.proofs.Agreement.{covered-left, covered-right, covered-one}
@@ -132,7 +132,7 @@ shared_reading : (d e : List ℕ) (r : Reading) (place : ℕ) → Shares d e (re
 shared_reading d e (AllOf k) place a = rw (shared_span d e place k a, shared_bytes d e place k a) refl
 shared_reading d e (PartOf k) place a = rw (shared_span d e place k a, shared_part d e place k a) refl
 shared_reading d e (TextOf t k) place a =
-    ap (λ bs. record { answer = Ok bs; marks = span_at place (length bs) }) (shared_text d e t place k a)
+    ap (λ bs. just (Ok bs) (span_at place (length bs))) (shared_text d e t place k a)
 
 -- what goes on from an answer rests on its spans
 shares_first : {d e : List ℕ} {X Y : Type 0} (spans : List Span) (r : Result X Halt) (f : X → Reads Y)
@@ -160,10 +160,11 @@ shared d e (field order place k f) a =
 shared d e (reading r place f) a =
     let here : Shares d e (read_of e r place).marks = shares_first (read_of e r place).marks (read_of e r place).answer
     (λ bs. layout_reads e (f bs)) a in
-    rw (shared_reading d e r place here)
-    (onward_shared (read_of e r place).marks (read_of e r place).answer (λ bs. layout_reads e (f bs))
+    ap (λ w. and_then w (λ bs. layout_reads d (f bs))) (shared_reading d e r place here)
+    ∙ onward_shared (read_of e r place).marks (read_of e r place).answer (λ bs. layout_reads e (f bs))
     (λ bs. layout_reads d (f bs)) a
-    (λ bs. shared d e (f bs)))
+    (λ bs. shared d e (f bs))
+shared d e (begin_record t) a = ap (after_records 1) (shared d e t a)
 
 -- and so it is of a chain from some records on
 module _ {C X : Type 0} (c : Chain C X) (d e : List ℕ) (adv_d : Advances c d) (adv : Advances c e) where
@@ -177,28 +178,30 @@ module _ {C X : Type 0} (c : Chain C X) (d e : List ℕ) (adv_d : Advances c d) 
       let here : next_record c d t ≡ next_record c e t = shared d e (c.said t.held t.place)
       (shares-left (next_record c e t).marks (chain_from c e u).marks all) in
       let is_d : (next_record c d t).answer ≡ Ok (Next v place) = ap (λ w. w.answer) here ∙ is in
-      chain_next c d t v place adv_d is_d ∙ ap (λ w. put_behind w.marks (chain_from c d u)) here
-      ∙ ap (put_behind (next_record c e t).marks)
+      chain_next c d t v place adv_d is_d
+      ∙ ap (λ w. after_records w.begun (put_behind w.marks (chain_from c d u))) here
+      ∙ ap (λ w. after_records (next_record c e t).begun (put_behind (next_record c e t).marks w))
       (later (shares-right (next_record c e t).marks (chain_from c e u).marks all))
       ∙ sym (chain_next c e t v place adv is))
       (λ t r is a.
       let all : Shares d e (next_record c e t).marks = subst (λ w. Shares d e w.marks) (chain_stop c e t r is) a in
       let here : next_record c d t ≡ next_record c e t = shared d e (c.said t.held t.place) all in
       let is_d : verdict (next_record c d t).answer ≡ Some r = ap (λ w. verdict w.answer) here ∙ is in
-      chain_stop c d t r is_d ∙ ap (λ w. record { answer = r; marks = w.marks }) here ∙ sym (chain_stop c e t r is))
+      chain_stop c d t r is_d ∙ ap (with_answer r) here ∙ sym (chain_stop c e t r is))
 
   -- an input that shares the marks of the readings up to a record comes to it, and goes on from there
   pub leads_on : (t u : Along C) (made : List Span) (v : C) (place : ℕ)
-      → (Shares d e made → chain_from c d t ≡ put_behind made (chain_from c d u))
+      → (Shares d e made → uncounted (chain_from c d t) ≡ put_behind made (uncounted (chain_from c d u)))
       → (next_record c e u).answer ≡ Ok (Next v place) → Shares d e (made ++ (next_record c e u).marks)
-      → chain_from c d t ≡ put_behind (made ++ (next_record c e u).marks)
-      (chain_from c d (record { held = u.held ++ v ∷ []; place = place }))
+      → uncounted (chain_from c d t) ≡ put_behind (made ++ (next_record c e u).marks)
+      (uncounted (chain_from c d (record { held = u.held ++ v ∷ []; place = place })))
   leads_on t u made v place so_far is a =
       let here : next_record c d u ≡ next_record c e u =
       shared d e (c.said u.held u.place) (shares-right made (next_record c e u).marks a) in
       let is_d : (next_record c d u).answer ≡ Ok (Next v place) = ap (λ w. w.answer) here ∙ is in
       so_far (shares-left made (next_record c e u).marks a)
-      ∙ ap (put_behind made) (chain_next c d u v place adv_d is_d
-      ∙ ap (λ w. put_behind w.marks (chain_from c d (record { held = u.held ++ v ∷ []; place = place }))) here)
+      ∙ ap (λ w. put_behind made (uncounted w)) (chain_next c d u v place adv_d is_d)
+      ∙ ap (λ w. put_behind made (put_behind w.marks
+      (uncounted (chain_from c d (record { held = u.held ++ v ∷ []; place = place }))))) here
       ∙ behind-behind made (next_record c e u).marks
-      (chain_from c d (record { held = u.held ++ v ∷ []; place = place }))
+      (uncounted (chain_from c d (record { held = u.held ++ v ∷ []; place = place })))

@@ -4,7 +4,7 @@ use Rattle.imagesize_source.specs.declared.halt.Halt.{Halt}
 use Rattle.imagesize_source.specs.declared.span.Span.{Span}
 use Rattle.imagesize_source.specs.Chain.{Said, Decided, Next, Chain, Along, start, next_record, verdict, chain_from, chain_at, Advances}
 use Rattle.imagesize_source.specs.Input.{span_of}
-use Rattle.imagesize_source.specs.Layout.{Layout, done, refuse, field, reading, layout_reads}
+use Rattle.imagesize_source.specs.Layout.{Layout, done, refuse, field, reading, begin_record, layout_reads}
 use Rattle.imagesize_source.specs.Reading.{Reads, Reading, AllOf, PartOf, TextOf, go_on, and_then, number_at, read_of, text_part}
 use Rattle.imagesize_source.specs.State.{total}
 use Rattle.imagesize_source.proofs.ChainLaws.{chain_induction}
@@ -44,6 +44,7 @@ Onto to q (done x) = NotBefore q (to x)
 Onto to q (refuse e) = Unit {0}
 Onto to q (field order place k f) = (q ≤ place) × ((v : ℕ) → Onto to (place + k) (f v))
 Onto to q (reading r place f) = (q ≤ place) × ((bs : List ℕ) → Onto to (place + passed r bs) (f bs))
+Onto to q (begin_record t) = Onto to q t
 
 not_before_left : (n q : ℕ) (next : Option ℕ) → NotBefore q next → left_of n next ≤ n - q
 not_before_left n q None h = omega arith
@@ -95,6 +96,7 @@ spends d to q (reading r place f) h =
     (λ bs. place + passed r bs)
     (omega (arith, h.0, reading_left d r place)) (λ bs is. omega (arith, h.0, reading_spends d r place bs is))
     (λ bs _. spends d to (place + passed r bs) (f bs) (h.1 bs))
+spends d to q (begin_record t) h = spends d to q t h
 
 -- readings, and others that go on from the place where they lead
 pub spends_then : {X Y : Type 0} (n q : ℕ) (next : X → ℕ) (to : Y → Option ℕ) (r : Reads X) (f : X → Reads Y)

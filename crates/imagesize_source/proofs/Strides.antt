@@ -4,7 +4,7 @@ use Rattle.imagesize_source.specs.declared.halt.Halt.{Halt}
 use Rattle.imagesize_source.specs.declared.span.Span.{Span}
 use Rattle.imagesize_source.specs.Chain.{Said, Decided, Next, Chain, Along, next_record, verdict, chain_from, Advances}
 use Rattle.imagesize_source.specs.Layout.{layout_reads}
-use Rattle.imagesize_source.specs.Reading.{is_faulted, is_stopped, map_answer, put_behind}
+use Rattle.imagesize_source.specs.Reading.{is_faulted, is_stopped, just, map_answer, put_behind, uncounted, with_answer}
 use Rattle.imagesize_source.specs.State.{State, Runs, Missed, IsSound, state_after}
 use Rattle.imagesize_source.specs.Sharing.{Shares, Stood}
 use Rattle.imagesize_source.proofs.Chains.{chain_stop}
@@ -23,7 +23,7 @@ pub record Strides {C X : Type 0} (c : Chain C X) (P : List C → Type 0) (a b :
   pub ahead : a.held.honest ≡ true → t.place ≤ place
   pub state : a.held.honest ≡ true → b ≡ state_after a made
   pub leads : a.held.honest ≡ true → (d : List ℕ) → Shares d a.held.input made
-      → chain_from c d t ≡ put_behind made (chain_from c d (record { held = held; place = place }))
+      → uncounted (chain_from c d t) ≡ put_behind made (uncounted (chain_from c d (record { held = held; place = place })))
 
 module _ {C X : Type 0} (c : Chain C X) where
   pub strides_start : (P : List C → Type 0) (a : State) (t : Along C) → P t.held → Strides c P a a t t.place
@@ -69,8 +69,8 @@ module _ {C X : Type 0} (c : Chain C X) (adv : (d : List ℕ) → Advances c d)
         (ap (λ x. x.honest) (still_held honest) ∙ honest) refl in
         leads_on c d a.held.input (adv d) (adv a.held.input) t here w.made v next (w.leads honest d) is
         (subst (λ r. Shares d a.held.input (w.made ++ r.marks)) same shares)
-        ∙ ap (λ r. put_behind (w.made ++ r.marks) (chain_from c d (record { held = w.held ++ v ∷ []; place = next })))
-        (sym same);
+        ∙ ap (λ r. put_behind (w.made ++ r.marks)
+        (uncounted (chain_from c d (record { held = w.held ++ v ∷ []; place = next })))) (sym same);
   } where
     still_held : a.held.honest ≡ true → b.held ≡ a.held
     still_held honest = ap (λ s. s.held) (w.state honest) ∙ past-held a w.made
@@ -88,14 +88,14 @@ module _ {C X : Type 0} (c : Chain C X) (adv : (d : List ℕ) → Advances c d)
   -- at an offset beyond every input nothing more is read
   pub strides_past : (r : Result X Halt) → 2 ^ 63 ≤ place → IsSound b → is_stopped r ≡ false
       → ((held : List C) (d : List ℕ) → P held → length d ≤ place
-      → layout_reads d (c.said held place) ≡ record { answer = map_answer Decided r; marks = [] })
+      → uncounted (layout_reads d (c.said held place)) ≡ just (map_answer Decided r) [])
       → Runs a b r (chain_from c a.held.input t)
   strides_past r far sound goes_on none =
       reached_now w.reached r sound (without_fault r goes_on) (plain_end b r goes_on)
       (λ honest short.
       let out = none w.held a.held.input w.known (omega arith) in
-      chain_stop c a.held.input here r (ap (λ q. verdict q.answer) out ∙ decided r)
-      ∙ ap (λ q. record { answer = r; marks = q.marks }) out) where
+      ap uncounted (chain_stop c a.held.input here r (ap (λ q. verdict q.answer) out ∙ decided r))
+      ∙ ap (with_answer r) out) where
         decided : (r : Result X Halt) → verdict (map_answer {Y = Said C X} Decided r) ≡ Some r
         decided (Ok x) = refl
         decided (Err e) = refl

@@ -1,6 +1,6 @@
 -- Sequences of records: each record holds a value and gives the offset of the next.
 use Rattle.std.specs.Prelude.{◌≡◌, ℕ, zero, suc, ◌+◌, ◌<◌, List, [], ◌∷◌, ◌++◌, length, Option, None, Some, Result, Ok, Err, is_some, unwrap_or, option_and_then, flat_map}
-use Rattle.std.specs.List.{position_or_len, range_with_len}
+use Rattle.std.specs.List.{position_or_len, range_with_len, sum_by}
 use Rattle.std.specs.Option.{option_map_or}
 use Rattle.imagesize_source.specs.declared.halt.Halt.{Halt}
 use Rattle.imagesize_source.specs.declared.halt.Halt.TheVariants.{Ended}
@@ -56,28 +56,25 @@ verdict_of c d t i = option_and_then (λ u. verdict (next_record c d u).answer) 
 abbrev pub marks_of : {C X : Type 0} → Chain C X → List ℕ → Along C → ℕ → List Span
 marks_of c d t i = option_map_or (λ u. (next_record c d u).marks) (trail c d t i) []
 
+-- how many records it begins: one, or none at the end of a counted list
+abbrev pub begun_of : {C X : Type 0} → Chain C X → List ℕ → Along C → ℕ → ℕ
+begun_of c d t i = option_map_or (λ u. (next_record c d u).begun) (trail c d t i) 0
+
 -- the deciding record: the first that has a verdict
 unfoldable pub deciding_record : {C X : Type 0} → Chain C X → List ℕ → Along C → ℕ
 deciding_record c d t = position_or_len (λ i. is_some (verdict_of c d t i)) (range_with_len 0 (length d + 1))
 
--- how many records are begun
+-- how many records there are up to it
 abbrev pub records_from : {C X : Type 0} → Chain C X → List ℕ → Along C → ℕ
 records_from c d t = deciding_record c d t + 1
 
--- the verdict of the deciding record, with the spans of all records up to it
+-- the verdict of the deciding record, with the spans of all records up to it, and how many of them are begun
 unfoldable pub chain_from : {C X : Type 0} → Chain C X → List ℕ → Along C → Reads X
 chain_from c d t = record {
   answer = unwrap_or (verdict_of c d t (deciding_record c d t)) (Err Ended);
   marks = flat_map (marks_of c d t) (range_with_len 0 (records_from c d t));
+  begun = sum_by (begun_of c d t) (range_with_len 0 (records_from c d t));
 }
-
-abbrev pub records : {C X : Type 0} → Chain C X → List ℕ → ℕ
-records c d = records_from c d (start c)
-
--- the number that a result leads to, or 0 for an error: no record is begun after one
-abbrev pub count_behind : {X : Type 0} → Result X Halt → (X → ℕ) → ℕ
-count_behind (Ok x) count = count x
-count_behind (Err e) count = 0
 
 abbrev pub chain_at : {C X : Type 0} → Chain C X → List ℕ → Reads X
 chain_at c d = chain_from c d (start c)

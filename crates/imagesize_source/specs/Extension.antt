@@ -1,6 +1,6 @@
 -- What appended bytes cannot change.
 use Rattle.std.specs.Prelude.{◌≡◌, ℕ, ◌<◌, false, List, ◌++◌, length, Ok}
-use Rattle.imagesize_source.specs.Layout.{Layout, done, refuse, field, reading}
+use Rattle.imagesize_source.specs.Layout.{Layout, done, refuse, field, reading, begin_record}
 use Rattle.imagesize_source.specs.Reading.{Reads, Reading, AllOf, PartOf, TextOf}
 use Rattle.imagesize_source.specs.Text.{is_ended}
 
@@ -10,6 +10,7 @@ Never (done x) = ⊥
 Never (refuse e) = Unit {0}
 Never (field order place k f) = (v : ℕ) → Never (f v)
 Never (reading r place f) = (bs : List ℕ) → Never (f bs)
+Never (begin_record t) = Never t
 
 -- Q, and P too if the input may have ended before the reading got all of its bytes
 abbrev pub WhereCut : Reading → List ℕ → Type 0 → Type 0 → Type 0
@@ -23,6 +24,7 @@ Plain (done x) = Unit {0}
 Plain (refuse e) = Unit {0}
 Plain (field order place k f) = (v : ℕ) → Plain (f v)
 Plain (reading r place f) = (bs : List ℕ) → WhereCut r bs (Never (f bs)) (Plain (f bs))
+Plain (begin_record t) = Plain t
 
 -- appended bytes change neither a value that was returned nor the spans that it depends on
 abbrev pub Lasts : {X : Type 0} → (List ℕ → Reads X) → Type 0

@@ -3,14 +3,16 @@ use Rattle.std.specs.Prelude.{ℕ, Bool, true, false, List, length, nat_le, if�
 use Rattle.imagesize_source.specs.declared.halt.Halt.{Halt}
 use Rattle.imagesize_source.specs.declared.text.Text.{Text}
 use Rattle.imagesize_source.specs.declared.endian.Endian.{Endian}
-use Rattle.imagesize_source.specs.Reading.{Reads, Reading, AllOf, PartOf, TextOf, gives, refuses, and_then, number_read, read_of}
+use Rattle.imagesize_source.specs.Reading.{Reads, Reading, AllOf, PartOf, TextOf, after_records, gives, refuses, and_then, number_read, read_of}
 
--- A layout sees the input through its readings only: a number of k bytes at an offset, or another reading there.
+-- A layout sees the input through its readings only: a number of k bytes at an offset, or another reading there. It
+-- also says where a record begins.
 pub data Layout (X : Type 0) : Type 0 where
   done : X → Layout X
   refuse : Halt → Layout X
   field : Endian → ℕ → ℕ → (ℕ → Layout X) → Layout X
   reading : Reading → ℕ → (List ℕ → Layout X) → Layout X
+  begin_record : Layout X → Layout X
 
 -- the next k bytes from an offset on; an error if the input ends earlier
 abbrev pub bytes : {X : Type 0} → ℕ → ℕ → (List ℕ → Layout X) → Layout X
@@ -30,6 +32,7 @@ layout_reads d (done x) = gives x
 layout_reads d (refuse e) = refuses e
 layout_reads d (field order place k f) = and_then (number_read d order place k) (λ v. layout_reads d (f v))
 layout_reads d (reading r place f) = and_then (read_of d r place) (λ bs. layout_reads d (f bs))
+layout_reads d (begin_record t) = after_records 1 (layout_reads d t)
 
 -- a layout, then another that depends on its result
 abbrev pub bind : {X Y : Type 0} → Layout X → (X → Layout Y) → Layout Y
@@ -37,6 +40,7 @@ bind (done x) g = g x
 bind (refuse e) g = refuse e
 bind (field order place k f) g = field order place k (λ v. bind (f v) g)
 bind (reading r place f) g = reading r place (λ bs. bind (f bs) g)
+bind (begin_record t) g = begin_record (bind t g)
 
 -- the layout for a value; an error ends it
 abbrev pub accept : {X Y : Type 0} → Result X Halt → (X → Layout Y) → Layout Y

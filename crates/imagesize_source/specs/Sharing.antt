@@ -3,7 +3,7 @@ use Rattle.std.specs.Prelude.{◌≡◌, ℕ, ◌≤◌, ◌<◌, true, List, le
 use Rattle.imagesize_source.specs.declared.span.Span.{Span}
 use Rattle.imagesize_source.specs.Agreement.{is_covered}
 use Rattle.imagesize_source.specs.Chain.{Chain, Along, chain_from, next_record}
-use Rattle.imagesize_source.specs.Reading.{put_behind}
+use Rattle.imagesize_source.specs.Reading.{put_behind, uncounted}
 use Rattle.imagesize_source.specs.State.{State, Missed, state_after}
 
 -- d is no longer than e, contains each offset of the spans, and has the byte of e there
@@ -19,6 +19,6 @@ pub record Stood {C X : Type 0} (c : Chain C X) (P : List C → Type 0) (a b : S
   pub made : List Span
   pub ahead : a.held.honest ≡ true → t.place ≤ place
   pub leads : a.held.honest ≡ true → (d : List ℕ) → Shares d a.held.input made
-      → chain_from c d t ≡ put_behind made (chain_from c d (record { held = held; place = place }))
+      → uncounted (chain_from c d t) ≡ put_behind made (uncounted (chain_from c d (record { held = held; place = place })))
   pub missed : a.held.honest ≡ true
       → Missed (state_after a made) b (next_record c a.held.input (record { held = held; place = place })).marks

@@ -3,7 +3,7 @@ use Rattle.std.specs.Prelude.{◌≡◌, ℕ, ◌+◌, ◌≤◌, List, [], ◌�
 use Rattle.imagesize_source.specs.declared.halt.Halt.{Halt}
 use Rattle.imagesize_source.specs.Chain.{Said, Decided, Next, Chain, Advances}
 use Rattle.imagesize_source.specs.Layout.{Layout, layout_reads}
-use Rattle.imagesize_source.specs.Reading.{map_answer}
+use Rattle.imagesize_source.specs.Reading.{just, map_answer, uncounted}
 use Rattle.imagesize_source.specs.declared.walk.Found.{Found}
 use Rattle.imagesize_source.specs.declared.walk.Found.TheVariants as found
 
@@ -28,4 +28,4 @@ CanFollow c = (d : List ℕ) → Advances c d
 -- From the end of the input on, a record at any offset has this verdict, and reads nothing.
 abbrev pub EndsBy : {C X : Type 0} → (List C → ℕ → Layout (Said C X)) → List C → Result X Halt → Type 0
 EndsBy said held r = (d : List ℕ) (place : ℕ) → length d ≤ place
-    → layout_reads d (said held place) ≡ record { answer = map_answer Decided r; marks = [] }
+    → uncounted (layout_reads d (said held place)) ≡ just (map_answer Decided r) []

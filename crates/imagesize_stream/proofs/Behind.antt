@@ -1,5 +1,5 @@
 -- What goes on from the record that a format reads.
-use Rattle.std.proofs.Common.{◌≡◌, ℕ, ◌-◌, ◌<◌, ◌≤◌, false, leb, List, length, Option, None, Some, Result, Ok, Err, refl, sym, subst, arith}
+use Rattle.std.proofs.Common.{◌≡◌, ℕ, ◌-◌, ◌<◌, ◌≤◌, false, leb, List, length, Option, None, Some, Result, Ok, Err, refl, sym, ap, subst, arith}
 use Rattle.std.proofs.lemmas.Bool.Decides.{nat_tests}
 use Rattle.std.specs.Option.{ForSome}
 use Rattle.imagesize_source.specs.declared.endian.Endian.{Endian}
@@ -13,7 +13,7 @@ use Rattle.imagesize_types.specs.declared.size.ImageSize.{ImageSize}
 use Rattle.imagesize_walked.specs.Walks.{IsIcon}
 use Rattle.imagesize_source.specs.Layout.{Layout, accept, bind, layout_reads}
 use Rattle.imagesize_source.specs.Layout.Layout.{field, «done»}
-use Rattle.imagesize_source.specs.Reading.{bytes_at, gives, map_answer, number_at, refuses}
+use Rattle.imagesize_source.specs.Reading.{bytes_at, gives, map_answer, number_at, refuses, uncounted}
 use Rattle.imagesize_source.specs.State.{State, Follows, Runs, IsSound}
 use Rattle.imagesize_source.specs.Way.{Way, Fixed, Recorded, Texts}
 use Rattle.imagesize_stream.specs.Streamed.{sized, IfFixed}
@@ -45,7 +45,7 @@ runs_on {X} {Y} {a} {b} t g x y is first =
     runs_as (layout_reads a.held.input (bind t g))
     (runs_then (layout_reads a.held.input t) (λ v held. layout_reads held.input (g v)) first
     (subst (λ u. Runs b b (Ok y) (layout_reads b.held.input u)) (sym is) (runs_done y first.sound_after)))
-    (λ _. sym (over-bind a.held.input t g))
+    (λ _. ap uncounted (sym (over-bind a.held.input t g)))
 
 -- after an answer, and what was read after it
 pub runs_next : {X Y : Type 0} {a m b : State} (t : Layout X) (g : X → Layout Y) (x : X) (r : Result Y Halt)
@@ -54,7 +54,7 @@ pub runs_next : {X Y : Type 0} {a m b : State} (t : Layout X) (g : X → Layout 
 runs_next {X} {Y} {a} {m} {b} t g x r first second =
     runs_as (layout_reads a.held.input (bind t g))
     (runs_then (layout_reads a.held.input t) (λ v held. layout_reads held.input (g v)) first second)
-    (λ _. sym (over-bind a.held.input t g))
+    (λ _. ap uncounted (sym (over-bind a.held.input t g)))
 
 -- after a refusal
 pub runs_off : {X Y : Type 0} {a b : State} (t : Layout X) (g : X → Layout Y) (e : Halt)
@@ -63,19 +63,19 @@ pub runs_off : {X Y : Type 0} {a b : State} (t : Layout X) (g : X → Layout Y) 
 runs_off {X} {Y} {a} {b} t g e first =
     runs_as (layout_reads a.held.input (bind t g))
     (runs_refused (layout_reads a.held.input t) (λ v. layout_reads a.held.input (g v)) first)
-    (λ _. sym (over-bind a.held.input t g))
+    (λ _. ap uncounted (sym (over-bind a.held.input t g)))
 
 -- a size at fixed offsets is all that the first bytes say of it
 pub fixed_on : (a b : State) (w : Way ImageSize) (size : ImageSize) → IfFixed w (λ t. Follows a b (Ok size) t)
     → IfFixed w (λ t. Follows {X = Opening} a b (Ok (opened.Size size)) (sized t))
-fixed_on a b (Fixed t) size first = runs_on t (λ s. done (opened.Size s)) size (opened.Size size) refl first
-fixed_on a b (Recorded stated reads begun) size first = tt
+fixed_on a b (Fixed most t) size first = runs_on t (λ s. done (opened.Size s)) size (opened.Size size) refl first
+fixed_on a b (Recorded outside each stated reads) size first = tt
 fixed_on a b (Texts reads) size first = tt
 
 pub fixed_off : (a b : State) (w : Way ImageSize) (e : Halt) → IfFixed w (λ t. Follows {X = ImageSize} a b (Err e) t)
     → IfFixed w (λ t. Follows {X = Opening} a b (Err e) (sized t))
-fixed_off a b (Fixed t) e first = runs_off t (λ s. done (opened.Size s)) e first
-fixed_off a b (Recorded stated reads begun) e first = tt
+fixed_off a b (Fixed most t) e first = runs_off t (λ s. done (opened.Size s)) e first
+fixed_off a b (Recorded outside each stated reads) e first = tt
 fixed_off a b (Texts reads) e first = tt
 
 -- how deep the segment after another stands

@@ -5,7 +5,7 @@ use Rattle.imagesize_pieces.proofs.Reaching.{reach_accept, reach_bind, reach_if}
 use Rattle.imagesize_pieces.specs.Stream.{Reach}
 use Rattle.imagesize_source.specs.Chain.{Said, Decided, Next}
 use Rattle.imagesize_source.specs.Layout.{Layout, accept, bind, bytes, if_there, whole}
-use Rattle.imagesize_source.specs.Layout.Layout.{refuse, «done»}
+use Rattle.imagesize_source.specs.Layout.Layout.{begin_record, refuse, «done»}
 use Rattle.imagesize_source.specs.declared.halt.Halt.TheVariants.{Corrupted, DataWindowNotFound, NoDimensionsInIfd}
 use Rattle.imagesize_stream.specs.Steps.{after, decides, ipco_leads, iprp_leads, jxl_verdict, kept_front, kept_of, listed_with, meta_leads, names_of, property_step, step, height_step, word_step}
 use Rattle.imagesize_stream.specs.declared.awaited.Awaited.{Awaited}
@@ -152,8 +152,8 @@ answer_far place (Some size) = tt
 icon_far : (count seen : ℕ) (best : Option ImageSize) (place : ℕ)
     → Reach place (place + 1024) (icon_in count seen best place)
 icon_far count seen best place =
-    reach_if (eqb seen count) place (place + 1024) (icon_answer best) (if_there place 2 (icon_entry best place))
-    (answer_far place best)
+    reach_if (eqb seen count) place (place + 1024) (icon_answer best)
+    (begin_record (if_there place 2 (icon_entry best place))) (answer_far place best)
     (omega arith, omega arith, λ bs few. entry_far (whole 2 bs)) where
       entry_far : (found : Option (List ℕ)) → Reach place (place + 1024) (icon_entry best place found)
       entry_far None = answer_far place best

@@ -1,6 +1,5 @@
 -- What the first bytes of an image tell of it.
-use Rattle.std.proofs.Common.{◌≡◌, ℕ, Bool, true, false, List, [], ◌++◌, length, Option, None, Some, Result, Ok, Err, refl, sym, ap, ◌∙◌}
-use Rattle.std.proofs.lemmas.List.{append-nil}
+use Rattle.std.proofs.Common.{◌≡◌, ℕ, Bool, true, false, List, length, Option, None, Some, refl, sym, ap, ◌∙◌}
 use Rattle.imagesize.specs.Kind.{first_row, kind_by, tga_or_none, with_compression}
 use Rattle.imagesize.specs.Meaning.{kind_reads}
 use Rattle.imagesize_stream.specs.Streamed.{first_by, first_layout, type_behind}
@@ -11,23 +10,15 @@ use Rattle.imagesize_fixed.specs.Tga.{is_tga, may_be_tga}
 use Rattle.imagesize_source.specs.Input.{span_of}
 use Rattle.imagesize_source.specs.Layout.{bind, layout_reads}
 use Rattle.imagesize_source.specs.Layout.Layout.{«done»}
-use Rattle.imagesize_source.specs.Reading.{Reads, and_then, bytes_at, gives, go_on, put_behind}
-use Rattle.imagesize_source.specs.declared.halt.Halt.{Halt}
-use Rattle.imagesize_source.specs.declared.span.Span.{Span}
-use Rattle.imagesize_source.proofs.Layouts.{onward-and_then, over-bind}
+use Rattle.imagesize_source.specs.Reading.{Reads, and_then, bytes_at, gives}
+use Rattle.imagesize_source.proofs.Layouts.{onward-and_then, over-bind, then_alike, then_gives, then_then}
 
 -- an answer that is looked at from outside
-seen_by : {X Y : Type 0} (f : X → Y) (rest : Y → Reads X) → ((x : X) → rest (f x) ≡ gives x)
-    → (marks : List Span) (answer : Result X Halt)
-    → record { answer = answer; marks = marks } ≡ and_then (go_on marks answer (λ x. gives (f x))) rest
-seen_by f rest back marks (Ok x) =
-    ap (λ m. record { answer = Ok x; marks = m }) (sym (append-nil marks) ∙ sym (append-nil (marks ++ [])))
-    ∙ ap (put_behind (marks ++ [])) (sym (back x))
-seen_by f rest back marks (Err e) = refl
-
 pub seen_from : {X Y : Type 0} (r : Reads X) (f : X → Y) (rest : Y → Reads X) → ((x : X) → rest (f x) ≡ gives x)
     → r ≡ and_then (and_then r (λ x. gives (f x))) rest
-seen_from r f rest back = seen_by f rest back r.marks r.answer
+seen_from r f rest back =
+    sym (then_gives r) ∙ then_alike r gives (λ x. rest (f x)) (λ x _. sym (back x))
+    ∙ then_then r (λ x. gives (f x)) rest (λ x. rest (f x)) (λ x. refl)
 
 no_tga : (n : ℕ) (head : List ℕ) (d : List ℕ) → may_be_tga head ≡ false
     → layout_reads d (bind (is_tga n head) tga_or_none) ≡ layout_reads d (tga_or_none false)

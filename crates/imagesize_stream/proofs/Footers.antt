@@ -14,8 +14,8 @@ use Rattle.imagesize_pieces.specs.Stream.{Begins, Reach, Says}
 use Rattle.imagesize_source.specs.Agreement.{is_covered}
 use Rattle.imagesize_source.specs.Input.{part, span_at, span_of}
 use Rattle.imagesize_source.specs.Layout.{Layout, bind, layout_reads}
-use Rattle.imagesize_source.specs.Layout.Layout.{field, reading, refuse, «done»}
-use Rattle.imagesize_source.specs.Reading.{Reads, AllOf, PartOf, TextOf, and_then, bytes_at, go_on, is_faulted, number_at, put_behind, refuses}
+use Rattle.imagesize_source.specs.Layout.Layout.{begin_record, field, reading, refuse, «done»}
+use Rattle.imagesize_source.specs.Reading.{Reads, AllOf, PartOf, TextOf, and_then, bytes_at, go_on, is_faulted, number_at, put_behind, refuses, uncounted}
 use Rattle.imagesize_source.specs.declared.endian.Endian.{Endian}
 use Rattle.imagesize_source.specs.declared.endian.Endian.TheVariants.{Little}
 use Rattle.imagesize_source.specs.declared.halt.Halt.{Halt}
@@ -40,6 +40,7 @@ Sure n (field order place k f) = (place + k ≤ n) × ((v : ℕ) → Sure n (f v
 Sure n (reading (AllOf k) place f) = (place + k ≤ n) × ((bs : List ℕ) → Sure n (f bs))
 Sure n (reading (PartOf k) place f) = ⊥
 Sure n (reading (TextOf t k) place f) = ⊥
+Sure n (begin_record t) = Sure n t
 
 bytes_sure : (d : List ℕ) (place k : ℕ) → place + k ≤ length d → bytes_at d place k ≡ Ok (part d place k)
 unfolding bytes_at
@@ -72,6 +73,7 @@ sure d n (reading (AllOf k) place f) enough h =
     )
 sure d n (reading (PartOf k) place f) enough h = absurd h
 sure d n (reading (TextOf t k) place f) enough h = absurd h
+sure d n (begin_record t) enough h = sure d n t enough h
 
 -- so it is never refused there
 pub never_refused : {X : Type 0} (front : List ℕ) (told : ℕ) (t : Layout X) (e : Halt)
@@ -162,8 +164,10 @@ module _ (front : List ℕ) (told : ℕ) (head : List ℕ)
       (ap (λ (r : Reads First). r.answer) (says.is front (begins_all front told fits)))
 
   type_reads : (d : List ℕ) → Begins front told d
-      → kind_reads d 0 ≡ put_behind says.marks (layout_reads d (bind (is_tga (length d) head) tga_or_none))
-  type_reads d begins = type_by_first d ∙ ap (λ r. and_then r (type_behind d)) (says.is d begins)
+      → uncounted (kind_reads d 0)
+      ≡ put_behind says.marks (uncounted (layout_reads d (bind (is_tga (length d) head) tga_or_none)))
+  type_reads d begins =
+      ap uncounted (type_by_first d) ∙ ap (λ r. uncounted (and_then r (type_behind d))) (says.is d begins)
 
   -- it has no footer where it is too short
   none_short : (d : List ℕ) → length d < 18
@@ -175,14 +179,16 @@ module _ (front : List ℕ) (told : ℕ) (head : List ℕ)
   short_type short d begins =
       ap (λ (r : Reads ImageType). result_ok r.answer)
       (type_reads d begins
-      ∙ ap (put_behind says.marks) (none_short d (let few = begins.fits in omega (arith, few, short))))
+      ∙ ap (λ w. put_behind says.marks (uncounted w))
+      (none_short d (let few = begins.fits in omega (arith, few, short))))
 
   pub short_size : told < 18 → SizeIs front told (Err NotSupported)
   unfolding meaning_reads
   short_size short d begins =
       ap (λ (r : Reads ImageType). (and_then r (λ found. size_reads found d)).answer)
       (type_reads d begins
-      ∙ ap (put_behind says.marks) (none_short d (let few = begins.fits in omega (arith, few, short))))
+      ∙ ap (λ w. put_behind says.marks (uncounted w))
+      (none_short d (let few = begins.fits in omega (arith, few, short))))
 
   abbrev footer_of : List ℕ → List ℕ
   footer_of d = part d (length d - 18) 18
@@ -211,7 +217,7 @@ module _ (front : List ℕ) (told : ℕ) (head : List ℕ)
       → is_covered (kind_reads d 0).marks (length d - 1) ≡ true
   kind_covered d begins long =
       subst (λ (r : Reads ImageType). is_covered r.marks (length d - 1) ≡ true)
-      (sym (type_reads d begins ∙ ap (put_behind says.marks) (footer_reads d long)))
+      (sym (type_reads d begins ∙ ap (λ w. put_behind says.marks (uncounted w)) (footer_reads d long)))
       (covered-right says.marks _ (length d - 1)
       (covered-left (span_of d (length d - 18) 18) _ (length d - 1) (footer_covered d long)))
 
@@ -243,8 +249,8 @@ module _ (front : List ℕ) (told : ℕ) (head : List ℕ)
       by_sound true = refl
       by_sound false = refl
     by_parts d begins false false =
-        ap (λ (r : Reads ImageType). r.answer) (over-bind d (tga_by_header head) tga_or_none
-        ∙ ap (λ r. and_then r (λ is. layout_reads d (tga_or_none is))) (header.is d begins))
+        ap (λ (r : Reads ImageType). r.answer) (ap uncounted (over-bind d (tga_by_header head) tga_or_none)
+        ∙ ap (λ r. uncounted (and_then r (λ is. layout_reads d (tga_or_none is)))) (header.is d begins))
         ∙ by_sound sound where
           by_sound : (s : Bool) → (layout_reads d (tga_or_none s)).answer ≡ weighed false (s && true) Tga
           by_sound true = refl
@@ -253,7 +259,8 @@ module _ (front : List ℕ) (told : ℕ) (head : List ℕ)
     type_weighed : (d : List ℕ) → Begins front told d → 18 ≤ length d
         → (kind_reads d 0).answer ≡ weighed (is_tga_footer (footer_of d)) by_header Tga
     type_weighed d begins long =
-        ap (λ (r : Reads ImageType). r.answer) (type_reads d begins ∙ ap (put_behind says.marks) (footer_reads d long))
+        ap (λ (r : Reads ImageType). r.answer)
+        (type_reads d begins ∙ ap (λ w. put_behind says.marks (uncounted w)) (footer_reads d long))
         ∙ by_parts d begins (is_tga_footer (footer_of d)) (lacks_its_map head)
 
     size_by : (d : List ℕ) → Begins front told d → (marks : List Span) (footer header : Bool)

@@ -9,7 +9,7 @@ use Rattle.imagesize_pieces.specs.Stream.{AllBelow, Begins, Says, SomeBetween}
 use Rattle.imagesize_pieces.proofs.Beginning.{begins_all}
 use Rattle.imagesize_source.specs.Agreement.{is_covered}
 use Rattle.imagesize_source.specs.Layout.{layout_reads}
-use Rattle.imagesize_source.specs.Reading.{Reads, and_then, bytes_at, go_on, put_behind}
+use Rattle.imagesize_source.specs.Reading.{Reads, and_then, bytes_at, go_on, put_behind, uncounted}
 use Rattle.imagesize_source.specs.declared.halt.Halt.{Halt}
 use Rattle.imagesize_source.specs.declared.halt.Halt.TheVariants.{Ended}
 use Rattle.imagesize_source.specs.declared.span.Span.{Span}
@@ -38,7 +38,8 @@ module _ (front : List ℕ) (told : ℕ) where
       → Says front told (λ d. kind_reads d 0) (Ok type)
   type_said type says = record {
     marks = says.marks ++ [];
-    is = λ d begins. type_by_first d ∙ ap (λ r. and_then r (type_behind d)) (says.is d begins);
+    is = λ d begins. ap uncounted (type_by_first d)
+        ∙ ap (λ r. uncounted (and_then r (type_behind d))) (says.is d begins);
   }
 
   -- no type is found
@@ -46,7 +47,8 @@ module _ (front : List ℕ) (told : ℕ) where
       → Says front told (λ d. kind_reads d 0) (Err e)
   type_refused e says = record {
     marks = says.marks;
-    is = λ d begins. type_by_first d ∙ ap (λ r. and_then r (type_behind d)) (says.is d begins);
+    is = λ d begins. ap uncounted (type_by_first d)
+        ∙ ap (λ r. uncounted (and_then r (type_behind d))) (says.is d begins);
   }
 
   pub type_is : (r : Result ImageType Halt) → Says front told (λ d. kind_reads d 0) r → TypeIs front told (result_ok r)
@@ -57,25 +59,26 @@ module _ (front : List ℕ) (told : ℕ) where
   unfolding meaning_reads
   meaning_refused e says = record {
     marks = says.marks;
-    is = λ d begins. ap (λ r. and_then r (λ found. size_reads found d)) (says.is d begins);
+    is = λ d begins. ap (λ r. uncounted (and_then r (λ found. size_reads found d))) (says.is d begins);
   }
 
   -- the size by the type
   pub meaning_behind : (type : ImageType) (says : Says front told (λ d. kind_reads d 0) (Ok type)) (d : List ℕ)
       → Begins front told d
-      → meaning_reads d 0 ≡ put_behind says.marks (size_reads type d)
+      → uncounted (meaning_reads d 0) ≡ put_behind says.marks (uncounted (size_reads type d))
   unfolding meaning_reads
-  meaning_behind type says d begins = ap (λ r. and_then r (λ found. size_reads found d)) (says.is d begins)
+  meaning_behind type says d begins = ap (λ r. uncounted (and_then r (λ found. size_reads found d))) (says.is d begins)
 
   module _ (type : ImageType) (says : Says front told (λ d. kind_reads d 0) (Ok type)) where
     -- by what the first bytes say of it
     pub opened_behind : (x : Opening) (size : Says front told (λ d. layout_reads d (opening type)) (Ok x)) (d : List ℕ)
         → Begins front told d
-        → meaning_reads d 0 ≡ put_behind (says.marks ++ size.marks) (opened_rest d x)
+        → uncounted (meaning_reads d 0) ≡ put_behind (says.marks ++ size.marks) (uncounted (opened_rest d x))
     opened_behind x size d begins =
         meaning_behind type says d begins
-        ∙ ap (put_behind says.marks) (opened_as type d ∙ ap (λ r. and_then r (opened_rest d)) (size.is d begins))
-        ∙ behind-behind says.marks size.marks (opened_rest d x)
+        ∙ ap (put_behind says.marks) (ap uncounted (opened_as type d)
+        ∙ ap (λ r. uncounted (and_then r (opened_rest d))) (size.is d begins))
+        ∙ behind-behind says.marks size.marks (uncounted (opened_rest d x))
 
     pub size_said : (size : ImageSize) → Says front told (λ d. layout_reads d (opening type)) (Ok (opened.Size size))
         → Says front told (λ d. meaning_reads d 0) (Ok size)
@@ -89,7 +92,8 @@ module _ (front : List ℕ) (told : ℕ) where
     size_refused e is = record {
       marks = says.marks ++ is.marks;
       is = λ d begins. meaning_behind type says d begins
-          ∙ ap (put_behind says.marks) (opened_as type d ∙ ap (λ r. and_then r (opened_rest d)) (is.is d begins));
+          ∙ ap (put_behind says.marks) (ap uncounted (opened_as type d)
+          ∙ ap (λ r. uncounted (and_then r (opened_rest d))) (is.is d begins));
     }
 
     pub steady_said : length front ≤ told → (next : Awaited) (place : ℕ)

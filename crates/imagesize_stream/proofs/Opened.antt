@@ -13,12 +13,12 @@ use Rattle.imagesize_source.specs.Chain.{Said, Decided, Next, Chain, Advances, c
 use Rattle.imagesize_source.specs.Input.{span_of}
 use Rattle.imagesize_source.specs.Layout.{Layout, accept, bind, layout_reads}
 use Rattle.imagesize_source.specs.Layout.Layout.{refuse, «done»}
-use Rattle.imagesize_source.specs.Reading.{Reads, and_then, bytes_at, gives, map_answer, number_at}
+use Rattle.imagesize_source.specs.Reading.{Reads, and_then, bytes_at, gives, just, map_answer, number_at}
 use Rattle.imagesize_source.specs.Way.{Way, Fixed, Recorded, Texts, by_way}
 use Rattle.imagesize_source.specs.declared.endian.Endian.TheVariants.{Big, Little}
 use Rattle.imagesize_source.specs.declared.halt.Halt.{Halt}
 use Rattle.imagesize_source.specs.declared.halt.Halt.TheVariants.{Corrupted}
-use Rattle.imagesize_source.proofs.Layouts.{onward-and_then, over-bind}
+use Rattle.imagesize_source.proofs.Layouts.{onward-and_then, over-bind, then_alike, then_then}
 use Rattle.imagesize_source.proofs.Tests.{on_test}
 use Rattle.imagesize_stream.specs.Steps.{after, decides, gathered_first, ipco_leads, iprp_leads, jxl_verdict, kept_front, kept_of, listed_with, meta_leads, names_of, property_step, step}
 use Rattle.imagesize_stream.specs.Streamed.{jxl_opened, open_exr, open_hdr, open_heif, open_ico, open_jxl, open_tiff, opening, opening_by, opening_records, opens, sized, IfRecorded}
@@ -30,7 +30,7 @@ use Rattle.imagesize_stream.specs.declared.front.Opening.TheVariants as opened
 use Rattle.imagesize_stream.proofs.Firsts.{seen_from}
 use Rattle.imagesize_stream.proofs.Words.{word_unrolls}
 use Rattle.imagesize_stream.proofs.Saying.{Saying, saying}
-use Rattle.imagesize_stream.proofs.Running.{as_awaited, as_unrolled, by_size, goes, on_answer, run, run_unfolds}
+use Rattle.imagesize_stream.proofs.Running.{as_awaited, as_unrolled, by_size, goes, run, run_unfolds}
 use Rattle.imagesize_texts.proofs.Exr.{attribute_advances}
 use Rattle.imagesize_texts.proofs.Hdr.{hdr_advances}
 use Rattle.imagesize_texts.proofs.Pnm.{pnm_advances}
@@ -142,7 +142,7 @@ exr_as d = onward-and_then (span_of d 4 4) (number_at d Little 4 4)
 
 hdr_as : (d : List ℕ) → hdr d ≡ and_then (layout_reads d open_hdr) (opened_rest d)
 hdr_as d =
-    onward-and_then (layout_reads d hdr_identifier).marks (layout_reads d hdr_identifier).answer
+    then_then (layout_reads d hdr_identifier)
     (λ first. gives (opened.Records Line first)) (opened_rest d)
     (λ first. chain_at (hdr_lines first) d) (λ first. sym (lines_as first d))
     ∙ ap (λ r. and_then r (opened_rest d)) (sym (over-bind d hdr_identifier (λ first. opens Line first)))
@@ -209,7 +209,7 @@ directory_as header d =
 
 tiff_as : (d : List ℕ) → tiff d ≡ and_then (layout_reads d open_tiff) (opened_rest d)
 tiff_as d =
-    onward-and_then (layout_reads d tiff_header).marks (layout_reads d tiff_header).answer
+    then_then (layout_reads d tiff_header)
     (λ header. gives (opened.Records (Directory header) header.directory)) (opened_rest d)
     (tiff_directory d) (λ header. sym (directory_as header d))
     ∙ ap (λ r. and_then r (opened_rest d))
@@ -234,7 +234,7 @@ search_as next tag leads is first d =
     (λ _ _. Unit {0})
     (λ e held x place known. ap (layout_reads e) (is place)
     ∙ over-bind e (searched_box tag place) (after (λ _. next) (leads place))
-    ∙ on_answer (layout_reads e (searched_box tag place)).marks (layout_reads e (searched_box tag place)).answer
+    ∙ then_alike (layout_reads e (searched_box tag place))
     (λ said. layout_reads e (after (λ _. next) (leads place) said))
     (λ said. layout_reads e (after (λ _. next) (λ found. leads found.place found) said))
     (led e place))
@@ -255,8 +255,7 @@ properties_as all first d =
     as_awaited (properties all first) Property gathered_with decides (λ held g. Amounts all g held)
     (λ e held g place known.
     over-bind e (property_at g.left place) (property_step g place)
-    ∙ onward-and_then (layout_reads e (property_at g.left place)).marks
-    (layout_reads e (property_at g.left place)).answer
+    ∙ then_then (layout_reads e (property_at g.left place))
     (λ found. layout_reads e (property_or_answer held place found))
     (λ said. layout_reads e (after (λ p. Property (gathered_with g p)) decides said))
     (λ found. layout_reads e (property_step g place found)) (listed e held g place known)
@@ -273,7 +272,7 @@ properties_as all first d =
   where
     decided : (e : List ℕ) (g : Gathered) (r : Result ImageSize Halt)
         → layout_reads e (accept r decides)
-        ≡ and_then (record { answer = map_answer {Y = Said heif.Property ImageSize} Decided r; marks = [] })
+        ≡ and_then (just (map_answer {Y = Said heif.Property ImageSize} Decided r) [])
         (λ said. layout_reads e (after (λ p. Property (gathered_with g p)) decides said))
     decided e g (Ok size) = refl
     decided e g (Err halt) = refl
@@ -293,16 +292,14 @@ ipco_as : (first : ℕ) (d : List ℕ) → run Ipco first d
     (λ ipco. chain_at (properties ipco.size (ipco.place + 8)) d)
 ipco_as first d =
     search_as Ipco (codes "ipco") ipco_leads (λ place. refl) first d
-    ∙ on_answer (chain_at (search_for (codes "ipco") first) d).marks
-    (chain_at (search_for (codes "ipco") first) d).answer _ _
+    ∙ then_alike (chain_at (search_for (codes "ipco") first) d) _ _
     (λ ipco _. properties_as ipco.size (ipco.place + 8) d)
 
 iprp_as : (first : ℕ) (d : List ℕ)
     → run Iprp first d ≡ and_then (chain_at (search_for (codes "iprp") first) d) (λ iprp. heif_in_iprp iprp d)
 iprp_as first d =
     search_as Iprp (codes "iprp") iprp_leads (λ place. refl) first d
-    ∙ on_answer (chain_at (search_for (codes "iprp") first) d).marks
-    (chain_at (search_for (codes "iprp") first) d).answer _ _
+    ∙ then_alike (chain_at (search_for (codes "iprp") first) d) _ _
     (λ iprp _. ipco_as (iprp.place + 8) d)
 
 in_meta_as : (meta : FoundBox) (d : List ℕ)
@@ -317,8 +314,7 @@ meta_as : (first : ℕ) (d : List ℕ)
     → run Meta first d ≡ and_then (chain_at (search_for (codes "meta") first) d) (λ meta. heif_in_meta meta d)
 meta_as first d =
     search_as Meta (codes "meta") meta_leads (λ place. refl) first d
-    ∙ on_answer (chain_at (search_for (codes "meta") first) d).marks
-    (chain_at (search_for (codes "meta") first) d).answer _ _ (λ meta _. in_meta_as meta d)
+    ∙ then_alike (chain_at (search_for (codes "meta") first) d) _ _ (λ meta _. in_meta_as meta d)
 
 heif_as : (d : List ℕ) → heif_reads d ≡ and_then (layout_reads d open_heif) (opened_rest d)
 heif_as d = onward-and_then (span_of d 0 4) (number_at d Big 0 4) (λ first. gives (opened.Records Meta first))
@@ -333,7 +329,7 @@ kept_is front = take-append-le (length front) front (replicate (16 - length fron
 
 boxes_as : (d : List ℕ)
     → run (Box (kept_of [])) 12 d
-    ≡ and_then (chain_at jxl_chain d) (λ front. record { answer = jxl_size front; marks = [] })
+    ≡ and_then (chain_at jxl_chain d) (λ front. just (jxl_size front) [])
 boxes_as d =
     as_awaited jxl_chain (λ (front : List ℕ). Box (kept_of front)) (λ front piece. front ++ piece) jxl_verdict
     (λ pieces front. concat pieces ≡ front)
@@ -344,36 +340,36 @@ boxes_as d =
     ∙ ap (λ held. and_then (layout_reads e (jxl_box held place))
     (λ said. layout_reads e (after (λ piece. Box (kept_of (front ++ piece))) jxl_verdict said))) (sym known))
     (λ e pieces front place v q known got. joined pieces front v known) d (jxl_advances d) (start jxl_chain) [] refl
-    ∙ on_answer (chain_at jxl_chain d).marks (chain_at jxl_chain d).answer
+    ∙ then_alike (chain_at jxl_chain d)
     (λ front. and_then (layout_reads d (jxl_verdict front)) (goes d))
-    (λ front. record { answer = jxl_size front; marks = [] }) (λ front _. by_verdict (jxl_size front))
+    (λ front. just (jxl_size front) []) (λ front _. by_verdict (jxl_size front))
   where
     by_verdict : (r : Result ImageSize Halt)
-        → and_then (layout_reads d (accept r decides)) (goes d) ≡ record { answer = r; marks = [] }
+        → and_then (layout_reads d (accept r decides)) (goes d) ≡ just r []
     by_verdict (Ok size) = refl
     by_verdict (Err e) = refl
 
 jxl_as : (d : List ℕ) → jxl d ≡ and_then (layout_reads d open_jxl) (opened_rest d)
 jxl_as d =
-    sym (onward-and_then (layout_reads d jxl_start).marks (layout_reads d jxl_start).answer (codestream d)
-    (λ front. record { answer = jxl_size front; marks = [] })
-    (λ found. and_then (codestream d found) (λ front. record { answer = jxl_size front; marks = [] })) (λ found. refl))
-    ∙ on_answer (layout_reads d jxl_start).marks (layout_reads d jxl_start).answer
-    (λ found. and_then (codestream d found) (λ front. record { answer = jxl_size front; marks = [] }))
+    sym (then_then (layout_reads d jxl_start) (codestream d)
+    (λ front. just (jxl_size front) [])
+    (λ found. and_then (codestream d found) (λ front. just (jxl_size front) [])) (λ found. refl))
+    ∙ then_alike (layout_reads d jxl_start)
+    (λ found. and_then (codestream d found) (λ front. just (jxl_size front) []))
     (λ found. and_then (layout_reads d (jxl_opened found)) (opened_rest d)) (λ found _. each found)
-    ∙ onward-and_then (layout_reads d jxl_start).marks (layout_reads d jxl_start).answer
+    ∙ then_then (layout_reads d jxl_start)
     (λ found. layout_reads d (jxl_opened found)) (opened_rest d)
     (λ found. and_then (layout_reads d (jxl_opened found)) (opened_rest d)) (λ found. refl)
     ∙ ap (λ r. and_then r (opened_rest d)) (sym (over-bind d jxl_start jxl_opened))
   where
     by_size_of : (r : Result ImageSize Halt)
-        → record { answer = r; marks = [] } ≡ and_then (layout_reads d (accept r (λ size. done (opened.Size size))))
+        → just r [] ≡ and_then (layout_reads d (accept r (λ size. done (opened.Size size))))
         (opened_rest d)
     by_size_of (Ok size) = refl
     by_size_of (Err e) = refl
 
     each : (found : Option (List ℕ))
-        → and_then (codestream d found) (λ front. record { answer = jxl_size front; marks = [] })
+        → and_then (codestream d found) (λ front. just (jxl_size front) [])
         ≡ and_then (layout_reads d (jxl_opened found)) (opened_rest d)
     each (Some front) = by_size_of (jxl_size front)
     each None = sym (boxes_as d)
@@ -395,8 +391,8 @@ records_as type d = tt
 opened_by : (w : Way ImageSize) (first : Layout Opening) (d : List ℕ)
     → IfRecorded w (λ reads. reads d ≡ and_then (layout_reads d first) (opened_rest d))
     → by_way w d ≡ and_then (layout_reads d (opening_by w first)) (opened_rest d)
-opened_by (Fixed layout) first d records = sized_as d layout
-opened_by (Recorded stated reads begun) first d records = records
+opened_by (Fixed most layout) first d records = sized_as d layout
+opened_by (Recorded outside each stated reads) first d records = records
 opened_by (Texts reads) first d records = records
 
 pub opened_as : (type : ImageType) (d : List ℕ)

@@ -1,34 +1,19 @@
 -- The chain of a format within the chain of what is awaited.
-use Rattle.std.proofs.Common.{◌≡◌, ℕ, List, [], ◌∷◌, ◌++◌, Option, None, Some, Result, Ok, Err, refl, sym, ap, ◌∙◌, subst}
-use Rattle.std.proofs.lemmas.List.{append-nil}
+use Rattle.std.proofs.Common.{◌≡◌, ℕ, List, [], ◌∷◌, ◌++◌, Option, None, Some, Result, Ok, refl, sym, ap, ◌∙◌, subst}
 use Rattle.std.specs.Prelude.{unwrap_or}
 use Rattle.imagesize_source.specs.Chain.{Said, Decided, Next, Chain, Along, Advances, chain_from, next_record, verdict}
 use Rattle.imagesize_source.specs.Layout.{Layout, layout_reads}
-use Rattle.imagesize_source.specs.Reading.{Reads, and_then, gives, go_on, put_behind}
+use Rattle.imagesize_source.specs.Reading.{Reads, after_records, and_then, gives, put_behind, with_answer}
 use Rattle.imagesize_source.specs.declared.halt.Halt.{Halt}
-use Rattle.imagesize_source.specs.declared.span.Span.{Span}
 use Rattle.imagesize_source.proofs.ChainLaws.{chain_induction}
 use Rattle.imagesize_source.proofs.Chains.{chain_next, chain_stop, chain_unfolds, follows}
-use Rattle.imagesize_source.proofs.Layouts.{onward-and_then}
+use Rattle.imagesize_source.proofs.Layouts.{then_alike, then_gives, then_then}
 use Rattle.imagesize_source.proofs.Lists.{last_push}
 use Rattle.imagesize_stream.specs.Steps.{after, awaited_chain, decides, last_awaited, step}
 use Rattle.imagesize_stream.specs.declared.awaited.Awaited.{Awaited}
 use Rattle.imagesize_stream.specs.declared.awaited.Awaited.TheVariants.{Chunk}
 use Rattle.imagesize_stream.proofs.Steps.{awaited_advances}
 use Rattle.imagesize_types.specs.declared.size.ImageSize.{ImageSize}
-
--- what goes on from the same answer
-pub on_answer : {X Y : Type 0} (marks : List Span) (r : Result X Halt) (f g : X → Reads Y)
-    → ((x : X) → r ≡ Ok x → f x ≡ g x)
-    → go_on marks r f ≡ go_on marks r g
-on_answer marks (Ok x) f g same = ap (put_behind marks) (same x refl)
-on_answer marks (Err e) f g same = refl
-
--- an answer that is given as it is
-pub given : {X : Type 0} (marks : List Span) (r : Result X Halt)
-    → go_on marks r gives ≡ record { answer = r; marks = marks }
-given marks (Ok x) = ap (λ m. record { answer = Ok x; marks = m }) (append-nil marks)
-given marks (Err e) = refl
 
 -- the readings from the record on that is awaited at a place
 abbrev pub run : Awaited → ℕ → List ℕ → Reads ImageSize
@@ -56,9 +41,9 @@ by_last d = chain_induction awaited_chain d
     let is' : (next_record awaited_chain d t').answer ≡ Ok (Next v place) =
     ap (λ (r : Reads (Said Awaited ImageSize)). r.answer) here ∙ is in
     chain_next awaited_chain d t' v place (awaited_advances d) is'
-    ∙ ap (λ (r : Reads (Said Awaited ImageSize)). put_behind r.marks
-    (chain_from awaited_chain d (record { held = others ++ v ∷ []; place = place }))) here
-    ∙ ap (put_behind (next_record awaited_chain d t).marks)
+    ∙ ap (λ (r : Reads (Said Awaited ImageSize)). after_records r.begun (put_behind r.marks
+    (chain_from awaited_chain d (record { held = others ++ v ∷ []; place = place })))) here
+    ∙ ap (λ w. after_records (next_record awaited_chain d t).begun (put_behind (next_record awaited_chain d t).marks w))
     (later (others ++ v ∷ []) (last_is others v ∙ sym (last_is t.held v)))
     ∙ sym (chain_next awaited_chain d t v place (awaited_advances d) is))
     (λ t r is others same.
@@ -66,7 +51,7 @@ by_last d = chain_induction awaited_chain d
     let here : next_record awaited_chain d t' ≡ next_record awaited_chain d t =
     ap (λ next. layout_reads d (step next t.place)) same in
     chain_stop awaited_chain d t' r (ap (λ (r : Reads (Said Awaited ImageSize)). verdict r.answer) here ∙ is)
-    ∙ ap (λ (w : Reads (Said Awaited ImageSize)). record { answer = r; marks = w.marks }) here
+    ∙ ap (with_answer r) here
     ∙ sym (chain_stop awaited_chain d t r is))
 
 follows_goes : (d : List ℕ) (next : Awaited) (said : Said Awaited ImageSize)
@@ -80,7 +65,7 @@ pub run_unfolds : (d : List ℕ) (next : Awaited) (place : ℕ)
     → run next place d ≡ and_then (layout_reads d (step next place)) (goes d)
 run_unfolds d next place =
     chain_unfolds awaited_chain d (record { held = next ∷ []; place = place }) (awaited_advances d)
-    ∙ on_answer (layout_reads d (step next place)).marks (layout_reads d (step next place)).answer
+    ∙ then_alike (layout_reads d (step next place))
     (follows awaited_chain d (next ∷ [])) (goes d)
     (λ said _. follows_goes d next said)
 
@@ -105,7 +90,7 @@ module _ {C Y T : Type 0} (c : Chain C Y) (awaits : T → Awaited) (on : T → C
 
   chained : (t : Along C) → and_then (next_record c d t) (its t.held) ≡ and_then (chain_from c d t) behind
   chained t =
-      onward-and_then (next_record c d t).marks (next_record c d t).answer (follows c d t.held) behind (its t.held)
+      then_then (next_record c d t) (follows c d t.held) behind (its t.held)
       (λ said. refl)
       ∙ ap (λ r. and_then r behind) (sym (chain_unfolds c d t adv))
 
@@ -113,7 +98,7 @@ module _ {C Y T : Type 0} (c : Chain C Y) (awaits : T → Awaited) (on : T → C
       → ((said : Said C Y) → (next_record c d t).answer ≡ Ok said → mine x said ≡ its t.held said)
       → run (awaits x) t.place d ≡ and_then (chain_from c d t) behind
   alike t x known at =
-      unrolls t x known ∙ on_answer (next_record c d t).marks (next_record c d t).answer (mine x) (its t.held) at
+      unrolls t x known ∙ then_alike (next_record c d t) (mine x) (its t.held) at
       ∙ chained t
 
   pub as_unrolled : (t : Along C) (x : T) → R t.held x → run (awaits x) t.place d ≡ and_then (chain_from c d t) behind
@@ -146,7 +131,7 @@ module _ {C Y T : Type 0} (c : Chain C Y) (awaits : T → Awaited) (on : T → C
       (λ said. and_then (layout_reads d (after (λ v. awaits (on x v)) verdict_of said)) (goes d))
   unrolled t x known =
       run_unfolds d (awaits x) t.place ∙ ap (λ r. and_then r (goes d)) (same d t.held x t.place known)
-      ∙ sym (onward-and_then (next_record c d t).marks (next_record c d t).answer
+      ∙ sym (then_then (next_record c d t)
       (λ said. layout_reads d (after (λ v. awaits (on x v)) verdict_of said)) (goes d)
       (λ said. and_then (layout_reads d (after (λ v. awaits (on x v)) verdict_of said)) (goes d)) (λ said. refl))
 
@@ -159,5 +144,5 @@ module _ {C Y T : Type 0} (c : Chain C Y) (awaits : T → Awaited) (on : T → C
 pub by_size : (d : List ℕ) (r : Reads ImageSize)
     → and_then r (λ size. and_then (layout_reads d (decides size)) (goes d)) ≡ r
 by_size d r =
-    on_answer r.marks r.answer (λ size. and_then (layout_reads d (decides size)) (goes d)) gives (λ size _. refl)
-    ∙ given r.marks r.answer
+    then_alike r (λ size. and_then (layout_reads d (decides size)) (goes d)) gives (λ size _. refl)
+    ∙ then_gives r

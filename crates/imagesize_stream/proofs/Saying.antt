@@ -5,7 +5,7 @@ use Rattle.imagesize.specs.declared.types.ImageType.{ImageType}
 use Rattle.imagesize.specs.declared.types.ImageType.TheVariants.{Exr, Hdr, Heif, Ico, Ilbm, Jpeg, Jxl, Pnm, Tiff}
 use Rattle.imagesize_source.specs.Input.{span_of}
 use Rattle.imagesize_source.specs.Layout.{Layout, accept, bind, layout_reads}
-use Rattle.imagesize_source.specs.Layout.Layout.{field, reading, refuse, «done»}
+use Rattle.imagesize_source.specs.Layout.Layout.{begin_record, field, reading, refuse, «done»}
 use Rattle.imagesize_source.specs.Reading.{Reads, go_on, number_at, read_of}
 use Rattle.imagesize_source.specs.Way.{Way, Fixed, Recorded, Texts}
 use Rattle.imagesize_source.specs.declared.halt.Halt.{Halt}
@@ -26,6 +26,7 @@ Saying P (done x) = P x
 Saying P (refuse e) = Unit {0}
 Saying P (field order place k f) = (v : ℕ) → Saying P (f v)
 Saying P (reading r place f) = (bs : List ℕ) → Saying P (f bs)
+Saying P (begin_record t) = Saying P t
 
 saying_on : {X Y : Type 0} (P : X → Type 0) (marks : List Span) (r : Result Y Halt) (f : Y → Reads X) (x : X)
     → (go_on marks r f).answer ≡ Ok x
@@ -43,6 +44,7 @@ saying P d (field order place k f) x h is =
 saying P d (reading r place f) x h is =
     saying_on P (read_of d r place).marks (read_of d r place).answer (λ bs. layout_reads d (f bs)) x is
     (λ bs got. saying P d (f bs) x (h bs) got)
+saying P d (begin_record t) x h is = saying P d t x h is
 
 -- what goes on from a layout says what it says of each thing
 pub saying_bind : {X Y : Type 0} (P : Y → Type 0) (t : Layout X) (g : X → Layout Y) → ((x : X) → Saying P (g x))
@@ -51,6 +53,7 @@ saying_bind P (done x) g each = each x
 saying_bind P (refuse e) g each = tt
 saying_bind P (field order place k f) g each = λ v. saying_bind P (f v) g each
 saying_bind P (reading r place f) g each = λ bs. saying_bind P (f bs) g each
+saying_bind P (begin_record t) g each = saying_bind P t g each
 
 -- the record that the first bytes tell stands well
 abbrev pub OpensSteady : Opening → Type 0
@@ -83,8 +86,8 @@ records_steady type = tt
 
 steady_by : (w : Way ImageSize) (first : Layout Opening) → Saying OpensSteady first
     → Saying OpensSteady (opening_by w first)
-steady_by (Fixed layout) first steady = steady_sized layout
-steady_by (Recorded stated reads begun) first steady = steady
+steady_by (Fixed most layout) first steady = steady_sized layout
+steady_by (Recorded outside each stated reads) first steady = steady
 steady_by (Texts reads) first steady = steady
 
 pub opening_steady : (type : ImageType) → Saying OpensSteady (opening type)

@@ -8,8 +8,8 @@ use Rattle.imagesize_boxes.specs.Heif.{property_at, searched_box}
 use Rattle.imagesize_boxes.specs.Walks.{gathered_answer}
 use Rattle.imagesize_boxes.specs.declared.formats.heif.Gathered.{Gathered}
 use Rattle.imagesize_source.specs.Chain.{Said, Decided, Next, Advances}
-use Rattle.imagesize_source.specs.Layout.{Layout, accept, done, refuse, field, reading, bind, layout_reads, whole}
-use Rattle.imagesize_source.specs.Reading.{Reading, AllOf, PartOf, TextOf, and_then, map_answer, refuses}
+use Rattle.imagesize_source.specs.Layout.{Layout, accept, done, refuse, field, reading, begin_record, bind, layout_reads, whole}
+use Rattle.imagesize_source.specs.Reading.{Reading, AllOf, PartOf, TextOf, and_then, just, map_answer, refuses, uncounted}
 use Rattle.imagesize_source.specs.declared.halt.Halt.TheVariants.{Corrupted, Ended, NoDimensionsInIfd}
 use Rattle.imagesize_source.specs.declared.halt.Halt.{Halt}
 use Rattle.imagesize_source.proofs.Advances.{Begins, OrSome, Tells, advances}
@@ -52,6 +52,7 @@ module _ {C Y : Type 0} (on : C → Awaited) (verdict : Y → Layout (Said Await
   tells_behind P each (refuse e) tells = tt
   tells_behind P each (field order place k f) tells = λ v. tells_behind P each (f v) (tells v)
   tells_behind P each (reading r place f) tells = λ bs. tells_behind P each (f bs) (tells bs)
+  tells_behind P each (begin_record t) tells = tells_behind P each t tells
 
 or_some : (r : Reading) {P Q : Type 0} → (P → Q) → OrSome r P → OrSome r Q
 or_some (AllOf k) on some = some
@@ -69,6 +70,7 @@ begins_behind on verdict q none (refuse e) begins each = tt
 begins_behind on verdict q none (field order place k f) begins each = begins
 begins_behind on verdict q none (reading r place f) begins each =
     (begins.0, or_some r (tells_behind on verdict (λ _. ⊥) (λ y. none y (λ _. ⊥)) (f [])) begins.1)
+begins_behind on verdict q none (begin_record t) begins each = begins_behind on verdict q none t begins each
 
 box_tells : (tag : List ℕ) (place : ℕ) → Tells (λ p. place < p) (searched_box tag place)
 box_tells tag place = λ head. by_searched (Tells (λ p. place < p)) tag place head tt tt (λ big. omega arith)
@@ -159,9 +161,10 @@ awaited_advances = advances awaited_chain (λ held place. step_tells (last_await
     (λ held place. step_begins (last_awaited held) place)
 
 -- what is refused beyond the end is refused with what is after it
-refused_behind : {X Y : Type 0} (d : List ℕ) (t : Layout X) (g : X → Layout Y) → layout_reads d t ≡ refuses Ended
-    → layout_reads d (bind t g) ≡ refuses Ended
-refused_behind d t g is = over-bind d t g ∙ ap (λ r. and_then r (λ x. layout_reads d (g x))) is
+refused_behind : {X Y : Type 0} (d : List ℕ) (t : Layout X) (g : X → Layout Y)
+    → uncounted (layout_reads d t) ≡ refuses Ended → uncounted (layout_reads d (bind t g)) ≡ refuses Ended
+refused_behind d t g is =
+    ap uncounted (over-bind d t g) ∙ ap (λ r. uncounted (and_then r (λ x. layout_reads d (g x)))) is
 
 some_names : (long : Bool) → 0 < names_of long
 some_names true = omega arith
@@ -170,21 +173,21 @@ some_names false = omega arith
 -- what decides beyond the end decides with what is after it
 decided_behind : {C : Type 0} (d : List ℕ) (t : Layout (Said C ImageSize)) (on : C → Awaited)
     (r : Result ImageSize Halt)
-    → layout_reads d t ≡ record { answer = map_answer Decided r; marks = [] }
-    → layout_reads d (bind t (after on decides)) ≡ record { answer = map_answer Decided r; marks = [] }
-decided_behind d t on (Ok size) is = over-bind d t (after on decides)
-    ∙ ap (λ r. and_then r (λ said. layout_reads d (after on decides said))) is
-decided_behind d t on (Err e) is = over-bind d t (after on decides)
-    ∙ ap (λ r. and_then r (λ said. layout_reads d (after on decides said))) is
+    → uncounted (layout_reads d t) ≡ just (map_answer Decided r) []
+    → uncounted (layout_reads d (bind t (after on decides))) ≡ just (map_answer Decided r) []
+decided_behind d t on (Ok size) is = ap uncounted (over-bind d t (after on decides))
+    ∙ ap (λ r. uncounted (and_then r (λ said. layout_reads d (after on decides said)))) is
+decided_behind d t on (Err e) is = ap uncounted (over-bind d t (after on decides))
+    ∙ ap (λ r. uncounted (and_then r (λ said. layout_reads d (after on decides said)))) is
 
 accepted_ends : (d : List ℕ) (r : Result ImageSize Halt)
-    → layout_reads d (accept r decides) ≡ record { answer = map_answer Decided r; marks = [] }
+    → layout_reads d (accept r decides) ≡ just (map_answer Decided r) []
 accepted_ends d (Ok size) = refl
 accepted_ends d (Err e) = refl
 
 property_ends : (g : Gathered) (d : List ℕ) (place : ℕ) → length d ≤ place
-    → layout_reads d (bind (property_at g.left place) (property_step g place))
-    ≡ layout_reads d (accept (gathered_answer g) decides)
+    → uncounted (layout_reads d (bind (property_at g.left place) (property_step g place)))
+    ≡ uncounted (layout_reads d (accept (gathered_answer g) decides))
 property_ends g d place far = rw (no_part d place 8 far, no_span d place 8 far) refl
 
 listed_ends : (l : Listed) (all : Bool)
@@ -194,7 +197,7 @@ listed_ends l true = refl
 listed_ends l false = refl
 
 pub step_ends : (next : Awaited) (d : List ℕ) (place : ℕ) → length d ≤ place
-    → layout_reads d (step next place) ≡ record { answer = map_answer Decided (ends_with next); marks = [] }
+    → uncounted (layout_reads d (step next place)) ≡ just (map_answer Decided (ends_with next)) []
 step_ends (Segment depth) d place far = refused_behind d (jpeg_segment depth place) _ (jpeg_ends d depth place far)
 step_ends Chunk d place far = refused_behind d (ilbm_chunk place) _ (ilbm_ends d place far)
 step_ends (Attribute long) d place far =
@@ -203,26 +206,26 @@ step_ends Line d place far = refused_behind d (line_at 0x0A place 256 (hdr_line 
 step_ends (Icon count seen largest) d place far =
     decided_behind d (icon_in count seen largest place) (λ size. Icon count (seen + 1) (later_largest largest size))
     (ok_or largest Corrupted) (icon_in_ends count seen largest d place far)
-step_ends (Directory header) d place far = number_beyond d header.order place (count_bytes header.version)
+step_ends (Directory header) d place far = ap uncounted (number_beyond d header.order place (count_bytes header.version)
     (λ count. done (Next (Entry (record { header = header; count = count; seen = 0; width = None; height = None }))
     (place + count_bytes header.version)))
-    far (count_some header.version)
+    far (count_some header.version))
 step_ends (Entry l) d place far =
     decided_behind d (entry_behind l.header l.count l.seen l.width l.height place)
     (λ entry. Entry (listed_with l entry))
     (cond (eqb l.seen l.count) (Err NoDimensionsInIfd) (Err Ended))
     (behind_ends l.header l.count l.seen l.width l.height d place far
-    ∙ ap (λ r. record { answer = r; marks = [] }) (listed_ends l (eqb l.seen l.count)))
+    ∙ ap (λ r. just r []) (listed_ends l (eqb l.seen l.count)))
 step_ends Meta d place far =
     refused_behind d (searched_box (codes "meta") place) _ (search_ends (codes "meta") d place far)
 step_ends Iprp d place far =
     refused_behind d (searched_box (codes "iprp") place) _ (search_ends (codes "iprp") d place far)
 step_ends Ipco d place far =
     refused_behind d (searched_box (codes "ipco") place) _ (search_ends (codes "ipco") d place far)
-step_ends (Property g) d place far = property_ends g d place far ∙ accepted_ends d (gathered_answer g)
+step_ends (Property g) d place far = property_ends g d place far ∙ ap uncounted (accepted_ends d (gathered_answer g))
 step_ends (Box kept) d place far =
     refused_behind d (jxl_box (kept_front kept) place) _ (boxes_end (kept_front kept) d place far)
-step_ends Word d place far = word_beyond d place (word_step place) far
+step_ends Word d place far = ap uncounted (word_beyond d place (word_step place) far)
 step_ends Comment d place far =
-    passed_beyond d 0x0A place 1024 (λ taken. done (Next Word (place + taken))) far (omega arith)
-step_ends (Height width) d place far = word_beyond d place (height_step width) far
+    ap uncounted (passed_beyond d 0x0A place 1024 (λ taken. done (Next Word (place + taken))) far (omega arith))
+step_ends (Height width) d place far = ap uncounted (word_beyond d place (height_step width) far)

@@ -6,7 +6,7 @@ use Rattle.imagesize_source.specs.Chain.{Said, Decided, Next}
 use Rattle.imagesize_source.specs.Input.{span_at}
 use Rattle.imagesize_source.specs.Layout.{accept, layout_reads}
 use Rattle.imagesize_source.specs.Layout.Layout.{«done»}
-use Rattle.imagesize_source.specs.Reading.{Reads, and_then, go_on, put_behind, text_part}
+use Rattle.imagesize_source.specs.Reading.{Reads, after_records, and_then, go_on, put_behind, text_part}
 use Rattle.imagesize_source.specs.declared.halt.Halt.{Halt}
 use Rattle.imagesize_source.specs.declared.span.Span.{Span}
 use Rattle.imagesize_source.specs.declared.text.Text.TheVariants.{Line, Word as word_text_of}
@@ -26,7 +26,7 @@ behind_onward first marks (Err e) f = refl
 
 behind_text : {X Y : Type 0} (first : List Span) (r : Reads X) (f : X → Reads Y)
     → and_then (put_behind first r) f ≡ put_behind first (and_then r f)
-behind_text first r f = behind_onward first r.marks r.answer f
+behind_text first r f = ap (after_records r.begun) (behind_onward first r.marks r.answer f)
 
 module _ (d : List ℕ) where
   -- what is after a record of the chain

@@ -87,20 +87,20 @@ opening_records type = refuse NotSupported
 
 -- what holds for the layout of a size at fixed offsets
 abbrev pub IfFixed : Way ImageSize → (Layout ImageSize → Type 0) → Type 0
-IfFixed (Fixed layout) Holds = Holds layout
-IfFixed (Recorded stated reads begun) Holds = Unit {0}
+IfFixed (Fixed most layout) Holds = Holds layout
+IfFixed (Recorded outside each stated reads) Holds = Unit {0}
 IfFixed (Texts reads) Holds = Unit {0}
 
 -- what holds for the reads of a size in records
 abbrev pub IfRecorded : Way ImageSize → ((List ℕ → Reads ImageSize) → Type 0) → Type 0
-IfRecorded (Fixed layout) Holds = Unit {0}
-IfRecorded (Recorded stated reads begun) Holds = Holds reads
+IfRecorded (Fixed most layout) Holds = Unit {0}
+IfRecorded (Recorded outside each stated reads) Holds = Holds reads
 IfRecorded (Texts reads) Holds = Holds reads
 
 -- the size, if it is at fixed offsets, or else the first record
 abbrev pub opening_by : Way ImageSize → Layout Opening → Layout Opening
-opening_by (Fixed layout) first = sized layout
-opening_by (Recorded stated reads begun) first = first
+opening_by (Fixed most layout) first = sized layout
+opening_by (Recorded outside each stated reads) first = first
 opening_by (Texts reads) first = first
 
 -- what the first bytes say about the size, by the type

@@ -10,24 +10,23 @@ use Rattle.imagesize_types.specs.declared.size.ImageSize.{ImageSize}
 use Rattle.imagesize_source.specs.declared.halt.Halt.TheVariants.{DataWindowNotFound, Ended}
 use Rattle.imagesize_source.specs.declared.endian.Endian.TheVariants.{Little}
 use Rattle.imagesize_source.specs.Agreement.{IsLocal}
-use Rattle.imagesize_source.specs.Chain.{Said, Decided, Next, Advances, chain_at, start, records}
+use Rattle.imagesize_source.specs.Chain.{Said, Decided, Next, Along, Advances, chain_at, next_record, start}
 use Rattle.imagesize_source.specs.Counts.{AtMost}
 use Rattle.imagesize_source.specs.Extension.{Plain, Lasts}
-use Rattle.imagesize_source.specs.Input.{span_of}
 use Rattle.imagesize_source.specs.Layout.{Layout, layout_reads, bytes, done, refuse}
 use Rattle.imagesize_source.specs.Numbers.{number}
-use Rattle.imagesize_source.specs.Reading.{number_at, number_read, refuses}
+use Rattle.imagesize_source.specs.Reading.{number_read, refuses, uncounted}
 use Rattle.imagesize_source.specs.State.{total}
 use Rattle.imagesize_source.proofs.Advances.{Begins, Tells, advances}
 use Rattle.imagesize_source.proofs.Ahead.{Ahead, chain_ahead}
-use Rattle.imagesize_source.proofs.ChainLaws.{local_chain, lasts_chain, chain_cost_from}
-use Rattle.imagesize_source.proofs.Counts.{begun_cost, at_most, at_most_more, then_within, total-span_of}
+use Rattle.imagesize_source.proofs.ChainLaws.{local_chain, lasts_chain, chain_bounded}
+use Rattle.imagesize_source.proofs.Counts.{Bounded, at_most, at_most_more, bounded_then, then_within, total-span_of}
 use Rattle.imagesize_source.proofs.Agreement.{local_then, local_number, with_texts}
 use Rattle.imagesize_source.proofs.Numbers.{little_4}
 use Rattle.imagesize_source.proofs.Spends.{said_to}
 use Rattle.imagesize_source.proofs.Tests.{on_test}
 use Rattle.imagesize_source.proofs.Way.{RecordedLaws}
-use Rattle.imagesize_texts.specs.Exr.{exr, exr_attributes, exr_attribute, exr_named, exr_typed, exr_value, exr_window, name_room, window_size, is_data_window, is_box, signed_at, attributes_begun}
+use Rattle.imagesize_texts.specs.Exr.{exr, exr_attributes, exr_attribute, exr_named, exr_typed, exr_value, exr_window, name_room, window_size, is_data_window, is_box, signed_at}
 use Rattle.imagesize_texts.specs.Texts.{line_at}
 use Rattle.imagesize_texts.proofs.Texts.{line_total, line_onto, line_plain, line_tells, line_begins, line_beyond, lasts_then, number_lasts}
 
@@ -196,23 +195,23 @@ attribute_cost d room place few = line_total 0 place room (exr_named room place)
     omega arith) in
     omega arith))
 
-pub exr_cost : (d : List ℕ) → 12 + total (exr d).marks ≤ 16 + 530 * attributes_begun d
+pub exr_cost : (d : List ℕ) → 12 + total (exr d).marks ≤ 16 + 530 * (exr d).begun
 exr_cost d = omega (
   arith,
-  begun_cost 530 (span_of d 4 4) (number_at d Little 4 4) (λ version. chain_at (exr_attributes (name_room version)) d)
-      (λ version. records (exr_attributes (name_room version)) d) 4 0 (total-span_of d 4 4)
-      (λ version. omega (
-        arith,
-        chain_cost_from (exr_attributes (name_room version)) d (attribute_advances (name_room version) d) 530
-            (λ t. attribute_cost d (name_room version) t.place (room_few version))
-            (start (exr_attributes (name_room version))),
-      )),
-)
+  bounded_then 530 4 0 (number_read d Little 4 4) (λ version. chain_at (exr_attributes (name_room version)) d)
+      (omega (arith, total-span_of d 4 4)) (λ version _. attributes_cost version),
+) where
+  attributes_cost : (version : ℕ) → Bounded 0 530 (chain_at (exr_attributes (name_room version)) d)
+  attributes_cost version =
+      let each : (t : Along (Unit {0})) → Bounded 0 530 (next_record (exr_attributes (name_room version)) d t) =
+      λ t. omega (arith, attribute_cost d (name_room version) t.place (room_few version)) in
+      chain_bounded (exr_attributes (name_room version)) d (attribute_advances (name_room version) d) 530 (λ _. 0)
+      (λ t v place is. omega (arith, each t)) each (start (exr_attributes (name_room version)))
 
-pub exr_laws : RecordedLaws 12 16 530 true true exr attributes_begun
+pub exr_laws : RecordedLaws 12 16 530 true true exr
 exr_laws = record { local = exr_local; cost = exr_cost; within = exr_within; lasts = λ _. exr_lasts }
 
 -- from the end of the input on there is no attribute
 pub exr_ends : (d : List ℕ) (room place : ℕ) → 0 < room → length d ≤ place
-    → layout_reads d (exr_attribute room place) ≡ refuses Ended
-exr_ends d room place some h = line_beyond d 0 place room (exr_named room place) h some
+    → uncounted (layout_reads d (exr_attribute room place)) ≡ refuses Ended
+exr_ends d room place some h = ap uncounted (line_beyond d 0 place room (exr_named room place) h some)

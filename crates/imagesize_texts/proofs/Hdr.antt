@@ -4,7 +4,7 @@ use Rattle.std.proofs.lemmas.Bool.Decides.{nat_tests}
 use Rattle.imagesize_types.specs.declared.size.ImageSize.{ImageSize}
 use Rattle.imagesize_source.specs.declared.halt.Halt.{Halt}
 use Rattle.imagesize_source.specs.declared.halt.Halt.TheVariants.{Ended, InvalidHdrIdentifier}
-use Rattle.imagesize_source.specs.Reading.{refuses}
+use Rattle.imagesize_source.specs.Reading.{refuses, uncounted}
 use Rattle.imagesize_source.specs.Agreement.{IsLocal}
 use Rattle.imagesize_source.specs.Chain.{Said, Decided, Next, Advances, chain_at}
 use Rattle.imagesize_source.specs.Extension.{Plain, Lasts}
@@ -87,8 +87,8 @@ hdr_laws = record { local = hdr_local; within = λ d. omega (arith, hdr_within d
 
 -- from the end of the input on there is no line
 pub hdr_ends : (d : List ℕ) (place : ℕ) → length d ≤ place
-    → layout_reads d (line_at 0x0A place 256 (hdr_line place)) ≡ refuses Ended
-hdr_ends d place h = line_beyond d 0x0A place 256 (hdr_line place) h (omega arith)
+    → uncounted (layout_reads d (line_at 0x0A place 256 (hdr_line place))) ≡ refuses Ended
+hdr_ends d place h = ap uncounted (line_beyond d 0x0A place 256 (hdr_line place) h (omega arith))
 
 -- of another number of words than four none are the second and the fourth
 pub other_words : (ws : List (List ℕ)) → length ws ≢ 4 → second_and_fourth ws ≡ None

@@ -8,7 +8,7 @@ use Rattle.imagesize_source.specs.Chain.{Said, Decided, Advances}
 use Rattle.imagesize_source.specs.Extension.{Plain, Lasts}
 use Rattle.imagesize_source.specs.declared.halt.Halt.TheVariants.{Ended}
 use Rattle.imagesize_source.specs.Layout.{Layout, done, accept, layout_reads}
-use Rattle.imagesize_source.specs.Reading.{refuses}
+use Rattle.imagesize_source.specs.Reading.{refuses, uncounted}
 use Rattle.imagesize_source.specs.State.{total}
 use Rattle.imagesize_source.proofs.Advances.{Begins, Tells, advances}
 use Rattle.imagesize_source.proofs.Ahead.{Ahead, chain_ahead}
@@ -94,5 +94,5 @@ pnm_laws = record { local = pnm_local; within = λ d. omega (arith, pnm_within d
 
 -- from the end of the input on there is no word
 pub pnm_ends : (d : List ℕ) (place : ℕ) → length d ≤ place
-    → layout_reads d (word place (pnm_word place)) ≡ refuses Ended
-pnm_ends d place h = word_beyond d place (pnm_word place) h
+    → uncounted (layout_reads d (word place (pnm_word place))) ≡ refuses Ended
+pnm_ends d place h = ap uncounted (word_beyond d place (pnm_word place) h)

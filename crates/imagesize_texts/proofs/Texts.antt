@@ -2,7 +2,7 @@
 use Rattle.std.proofs.Common.{◌≡◌, ℕ, zero, suc, ◌+◌, ◌-◌, ◌^◌, ◌<◌, ◌≤◌, min, Bool, true, false, ◌||◌, not, cond, eqb, ltb, List, [], ◌∷◌, ◌++◌, length, take, drop, slice_index, Option, Result, Ok, Err, IfErr, IfOk, refl, sym, ap, ◌∙◌, subst, arith}
 use Rattle.std.proofs.lemmas.Bool.{and_parts}
 use Rattle.std.proofs.lemmas.Bool.Decides.{nat_tests}
-use Rattle.std.proofs.lemmas.List.{length-take, append-nil}
+use Rattle.std.proofs.lemmas.List.{length-take}
 use Rattle.std.specs.Char.{is_ascii_whitespace}
 use Rattle.std.specs.List.{list_any}
 use Rattle.std.specs.Prelude.{◌&&◌}
@@ -11,20 +11,20 @@ use Rattle.imagesize_source.specs.declared.halt.Halt.{Halt}
 use Rattle.imagesize_source.specs.declared.halt.Halt.TheVariants.{Ended, NoDelimiter, NotUtf8}
 use Rattle.imagesize_source.specs.declared.text.Text.{Text}
 use Rattle.imagesize_source.specs.declared.text.Text.TheVariants.{Line, Word}
-use Rattle.imagesize_source.specs.declared.span.Span.{Span}
 use Rattle.imagesize_source.specs.declared.endian.Endian.{Endian}
 use Rattle.imagesize_source.specs.Chain.{Said}
 use Rattle.imagesize_source.specs.Extension.{Plain, Never, Lasts}
-use Rattle.imagesize_source.specs.Input.{span_at, span_of}
+use Rattle.imagesize_source.specs.Input.{span_at}
 use Rattle.imagesize_source.specs.Layout.{Layout, layout_reads, accept}
 use Rattle.imagesize_source.specs.Layout.Layout.{refuse, «done», field}
-use Rattle.imagesize_source.specs.Reading.{Reads, gives, and_then, go_on, number_at, number_read, refuses, put_behind, text_part, text_read, is_stop, map_answer, is_failure, is_spent, is_stopped, is_faulted}
+use Rattle.imagesize_source.specs.Reading.{Reads, and_then, just, number_read, refuses, put_behind, text_part, text_read, is_stop, map_answer, is_failure, is_spent, is_stopped, is_faulted}
 use Rattle.imagesize_source.specs.State.{State, Runs, EndedBy, total}
 use Rattle.imagesize_source.specs.Text.{is_ended, space_before}
 use Rattle.imagesize_source.proofs.Advances.{Tells, Begins}
 use Rattle.imagesize_source.proofs.Counts.{text_length, total-span_at}
+use Rattle.imagesize_source.proofs.Layouts.{then_gives}
 use Rattle.imagesize_source.proofs.PastTheEnd.{saturated_by}
-use Rattle.imagesize_source.proofs.Extension.{more}
+use Rattle.imagesize_source.proofs.Extension.{more, onward_more}
 use Rattle.imagesize_source.proofs.Runs.{answered, part_is, total-append}
 use Rattle.imagesize_source.proofs.Spends.{Onto}
 use Rattle.imagesize_source.proofs.Tests.{on_test}
@@ -496,40 +496,28 @@ word_beyond d place f h =
     ∙ ap (λ r. layout_reads d (accept r f)) word_none
 
 as_beyond : {X : Type 0} (d : List ℕ) (t : Text) (place k : ℕ) (f : List ℕ → Result X Halt) → length d ≤ place
-    → text_as d t place k f ≡ record { answer = f []; marks = [] }
+    → text_as d t place k f ≡ just (f []) []
 unfolding span_at
 as_beyond d t place k f h =
-    ap (λ bs. record { answer = f bs; marks = span_at place (length bs) }) (text_none d t place k h)
+    ap (λ bs. just (f bs) (span_at place (length bs))) (text_none d t place k h)
 
 -- no input is so long that a text stands beyond 64 bits
 pub text_saturated : {X : Type 0} {a b : State} {r : Result X Halt} (t : Text) (place at k : ℕ)
     (f : List ℕ → Result X Halt)
     → Runs a b r (text_as a.held.input t at k f) → at ≡ min place (2 ^ 64 - 1)
     → Runs a b r (text_as a.held.input t place k f)
-text_saturated t place at k f = saturated_by (λ p d. text_as d t p k f) (record { answer = f []; marks = [] }) place at
+text_saturated t place at k f = saturated_by (λ p d. text_as d t p k f) (just (f []) []) place at
     (λ d p far. as_beyond d t p k f far)
 
 -- readings behind readings last where both do
 pub lasts_then : {X Y : Type 0} (r : List ℕ → Reads X) (f : X → List ℕ → Reads Y) → Lasts r → ((y : X) → Lasts (f y))
     → Lasts (λ d. and_then (r d) (λ y. f y d))
-lasts_then {X} {Y} r f first rest d x v is = by_answer (r d).answer refl where
-  by_answer : (a : Result X Halt) → (r d).answer ≡ a
-      → and_then (r (d ++ x)) (λ y. f y (d ++ x)) ≡ and_then (r d) (λ y. f y d)
-  by_answer (Ok y) got =
-      let ends : (f y d).answer ≡ Ok v = sym (ap (λ a. (go_on (r d).marks a (λ y. f y d)).answer) got) ∙ is in
-      ap (λ w. and_then w (λ y. f y (d ++ x))) (first d x y got) ∙ ap (λ a. go_on (r d).marks a (λ y. f y (d ++ x))) got
-      ∙ ap (put_behind (r d).marks) (rest y d x v ends) ∙ sym (ap (λ a. go_on (r d).marks a (λ y. f y d)) got)
-  by_answer (Err e) got = absurd (let no : ◌≡◌ {A = Result Y Halt} (Err e) (Ok v) =
-      sym (ap (λ a. (go_on (r d).marks a (λ y. f y d)).answer) got) ∙ is in cc)
-
-answered_done : {X : Type 0} (marks : List Span) (a : Result X Halt)
-    → go_on marks a gives ≡ record { answer = a; marks = marks }
-answered_done marks (Ok x) = ap (λ m. record { answer = Ok x; marks = m }) (append-nil marks)
-answered_done marks (Err e) = refl
+lasts_then r f first rest d x v is = onward_more (r d) (r (d ++ x)) (λ y. f y d) (λ y. f y (d ++ x)) v is
+    (λ y got _. first d x y got) (λ y ok. rest y d x v ok)
 
 -- one number lasts
 pub number_lasts : (order : Endian) (place k : ℕ) → Lasts (λ d. number_read d order place k)
 number_lasts order place k d x v is =
-    let one = answered_done (span_of d place k) (number_at d order place k) in
-    sym (answered_done (span_of (d ++ x) place k) (number_at (d ++ x) order place k))
+    let one = then_gives (number_read d order place k) in
+    sym (then_gives (number_read (d ++ x) order place k))
     ∙ more d x (field order place k done) v (λ _. tt) (ap (λ r. r.answer) one ∙ is) ∙ one

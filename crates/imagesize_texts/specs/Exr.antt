@@ -6,11 +6,11 @@ use Rattle.imagesize_types.specs.Sides.{size_if_known}
 use Rattle.imagesize_types.specs.declared.size.ImageSize.{ImageSize}
 use Rattle.imagesize_source.specs.declared.halt.Halt.TheVariants.{DataWindowNotFound}
 use Rattle.imagesize_source.specs.declared.endian.Endian.TheVariants.{Little}
-use Rattle.imagesize_source.specs.Chain.{Said, Decided, Next, Chain, chain_at, records, count_behind}
+use Rattle.imagesize_source.specs.Chain.{Said, Decided, Next, Chain, chain_at}
 use Rattle.imagesize_source.specs.Layout.{Layout, bytes}
-use Rattle.imagesize_source.specs.Layout.Layout.{field, refuse, «done»}
+use Rattle.imagesize_source.specs.Layout.Layout.{begin_record, field, refuse, «done»}
 use Rattle.imagesize_source.specs.Numbers.{number}
-use Rattle.imagesize_source.specs.Reading.{Reads, and_then, number_read, number_at}
+use Rattle.imagesize_source.specs.Reading.{Reads, and_then, number_read}
 use Rattle.imagesize_texts.specs.Texts.{line_at}
 
 -- whether the input begins with the magic number ("Magic Number")
@@ -68,7 +68,7 @@ exr_named room place name =
 
 -- an attribute: its name, its type, the size of its value, and the value ("Attribute Layout")
 abbrev pub exr_attribute : ℕ → ℕ → Layout (Said (Unit {0}) ImageSize)
-exr_attribute room place = line_at 0 place room (exr_named room place)
+exr_attribute room place = begin_record (line_at 0 place room (exr_named room place))
 
 -- the attributes after the version field
 abbrev pub exr_attributes : ℕ → Chain (Unit {0}) ImageSize
@@ -77,7 +77,3 @@ exr_attributes room = record { first = 8; said = λ passed place. exr_attribute 
 -- the first data window that is not reversed
 abbrev pub exr : List ℕ → Reads ImageSize
 exr d = and_then (number_read d Little 4 4) (λ version. chain_at (exr_attributes (name_room version)) d)
-
--- how many attributes are begun
-abbrev pub attributes_begun : List ℕ → ℕ
-attributes_begun d = count_behind (number_at d Little 4 4) (λ version. records (exr_attributes (name_room version)) d)

@@ -5,7 +5,7 @@ use Rattle.imagesize_source.specs.declared.text.Text.{Text}
 use Rattle.imagesize_source.specs.declared.text.Text.TheVariants.{Line, Word}
 use Rattle.imagesize_source.specs.Input.{span_at}
 use Rattle.imagesize_source.specs.Layout.{Layout, text, accept}
-use Rattle.imagesize_source.specs.Reading.{Reads, text_part}
+use Rattle.imagesize_source.specs.Reading.{Reads, just, text_part}
 use Rattle.imagesize_texts.specs.declared.util.Word as declared
 use Rattle.imagesize_texts.specs.Contents.{WordRead, word_room, line_text, line_length, word_text}
 
@@ -23,7 +23,7 @@ word place f = text Word place word_room (λ bs. accept (word_text bs) f)
 
 -- the read of a text, with a function applied to its bytes
 abbrev pub text_as : {X : Type 0} → List ℕ → Text → ℕ → ℕ → (List ℕ → Result X Halt) → Reads X
-text_as d t place k f = record { answer = f (text_part d t place k); marks = span_at place (length (text_part d t place k)) }
+text_as d t place k f = just (f (text_part d t place k)) (span_at place (length (text_part d t place k)))
 
 -- the reads of these three
 abbrev pub line_read : List ℕ → ℕ → ℕ → ℕ → Reads (List ℕ)

@@ -1,36 +1,34 @@
 -- ICO: how a walk along its entries goes, how many bytes they are read from, and what it sees of an input.
-use Rattle.std.proofs.Common.{◌≡◌, ◌≢◌, ℕ, ◌+◌, ◌*◌, ◌<◌, ◌≤◌, max, Bool, true, false, cond, eqb, leb, List, [], ◌∷◌, ◌++◌, length, Option, Some, None, Result, Ok, Err, IfOk, IfErr, refl, sym, ap, ◌∙◌, subst, arith, min}
+use Rattle.std.proofs.Common.{◌≡◌, ℕ, ◌+◌, ◌*◌, ◌<◌, ◌≤◌, max, Bool, true, false, cond, eqb, leb, List, [], ◌∷◌, ◌++◌, length, Option, Some, None, Result, Ok, Err, IfOk, IfErr, refl, sym, ap, ◌∙◌, subst, arith}
 use Rattle.std.proofs.lemmas.Bool.Decides.{nat_tests}
 use Rattle.std.proofs.lemmas.List.{append-nil, length_push}
 use Rattle.std.proofs.lemmas.List.Elements.{filter-append}
 use Rattle.std.specs.Prelude.{filter, ok_or}
 use Rattle.std.specs.List.{last_or}
 use Rattle.imagesize_walked.specs.Walks.{IconsOn, IsIcon, Seen}
-use Rattle.imagesize_walked.specs.Ico.{ico, icon_entries, icon_entry, icon_in, icon_answer, icon_size, icons_begun}
+use Rattle.imagesize_walked.specs.Ico.{ico, icon_entries, icon_entry, icon_in, icon_answer, icon_size}
 use Rattle.imagesize_types.specs.Largest.{greatest_area, last_largest, area_if_some, later_largest}
 use Rattle.imagesize_types.specs.Order.{area_of}
 use Rattle.imagesize_types.specs.declared.size.ImageSize.{ImageSize}
 use Rattle.imagesize_source.specs.declared.halt.Halt.TheVariants.{Corrupted}
 use Rattle.imagesize_source.specs.declared.endian.Endian.TheVariants.{Little}
 use Rattle.imagesize_source.specs.Agreement.{IsLocal}
-use Rattle.imagesize_source.specs.Chain.{Said, Decided, Next, Along, Advances, start, next_record, records, records_from, chain_at}
-use Rattle.imagesize_source.specs.Counts.{AtMost}
-use Rattle.imagesize_source.specs.Input.{span_of}
-use Rattle.imagesize_source.specs.Layout.{Layout, layout_reads, if_there, refuse, done, whole}
+use Rattle.imagesize_source.specs.Chain.{Said, Decided, Next, Advances, chain_at}
+use Rattle.imagesize_source.specs.Counts.{AtMost, Each}
+use Rattle.imagesize_source.specs.Layout.{Layout, begin_record, layout_reads, if_there, refuse, done, whole}
 use Rattle.std.specs.Option.{ForSome}
 use Rattle.imagesize_source.proofs.PastTheEnd.{there_beyond}
-use Rattle.imagesize_source.specs.Reading.{map_answer, number_at, number_read}
+use Rattle.imagesize_source.specs.Reading.{just, map_answer, number_read, uncounted}
 use Rattle.imagesize_source.specs.State.{State, Runs, total}
 use Rattle.imagesize_source.specs.Walk.{KeepsOn, said_at}
 use Rattle.imagesize_source.specs.declared.halt.Halt.{Halt}
 use Rattle.imagesize_source.specs.declared.walk.Found.{Found}
 use Rattle.imagesize_source.specs.declared.walk.Found.TheVariants as found
-use Rattle.imagesize_source.proofs.Advances.{Tells, Begins, advances, tells}
+use Rattle.imagesize_source.proofs.Advances.{Tells, Begins, advances}
 use Rattle.imagesize_source.proofs.Ahead.{Ahead, chain_ahead}
-use Rattle.imagesize_source.proofs.ChainLaws.{local_chain, chain_cost, chain_induction}
-use Rattle.imagesize_source.proofs.Chains.{records_next, records_stop}
-use Rattle.imagesize_source.proofs.Counts.{begun_cost, then_within, total-span_of}
-use Rattle.imagesize_source.proofs.Agreement.{local_then, local_number, without_texts}
+use Rattle.imagesize_source.proofs.ChainLaws.{local_chain, chain_cost}
+use Rattle.imagesize_source.proofs.Counts.{bounded_then, then_within, total-span_of}
+use Rattle.imagesize_source.proofs.Agreement.{each_texts, local_then, local_number}
 use Rattle.imagesize_source.proofs.Tests.{on_test}
 use Rattle.imagesize_source.proofs.Way.{RecordedLaws}
 use Rattle.imagesize_source.proofs.Lists.{last_push}
@@ -94,23 +92,23 @@ by_entry P best place (Some bytes) end next = next (icon_size bytes)
 
 -- and of a record
 by_count : (P : Layout (Said ImageSize ImageSize) → Type 0) (count : ℕ) (sizes : List ImageSize) (place : ℕ)
-    → P (icon_answer (last_largest sizes)) → P (if_there place 2 (icon_entry (last_largest sizes) place))
+    → P (icon_answer (last_largest sizes)) → P (begin_record (if_there place 2 (icon_entry (last_largest sizes) place)))
     → P ((icon_entries count).said sizes place)
 by_count P count sizes place end entry = on_test P (eqb (length sizes) count) (icon_answer (last_largest sizes))
-    (if_there place 2 (icon_entry (last_largest sizes) place)) (λ _. end) (λ _. entry)
+    (begin_record (if_there place 2 (icon_entry (last_largest sizes) place))) (λ _. end) (λ _. entry)
 
 -- a record by how many entries were read
 pub icon_tells : (count seen : ℕ) (best : Option ImageSize) (place : ℕ)
     → Tells (λ p. place < p) (icon_in count seen best place)
 icon_tells count seen best place =
-    on_test (Tells (λ p. place < p)) (eqb seen count) (icon_answer best) (if_there place 2 (icon_entry best place))
+    on_test (Tells (λ p. place < p)) (eqb seen count) (icon_answer best) (begin_record (if_there place 2 (icon_entry best place)))
     (λ _. by_answer (Tells (λ p. place < p)) best tt (λ size. tt))
     (λ _ bs. by_entry (Tells (λ p. place < p)) best place (whole 2 bs)
     (by_answer (Tells (λ p. place < p)) best tt (λ size. tt)) (λ size. omega arith))
 
 pub icon_begins : (count seen : ℕ) (best : Option ImageSize) (place : ℕ) → Begins place (icon_in count seen best place)
 icon_begins count seen best place =
-    on_test (Begins place) (eqb seen count) (icon_answer best) (if_there place 2 (icon_entry best place))
+    on_test (Begins place) (eqb seen count) (icon_answer best) (begin_record (if_there place 2 (icon_entry best place)))
     (λ _. by_answer (Begins place) best tt (λ size. tt))
     (λ _. (omega arith, by_answer (Tells (λ _. ⊥)) best tt (λ size. tt)))
 
@@ -188,72 +186,32 @@ icon_as {a} {b} {r} count seen best place run sizes h =
 
 -- from the end of the input on there is no entry
 pub icon_in_ends : (count seen : ℕ) (best : Option ImageSize) (d : List ℕ) (place : ℕ) → length d ≤ place
-    → layout_reads d (icon_in count seen best place)
-    ≡ record { answer = map_answer Decided (ok_or best Corrupted); marks = [] }
+    → uncounted (layout_reads d (icon_in count seen best place)) ≡ just (map_answer Decided (ok_or best Corrupted)) []
 icon_in_ends count seen best d place far = by_test (eqb seen count) where
   ends : (best : Option ImageSize)
-      → layout_reads d (icon_answer best) ≡ record { answer = map_answer Decided (ok_or best Corrupted); marks = [] }
+      → layout_reads d (icon_answer best) ≡ just (map_answer Decided (ok_or best Corrupted)) []
   ends None = refl
   ends (Some size) = refl
 
-  by_test : (all : Bool) → layout_reads d (cond all (icon_answer best) (if_there place 2 (icon_entry best place)))
-      ≡ record { answer = map_answer Decided (ok_or best Corrupted); marks = [] }
-  by_test true = ends best
-  by_test false = there_beyond d place 2 (icon_entry best place) far ∙ ends best
+  by_test : (all : Bool)
+      → uncounted (layout_reads d (cond all (icon_answer best)
+      (begin_record (if_there place 2 (icon_entry best place)))))
+      ≡ just (map_answer Decided (ok_or best Corrupted)) []
+  by_test true = ap uncounted (ends best)
+  by_test false = ap uncounted (there_beyond d place 2 (icon_entry best place) far ∙ ends best)
 
 pub icon_ends : (count seen : ℕ) (best : Option ImageSize) (sizes : List ImageSize) → Seen seen best sizes
-    → (d : List ℕ) (place : ℕ)
-    → length d ≤ place → layout_reads d ((icon_entries count).said sizes place)
-    ≡ record { answer = map_answer Decided (ok_or best Corrupted); marks = [] }
-icon_ends count seen best sizes h d place far = by_count (eqb (length sizes) count) where
-  ends : layout_reads d (icon_answer (last_largest sizes))
-      ≡ record { answer = map_answer Decided (ok_or best Corrupted); marks = [] }
-  ends = ap (λ o. layout_reads d (icon_answer o)) h.is ∙ by_best best where
-    by_best : (best : Option ImageSize)
-        → layout_reads d (icon_answer best) ≡ record { answer = map_answer Decided (ok_or best Corrupted); marks = [] }
-    by_best None = refl
-    by_best (Some size) = refl
+    → (d : List ℕ) (place : ℕ) → length d ≤ place
+    → uncounted (layout_reads d ((icon_entries count).said sizes place))
+    ≡ just (map_answer Decided (ok_or best Corrupted)) []
+icon_ends count seen best sizes h d place far =
+    icon_in_ends count (length sizes) (last_largest sizes) d place far
+    ∙ ap (λ o. just (map_answer Decided (ok_or o Corrupted)) []) h.is
 
-  by_count : (all : Bool)
-      → layout_reads d (cond all (icon_answer (last_largest sizes))
-      (if_there place 2 (icon_entry (last_largest sizes) place)))
-      ≡ record { answer = map_answer Decided (ok_or best Corrupted); marks = [] }
-  by_count true = ends
-  by_count false = there_beyond d place 2 (icon_entry (last_largest sizes) place) far ∙ ends
-
--- at the count of entries the list ends
-ends_at : (count : ℕ) (d : List ℕ) (t : Along ImageSize) (size : ImageSize) (place : ℕ)
-    → (next_record (icon_entries count) d t).answer
-    ≡ Ok (Next size place) → length t.held ≡ count → ⊥
-ends_at count d t size place is at =
-    let all : eqb (length t.held) count ≡ true = grind (arith, nat_tests) in
-    tells (λ _. ⊥) d (icon_answer (last_largest t.held)) size place
-    (by_answer (Tells (λ _. ⊥)) (last_largest t.held) tt (λ size. tt))
-    (sym (ap (λ test. (layout_reads d
-    (cond test (icon_answer (last_largest t.held))
-    (if_there t.place 2 (icon_entry (last_largest t.held) t.place)))).answer)
-    all) ∙ is)
-
-records_few : (count : ℕ) (d : List ℕ) → records (icon_entries count) d ≤ count + 1
-records_few count d =
-    let few = chain_induction (icon_entries count) d
-    (λ t. length t.held ≤ count → records_from (icon_entries count) d t + length t.held
-    ≤ count + 1) (icon_advances count d)
-    (λ t size place is later fits.
-    let apart : length t.held ≢ count = λ at. ends_at count d t size place is at in
-    let below : length t.held < count = omega arith in
-    let one = length_push t.held size in
-    let rest = later (omega arith) in
-    let next = records_next (icon_entries count) d t size place (icon_advances count d) is in
-    omega arith)
-    (λ t r is fits. let one = records_stop (icon_entries count) d t r is in omega arith)
-    (start (icon_entries count)) in
-    let all = few (omega arith) in omega arith
-
--- an entry is read from at most 2 bytes
-entry_at_most : (count : ℕ) (sizes : List ImageSize) (place : ℕ) → AtMost 2 ((icon_entries count).said sizes place)
-entry_at_most count sizes place =
-    by_count (AtMost 2) count sizes place (by_answer (AtMost 2) (last_largest sizes) tt (λ size. tt)) (
+-- an entry is read from at most 2 bytes, and the end of the list from none
+entry_each : (count : ℕ) (sizes : List ImageSize) (place : ℕ) → Each 2 ((icon_entries count).said sizes place)
+entry_each count sizes place =
+    by_count (Each 2) count sizes place (by_answer (Each 2) (last_largest sizes) tt (λ size. tt)) (
       omega arith,
       λ bs. by_entry (AtMost 0) (last_largest sizes) place (whole 2 bs)
           (by_answer (AtMost 0) (last_largest sizes) tt (λ size. tt)) (λ size. tt),
@@ -264,20 +222,16 @@ pub ico_local : IsLocal false ico
 ico_local = local_then (λ d. number_read d Little 4 2) (λ count d. chain_at (icon_entries count) d)
     (local_number Little 4 2)
     (λ count. local_chain (icon_entries count) (icon_advances count)
-    (λ sizes place. without_texts false 2 ((icon_entries count).said sizes place) (entry_at_most count sizes place)))
+    (λ sizes place. each_texts false 2 ((icon_entries count).said sizes place) (entry_each count sizes place)))
 
-pub ico_cost : (d : List ℕ) → 12 + total (ico d).marks ≤ 18 + 20 * icons_begun d
+pub ico_cost : (d : List ℕ) → 12 + total (ico d).marks ≤ 18 + 20 * (ico d).begun
 ico_cost d = omega (
   arith,
-  begun_cost 2 (span_of d 4 2) (number_at d Little 4 2) (λ count. chain_at (icon_entries count) d)
-      (λ count. min count (records (icon_entries count) d)) 2 2 (total-span_of d 4 2)
-      (λ count. omega (
-        arith,
-        records_few count d,
-        chain_cost (icon_entries count) d (icon_advances count d) 2 (entry_at_most count),
-      )),
+  bounded_then 2 2 0 (number_read d Little 4 2) (λ count. chain_at (icon_entries count) d)
+      (omega (arith, total-span_of d 4 2))
+      (λ count _. chain_cost (icon_entries count) d (icon_advances count d) 2 (entry_each count)),
 )
 
 -- the list may go on in bytes that follow
-pub ico_laws : RecordedLaws 12 18 20 false false ico icons_begun
+pub ico_laws : RecordedLaws 12 18 20 false false ico
 ico_laws = record { local = ico_local; cost = ico_cost; within = ico_within; lasts = λ keeps. absurd cc }

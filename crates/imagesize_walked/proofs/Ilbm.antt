@@ -1,11 +1,11 @@
 -- ILBM: how a walk along its chunks goes, how many bytes they are read from, and what it sees of an input.
-use Rattle.std.proofs.Common.{◌≡◌, false, ℕ, ◌+◌, ◌*◌, ◌<◌, ◌≤◌, true, List, length, arith}
+use Rattle.std.proofs.Common.{◌≡◌, false, ℕ, ◌+◌, ◌*◌, ◌<◌, ◌≤◌, true, List, length, ap, arith}
 use Rattle.imagesize_walked.specs.Ilbm.{ilbm, ilbm_chunks, ilbm_named, bitmap_header, chunk_bytes, chunk_length, is_bitmap_header, is_body, ilbm_chunk}
 use Rattle.imagesize_types.specs.declared.size.ImageSize.{ImageSize}
 use Rattle.imagesize_source.specs.declared.halt.Halt.TheVariants.{Corrupted, Ended}
-use Rattle.imagesize_source.specs.Reading.{refuses}
+use Rattle.imagesize_source.specs.Reading.{refuses, uncounted}
 use Rattle.imagesize_source.specs.Agreement.{IsLocal}
-use Rattle.imagesize_source.specs.Chain.{Said, Next, Advances, records}
+use Rattle.imagesize_source.specs.Chain.{Said, Next, Advances}
 use Rattle.imagesize_source.specs.Counts.{AtMost}
 use Rattle.imagesize_source.specs.Extension.{Plain, Lasts}
 use Rattle.imagesize_source.specs.Layout.{Layout, refuse, done, layout_reads}
@@ -46,7 +46,7 @@ chunk_at_most : (passed : List (Unit {0})) (place : ℕ) → AtMost 12 (ilbm_chu
 chunk_at_most passed place =
     (omega arith, λ head. by_name (AtMost 4) place head tt (omega arith, λ width. (omega arith, λ height. tt)) tt)
 
-pub ilbm_cost : (d : List ℕ) → 12 + total (ilbm d).marks ≤ 18 + 20 * records ilbm_chunks d
+pub ilbm_cost : (d : List ℕ) → 12 + total (ilbm d).marks ≤ 18 + 20 * (ilbm d).begun
 ilbm_cost d = omega (arith, chain_cost ilbm_chunks d (ilbm_advances d) 12 chunk_at_most)
 
 -- what is seen of an input
@@ -66,10 +66,11 @@ ilbm_within d =
     omega arith
 
 -- from the end of the input on there is no chunk
-pub ilbm_ends : (d : List ℕ) (place : ℕ) → length d ≤ place → layout_reads d (ilbm_chunk place) ≡ refuses Ended
-ilbm_ends d place h = bytes_beyond d place 8 (λ head. ilbm_named place head) h (omega arith)
+pub ilbm_ends : (d : List ℕ) (place : ℕ) → length d ≤ place
+    → uncounted (layout_reads d (ilbm_chunk place)) ≡ refuses Ended
+ilbm_ends d place h = ap uncounted (bytes_beyond d place 8 (λ head. ilbm_named place head) h (omega arith))
 
-pub ilbm_laws : RecordedLaws 12 18 20 true false ilbm (records ilbm_chunks)
+pub ilbm_laws : RecordedLaws 12 18 20 true false ilbm
 ilbm_laws = record {
   local = ilbm_local;
   cost = ilbm_cost;

@@ -9,13 +9,13 @@ use Rattle.imagesize_types.specs.declared.size.ImageSize.{ImageSize}
 use Rattle.imagesize_source.specs.declared.halt.Halt.{Halt}
 use Rattle.imagesize_source.specs.declared.halt.Halt.TheVariants.{Corrupted, Ended}
 use Rattle.imagesize_source.specs.Agreement.{IsLocal}
-use Rattle.imagesize_source.specs.Chain.{Said, Decided, Next, Advances, records, start}
+use Rattle.imagesize_source.specs.Chain.{Said, Decided, Next, Advances, start}
 use Rattle.imagesize_source.specs.Counts.{AtMost}
 use Rattle.imagesize_source.specs.Extension.{Plain, Lasts}
 use Rattle.imagesize_source.specs.Input.{span_of}
 use Rattle.imagesize_source.specs.declared.endian.Endian.TheVariants.{Big}
 use Rattle.imagesize_source.specs.Layout.{Layout, layout_reads, refuse, done}
-use Rattle.imagesize_source.specs.Reading.{Reads, put_behind, bytes_at, number_at, refuses}
+use Rattle.imagesize_source.specs.Reading.{Reads, put_behind, bytes_at, number_at, refuses, uncounted}
 use Rattle.imagesize_source.specs.Paying.{Nears}
 use Rattle.imagesize_source.specs.State.{State, Runs, total}
 use Rattle.imagesize_source.specs.Walk.{KeepsOn, said_at}
@@ -83,7 +83,7 @@ jpeg_local = local_chain jpeg_segments jpeg_advances
     (segment_at_most (depth markers) place))
 
 -- a segment is read from at most 6 bytes
-pub jpeg_cost : (d : List ℕ) → 12 + total (jpeg d).marks ≤ 18 + 20 * records jpeg_segments d
+pub jpeg_cost : (d : List ℕ) → 12 + total (jpeg d).marks ≤ 18 + 20 * (jpeg d).begun
 jpeg_cost d = omega (
   arith,
   chain_cost jpeg_segments d (jpeg_advances d) 6
@@ -153,9 +153,9 @@ stands_stay k behind place markers (Err why) h same = subst (λ n. Stands n mark
 
 -- from the end of the input on there is none
 pub jpeg_ends : (d : List ℕ) (depth place : ℕ) → length d ≤ place
-    → layout_reads d (jpeg_segment depth place) ≡ refuses Ended
-jpeg_ends d depth place h = bytes_beyond d place 2 (λ head. cond (eqb (slice_index head 0) 0xFF)
-    (jpeg_marked depth place (slice_index head 1)) (refuse Corrupted)) h (omega arith)
+    → uncounted (layout_reads d (jpeg_segment depth place)) ≡ refuses Ended
+jpeg_ends d depth place h = ap uncounted (bytes_beyond d place 2 (λ head. cond (eqb (slice_index head 0) 0xFF)
+    (jpeg_marked depth place (slice_index head 1)) (refuse Corrupted)) h (omega arith))
 
 -- What may be read from a place on: the bytes there, and 6 more where a segment can begin. A length below 2
 -- leads to one of its own bytes, which is not FF.
@@ -245,7 +245,7 @@ jpeg_within d =
     let few : allowed d 2 ≤ length d + 6 = grind (arith, nat_tests) in
     omega arith
 
-pub jpeg_laws : RecordedLaws 12 18 20 true false jpeg (records jpeg_segments)
+pub jpeg_laws : RecordedLaws 12 18 20 true false jpeg
 jpeg_laws = record {
   local = jpeg_local;
   cost = jpeg_cost;

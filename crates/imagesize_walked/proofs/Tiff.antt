@@ -7,7 +7,7 @@ use Rattle.std.specs.Prelude.{filter, option_and_then}
 use Rattle.std.specs.List.{last_or}
 use Rattle.imagesize_walked.specs.Walks.{EntriesOn, Known}
 use Rattle.imagesize_types.specs.Sides.{size_if_known}
-use Rattle.imagesize_walked.specs.Tiff.{byte_order, entry_behind, entry_says, side_with, size_or_next, count_bytes, directory_at, tiff_begun, entry_bytes, head_bytes, field_type_in, field_type_of, last_value, size_in, stated_place, tag_in, tiff, tiff_directory, tiff_entries, tiff_entry, tiff_head, tiff_header, tiff_value, value_bytes, value_of, version_of, whole_value, directory_begun}
+use Rattle.imagesize_walked.specs.Tiff.{byte_order, entry_behind, entry_says, side_with, size_or_next, count_bytes, directory_at, entry_bytes, head_bytes, field_type_in, field_type_of, last_value, size_in, stated_place, tag_in, tiff, tiff_directory, tiff_entries, tiff_entry, tiff_head, tiff_header, tiff_value, value_bytes, value_of, version_of, whole_value}
 use Rattle.imagesize_walked.specs.declared.formats.tiff.Entry.{Entry}
 use Rattle.imagesize_walked.specs.declared.formats.tiff.Header.{Header}
 use Rattle.imagesize_walked.specs.declared.formats.tiff.FieldType.{FieldType}
@@ -18,28 +18,27 @@ use Rattle.imagesize_source.specs.declared.halt.Halt.{Halt}
 use Rattle.imagesize_source.specs.declared.halt.Halt.TheVariants.{Ended, InvalidIfdValueLength, NoDimensionsInIfd}
 use Rattle.imagesize_source.specs.declared.endian.Endian.{Endian}
 use Rattle.imagesize_source.specs.Agreement.{IsLocal}
-use Rattle.imagesize_source.specs.Chain.{Said, Decided, Next, Chain, Along, Advances, start, next_record, records, records_from, verdict, chain_at, chain_from}
-use Rattle.imagesize_source.specs.Counts.{AtMost}
+use Rattle.imagesize_source.specs.Chain.{Said, Decided, Next, Chain, Advances, start, next_record, verdict, chain_at}
+use Rattle.imagesize_source.specs.Counts.{AtMost, Each}
 use Rattle.imagesize_source.specs.Extension.{Never, Plain}
 use Rattle.imagesize_source.specs.Input.{span_of}
 use Rattle.imagesize_source.specs.Layout.{Layout, layout_reads, bind, whole, accept}
 use Rattle.imagesize_source.specs.Layout.Layout.{field, refuse, «done»}
 use Rattle.imagesize_source.specs.Numbers.{number}
-use Rattle.imagesize_source.specs.Reading.{Reads, and_then, go_on, put_behind, number_at, number_read, refuses, map_answer}
+use Rattle.imagesize_source.specs.Reading.{and_then, go_on, just, map_answer, number_at, number_read, refuses, uncounted, with_answer}
 use Rattle.imagesize_source.specs.Walk.{KeepsOn, said_at}
-use Rattle.imagesize_source.specs.declared.span.Span.{Span}
 use Rattle.imagesize_source.specs.declared.walk.Found.{Found}
 use Rattle.imagesize_source.specs.declared.walk.Found.TheVariants as found
-use Rattle.imagesize_source.proofs.Layouts.{over-bind}
+use Rattle.imagesize_source.proofs.Layouts.{over-bind, then_alike}
 use Rattle.imagesize_source.specs.State.{State, Runs, IsSound, total}
 use Rattle.imagesize_source.proofs.Advances.{Tells, Begins, advances}
 use Rattle.imagesize_source.proofs.Ahead.{Ahead, chain_ahead}
 use Rattle.imagesize_source.proofs.PastTheEnd.{bytes_beyond, saturated_by}
-use Rattle.imagesize_source.proofs.ChainLaws.{local_chain, lasts_chain, chain_induction}
-use Rattle.imagesize_source.proofs.Chains.{chain_next, chain_stop, records_next, records_stop}
-use Rattle.imagesize_source.proofs.Counts.{begun_cost, at_most, at_most_bind, at_most_more, then_within, total-span_of, total_behind}
+use Rattle.imagesize_source.proofs.ChainLaws.{chain_cost, local_chain, lasts_chain}
+use Rattle.imagesize_source.proofs.Chains.{chain_stop}
+use Rattle.imagesize_source.proofs.Counts.{Bounded, at_most, at_most_bind, bounded_layout, bounded_then, then_within, total-span_of, total_behind}
 use Rattle.imagesize_source.proofs.Answered.{on_answer}
-use Rattle.imagesize_source.proofs.Agreement.{AllRead, local_layout, local_number, local_then, without_texts}
+use Rattle.imagesize_source.proofs.Agreement.{each_texts, local_layout, local_number, local_then, without_texts}
 use Rattle.imagesize_source.proofs.Extension.{bytes_more, more, number_ok}
 use Rattle.imagesize_source.proofs.Reached.{reads_nothing, runs_bind, refused_bind}
 use Rattle.imagesize_source.proofs.Runs.{total-append}
@@ -267,11 +266,6 @@ module _ {a b : State} (header : Header) (count i : ℕ) (width height : Option 
       (refused_bind (tiff_entry header place) (says header entries place) run)
 
 -- the record behind entries is that behind the sides which they give
-same_on : {X Y : Type 0} (marks : List Span) (r : Result X Halt) (f g : X → Reads Y) → ((x : X) → f x ≡ g x)
-    → go_on marks r f ≡ go_on marks r g
-same_on marks (Ok x) f g same = ap (put_behind marks) (same x)
-same_on marks (Err e) f g same = refl
-
 pub entry_as : (d : List ℕ) (header : Header) (count seen : ℕ) (width height : Option ℕ) (place : ℕ)
     (entries : List Entry) → Known seen width height entries
     → layout_reads d ((tiff_entries header count).said entries place)
@@ -293,9 +287,9 @@ entry_as d header count seen width height place entries h =
       by_test true = refl
       by_test false =
           over-bind d (tiff_entry header place) (says header entries place)
-          ∙ same_on (layout_reads d (tiff_entry header place)).marks (layout_reads d (tiff_entry header place)).answer
+          ∙ then_alike (layout_reads d (tiff_entry header place))
           (λ entry. layout_reads d (says header entries place entry))
-          (λ entry. layout_reads d (entry_says header width height place entry)) one
+          (λ entry. layout_reads d (entry_says header width height place entry)) (λ entry _. one entry)
           ∙ sym (over-bind d (tiff_entry header place) (entry_says header width height place))
 
 pub entry_runs : {a b : State} {r : Result (Said Entry ImageSize) Halt} (header : Header) (count seen : ℕ)
@@ -363,63 +357,63 @@ module _ {a b : State} (header : Header) (count seen : ℕ) (width height : Opti
       rw no (refused_bind (tiff_entry header place) (entry_says header width height place) run)
 
 -- from the end of the input on there is no entry
+entry_ends : (header : Header) (f : Entry → Layout (Said Entry ImageSize)) (d : List ℕ) (place : ℕ) → length d ≤ place
+    → uncounted (layout_reads d (bind (tiff_entry header place) f)) ≡ refuses Ended
+unfolding tiff_entry tiff_head
+entry_ends header f d place far = ap uncounted (bytes_beyond d place (head_bytes header.version)
+    (λ head. bind (accept (field_type_of header.version (field_type_in header.order (take 4 head)))
+    (λ field_type. bind (tiff_value header.version (place + head_bytes header.version))
+    (λ value. done (entry_of header (take 4 head) field_type value)))) f) far
+    (head_some header.version))
+
 pub behind_ends : (header : Header) (count seen : ℕ) (width height : Option ℕ) (d : List ℕ) (place : ℕ)
     → length d ≤ place
-    → layout_reads d (entry_behind header count seen width height place)
-    ≡ record { answer = cond (eqb seen count) (Err NoDimensionsInIfd) (Err Ended); marks = [] }
-unfolding tiff_entry tiff_head
+    → uncounted (layout_reads d (entry_behind header count seen width height place))
+    ≡ just (cond (eqb seen count) (Err NoDimensionsInIfd) (Err Ended)) []
 behind_ends header count seen width height d place far = by_test (eqb seen count) where
   by_test : (all : Bool)
-      → layout_reads d (cond all (refuse NoDimensionsInIfd)
-      (bind (tiff_entry header place) (entry_says header width height place)))
-      ≡ record { answer = cond all (Err NoDimensionsInIfd) (Err Ended); marks = [] }
+      → uncounted (layout_reads d (cond all (refuse NoDimensionsInIfd)
+      (bind (tiff_entry header place) (entry_says header width height place))))
+      ≡ just (cond all (Err NoDimensionsInIfd) (Err Ended)) []
   by_test true = refl
-  by_test false = bytes_beyond d place (head_bytes header.version)
-      (λ head. bind (accept (field_type_of header.version (field_type_in header.order (take 4 head)))
-      (λ field_type. bind (tiff_value header.version (place + head_bytes header.version))
-      (λ value. done (entry_of header (take 4 head) field_type value)))) (entry_says header width height place)) far
-      (head_some header.version)
+  by_test false = entry_ends header (entry_says header width height place) d place far
 
--- from the end of the input on there is no entry
 pub entries_end : (header : Header) (count i : ℕ) (width height : Option ℕ) (entries : List Entry)
     → Known i width height entries → i ≢ count
     → (d : List ℕ) (place : ℕ) → length d ≤ place
-    → layout_reads d ((tiff_entries header count).said entries place) ≡ refuses Ended
-unfolding tiff_entry tiff_head
+    → uncounted (layout_reads d ((tiff_entries header count).said entries place)) ≡ refuses Ended
 entries_end header count i width height entries h more d place far =
-    ap (layout_reads d) (more_said header count i width height entries place h more)
-    ∙ bytes_beyond d place (head_bytes header.version)
-    (λ head. bind (accept (field_type_of header.version (field_type_in header.order (take 4 head)))
-    (λ field_type. bind (tiff_value header.version (place + head_bytes header.version))
-    (λ value. done (entry_of header (take 4 head) field_type value)))) (says header entries place)) far
-    (head_some header.version)
+    ap (λ t. uncounted (layout_reads d t)) (more_said header count i width height entries place h more)
+    ∙ entry_ends header (says header entries place) d place far
 
 -- so a directory beyond 64 bits serves as well at the greatest place
 none_there : (header : Header) (count place : ℕ) (d : List ℕ) → length d ≤ place
-    → chain_at (record { first = place; said = (tiff_entries header count).said }) d
-    ≡ record { answer = cond (eqb 0 count) (Err NoDimensionsInIfd) (Err Ended); marks = [] }
-none_there header count place d far = by_count (eqb 0 count) refl where
-  c : Chain Entry ImageSize
-  c = record { first = place; said = (tiff_entries header count).said }
+    → uncounted (chain_at (record { first = place; said = (tiff_entries header count).said }) d)
+    ≡ just (cond (eqb 0 count) (Err NoDimensionsInIfd) (Err Ended)) []
+none_there header count place d far =
+    ap uncounted (chain_stop c d (start c) ends (ap (λ r. verdict r.answer) none ∙ decided (eqb 0 count)))
+    ∙ ap (with_answer ends) none
+  where
+    c : Chain Entry ImageSize
+    c = record { first = place; said = (tiff_entries header count).said }
 
-  by_count : (all : Bool) → eqb 0 count ≡ all
-      → chain_at c d ≡ record { answer = cond all (Err NoDimensionsInIfd) (Err Ended); marks = [] }
-  by_count true is = chain_stop c d (start c) (Err NoDimensionsInIfd)
-      (ap (λ test. verdict
-      (layout_reads d (cond test (refuse NoDimensionsInIfd) (record_behind header [] place))).answer) is)
-      ∙ ap (λ test. record {
-        answer = Err NoDimensionsInIfd;
-        marks =
-            (layout_reads d (cond test (refuse NoDimensionsInIfd) (record_behind header [] place))).marks;
-      }) is
-  by_count false is =
-      let more : 0 ≢ count =
-      λ same. absurd (let yes : eqb 0 count ≡ true = grind (arith, nat_tests) in let no : true ≡ false = sym yes ∙ is in
-      cc) in
-      let none = entries_end header count 0 None None []
-      (record { many = refl; wide = refl; high = refl }) more d place far in
-      chain_stop c d (start c) (Err Ended) (ap (λ r. verdict r.answer) none)
-      ∙ ap (λ r. record { answer = Err Ended; marks = r.marks }) none
+    ends : Result ImageSize Halt
+    ends = cond (eqb 0 count) (Err NoDimensionsInIfd) (Err Ended)
+
+    by_test : (all : Bool)
+        → uncounted (layout_reads d (cond all (refuse NoDimensionsInIfd) (record_behind header [] place)))
+        ≡ just (cond all (Err NoDimensionsInIfd) (Err Ended)) []
+    by_test true = refl
+    by_test false = entry_ends header (says header [] place) d place far
+
+    none : uncounted (next_record c d (start c)) ≡ just (cond (eqb 0 count) (Err NoDimensionsInIfd) (Err Ended)) []
+    none = by_test (eqb 0 count)
+
+    decided : (all : Bool)
+        → verdict {C = Entry} {X = ImageSize} (cond all (Err NoDimensionsInIfd) (Err Ended))
+        ≡ Some (cond all (Err NoDimensionsInIfd) (Err Ended))
+    decided true = refl
+    decided false = refl
 
 pub entries_saturated : {a b : State} {r : Result ImageSize Halt} (header : Header) (count at : ℕ)
     → Runs a b r (chain_at (record { first = at; said = (tiff_entries header count).said }) a.held.input)
@@ -427,7 +421,7 @@ pub entries_saturated : {a b : State} {r : Result ImageSize Halt} (header : Head
     → Runs a b r (chain_at (tiff_entries header count) a.held.input)
 entries_saturated header count at =
     saturated_by (λ p d. chain_at (record { first = p; said = (tiff_entries header count).said }) d)
-    (record { answer = cond (eqb 0 count) (Err NoDimensionsInIfd) (Err Ended); marks = [] })
+    (just (cond (eqb 0 count) (Err NoDimensionsInIfd) (Err Ended)) [])
     (header.directory + count_bytes header.version) at (λ d p far. none_there header count p d far)
 
 -- an entry has 12 bytes, and 20 in BigTIFF
@@ -533,75 +527,25 @@ tiff_within d = omega (
       (λ header _. directory_within d header),
 )
 
--- at the count of entries the directory ends
-ends_at : (header : Header) (count : ℕ) (d : List ℕ) (t : Along Entry) (entry : Entry) (place : ℕ)
-    → (next_record (tiff_entries header count) d t).answer ≡ Ok (Next entry place) → length t.held ≡ count → ⊥
-ends_at header count d t entry place is at =
-    let out : Err NoDimensionsInIfd ≡ Ok (Next entry place) =
-    sym (ap (λ l. (layout_reads d l).answer) (end_said header count t.held t.place at)) ∙ is in
-    absurd cc
+-- an entry is read from at most 20 bytes, and the end of the directory from none
+entry_each : (header : Header) (count : ℕ) (entries : List Entry) (place : ℕ)
+    → Each 20 ((tiff_entries header count).said entries place)
+unfolding tiff_entry
+entry_each header count entries place =
+    by_count (Each 20) header count entries place tt (record_at_most header entries place)
 
--- where the entries are all read, nothing is
-record_cost : (header : Header) (count : ℕ) (entries : List Entry) (place : ℕ) → length entries ≤ count
-    → AtMost (20 * min 1 (count - length entries)) ((tiff_entries header count).said entries place)
-record_cost header count entries place fits =
-    let k : ℕ = 20 * min 1 (count - length entries) in
-    on_test (AtMost k) (eqb (length entries) count) (refuse NoDimensionsInIfd) (record_behind header entries place)
-    (λ _. tt)
-    (λ more.
-    let below : length entries < count = grind (arith, nat_tests) in
-    at_most_more 20 k (record_behind header entries place) (omega arith) (record_at_most header entries place))
-
--- an entry is read from at most 20 bytes
-entries_cost : (header : Header) (count : ℕ) (d : List ℕ) → total (chain_at (tiff_entries header count) d).marks
-    ≤ 20 * min count (records (tiff_entries header count) d)
-entries_cost header count d =
-    let c : Chain Entry ImageSize = tiff_entries header count in
-    let adv = entries_advance header count d in
-    let all = chain_induction c d (λ t. length t.held ≤ count → total (chain_from c d t).marks
-    ≤ 20 * min (count - length t.held) (records_from c d t)) adv
-    (λ t entry place is later fits.
-    let u : Along Entry = record { held = t.held ++ entry ∷ []; place = place } in
-    let apart : length t.held ≢ count = λ at. ends_at header count d t entry place is at in
-    let below : length t.held < count = omega arith in
-    let one = length_push t.held entry in
-    let rest = later (omega arith) in
-    let next = records_next c d t entry place adv is in
-    let marks : total (chain_from c d t).marks ≡ total (next_record c d t).marks + total (chain_from c d u).marks =
-    ap (λ w. total w.marks) (chain_next c d t entry place adv is)
-    ∙ total-append (next_record c d t).marks (chain_from c d u).marks in
-    let few = at_most d (20 * min 1 (count - length t.held)) (c.said t.held t.place)
-    (record_cost header count t.held t.place fits) in
-    omega arith)
-    (λ t r is fits.
-    let one = records_stop c d t r is in
-    let marks : total (chain_from c d t).marks ≡ total (next_record c d t).marks =
-    ap (λ w. total w.marks) (chain_stop c d t r is) in
-    let few = at_most d (20 * min 1 (count - length t.held)) (c.said t.held t.place)
-    (record_cost header count t.held t.place fits) in
-    omega arith)
-    (start c) in
-    let most = all (omega arith) in omega arith
-
-directory_cost : (d : List ℕ) (header : Header)
-    → total (tiff_directory d header).marks ≤ 8 + 20 * directory_begun d header
-directory_cost d header = omega (
-  arith,
-  begun_cost 20 (span_of d header.directory (count_bytes header.version))
-      (number_at d header.order header.directory (count_bytes header.version))
-      (λ count. chain_at (tiff_entries header count) d)
-      (λ count. min count (records (tiff_entries header count) d)) 8 0
-      (omega (arith, total-span_of d header.directory (count_bytes header.version), count_few header.version))
-      (λ count. omega (arith, entries_cost header count d)),
-)
+directory_cost : (d : List ℕ) (header : Header) → Bounded 8 20 (tiff_directory d header)
+directory_cost d header = bounded_then 20 8 0 (number_read d header.order header.directory (count_bytes header.version))
+    (λ count. chain_at (tiff_entries header count) d)
+    (omega (arith, total-span_of d header.directory (count_bytes header.version), count_few header.version))
+    (λ count _. chain_cost (tiff_entries header count) d (entries_advance header count d) 20 (entry_each header count))
 
 -- with its type, all but the entries is read from at most 36
-pub tiff_cost : (d : List ℕ) → 12 + total (tiff d).marks ≤ 36 + 20 * tiff_begun d
+pub tiff_cost : (d : List ℕ) → 12 + total (tiff d).marks ≤ 36 + 20 * (tiff d).begun
 tiff_cost d = omega (
   arith,
-  begun_cost 20 (layout_reads d tiff_header).marks (layout_reads d tiff_header).answer (tiff_directory d)
-      (directory_begun d) 16 8
-      (at_most d 16 tiff_header header_at_most) (directory_cost d),
+  bounded_then 20 16 8 (layout_reads d tiff_header) (tiff_directory d)
+      (bounded_layout 20 16 d tiff_header header_at_most) (λ header _. directory_cost d header),
 )
 
 -- a value that is cut is refused
@@ -679,14 +623,6 @@ tiff_lasts d x size = by_header (layout_reads d tiff_header).answer refl where
       ∙ directory_lasts d x header size is
   by_header (Err e) read is = absurd cc
 
--- an entry is of bytes alone
-entry_of_bytes : (header : Header) (count : ℕ) (entries : List Entry) (place : ℕ)
-    → AllRead false ((tiff_entries header count).said entries place)
-entry_of_bytes header count entries place =
-    on_test (AllRead false) (eqb (length entries) count) (refuse NoDimensionsInIfd) (record_behind header entries place)
-    (λ _. tt)
-    (λ _. without_texts false 20 (record_behind header entries place) (record_at_most header entries place))
-
 -- what is seen of an input
 pub tiff_local : IsLocal false tiff
 tiff_local = local_then (λ d. layout_reads d tiff_header) (λ header d. tiff_directory d header)
@@ -694,7 +630,9 @@ tiff_local = local_then (λ d. layout_reads d tiff_header) (λ header d. tiff_di
     (λ header. local_then (λ d. number_read d header.order header.directory (count_bytes header.version))
     (λ count d. chain_at (tiff_entries header count) d)
     (local_number header.order header.directory (count_bytes header.version))
-    (λ count. local_chain (tiff_entries header count) (entries_advance header count) (entry_of_bytes header count)))
+    (λ count. local_chain (tiff_entries header count) (entries_advance header count)
+    (λ entries place. each_texts false 20 ((tiff_entries header count).said entries place)
+    (entry_each header count entries place))))
 
-pub tiff_laws : RecordedLaws 12 36 20 true false tiff tiff_begun
+pub tiff_laws : RecordedLaws 12 36 20 true false tiff
 tiff_laws = record { local = tiff_local; cost = tiff_cost; within = tiff_within; lasts = λ _. tiff_lasts }

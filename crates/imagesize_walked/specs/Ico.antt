@@ -1,14 +1,14 @@
 -- Windows icons, by ICONDIR and ICONDIRENTRY of "Icons" (Win32).
-use Rattle.std.specs.Prelude.{ℕ, ◌+◌, ◌==◌, min, Bool, List, [], ◌∷◌, length, slice_index, if◌then◌else◌, Option, None, Some}
+use Rattle.std.specs.Prelude.{ℕ, ◌+◌, ◌==◌, Bool, List, [], ◌∷◌, length, slice_index, if◌then◌else◌, Option, None, Some}
 use Rattle.imagesize_types.specs.Head.{begins}
 use Rattle.imagesize_types.specs.Largest.{last_largest}
 use Rattle.imagesize_types.specs.declared.size.ImageSize.{ImageSize}
 use Rattle.imagesize_source.specs.declared.halt.Halt.TheVariants.{Corrupted}
 use Rattle.imagesize_source.specs.declared.endian.Endian.TheVariants.{Little}
-use Rattle.imagesize_source.specs.Chain.{Said, Decided, Next, Chain, chain_at, records, count_behind}
+use Rattle.imagesize_source.specs.Chain.{Said, Decided, Next, Chain, chain_at}
 use Rattle.imagesize_source.specs.Layout.{Layout, if_there}
-use Rattle.imagesize_source.specs.Layout.Layout.{refuse, «done»}
-use Rattle.imagesize_source.specs.Reading.{Reads, and_then, number_read, number_at}
+use Rattle.imagesize_source.specs.Layout.Layout.{begin_record, refuse, «done»}
+use Rattle.imagesize_source.specs.Reading.{Reads, and_then, number_read}
 
 -- whether the reserved bytes are zero, and the images are icons
 unfoldable pub is_ico : List ℕ → Bool
@@ -32,10 +32,10 @@ abbrev pub icon_entry : Option ImageSize → ℕ → Option (List ℕ) → Layou
 icon_entry largest place None = icon_answer largest
 icon_entry largest place (Some bytes) = done (Next (icon_size bytes) (place + 16))
 
--- the record after `seen` entries, of which this size is the result
+-- the record after `seen` entries, of which this size is the result; the end of the list begins no entry
 abbrev pub icon_in : ℕ → ℕ → Option ImageSize → ℕ → Layout (Said ImageSize ImageSize)
 icon_in count seen largest place =
-    if seen == count then icon_answer largest else if_there place 2 (icon_entry largest place)
+    if seen == count then icon_answer largest else begin_record (if_there place 2 (icon_entry largest place))
 
 -- as many entries as the count says (idCount), from the end of the count on
 abbrev pub icon_entries : ℕ → Chain ImageSize ImageSize
@@ -46,7 +46,3 @@ icon_entries count = record {
 
 abbrev pub ico : List ℕ → Reads ImageSize
 ico d = and_then (number_read d Little 4 2) (λ count. chain_at (icon_entries count) d)
-
--- how many entries are begun; the end of the list begins none
-abbrev pub icons_begun : List ℕ → ℕ
-icons_begun d = count_behind (number_at d Little 4 2) (λ count. min count (records (icon_entries count) d))

@@ -6,7 +6,7 @@ use Rattle.imagesize_source.specs.declared.halt.Halt.TheVariants.{Corrupted}
 use Rattle.imagesize_source.specs.declared.endian.Endian.TheVariants.{Big}
 use Rattle.imagesize_source.specs.Chain.{Said, Decided, Next, Chain, chain_at}
 use Rattle.imagesize_source.specs.Layout.{Layout, bytes}
-use Rattle.imagesize_source.specs.Layout.Layout.{field, refuse, «done»}
+use Rattle.imagesize_source.specs.Layout.Layout.{begin_record, field, refuse, «done»}
 use Rattle.imagesize_source.specs.Numbers.{number}
 use Rattle.imagesize_source.specs.Reading.{Reads}
 
@@ -42,7 +42,7 @@ ilbm_named place head =
     else done (Next tt (place + chunk_bytes (chunk_length head)))
 
 abbrev pub ilbm_chunk : ℕ → Layout (Said (Unit {0}) ImageSize)
-ilbm_chunk place = bytes place 8 (λ head. ilbm_named place head)
+ilbm_chunk place = begin_record (bytes place 8 (λ head. ilbm_named place head))
 
 -- the chunks after the form's type
 abbrev pub ilbm_chunks : Chain (Unit {0}) ImageSize

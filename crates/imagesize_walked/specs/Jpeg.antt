@@ -6,7 +6,7 @@ use Rattle.imagesize_source.specs.declared.halt.Halt.TheVariants.{Corrupted}
 use Rattle.imagesize_source.specs.declared.endian.Endian.TheVariants.{Big}
 use Rattle.imagesize_source.specs.Chain.{Said, Decided, Next, Chain, chain_at}
 use Rattle.imagesize_source.specs.Layout.{Layout, bytes}
-use Rattle.imagesize_source.specs.Layout.Layout.{field, refuse, «done»}
+use Rattle.imagesize_source.specs.Layout.Layout.{begin_record, field, refuse, «done»}
 use Rattle.imagesize_source.specs.Reading.{Reads}
 
 -- whether the input begins with a start-of-image marker, then the start of another marker
@@ -54,8 +54,8 @@ jpeg_marked depth place marker =
 
 -- a segment begins with FF and its marker (B.1.1.2)
 abbrev pub jpeg_segment : ℕ → ℕ → Layout (Said ℕ ImageSize)
-jpeg_segment depth place = bytes place 2 (λ head.
-    if slice_index head 0 == 0xFF then jpeg_marked depth place (slice_index head 1) else refuse Corrupted)
+jpeg_segment depth place = begin_record (bytes place 2 (λ head.
+    if slice_index head 0 == 0xFF then jpeg_marked depth place (slice_index head 1) else refuse Corrupted))
 
 -- the segments after the start of the image; each holds its marker
 abbrev pub jpeg_segments : Chain ℕ ImageSize

@@ -1,5 +1,5 @@
 -- TIFF, by "TIFF Revision 6.0" (section 2), and BigTIFF, by "The BigTIFF File Format".
-use Rattle.std.specs.Prelude.{ℕ, ◌+◌, ◌==◌, min, Bool, List, codes, [], ◌∷◌, ◌++◌, ◌||◌, length, take, drop, filter, if◌then◌else◌, Option, None, Some, option_and_then, Result, Ok, Err}
+use Rattle.std.specs.Prelude.{ℕ, ◌+◌, ◌==◌, Bool, List, codes, [], ◌∷◌, ◌++◌, ◌||◌, length, take, drop, filter, if◌then◌else◌, Option, None, Some, option_and_then, Result, Ok, Err}
 use Rattle.std.specs.List.{last_or}
 use Rattle.imagesize_types.specs.Head.{begins}
 use Rattle.imagesize_types.specs.Sides.{size_if_known}
@@ -15,11 +15,11 @@ use Rattle.imagesize_source.specs.declared.halt.Halt.{Halt}
 use Rattle.imagesize_source.specs.declared.halt.Halt.TheVariants.{BigTiffOffsetSize, IfdTypeForStandardTiff, InvalidBigTiffHeader, InvalidIfdOffset, InvalidIfdType, InvalidIfdValueLength, InvalidTiffHeader, NoDimensionsInIfd}
 use Rattle.imagesize_source.specs.declared.endian.Endian.{Endian}
 use Rattle.imagesize_source.specs.declared.endian.Endian.TheVariants.{Little, Big}
-use Rattle.imagesize_source.specs.Chain.{Said, Decided, Next, Chain, chain_at, records, count_behind}
+use Rattle.imagesize_source.specs.Chain.{Said, Decided, Next, Chain, chain_at}
 use Rattle.imagesize_source.specs.Layout.{Layout, layout_reads, bind, bytes, if_there, accept}
-use Rattle.imagesize_source.specs.Layout.Layout.{field, refuse, «done»}
+use Rattle.imagesize_source.specs.Layout.Layout.{begin_record, field, refuse, «done»}
 use Rattle.imagesize_source.specs.Numbers.{number}
-use Rattle.imagesize_source.specs.Reading.{Reads, and_then, number_at, number_read}
+use Rattle.imagesize_source.specs.Reading.{Reads, and_then, number_read}
 
 -- whether the input begins with a byte order, and 42 or 43 in that order
 unfoldable pub is_tiff : List ℕ → Bool
@@ -116,10 +116,10 @@ tiff_value version place = if_there place (value_bytes version) (λ found. accep
 -- an entry; its field type is checked before its value is read
 unfoldable pub tiff_entry : Header → ℕ → Layout Entry
 tiff_entry header place =
-    bind (tiff_head header.version place) (λ head.
+    begin_record (bind (tiff_head header.version place) (λ head.
     accept (field_type_of header.version (field_type_in header.order head)) (λ field_type.
     bind (tiff_value header.version (place + head_bytes header.version)) (λ value.
-    done (record { tag = tag_in header.order head; value = value_of header.order field_type value }))))
+    done (record { tag = tag_in header.order head; value = value_of header.order field_type value })))))
 
 -- the value of the last entry with this tag
 abbrev pub last_value : ℕ → List Entry → Option ℕ
@@ -165,11 +165,3 @@ tiff_directory d header = and_then (number_read d header.order header.directory 
 
 abbrev pub tiff : List ℕ → Reads ImageSize
 tiff d = and_then (layout_reads d tiff_header) (tiff_directory d)
-
--- how many entries are begun; the end of the directory begins none
-abbrev pub directory_begun : List ℕ → Header → ℕ
-directory_begun d header = count_behind (number_at d header.order header.directory (count_bytes header.version))
-    (λ count. min count (records (tiff_entries header count) d))
-
-abbrev pub tiff_begun : List ℕ → ℕ
-tiff_begun d = count_behind (layout_reads d tiff_header).answer (directory_begun d)

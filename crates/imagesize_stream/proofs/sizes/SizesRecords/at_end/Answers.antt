@@ -1,6 +1,6 @@
 use Rattle.std.proofs.Common.{[], ap, ◌∙◌}
 use Rattle.imagesize_source.specs.Chain.{Said, Decided}
-use Rattle.imagesize_source.specs.Reading.{map_answer}
+use Rattle.imagesize_source.specs.Reading.{just, map_answer}
 use Rattle.imagesize_stream.proofs.Steps.{step_ends}
 use Rattle.imagesize_stream.specs.Steps.{ends_with, last_awaited}
 use Rattle.imagesize_stream.specs.declared.awaited.Awaited.{Awaited}
@@ -10,7 +10,4 @@ use Rattle.imagesize_stream.proofs.sizes.SizesRecords.at_end.Goals as goal
 pub returns-clause-ends : goal.returns-clause-ends
 returns-clause-ends c = λ held place kept d q far. rw c.at_end.ensures.is
     (step_ends (last_awaited held) d q far
-    ∙ ap (λ next. record {
-      answer = map_answer {Y = Said Awaited ImageSize} Decided (ends_with next);
-      marks = [];
-    }) kept.0)
+    ∙ ap (λ next. just (map_answer {Y = Said Awaited ImageSize} Decided (ends_with next)) []) kept.0)
